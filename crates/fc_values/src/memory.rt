@@ -1,0 +1,19 @@
+//! Want of memory.
+
+use std::alloc::{AllocError, AllocFailed};
+
+/// Memory was asked for and there was none. It is the one answer that may come freely.
+#[derive(Clone, Copy, Debug, PartialEq, Eq)]
+pub struct Memory;
+
+impl From<AllocError> for Memory {
+    fn from(_: AllocError) -> Self {
+        Memory
+    }
+}
+
+impl<T: Drop> From<AllocFailed<T>> for Memory {
+    fn from(_: AllocFailed<T>) -> Self {
+        Memory
+    }
+}
