@@ -1,0 +1,11 @@
+pub mod Types
+pub mod Values
+pub mod Fields
+pub mod Builtins
+pub mod BuiltinTypes
+pub mod Trees
+pub mod Exports
+pub mod Codes
+pub mod Rows
+pub mod Positions
+pub mod Laws

@@ -1,6 +1,22 @@
 //! The values of the field calculus: types, local values, fields, exports and the builtins.
 #![tactic(auto)]
 
+mod builtins;
+mod exports;
+mod fields;
+mod hoods;
+mod laws;
 mod memory;
+mod operators;
+mod types;
+mod values;
 
+pub use builtins::{Builtin, apply};
+pub use exports::{Export, Slot, Slots, copy_export};
+pub use laws::builtin_has_value;
 pub use memory::Memory;
+pub use types::{Declared, InputDecl, InputTy, LocalTy, Name, Ty};
+pub use values::{FieldVal, Local, Value, compare, copy, fits, overwrite};
+
+#[cfg(test)]
+mod tests;

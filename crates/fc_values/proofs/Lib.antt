@@ -1,0 +1,4 @@
+pub mod Inversions
+pub mod Folds
+pub mod ByPosition
+pub mod BuiltinTyped
