@@ -1,0 +1,4 @@
+pub mod Places
+pub mod Kids
+pub mod Kept
+pub mod PairProgram

@@ -1,0 +1,4 @@
+pub mod Terms
+pub mod Typing
+pub mod Program
+pub mod Flat

@@ -1,0 +1,28 @@
+//! The nodes of a program.
+
+use fc_values::{Builtin, Local, Ty};
+
+/// What a node is. A variable is named by the place of the `let`, `rep` or `share` that binds it, an input by its
+/// number from 0 in declared order.
+#[derive(Drop)]
+pub enum Op {
+    Lit(Local),
+    Var(u32),
+    Sense(u32),
+    Uid,
+    NbrLink,
+    Apply(Builtin),
+    Nbr,
+    Rep,
+    Share,
+    If,
+    Let,
+}
+
+/// A node: what it is, its type, and the places of its kids in order. A place is a node's number in preorder from 0.
+#[derive(Drop)]
+pub struct Node {
+    pub op: Op,
+    pub ty: Ty,
+    pub kids: Vec<u32>,
+}
