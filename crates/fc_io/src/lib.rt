@@ -1,0 +1,16 @@
+//! The outside of the program: where its bytes come from and where they go.
+#![tactic(auto)]
+
+mod memory_sink;
+mod memory_source;
+mod outside;
+mod standard;
+#[cfg(test)]
+mod tests;
+mod transfer;
+
+pub use memory_sink::{CalmSink, MemSink};
+pub use memory_source::{CalmSource, MemSource};
+pub use outside::{Failed, Sink, Source};
+pub use standard::{StdSink, StdSource};
+pub use transfer::{ReadAll, WriteFault, read_all, write_all};
