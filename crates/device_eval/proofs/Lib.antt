@@ -1,0 +1,15 @@
+pub mod Blanks
+pub mod SlotLists
+pub mod Frames
+pub mod Steps
+pub mod NbrAt
+pub mod RowSteps
+pub mod ApplyAt
+pub mod Agree
+pub mod Shapes
+pub mod Numbers
+pub mod Sights
+pub mod Progress
+pub mod OneExport
+pub mod Finish
+pub mod RootSteps

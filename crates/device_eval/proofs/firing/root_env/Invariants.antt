@@ -1,0 +1,6 @@
+use Rattle.std.proofs.Common.{◌≡◌, drop, map, ◌++◌}
+use Rattle.device_eval.specs.References.{nears_of, snap_near}
+use Rattle.device_eval.proofs.firing.root_env.Given as goal
+
+abbrev pub invariant-loop-n : goal.invariant-loop-n
+invariant-loop-n l = nears_of l.near.items ++ map snap_near (drop l.n-index l.all) ≡ map snap_near l.all

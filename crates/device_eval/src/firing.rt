@@ -1,0 +1,147 @@
+//! The evaluation of a copy.
+
+ghost use Rattle.std.specs.Prelude.{◌≡◌, IfOk, IfErr};
+ghost use Rattle.fc_nodes.specs.Program.{unfolding_of};
+ghost use Rattle.device_eval.specs.Kinds.{IsKnown};
+ghost use Rattle.device_eval.specs.References.{flat_of, snap_env};
+ghost use Rattle.device_eval.specs.Firing.{IsFired};
+
+use crate::alignment::{Env, NearRef};
+use crate::evaluation::{Context, Scope, eval, into_local};
+use crate::flat_exports::{Draft, Layout};
+use crate::value_trees::Snap;
+use fc_nodes::Unfolded;
+use fc_values::{Export, Memory};
+use std::alloc::Global;
+use std::marker::Model;
+use std::sync::Arc;
+
+/// A copy with its export.
+#[derive(Drop)]
+pub struct Fired {
+    program: Arc<Unfolded>,
+    snap: Snap,
+    export: Export,
+}
+
+impl Model for Fired {
+    ghost use Rattle.std.specs.Coded.{codes};
+    ghost use Rattle.fc_values.specs.contracts.values.Local as local;
+    ghost use Rattle.fc_values.specs.contracts.types.LocalTy as local_ty;
+    ghost use Rattle.device_eval.specs.Firing.{FiredValue, IsFired};
+
+    ghost Value = { FiredValue };
+
+    ghost coded = { Prim.hlevel (codes, local.the_row.coded, local_ty.the_row.coded) };
+
+    ghost view = { λ f. record { program = f.program.value; snap = f.snap; export = f.export } };
+
+    ghost invariant = { λ f. IsFired (record { program = f.program.value; snap = f.snap; export = f.export }) };
+}
+
+impl Fired {
+    ghost use Rattle.std.specs.Prelude.{◌≡◌};
+    ghost use Rattle.device_eval.specs.Firing.{IsFired};
+
+    /// The program.
+    pub fn program(&self) -> &Unfolded
+        ensures value { result.now ≡ self.now.program }
+        ensures fired { IsFired self.now }
+    {
+        &self.program
+    }
+
+    /// The copy that was evaluated.
+    pub fn snap(&self) -> &Snap
+        ensures value { result.now ≡ self.now.snap }
+        ensures fired { IsFired self.now }
+    {
+        &self.snap
+    }
+
+    /// Its export.
+    pub fn export(&self) -> &Export
+        ensures value { result.now ≡ self.now.export }
+        ensures fired { IsFired self.now }
+    {
+        &self.export
+    }
+
+    /// The copy and the export.
+    pub fn into_parts(self) -> (Snap, Export)
+        ensures snap { result.0 ≡ self.snap }
+        ensures export { result.1 ≡ self.export }
+        ensures fired { IsFired self }
+    {
+        let Fired {
+            program: _,
+            snap,
+            export,
+        } = self;
+        (snap, export)
+    }
+}
+
+ghost use Rattle.device_eval.specs.Snaps.{IsSnap};
+
+/// Evaluates a copy. For want of memory the copy comes back.
+pub fn fire(alloc: Global, program: &Arc<Unfolded>, snap: Snap) -> Result<Fired, (Snap, Memory)>
+    requires snap { IsSnap (unfolding_of program.now.value) snap }
+    requires known { IsKnown (unfolding_of program.now.value).main }
+    ensures program { IfOk result (λ f. f.program ≡ program.now.value) }
+    ensures snap { IfOk result (λ f. f.snap ≡ snap) }
+    ensures back { IfErr result (λ e. e.0 ≡ snap) }
+{
+    let shared = match program.clone() {
+        Ok(shared) => shared,
+        Err(_) => return Err((snap, Memory)),
+    };
+    match evaluate(alloc, program, &snap) {
+        Ok(export) => Ok(Fired {
+            program: shared,
+            snap,
+            export,
+        }),
+        Err(memory) => Err((snap, memory)),
+    }
+}
+
+/// The export of a copy.
+fn evaluate(alloc: Global, program: &Unfolded, snap: &Snap) -> Result<Export, Memory>
+    requires snap { IsSnap (unfolding_of program.now) snap.now }
+    requires known { IsKnown (unfolding_of program.now).main }
+    ensures { IfOk result (λ e. IsFired (record { program = program.now; snap = snap.now; export = e })) }
+{
+    let layout = Layout::new(alloc, program)?;
+    let mut draft = Draft::new(alloc, &layout)?;
+    let env = root_env(alloc, snap)?;
+    let inputs = snap.inputs.as_slice();
+    let context = Context {
+        program,
+        layout: &layout,
+        device: snap.device,
+        inputs,
+    };
+    let value = eval(alloc, &context, 0, &env, &Scope::Empty, &mut draft)?;
+    Ok(draft.finish(into_local(value)))
+}
+
+/// What the root sees of a copy.
+fn root_env<'a>(alloc: Global, snap: &'a Snap) -> Result<Env<'a>, Memory>
+    ensures { IfOk result (λ env. flat_of env ≡ snap_env snap.now) }
+{
+    let mut near = Vec::new(alloc);
+    let all = snap.near.as_slice();
+    for n in all {
+        near.push(NearRef {
+            device: n.device,
+            weight: n.weight,
+            slots: &n.export.slots,
+        })?;
+    }
+    let own = match &snap.own {
+        Some(export) => Some(&export.slots),
+        None => None,
+    };
+    Ok(Env { own, near })
+}
