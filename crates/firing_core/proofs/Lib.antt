@@ -1,0 +1,14 @@
+pub mod Numbers
+pub mod Slots
+pub mod Views
+pub mod Neighbours
+pub mod SnapCopies
+pub mod CoreSteps
+pub mod Borrowed
+pub mod NearSteps
+pub mod Taken
+pub mod CoreCopies
+pub mod Steps
+pub mod Appends
+pub mod Replaying
+pub mod StepsKeep

@@ -1,0 +1,70 @@
+-- One slot for each device: reading one, and writing one.
+use Rattle.std.proofs.Common.{◌≡◌, ◌≢◌, ℕ, zero, suc, ◌<◌, List, [], ◌∷◌, length, get_or, refl, sym, ◌∙◌, arith, Bool, true, false, nat_eq, if◌then◌else◌, Option, None}
+use Rattle.std.proofs.Math.Path.{fun_ext}
+use Rattle.std.proofs.lemmas.Bool.{eqb-true, eq-eqb}
+use Rattle.std.specs.Prelude.{slice_set, ◌||◌}
+use Rattle.fc_values.specs.Fields.{Rises}
+use Rattle.firing_core.specs.Networks.{is_in}
+use Rattle.firing_core.specs.Cores.{put}
+use Rattle.firing_core.specs.CoreViews.{slot_at}
+
+-- no number stands twice
+abbrev pub Distinct : List ℕ → Type 0
+Distinct [] = Unit {0}
+Distinct (i ∷ is) = ((k : ℕ) → k < length is → get_or is k 0 ≢ i) × Distinct is
+
+later_above : (i : ℕ) (is : List ℕ) → Rises (i ∷ is) → (k : ℕ) → k < length is → i < get_or is k 0
+later_above i [] r k h = absurd (omega arith)
+later_above i (j ∷ js) r zero h = r.0
+later_above i (j ∷ js) r (suc k) h = let l = later_above j js r.1 k (omega arith) in omega arith
+
+rises_tail : (i : ℕ) (is : List ℕ) → Rises (i ∷ is) → Rises is
+rises_tail i [] r = tt
+rises_tail i (j ∷ js) r = r.1
+
+pub rises_distinct : (is : List ℕ) → Rises is → Distinct is
+rises_distinct [] r = tt
+rises_distinct (i ∷ is) r = (λ k h e. let l = later_above i is r k h in omega arith, rises_distinct is (rises_tail i is r))
+
+-- the slot of the device at a place
+pub slot_here : {X : Type 0} (is : List ℕ) (xs : List (Option X)) (k d : ℕ) → Distinct is → k < length is → get_or is k 0 ≡ d → length is ≡ length xs → slot_at is xs d ≡ get_or xs k None
+slot_here [] xs k d n h e l = absurd (omega arith)
+slot_here (i ∷ is) [] k d n h e l = absurd (omega arith)
+slot_here (i ∷ is) (x ∷ xs) zero d n h e l = let t = eq-eqb d i (sym e) in rw t refl
+slot_here {X} (i ∷ is) (x ∷ xs) (suc k) d n h e l = by_test (nat_eq d i) refl (slot_here is xs k d n.1 (omega arith) e (omega arith))
+  where
+    by_test : (b : Bool) → nat_eq d i ≡ b → slot_at is xs d ≡ get_or xs k None → (if b then x else slot_at is xs d) ≡ get_or xs k None
+    by_test true q ih = let y = eqb-true d i q in absurd (n.0 k (omega arith) (e ∙ y))
+    by_test false q ih = ih
+
+-- a device that isn't among the numbers has no slot
+pub slot_none : {X : Type 0} (is : List ℕ) (xs : List (Option X)) (d : ℕ) → is_in d is ≡ false → slot_at is xs d ≡ None
+slot_none [] xs d e = refl
+slot_none (i ∷ is) [] d e = refl
+slot_none {X} (i ∷ is) (x ∷ xs) d e = by_test (nat_eq d i) e (slot_none is xs d)
+  where
+    by_test : (b : Bool) → (b || is_in d is) ≡ false → (is_in d is ≡ false → slot_at is xs d ≡ None) → (if b then x else slot_at is xs d) ≡ None
+    by_test true q ih = absurd (cc)
+    by_test false q ih = ih q
+
+-- one slot written is one put
+slot_put : {X : Type 0} (is : List ℕ) (xs : List (Option X)) (k : ℕ) (v : Option X) (d : ℕ) → Distinct is → k < length is → length is ≡ length xs → slot_at is (slice_set xs k v) d ≡ put (slot_at is xs) (get_or is k 0) v d
+slot_put [] xs k v d n h e = absurd (omega arith)
+slot_put (i ∷ is) [] k v d n h e = absurd (omega arith)
+slot_put (i ∷ is) (x ∷ xs) zero v d n h e = by_test (nat_eq d i)
+  where
+    by_test : (b : Bool) → (if b then v else slot_at is xs d) ≡ (if b then v else (if b then x else slot_at is xs d))
+    by_test true = refl
+    by_test false = refl
+slot_put (i ∷ is) (x ∷ xs) (suc k) v d n h e = by_test (nat_eq d i) refl (slot_put is xs k v d n.1 (omega arith) (omega arith))
+  where
+    by_test : (b : Bool) → nat_eq d i ≡ b → slot_at is (slice_set xs k v) d ≡ put (slot_at is xs) (get_or is k 0) v d → (if b then x else slot_at is (slice_set xs k v) d) ≡ (if nat_eq d (get_or is k 0) then v else (if b then x else slot_at is xs d))
+    by_test true q ih = other (nat_eq d (get_or is k 0)) refl
+      where
+        other : (b : Bool) → nat_eq d (get_or is k 0) ≡ b → x ≡ (if b then v else x)
+        other true p = let y = eqb-true d i q in let z = eqb-true d (get_or is k 0) p in absurd (n.0 k (omega arith) (sym z ∙ y))
+        other false p = refl
+    by_test false q ih = ih
+
+pub slot_set : {X : Type 0} (is : List ℕ) (xs : List (Option X)) (k : ℕ) (v : Option X) → Distinct is → k < length is → length is ≡ length xs → slot_at is (slice_set xs k v) ≡ put (slot_at is xs) (get_or is k 0) v
+slot_set is xs k v n h e = fun_ext (λ d. slot_put is xs k v d n h e)

@@ -1,0 +1,25 @@
+use Rattle.std.proofs.Common.{◌≡◌, sym, ap, subst, arith}
+use Rattle.fc_nodes.specs.Flat.{IsExport, tree_export}
+use Rattle.device_eval.specs.Snaps.{tree_of}
+use Rattle.firing_core.specs.CoreViews.{core_of, program_of}
+use Rattle.firing_core.proofs.NearSteps.{near_more, near_less, exports_more, longer}
+use Rattle.firing_core.proofs.cores.Core.near.Goals as goal
+use Rattle.firing_core.proofs.cores.Core.near.Goals.{in-Some+in_ok-export, in_default}
+
+pub loop-neighbour-preserved : goal.loop-neighbour-preserved
+loop-neighbour-preserved c = elim c.match-export.branch [
+  | in-Some+in_ok-export w ↦
+      let same : tree_of (program_of c.args.self.now) w.in_ok-export.export ≡ tree_of (program_of c.args.self.now) w.in-Some.export.now = ap (tree_export (program_of c.args.self.now)) w.in_ok-export.ensures in
+      record {
+        copies = rw w.near-is (near_more (program_of c.args.self.now) (core_of c.args.self.now).exports c.deref-neighbour-items.result.now c.loop-neighbour.neighbour-index _ c.loop-neighbour-test.true
+            c.loop-neighbour.near.items w.push.new.self.items _ _ (tree_of (program_of c.args.self.now) w.in-Some.export.now) w.push.ensures.items (cc) (sym w.in-Some.ensures.value) c.loop-neighbour.invariant.copies);
+        exports = rw w.near-is (rw w.push.ensures.items (exports_more (program_of c.args.self.now) c.loop-neighbour.near.items _ c.loop-neighbour.invariant.exports (subst (IsExport (program_of c.args.self.now)) (sym w.in_ok-export.ensures) w.in-Some.ensures.export)));
+        few = rw w.near-is (rw w.push.ensures.items (longer c.loop-neighbour.near.items _ c.loop-neighbour.neighbour-index c.loop-neighbour.invariant.few));
+      }
+  | in_default w ↦ record {
+    copies = rw w.near-is (near_less (program_of c.args.self.now) (core_of c.args.self.now).exports c.deref-neighbour-items.result.now c.loop-neighbour.neighbour-index _ c.loop-neighbour-test.true
+        c.loop-neighbour.near.items _ (sym w.in_default.ensures.value) c.loop-neighbour.invariant.copies);
+    exports = rw w.near-is c.loop-neighbour.invariant.exports;
+    few = rw w.near-is (omega (arith, c.loop-neighbour.invariant.few));
+  }
+]

@@ -1,0 +1,78 @@
+-- What contracts see of a core in code: one slot for each device, in the order of the network.
+use Rattle.std.specs.Prelude.{ℕ, ◌≡◌, List, [], ◌∷◌, map, length, nat_eq, if◌then◌else◌, Option, None, option_map}
+use Rattle.fc_values.specs.declared.exports.Export.{Export}
+use Rattle.fc_nodes.specs.Program.{Program, Unfolding, unfolding_of}
+use Rattle.fc_values.specs.Exports.{FlatExport, export_of}
+use Rattle.device_eval.specs.declared.value_trees.Near.{Near}
+use Rattle.device_eval.specs.declared.value_trees.Snap.{Snap}
+use Rattle.device_eval.specs.Copies.{WhereSome}
+use Rattle.device_eval.specs.Kinds.{IsKnown}
+use Rattle.device_eval.specs.Snaps.{tree_of, snap_copy, IsExportOf, IsSnap}
+use Rattle.firing_core.specs.Networks.{Network, IsNetwork, numbers}
+use Rattle.firing_core.specs.Cores.{Map, Core}
+
+pub record CoreValue : Type 0 where
+  pub program : Program
+  pub net : Network
+  pub exports : List (Option Export)
+  pub flying : List (Option Snap)
+
+-- a neighbour in a copy, as plain values
+abbrev pub near_view : Near → ℕ × ℕ × FlatExport
+near_view n = (n.device, n.weight, export_of n.export)
+
+-- the slot of a device
+abbrev pub slot_at : {X : Type 0} → List ℕ → List (Option X) → Map X
+slot_at [] xs d = None
+slot_at (i ∷ is) [] d = None
+slot_at (i ∷ is) (x ∷ xs) d = if nat_eq d i then x else slot_at is xs d
+
+abbrev pub program_of : CoreValue → Unfolding
+program_of c = unfolding_of c.program
+
+-- the core that it stands for
+abbrev pub core_of : CoreValue → Core
+core_of c = record {
+  net = c.net;
+  exports = slot_at (numbers c.net.devices) (map (option_map (tree_of (program_of c))) c.exports);
+  flying = slot_at (numbers c.net.devices) (map (option_map (snap_copy (program_of c))) c.flying);
+}
+
+abbrev pub AllExports : Unfolding → List (Option Export) → Type 0
+AllExports U [] = Unit {0}
+AllExports U (x ∷ xs) = WhereSome (IsExportOf U) x × AllExports U xs
+
+-- a copy in flight of this device
+pub record FlightOf (U : Unfolding) (d : ℕ) (s : Snap) : Type 0 where
+  pub names : s.device ≡ d
+  pub snap : IsSnap U s
+
+abbrev pub AllFlights : Unfolding → List ℕ → List (Option Snap) → Type 0
+AllFlights U [] [] = Unit {0}
+AllFlights U (d ∷ ds) (x ∷ xs) = WhereSome (FlightOf U d) x × AllFlights U ds xs
+AllFlights U _ _ = ⊥
+
+-- copies in flight that fit
+abbrev pub AllSnaps : Unfolding → List (Option Snap) → Type 0
+AllSnaps U [] = Unit {0}
+AllSnaps U (x ∷ xs) = WhereSome (IsSnap U) x × AllSnaps U xs
+
+-- what its type keeps
+pub record IsCore (c : CoreValue) : Type 0 where
+  pub known : IsKnown (program_of c).main
+  pub declared : c.net.declared ≡ c.program.declared
+  pub net : IsNetwork c.net
+  pub many : length c.exports ≡ length c.net.devices
+  pub exports : AllExports (program_of c) c.exports
+  pub flying : AllFlights (program_of c) (numbers c.net.devices) c.flying
+
+-- the program and the network stay
+pub record IsSameCore (old new : CoreValue) : Type 0 where
+  pub program : new.program ≡ old.program
+  pub net : new.net ≡ old.net
+
+-- a core of a network without exports and flights
+pub record IsEmptyCore (n : Network) (c : Core) : Type 0 where
+  pub net : c.net ≡ n
+  pub exports : (d : ℕ) → c.exports d ≡ None
+  pub flying : (d : ℕ) → c.flying d ≡ None

@@ -1,0 +1,282 @@
+//! Books: a program, a start, a log of steps, and the core to which the log leads.
+
+use crate::cores::Core;
+use crate::entries::{Entry, ReplayFault, StepFault};
+use crate::snaps::copy_snap;
+use device_eval::{Fired, Snap, fire};
+use fc_nodes::Unfolded;
+use fc_values::Memory;
+use std::alloc::Global;
+use std::marker::Model;
+use std::sync::Arc;
+
+/// A log of steps, with its program, the core that it starts from, and the core to which it leads.
+#[derive(Drop)]
+pub struct Book {
+    program: Arc<Unfolded>,
+    start: Core,
+    log: Vec<Entry>,
+    core: Core,
+}
+
+impl Model for Book {
+    ghost use Rattle.std.specs.Prelude.{◌-◌, vec_capacity, vec_len};
+    ghost use Rattle.std.specs.Coded.{codes};
+    ghost use Rattle.fc_values.specs.Codes.{local_value_code};
+    ghost use Rattle.fc_values.specs.contracts.values.Local as local;
+    ghost use Rattle.fc_values.specs.contracts.types.LocalTy as local_ty;
+    ghost use Rattle.firing_core.specs.Books.{BookValue, IsBook};
+
+    ghost Value = { BookValue };
+
+    ghost coded = { Prim.hlevel (codes, local_value_code, local.the_row.coded, local_ty.the_row.coded) };
+
+    ghost view = { λ b. record { program = b.program.value; start = b.start; log = b.log.items; core = b.core; spare = vec_capacity b.log - vec_len b.log } };
+
+    ghost invariant = { λ b. IsBook (record { program = b.program.value; start = b.start; log = b.log.items; core = b.core; spare = vec_capacity b.log - vec_len b.log }) };
+}
+
+impl Book {
+    ghost use Rattle.std.specs.Prelude.{◌≡◌, ◌↔◌, ◌≤◌, ◌+◌, [], IfOk, OnOk, OnErr, IfErr, IsErrOf, Some, None};
+    ghost use Rattle.fc_values.specs.Trees.{Copy};
+    ghost use Rattle.fc_nodes.specs.Program.{unfolding_of};
+    ghost use Rattle.device_eval.specs.Snaps.{snap_copy};
+    ghost use Rattle.firing_core.specs.Replays.{fault_of};
+    ghost use Rattle.firing_core.specs.CoreViews.{core_of};
+    ghost use Rattle.firing_core.specs.Books.{IsBook, IsSameBook, AppendsEntry, HasFault, RefusesEntry};
+    ghost use Rattle.firing_core.specs.declared.entries.Entry.TheVariants as entry;
+    ghost use Rattle.firing_core.specs.declared.entries.StepFault.TheVariants as fault;
+
+    /// The book of a core whose log is empty. A refusal hands the core back.
+    pub fn new(alloc: Global, program: Arc<Unfolded>, core: Core) -> Result<Self, (Core, Memory)>
+        requires { program.value ≡ core.program }
+        ensures program { IfOk result (λ b. b.program ≡ program.value) }
+        ensures start { IfOk result (λ b. core_of b.start ≡ core_of core) }
+        ensures log { IfOk result (λ b. b.log ≡ []) }
+        ensures core { IfOk result (λ b. b.core ≡ core) }
+        ensures book { IfOk result IsBook }
+        ensures back { IfErr result (λ e. e.0 ≡ core) }
+    {
+        let Ok(start) = core.copy(alloc) else {
+            return Err((core, Memory));
+        };
+        Ok(Book {
+            program,
+            start,
+            log: Vec::new(alloc),
+            core,
+        })
+    }
+
+    /// The program.
+    pub fn program(&self) -> &Arc<Unfolded>
+        ensures value { result.now.value ≡ self.now.program }
+        ensures book { IsBook self.now }
+    {
+        &self.program
+    }
+
+    /// The core that it starts from.
+    pub fn start(&self) -> &Core
+        ensures value { result.now ≡ self.now.start }
+        ensures book { IsBook self.now }
+    {
+        &self.start
+    }
+
+    /// The log.
+    pub fn log(&self) -> &[Entry]
+        ensures value { result.now ≡ self.now.log }
+        ensures book { IsBook self.now }
+    {
+        &self.log
+    }
+
+    /// The core to which the log leads.
+    pub fn core(&self) -> &Core
+        ensures value { result.now ≡ self.now.core }
+        ensures book { IsBook self.now }
+    {
+        &self.core
+    }
+
+    /// Takes memory for so many more entries.
+    pub fn reserve(&mut self, entries: usize) -> Result<(), Memory>
+        ensures ok { OnOk result (entries ≤ self.new.spare) }
+        ensures same { IsSameBook self.old self.new }
+    {
+        self.log.reserve(entries)?;
+        Ok(())
+    }
+
+    /// Begins a firing of a device, as the core does, and appends the entry.
+    pub fn begin(&mut self, alloc: Global, device: u32) -> Result<(), StepFault>
+        requires { 1 ≤ self.old.spare }
+        ensures ok { OnOk result (AppendsEntry self.old self.new (entry.Begin device)) }
+        ensures spare { OnOk result (self.new.spare + 1 ≡ self.old.spare) }
+        ensures no_device { IsErrOf result StepFault.NoDevice ↔ (fault_of (core_of self.old.core) (entry.Begin device) ≡ Some fault.NoDevice) }
+        ensures flying { IsErrOf result StepFault.Flying ↔ (fault_of (core_of self.old.core) (entry.Begin device) ≡ Some fault.Flying) }
+        ensures never { IsErrOf result StepFault.NotFlying → ⊥ }
+        ensures err { OnErr result (self.new ≡ self.old) }
+    {
+        self.core.begin(alloc, device)?;
+        self.log.push_reserved(Entry::Begin(device));
+        Ok(())
+    }
+
+    /// Ends a firing, as the core does, and appends the entry. It takes no memory.
+    pub fn end(&mut self, fired: Fired) -> Result<(), (Fired, StepFault)>
+        requires spare { 1 ≤ self.old.spare }
+        requires program { fired.program ≡ self.old.program }
+        requires copy { (s : Copy) → (core_of self.old.core).flying fired.snap.device ≡ Some s → s ≡ snap_copy (unfolding_of self.old.program) fired.snap }
+        ensures ok { OnOk result (AppendsEntry self.old self.new (entry.End fired.snap.device)) }
+        ensures room { OnOk result (self.new.spare + 1 ≡ self.old.spare) }
+        ensures refused { IfErr result (λ e. fault_of (core_of self.old.core) (entry.End fired.snap.device) ≡ Some e.1) }
+        ensures accepted { OnOk result (fault_of (core_of self.old.core) (entry.End fired.snap.device) ≡ None) }
+        ensures back { IfErr result (λ e. e.0 ≡ fired) }
+        ensures err { OnErr result (self.new ≡ self.old) }
+    {
+        let device = fired.snap().device;
+        self.core.end(fired)?;
+        self.log.push_reserved(Entry::End(device));
+        Ok(())
+    }
+
+    /// Appends an entry that changes nothing. It takes no memory.
+    pub fn idle(&mut self)
+        requires { 1 ≤ self.old.spare }
+        ensures appended { AppendsEntry self.old self.new entry.Idle }
+        ensures room { self.new.spare + 1 ≡ self.old.spare }
+    {
+        self.log.push_reserved(Entry::Idle);
+    }
+
+    /// Applies one entry, an end by evaluating the copy in flight, and appends it. A refusal changes nothing but the room
+    /// in the log.
+    pub fn step(&mut self, alloc: Global, entry: Entry) -> Result<(), ReplayFault>
+        ensures ok { OnOk result (AppendsEntry self.old self.new entry) }
+        ensures refused { IfErr result (RefusesEntry self.old entry) }
+        ensures accepted { OnOk result (fault_of (core_of self.old.core) entry ≡ None) }
+        ensures err { OnErr result (IsSameBook self.old self.new) }
+    {
+        if self.reserve(1).is_err() {
+            return Err(ReplayFault::Memory);
+        }
+        let index = self.log.len();
+        match self.apply(alloc, entry) {
+            Ok(()) => Ok(()),
+            Err(StepFault::Memory) => Err(ReplayFault::Memory),
+            Err(fault) => Err(ReplayFault::At { index, fault }),
+        }
+    }
+
+    // One entry, where the log has room for it.
+    fn apply(&mut self, alloc: Global, entry: Entry) -> Result<(), StepFault>
+        requires { 1 ≤ self.old.spare }
+        ensures ok { OnOk result (AppendsEntry self.old self.new entry) }
+        ensures refused { IfErr result (HasFault (core_of self.old.core) entry) }
+        ensures accepted { OnOk result (fault_of (core_of self.old.core) entry ≡ None) }
+        ensures err { OnErr result (self.new ≡ self.old) }
+    {
+        match entry {
+            Entry::Begin(device) => self.begin(alloc, device),
+            Entry::End(device) => self.finish(alloc, device),
+            Entry::Idle => {
+                self.idle();
+                Ok(())
+            }
+        }
+    }
+
+    // Evaluates the copy with which a device flies, and ends that firing.
+    fn finish(&mut self, alloc: Global, device: u32) -> Result<(), StepFault>
+        requires { 1 ≤ self.old.spare }
+        ensures ok { OnOk result (AppendsEntry self.old self.new (entry.End device)) }
+        ensures refused { IfErr result (HasFault (core_of self.old.core) (entry.End device)) }
+        ensures accepted { OnOk result (fault_of (core_of self.old.core) (entry.End device) ≡ None) }
+        ensures err { OnErr result (self.new ≡ self.old) }
+    {
+        let fired = evaluate(alloc, &self.core, device)?;
+        match self.end(fired) {
+            Ok(()) => Ok(()),
+            Err((_, fault)) => Err(fault),
+        }
+    }
+}
+
+ghost use Rattle.std.specs.Prelude.{◌≡◌, IfOk, IfErr, Some, None};
+ghost use Rattle.device_eval.specs.Snaps.{snap_copy, IsSnap};
+ghost use Rattle.firing_core.specs.CoreViews.{core_of, program_of};
+ghost use Rattle.firing_core.specs.Books.{HasFault, FailsReplay, IsStuckReplay};
+ghost use Rattle.firing_core.specs.declared.entries.Entry.TheVariants as entry;
+
+// The copy with which a device flies, evaluated.
+fn evaluate(alloc: Global, core: &Core, device: u32) -> Result<Fired, StepFault>
+    ensures program { IfOk result (λ f. f.program ≡ core.now.program) }
+    ensures device { IfOk result (λ f. f.snap.device ≡ device) }
+    ensures copy { IfOk result (λ f. (core_of core.now).flying device ≡ Some (snap_copy (program_of core.now) f.snap)) }
+    ensures refused { IfErr result (HasFault (core_of core.now) (entry.End device)) }
+{
+    let snap = flight(alloc, core, device)?;
+    match fire(alloc, core.program(), snap) {
+        Ok(fired) => Ok(fired),
+        Err(_) => Err(StepFault::Memory),
+    }
+}
+
+// A copy of the copy with which a device flies.
+fn flight(alloc: Global, core: &Core, device: u32) -> Result<Snap, StepFault>
+    ensures snap { IfOk result (λ s. IsSnap (program_of core.now) s) }
+    ensures device { IfOk result (λ s. s.device ≡ device) }
+    ensures copy { IfOk result (λ s. (core_of core.now).flying device ≡ Some (snap_copy (program_of core.now) s)) }
+    ensures refused { IfErr result (HasFault (core_of core.now) (entry.End device)) }
+{
+    let Some(snap) = core.flying(device) else {
+        return Err(missing(core, device));
+    };
+    match copy_snap(alloc, core.program(), snap) {
+        Ok(copy) => Ok(copy),
+        Err(_) => Err(StepFault::Memory),
+    }
+}
+
+// Why a device that doesn't fly can't end a firing.
+fn missing(core: &Core, device: u32) -> StepFault
+    requires { (core_of core.now).flying device ≡ None }
+    ensures { HasFault (core_of core.now) (entry.End device) result }
+{
+    match core.net().place(device) {
+        Some(_) => StepFault::NotFlying,
+        None => StepFault::NoDevice,
+    }
+}
+
+ghost use Rattle.fc_nodes.specs.Program.{unfolding_of};
+ghost use Rattle.firing_core.specs.Replays.{replay as replay_of};
+
+/// The book of a start and a log, or the first entry that has no step.
+pub fn replay(
+    alloc: Global,
+    program: &Arc<Unfolded>,
+    start: Core,
+    log: Vec<Entry>,
+) -> Result<Book, ReplayFault>
+    requires { program.now.value ≡ start.program }
+    ensures program { IfOk result (λ b. b.program ≡ program.now.value) }
+    ensures start { IfOk result (λ b. core_of b.start ≡ core_of start) }
+    ensures log { IfOk result (λ b. b.log ≡ log.items) }
+    ensures core { IfOk result (λ b. replay_of (unfolding_of program.now.value) (core_of start) log.items ≡ Some (core_of b.core)) }
+    ensures refused { IfErr result (FailsReplay (unfolding_of program.now.value) (core_of start) log.items) }
+    ensures stuck { IfErr result (IsStuckReplay (unfolding_of program.now.value) (core_of start) log.items) }
+{
+    let Ok(program) = program.clone() else {
+        return Err(ReplayFault::Memory);
+    };
+    let Ok(mut book) = Book::new(alloc, program, start) else {
+        return Err(ReplayFault::Memory);
+    };
+    for entry in &log {
+        book.step(alloc, *entry)?;
+    }
+    Ok(book)
+}

@@ -1,0 +1,228 @@
+//! Cores: a network, the exports of its devices, and the copies in flight.
+
+use crate::entries::StepFault;
+use crate::snaps::{copy_exports, copy_flights, copy_locals, copy_own};
+use crate::topology::Network;
+use arrayvec::ArrayVec;
+use device_eval::{Fired, Near, Snap};
+use fc_nodes::Unfolded;
+use fc_values::{Export, Memory, copy_export};
+use std::alloc::Global;
+use std::marker::Model;
+use std::sync::Arc;
+
+/// A network of devices that run a program, with the export and the copy in flight of each.
+#[derive(Drop)]
+pub struct Core {
+    program: Arc<Unfolded>,
+    net: Network,
+    exports: Vec<Option<Export>>,
+    flying: Vec<Option<Snap>>,
+}
+
+impl Model for Core {
+    ghost use Rattle.std.specs.Coded.{codes};
+    ghost use Rattle.fc_values.specs.Codes.{local_value_code};
+    ghost use Rattle.fc_values.specs.contracts.values.Local as local;
+    ghost use Rattle.fc_values.specs.contracts.types.LocalTy as local_ty;
+    ghost use Rattle.firing_core.specs.CoreViews.{CoreValue, IsCore};
+
+    ghost Value = { CoreValue };
+
+    ghost coded = { Prim.hlevel (codes, local_value_code, local.the_row.coded, local_ty.the_row.coded) };
+
+    ghost view = { λ c. record { program = c.program.value; net = c.net; exports = c.exports.items; flying = c.flying.items } };
+
+    ghost invariant = { λ c. IsCore (record { program = c.program.value; net = c.net; exports = c.exports.items; flying = c.flying.items }) };
+}
+
+ghost use Rattle.std.specs.Prelude.{◌≡◌, IfOk, replicate, None};
+
+// So many empty slots.
+fn no_slots<T: Drop>(alloc: Global, count: usize) -> Result<Vec<Option<T>>, Memory>
+    ensures { IfOk result (λ v. v.items ≡ replicate count None) }
+{
+    let mut slots = Vec::new(alloc);
+    for _ in 0..count {
+        slots.push(None)?;
+    }
+    Ok(slots)
+}
+
+impl Core {
+    ghost use Rattle.std.specs.Prelude.{◌≡◌, ◌↔◌, ◌<◌, IfOk, OnOk, OnErr, IfErr, IfSome, IfNone, IsErrOf, IsSome, Some, None, true, false, option_copied, option_map, length, slice_index, map, ◌≤◌};
+    ghost use Rattle.fc_values.specs.Trees.{Copy};
+    ghost use Rattle.fc_nodes.specs.Program.{unfolding_of};
+    ghost use Rattle.device_eval.specs.Kinds.{IsKnown};
+    ghost use Rattle.device_eval.specs.Snaps.{snap_copy, tree_of, near_copy, NearAreExports, IsSnap, IsExportOf};
+    ghost use Rattle.firing_core.specs.Networks.{lives, numbers, near as near_of};
+    ghost use Rattle.firing_core.specs.Cores.{Step, IsGood, copy_of, near_copies};
+    ghost use Rattle.firing_core.specs.Replays.{fault_of};
+    ghost use Rattle.firing_core.specs.CoreViews.{core_of, program_of, IsCore, IsSameCore, IsEmptyCore};
+    ghost use Rattle.firing_core.specs.declared.entries.Entry.TheVariants as entry;
+    ghost use Rattle.firing_core.specs.declared.entries.StepFault.TheVariants as fault;
+
+    /// The core of a network in which no device has an export and none is in flight.
+    pub fn new(alloc: Global, program: &Arc<Unfolded>, net: Network) -> Result<Self, Memory>
+        requires declared { net.declared ≡ program.now.value.declared }
+        requires known { IsKnown (unfolding_of program.now.value).main }
+        ensures program { IfOk result (λ c. c.program ≡ program.now.value) }
+        ensures core { IfOk result (λ c. IsEmptyCore net (core_of c)) }
+    {
+        let program = program.clone()?;
+        let count = net.devices().len();
+        let exports = no_slots(alloc, count)?;
+        let flying = no_slots(alloc, count)?;
+        Ok(Core {
+            program,
+            net,
+            exports,
+            flying,
+        })
+    }
+
+    /// The program.
+    pub fn program(&self) -> &Arc<Unfolded>
+        ensures value { result.now.value ≡ self.now.program }
+        ensures core { IsCore self.now }
+    {
+        &self.program
+    }
+
+    /// The network.
+    pub fn net(&self) -> &Network
+        ensures value { result.now ≡ self.now.net }
+        ensures core { IsCore self.now }
+        ensures good { IsGood (program_of self.now) (core_of self.now) }
+    {
+        &self.net
+    }
+
+    /// The export of a device.
+    pub fn export(&self, device: u32) -> Option<&Export>
+        ensures value { option_map (λ e. tree_of (program_of self.now) e.now) result ≡ (core_of self.now).exports device }
+        ensures export { IfSome result (λ e. IsExportOf (program_of self.now) e.now) }
+        ensures core { IsCore self.now }
+    {
+        let place = self.net.place(device)?;
+        self.exports[place].as_ref()
+    }
+
+    /// The copy with which a device flies.
+    pub fn flying(&self, device: u32) -> Option<&Snap>
+        ensures value { option_map (λ s. snap_copy (program_of self.now) s.now) result ≡ (core_of self.now).flying device }
+        ensures snap { IfSome result (λ s. IsSnap (program_of self.now) s.now) }
+        ensures core { IsCore self.now }
+    {
+        let place = self.net.place(device)?;
+        self.flying[place].as_ref()
+    }
+
+    /// A copy of the core.
+    pub fn copy(&self, alloc: Global) -> Result<Self, Memory>
+        ensures program { IfOk result (λ c. c.program ≡ self.now.program) }
+        ensures core { IfOk result (λ c. core_of c ≡ core_of self.now) }
+        ensures kept { IfOk result IsCore }
+    {
+        let program = self.program.clone()?;
+        let net = self.net.copy(alloc)?;
+        let exports = copy_exports(alloc, &self.exports)?;
+        let flying = copy_flights(alloc, &self.program, &self.flying)?;
+        Ok(Core {
+            program,
+            net,
+            exports,
+            flying,
+        })
+    }
+
+    // The copy of a device's closed neighbourhood. Neighbours without an export are left out.
+    pub(crate) fn neighbourhood(
+        &self,
+        alloc: Global,
+        device: u32,
+        place: usize,
+    ) -> Result<Snap, Memory>
+        requires within { place < length self.now.net.devices }
+        requires device { slice_index (numbers self.now.net.devices) place ≡ device }
+        ensures copy { IfOk result (λ s. snap_copy (program_of self.now) s ≡ copy_of self.now.net (core_of self.now).exports device) }
+        ensures snap { IfOk result (λ s. IsSnap (program_of self.now) s) }
+    {
+        let inputs = copy_locals(alloc, &self.net.devices()[place].inputs)?;
+        let own = copy_own(alloc, self.exports[place].as_ref())?;
+        let near = self.near(alloc, device)?;
+        Ok(Snap {
+            device,
+            inputs,
+            own,
+            near,
+        })
+    }
+
+    // The neighbours of a device that have an export.
+    fn near(&self, alloc: Global, device: u32) -> Result<ArrayVec<Near, 32, Global>, Memory>
+        ensures near { IfOk result (λ ns. map (near_copy (program_of self.now)) ns.items ≡ near_copies (core_of self.now).exports (near_of self.now.net device)) }
+        ensures exports { IfOk result (λ ns. NearAreExports (program_of self.now) ns.items) }
+        ensures few { IfOk result (λ ns. length ns.items ≤ 32) }
+    {
+        let mut near = ArrayVec::new_in(alloc);
+        let neighbours = self.net.neighbours(device);
+        for (neighbour, weight) in neighbours.iter() {
+            if let Some(export) = self.export(*neighbour) {
+                let export = copy_export(alloc, export)?;
+                near.push(Near {
+                    device: *neighbour,
+                    weight: *weight,
+                    export,
+                });
+            }
+        }
+        Ok(near)
+    }
+
+    /// Puts the copy of a device's closed neighbourhood in flight.
+    pub fn begin(&mut self, alloc: Global, device: u32) -> Result<(), StepFault>
+        ensures ok { OnOk result (Step (program_of self.old) (core_of self.old) (entry.Begin device) (core_of self.new)) }
+        ensures no_device { IsErrOf result StepFault.NoDevice ↔ (fault_of (core_of self.old) (entry.Begin device) ≡ Some fault.NoDevice) }
+        ensures flying { IsErrOf result StepFault.Flying ↔ (fault_of (core_of self.old) (entry.Begin device) ≡ Some fault.Flying) }
+        ensures never { IsErrOf result StepFault.NotFlying → ⊥ }
+        ensures err { OnErr result (self.new ≡ self.old) }
+        ensures same { IsSameCore self.old self.new }
+    {
+        let Some(place) = self.net.place(device) else {
+            return Err(StepFault::NoDevice);
+        };
+        if self.flying[place].is_some() {
+            return Err(StepFault::Flying);
+        }
+        let Ok(snap) = self.neighbourhood(alloc, device, place) else {
+            return Err(StepFault::Memory);
+        };
+        self.flying[place] = Some(snap);
+        Ok(())
+    }
+
+    /// Publishes the export of a firing and ends it. It takes no memory. What was fired comes back with a refusal.
+    pub fn end(&mut self, fired: Fired) -> Result<(), (Fired, StepFault)>
+        requires program { fired.program ≡ self.old.program }
+        requires copy { (s : Copy) → (core_of self.old).flying fired.snap.device ≡ Some s → s ≡ snap_copy (program_of self.old) fired.snap }
+        ensures ok { OnOk result (Step (program_of self.old) (core_of self.old) (entry.End fired.snap.device) (core_of self.new)) }
+        ensures refused { IfErr result (λ e. fault_of (core_of self.old) (entry.End fired.snap.device) ≡ Some e.1) }
+        ensures accepted { OnOk result (fault_of (core_of self.old) (entry.End fired.snap.device) ≡ None) }
+        ensures back { IfErr result (λ e. e.0 ≡ fired) }
+        ensures err { OnErr result (self.new ≡ self.old) }
+        ensures same { IsSameCore self.old self.new }
+    {
+        let device = fired.snap().device;
+        let Some(place) = self.net.place(device) else {
+            return Err((fired, StepFault::NoDevice));
+        };
+        if self.flying[place].is_none() {
+            return Err((fired, StepFault::NotFlying));
+        }
+        let (_, export) = fired.into_parts();
+        self.exports[place] = Some(export);
+        self.flying[place] = None;
+        Ok(())
+    }
+}

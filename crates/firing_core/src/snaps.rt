@@ -1,0 +1,118 @@
+//! Copies of values, of exports, and of copies.
+
+ghost use Rattle.std.specs.Prelude.{◌≡◌, ◌≤◌, length, map, option_map, IfOk};
+ghost use Rattle.fc_values.specs.Values.{local_of};
+ghost use Rattle.fc_nodes.specs.Program.{Unfolding, unfolding_of};
+ghost use Rattle.fc_values.specs.Exports.{export_of};
+ghost use Rattle.device_eval.specs.Snaps.{snap_copy, IsSnap};
+ghost use Rattle.device_eval.specs.Copies.{WhereSome};
+ghost use Rattle.firing_core.specs.CoreViews.{near_view, AllSnaps};
+
+use arrayvec::ArrayVec;
+use device_eval::{Near, Snap};
+use fc_nodes::Unfolded;
+use fc_values::{Export, Local, Memory, copy, copy_export};
+use std::alloc::Global;
+
+/// Copies of local values.
+pub(crate) fn copy_locals(alloc: Global, values: &[Local]) -> Result<Vec<Local>, Memory>
+    ensures { IfOk result (λ v. map local_of v.items ≡ map local_of values.now) }
+{
+    let mut copies = Vec::new(alloc);
+    for value in values {
+        copies.push(copy(alloc, value)?)?;
+    }
+    Ok(copies)
+}
+
+/// A copy of an export, if there is one.
+pub(crate) fn copy_own(alloc: Global, own: Option<&Export>) -> Result<Option<Export>, Memory>
+    ensures { IfOk result (λ e. option_map export_of e ≡ option_map (λ x. export_of x.now) own.entry) }
+{
+    match own {
+        Some(export) => Ok(Some(copy_export(alloc, export)?)),
+        None => Ok(None),
+    }
+}
+
+fn copy_near(
+    alloc: Global,
+    all: &ArrayVec<Near, 32, Global>,
+) -> Result<ArrayVec<Near, 32, Global>, Memory>
+    ensures { IfOk result (λ ns. map near_view ns.items ≡ map near_view all.now.items) }
+{
+    let mut copies = ArrayVec::new_in(alloc);
+    let all = all.as_slice();
+    for near in all {
+        let export = copy_export(alloc, &near.export)?;
+        copies.push(Near {
+            device: near.device,
+            weight: near.weight,
+            export,
+        });
+    }
+    Ok(copies)
+}
+
+/// A copy of a copy, for a program that it fits.
+pub fn copy_snap(alloc: Global, program: &Unfolded, snap: &Snap) -> Result<Snap, Memory>
+    requires { IsSnap (unfolding_of program.now) snap.now }
+    ensures same { IfOk result (λ s. snap_copy (unfolding_of program.now) s ≡ snap_copy (unfolding_of program.now) snap.now) }
+    ensures snap { IfOk result (λ s. IsSnap (unfolding_of program.now) s) }
+{
+    let inputs = copy_locals(alloc, &snap.inputs)?;
+    let own = copy_own(alloc, snap.own.as_ref())?;
+    let near = copy_near(alloc, &snap.near)?;
+    Ok(Snap {
+        device: snap.device,
+        inputs,
+        own,
+        near,
+    })
+}
+
+/// Copies of exports, where there are some.
+pub(crate) fn copy_exports(
+    alloc: Global,
+    exports: &[Option<Export>],
+) -> Result<Vec<Option<Export>>, Memory>
+    ensures { IfOk result (λ v. map (option_map export_of) v.items ≡ map (option_map export_of) exports.now) }
+{
+    let mut copies = Vec::new(alloc);
+    for export in exports {
+        copies.push(copy_own(alloc, export.as_ref())?)?;
+    }
+    Ok(copies)
+}
+
+fn copy_flight(
+    alloc: Global,
+    program: &Unfolded,
+    flight: &Option<Snap>,
+) -> Result<Option<Snap>, Memory>
+    requires { WhereSome (IsSnap (unfolding_of program.now)) flight.now }
+    ensures same { IfOk result (λ s. option_map (snap_copy (unfolding_of program.now)) s ≡ option_map (snap_copy (unfolding_of program.now)) flight.now) }
+    ensures snap { IfOk result (λ s. WhereSome (IsSnap (unfolding_of program.now)) s) }
+{
+    match flight {
+        Some(snap) => Ok(Some(copy_snap(alloc, program, snap)?)),
+        None => Ok(None),
+    }
+}
+
+/// Copies of the copies in flight, for a program that they fit.
+pub(crate) fn copy_flights(
+    alloc: Global,
+    program: &Unfolded,
+    flights: &[Option<Snap>],
+) -> Result<Vec<Option<Snap>>, Memory>
+    requires { AllSnaps (unfolding_of program.now) flights.now }
+    ensures same { IfOk result (λ v. map (option_map (snap_copy (unfolding_of program.now))) v.items ≡ map (option_map (snap_copy (unfolding_of program.now))) flights.now) }
+    ensures snaps { IfOk result (λ v. AllSnaps (unfolding_of program.now) v.items) }
+{
+    let mut copies = Vec::new(alloc);
+    for flight in flights {
+        copies.push(copy_flight(alloc, program, flight)?)?;
+    }
+    Ok(copies)
+}
