@@ -1,0 +1,46 @@
+//! `fc`: replays a log of firings on a network and writes what each device holds.
+#![tactic(auto)]
+
+mod lines;
+mod refusal;
+mod replies;
+mod restricted;
+mod scene;
+mod sections;
+#[cfg(test)]
+mod tests;
+mod texts;
+mod top;
+mod words;
+
+use fc_io::{StdSink, StdSource};
+use std::alloc::Global;
+use std::env;
+use std::io::{self, ErrorKind};
+use std::process::ExitCode;
+use std::rt::Env;
+
+/// How many bytes an input has at most.
+pub const LIMIT: usize = 1_048_576;
+
+// The words of the command line.
+fn command_line(rt: &(impl Env + Alloc<A = Global>)) -> io::Result<Vec<String>> {
+    let mut words = Vec::new(rt.alloc());
+    for word in env::args(rt)? {
+        words.push(word)?;
+    }
+    Ok(words)
+}
+
+fn main(rt: HostRuntime) -> ExitCode {
+    let words = match command_line(&rt) {
+        Ok(words) => words,
+        Err(error) if error.kind() == ErrorKind::OutOfMemory => return ExitCode::from(7),
+        // Words that are not text are no command's.
+        Err(_) => Vec::new(rt.alloc()),
+    };
+    let mut source = StdSource::new(rt.stdin());
+    let mut sink = StdSink::new(rt.stdout());
+    let outcome = top::fc(rt.alloc(), &words, &mut source, &mut sink);
+    ExitCode::from(outcome.status)
+}
