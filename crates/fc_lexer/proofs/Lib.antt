@@ -1,0 +1,7 @@
+pub mod Longest
+pub mod OneReading
+pub mod BackAgain
+pub mod Turns
+pub mod Numbers
+pub mod Spans
+pub mod Digits

@@ -1,0 +1,7 @@
+pub mod Bytes
+pub mod Words
+pub mod Kinds
+pub mod Sizes
+pub mod Lexes
+pub mod Apart
+pub mod Laws
