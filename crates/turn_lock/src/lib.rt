@@ -1,0 +1,11 @@
+//! A lock whose turns are written, one entry each, in a list that the locked value keeps.
+#![tactic(auto)]
+
+mod kinds;
+mod lock;
+pub mod notes;
+#[cfg(test)]
+mod tests;
+mod views;
+
+pub use lock::{Logged, Pass, TurnLock};
