@@ -1,0 +1,4 @@
+pub mod Terms
+pub mod Text
+pub mod Pieces
+pub mod Printable

@@ -1,0 +1,13 @@
+//! The syntax of programs, and their canonical text.
+#![tactic(auto)]
+
+mod pieces;
+mod printer;
+mod tree;
+mod words;
+
+pub use printer::print;
+pub use tree::{Decl, Expr, Param, Program};
+
+#[cfg(test)]
+mod tests;
