@@ -124,6 +124,7 @@ pub fn calm(alloc: Global, words: &[String], input: Vec<u8>, out: &mut CalmSink)
 {
     let mut source = CalmSource::new(input);
     let outcome = fc(alloc, words, &mut source, out);
+    // Its clause `calm`: with room left no write has failed.
     let _taken = out.taken();
     outcome
 }
