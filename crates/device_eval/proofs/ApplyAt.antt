@@ -13,11 +13,10 @@ use Rattle.fc_nodes.proofs.Places.{AllAbove}
 use Rattle.fc_nodes.proofs.Kids.{laid_term, SomeKids, apply_laid}
 use Rattle.fc_nodes.proofs.Kept.{kept_step, kept_size, kept_none}
 use Rattle.device_eval.specs.Evaluation.{Situation, Vars, Outcome, Outcomes, eval_of, eval_all, after_all, on_some}
-use Rattle.device_eval.specs.Kinds.{IsKnown, AreKnown}
 use Rattle.device_eval.specs.Layouts.{LayoutValue}
 use Rattle.device_eval.specs.Environments.{FlatEnv, env_at, EnvFits}
 use Rattle.device_eval.specs.Walks.{Room, SameOut, Can, Did, CanAt, DidAt, Stands}
-use Rattle.device_eval.specs.Rows.{outcomes_at, row_trees, row_kept, Row, FitEach, MarkedEach, KnownEach, first_of, CanEach, DidEach}
+use Rattle.device_eval.specs.Rows.{outcomes_at, row_trees, row_kept, Row, FitEach, MarkedEach, first_of, CanEach, DidEach}
 use Rattle.device_eval.proofs.Frames.{env_child, env_fits}
 use Rattle.device_eval.proofs.Steps.{some_on}
 use Rattle.device_eval.proofs.RowSteps.{rest_row}
@@ -26,10 +25,6 @@ module _ (ns : List Node) (ab : AllAbove ns) where
   row_of : (xs : Terms) (q : ℕ) → AllLaid ns q xs → Row ns q (places q xs)
   row_of NoMore q l = tt
   row_of (More x xs) q l = let e = laid_term ns ab x q l.0 in (refl, rw e l.0, rw e (row_of xs (q + size x) l.1))
-
-  known_row : (xs : Terms) (q : ℕ) → AllLaid ns q xs → AreKnown xs → KnownEach ns (places q xs)
-  known_row NoMore q l k = tt
-  known_row (More x xs) q l k = (subst IsKnown (sym (laid_term ns ab x q l.0)) k.0, known_row xs (q + size x) l.1 k.1)
 
   kept_row : (xs : Terms) (q : ℕ) → AllLaid ns q xs → row_kept ns (places q xs) ≡ kept_all xs
   kept_row NoMore q l = refl
@@ -118,9 +113,6 @@ module _ (ns : List Node) (ab : AllAbove ns) (lay : LayoutValue) (p : ℕ) (st :
 
   outcomes_are : eval_all S (suc p) 0 all vars (env_at (Apply t o all) (kept_before ns p) env) ≡ outcomes_at S ns ks vars env
   outcomes_are = all_is ns ab S t o all (kept_before ns p) vars env all (suc p) 0 (kept_before ns p) kids_laid slot_next (λ j zs. let e : 0 + j ≡ j = omega arith in ap (λ n. nth_tree n (trees_at all (kept_before ns p) zs)) e) ∙ ap (λ qs. outcomes_at S ns qs vars env) (sym kids_are)
-
-  pub apply_known : IsKnown (term_at ns p) → KnownEach ns ks
-  apply_known known = subst (KnownEach ns) (sym kids_are) (known_row ns ab all (suc p) kids_laid (subst IsKnown term_is known))
 
   pub apply_can : CanEach S ns ks vars env xs
   apply_can =

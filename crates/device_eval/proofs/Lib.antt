@@ -2,7 +2,12 @@ pub mod Blanks
 pub mod SlotLists
 pub mod Frames
 pub mod Steps
+pub mod LeafAt
 pub mod NbrAt
+pub mod LetAt
+pub mod EvolveAt
+pub mod Branches
+pub mod IfAt
 pub mod RowSteps
 pub mod ApplyAt
 pub mod Agree

@@ -15,18 +15,12 @@ use Rattle.fc_nodes.proofs.Kids.{OneKid, nbr_laid}
 use Rattle.fc_nodes.proofs.Kept.{one_more}
 use Rattle.device_eval.specs.Alignment.{with_entry, kept_there}
 use Rattle.device_eval.specs.Evaluation.{Situation, Vars, eval_of, on_local}
-use Rattle.device_eval.specs.Kinds.{IsKnown}
 use Rattle.device_eval.specs.Layouts.{LayoutValue, number_in}
-use Rattle.device_eval.specs.Environments.{FlatEnv, NearSlots, env_at, near_at, slot_entries, NearFit, NearHave}
+use Rattle.device_eval.specs.Environments.{FlatEnv, NearSlots, env_at, near_at, slot_entries, NearHave}
 use Rattle.device_eval.specs.Walks.{SameIn, Can, Did, CanAt, DidAt, Stands, IsLocal}
 use Rattle.device_eval.proofs.SlotLists.{slot_set_same, slot_set_other}
 use Rattle.device_eval.proofs.Frames.{tree_same, marked_same, env_child, env_fits, room_part, still_then, still_set}
-use Rattle.device_eval.proofs.Steps.{after_some, local_is, can_all, did_all, kid_is, stands_kid, slot_is}
-
--- each neighbour has the first slot of a term that has one
-pub near_have : (t : Term) (k : ℕ) (ns : List NearSlots) → 0 < kept t → NearFit t k ns → NearHave k ns
-near_have t k [] w h = tt
-near_have t k (n ∷ ns) w h = (omega (arith, h.1, w), near_have t k ns w h.2)
+use Rattle.device_eval.proofs.Steps.{after_some, local_is, can_all, did_all, kid_is, stands_kid, slot_is, near_have}
 
 kept_entries : (t : ValueType) (a : Term) (k : ℕ) (ns : List NearSlots) → kept_there (map (near_at (Nbr t a) k) ns) ≡ Some (slot_entries k ns)
 kept_entries t a k [] = refl
@@ -87,13 +81,6 @@ module _ (ns : List Node) (ab : AllAbove ns) (lay : LayoutValue) (p : ℕ) (st :
 
   pub nbr_near : (k : ℕ) → number_in lay p ≡ Some k → NearHave k env.near
   nbr_near k e = let can' = can_n in subst (λ j. NearHave j env.near) (sym (slot_as k e)) (near_have (Nbr t (term_at ns (get_or ks 0 0))) (kept_before ns p) env.near (omega arith) can'.fits.near)
-
-  pub nbr_known : (q : ℕ) → q ≡ get_or ks 0 q → IsKnown (term_at ns p) → IsKnown (term_at ns q)
-  nbr_known q e known =
-      let o = one in
-      let l = o.long in
-      let e' = kid_is ks 0 q e (omega (arith, l)) in
-      subst (λ r. IsKnown (term_at ns r)) (sym e') (subst IsKnown o.term known)
 
   pub nbr_kid : (q : ℕ) → q ≡ get_or ks 0 q → (p < q) × (q < length ns) × CanAt S ns q vars env xs × Stands ns lay q
   nbr_kid q e =

@@ -8,11 +8,10 @@ use Rattle.fc_nodes.specs.Flat.{slot_at}
 use Rattle.fc_nodes.proofs.Places.{laid_within}
 use Rattle.fc_nodes.proofs.Kept.{kept_size, kept_none}
 use Rattle.device_eval.specs.Evaluation.{Situation, Vars, Outcome, Outcomes, and_then}
-use Rattle.device_eval.specs.Kinds.{IsKnown}
 use Rattle.device_eval.specs.Layouts.{LayoutValue, IsLayout}
 use Rattle.device_eval.specs.Environments.{FlatEnv}
 use Rattle.device_eval.specs.Walks.{Room, SameIn, SameOut, CanAt, DidAt, Stands}
-use Rattle.device_eval.specs.Rows.{row_kept, Row, KnownEach, first_of, CanEach, DidEach}
+use Rattle.device_eval.specs.Rows.{row_kept, Row, first_of, CanEach, DidEach}
 use Rattle.device_eval.proofs.Frames.{tree_same, marked_same, room_part, room_behind, still_same, still_then}
 
 both_first : (o : Outcome) (os : Outcomes) → IsSome (and_then o os) → IsSome o
@@ -103,31 +102,26 @@ positive (If t c a b) = omega arith
 positive (Let t a b) = omega arith
 
 -- a row with its first and the rest
-module _ (S : Situation) (ns : List Node) (lay : LayoutValue) (layout : IsLayout ns lay) (ks : List ℕ) (k : ℕ) (rest : List ℕ) (e : ks ≡ k ∷ rest) (vars : Vars) (env : FlatEnv) (xs : List SlotValue) (can : CanEach S ns ks vars env xs) (known : KnownEach ns ks) where
+module _ (S : Situation) (ns : List Node) (lay : LayoutValue) (layout : IsLayout ns lay) (ks : List ℕ) (k : ℕ) (rest : List ℕ) (e : ks ≡ k ∷ rest) (vars : Vars) (env : FlatEnv) (xs : List SlotValue) (can : CanEach S ns ks vars env xs) where
   can_k : CanEach S ns (k ∷ rest) vars env xs
   can_k = subst (λ qs. CanEach S ns qs vars env xs) e can
 
-  known_k : KnownEach ns (k ∷ rest)
-  known_k = subst (KnownEach ns) e known
-
-  pub kid_can : (k < length ns) × (get_or ks 0 (length ns) ≡ k) × (CanAt S ns k vars env xs × (Stands ns lay k × IsKnown (term_at ns k)))
+  pub kid_can : (k < length ns) × (get_or ks 0 (length ns) ≡ k) × (CanAt S ns k vars env xs × Stands ns lay k)
   kid_can =
       let can' = can_k in
       let r = can'.row in
       let w = laid_within ns k (term_at ns k) r.1 in
-      let n = known_k in
-      (w, rw e refl, (first_can S ns k rest vars env xs can', (record { layout = layout; laid = r.1; within = w }, n.0)))
+      (w, rw e refl, (first_can S ns k rest vars env xs can', record { layout = layout; laid = r.1; within = w }))
 
   rest_later : (qs : List ℕ) → Row ns (k + size (term_at ns k)) qs → k < length ns → k < get_or qs 0 (length ns)
   rest_later [] r w = w
   rest_later (q ∷ qs) r w = let p = positive (term_at ns k) in let f = r.0 in omega (arith, f, p)
 
-  pub rest_each : (v : AnyValue) (ys : List SlotValue) → DidAt S ns k vars env xs v ys → (k < get_or rest 0 (length ns)) × (CanEach S ns rest vars env ys × KnownEach ns rest)
+  pub rest_each : (v : AnyValue) (ys : List SlotValue) → DidAt S ns k vars env xs v ys → (k < get_or rest 0 (length ns)) × CanEach S ns rest vars env ys
   rest_each v ys did =
       let can' = can_k in
       let r = can'.row in
-      let n = known_k in
-      (rest_later rest r.2 (laid_within ns k (term_at ns k) r.1), (rest_can S ns k rest vars env xs can' v ys did, n.1))
+      (rest_later rest r.2 (laid_within ns k (term_at ns k) r.1), rest_can S ns k rest vars env xs can' v ys did)
 
   pub each_done : (v : AnyValue) (ys zs : List SlotValue) (old mid new : List AnyValue) → DidAt S ns k vars env xs v ys → mid ≡ old ++ v ∷ [] → DidEach S ns rest vars env ys mid new zs → DidEach S ns ks vars env xs old new zs
   each_done v ys zs old mid new did m r = subst (λ qs. DidEach S ns qs vars env xs old new zs) (sym e) (row_done S ns k rest vars env xs can_k v ys zs old mid new did m r)

@@ -1,22 +1,16 @@
 -- The evaluation of a leaf, and what the kids of any node need.
-use Rattle.std.proofs.Common.{◌≡◌, ℕ, zero, suc, ◌<◌, List, [], ◌∷◌, length, refl, sym, ◌∙◌, subst, arith, get_or, Option, Some, None, IsSome}
-use Rattle.fc_values.specs.declared.builtins.Builtin.{Builtin}
-use Rattle.fc_values.specs.declared.values.Local.{Local}
+use Rattle.std.proofs.Common.{◌≡◌, ℕ, zero, suc, ◌<◌, List, [], ◌∷◌, length, refl, ◌∙◌, subst, arith, get_or, Option, Some, None, IsSome}
 use Rattle.fc_values.specs.Types.{LocalType, ValueType}
 use Rattle.fc_values.specs.Values.{LocalValue}
 use Rattle.fc_values.specs.Fields.{AnyValue, ValueLocal, ValueField}
 use Rattle.fc_values.specs.Exports.{SlotValue}
 use Rattle.fc_nodes.specs.declared.nodes.Node.{Node}
-use Rattle.fc_nodes.specs.declared.nodes.Op.{Op}
-use Rattle.fc_nodes.specs.declared.nodes.Op.TheVariants as op
-use Rattle.fc_nodes.specs.Terms.{Literal, Variable, Sense, Uid, NbrLink, Term, Plain, Apply, Nbr, Evolve, If, Let, OfLeaf, OfApply, OfNbr, Sort, kept_type, sort_of, kept_before, term_at, HasNode, Laid}
-use Rattle.fc_nodes.proofs.Places.{AllAbove, term_is, laid_within}
+use Rattle.fc_nodes.specs.Terms.{Term, Sort, kept, kept_type, kept_before, term_at, HasNode, Laid}
+use Rattle.fc_nodes.proofs.Places.{laid_within}
 use Rattle.device_eval.specs.Evaluation.{Situation, Vars, Outcome, after, on_local, on_some}
-use Rattle.device_eval.specs.Kinds.{IsKnown}
 use Rattle.device_eval.specs.Layouts.{LayoutValue, number_in, number_at}
-use Rattle.device_eval.specs.Environments.{FlatEnv}
-use Rattle.device_eval.specs.Walks.{Can, Did, DidAt, Stands, IsLocal}
-use Rattle.device_eval.proofs.Frames.{same_out, still_same}
+use Rattle.device_eval.specs.Environments.{FlatEnv, NearSlots, OwnFits, NearFit, OwnHas, NearHave}
+use Rattle.device_eval.specs.Walks.{Can, Did, Stands, IsLocal}
 
 pub after_some : (o : Outcome) (f : AnyValue → _ → Outcome) → IsSome (after o f) → IsSome o
 after_some None f h = absurd cc
@@ -54,63 +48,11 @@ slot_is ns l p st s t ks u h e = st.layout.each p ∙ number_is
     number_is : number_at ns p ≡ Some (kept_before ns p)
     number_is = rw (h, e) refl
 
-pub lit_done : (ns : List Node) → AllAbove ns → (p : ℕ) (t : ValueType) (ks : List ℕ) (v v' : LocalValue) → HasNode ns p (OfLeaf (Literal v)) t ks → v' ≡ v → (S : Situation) (vars : Vars) (env : FlatEnv) (xs : List SlotValue) → DidAt S ns p vars env xs (ValueLocal v') xs
-lit_done ns ab p t ks v v' h e S vars env xs =
-    subst (λ u. Did S p u (kept_before ns p) vars env xs (ValueLocal v') xs) (sym (term_is ns ab p (OfLeaf (Literal v)) t ks h))
-    (record { gives = rw e refl; marked = tt; out = same_out (kept_before ns p) 0 xs; still = still_same xs })
+-- an export with the slots of a term that has one has its first slot
+pub own_has : (t : Term) (k : ℕ) (o : Option (List SlotValue)) → 0 < kept t → OwnFits t k o → OwnHas k o
+own_has t k None w h = tt
+own_has t k (Some xs) w h = omega (arith, h.1, w)
 
--- a node of another kind isn't known
-pub not_known : (ns : List Node) → AllAbove ns → (p : ℕ) (o : Op) (t : ValueType) (ks : List ℕ) → HasNode ns p (sort_of o) t ks → Laid ns p (term_at ns p) → IsKnown (term_at ns p)
-    → ((v : Local) → o ≡ op.Lit v → ⊥) → ((b : Builtin) → o ≡ op.Apply b → ⊥) → (o ≡ op.Nbr → ⊥) → ⊥
-not_known ns ab p o t ks h l known lit apply nbr = by_term (term_at ns p) l known
-  where
-    not_lit : (o : Op) (v : LocalValue) → ((w : Local) → o ≡ op.Lit w → ⊥) → sort_of o ≡ OfLeaf (Literal v) → ⊥
-    not_lit (op.Lit w) v n e = n w refl
-    not_lit (op.Var m) v n e = absurd cc
-    not_lit (op.Sense i) v n e = absurd cc
-    not_lit op.Uid v n e = absurd cc
-    not_lit op.NbrLink v n e = absurd cc
-    not_lit (op.Apply b) v n e = absurd cc
-    not_lit op.Nbr v n e = absurd cc
-    not_lit op.Rep v n e = absurd cc
-    not_lit op.Share v n e = absurd cc
-    not_lit op.If v n e = absurd cc
-    not_lit op.Let v n e = absurd cc
-
-    not_apply : (o : Op) (b : Builtin) → ((d : Builtin) → o ≡ op.Apply d → ⊥) → sort_of o ≡ OfApply b → ⊥
-    not_apply (op.Apply d) b n e = n d refl
-    not_apply (op.Lit w) b n e = absurd cc
-    not_apply (op.Var m) b n e = absurd cc
-    not_apply (op.Sense i) b n e = absurd cc
-    not_apply op.Uid b n e = absurd cc
-    not_apply op.NbrLink b n e = absurd cc
-    not_apply op.Nbr b n e = absurd cc
-    not_apply op.Rep b n e = absurd cc
-    not_apply op.Share b n e = absurd cc
-    not_apply op.If b n e = absurd cc
-    not_apply op.Let b n e = absurd cc
-
-    not_nbr : (o : Op) → (o ≡ op.Nbr → ⊥) → sort_of o ≡ OfNbr → ⊥
-    not_nbr op.Nbr n e = n refl
-    not_nbr (op.Apply d) n e = absurd cc
-    not_nbr (op.Lit w) n e = absurd cc
-    not_nbr (op.Var m) n e = absurd cc
-    not_nbr (op.Sense i) n e = absurd cc
-    not_nbr op.Uid n e = absurd cc
-    not_nbr op.NbrLink n e = absurd cc
-    not_nbr op.Rep n e = absurd cc
-    not_nbr op.Share n e = absurd cc
-    not_nbr op.If n e = absurd cc
-    not_nbr op.Let n e = absurd cc
-
-    by_term : (u : Term) → Laid ns p u → IsKnown u → ⊥
-    by_term (Plain t' (Literal v)) l k = let e : sort_of o ≡ OfLeaf (Literal v) = cc in not_lit o v lit e
-    by_term (Plain t' (Variable n)) l k = k
-    by_term (Plain t' (Sense i)) l k = k
-    by_term (Plain t' Uid) l k = k
-    by_term (Plain t' NbrLink) l k = k
-    by_term (Apply t' b xs) l k = let l0 = l.0 in let e : sort_of o ≡ OfApply b = cc in not_apply o b apply e
-    by_term (Nbr t' a) l k = let l0 = l.0 in let e : sort_of o ≡ OfNbr = cc in not_nbr o nbr e
-    by_term (Evolve t' v a b) l k = k
-    by_term (If t' c a b) l k = k
-    by_term (Let t' a b) l k = k
+pub near_have : (t : Term) (k : ℕ) (ns : List NearSlots) → 0 < kept t → NearFit t k ns → NearHave k ns
+near_have t k [] w h = tt
+near_have t k (n ∷ ns) w h = (omega (arith, h.1, w), near_have t k ns w h.2)

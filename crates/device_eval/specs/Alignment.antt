@@ -32,7 +32,7 @@ keeps_truth b (Some (IntValue n)) = false
 keeps_truth b (Some (BoolValue c)) = same_truth b c
 keeps_truth b (Some (PairValue x y)) = false
 
-abbrev pub own_where : (Tree → Bool) → Option Tree → Option Tree
+abbrev pub own_where : {A : Type 0} → (A → Bool) → Option A → Option A
 own_where p None = None
 own_where p (Some t) = if p t then Some t else None
 
@@ -43,12 +43,13 @@ branch_env b env = record {
   near = filter (λ (n : NearTree). keeps_truth b (kept_of n.2)) env.near;
 }
 
-abbrev pub is_near : ℕ → List NearTree → Bool
+-- whether a device is among some neighbours
+abbrev pub is_near : {A : Type 0} → ℕ → List (ℕ × ℕ × A) → Bool
 is_near d [] = false
 is_near d (n ∷ ns) = nat_eq n.0 d || is_near d ns
 
 -- a field is restricted to the device and the aligned neighbours
-abbrev pub restricted : ℕ → List NearTree → AnyValue → AnyValue
+abbrev pub restricted : {A : Type 0} → ℕ → List (ℕ × ℕ × A) → AnyValue → AnyValue
 restricted d ns (ValueLocal v) = ValueLocal v
 restricted d ns (ValueField es) = ValueField (filter (λ (e : ℕ × LocalValue). nat_eq e.0 d || is_near e.0 ns) es)
 
@@ -67,6 +68,6 @@ kept_there [] = Some []
 kept_there (n ∷ ns) = entry_before n.0 (kept_of n.2) (kept_there ns)
 
 -- the weight of each neighbour
-abbrev pub weights : List NearTree → Entries
+abbrev pub weights : {A : Type 0} → List (ℕ × ℕ × A) → Entries
 weights [] = []
 weights (n ∷ ns) = (n.0, IntValue n.1) ∷ weights ns

@@ -2,11 +2,11 @@ pub mod Alignment
 pub mod Evaluation
 pub mod Rules
 pub mod Copies
-pub mod Kinds
 pub mod Snaps
 pub mod Firing
 pub mod Layouts
 pub mod Environments
+pub mod Starts
 pub mod References
 pub mod Walks
 pub mod Rows

@@ -7,7 +7,6 @@ use Rattle.fc_nodes.specs.declared.nodes.Node.{Node}
 use Rattle.fc_nodes.specs.Terms.{size, kept, kept_before, term_at, Laid}
 use Rattle.fc_nodes.specs.Flat.{tree_at, Marked}
 use Rattle.device_eval.specs.Evaluation.{Situation, Vars, Outcomes, and_then, eval_of}
-use Rattle.device_eval.specs.Kinds.{IsKnown}
 use Rattle.device_eval.specs.Environments.{FlatEnv, env_at, EnvFits}
 use Rattle.device_eval.specs.Walks.{Room, SameOut, Still}
 
@@ -40,11 +39,6 @@ FitEach ns (k ∷ ks) env = EnvFits (term_at ns k) (kept_before ns k) env × Fit
 abbrev pub MarkedEach : List Node → List ℕ → List SlotValue → Type 0
 MarkedEach ns [] xs = Unit {0}
 MarkedEach ns (k ∷ ks) xs = Marked (term_at ns k) (kept_before ns k) xs × MarkedEach ns ks xs
-
--- each of them is of a kind that is evaluated today
-abbrev pub KnownEach : List Node → List ℕ → Type 0
-KnownEach ns [] = Unit {0}
-KnownEach ns (k ∷ ks) = IsKnown (term_at ns k) × KnownEach ns ks
 
 -- the first of them
 abbrev pub first_of : List ℕ → ℕ

@@ -1,5 +1,6 @@
 -- What the evaluation of a node needs, and what it gives.
 use Rattle.std.specs.Prelude.{ℕ, false, ◌≡◌, ◌<◌, ◌≤◌, ◌+◌, List, length, Some, IsSome}
+use Rattle.fc_values.specs.Values.{IntValue, BoolValue, PairValue}
 use Rattle.fc_values.specs.Fields.{AnyValue, ValueLocal, ValueField}
 use Rattle.fc_values.specs.Exports.{SlotValue}
 use Rattle.fc_nodes.specs.declared.nodes.Node.{Node}
@@ -60,3 +61,10 @@ pub record Stands (ns : List Node) (l : LayoutValue) (p : ℕ) : Type 0 where
 abbrev pub IsLocal : AnyValue → Type 0
 IsLocal (ValueLocal v) = Unit {0}
 IsLocal (ValueField es) = ⊥
+
+-- a truth value
+abbrev pub IsTruth : AnyValue → Type 0
+IsTruth (ValueLocal (BoolValue b)) = Unit {0}
+IsTruth (ValueLocal (IntValue n)) = ⊥
+IsTruth (ValueLocal (PairValue x y)) = ⊥
+IsTruth (ValueField es) = ⊥

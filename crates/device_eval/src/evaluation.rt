@@ -1,20 +1,21 @@
 //! The evaluation of a program's nodes.
 
-ghost use Rattle.std.specs.Prelude.{◌≡◌, IfOk, OnOk, IsSome, Some, length};
-ghost use Rattle.fc_values.specs.Values.{local_of};
+ghost use Rattle.std.specs.Prelude.{◌≡◌, ◌<◌, IfOk, OnOk, IsSome, Some, length, map, min, slice_get, slice_index};
+ghost use Rattle.fc_values.specs.Values.{local_of, BoolValue};
 ghost use Rattle.fc_values.specs.Types.{type_of};
 ghost use Rattle.fc_values.specs.Fields.{value_of, values_of, ValueLocal};
 ghost use Rattle.fc_values.specs.Exports.{slots_of};
-ghost use Rattle.fc_nodes.specs.Terms.{term_at, HasNode, OfApply, OfNbr};
+ghost use Rattle.fc_nodes.specs.Terms.{HasNode, OfApply, OfNbr, OfEvolve, ByRep, ByShare, OfIf, OfLet};
 ghost use Rattle.fc_nodes.specs.Program.{IsProgram};
-ghost use Rattle.device_eval.specs.Kinds.{IsKnown};
+ghost use Rattle.device_eval.specs.Alignment.{restricted};
+ghost use Rattle.device_eval.specs.Evaluation.{variable_at, pick};
 ghost use Rattle.device_eval.specs.Layouts.{IsLayout, number_in};
 ghost use Rattle.device_eval.specs.References.{flat_of};
 ghost use Rattle.device_eval.specs.Contexts.{situation_in, vars_of};
-ghost use Rattle.device_eval.specs.Walks.{CanAt, DidAt, Stands, IsLocal};
-ghost use Rattle.device_eval.specs.Rows.{CanEach, DidEach, KnownEach};
+ghost use Rattle.device_eval.specs.Walks.{CanAt, DidAt, Stands, IsLocal, IsTruth};
+ghost use Rattle.device_eval.specs.Rows.{CanEach, DidEach};
 
-use crate::alignment::{Env, heard};
+use crate::alignment::{Env, heard, links, own_or, restrict, said, same_branch};
 use crate::flat_exports::{Draft, Layout};
 use fc_nodes::{Node, Op, Unfolded};
 use fc_values::{Builtin, Local, Memory, Value, apply, copy};
@@ -48,15 +49,24 @@ pub fn eval(
 ) -> Result<Value, Memory>
     requires can { CanAt (situation_in context.now) context.now.program.now.nodes place (vars_of vars.now) (flat_of env.now) (slots_of draft.old) }
     requires stands { Stands context.now.program.now.nodes context.now.layout.now place }
-    requires known { IsKnown (term_at context.now.program.now.nodes place) }
     ensures { IfOk result (λ v. DidAt (situation_in context.now) context.now.program.now.nodes place (vars_of vars.now) (flat_of env.now) (slots_of draft.old) (value_of v) (slots_of draft.new)) }
 {
     let node = context.program.node(place);
     match &node.op {
         Op::Lit(value) => Ok(Value::Local(copy(alloc, value)?)),
+        Op::Var(binder) => Ok(aligned(alloc, lookup(vars, *binder), context.device, env)?),
+        Op::Sense(input) => Ok(Value::Local(copy(alloc, input_at(context.inputs, *input))?)),
+        Op::Uid => Ok(Value::Local(Local::Int(uid(context.device, context.program)))),
+        Op::NbrLink => {
+            let least = least_weight(context.program);
+            Ok(Value::Field(links(alloc, env, context.device, least)?))
+        }
         Op::Apply(builtin) => eval_apply(alloc, context, place, node, *builtin, env, vars, draft),
         Op::Nbr => eval_nbr(alloc, context, place, node, env, vars, draft),
-        _ => unreachable!(),
+        Op::Rep => eval_rep(alloc, context, place, node, env, vars, draft),
+        Op::Share => eval_share(alloc, context, place, node, env, vars, draft),
+        Op::If => eval_if(alloc, context, place, node, env, vars, draft),
+        Op::Let => eval_let(alloc, context, place, node, env, vars, draft),
     }
 }
 
@@ -73,7 +83,6 @@ fn eval_apply(
 ) -> Result<Value, Memory>
     requires can { CanAt (situation_in context.now) context.now.program.now.nodes place (vars_of vars.now) (flat_of env.now) (slots_of draft.old) }
     requires stands { Stands context.now.program.now.nodes context.now.layout.now place }
-    requires known { IsKnown (term_at context.now.program.now.nodes place) }
     requires node { HasNode context.now.program.now.nodes place (OfApply builtin) (type_of node.now.ty) node.now.kids.items }
     requires formed { IsProgram context.now.program.now }
     ensures { IfOk result (λ v. DidAt (situation_in context.now) context.now.program.now.nodes place (vars_of vars.now) (flat_of env.now) (slots_of draft.old) (value_of v) (slots_of draft.new)) }
@@ -99,7 +108,6 @@ fn eval_kids(
 ) -> Result<(), Memory>
     requires can { CanEach (situation_in context.now) context.now.program.now.nodes kids.now (vars_of vars.now) (flat_of env.now) (slots_of draft.old) }
     requires layout { IsLayout context.now.program.now.nodes context.now.layout.now }
-    requires known { KnownEach context.now.program.now.nodes kids.now }
     requires formed { IsProgram context.now.program.now }
     ensures { OnOk result (DidEach (situation_in context.now) context.now.program.now.nodes kids.now (vars_of vars.now) (flat_of env.now) (slots_of draft.old) (values_of args.old.items) (values_of args.new.items) (slots_of draft.new)) }
 {
@@ -124,7 +132,6 @@ fn eval_nbr(
 ) -> Result<Value, Memory>
     requires can { CanAt (situation_in context.now) context.now.program.now.nodes place (vars_of vars.now) (flat_of env.now) (slots_of draft.old) }
     requires stands { Stands context.now.program.now.nodes context.now.layout.now place }
-    requires known { IsKnown (term_at context.now.program.now.nodes place) }
     requires node { HasNode context.now.program.now.nodes place OfNbr (type_of node.now.ty) node.now.kids.items }
     requires formed { IsProgram context.now.program.now }
     ensures { IfOk result (λ v. DidAt (situation_in context.now) context.now.program.now.nodes place (vars_of vars.now) (flat_of env.now) (slots_of draft.old) (value_of v) (slots_of draft.new)) }
@@ -132,9 +139,153 @@ fn eval_nbr(
     let slot = slot_of(context.layout, place);
     let value = eval(alloc, context, node.kids[0], env, vars, draft)?;
     let own = into_local(value);
-    let field = heard(alloc, env, slot, context.device, &own)?;
+    let field = said(alloc, env, slot, context.device, &own)?;
     draft.put(slot, own);
     Ok(Value::Field(field))
+}
+
+#[cycle(eval)]
+fn eval_rep(
+    alloc: Global,
+    context: &Context<'_>,
+    place: u32,
+    node: &Node,
+    env: &Env<'_>,
+    vars: &Scope<'_>,
+    draft: &mut Draft,
+) -> Result<Value, Memory>
+    requires can { CanAt (situation_in context.now) context.now.program.now.nodes place (vars_of vars.now) (flat_of env.now) (slots_of draft.old) }
+    requires stands { Stands context.now.program.now.nodes context.now.layout.now place }
+    requires node { HasNode context.now.program.now.nodes place (OfEvolve ByRep) (type_of node.now.ty) node.now.kids.items }
+    requires formed { IsProgram context.now.program.now }
+    ensures { IfOk result (λ v. DidAt (situation_in context.now) context.now.program.now.nodes place (vars_of vars.now) (flat_of env.now) (slots_of draft.old) (value_of v) (slots_of draft.new)) }
+{
+    let slot = slot_of(context.layout, place);
+    let first = eval(alloc, context, node.kids[0], env, vars, draft)?;
+    let fallback = into_local(first);
+    let start = Value::Local(copy(alloc, own_or(env, slot, &fallback))?);
+    let evolving = Scope::Bind(place, &start, &*vars);
+    let value = eval(alloc, context, node.kids[1], env, &evolving, draft)?;
+    let kept = copy_local(alloc, &value)?;
+    draft.put(slot, kept);
+    Ok(value)
+}
+
+#[cycle(eval)]
+fn eval_share(
+    alloc: Global,
+    context: &Context<'_>,
+    place: u32,
+    node: &Node,
+    env: &Env<'_>,
+    vars: &Scope<'_>,
+    draft: &mut Draft,
+) -> Result<Value, Memory>
+    requires can { CanAt (situation_in context.now) context.now.program.now.nodes place (vars_of vars.now) (flat_of env.now) (slots_of draft.old) }
+    requires stands { Stands context.now.program.now.nodes context.now.layout.now place }
+    requires node { HasNode context.now.program.now.nodes place (OfEvolve ByShare) (type_of node.now.ty) node.now.kids.items }
+    requires formed { IsProgram context.now.program.now }
+    ensures { IfOk result (λ v. DidAt (situation_in context.now) context.now.program.now.nodes place (vars_of vars.now) (flat_of env.now) (slots_of draft.old) (value_of v) (slots_of draft.new)) }
+{
+    let slot = slot_of(context.layout, place);
+    let first = eval(alloc, context, node.kids[0], env, vars, draft)?;
+    let fallback = into_local(first);
+    let start = Value::Field(heard(alloc, env, slot, context.device, &fallback)?);
+    let hearing = Scope::Bind(place, &start, &*vars);
+    let value = eval(alloc, context, node.kids[1], env, &hearing, draft)?;
+    let kept = copy_local(alloc, &value)?;
+    draft.put(slot, kept);
+    Ok(value)
+}
+
+#[cycle(eval)]
+fn eval_if(
+    alloc: Global,
+    context: &Context<'_>,
+    place: u32,
+    node: &Node,
+    env: &Env<'_>,
+    vars: &Scope<'_>,
+    draft: &mut Draft,
+) -> Result<Value, Memory>
+    requires can { CanAt (situation_in context.now) context.now.program.now.nodes place (vars_of vars.now) (flat_of env.now) (slots_of draft.old) }
+    requires stands { Stands context.now.program.now.nodes context.now.layout.now place }
+    requires node { HasNode context.now.program.now.nodes place OfIf (type_of node.now.ty) node.now.kids.items }
+    requires formed { IsProgram context.now.program.now }
+    ensures { IfOk result (λ v. DidAt (situation_in context.now) context.now.program.now.nodes place (vars_of vars.now) (flat_of env.now) (slots_of draft.old) (value_of v) (slots_of draft.new)) }
+{
+    let slot = slot_of(context.layout, place);
+    let condition = eval(alloc, context, node.kids[0], env, vars, draft)?;
+    let truth = truth_of(&condition);
+    let branch = same_branch(alloc, env, slot, truth)?;
+    let kid = branch_of(&node.kids, truth);
+    let value = eval(alloc, context, kid, &branch, vars, draft)?;
+    draft.put(slot, Local::Bool(truth));
+    Ok(value)
+}
+
+#[cycle(eval)]
+fn eval_let(
+    alloc: Global,
+    context: &Context<'_>,
+    place: u32,
+    node: &Node,
+    env: &Env<'_>,
+    vars: &Scope<'_>,
+    draft: &mut Draft,
+) -> Result<Value, Memory>
+    requires can { CanAt (situation_in context.now) context.now.program.now.nodes place (vars_of vars.now) (flat_of env.now) (slots_of draft.old) }
+    requires stands { Stands context.now.program.now.nodes context.now.layout.now place }
+    requires node { HasNode context.now.program.now.nodes place OfLet (type_of node.now.ty) node.now.kids.items }
+    requires formed { IsProgram context.now.program.now }
+    ensures { IfOk result (λ v. DidAt (situation_in context.now) context.now.program.now.nodes place (vars_of vars.now) (flat_of env.now) (slots_of draft.old) (value_of v) (slots_of draft.new)) }
+{
+    let bound = eval(alloc, context, node.kids[0], env, vars, draft)?;
+    let inner = Scope::Bind(place, &bound, &*vars);
+    let value = eval(alloc, context, node.kids[1], env, &inner, draft)?;
+    Ok(value)
+}
+
+/// The value of a binder.
+fn lookup<'a>(vars: &Scope<'a>, binder: u32) -> &'a Value
+    requires { IsSome (variable_at binder (vars_of vars.now)) }
+    ensures { variable_at binder (vars_of vars.now) ≡ Some (value_of result.now) }
+{
+    match vars {
+        Scope::Empty => unreachable!(),
+        Scope::Bind(place, value, rest) => {
+            if *place == binder {
+                value
+            } else {
+                lookup(rest, binder)
+            }
+        }
+    }
+}
+
+/// What a variable's value is for the device and the aligned neighbours.
+fn aligned(alloc: Global, value: &Value, device: u32, env: &Env<'_>) -> Result<Value, Memory>
+    ensures { IfOk result (λ v. value_of v ≡ restricted device (flat_of env.now).near (value_of value.now)) }
+{
+    match value {
+        Value::Local(local) => Ok(Value::Local(copy(alloc, local)?)),
+        Value::Field(field) => Ok(Value::Field(restrict(alloc, field, device, env)?)),
+    }
+}
+
+/// An input of a copy.
+fn input_at(inputs: &[Local], index: u32) -> &Local
+    requires { IsSome (slice_get (map local_of inputs.now) index) }
+    ensures { slice_get (map local_of inputs.now) index ≡ Some (local_of result.now) }
+{
+    &inputs[index as usize]
+}
+
+/// A device's number, cut at the ceiling.
+fn uid(device: u32, program: &Unfolded) -> u32
+    ensures { result ≡ min device program.now.declared.ceiling }
+{
+    device.min(ceiling_of(program))
 }
 
 /// The slot of a kept place.
@@ -155,6 +306,13 @@ fn ceiling_of(program: &Unfolded) -> u32
     program.declared().ceiling
 }
 
+/// The least weight of a link.
+fn least_weight(program: &Unfolded) -> u32
+    ensures { result ≡ program.now.declared.least }
+{
+    program.declared().metric.0
+}
+
 /// A local value out of a value.
 pub fn into_local(value: Value) -> Local
     requires { IsLocal (value_of value) }
@@ -164,4 +322,34 @@ pub fn into_local(value: Value) -> Local
         Value::Local(v) => v,
         Value::Field(_) => unreachable!(),
     }
+}
+
+/// A copy of a local value.
+fn copy_local(alloc: Global, value: &Value) -> Result<Local, Memory>
+    requires { IsLocal (value_of value.now) }
+    ensures { IfOk result (λ v. value_of value.now ≡ ValueLocal (local_of v)) }
+{
+    match value {
+        Value::Local(v) => copy(alloc, v),
+        Value::Field(_) => unreachable!(),
+    }
+}
+
+/// The truth value that a condition has.
+fn truth_of(value: &Value) -> bool
+    requires { IsTruth (value_of value.now) }
+    ensures { value_of value.now ≡ ValueLocal (BoolValue result) }
+{
+    match value {
+        Value::Local(Local::Bool(b)) => *b,
+        _ => unreachable!(),
+    }
+}
+
+/// The place of the branch that a truth value names.
+fn branch_of(kids: &[u32], truth: bool) -> u32
+    requires { length kids.now ≡ 3 }
+    ensures { result ≡ slice_index kids.now (pick truth 1 2) }
+{
+    if truth { kids[1] } else { kids[2] }
 }

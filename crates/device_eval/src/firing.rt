@@ -2,7 +2,6 @@
 
 ghost use Rattle.std.specs.Prelude.{◌≡◌, IfOk, IfErr};
 ghost use Rattle.fc_nodes.specs.Program.{unfolding_of};
-ghost use Rattle.device_eval.specs.Kinds.{IsKnown};
 ghost use Rattle.device_eval.specs.References.{flat_of, snap_env};
 ghost use Rattle.device_eval.specs.Firing.{IsFired};
 
@@ -86,8 +85,7 @@ ghost use Rattle.device_eval.specs.Snaps.{IsSnap};
 
 /// Evaluates a copy. For want of memory the copy comes back.
 pub fn fire(alloc: Global, program: &Arc<Unfolded>, snap: Snap) -> Result<Fired, (Snap, Memory)>
-    requires snap { IsSnap (unfolding_of program.now.value) snap }
-    requires known { IsKnown (unfolding_of program.now.value).main }
+    requires { IsSnap (unfolding_of program.now.value) snap }
     ensures program { IfOk result (λ f. f.program ≡ program.now.value) }
     ensures snap { IfOk result (λ f. f.snap ≡ snap) }
     ensures back { IfErr result (λ e. e.0 ≡ snap) }
@@ -108,8 +106,7 @@ pub fn fire(alloc: Global, program: &Arc<Unfolded>, snap: Snap) -> Result<Fired,
 
 /// The export of a copy.
 fn evaluate(alloc: Global, program: &Unfolded, snap: &Snap) -> Result<Export, Memory>
-    requires snap { IsSnap (unfolding_of program.now) snap.now }
-    requires known { IsKnown (unfolding_of program.now).main }
+    requires { IsSnap (unfolding_of program.now) snap.now }
     ensures { IfOk result (λ e. IsFired (record { program = program.now; snap = snap.now; export = e })) }
 {
     let layout = Layout::new(alloc, program)?;

@@ -7,7 +7,6 @@ use Rattle.fc_nodes.specs.declared.nodes.Node.{Node}
 use Rattle.fc_nodes.specs.Terms.{Term, view_of, term_at}
 use Rattle.fc_nodes.specs.Program.{Program as ProgramValue, Unfolding, unfolding_of, IsLawful, IsProgram}
 use Rattle.fc_nodes.proofs.PairProgram as nodes
-use Rattle.device_eval.specs.Kinds.{IsKnown}
 use Rattle.firing_core.specs.Networks.{Network, NetDevice, Edge, near_in, numbers, IsNetwork, LinksFit}
 use Rattle.fc_values.specs.Trees.{TreeExport, Copy}
 use Rattle.firing_core.specs.Cores.{Core, Map}
@@ -37,10 +36,6 @@ unfolding pair_program
 pair_unfolds form D ns u d seen e =
     let made : Declarations → Term → Unfolding = λ E t. record { declared = E; main = t } in
     ap unfolding_of e ∙ ap (λ E. made E (term_at ns 0)) d ∙ ap (made (pair_declarations form)) (nodes.pair_main ns form.shared form.added form.local seen)
-
-pub pair_known : (form : Program) (U : Unfolding) → U ≡ pair_program form → IsKnown U.main
-unfolding pair_program
-pair_known form U e = subst (λ V. IsKnown V.main) (sym e) (((tt, (tt, tt)), (tt, tt)))
 
 -- at most as many neighbours as links
 near_few : (d : ℕ) (ls : List Edge) → length (near_in d ls) ≤ length ls

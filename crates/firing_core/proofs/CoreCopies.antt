@@ -90,7 +90,6 @@ module _ (v : CoreValue) (k : IsCore v) (xs : List (Option Export)) (ys : List (
     (f : map (option_map (snap_copy (program_of v))) ys ≡ map (option_map (snap_copy (program_of v))) v.flying) (w : AllSnaps (program_of v) ys) where
   kept : IsCore (record { program = v.program; net = v.net; exports = xs; flying = ys })
   kept = record {
-    known = k.known;
     declared = k.declared;
     net = k.net;
     many = sym (length-map xs (option_map export_of)) ∙ ap length e ∙ length-map v.exports (option_map export_of) ∙ k.many;

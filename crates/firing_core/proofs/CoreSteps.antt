@@ -10,7 +10,6 @@ use Rattle.device_eval.specs.declared.value_trees.Snap.{Snap}
 use Rattle.device_eval.specs.Copies.{WhereSome, EvaluatesCopy}
 use Rattle.device_eval.specs.Snaps.{tree_of, snap_copy, IsExportOf, IsSnap}
 use Rattle.device_eval.specs.Firing.{FiredValue, IsFired}
-use Rattle.device_eval.specs.Kinds.{IsKnown}
 use Rattle.firing_core.specs.declared.entries.Entry.TheVariants as entry
 use Rattle.firing_core.specs.declared.entries.StepFault.TheVariants as fault
 use Rattle.firing_core.specs.Networks.{Network, numbers, lives, IsNetwork}
@@ -133,7 +132,6 @@ module _ (v : CoreValue) (k : IsCore v) (p d : ℕ) (h : p < length v.net.device
 
   pub begun_kept : (s : Snap) → s.device ≡ d → IsSnap (program_of v) s → IsCore (with_flight s)
   begun_kept s names fits = record {
-    known = k.known;
     declared = k.declared;
     net = k.net;
     many = k.many;
@@ -154,7 +152,6 @@ module _ (v : CoreValue) (k : IsCore v) (p d : ℕ) (h : p < length v.net.device
 
   pub ended_kept : (x : Export) → IsExportOf (program_of v) x → IsCore (with_export x)
   ended_kept x w = record {
-    known = k.known;
     declared = k.declared;
     net = k.net;
     many = length-set v.exports p (Some x) ∙ k.many;
@@ -188,10 +185,9 @@ fired_export f r x e q fired =
     subst (λ (y : Export). IsExportOf (unfolding_of r) y) (sym q) (subst (λ (t : Program). IsExportOf (unfolding_of t) f.export) e fired.export)
 
 -- a core without exports and flights
-pub new_core : (r : Program) (net : Network) (n : ℕ) (xs : List (Option Export)) (ys : List (Option Snap)) → IsNetwork net → net.declared ≡ r.declared → IsKnown (unfolding_of r).main → n ≡ length net.devices
+pub new_core : (r : Program) (net : Network) (n : ℕ) (xs : List (Option Export)) (ys : List (Option Snap)) → IsNetwork net → net.declared ≡ r.declared → n ≡ length net.devices
     → xs ≡ replicate n None → ys ≡ replicate n None → IsCore (record { program = r; net = net; exports = xs; flying = ys })
-new_core r net n xs ys k same known many ex fl = record {
-  known = known;
+new_core r net n xs ys k same many ex fl = record {
   declared = same;
   net = k;
   many = ap length ex ∙ length-replicate n None ∙ many;

@@ -6,7 +6,6 @@ use Rattle.fc_values.specs.Exports.{FlatExport, export_of}
 use Rattle.device_eval.specs.declared.value_trees.Near.{Near}
 use Rattle.device_eval.specs.declared.value_trees.Snap.{Snap}
 use Rattle.device_eval.specs.Copies.{WhereSome}
-use Rattle.device_eval.specs.Kinds.{IsKnown}
 use Rattle.device_eval.specs.Snaps.{tree_of, snap_copy, IsExportOf, IsSnap}
 use Rattle.firing_core.specs.Networks.{Network, IsNetwork, numbers}
 use Rattle.firing_core.specs.Cores.{Map, Core}
@@ -59,7 +58,6 @@ AllSnaps U (x ∷ xs) = WhereSome (IsSnap U) x × AllSnaps U xs
 
 -- what its type keeps
 pub record IsCore (c : CoreValue) : Type 0 where
-  pub known : IsKnown (program_of c).main
   pub declared : c.net.declared ≡ c.program.declared
   pub net : IsNetwork c.net
   pub many : length c.exports ≡ length c.net.devices

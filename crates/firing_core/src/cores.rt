@@ -53,7 +53,6 @@ impl Core {
     ghost use Rattle.std.specs.Prelude.{◌≡◌, ◌↔◌, ◌<◌, IfOk, OnOk, OnErr, IfErr, IfSome, IfNone, IsErrOf, IsSome, Some, None, true, false, option_copied, option_map, length, slice_index, map, ◌≤◌};
     ghost use Rattle.fc_values.specs.Trees.{Copy};
     ghost use Rattle.fc_nodes.specs.Program.{unfolding_of};
-    ghost use Rattle.device_eval.specs.Kinds.{IsKnown};
     ghost use Rattle.device_eval.specs.Snaps.{snap_copy, tree_of, near_copy, NearAreExports, IsSnap, IsExportOf};
     ghost use Rattle.firing_core.specs.Networks.{lives, numbers, near as near_of};
     ghost use Rattle.firing_core.specs.Cores.{Step, IsGood, copy_of, near_copies};
@@ -64,8 +63,7 @@ impl Core {
 
     /// The core of a network in which no device has an export and none is in flight.
     pub fn new(alloc: Global, program: &Arc<Unfolded>, net: Network) -> Result<Self, Memory>
-        requires declared { net.declared ≡ program.now.value.declared }
-        requires known { IsKnown (unfolding_of program.now.value).main }
+        requires { net.declared ≡ program.now.value.declared }
         ensures program { IfOk result (λ c. c.program ≡ program.now.value) }
         ensures core { IfOk result (λ c. IsEmptyCore net (core_of c)) }
     {

@@ -10,5 +10,17 @@ decreases-eval_apply l = 3 * (length l.context.now.program.now.nodes - l.place) 
 abbrev pub decreases-eval_nbr : goal.decreases-eval_nbr
 decreases-eval_nbr l = 3 * (length l.context.now.program.now.nodes - l.place) + 1
 
+abbrev pub decreases-eval_rep : goal.decreases-eval_rep
+decreases-eval_rep l = 3 * (length l.context.now.program.now.nodes - l.place) + 1
+
+abbrev pub decreases-eval_share : goal.decreases-eval_share
+decreases-eval_share l = 3 * (length l.context.now.program.now.nodes - l.place) + 1
+
+abbrev pub decreases-eval_if : goal.decreases-eval_if
+decreases-eval_if l = 3 * (length l.context.now.program.now.nodes - l.place) + 1
+
+abbrev pub decreases-eval_let : goal.decreases-eval_let
+decreases-eval_let l = 3 * (length l.context.now.program.now.nodes - l.place) + 1
+
 abbrev pub decreases-eval_kids : goal.decreases-eval_kids
 decreases-eval_kids l = 3 * (length l.context.now.program.now.nodes - get_or l.kids.now 0 (length l.context.now.program.now.nodes)) + 3

@@ -12,30 +12,30 @@ use Rattle.device_eval.proofs.firing.evaluate.Goals as goal
 
 pub eval-requires-clause-can : goal.eval-requires-clause-can
 eval-requires-clause-can c =
-    root_can c.args.program.now c.new.ensures.program c.args.snap.now c.requires.snap c.in_ok-layout.layout c.in_ok-layout.ensures.layout (flat_of c.in_ok-env.env) c.in_ok-env.ensures (slots_of c.in_ok-draft.draft) c.in_ok-draft.ensures
+    root_can c.args.program.now c.new.ensures.program c.args.snap.now c.requires c.in_ok-layout.layout c.in_ok-layout.ensures.layout (flat_of c.in_ok-env.env) c.in_ok-env.ensures (slots_of c.in_ok-draft.draft) c.in_ok-draft.ensures
     _ (situation_as c.args.program.now c.args.snap.now c.as_slice-inputs.result.now c.as_slice-inputs.ensures.value)
 
 pub eval-requires-clause-stands : goal.eval-requires-clause-stands
 eval-requires-clause-stands c =
-    root_stands c.args.program.now c.new.ensures.program c.args.snap.now c.requires.snap c.in_ok-layout.layout c.in_ok-layout.ensures.layout (flat_of c.in_ok-env.env) c.in_ok-env.ensures (slots_of c.in_ok-draft.draft) c.in_ok-draft.ensures
+    root_stands c.args.program.now c.new.ensures.program c.args.snap.now c.requires c.in_ok-layout.layout c.in_ok-layout.ensures.layout (flat_of c.in_ok-env.env) c.in_ok-env.ensures (slots_of c.in_ok-draft.draft) c.in_ok-draft.ensures
     _ (situation_as c.args.program.now c.args.snap.now c.as_slice-inputs.result.now c.as_slice-inputs.ensures.value)
 
 pub into_local-requires : goal.into_local-requires
 into_local-requires c =
-    root_local c.args.program.now c.new.ensures.program c.args.snap.now c.requires.snap c.in_ok-layout.layout c.in_ok-layout.ensures.layout (flat_of c.in_ok-env.env) c.in_ok-env.ensures (slots_of c.in_ok-draft.draft) c.in_ok-draft.ensures
+    root_local c.args.program.now c.new.ensures.program c.args.snap.now c.requires c.in_ok-layout.layout c.in_ok-layout.ensures.layout (flat_of c.in_ok-env.env) c.in_ok-env.ensures (slots_of c.in_ok-draft.draft) c.in_ok-draft.ensures
     _ (situation_as c.args.program.now c.args.snap.now c.as_slice-inputs.result.now c.as_slice-inputs.ensures.value)
     (value_of c.in_ok-value.value) (slots_of c.eval.new.draft) c.in_ok-value.ensures
 
 pub returns : goal.returns
 returns c =
-    let export = root_export c.args.program.now c.new.ensures.program c.args.snap.now c.requires.snap c.in_ok-layout.layout c.in_ok-layout.ensures.layout (flat_of c.in_ok-env.env) c.in_ok-env.ensures (slots_of c.in_ok-draft.draft) c.in_ok-draft.ensures
+    let export = root_export c.args.program.now c.new.ensures.program c.args.snap.now c.requires c.in_ok-layout.layout c.in_ok-layout.ensures.layout (flat_of c.in_ok-env.env) c.in_ok-env.ensures (slots_of c.in_ok-draft.draft) c.in_ok-draft.ensures
     _ (situation_as c.args.program.now c.args.snap.now c.as_slice-inputs.result.now c.as_slice-inputs.ensures.value)
     (value_of c.in_ok-value.value) (slots_of c.eval.new.draft) c.in_ok-value.ensures (local_of c.into_local.result) c.into_local.ensures in
-    let evaluates = root_evaluates c.args.program.now c.new.ensures.program c.args.snap.now c.requires.snap c.in_ok-layout.layout c.in_ok-layout.ensures.layout (flat_of c.in_ok-env.env) c.in_ok-env.ensures (slots_of c.in_ok-draft.draft) c.in_ok-draft.ensures
+    let evaluates = root_evaluates c.args.program.now c.new.ensures.program c.args.snap.now c.requires c.in_ok-layout.layout c.in_ok-layout.ensures.layout (flat_of c.in_ok-env.env) c.in_ok-env.ensures (slots_of c.in_ok-draft.draft) c.in_ok-draft.ensures
     _ (situation_as c.args.program.now c.args.snap.now c.as_slice-inputs.result.now c.as_slice-inputs.ensures.value)
     (value_of c.in_ok-value.value) (slots_of c.eval.new.draft) c.in_ok-value.ensures (local_of c.into_local.result) c.into_local.ensures in
     record {
-      snap = c.requires.snap;
+      snap = c.requires;
       export = subst (IsExport (unfolding_of c.args.program.now)) (sym c.finish.ensures) export;
       evaluates = subst (λ x. EvaluatesCopy (unfolding_of c.args.program.now) (snap_copy (unfolding_of c.args.program.now) c.args.snap.now) (tree_export (unfolding_of c.args.program.now) x)) (sym c.finish.ensures) evaluates;
     }

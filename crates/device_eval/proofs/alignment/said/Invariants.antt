@@ -4,7 +4,7 @@ use Rattle.fc_values.specs.Fields.{entry_of}
 use Rattle.device_eval.specs.Alignment.{with_entry}
 use Rattle.device_eval.specs.Environments.{slot_entries, NearHave}
 use Rattle.device_eval.specs.References.{nears_of}
-use Rattle.device_eval.proofs.alignment.heard.Given as goal
+use Rattle.device_eval.proofs.alignment.said.Given as goal
 
 abbrev pub invariant-loop-n : goal.invariant-loop-n
 invariant-loop-n l = record {

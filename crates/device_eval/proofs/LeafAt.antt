@@ -1,0 +1,74 @@
+-- A node without kids at a place of a program.
+use Rattle.std.proofs.Common.{◌≡◌, ℕ, List, [], ◌∷◌, map, filter, min, refl, sym, ap, subst, Bool, Option, Some, None, IsSome, nat_eq, ◌||◌}
+use Rattle.std.specs.Prelude.{slice_get, option_map}
+use Rattle.fc_values.specs.Types.{ValueType}
+use Rattle.fc_values.specs.Values.{LocalValue, IntValue}
+use Rattle.fc_values.specs.Fields.{AnyValue, ValueLocal, ValueField, Entries}
+use Rattle.fc_values.specs.Exports.{SlotValue}
+use Rattle.fc_nodes.specs.declared.nodes.Node.{Node}
+use Rattle.fc_nodes.specs.Terms.{Leaf, Literal, Variable, Sense, Uid, NbrLink, Term, Plain, OfLeaf, kept_before, HasNode}
+use Rattle.fc_nodes.proofs.Places.{AllAbove, term_is}
+use Rattle.device_eval.specs.Alignment.{is_near, restricted, weights, with_entry}
+use Rattle.device_eval.specs.Evaluation.{Situation, Vars, leaf_value, variable_at}
+use Rattle.device_eval.specs.Environments.{FlatEnv, NearSlots, near_at, env_at}
+use Rattle.device_eval.specs.Walks.{Can, Did, CanAt, DidAt}
+use Rattle.device_eval.proofs.Frames.{same_out, still_same}
+use Rattle.device_eval.proofs.Steps.{some_on}
+
+-- which neighbours there are doesn't depend on their slots
+module _ (t : Term) (k : ℕ) where
+  pub near_same : (d : ℕ) (ns : List NearSlots) → is_near d (map (near_at t k) ns) ≡ is_near d ns
+  near_same d [] = refl
+  near_same d (n ∷ ns) = ap (λ (b : Bool). nat_eq n.0 d || b) (near_same d ns)
+
+  pub weights_same : (ns : List NearSlots) → weights (map (near_at t k) ns) ≡ weights ns
+  weights_same [] = refl
+  weights_same (n ∷ ns) = ap (λ (es : Entries). (n.0, IntValue n.1) ∷ es) (weights_same ns)
+
+  filter_same : (f g : ℕ × LocalValue → Bool) (es : Entries) → ((e : ℕ × LocalValue) → f e ≡ g e) → filter f es ≡ filter g es
+  filter_same f g [] h = refl
+  filter_same f g (e ∷ es) h = let s = h e in let ih = filter_same f g es h in rw (s, ih) refl
+
+  pub restricted_same : (d : ℕ) (ns : List NearSlots) (v : AnyValue) → restricted d (map (near_at t k) ns) v ≡ restricted d ns v
+  restricted_same d ns (ValueLocal v) = refl
+  restricted_same d ns (ValueField es) = ap ValueField (filter_same _ _ es (λ e. ap (λ (b : Bool). nat_eq e.0 d || b) (near_same e.0 ns)))
+
+some_mapped : {A : Type 0} (f : A → AnyValue) (o : Option A) → IsSome (option_map f o) → IsSome o
+some_mapped f None h = absurd cc
+some_mapped f (Some x) h = refl
+
+module _ (ns : List Node) (ab : AllAbove ns) (p : ℕ) (l : Leaf) (t : ValueType) (ks : List ℕ) (h : HasNode ns p (OfLeaf l) t ks) (S : Situation) (vars : Vars) (env : FlatEnv) (xs : List SlotValue) where
+  abbrev seen_value : Option AnyValue
+  seen_value = leaf_value S l vars (env_at (Plain t l) (kept_before ns p) env)
+
+  leaf_runs : CanAt S ns p vars env xs → IsSome seen_value
+  leaf_runs can =
+      let can' : Can S p (Plain t l) (kept_before ns p) vars env xs = subst (λ u. Can S p u (kept_before ns p) vars env xs) (term_is ns ab p (OfLeaf l) t ks h) can in
+      some_on _ _ can'.runs
+
+  leaf_done : (v : AnyValue) → seen_value ≡ Some v → DidAt S ns p vars env xs v xs
+  leaf_done v e =
+      subst (λ u. Did S p u (kept_before ns p) vars env xs v xs) (sym (term_is ns ab p (OfLeaf l) t ks h))
+      (record { gives = rw e refl; marked = tt; out = same_out (kept_before ns p) 0 xs; still = still_same xs })
+
+module _ (ns : List Node) (ab : AllAbove ns) (p : ℕ) (t : ValueType) (ks : List ℕ) (S : Situation) (vars : Vars) (env : FlatEnv) (xs : List SlotValue) where
+  pub lit_done : (v w : LocalValue) → HasNode ns p (OfLeaf (Literal v)) t ks → w ≡ v → DidAt S ns p vars env xs (ValueLocal w) xs
+  lit_done v w h e = leaf_done ns ab p (Literal v) t ks h S vars env xs (ValueLocal w) (rw e refl)
+
+  pub variable_bound : (n : ℕ) → HasNode ns p (OfLeaf (Variable n)) t ks → CanAt S ns p vars env xs → IsSome (variable_at n vars)
+  variable_bound n h can = some_mapped _ _ (leaf_runs ns ab p (Variable n) t ks h S vars env xs can)
+
+  pub variable_done : (n : ℕ) → HasNode ns p (OfLeaf (Variable n)) t ks → (v w : AnyValue) → variable_at n vars ≡ Some v → w ≡ restricted S.device env.near v → DidAt S ns p vars env xs w xs
+  variable_done n h v w e f = leaf_done ns ab p (Variable n) t ks h S vars env xs w (rw (e, restricted_same (Plain t (Variable n)) (kept_before ns p) S.device env.near v, f) refl)
+
+  pub sense_there : (i : ℕ) → HasNode ns p (OfLeaf (Sense i)) t ks → CanAt S ns p vars env xs → IsSome (slice_get S.inputs i)
+  sense_there i h can = some_mapped _ _ (leaf_runs ns ab p (Sense i) t ks h S vars env xs can)
+
+  pub sense_done : (i : ℕ) → HasNode ns p (OfLeaf (Sense i)) t ks → (v w : LocalValue) → slice_get S.inputs i ≡ Some v → w ≡ v → DidAt S ns p vars env xs (ValueLocal w) xs
+  sense_done i h v w e f = leaf_done ns ab p (Sense i) t ks h S vars env xs (ValueLocal w) (rw (e, f) refl)
+
+  pub uid_done : (n : ℕ) → HasNode ns p (OfLeaf Uid) t ks → n ≡ min S.device S.ceiling → DidAt S ns p vars env xs (ValueLocal (IntValue n)) xs
+  uid_done n h e = leaf_done ns ab p Uid t ks h S vars env xs (ValueLocal (IntValue n)) (rw e refl)
+
+  pub links_done : (es : Entries) → HasNode ns p (OfLeaf NbrLink) t ks → es ≡ with_entry S.device (IntValue S.least) (weights env.near) → DidAt S ns p vars env xs (ValueField es) xs
+  links_done es h e = leaf_done ns ab p NbrLink t ks h S vars env xs (ValueField es) (rw (e, weights_same (Plain t NbrLink) (kept_before ns p) env.near) refl)

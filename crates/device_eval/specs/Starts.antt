@@ -1,0 +1,11 @@
+-- What the variable of a `rep` or `share` starts from, out of exports as flat slots.
+use Rattle.std.specs.Prelude.{ℕ}
+use Rattle.fc_values.specs.Values.{LocalValue}
+use Rattle.fc_values.specs.Fields.{AnyValue, ValueLocal, ValueField}
+use Rattle.fc_nodes.specs.Terms.{Evolution, ByRep, ByShare}
+use Rattle.device_eval.specs.Alignment.{with_entry}
+use Rattle.device_eval.specs.Environments.{FlatEnv, own_slot_or, slot_entries}
+
+abbrev pub started : Evolution → ℕ → FlatEnv → ℕ → LocalValue → AnyValue
+started ByRep device env k first = ValueLocal (own_slot_or k first env.own)
+started ByShare device env k first = ValueField (with_entry device (own_slot_or k first env.own) (slot_entries k env.near))
