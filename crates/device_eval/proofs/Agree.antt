@@ -7,7 +7,9 @@ use Rattle.fc_values.specs.Fields.{Entries, AnyValue, ValueLocal, ValueField}
 use Rattle.fc_values.specs.Builtins.{builtin_value}
 use Rattle.fc_values.specs.Trees.{Tree, Trees, Keep, Done, Then}
 use Rattle.fc_nodes.specs.Terms.{Leaf, Literal, Variable, Sense, Uid, NbrLink, ByRep, ByShare, Term, Terms, Plain, Apply, Nbr, Evolve, If, Let, NoMore, More, size}
-use Rattle.device_eval.specs.Alignment.{Env, child_env, branch_env, restricted, with_entry, kept_there}
+use Rattle.alignment.specs.Environments.{Env, child_env, branch_env, restricted}
+use Rattle.share_op.specs.Hearing.{with_entry}
+use Rattle.device_eval.specs.Neighbours.{kept_there}
 use Rattle.device_eval.specs.Evaluation.{Situation, Vars, variable_at, own_or, heard, eval_of, eval_all, after, after_all, and_then, on_some, on_local, on_truth, pick, Outcome, Outcomes}
 use Rattle.device_eval.specs.Rules.{Evaluates, EvaluateAll, literal, variable, sense, uid, nbr_link, builtin, nbr, rep, share, if_true, if_false, binding, none, one_more}
 

@@ -13,8 +13,9 @@ use Rattle.fc_nodes.proofs.Places.{AllAbove}
 use Rattle.fc_nodes.proofs.Kids.{laid_term, SomeKids, apply_laid}
 use Rattle.fc_nodes.proofs.Kept.{kept_step, kept_size, kept_none}
 use Rattle.device_eval.specs.Evaluation.{Situation, Vars, Outcome, Outcomes, eval_of, eval_all, after_all, on_some}
-use Rattle.device_eval.specs.Layouts.{LayoutValue}
-use Rattle.device_eval.specs.Environments.{FlatEnv, env_at, EnvFits}
+use Rattle.flat_exports.specs.Layouts.{LayoutValue}
+use Rattle.alignment.specs.Slots.{FlatEnv}
+use Rattle.device_eval.specs.Environments.{env_at, EnvFits}
 use Rattle.device_eval.specs.Walks.{Room, SameOut, Can, Did, CanAt, DidAt, Stands}
 use Rattle.device_eval.specs.Rows.{outcomes_at, row_trees, row_kept, Row, FitEach, MarkedEach, first_of, CanEach, DidEach}
 use Rattle.device_eval.proofs.Frames.{env_child, env_fits}

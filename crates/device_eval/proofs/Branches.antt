@@ -6,9 +6,10 @@ use Rattle.fc_values.specs.Exports.{SlotValue}
 use Rattle.fc_values.specs.Trees.{kept_of, child}
 use Rattle.fc_nodes.specs.Terms.{Term, If, kept}
 use Rattle.fc_nodes.specs.Flat.{slot_at, by_truth, IfTruth, tree_at, Clear, Marked}
-use Rattle.device_eval.specs.Alignment.{NearTree, near_by, child_env, branch_env, keeps_truth, own_where}
+use Rattle.alignment.specs.Environments.{NearTree, near_by, child_env, branch_env, keeps_truth, own_where}
 use Rattle.device_eval.specs.Evaluation.{pick}
-use Rattle.device_eval.specs.Environments.{FlatEnv, NearSlots, env_at, near_at, slot_keeps, flat_branch, OwnFits, NearFit, EnvFits}
+use Rattle.alignment.specs.Slots.{FlatEnv, NearSlots, slot_keeps, flat_branch}
+use Rattle.device_eval.specs.Environments.{env_at, near_at, OwnFits, NearFit, EnvFits}
 
 -- what a truth value picks
 truth_picks : {A : Type 0} (r : Bool) (v : LocalValue) (x y : A) → keeps_truth r (Some v) ≡ true → by_truth v x y ≡ pick r x y
@@ -50,7 +51,7 @@ module _ (t : ValueType) (x a b : Term) (k : ℕ) (r : Bool) where
   NearAgree ns = map (near_by (child 1)) (filter (λ (n : NearTree). keeps_truth r (kept_of n.2)) (map (near_at (If t x a b) k) ns)) ≡ map (near_at arm arm_slot) (filter (λ (n : NearSlots). slot_keeps k r n.2) ns)
 
   near_step : (n : NearSlots) (ns : List NearSlots) → (slot_at k n.2).0 ≡ true → NearAgree ns → (q : Bool) → keeps_truth r (Some (slot_at k n.2).1) ≡ q → NearAgree (n ∷ ns)
-  unfolding NearAgree
+  unfolding NearAgree slot_at
   near_step n ns m ih true e = let here = arm_tree n.2 e in rw (m, e, ih, here) refl
   near_step n ns m ih false e = rw (m, e, ih) refl
 
@@ -60,6 +61,7 @@ module _ (t : ValueType) (x a b : Term) (k : ℕ) (r : Bool) where
   near_branch (n ∷ ns) h = near_step n ns h.0.0 (near_branch ns h.2) (keeps_truth r (Some (slot_at k n.2).1)) refl
 
   own_step : (xs : List SlotValue) → (slot_at k xs).0 ≡ true → (q : Bool) → keeps_truth r (Some (slot_at k xs).1) ≡ q → option_map (child 1) (own_where (λ u. keeps_truth r (kept_of u)) (Some (tree_at (If t x a b) k xs))) ≡ option_map (tree_at arm arm_slot) (own_where (slot_keeps k r) (Some xs))
+  unfolding slot_at
   own_step xs m true e = let here = arm_tree xs e in rw (m, e, here) refl
   own_step xs m false e = rw (m, e) refl
 
@@ -86,6 +88,7 @@ arm_later t x a b k false = omega arith
 
 module _ (t : ValueType) (x a b : Term) (k : ℕ) (r : Bool) where
   own_fits_arm : (o : Option (List SlotValue)) → OwnFits (If t x a b) k o → OwnFits (arm t x a b k r) (arm_slot t x a b k r) (own_where (slot_keeps k r) o)
+  unfolding slot_at
   own_fits_arm None h = tt
   own_fits_arm (Some xs) h = by_test (keeps_truth r (Some (slot_at k xs).1)) refl
     where
@@ -94,6 +97,7 @@ module _ (t : ValueType) (x a b : Term) (k : ℕ) (r : Bool) where
       by_test false e = let m = h.0.0 in rw (m, e) tt
 
   near_fit_arm : (ns : List NearSlots) → NearFit (If t x a b) k ns → NearFit (arm t x a b k r) (arm_slot t x a b k r) (filter (λ (n : NearSlots). slot_keeps k r n.2) ns)
+  unfolding slot_at
   near_fit_arm [] h = tt
   near_fit_arm (n ∷ ns) h = by_test (near_fit_arm ns h.2) (keeps_truth r (Some (slot_at k n.2).1)) refl
     where

@@ -13,10 +13,12 @@ use Rattle.fc_nodes.specs.Flat.{slot_at, tree_at}
 use Rattle.fc_nodes.proofs.Places.{AllAbove}
 use Rattle.fc_nodes.proofs.Kids.{TwoKids, evolve_laid}
 use Rattle.fc_nodes.proofs.Kept.{one_more, kept_size}
-use Rattle.device_eval.specs.Alignment.{kept_there}
+use Rattle.device_eval.specs.Neighbours.{kept_there}
 use Rattle.device_eval.specs.Evaluation.{Situation, Vars, Outcome, own_or, evolving, eval_of, after, on_local, on_some}
-use Rattle.device_eval.specs.Layouts.{LayoutValue, number_in}
-use Rattle.device_eval.specs.Environments.{FlatEnv, NearSlots, env_at, near_at, slot_entries, own_slot_or, OwnHas, NearHave}
+use Rattle.flat_exports.specs.Layouts.{LayoutValue, number_in}
+use Rattle.alignment.specs.Slots.{FlatEnv, NearSlots, OwnHas, NearHave}
+use Rattle.device_eval.specs.Environments.{env_at, near_at}
+use Rattle.share_op.specs.Hearing.{slot_entries, own_slot_or}
 use Rattle.device_eval.specs.Starts.{started}
 use Rattle.device_eval.specs.Walks.{SameIn, Can, Did, CanAt, DidAt, Stands, IsLocal}
 use Rattle.device_eval.proofs.SlotLists.{slot_set_same, slot_set_other}
@@ -26,10 +28,12 @@ use Rattle.device_eval.proofs.Steps.{after_some, local_is, can_all, did_all, kid
 -- what the variable starts from
 module _ (t : ValueType) (v : Evolution) (a b : Term) (k : ℕ) where
   own_starts : (first : LocalValue) (o : Option (List SlotValue)) → own_or (option_map (tree_at (Evolve t v a b) k) o) first ≡ Some (own_slot_or k first o)
+  unfolding slot_at
   own_starts first None = refl
   own_starts first (Some xs) = refl
 
   near_starts : (ns : List NearSlots) → kept_there (map (near_at (Evolve t v a b) k) ns) ≡ Some (slot_entries k ns)
+  unfolding slot_at
   near_starts [] = refl
   near_starts (n ∷ ns) = let ih = near_starts ns in rw ih refl
 

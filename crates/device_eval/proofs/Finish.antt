@@ -9,7 +9,8 @@ use Rattle.fc_nodes.specs.Terms.{type_of, kept, kept_types}
 use Rattle.fc_nodes.specs.Program.{Program, Unfolding, unfolding_of, IsProgram}
 use Rattle.fc_nodes.specs.Flat.{FitsTree, IsWellTyped, slot_at, tree_at, Marked, HaveForms, tree_export, IsExport}
 use Rattle.device_eval.specs.Evaluation.{Outcome, eval_of}
-use Rattle.device_eval.specs.Copies.{near_devices, FitsCopy, env_of, situation_of, EvaluatesCopy}
+use Rattle.value_trees.specs.Copies.{near_devices, FitsCopy}
+use Rattle.device_eval.specs.Copies.{env_of, situation_of, EvaluatesCopy}
 use Rattle.device_eval.proofs.Numbers.{with_number}
 use Rattle.device_eval.proofs.Progress.{Gives, IsLocalOf, local_of_type}
 use Rattle.device_eval.proofs.OneExport.{main_gives}

@@ -6,8 +6,9 @@ use Rattle.fc_values.specs.Exports.{SlotValue}
 use Rattle.fc_values.specs.Trees.{Keep, child}
 use Rattle.fc_nodes.specs.Terms.{Term, Terms, Plain, Apply, Nbr, Evolve, If, Let, NoMore, More, kept, kept_all}
 use Rattle.fc_nodes.specs.Flat.{slot_at, tree_at, trees_at, IfTruth, Clear, Marked, AllMarked}
-use Rattle.device_eval.specs.Alignment.{near_by, child_env}
-use Rattle.device_eval.specs.Environments.{FlatEnv, NearSlots, near_at, env_at, OwnFits, NearFit, EnvFits}
+use Rattle.alignment.specs.Environments.{near_by, child_env}
+use Rattle.alignment.specs.Slots.{FlatEnv, NearSlots}
+use Rattle.device_eval.specs.Environments.{near_at, env_at, OwnFits, NearFit, EnvFits}
 use Rattle.device_eval.specs.Walks.{Room, SameIn, SameOut, Still}
 use Rattle.device_eval.proofs.SlotLists.{slot_set_same, slot_set_other}
 

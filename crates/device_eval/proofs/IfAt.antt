@@ -12,10 +12,11 @@ use Rattle.fc_nodes.specs.Flat.{slot_at, by_truth, IfTruth, tree_at, Clear, Mark
 use Rattle.fc_nodes.proofs.Places.{AllAbove}
 use Rattle.fc_nodes.proofs.Kids.{ThreeKids, if_laid}
 use Rattle.fc_nodes.proofs.Kept.{one_more, kept_size}
-use Rattle.device_eval.specs.Alignment.{Env, child_env, branch_env}
+use Rattle.alignment.specs.Environments.{Env, child_env, branch_env}
 use Rattle.device_eval.specs.Evaluation.{Situation, Vars, Outcome, eval_of, after, on_truth, pick}
-use Rattle.device_eval.specs.Layouts.{LayoutValue, number_in}
-use Rattle.device_eval.specs.Environments.{FlatEnv, env_at, flat_branch, OwnHas, NearHave}
+use Rattle.flat_exports.specs.Layouts.{LayoutValue, number_in}
+use Rattle.alignment.specs.Slots.{FlatEnv, flat_branch, OwnHas, NearHave}
+use Rattle.device_eval.specs.Environments.{env_at}
 use Rattle.device_eval.specs.Walks.{SameIn, Can, Did, CanAt, DidAt, Stands, IsTruth}
 use Rattle.device_eval.proofs.SlotLists.{slot_set_same, slot_set_other}
 use Rattle.device_eval.proofs.Frames.{tree_same, marked_same, env_child, env_fits, room_part, room_behind, still_then, still_set}

@@ -8,9 +8,12 @@ use Rattle.fc_values.specs.Exports.{SlotValue}
 use Rattle.fc_nodes.specs.declared.nodes.Node.{Node}
 use Rattle.fc_nodes.specs.Terms.{Leaf, Literal, Variable, Sense, Uid, NbrLink, Term, Plain, OfLeaf, kept_before, HasNode}
 use Rattle.fc_nodes.proofs.Places.{AllAbove, term_is}
-use Rattle.device_eval.specs.Alignment.{is_near, restricted, weights, with_entry}
+use Rattle.alignment.specs.Environments.{is_near, restricted}
+use Rattle.device_eval.specs.Neighbours.{weights}
+use Rattle.share_op.specs.Hearing.{with_entry}
 use Rattle.device_eval.specs.Evaluation.{Situation, Vars, leaf_value, variable_at}
-use Rattle.device_eval.specs.Environments.{FlatEnv, NearSlots, near_at, env_at}
+use Rattle.alignment.specs.Slots.{FlatEnv, NearSlots}
+use Rattle.device_eval.specs.Environments.{near_at, env_at}
 use Rattle.device_eval.specs.Walks.{Can, Did, CanAt, DidAt}
 use Rattle.device_eval.proofs.Frames.{same_out, still_same}
 use Rattle.device_eval.proofs.Steps.{some_on}

@@ -11,8 +11,9 @@ use Rattle.fc_nodes.proofs.Places.{AllAbove}
 use Rattle.fc_nodes.proofs.Kids.{TwoKids, let_laid}
 use Rattle.fc_nodes.proofs.Kept.{one_more, kept_size}
 use Rattle.device_eval.specs.Evaluation.{Situation, Vars, eval_of, after}
-use Rattle.device_eval.specs.Layouts.{LayoutValue}
-use Rattle.device_eval.specs.Environments.{FlatEnv, env_at}
+use Rattle.flat_exports.specs.Layouts.{LayoutValue}
+use Rattle.alignment.specs.Slots.{FlatEnv}
+use Rattle.device_eval.specs.Environments.{env_at}
 use Rattle.device_eval.specs.Walks.{SameIn, Can, Did, CanAt, DidAt, Stands}
 use Rattle.device_eval.proofs.Frames.{tree_same, marked_same, env_child, env_fits, room_part, room_behind, still_then}
 use Rattle.device_eval.proofs.Steps.{after_some, can_all, did_all, kid_is, stands_kid}

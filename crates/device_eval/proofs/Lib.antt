@@ -1,4 +1,3 @@
-pub mod Blanks
 pub mod SlotLists
 pub mod Frames
 pub mod Steps

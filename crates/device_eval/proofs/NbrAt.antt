@@ -13,16 +13,20 @@ use Rattle.fc_nodes.specs.Flat.{slot_at, tree_at}
 use Rattle.fc_nodes.proofs.Places.{AllAbove}
 use Rattle.fc_nodes.proofs.Kids.{OneKid, nbr_laid}
 use Rattle.fc_nodes.proofs.Kept.{one_more}
-use Rattle.device_eval.specs.Alignment.{with_entry, kept_there}
+use Rattle.share_op.specs.Hearing.{with_entry}
+use Rattle.device_eval.specs.Neighbours.{kept_there}
 use Rattle.device_eval.specs.Evaluation.{Situation, Vars, eval_of, on_local}
-use Rattle.device_eval.specs.Layouts.{LayoutValue, number_in}
-use Rattle.device_eval.specs.Environments.{FlatEnv, NearSlots, env_at, near_at, slot_entries, NearHave}
+use Rattle.flat_exports.specs.Layouts.{LayoutValue, number_in}
+use Rattle.alignment.specs.Slots.{FlatEnv, NearSlots, NearHave}
+use Rattle.device_eval.specs.Environments.{env_at, near_at}
+use Rattle.share_op.specs.Hearing.{slot_entries}
 use Rattle.device_eval.specs.Walks.{SameIn, Can, Did, CanAt, DidAt, Stands, IsLocal}
 use Rattle.device_eval.proofs.SlotLists.{slot_set_same, slot_set_other}
 use Rattle.device_eval.proofs.Frames.{tree_same, marked_same, env_child, env_fits, room_part, still_then, still_set}
 use Rattle.device_eval.proofs.Steps.{after_some, local_is, can_all, did_all, kid_is, stands_kid, slot_is, near_have}
 
 kept_entries : (t : ValueType) (a : Term) (k : ℕ) (ns : List NearSlots) → kept_there (map (near_at (Nbr t a) k) ns) ≡ Some (slot_entries k ns)
+unfolding slot_at
 kept_entries t a k [] = refl
 kept_entries t a k (n ∷ ns) = let ih = kept_entries t a k ns in rw ih refl
 

@@ -11,9 +11,11 @@ use Rattle.fc_values.specs.Trees.{Tree, Trees, Keep, Done, Then, leaf, child}
 use Rattle.fc_nodes.specs.Terms.{Leaf, Literal, Variable, Sense, Uid, NbrLink, Evolution, ByRep, ByShare, Term, Terms, Plain, Apply, Nbr, Evolve, If, Let, NoMore, More, type_of, size}
 use Rattle.fc_nodes.specs.Typing.{Scope, sense_type, LeafHasType, evolving_type, types_of, HasType, HaveTypes}
 use Rattle.fc_nodes.specs.Flat.{HasKids, KeepsWith, OneKid, TwoKids, KeepsTruth, FitsTree, FitTrees}
-use Rattle.device_eval.specs.Alignment.{NearTree, Env, child_env, branch_env, restricted, with_entry, kept_there, weights}
+use Rattle.alignment.specs.Environments.{NearTree, Env, child_env, branch_env, restricted}
+use Rattle.share_op.specs.Hearing.{with_entry}
+use Rattle.device_eval.specs.Neighbours.{kept_there, weights}
 use Rattle.device_eval.specs.Evaluation.{Situation, Vars, own_or, heard, evolving, eval_of, eval_all, Outcome, Outcomes}
-use Rattle.device_eval.specs.Copies.{WhereSome}
+use Rattle.value_trees.specs.Copies.{WhereSome}
 use Rattle.device_eval.proofs.Numbers.{with_number, rises_test, rises_with}
 use Rattle.device_eval.proofs.Sights.{FitsEnv, EachNear, near_numbers, env_kid, env_as, near_as, InBranch, those_in, part_of, env_branch, kids_from, first_kid, rest_kids, devices_with, fit_with, devices_weights, fit_weights, Keeps, each_keeps, VarsFit, vars_part, bound_fits, Reads, variable_there, restricted_fits}
 

@@ -13,15 +13,17 @@ use Rattle.fc_nodes.specs.Flat.{slot_at, tree_at, HaveForms, IsExport, tree_expo
 use Rattle.fc_nodes.proofs.Places.{laid_within}
 use Rattle.fc_nodes.proofs.Kept.{kept_none, kept_long}
 use Rattle.device_eval.specs.Evaluation.{Situation, eval_of}
-use Rattle.device_eval.specs.Copies.{WhereSome, near_tree, env_of, situation_of, EvaluatesCopy}
-use Rattle.device_eval.specs.declared.value_trees.Near.{Near}
-use Rattle.device_eval.specs.declared.value_trees.Snap.{Snap}
-use Rattle.device_eval.specs.Snaps.{IsSnap, IsExportOf, NearAreExports, near_copy, snap_copy, tree_of}
-use Rattle.device_eval.specs.Layouts.{LayoutValue, IsLayout, blank_slots}
-use Rattle.device_eval.specs.Environments.{FlatEnv, near_at, env_at, OwnFits, NearFit, EnvFits}
+use Rattle.value_trees.specs.Copies.{WhereSome}
+use Rattle.device_eval.specs.Copies.{near_tree, env_of, situation_of, EvaluatesCopy}
+use Rattle.value_trees.specs.declared.copies.Near.{Near}
+use Rattle.value_trees.specs.declared.copies.Snap.{Snap}
+use Rattle.value_trees.specs.Snaps.{IsSnap, IsExportOf, NearAreExports, near_copy, snap_copy, tree_of}
+use Rattle.flat_exports.specs.Layouts.{LayoutValue, IsLayout, blank_slots}
+use Rattle.alignment.specs.Slots.{FlatEnv}
+use Rattle.device_eval.specs.Environments.{near_at, env_at, OwnFits, NearFit, EnvFits}
 use Rattle.device_eval.specs.References.{snap_near, snap_env}
 use Rattle.device_eval.specs.Walks.{Can, Did, CanAt, DidAt, Stands, IsLocal}
-use Rattle.device_eval.proofs.Blanks.{have_forms}
+use Rattle.flat_exports.proofs.Blanks.{have_forms}
 use Rattle.device_eval.proofs.Finish.{main_runs, main_local, finished_evaluates, finished_export}
 use Rattle.device_eval.proofs.Shapes.{have_long}
 use Rattle.device_eval.proofs.Steps.{can_all, did_all}

@@ -8,8 +8,8 @@ use Rattle.fc_nodes.specs.Flat.{slot_at}
 use Rattle.fc_nodes.proofs.Places.{laid_within}
 use Rattle.fc_nodes.proofs.Kept.{kept_size, kept_none}
 use Rattle.device_eval.specs.Evaluation.{Situation, Vars, Outcome, Outcomes, and_then}
-use Rattle.device_eval.specs.Layouts.{LayoutValue, IsLayout}
-use Rattle.device_eval.specs.Environments.{FlatEnv}
+use Rattle.flat_exports.specs.Layouts.{LayoutValue, IsLayout}
+use Rattle.alignment.specs.Slots.{FlatEnv}
 use Rattle.device_eval.specs.Walks.{Room, SameIn, SameOut, CanAt, DidAt, Stands}
 use Rattle.device_eval.specs.Rows.{row_kept, Row, first_of, CanEach, DidEach}
 use Rattle.device_eval.proofs.Frames.{tree_same, marked_same, room_part, room_behind, still_same, still_then}

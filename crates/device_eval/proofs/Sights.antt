@@ -8,9 +8,11 @@ use Rattle.fc_values.specs.Fields.{Entries, AnyValue, ValueLocal, ValueField, de
 use Rattle.fc_values.specs.Trees.{Tree, Trees, Keep, Done, Then, kept_of, nth_tree, child}
 use Rattle.fc_nodes.specs.Typing.{Scope, type_at}
 use Rattle.fc_nodes.specs.Flat.{OneMore}
-use Rattle.device_eval.specs.Alignment.{NearTree, Env, near_by, child_env, keeps_truth, own_where, branch_env, is_near, restricted, with_entry, kept_there, weights}
+use Rattle.alignment.specs.Environments.{NearTree, Env, near_by, child_env, keeps_truth, own_where, branch_env, is_near, restricted}
+use Rattle.share_op.specs.Hearing.{with_entry}
+use Rattle.device_eval.specs.Neighbours.{kept_there, weights}
 use Rattle.device_eval.specs.Evaluation.{Vars, variable_at}
-use Rattle.device_eval.specs.Copies.{WhereSome}
+use Rattle.value_trees.specs.Copies.{WhereSome}
 use Rattle.device_eval.proofs.Numbers.{is_in, with_number, stays, Part, part_none, part_skip, part_keep, rises_part, not_in_part, still_stays, all_stay}
 
 abbrev pub number_of : NearTree → ℕ

@@ -17,11 +17,5 @@ pub slot_set_other : (j k : ℕ) (v : SlotValue) (xs : List SlotValue) → j ≢
 unfolding slot_at
 slot_set_other j k v xs h = get_or-set_other xs k j v (false, IntValue 0) h
 
-pub slot_value : (xs : List Slot) (k : ℕ) (s : Slot) → s ≡ get_or xs k s → k < length xs → slot_at k (slots_of xs) ≡ slot_of s
-unfolding slot_at
-slot_value [] k s e h = absurd (omega arith)
-slot_value (x ∷ xs) zero s e h = ap slot_of (sym e)
-slot_value (x ∷ xs) (suc k) s e h = slot_value xs k s e (omega arith)
-
 pub slots_long : (xs : List Slot) (k : ℕ) → k < length (slots_of xs) → k < length xs
 slots_long xs k h = omega (arith, h, length-map xs slot_of)

@@ -5,7 +5,9 @@ use Rattle.fc_values.specs.Fields.{Entries, AnyValue, ValueLocal, ValueField}
 use Rattle.fc_values.specs.Builtins.{builtin_value}
 use Rattle.fc_values.specs.Trees.{Tree, Trees, Keep, Done, Then, leaf, kept_of}
 use Rattle.fc_nodes.specs.Terms.{Leaf, Literal, Variable, Sense, Uid, NbrLink, Evolution, ByRep, ByShare, Term, Terms, Plain, Apply, Nbr, Evolve, If, Let, NoMore, More, size}
-use Rattle.device_eval.specs.Alignment.{Env, child_env, branch_env, restricted, with_entry, kept_there, weights}
+use Rattle.alignment.specs.Environments.{Env, child_env, branch_env, restricted}
+use Rattle.share_op.specs.Hearing.{with_entry}
+use Rattle.device_eval.specs.Neighbours.{kept_there, weights}
 
 -- where evaluation happens: the device, the greatest integer, the least weight of a link, and the inputs of the copy
 pub record Situation : Type 0 where

@@ -1,9 +1,9 @@
 -- A firing that was evaluated.
 use Rattle.fc_values.specs.declared.exports.Export.{Export}
 use Rattle.fc_nodes.specs.Program.{Program, unfolding_of}
-use Rattle.device_eval.specs.declared.value_trees.Snap.{Snap}
+use Rattle.value_trees.specs.declared.copies.Snap.{Snap}
 use Rattle.device_eval.specs.Copies.{EvaluatesCopy}
-use Rattle.device_eval.specs.Snaps.{IsSnap, IsExportOf, snap_copy, tree_of}
+use Rattle.value_trees.specs.Snaps.{IsSnap, IsExportOf, snap_copy, tree_of}
 
 -- what contracts see of it: the program, the copy that it read, and the export
 pub record FiredValue : Type 0 where

@@ -1,14 +1,11 @@
-pub mod Alignment
+pub mod Neighbours
 pub mod Evaluation
 pub mod Rules
 pub mod Copies
-pub mod Snaps
 pub mod Firing
-pub mod Layouts
 pub mod Environments
 pub mod Starts
 pub mod References
 pub mod Walks
 pub mod Rows
 pub mod Contexts
-pub mod KeptLists

@@ -1,30 +1,10 @@
--- What references in code stand for.
-use Rattle.std.specs.Prelude.{List, map, option_map}
-use Rattle.std.specs.Borrow.{Bor}
-use Rattle.fc_values.specs.declared.exports.Slots.{Slots}
+-- What the root sees of a copy in code.
+use Rattle.std.specs.Prelude.{map, option_map}
 use Rattle.fc_values.specs.declared.exports.Export.{Export}
-use Rattle.fc_values.specs.Exports.{SlotValue, slots_of}
-use Rattle.device_eval.specs.declared.alignment.NearRef.{NearRef}
-use Rattle.device_eval.specs.declared.alignment.Env.{Env}
-use Rattle.device_eval.specs.declared.value_trees.Near.{Near}
-use Rattle.device_eval.specs.declared.value_trees.Snap.{Snap}
-use Rattle.device_eval.specs.Environments.{FlatEnv, NearSlots}
-
--- the slots behind a reference
-abbrev pub borrowed_slots : Bor Slots → List SlotValue
-borrowed_slots s = slots_of s.now.list.items
-
--- an aligned neighbour
-abbrev pub near_of : NearRef → NearSlots
-near_of n = (n.device, n.weight, borrowed_slots n.slots)
-
--- the aligned neighbours
-abbrev pub nears_of : List NearRef → List NearSlots
-nears_of ns = map near_of ns
-
--- the environment that an environment in code stands for
-abbrev pub flat_of : Env → FlatEnv
-flat_of env = record { own = option_map borrowed_slots env.own; near = nears_of env.near.items }
+use Rattle.fc_values.specs.Exports.{slots_of}
+use Rattle.value_trees.specs.declared.copies.Near.{Near}
+use Rattle.value_trees.specs.declared.copies.Snap.{Snap}
+use Rattle.alignment.specs.Slots.{FlatEnv, NearSlots}
 
 -- a neighbour of a copy
 abbrev pub snap_near : Near → NearSlots

@@ -7,7 +7,9 @@ use Rattle.fc_values.specs.Fields.{Entries, AnyValue, ValueLocal, ValueField}
 use Rattle.fc_values.specs.Builtins.{builtin_value}
 use Rattle.fc_values.specs.Trees.{Tree, Trees, Keep, Done, Then, leaf}
 use Rattle.fc_nodes.specs.Terms.{Literal, Variable, Sense, Uid, NbrLink, ByRep, ByShare, Term, Terms, Plain, Apply, Nbr, Evolve, If, Let, NoMore, More, size}
-use Rattle.device_eval.specs.Alignment.{Env, child_env, branch_env, restricted, with_entry, kept_there, weights}
+use Rattle.alignment.specs.Environments.{Env, child_env, branch_env, restricted}
+use Rattle.share_op.specs.Hearing.{with_entry}
+use Rattle.device_eval.specs.Neighbours.{kept_there, weights}
 use Rattle.device_eval.specs.Evaluation.{Situation, Vars, variable_at, own_or}
 
 -- `Evaluates S p t vars env v tree`: the term t, whose root stands at place p, has the value v and the tree

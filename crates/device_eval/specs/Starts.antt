@@ -3,8 +3,9 @@ use Rattle.std.specs.Prelude.{ℕ}
 use Rattle.fc_values.specs.Values.{LocalValue}
 use Rattle.fc_values.specs.Fields.{AnyValue, ValueLocal, ValueField}
 use Rattle.fc_nodes.specs.Terms.{Evolution, ByRep, ByShare}
-use Rattle.device_eval.specs.Alignment.{with_entry}
-use Rattle.device_eval.specs.Environments.{FlatEnv, own_slot_or, slot_entries}
+use Rattle.share_op.specs.Hearing.{with_entry}
+use Rattle.alignment.specs.Slots.{FlatEnv}
+use Rattle.share_op.specs.Hearing.{own_slot_or, slot_entries}
 
 abbrev pub started : Evolution → ℕ → FlatEnv → ℕ → LocalValue → AnyValue
 started ByRep device env k first = ValueLocal (own_slot_or k first env.own)

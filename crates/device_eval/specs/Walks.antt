@@ -7,8 +7,9 @@ use Rattle.fc_nodes.specs.declared.nodes.Node.{Node}
 use Rattle.fc_nodes.specs.Terms.{Term, kept, kept_before, term_at, Laid}
 use Rattle.fc_nodes.specs.Flat.{slot_at, tree_at, Clear, Marked}
 use Rattle.device_eval.specs.Evaluation.{Situation, Vars, eval_of}
-use Rattle.device_eval.specs.Layouts.{LayoutValue, IsLayout}
-use Rattle.device_eval.specs.Environments.{FlatEnv, env_at, EnvFits}
+use Rattle.flat_exports.specs.Layouts.{LayoutValue, IsLayout}
+use Rattle.alignment.specs.Slots.{FlatEnv}
+use Rattle.device_eval.specs.Environments.{env_at, EnvFits}
 
 -- n slots from k on are there, and none of them is kept
 pub record Room (k n : ℕ) (xs : List SlotValue) : Type 0 where

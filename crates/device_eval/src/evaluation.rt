@@ -7,18 +7,20 @@ ghost use Rattle.fc_values.specs.Fields.{value_of, values_of, ValueLocal};
 ghost use Rattle.fc_values.specs.Exports.{slots_of};
 ghost use Rattle.fc_nodes.specs.Terms.{HasNode, OfApply, OfNbr, OfEvolve, ByRep, ByShare, OfIf, OfLet};
 ghost use Rattle.fc_nodes.specs.Program.{IsProgram};
-ghost use Rattle.device_eval.specs.Alignment.{restricted};
+ghost use Rattle.alignment.specs.Environments.{restricted};
 ghost use Rattle.device_eval.specs.Evaluation.{variable_at, pick};
-ghost use Rattle.device_eval.specs.Layouts.{IsLayout, number_in};
-ghost use Rattle.device_eval.specs.References.{flat_of};
+ghost use Rattle.flat_exports.specs.Layouts.{IsLayout, number_in};
+ghost use Rattle.alignment.specs.References.{flat_of};
 ghost use Rattle.device_eval.specs.Contexts.{situation_in, vars_of};
 ghost use Rattle.device_eval.specs.Walks.{CanAt, DidAt, Stands, IsLocal, IsTruth};
 ghost use Rattle.device_eval.specs.Rows.{CanEach, DidEach};
 
-use crate::alignment::{Env, heard, links, own_or, restrict, said, same_branch};
-use crate::flat_exports::{Draft, Layout};
+use crate::links::links;
+use alignment::{Env, restrict, same_branch};
 use fc_nodes::{Node, Op, Unfolded};
 use fc_values::{Builtin, Local, Memory, Value, apply, copy};
+use flat_exports::{Draft, Layout};
+use share_op::{heard, heard_with, own_or};
 use std::alloc::Global;
 
 /// What an evaluation is of: a program, its layout, the device that fires, and the inputs of its copy.
@@ -139,7 +141,7 @@ fn eval_nbr(
     let slot = slot_of(context.layout, place);
     let value = eval(alloc, context, node.kids[0], env, vars, draft)?;
     let own = into_local(value);
-    let field = said(alloc, env, slot, context.device, &own)?;
+    let field = heard_with(alloc, env, slot, context.device, &own)?;
     draft.put(slot, own);
     Ok(Value::Field(field))
 }

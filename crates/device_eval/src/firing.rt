@@ -2,18 +2,19 @@
 
 ghost use Rattle.std.specs.Prelude.{◌≡◌, IfOk, IfErr};
 ghost use Rattle.fc_nodes.specs.Program.{unfolding_of};
-ghost use Rattle.device_eval.specs.References.{flat_of, snap_env};
+ghost use Rattle.alignment.specs.References.{flat_of};
+ghost use Rattle.device_eval.specs.References.{snap_env};
 ghost use Rattle.device_eval.specs.Firing.{IsFired};
 
-use crate::alignment::{Env, NearRef};
 use crate::evaluation::{Context, Scope, eval, into_local};
-use crate::flat_exports::{Draft, Layout};
-use crate::value_trees::Snap;
+use alignment::{Env, NearRef};
 use fc_nodes::Unfolded;
 use fc_values::{Export, Memory};
+use flat_exports::{Draft, Layout};
 use std::alloc::Global;
 use std::marker::Model;
 use std::sync::Arc;
+use value_trees::Snap;
 
 /// A copy with its export.
 #[derive(Drop)]
@@ -81,7 +82,7 @@ impl Fired {
     }
 }
 
-ghost use Rattle.device_eval.specs.Snaps.{IsSnap};
+ghost use Rattle.value_trees.specs.Snaps.{IsSnap};
 
 /// Evaluates a copy. For want of memory the copy comes back.
 pub fn fire(alloc: Global, program: &Arc<Unfolded>, snap: Snap) -> Result<Fired, (Snap, Memory)>

@@ -1,11 +1,12 @@
 //! Laws of the definitions.
 
 ghost use Rattle.fc_nodes.specs.Program.{unfolding_of};
-ghost use Rattle.device_eval.specs.Copies.{FitsCopy, HasOneExport};
-ghost use Rattle.device_eval.specs.Snaps.{snap_copy};
+ghost use Rattle.value_trees.specs.Copies.{FitsCopy};
+ghost use Rattle.device_eval.specs.Copies.{HasOneExport};
+ghost use Rattle.value_trees.specs.Snaps.{snap_copy};
 
-use crate::value_trees::Snap;
 use fc_nodes::Unfolded;
+use value_trees::Snap;
 
 /// Evaluation is never stuck: a copy that fits a program has exactly one export, and it is well-typed.
 pub fn one_export(program: &Unfolded, snap: &Snap)

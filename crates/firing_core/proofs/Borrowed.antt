@@ -3,7 +3,7 @@ use Rattle.std.proofs.Common.{◌≡◌, Option, Some, None, sym, ap, subst, Bor
 use Rattle.std.specs.Prelude.{option_map}
 use Rattle.std.specs.Option.{option_copied}
 use Rattle.std.specs.Prelude.{IfSome}
-use Rattle.device_eval.specs.Copies.{WhereSome}
+use Rattle.value_trees.specs.Copies.{WhereSome}
 
 pub no_value : {A B : Type 0} (f : A → B) (r : Option (Bor A)) → r ≡ None → option_map (λ (e : Bor A). f e.now) r ≡ None
 no_value {A} f r e = ap (option_map (λ (e : Bor A). f e.now)) e

@@ -7,9 +7,9 @@ use Rattle.fc_values.specs.declared.exports.Export.{Export}
 use Rattle.fc_values.specs.Exports.{export_of}
 use Rattle.fc_values.specs.Trees.{Copy}
 use Rattle.fc_nodes.specs.Program.{Program, Unfolding}
-use Rattle.device_eval.specs.declared.value_trees.Snap.{Snap}
-use Rattle.device_eval.specs.Copies.{WhereSome}
-use Rattle.device_eval.specs.Snaps.{tree_of, snap_copy, IsSnap}
+use Rattle.value_trees.specs.declared.copies.Snap.{Snap}
+use Rattle.value_trees.specs.Copies.{WhereSome}
+use Rattle.value_trees.specs.Snaps.{tree_of, snap_copy, IsSnap}
 use Rattle.firing_core.specs.Networks.{Network, numbers}
 use Rattle.firing_core.specs.Cores.{Core}
 use Rattle.firing_core.specs.CoreViews.{CoreValue, core_of, program_of, slot_at, AllExports, AllFlights, AllSnaps, FlightOf, IsCore}

@@ -6,9 +6,10 @@ use Rattle.std.proofs.lemmas.List.{length-map, length-replicate}
 use Rattle.fc_values.specs.declared.exports.Export.{Export}
 use Rattle.fc_values.specs.Trees.{Copy}
 use Rattle.fc_nodes.specs.Program.{Program, Unfolding, unfolding_of}
-use Rattle.device_eval.specs.declared.value_trees.Snap.{Snap}
-use Rattle.device_eval.specs.Copies.{WhereSome, EvaluatesCopy}
-use Rattle.device_eval.specs.Snaps.{tree_of, snap_copy, IsExportOf, IsSnap}
+use Rattle.value_trees.specs.declared.copies.Snap.{Snap}
+use Rattle.value_trees.specs.Copies.{WhereSome}
+use Rattle.device_eval.specs.Copies.{EvaluatesCopy}
+use Rattle.value_trees.specs.Snaps.{tree_of, snap_copy, IsExportOf, IsSnap}
 use Rattle.device_eval.specs.Firing.{FiredValue, IsFired}
 use Rattle.firing_core.specs.declared.entries.Entry.TheVariants as entry
 use Rattle.firing_core.specs.declared.entries.StepFault.TheVariants as fault

@@ -3,8 +3,8 @@ use Rattle.std.proofs.Common.{◌≡◌, ℕ, ◌<◌, ◌≤◌, ◌+◌, List,
 use Rattle.std.proofs.lemmas.List.{map-append}
 use Rattle.fc_values.specs.Trees.{TreeExport, NearCopy}
 use Rattle.fc_nodes.specs.Program.{Unfolding}
-use Rattle.device_eval.specs.declared.value_trees.Near.{Near}
-use Rattle.device_eval.specs.Snaps.{near_copy, IsExportOf, NearAreExports}
+use Rattle.value_trees.specs.declared.copies.Near.{Near}
+use Rattle.value_trees.specs.Snaps.{near_copy, IsExportOf, NearAreExports}
 use Rattle.firing_core.specs.Cores.{Map, near_with, near_copies}
 
 rest_of : (table : Map TreeExport) (xs : List (ℕ × ℕ)) (i : ℕ) (x : ℕ × ℕ) → i < length xs

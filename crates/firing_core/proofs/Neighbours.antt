@@ -7,7 +7,7 @@ use Rattle.fc_values.specs.Fields.{Rises}
 use Rattle.fc_values.specs.Trees.{TreeExport, NearCopy}
 use Rattle.fc_nodes.specs.Program.{Unfolding}
 use Rattle.fc_nodes.specs.Flat.{IsWellTyped}
-use Rattle.device_eval.specs.Copies.{InputsFit, WhereSome, AllNearFit, near_devices, FitsCopy}
+use Rattle.value_trees.specs.Copies.{InputsFit, WhereSome, AllNearFit, near_devices, FitsCopy}
 use Rattle.firing_core.specs.Networks.{Network, NetDevice, Edge, numbers, is_in, Lives, inputs_in, near_in, near, BeforeAll, LinksFit, DevicesFit, IsNetwork}
 use Rattle.firing_core.specs.Cores.{Map, near_with, near_copies, copy_of}
 

@@ -7,10 +7,10 @@ use Rattle.fc_values.specs.Exports.{FlatExport, export_of}
 use Rattle.fc_values.specs.Trees.{NearCopy}
 use Rattle.fc_nodes.specs.Program.{Unfolding}
 use Rattle.fc_nodes.specs.Flat.{IsExport, tree_export}
-use Rattle.device_eval.specs.declared.value_trees.Near.{Near}
-use Rattle.device_eval.specs.declared.value_trees.Snap.{Snap}
-use Rattle.device_eval.specs.Copies.{WhereSome, FitsCopy}
-use Rattle.device_eval.specs.Snaps.{tree_of, near_copy, snap_copy, IsExportOf, NearAreExports, IsSnap}
+use Rattle.value_trees.specs.declared.copies.Near.{Near}
+use Rattle.value_trees.specs.declared.copies.Snap.{Snap}
+use Rattle.value_trees.specs.Copies.{WhereSome, FitsCopy}
+use Rattle.value_trees.specs.Snaps.{tree_of, near_copy, snap_copy, IsExportOf, NearAreExports, IsSnap}
 use Rattle.firing_core.specs.CoreViews.{near_view}
 
 module _ (U : Unfolding) where

@@ -5,9 +5,9 @@ use Rattle.std.proofs.lemmas.Bool.{eqb-true, eq-eqb}
 use Rattle.fc_values.specs.declared.exports.Export.{Export}
 use Rattle.fc_values.specs.Values.{local_of}
 use Rattle.fc_values.specs.Exports.{export_of}
-use Rattle.device_eval.specs.declared.value_trees.Snap.{Snap}
-use Rattle.device_eval.specs.Copies.{FitsCopy}
-use Rattle.device_eval.specs.Snaps.{tree_of, near_copy, snap_copy, NearAreExports, IsSnap}
+use Rattle.value_trees.specs.declared.copies.Snap.{Snap}
+use Rattle.value_trees.specs.Copies.{FitsCopy}
+use Rattle.value_trees.specs.Snaps.{tree_of, near_copy, snap_copy, NearAreExports, IsSnap}
 use Rattle.firing_core.specs.declared.topology.Device.{Device}
 use Rattle.firing_core.specs.Networks.{device_of, numbers, is_in, Lives, inputs_in, near}
 use Rattle.firing_core.specs.Cores.{near_copies, copy_of}

@@ -7,9 +7,9 @@ use Rattle.fc_values.specs.declared.exports.Export.{Export}
 use Rattle.fc_values.specs.Trees.{TreeExport, Copy}
 use Rattle.fc_nodes.specs.Program.{Unfolding}
 use Rattle.fc_nodes.specs.Flat.{IsWellTyped}
-use Rattle.device_eval.specs.declared.value_trees.Snap.{Snap}
-use Rattle.device_eval.specs.Copies.{WhereSome, FitsCopy}
-use Rattle.device_eval.specs.Snaps.{tree_of, snap_copy, IsExportOf}
+use Rattle.value_trees.specs.declared.copies.Snap.{Snap}
+use Rattle.value_trees.specs.Copies.{WhereSome, FitsCopy}
+use Rattle.value_trees.specs.Snaps.{tree_of, snap_copy, IsExportOf}
 use Rattle.firing_core.specs.Networks.{NetDevice, numbers, is_in}
 use Rattle.firing_core.specs.Cores.{IsGood}
 use Rattle.firing_core.specs.CoreViews.{CoreValue, core_of, program_of, slot_at, AllExports, AllFlights, FlightOf, IsCore}

@@ -3,10 +3,10 @@ use Rattle.std.specs.Prelude.{ℕ, ◌≡◌, List, [], ◌∷◌, map, length, 
 use Rattle.fc_values.specs.declared.exports.Export.{Export}
 use Rattle.fc_nodes.specs.Program.{Program, Unfolding, unfolding_of}
 use Rattle.fc_values.specs.Exports.{FlatExport, export_of}
-use Rattle.device_eval.specs.declared.value_trees.Near.{Near}
-use Rattle.device_eval.specs.declared.value_trees.Snap.{Snap}
-use Rattle.device_eval.specs.Copies.{WhereSome}
-use Rattle.device_eval.specs.Snaps.{tree_of, snap_copy, IsExportOf, IsSnap}
+use Rattle.value_trees.specs.declared.copies.Near.{Near}
+use Rattle.value_trees.specs.declared.copies.Snap.{Snap}
+use Rattle.value_trees.specs.Copies.{WhereSome}
+use Rattle.value_trees.specs.Snaps.{tree_of, snap_copy, IsExportOf, IsSnap}
 use Rattle.firing_core.specs.Networks.{Network, IsNetwork, numbers}
 use Rattle.firing_core.specs.Cores.{Map, Core}
 

@@ -3,7 +3,8 @@ use Rattle.std.specs.Prelude.{ℕ, ◌≡◌, List, [], ◌∷◌, Option, Some,
 use Rattle.fc_values.specs.Trees.{TreeExport, NearCopy, Copy}
 use Rattle.fc_nodes.specs.Program.{Unfolding}
 use Rattle.fc_nodes.specs.Flat.{IsWellTyped}
-use Rattle.device_eval.specs.Copies.{FitsCopy, EvaluatesCopy}
+use Rattle.value_trees.specs.Copies.{FitsCopy}
+use Rattle.device_eval.specs.Copies.{EvaluatesCopy}
 use Rattle.firing_core.specs.declared.entries.Entry.{Entry}
 use Rattle.firing_core.specs.declared.entries.Entry.TheVariants as entry
 use Rattle.firing_core.specs.Networks.{Network, Lives, inputs_in, near}

@@ -3,7 +3,7 @@ use Rattle.std.specs.Prelude.{ℕ, Bool, true, false, ◌≡◌, ◌<◌, ◌≤
 use Rattle.fc_values.specs.Types.{Declarations}
 use Rattle.fc_values.specs.Values.{LocalValue, local_of}
 use Rattle.fc_values.specs.Fields.{Rises}
-use Rattle.device_eval.specs.Copies.{InputsFit}
+use Rattle.value_trees.specs.Copies.{InputsFit}
 use Rattle.firing_core.specs.declared.topology.Device.{Device}
 use Rattle.firing_core.specs.declared.topology.Link.{Link}
 

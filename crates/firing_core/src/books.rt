@@ -3,12 +3,13 @@
 use crate::cores::Core;
 use crate::entries::{Entry, ReplayFault, StepFault};
 use crate::snaps::copy_snap;
-use device_eval::{Fired, Snap, fire};
+use device_eval::{Fired, fire};
 use fc_nodes::Unfolded;
 use fc_values::Memory;
 use std::alloc::Global;
 use std::marker::Model;
 use std::sync::Arc;
+use value_trees::Snap;
 
 /// A log of steps, with its program, the core that it starts from, and the core to which it leads.
 #[derive(Drop)]
@@ -40,7 +41,7 @@ impl Book {
     ghost use Rattle.std.specs.Prelude.{◌≡◌, ◌↔◌, ◌≤◌, ◌+◌, [], IfOk, OnOk, OnErr, IfErr, IsErrOf, Some, None};
     ghost use Rattle.fc_values.specs.Trees.{Copy};
     ghost use Rattle.fc_nodes.specs.Program.{unfolding_of};
-    ghost use Rattle.device_eval.specs.Snaps.{snap_copy};
+    ghost use Rattle.value_trees.specs.Snaps.{snap_copy};
     ghost use Rattle.firing_core.specs.Replays.{fault_of};
     ghost use Rattle.firing_core.specs.CoreViews.{core_of};
     ghost use Rattle.firing_core.specs.Books.{IsBook, IsSameBook, AppendsEntry, HasFault, RefusesEntry};
@@ -205,7 +206,7 @@ impl Book {
 }
 
 ghost use Rattle.std.specs.Prelude.{◌≡◌, IfOk, IfErr, Some, None};
-ghost use Rattle.device_eval.specs.Snaps.{snap_copy, IsSnap};
+ghost use Rattle.value_trees.specs.Snaps.{snap_copy, IsSnap};
 ghost use Rattle.firing_core.specs.CoreViews.{core_of, program_of};
 ghost use Rattle.firing_core.specs.Books.{HasFault, FailsReplay, IsStuckReplay};
 ghost use Rattle.firing_core.specs.declared.entries.Entry.TheVariants as entry;

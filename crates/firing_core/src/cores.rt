@@ -4,12 +4,13 @@ use crate::entries::StepFault;
 use crate::snaps::{copy_exports, copy_flights, copy_locals, copy_own};
 use crate::topology::Network;
 use arrayvec::ArrayVec;
-use device_eval::{Fired, Near, Snap};
+use device_eval::Fired;
 use fc_nodes::Unfolded;
 use fc_values::{Export, Memory, copy_export};
 use std::alloc::Global;
 use std::marker::Model;
 use std::sync::Arc;
+use value_trees::{Near, Snap};
 
 /// A network of devices that run a program, with the export and the copy in flight of each.
 #[derive(Drop)]
@@ -53,7 +54,7 @@ impl Core {
     ghost use Rattle.std.specs.Prelude.{◌≡◌, ◌↔◌, ◌<◌, IfOk, OnOk, OnErr, IfErr, IfSome, IfNone, IsErrOf, IsSome, Some, None, true, false, option_copied, option_map, length, slice_index, map, ◌≤◌};
     ghost use Rattle.fc_values.specs.Trees.{Copy};
     ghost use Rattle.fc_nodes.specs.Program.{unfolding_of};
-    ghost use Rattle.device_eval.specs.Snaps.{snap_copy, tree_of, near_copy, NearAreExports, IsSnap, IsExportOf};
+    ghost use Rattle.value_trees.specs.Snaps.{snap_copy, tree_of, near_copy, NearAreExports, IsSnap, IsExportOf};
     ghost use Rattle.firing_core.specs.Networks.{lives, numbers, near as near_of};
     ghost use Rattle.firing_core.specs.Cores.{Step, IsGood, copy_of, near_copies};
     ghost use Rattle.firing_core.specs.Replays.{fault_of};

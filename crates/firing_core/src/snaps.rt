@@ -4,15 +4,15 @@ ghost use Rattle.std.specs.Prelude.{◌≡◌, ◌≤◌, length, map, option_ma
 ghost use Rattle.fc_values.specs.Values.{local_of};
 ghost use Rattle.fc_nodes.specs.Program.{Unfolding, unfolding_of};
 ghost use Rattle.fc_values.specs.Exports.{export_of};
-ghost use Rattle.device_eval.specs.Snaps.{snap_copy, IsSnap};
-ghost use Rattle.device_eval.specs.Copies.{WhereSome};
+ghost use Rattle.value_trees.specs.Snaps.{snap_copy, IsSnap};
+ghost use Rattle.value_trees.specs.Copies.{WhereSome};
 ghost use Rattle.firing_core.specs.CoreViews.{near_view, AllSnaps};
 
 use arrayvec::ArrayVec;
-use device_eval::{Near, Snap};
 use fc_nodes::Unfolded;
 use fc_values::{Export, Local, Memory, copy, copy_export};
 use std::alloc::Global;
+use value_trees::{Near, Snap};
 
 /// Copies of local values.
 pub(crate) fn copy_locals(alloc: Global, values: &[Local]) -> Result<Vec<Local>, Memory>

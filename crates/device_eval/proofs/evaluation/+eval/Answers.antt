@@ -6,7 +6,7 @@ use Rattle.fc_values.specs.Exports.{slots_of}
 use Rattle.fc_nodes.specs.Terms.{ByRep, ByShare}
 use Rattle.device_eval.specs.Evaluation.{pick}
 use Rattle.fc_nodes.proofs.Places.{formed_above}
-use Rattle.device_eval.specs.References.{flat_of}
+use Rattle.alignment.specs.References.{flat_of}
 use Rattle.device_eval.specs.Contexts.{situation_in, vars_of}
 use Rattle.device_eval.proofs.SlotLists.{slots_long}
 use Rattle.device_eval.proofs.LeafAt.{lit_done, variable_bound, variable_done, sense_there, sense_done, uid_done, links_done}
@@ -343,8 +343,8 @@ eval_nbr-into_local-own-requires t c =
     let ns = c.args.context.now.program.now.nodes in
     nbr_is_local ns (formed_above ns c.requires.formed.formed) c.args.context.now.layout.now c.args.place c.requires.stands _ c.args.node.now.kids.items c.requires.node (situation_in c.args.context.now) (vars_of c.args.vars.now) (flat_of c.args.env.now) (slots_of c.args.draft.now) c.requires.can c.index.result.now c.index.ensures (value_of c.in_ok-value.value) (slots_of c.eval.new.draft) c.in_ok-value.ensures
 
-pub eval_nbr-said-requires : goal.eval_nbr-said-requires
-eval_nbr-said-requires t c =
+pub eval_nbr-heard_with-requires : goal.eval_nbr-heard_with-requires
+eval_nbr-heard_with-requires t c =
     let ns = c.args.context.now.program.now.nodes in
     nbr_near ns (formed_above ns c.requires.formed.formed) c.args.context.now.layout.now c.args.place c.requires.stands _ c.args.node.now.kids.items c.requires.node (situation_in c.args.context.now) (vars_of c.args.vars.now) (flat_of c.args.env.now) (slots_of c.args.draft.now) c.requires.can c.slot_of-slot.result c.slot_of-slot.ensures
 

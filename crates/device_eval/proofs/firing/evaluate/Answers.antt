@@ -5,8 +5,8 @@ use Rattle.fc_values.specs.Exports.{slots_of}
 use Rattle.fc_nodes.specs.Program.{unfolding_of}
 use Rattle.fc_nodes.specs.Flat.{IsExport, tree_export}
 use Rattle.device_eval.specs.Copies.{EvaluatesCopy}
-use Rattle.device_eval.specs.Snaps.{snap_copy}
-use Rattle.device_eval.specs.References.{flat_of}
+use Rattle.value_trees.specs.Snaps.{snap_copy}
+use Rattle.alignment.specs.References.{flat_of}
 use Rattle.device_eval.proofs.RootSteps.{root_stands, root_can, root_local, root_export, root_evaluates, situation_as}
 use Rattle.device_eval.proofs.firing.evaluate.Goals as goal
 

@@ -1,5 +1,6 @@
 use Rattle.std.proofs.Common.{◌≡◌, drop, map, ◌++◌}
-use Rattle.device_eval.specs.References.{nears_of, snap_near}
+use Rattle.alignment.specs.References.{nears_of}
+use Rattle.device_eval.specs.References.{snap_near}
 use Rattle.device_eval.proofs.firing.root_env.Given as goal
 
 abbrev pub invariant-loop-n : goal.invariant-loop-n

@@ -1,5 +1,5 @@
 use Rattle.device_eval.proofs.OneExport.{program_export}
-use Rattle.device_eval.specs.Snaps.{snap_copy}
+use Rattle.value_trees.specs.Snaps.{snap_copy}
 use Rattle.fc_nodes.specs.Program.{unfolding_of}
 use Rattle.device_eval.proofs.laws.one_export.Goals as goal
 

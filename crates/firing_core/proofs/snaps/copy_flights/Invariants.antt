@@ -1,7 +1,7 @@
 use Rattle.std.proofs.Common.{◌≡◌, take, drop, map}
 use Rattle.std.specs.Prelude.{option_map}
 use Rattle.fc_nodes.specs.Program.{unfolding_of}
-use Rattle.device_eval.specs.Snaps.{snap_copy}
+use Rattle.value_trees.specs.Snaps.{snap_copy}
 use Rattle.firing_core.specs.CoreViews.{AllSnaps}
 use Rattle.firing_core.proofs.snaps.copy_flights.Given as goal
 

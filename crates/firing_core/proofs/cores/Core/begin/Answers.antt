@@ -1,7 +1,7 @@
 use Rattle.std.proofs.Common.{◌≡◌, sym, subst, ap, Some, None, arith}
 use Rattle.std.specs.Prelude.{slice_set}
 use Rattle.fc_values.specs.Trees.{Copy}
-use Rattle.device_eval.specs.Snaps.{snap_copy, IsSnap}
+use Rattle.value_trees.specs.Snaps.{snap_copy, IsSnap}
 use Rattle.firing_core.specs.Networks.{Lives}
 use Rattle.firing_core.specs.Cores.{begun, copy_of}
 use Rattle.firing_core.specs.Replays.{fault_of}

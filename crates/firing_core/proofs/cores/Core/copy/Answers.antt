@@ -2,7 +2,7 @@ use Rattle.std.proofs.Common.{◌≡◌, ◌∙◌, sym, ap, subst, map}
 use Rattle.std.specs.Prelude.{option_map}
 use Rattle.fc_values.specs.Exports.{export_of}
 use Rattle.fc_nodes.specs.Program.{Program, unfolding_of}
-use Rattle.device_eval.specs.Snaps.{snap_copy}
+use Rattle.value_trees.specs.Snaps.{snap_copy}
 use Rattle.firing_core.specs.CoreViews.{AllSnaps, IsCore, core_of, program_of}
 use Rattle.firing_core.specs.contracts.cores.Core.{the_view}
 use Rattle.firing_core.proofs.CoreCopies.{snaps_of, copied_kept, copied_core}

@@ -1,7 +1,7 @@
 use Rattle.std.proofs.Common.{◌≡◌, ◌∙◌, sym, subst, ap, Some, None, arith}
 use Rattle.std.specs.Prelude.{slice_set}
-use Rattle.device_eval.specs.declared.value_trees.Snap.{Snap}
-use Rattle.device_eval.specs.Snaps.{snap_copy}
+use Rattle.value_trees.specs.declared.copies.Snap.{Snap}
+use Rattle.value_trees.specs.Snaps.{snap_copy}
 use Rattle.fc_values.specs.Trees.{Copy}
 use Rattle.firing_core.specs.Cores.{Ends}
 use Rattle.firing_core.specs.Replays.{fault_of}

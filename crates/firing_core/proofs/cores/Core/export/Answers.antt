@@ -1,6 +1,6 @@
 use Rattle.std.proofs.Common.{◌≡◌, ◌∙◌, sym, subst}
 use Rattle.std.specs.Prelude.{option_map, IfSome}
-use Rattle.device_eval.specs.Snaps.{tree_of, IsExportOf}
+use Rattle.value_trees.specs.Snaps.{tree_of, IsExportOf}
 use Rattle.firing_core.specs.CoreViews.{CoreValue, core_of, program_of}
 use Rattle.firing_core.proofs.Slots.{slot_none}
 use Rattle.firing_core.proofs.CoreSteps.{export_at, export_within, export_kept}

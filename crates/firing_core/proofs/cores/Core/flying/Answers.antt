@@ -1,6 +1,6 @@
 use Rattle.std.proofs.Common.{◌≡◌, ◌∙◌, sym, subst, arith}
 use Rattle.std.specs.Prelude.{option_map, IfSome}
-use Rattle.device_eval.specs.Snaps.{snap_copy, IsSnap}
+use Rattle.value_trees.specs.Snaps.{snap_copy, IsSnap}
 use Rattle.firing_core.specs.Networks.{numbers}
 use Rattle.firing_core.specs.CoreViews.{CoreValue, core_of, program_of}
 use Rattle.firing_core.proofs.Slots.{slot_none}

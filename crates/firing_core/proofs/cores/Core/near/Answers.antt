@@ -1,6 +1,6 @@
 use Rattle.std.proofs.Common.{◌≡◌, sym, ap, subst, arith}
 use Rattle.fc_nodes.specs.Flat.{IsExport, tree_export}
-use Rattle.device_eval.specs.Snaps.{tree_of}
+use Rattle.value_trees.specs.Snaps.{tree_of}
 use Rattle.firing_core.specs.CoreViews.{core_of, program_of}
 use Rattle.firing_core.proofs.NearSteps.{near_more, near_less, exports_more, longer}
 use Rattle.firing_core.proofs.cores.Core.near.Goals as goal

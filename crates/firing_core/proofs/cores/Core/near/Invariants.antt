@@ -1,5 +1,5 @@
 use Rattle.std.proofs.Common.{◌≡◌, ◌++◌, ◌≤◌, drop, map, length}
-use Rattle.device_eval.specs.Snaps.{near_copy, NearAreExports}
+use Rattle.value_trees.specs.Snaps.{near_copy, NearAreExports}
 use Rattle.firing_core.specs.Networks.{near}
 use Rattle.firing_core.specs.Cores.{near_copies}
 use Rattle.firing_core.specs.CoreViews.{core_of, program_of}

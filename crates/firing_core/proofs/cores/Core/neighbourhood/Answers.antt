@@ -2,8 +2,8 @@ use Rattle.std.proofs.Common.{◌≡◌, ◌<◌, List, ◌∙◌, sym, ap, subs
 use Rattle.std.proofs.lemmas.List.{length-map}
 use Rattle.fc_values.specs.Values.{local_of}
 use Rattle.fc_values.specs.Exports.{export_of}
-use Rattle.device_eval.specs.declared.value_trees.Snap.{Snap}
-use Rattle.device_eval.specs.Snaps.{snap_copy, near_copy, NearAreExports, IsSnap}
+use Rattle.value_trees.specs.declared.copies.Snap.{Snap}
+use Rattle.value_trees.specs.Snaps.{snap_copy, near_copy, NearAreExports, IsSnap}
 use Rattle.firing_core.specs.declared.topology.Device.{Device}
 use Rattle.firing_core.specs.Networks.{NetDevice, device_of, numbers, inputs_in, near}
 use Rattle.firing_core.specs.Cores.{copy_of, near_copies}

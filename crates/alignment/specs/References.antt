@@ -1,0 +1,24 @@
+-- What references in code stand for.
+use Rattle.std.specs.Prelude.{List, map, option_map}
+use Rattle.std.specs.Borrow.{Bor}
+use Rattle.fc_values.specs.declared.exports.Slots.{Slots}
+use Rattle.fc_values.specs.Exports.{SlotValue, slots_of}
+use Rattle.alignment.specs.declared.environments.NearRef.{NearRef}
+use Rattle.alignment.specs.declared.environments.Env.{Env}
+use Rattle.alignment.specs.Slots.{FlatEnv, NearSlots}
+
+-- the slots behind a reference
+abbrev pub borrowed_slots : Bor Slots → List SlotValue
+borrowed_slots s = slots_of s.now.list.items
+
+-- an aligned neighbour
+abbrev pub near_of : NearRef → NearSlots
+near_of n = (n.device, n.weight, borrowed_slots n.slots)
+
+-- the aligned neighbours
+abbrev pub nears_of : List NearRef → List NearSlots
+nears_of ns = map near_of ns
+
+-- the environment that an environment in code stands for
+abbrev pub flat_of : Env → FlatEnv
+flat_of env = record { own = option_map borrowed_slots env.own; near = nears_of env.near.items }

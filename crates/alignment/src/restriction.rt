@@ -1,0 +1,42 @@
+//! Fields cut down to the aligned neighbours.
+
+ghost use Rattle.std.specs.Prelude.{◌≡◌, IfOk};
+ghost use Rattle.fc_values.specs.Fields.{entries_of, ValueField};
+ghost use Rattle.alignment.specs.Environments.{restricted, is_near as near_has};
+ghost use Rattle.alignment.specs.References.{flat_of, nears_of};
+
+use crate::environments::{Env, NearRef};
+use fc_values::{FieldVal, Memory, copy};
+use std::alloc::Global;
+
+/// A field cut down to the device and the aligned neighbours.
+pub fn restrict(
+    alloc: Global,
+    field: &FieldVal,
+    device: u32,
+    env: &Env<'_>,
+) -> Result<FieldVal, Memory>
+    ensures { IfOk result (λ f. ValueField (entries_of f) ≡ restricted device (flat_of env.now).near (ValueField (entries_of field.now))) }
+{
+    let mut entries = Vec::new(alloc);
+    let near = env.near.as_slice();
+    let all = field.entries.as_slice();
+    for (d, value) in all {
+        if *d == device || is_near(near, *d) {
+            entries.push((*d, copy(alloc, value)?))?;
+        }
+    }
+    Ok(FieldVal { entries })
+}
+
+/// Whether a device is among the neighbours.
+fn is_near(near: &[NearRef<'_>], device: u32) -> bool
+    ensures { result ≡ near_has device (nears_of near.now) }
+{
+    for n in near {
+        if n.device == device {
+            return true;
+        }
+    }
+    false
+}

@@ -1,0 +1,125 @@
+//! Which slot each kept place of a program has.
+
+ghost use Rattle.std.specs.Prelude.{◌≡◌, ◌<◌, ◌^◌, [], ◌∷◌, ◌++◌, IfOk, OnOk, length, option_map, option_to_list};
+ghost use Rattle.fc_values.specs.Types.{local_type_of, type_of};
+ghost use Rattle.fc_values.specs.BuiltinTypes.{inner as inner_type};
+ghost use Rattle.fc_values.specs.Values.{local_of, form_of};
+ghost use Rattle.fc_nodes.specs.Terms.{node_keeps};
+ghost use Rattle.fc_nodes.specs.Program.{IsProgram};
+ghost use Rattle.flat_exports.specs.Layouts.{IsLayout, number_in, forms_of};
+
+use fc_nodes::{Node, Op, Unfolded};
+use fc_values::{Local, LocalTy, Memory, Ty};
+use std::alloc::Global;
+use std::marker::Model;
+
+/// The slot of each kept place of a program, and a value of each slot's type.
+#[derive(Drop)]
+pub struct Layout {
+    numbers: Vec<Option<u32>>,
+    pub(crate) blanks: Vec<Local>,
+}
+
+impl Model for Layout {
+    ghost use Rattle.std.specs.Prelude.{◌<◌, ◌^◌, length};
+    ghost use Rattle.std.specs.Coded.{codes};
+    ghost use Rattle.fc_values.specs.contracts.values.Local as local;
+    ghost use Rattle.flat_exports.specs.Layouts.{LayoutValue};
+
+    ghost Value = { LayoutValue };
+
+    ghost coded = { Prim.hlevel (codes, local.the_row.coded) };
+
+    ghost view = { λ l. record { numbers = l.numbers.items; blanks = l.blanks.items } };
+
+    ghost invariant = { λ l. length l.blanks.items < 2 ^ 32 };
+}
+
+impl Layout {
+    /// The layout of a program.
+    pub fn new(alloc: Global, program: &Unfolded) -> Result<Layout, Memory>
+        ensures layout { IfOk result (λ l. IsLayout program.now.nodes l) }
+        ensures program { IsProgram program.now }
+    {
+        let mut numbers = Vec::new(alloc);
+        let mut blanks = Vec::new(alloc);
+        for place in 0..program.size() {
+            add(alloc, program.node(place), &mut numbers, &mut blanks)?;
+        }
+        Ok(Layout { numbers, blanks })
+    }
+
+    /// The slot of a kept place, and none for another place.
+    pub fn slot(&self, place: u32) -> Option<u32>
+        ensures { result ≡ number_in self.now place }
+    {
+        match self.numbers.get(place as usize) {
+            Some(number) => *number,
+            None => None,
+        }
+    }
+
+    /// The number of slots.
+    pub fn slots(&self) -> u32
+        ensures { result ≡ length self.now.blanks }
+    {
+        self.blanks.len() as u32
+    }
+}
+
+/// Adds a node, and a slot for it if it keeps a value.
+fn add(
+    alloc: Global,
+    node: &Node,
+    numbers: &mut Vec<Option<u32>>,
+    blanks: &mut Vec<Local>,
+) -> Result<(), Memory>
+    requires { length blanks.old.items < 2 ^ 32 }
+    ensures numbers { OnOk result (numbers.new.items ≡ numbers.old.items ++ option_map (λ t. length blanks.old.items) (node_keeps node.now) ∷ []) }
+    ensures blanks { OnOk result (forms_of blanks.new.items ≡ forms_of blanks.old.items ++ option_to_list (node_keeps node.now)) }
+{
+    match blank(alloc, node)? {
+        Some(value) => {
+            numbers.push(Some(blanks.len() as u32))?;
+            blanks.push(value)?;
+        }
+        None => numbers.push(None)?,
+    }
+    Ok(())
+}
+
+/// A value of the type that a node keeps, if it keeps one.
+fn blank(alloc: Global, node: &Node) -> Result<Option<Local>, Memory>
+    ensures { IfOk result (λ o. option_map (λ v. form_of (local_of v)) o ≡ node_keeps node.now) }
+{
+    match &node.op {
+        Op::Nbr | Op::Rep | Op::Share => Ok(Some(blank_of(alloc, inner(&node.ty))?)),
+        Op::If => Ok(Some(Local::Bool(false))),
+        _ => Ok(None),
+    }
+}
+
+/// The local type in a type.
+fn inner(ty: &Ty) -> &LocalTy
+    ensures { local_type_of result.now ≡ inner_type (type_of ty.now) }
+{
+    match ty {
+        Ty::Local(t) => t,
+        Ty::Field(t) => t,
+    }
+}
+
+/// A value of a type.
+fn blank_of(alloc: Global, ty: &LocalTy) -> Result<Local, Memory>
+    ensures { IfOk result (λ v. form_of (local_of v) ≡ local_type_of ty.now) }
+{
+    match ty {
+        LocalTy::Int => Ok(Local::Int(0)),
+        LocalTy::Bool => Ok(Local::Bool(false)),
+        LocalTy::Pair(a, b) => {
+            let first = Box::new(alloc, blank_of(alloc, a)?)?;
+            let second = Box::new(alloc, blank_of(alloc, b)?)?;
+            Ok(Local::Pair(first, second))
+        }
+    }
+}

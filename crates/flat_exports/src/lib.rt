@@ -1,0 +1,8 @@
+//! Exports as flat slots: the layout of a program's kept places, and drafts that are filled slot by slot.
+#![tactic(auto)]
+
+mod drafts;
+mod layouts;
+
+pub use drafts::Draft;
+pub use layouts::Layout;
