@@ -15,7 +15,9 @@ use Rattle.device_eval.proofs.Numbers.{with_number}
 use Rattle.device_eval.proofs.Progress.{Gives, IsLocalOf, local_of_type}
 use Rattle.device_eval.proofs.OneExport.{main_gives}
 use Rattle.device_eval.proofs.Agree.{gives_rule, only_one}
-use Rattle.device_eval.proofs.Shapes.{have_long, kept_long, root_forms}
+use Rattle.fc_nodes.proofs.Kept.{kept_long}
+use Rattle.value_trees.proofs.Forms.{have_long}
+use Rattle.device_eval.proofs.Shapes.{root_forms}
 
 -- an export in slots has all slots of the program, and they are marked
 pub export_long : (U : Unfolding) (x : FlatExport) → IsExport U x → length x.slots ≡ kept U.main

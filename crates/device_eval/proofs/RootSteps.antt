@@ -25,7 +25,7 @@ use Rattle.device_eval.specs.References.{snap_near, snap_env}
 use Rattle.device_eval.specs.Walks.{Can, Did, CanAt, DidAt, Stands, IsLocal}
 use Rattle.flat_exports.proofs.Blanks.{have_forms}
 use Rattle.device_eval.proofs.Finish.{main_runs, main_local, finished_evaluates, finished_export}
-use Rattle.device_eval.proofs.Shapes.{have_long}
+use Rattle.value_trees.proofs.Forms.{have_long}
 use Rattle.device_eval.proofs.Steps.{can_all, did_all}
 
 -- no blank slot is kept

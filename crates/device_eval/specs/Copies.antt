@@ -1,5 +1,5 @@
 -- The export of a copy.
-use Rattle.std.specs.Prelude.{ℕ, ◌≡◌, [], map, option_map}
+use Rattle.std.specs.Prelude.{◌≡◌, [], map, option_map}
 use Rattle.fc_values.specs.Types.{Declarations}
 use Rattle.fc_values.specs.Fields.{ValueLocal}
 use Rattle.fc_values.specs.Trees.{TreeExport, NearCopy, Copy}

@@ -2,5 +2,11 @@
 #![tactic(auto)]
 
 mod copies;
+mod exports;
+mod fitting;
+mod walks;
 
 pub use copies::{Near, Snap};
+pub use exports::{kept, one_shape, overwrite_export};
+pub use fitting::snap_fits;
+pub use walks::well_typed;
