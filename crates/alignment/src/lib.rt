@@ -3,6 +3,8 @@
 
 mod environments;
 mod restriction;
+#[cfg(test)]
+mod tests;
 
 pub use environments::{Env, NearRef, same_branch};
 pub use restriction::restrict;
