@@ -2,5 +2,7 @@
 #![tactic(auto)]
 
 mod hearing;
+#[cfg(test)]
+mod tests;
 
 pub use hearing::{heard, heard_with, own_or};
