@@ -5,3 +5,4 @@ pub mod Turns
 pub mod Numbers
 pub mod Spans
 pub mod Digits
+pub mod Few

@@ -22,6 +22,7 @@ fn line_feeds(bytes: &[u8]) -> usize
 pub fn lex(alloc: Global, text: &[u8]) -> Result<Vec<Token>, LexFault>
     requires { length text.now ≤ 1048576 }
     ensures reads { IfOk result (λ tokens. Lexes text.now (tokens_of tokens.items)) }
+    ensures few { IfOk result (λ tokens. length tokens.items ≤ length text.now) }
     ensures only { IfOk result (λ tokens. IsAlone text.now (tokens_of tokens.items)) }
     ensures stops { IfErr result (λ fault. Stops text.now fault) }
     ensures nowhere { IfErr result (λ fault. StopsAlone text.now fault) }

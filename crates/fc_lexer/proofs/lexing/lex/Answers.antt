@@ -2,6 +2,7 @@ use Rattle.std.proofs.Common.{◌≡◌, ◌+◌, ◌-◌, ◌++◌, take, drop,
 use Rattle.fc_lexer.specs.Kinds.{token_kind, tokens_of}
 use Rattle.fc_lexer.specs.Lexes.{token_as}
 use Rattle.fc_lexer.proofs.Turns.{all_read, is_alone, next, next_piece, pushed_none, pushed_some, stops_alone, turn, turn_stuck}
+use Rattle.fc_lexer.proofs.Few.{few}
 use Rattle.fc_lexer.proofs.lexing.lex.Goals as goal
 use Rattle.fc_lexer.proofs.lexing.lex.Goals.{in-Some+in_ok-push, in_default}
 
@@ -46,3 +47,6 @@ pieces-smaller c = let l = next c.args.text.now c.pieces.at c.piece_size-size.re
 pub returns-clause-only : goal.returns-clause-only
 returns-clause-only c =
     is_alone c.args.text.now (tokens_of c.pieces.tokens.items) (all_read c.args.text.now c.pieces.at c.pieces.line (tokens_of c.pieces.tokens.items) c.pieces.invariant c.pieces-test.false)
+
+pub returns-clause-few : goal.returns-clause-few
+returns-clause-few c = few c.args.text.now c.pieces.tokens.items (all_read c.args.text.now c.pieces.at c.pieces.line (tokens_of c.pieces.tokens.items) c.pieces.invariant c.pieces-test.false)

@@ -1,0 +1,6 @@
+mod Apps
+mod Numbers
+mod Taken
+mod Spelled
+mod ReplayWords
+mod FormatWords

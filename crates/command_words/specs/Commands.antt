@@ -1,0 +1,31 @@
+-- The limits of a command's numbers.
+use Rattle.std.specs.Prelude.{ℕ, nat_lt, if◌then◌else◌, List, codes, Option, Some, None}
+use Rattle.std.specs.Option.{option_or}
+use Rattle.command_words.specs.declared.commands.Command.{Command}
+use Rattle.command_words.specs.declared.commands.Command.TheVariants.{Check, Stable, Run, Replay, Format, Gen, Trace, Mail}
+use Rattle.command_words.specs.declared.commands.Limit.{Limit}
+use Rattle.command_words.specs.declared.commands.Limit.TheVariants.{Workers, Devices}
+
+-- a limit's name in texts
+abbrev pub limit_name : Limit → List ℕ
+limit_name Workers = codes "workers"
+limit_name Devices = codes "devices"
+
+-- more than 16 workers pass the limit
+abbrev pub workers_limit : ℕ → Option (Limit × ℕ)
+workers_limit n = if nat_lt 16 n then Some (Workers, n) else None
+
+-- more than 512 devices pass the limit
+abbrev pub devices_limit : ℕ → Option (Limit × ℕ)
+devices_limit n = if nat_lt 512 n then Some (Devices, n) else None
+
+-- the limit that a command's numbers pass, with the number: workers are looked at before devices
+abbrev pub limit_of : Command → Option (Limit × ℕ)
+limit_of (Run workers log table) = workers_limit workers
+limit_of (Gen number devices workers) = option_or (workers_limit workers) (devices_limit devices)
+limit_of (Check facts) = None
+limit_of Stable = None
+limit_of (Replay rounds table) = None
+limit_of Format = None
+limit_of Trace = None
+limit_of (Mail number) = None

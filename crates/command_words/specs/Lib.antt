@@ -1,0 +1,4 @@
+pub mod Commands
+pub mod Settings
+pub mod Words
+pub mod Options

@@ -1,0 +1,87 @@
+-- The command that the words of a command line ask for.
+use Rattle.std.specs.Prelude.{ℕ, Bool, true, false, nat_le, is_some, if◌then◌else◌, List, [], ◌∷◌, codes, Option, Some, None, option_map, option_and_then, unwrap_or}
+use Rattle.std.specs.List.{list_all}
+use Rattle.std.specs.Str.{bytes_eq}
+use Rattle.command_words.specs.declared.commands.Command.{Command}
+use Rattle.command_words.specs.declared.commands.Command.TheVariants as command
+use Rattle.command_words.specs.declared.choices.Name.{Name}
+use Rattle.command_words.specs.declared.choices.Name.TheVariants.{Check, Stable, Run, Replay, Format, Gen, Trace, Mail}
+use Rattle.command_words.specs.declared.choices.Choices.{Choices}
+use Rattle.command_words.specs.declared.settings.Numbered.TheVariants.{Workers, Devices, Number}
+use Rattle.command_words.specs.declared.settings.Setting.{Setting}
+use Rattle.command_words.specs.declared.settings.Setting.TheVariants as set
+use Rattle.command_words.specs.Settings.{settings_of}
+
+-- the command that a word names
+abbrev pub name_of : List ℕ → Option Name
+name_of word =
+    if bytes_eq word (codes "check") then Some Check else
+    if bytes_eq word (codes "stable") then Some Stable else
+    if bytes_eq word (codes "run") then Some Run else
+    if bytes_eq word (codes "replay") then Some Replay else
+    if bytes_eq word (codes "format") then Some Format else
+    if bytes_eq word (codes "gen") then Some Gen else
+    if bytes_eq word (codes "trace") then Some Trace else
+    if bytes_eq word (codes "mail") then Some Mail else None
+
+-- the flags, options and numbers that a command takes: workers are at least 1, and devices at least 3
+abbrev pub allows : Name → Setting → Bool
+allows Check set.Facts = true
+allows Run (set.Option Workers n) = nat_le 1 n
+allows Run set.Log = true
+allows Run set.Table = true
+allows Replay set.Rounds = true
+allows Replay set.Table = true
+allows Gen (set.Alone n) = true
+allows Gen (set.Option Devices n) = nat_le 3 n
+allows Gen (set.Option Workers n) = nat_le 1 n
+allows Mail (set.Option Number n) = true
+allows name setting = false
+
+-- nothing is set
+abbrev pub no_choices : Choices
+no_choices = record { facts = false; log = false; table = false; rounds = false; workers = None; devices = None; number = None; alone = None }
+
+-- what is set with one setting more, each at most once
+abbrev pub with_setting : Setting → Choices → Option Choices
+with_setting set.Facts c = if c.facts then None else Some (record c { facts = true })
+with_setting set.Log c = if c.log then None else Some (record c { log = true })
+with_setting set.Table c = if c.table then None else Some (record c { table = true })
+with_setting set.Rounds c = if c.rounds then None else Some (record c { rounds = true })
+with_setting (set.Option Workers n) c = if is_some c.workers then None else Some (record c { workers = Some n })
+with_setting (set.Option Devices n) c = if is_some c.devices then None else Some (record c { devices = Some n })
+with_setting (set.Option Number n) c = if is_some c.number then None else Some (record c { number = Some n })
+with_setting (set.Alone n) c = if is_some c.alone then None else Some (record c { alone = Some n })
+
+-- the same with all of these
+abbrev pub all_set : Choices → List Setting → Option Choices
+all_set c [] = Some c
+all_set c (s ∷ more) = option_and_then (λ d. all_set d more) (with_setting s c)
+
+-- the command with what is set, and the defaults for the rest: 4 workers and 64 devices. `gen` needs its number
+abbrev pub command_with : Name → Choices → Option Command
+command_with Check c = Some (command.Check c.facts)
+command_with Stable c = Some command.Stable
+command_with Run c = Some (command.Run (unwrap_or c.workers 4) c.log c.table)
+command_with Replay c = Some (command.Replay c.rounds c.table)
+command_with Format c = Some command.Format
+command_with Gen c = option_map (λ n. command.Gen n (unwrap_or c.devices 64) (unwrap_or c.workers 4)) c.alone
+command_with Trace c = Some command.Trace
+command_with Mail c = Some (command.Mail c.number)
+
+-- the command of a name with its settings, if it takes each of them and none stands twice
+abbrev pub command_from : Name → List Setting → Option Command
+command_from name settings =
+    if list_all (allows name) settings then option_and_then (command_with name) (all_set no_choices settings) else None
+
+abbrev pub asked : Option Name → Option (List Setting) → Option Command
+asked (Some name) (Some settings) = command_from name settings
+asked (Some name) None = None
+asked None settings = None
+
+-- the command that the words ask for: the first word is the program's name and is ignored, the second names the command,
+-- and each further one sets something that this command takes. None where the words are outside
+abbrev pub command_of : List (List ℕ) → Option Command
+command_of [] = None
+command_of (program ∷ []) = None
+command_of (program ∷ name ∷ words) = asked (name_of name) (settings_of words)

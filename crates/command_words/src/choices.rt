@@ -1,0 +1,198 @@
+//! The commands' names, and the settings that each of them takes.
+
+ghost use Rattle.std.specs.Prelude.{◌≡◌};
+ghost use Rattle.std.specs.List.{list_all};
+ghost use Rattle.command_words.specs.Words.{all_set, allows, command_from, command_with, name_of, no_choices, with_setting};
+
+use crate::commands::Command;
+use crate::settings::{Numbered, Setting};
+
+/// The name of a command.
+#[derive(Clone, Copy, Debug, PartialEq, Eq)]
+pub enum Name {
+    Check,
+    Stable,
+    Run,
+    Replay,
+    Format,
+    Gen,
+    Trace,
+    Mail,
+}
+
+/// Which settings are there, each at most once.
+#[derive(Clone, Copy, Debug, PartialEq, Eq)]
+pub struct Choices {
+    facts: bool,
+    log: bool,
+    table: bool,
+    rounds: bool,
+    workers: Option<u32>,
+    devices: Option<u32>,
+    number: Option<u32>,
+    alone: Option<u32>,
+}
+
+/// The command that a word names.
+pub fn named(word: &str) -> Option<Name>
+    ensures { result ≡ name_of word.now }
+{
+    if word == "check" {
+        return Some(Name::Check);
+    }
+    if word == "stable" {
+        return Some(Name::Stable);
+    }
+    if word == "run" {
+        return Some(Name::Run);
+    }
+    if word == "replay" {
+        return Some(Name::Replay);
+    }
+    if word == "format" {
+        return Some(Name::Format);
+    }
+    if word == "gen" {
+        return Some(Name::Gen);
+    }
+    if word == "trace" {
+        return Some(Name::Trace);
+    }
+    if word == "mail" {
+        return Some(Name::Mail);
+    }
+    None
+}
+
+/// Whether a command takes a setting.
+fn takes(name: Name, setting: Setting) -> bool
+    ensures { result ≡ allows name setting }
+{
+    match (name, setting) {
+        (Name::Check, Setting::Facts) => true,
+        (Name::Run, Setting::Option(Numbered::Workers, count)) => 1 <= count,
+        (Name::Run, Setting::Log) => true,
+        (Name::Run, Setting::Table) => true,
+        (Name::Replay, Setting::Rounds) => true,
+        (Name::Replay, Setting::Table) => true,
+        (Name::Gen, Setting::Alone(_)) => true,
+        (Name::Gen, Setting::Option(Numbered::Devices, count)) => 3 <= count,
+        (Name::Gen, Setting::Option(Numbered::Workers, count)) => 1 <= count,
+        (Name::Mail, Setting::Option(Numbered::Number, _)) => true,
+        _ => false,
+    }
+}
+
+/// The choices with one setting more, if it isn't there yet.
+fn with(choices: Choices, setting: Setting) -> Option<Choices>
+    ensures { result ≡ with_setting setting choices }
+{
+    match setting {
+        Setting::Facts if !choices.facts => Some(Choices {
+            facts: true,
+            ..choices
+        }),
+        Setting::Log if !choices.log => Some(Choices {
+            log: true,
+            ..choices
+        }),
+        Setting::Table if !choices.table => Some(Choices {
+            table: true,
+            ..choices
+        }),
+        Setting::Rounds if !choices.rounds => Some(Choices {
+            rounds: true,
+            ..choices
+        }),
+        Setting::Option(Numbered::Workers, count) if choices.workers.is_none() => Some(Choices {
+            workers: Some(count),
+            ..choices
+        }),
+        Setting::Option(Numbered::Devices, count) if choices.devices.is_none() => Some(Choices {
+            devices: Some(count),
+            ..choices
+        }),
+        Setting::Option(Numbered::Number, number) if choices.number.is_none() => Some(Choices {
+            number: Some(number),
+            ..choices
+        }),
+        Setting::Alone(number) if choices.alone.is_none() => Some(Choices {
+            alone: Some(number),
+            ..choices
+        }),
+        _ => None,
+    }
+}
+
+/// All the settings, if none of them stands twice.
+fn collected(settings: &[Setting]) -> Option<Choices>
+    ensures { result ≡ all_set no_choices settings.now }
+{
+    let mut choices = Choices {
+        facts: false,
+        log: false,
+        table: false,
+        rounds: false,
+        workers: None,
+        devices: None,
+        number: None,
+        alone: None,
+    };
+    'settings: for setting in settings {
+        choices = with(choices, *setting)?;
+    }
+    Some(choices)
+}
+
+/// The command with what is chosen, and the defaults for the rest.
+fn chosen(name: Name, choices: Choices) -> Option<Command>
+    ensures { result ≡ command_with name choices }
+{
+    match name {
+        Name::Check => Some(Command::Check {
+            facts: choices.facts,
+        }),
+        Name::Stable => Some(Command::Stable),
+        Name::Run => Some(Command::Run {
+            workers: choices.workers.unwrap_or(4),
+            log: choices.log,
+            table: choices.table,
+        }),
+        Name::Replay => Some(Command::Replay {
+            rounds: choices.rounds,
+            table: choices.table,
+        }),
+        Name::Format => Some(Command::Format),
+        Name::Gen => {
+            let number = choices.alone?;
+            Some(Command::Gen {
+                number,
+                devices: choices.devices.unwrap_or(64),
+                workers: choices.workers.unwrap_or(4),
+            })
+        }
+        Name::Trace => Some(Command::Trace),
+        Name::Mail => Some(Command::Mail {
+            number: choices.number,
+        }),
+    }
+}
+
+/// Whether a command takes each of the settings.
+fn takes_all(name: Name, settings: &[Setting]) -> bool
+    ensures { result ≡ list_all (allows name) settings.now }
+{
+    settings.iter().all(|setting| takes(name, *setting))
+}
+
+/// The command of a name with its settings, if it takes them.
+pub fn command_of_settings(name: Name, settings: &[Setting]) -> Option<Command>
+    ensures { result ≡ command_from name settings.now }
+{
+    if takes_all(name, settings) {
+        let choices = collected(settings)?;
+        chosen(name, choices)
+    } else {
+        None
+    }
+}

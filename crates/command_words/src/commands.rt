@@ -1,0 +1,76 @@
+//! The commands, and the limits of their numbers.
+
+ghost use Rattle.std.specs.Prelude.{◌≡◌};
+ghost use Rattle.command_words.specs.Commands.{limit_of, limit_name};
+
+/// A command with its options.
+#[derive(Clone, Copy, Debug, PartialEq, Eq)]
+pub enum Command {
+    /// The verdict, and the facts of each node where they are asked for.
+    Check {
+        facts: bool,
+    },
+    /// The stabilised field.
+    Stable,
+    /// A script's run by so many workers, and its log and table where they are asked for.
+    Run {
+        workers: u32,
+        log: bool,
+        table: bool,
+    },
+    /// The values after a log, and its rounds and table where they are asked for.
+    Replay {
+        rounds: bool,
+        table: bool,
+    },
+    /// The canonical text of a program.
+    Format,
+    /// The summary of the scenario of a number, on so many devices, by so many workers.
+    Gen {
+        number: u32,
+        devices: u32,
+        workers: u32,
+    },
+    /// The walks.
+    Trace,
+    /// The values after a log of mail lines, or after the run that is driven by a number.
+    Mail {
+        number: Option<u32>,
+    },
+}
+
+/// What a number of the words may pass.
+#[derive(Clone, Copy, Debug, PartialEq, Eq)]
+pub enum Limit {
+    /// The workers, at most 16.
+    Workers,
+    /// The devices of `gen`, at most 512.
+    Devices,
+}
+
+impl Limit {
+    ghost use Rattle.std.specs.Prelude.{◌≡◌};
+    ghost use Rattle.command_words.specs.Commands.{limit_name};
+
+    /// The name in texts.
+    pub fn name(self) -> &'static str
+        ensures { result.now ≡ limit_name self }
+    {
+        match self {
+            Limit::Workers => "workers",
+            Limit::Devices => "devices",
+        }
+    }
+}
+
+/// The first limit that a number of the command passes, with this number.
+pub fn passed_limit(command: Command) -> Option<(Limit, u32)>
+    ensures { result ≡ limit_of command }
+{
+    match command {
+        Command::Run { workers, .. } if 16 < workers => Some((Limit::Workers, workers)),
+        Command::Gen { workers, .. } if 16 < workers => Some((Limit::Workers, workers)),
+        Command::Gen { devices, .. } if 512 < devices => Some((Limit::Devices, devices)),
+        _ => None,
+    }
+}

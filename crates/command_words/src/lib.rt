@@ -1,0 +1,14 @@
+//! The words of a command line, and the command that they ask for.
+#![tactic(auto)]
+
+mod choices;
+mod commands;
+mod options;
+mod settings;
+mod words;
+
+pub use commands::{Command, Limit, passed_limit};
+pub use words::command;
+
+#[cfg(test)]
+mod tests;

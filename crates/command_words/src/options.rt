@@ -1,0 +1,76 @@
+//! The options of `replay` and `format`, read by `clap`.
+
+ghost use Rattle.std.specs.Prelude.{◌≡◌, true, is_some, map, string_bytes, IfOk, IfErr};
+ghost use Rattle.clap.specs.Words.{HasMatchesOf, app_of, kind_of};
+ghost use Rattle.command_words.specs.Options.{format_app, format_of, replay_app, replay_of};
+
+use crate::commands::Command as Asked;
+use clap::error::ErrorKind;
+use clap::{Arg, ArgAction, ArgMatches, Command, Error};
+use fc_values::Memory;
+use std::alloc::{AllocError, Global};
+
+fn replay_options<'a>(alloc: Global) -> Result<Command<'a>, AllocError>
+    ensures { IfOk result (λ c. app_of c ≡ replay_app) }
+{
+    let rounds = Arg::new(alloc, "rounds")
+        .long("rounds")
+        .action(ArgAction::SetTrue);
+    let table = Arg::new(alloc, "table")
+        .long("table")
+        .action(ArgAction::SetTrue);
+    Command::new(alloc, "replay")
+        .disable_help_flag(true)
+        .disable_version_flag(true)
+        .arg(rounds)?
+        .arg(table)
+}
+
+fn format_options<'a>(alloc: Global) -> Command<'a>
+    ensures { app_of result ≡ format_app }
+{
+    Command::new(alloc, "format")
+        .disable_help_flag(true)
+        .disable_version_flag(true)
+}
+
+// The words begin with the command's. They are inside, so the parse fails for memory alone.
+fn replay_matches<'a>(alloc: Global, words: &'a [String]) -> Result<ArgMatches<'a>, Error>
+    requires { is_some (replay_of (map string_bytes words.now)) ≡ true }
+    ensures matches { IfOk result (HasMatchesOf replay_app (map string_bytes words.entry.now)) }
+    ensures memory { IfErr result (λ e. kind_of e ≡ ErrorKind.OutOfMemory) }
+{
+    replay_options(alloc)?.try_get_matches_from(words)
+}
+
+fn format_matches<'a>(alloc: Global, words: &'a [String]) -> Result<ArgMatches<'a>, Error>
+    requires { is_some (format_of (map string_bytes words.now)) ≡ true }
+    ensures { IfErr result (λ e. kind_of e ≡ ErrorKind.OutOfMemory) }
+{
+    format_options(alloc).try_get_matches_from(words)
+}
+
+/// The `replay` that the words ask for, of which the command's is the first.
+pub fn replay(alloc: Global, words: &[String]) -> Result<Asked, Memory>
+    requires { is_some (replay_of (map string_bytes words.now)) ≡ true }
+    ensures { IfOk result (λ asked. replay_of (map string_bytes words.now) ≡ Some asked) }
+{
+    match replay_matches(alloc, words) {
+        Ok(matches) => Ok(Asked::Replay {
+            rounds: matches.get_flag("rounds"),
+            table: matches.get_flag("table"),
+        }),
+        Err(_) => Err(Memory),
+    }
+}
+
+/// The `format` that the words ask for, of which the command's is the first.
+pub fn format(alloc: Global, words: &[String]) -> Result<Asked, Memory>
+    requires { is_some (format_of (map string_bytes words.now)) ≡ true }
+    ensures { IfOk result (λ asked. format_of (map string_bytes words.now) ≡ Some asked) }
+{
+    match format_matches(alloc, words) {
+        Ok(_) => Ok(Asked::Format),
+        Err(_) => Err(Memory),
+    }
+}

@@ -1,0 +1,37 @@
+//! The command that the words ask for.
+
+ghost use Rattle.std.specs.Prelude.{◌≡◌, IfOk, map, string_bytes};
+ghost use Rattle.command_words.specs.Words.{command_of};
+
+use crate::choices::{Name, command_of_settings, named};
+use crate::commands::Command;
+use crate::options::{format, replay};
+use crate::settings::settings;
+use fc_values::Memory;
+use std::alloc::Global;
+
+/// The command that the words ask for, if they ask for one: the first word is the program's name.
+pub fn command(alloc: Global, words: &[String]) -> Result<Option<Command>, Memory>
+    ensures { IfOk result (λ command. command ≡ command_of (map string_bytes words.now)) }
+{
+    let [_, asked @ ..] = words else {
+        return Ok(None);
+    };
+    let [word, further @ ..] = asked else {
+        return Ok(None);
+    };
+    let Some(name) = named(word.as_str()) else {
+        return Ok(None);
+    };
+    let Some(settings) = settings(alloc, further)? else {
+        return Ok(None);
+    };
+    let Some(command) = command_of_settings(name, settings.as_slice()) else {
+        return Ok(None);
+    };
+    match name {
+        Name::Replay => Ok(Some(replay(alloc, asked)?)),
+        Name::Format => Ok(Some(format(alloc, asked)?)),
+        _ => Ok(Some(command)),
+    }
+}

@@ -1,0 +1,12 @@
+pub mod Grammar
+pub mod Programs
+pub mod Limits
+pub mod Faults
+pub mod Reading
+pub mod Expressions
+pub mod Heads
+pub mod Types
+pub mod Declarations
+pub mod Places
+pub mod Laws
+pub mod RoundTrip

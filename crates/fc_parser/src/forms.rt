@@ -1,0 +1,256 @@
+//! The small pieces that expressions are read by and built of.
+
+ghost use Rattle.std.specs.Prelude.{◌≡◌, IfOk, true, ◌+◌, ◌≤◌, length};
+ghost use Rattle.fc_lexer.specs.Kinds.{kind_view};
+ghost use Rattle.fc_syntax.specs.Printable.{arity as arity_of};
+ghost use Rattle.fc_syntax.specs.Terms.{ApplyTerm, term_of};
+ghost use Rattle.fc_syntax.specs.Text.{builtin_strength};
+ghost use Rattle.fc_parser.specs.Expressions.{GivesAfter, GivesName, GivesOperator, GivesRest, after_nots, binder_read, count_nots, has_builtin as has, in_read, kinds_of, let_read, mark_read, name_read, negated, not_read, operator_read};
+ghost use Rattle.fc_parser.specs.Grammar.{named, one, operator as operator_of_kind, two};
+
+use crate::refused::Refused;
+use fc_lexer::{Kind, Mark, Token, Word};
+use fc_syntax::Expr;
+use fc_values::{Builtin, Memory, Name};
+use std::alloc::Global;
+
+/// What follows this mark, if it stands in front.
+#[tactic(auto, unfolding(crate::specs::Expressions::mark_read))]
+pub fn mark(tokens: &[Token], wanted: Mark) -> Option<&[Token]>
+    ensures { GivesAfter result (mark_read wanted (kinds_of tokens.now)) }
+{
+    let [
+        Token {
+            kind: Kind::Mark(mark),
+            ..
+        },
+        after @ ..,
+    ] = tokens
+    else {
+        return None;
+    };
+    if *mark == wanted { Some(after) } else { None }
+}
+
+/// What follows this mark.
+pub fn expect(tokens: &[Token], wanted: Mark) -> Result<&[Token], Refused>
+    ensures { GivesRest result (mark_read wanted (kinds_of tokens.now)) }
+{
+    match mark(tokens, wanted) {
+        Some(after) => Ok(after),
+        None => Err(Refused::Outside),
+    }
+}
+
+/// What follows `let`, if it stands in front.
+#[tactic(auto, unfolding(crate::specs::Expressions::let_read))]
+pub fn after_let(tokens: &[Token]) -> Option<&[Token]>
+    ensures { GivesAfter result (let_read (kinds_of tokens.now)) }
+{
+    match tokens {
+        [
+            Token {
+                kind: Kind::Word(Word::Let),
+                ..
+            },
+            after @ ..,
+        ] => Some(after),
+        _ => None,
+    }
+}
+
+/// What follows `in`.
+#[tactic(auto, unfolding(crate::specs::Expressions::in_read))]
+pub fn expect_in(tokens: &[Token]) -> Result<&[Token], Refused>
+    ensures { GivesRest result (in_read (kinds_of tokens.now)) }
+{
+    match tokens {
+        [
+            Token {
+                kind: Kind::Word(Word::In),
+                ..
+            },
+            after @ ..,
+        ] => Ok(after),
+        _ => Err(Refused::Outside),
+    }
+}
+
+/// What follows `not`, if it stands in front.
+#[tactic(auto, unfolding(crate::specs::Expressions::not_read))]
+fn after_not(tokens: &[Token]) -> Option<&[Token]>
+    ensures { GivesAfter result (not_read (kinds_of tokens.now)) }
+{
+    match tokens {
+        [
+            Token {
+                kind: Kind::Word(Word::Not),
+                ..
+            },
+            after @ ..,
+        ] => Some(after),
+        _ => None,
+    }
+}
+
+/// A name, and what follows it.
+#[tactic(auto, unfolding(crate::specs::Expressions::name_read))]
+pub fn name(tokens: &[Token]) -> Result<(&Name, &[Token]), Refused>
+    ensures { GivesName result (name_read (kinds_of tokens.now)) }
+{
+    match tokens {
+        [
+            Token {
+                kind: Kind::Name(name),
+                ..
+            },
+            after @ ..,
+        ] => Ok((name, after)),
+        _ => Err(Refused::Outside),
+    }
+}
+
+/// The name that `{ ( NAME ) =>` binds, and what follows.
+#[tactic(auto, unfolding(crate::specs::Expressions::binder_read))]
+pub fn binder(tokens: &[Token]) -> Result<(&Name, &[Token]), Refused>
+    ensures { GivesName result (binder_read (kinds_of tokens.now)) }
+{
+    let rest = expect(tokens, Mark::OpenCurly)?;
+    let rest = expect(rest, Mark::OpenRound)?;
+    let (name, rest) = name(rest)?;
+    let rest = expect(rest, Mark::CloseRound)?;
+    let rest = expect(rest, Mark::Arrow)?;
+    Ok((name, rest))
+}
+
+/// How many `not` stand in front, and what follows them.
+pub fn nots(tokens: &[Token]) -> (usize, &[Token])
+    ensures many { result.0 ≡ count_nots (kinds_of tokens.now) }
+    ensures rest { kinds_of result.1.now ≡ after_nots (kinds_of tokens.now) }
+{
+    let mut many = 0;
+    let mut rest = tokens;
+    'nots: while let Some(after) = after_not(rest) {
+        many += 1;
+        rest = after;
+    }
+    (many, rest)
+}
+
+/// The builtin that stands between two operands.
+fn builtin_between(kind: &Kind) -> Option<Builtin>
+    ensures { result ≡ operator_of_kind (kind_view kind.now) }
+{
+    match kind {
+        Kind::Word(Word::Or) => Some(Builtin::Or),
+        Kind::Word(Word::And) => Some(Builtin::And),
+        Kind::Mark(Mark::Less) => Some(Builtin::Less),
+        Kind::Mark(Mark::Is) => Some(Builtin::Equal),
+        Kind::Mark(Mark::Plus) => Some(Builtin::Add),
+        Kind::Mark(Mark::Minus) => Some(Builtin::Sub),
+        Kind::Mark(Mark::Star) => Some(Builtin::Mul),
+        _ => None,
+    }
+}
+
+fn strength(builtin: Builtin) -> u32
+    ensures { result ≡ builtin_strength builtin }
+{
+    match builtin {
+        Builtin::Or => 1,
+        Builtin::And => 2,
+        Builtin::Less | Builtin::Equal => 3,
+        Builtin::Add | Builtin::Sub => 4,
+        Builtin::Mul => 5,
+        Builtin::Not => 6,
+        _ => 7,
+    }
+}
+
+/// The operator of this strength that stands in front, if one does, and what follows it.
+#[tactic(auto, unfolding(crate::specs::Expressions::operator_read))]
+pub fn operator(tokens: &[Token], wanted: u32) -> Option<(Builtin, &[Token])>
+    ensures { GivesOperator result (operator_read wanted (kinds_of tokens.now)) }
+{
+    let [first, after @ ..] = tokens else {
+        return None;
+    };
+    match builtin_between(&first.kind) {
+        Some(builtin) if strength(builtin) == wanted => Some((builtin, after)),
+        _ => None,
+    }
+}
+
+/// The builtin that this word names.
+pub fn builtin_of(word: Word) -> Option<Builtin>
+    ensures { result ≡ named word }
+{
+    match word {
+        Word::Min => Some(Builtin::Min),
+        Word::Max => Some(Builtin::Max),
+        Word::Mux => Some(Builtin::Mux),
+        Word::Fst => Some(Builtin::Fst),
+        Word::Snd => Some(Builtin::Snd),
+        Word::MinHoodLoc => Some(Builtin::MinHoodLoc),
+        Word::MaxHoodLoc => Some(Builtin::MaxHoodLoc),
+        Word::SumHood => Some(Builtin::SumHood),
+        Word::AnyHood => Some(Builtin::AnyHood),
+        Word::AllHood => Some(Builtin::AllHood),
+        Word::Rise => Some(Builtin::Rise),
+        _ => None,
+    }
+}
+
+/// Whether a language, 2 or 1, has this builtin.
+pub fn has_builtin(second: bool, builtin: Builtin) -> bool
+    ensures { result ≡ has second builtin }
+{
+    match builtin {
+        Builtin::Rise => second,
+        _ => true,
+    }
+}
+
+/// How many arguments a builtin has.
+pub fn arity(builtin: Builtin) -> usize
+    ensures { result ≡ arity_of builtin }
+{
+    match builtin {
+        Builtin::Not | Builtin::Fst | Builtin::Snd => 1,
+        Builtin::SumHood | Builtin::AnyHood | Builtin::AllHood => 1,
+        Builtin::Mux | Builtin::Rise => 3,
+        _ => 2,
+    }
+}
+
+/// A name's copy.
+pub fn copy_name(alloc: Global, name: &Name) -> Result<Name, Memory>
+    ensures { IfOk result (λ copy. copy.text.items ≡ name.now.text.items) }
+{
+    Ok(Name {
+        text: name.text.to_vec(alloc)?,
+    })
+}
+
+/// A builtin of two operands.
+pub fn apply_two(alloc: Global, builtin: Builtin, left: Expr, right: Expr) -> Result<Expr, Memory>
+    ensures { IfOk result (λ e. term_of e ≡ ApplyTerm builtin (two (term_of left) (term_of right))) }
+{
+    let mut args = Vec::new(alloc);
+    args.push(left)?;
+    args.push(right)?;
+    Ok(Expr::Apply(builtin, args))
+}
+
+/// An operand behind so many `not`.
+pub fn negate(alloc: Global, operand: Expr, many: usize) -> Result<Expr, Memory>
+    ensures { IfOk result (λ e. term_of e ≡ negated many (term_of operand)) }
+{
+    let mut whole = operand;
+    for _ in 0..many {
+        let mut args = Vec::new(alloc);
+        args.push(whole)?;
+        whole = Expr::Apply(Builtin::Not, args);
+    }
+    Ok(whole)
+}

@@ -1,0 +1,72 @@
+-- What the declarations before have declared.
+use Rattle.std.specs.Prelude.{ℕ, if◌then◌else◌, List, [], ◌∷◌, ◌++◌, Option, Some, None, bytes_eq}
+use Rattle.fc_values.specs.Types.{ValueType, Input, Declarations}
+use Rattle.fc_syntax.specs.Terms.{Term, Parameter, Declaration, LanguageIs, CeilingIs, InputIs, MetricIs, DefIs, MainIs}
+
+-- a defined function: its name, its parameters, the type of its result, and its body
+pub record Function : Type 0 where
+  pub name : List ℕ
+  pub params : List Parameter
+  pub result : ValueType
+  pub body : Term
+
+-- the ceiling, the inputs and the functions in order, and the least and greatest of the metric where there is one
+pub record Before : Type 0 where
+  pub ceiling : ℕ
+  pub inputs : List Input
+  pub metric : Option (ℕ × ℕ)
+  pub functions : List Function
+
+-- before the first declaration
+abbrev pub nothing : Before
+nothing = record { ceiling = 0; inputs = []; metric = None; functions = [] }
+
+-- a declaration more
+abbrev pub and_then : Before → Declaration → Before
+and_then B (LanguageIs n) = B
+and_then B (CeilingIs n) = record { ceiling = n; inputs = B.inputs; metric = B.metric; functions = B.functions }
+and_then B (InputIs x t) = record { ceiling = B.ceiling; inputs = B.inputs ++ record { name = x; type = t } ∷ []; metric = B.metric; functions = B.functions }
+and_then B (MetricIs least greatest) = record { ceiling = B.ceiling; inputs = B.inputs; metric = Some (least, greatest); functions = B.functions }
+and_then B (DefIs f params result body) =
+    record { ceiling = B.ceiling; inputs = B.inputs; metric = B.metric; functions = B.functions ++ record { name = f; params = params; result = result; body = body } ∷ [] }
+and_then B (MainIs e) = B
+
+abbrev pub and_all : Before → List Declaration → Before
+and_all B [] = B
+and_all B (d ∷ ds) = and_all (and_then B d) ds
+
+-- what a program declares; without a metric it is 1..1
+abbrev pub least_of : Option (ℕ × ℕ) → ℕ
+least_of None = 1
+least_of (Some m) = m.0
+
+abbrev pub greatest_of : Option (ℕ × ℕ) → ℕ
+greatest_of None = 1
+greatest_of (Some m) = m.1
+
+abbrev pub declared_before : Before → Declarations
+declared_before B = record { ceiling = B.ceiling; inputs = B.inputs; least = least_of B.metric; greatest = greatest_of B.metric }
+
+abbrev pub declared_by : List Declaration → Declarations
+declared_by ds = declared_before (and_all nothing ds)
+
+-- the input, and the function, of a name
+abbrev pub input_named : List ℕ → List Input → Option Input
+input_named x [] = None
+input_named x (i ∷ is) = if bytes_eq x i.name then Some i else input_named x is
+
+abbrev pub function_named : List ℕ → List Function → Option Function
+function_named x [] = None
+function_named x (f ∷ fs) = if bytes_eq x f.name then Some f else function_named x fs
+
+-- the parameters and binders in scope, each with its type, the nearest first
+abbrev pub Scope : Type 0
+Scope = List Parameter
+
+abbrev pub bind : List ℕ → ValueType → Scope → Scope
+bind x t scope = record { name = x; type = t } ∷ scope
+
+-- the type of the nearest that has a name
+abbrev pub type_in : List ℕ → Scope → Option ValueType
+type_in x [] = None
+type_in x (p ∷ scope) = if bytes_eq x p.name then Some p.type else type_in x scope

@@ -1,0 +1,81 @@
+-- The typing rules.
+use Rattle.std.specs.Prelude.{ℕ, ◌≡◌, ◌≤◌, Bool, List, [], ◌∷◌, ◌++◌, map, Some, None}
+use Rattle.fc_values.specs.declared.builtins.Builtin.{Builtin}
+use Rattle.fc_values.specs.declared.types.InputTy.{InputTy}
+use Rattle.fc_values.specs.declared.types.InputTy.TheVariants as input
+use Rattle.fc_values.specs.Types.{LocalType, IntType, BoolType, ValueType, TypeLocal, TypeField, Input, input_type, leaves}
+use Rattle.fc_values.specs.BuiltinTypes.{HasRule, inner}
+use Rattle.fc_syntax.specs.Terms.{Term, IntTerm, TruthTerm, VarTerm, UidTerm, NbrLinkTerm, SenseTerm, ApplyTerm, NbrTerm, RepTerm, ShareTerm, IfTerm, LetTerm, CallTerm, Terms, NoTerms, MoreTerms, Parameter, Declaration, LanguageIs, CeilingIs, InputIs, MetricIs, DefIs, MainIs}
+use Rattle.fc_types.specs.Before.{Function, Before, nothing, and_then, input_named, function_named, Scope, bind, type_in}
+
+-- no parameter or binder in scope has the name
+abbrev pub IsFree : List ℕ → Scope → Type 0
+IsFree x scope = type_in x scope ≡ None
+
+abbrev pub parameter_types : Function → List ValueType
+parameter_types f = map (λ (p : Parameter). p.type) f.params
+
+-- An expression has a type, under what the declarations before have declared and in a scope; and expressions in a row
+-- have types.
+mutual
+  pub data HasType : Before → Scope → Term → ValueType → Type 0 where
+    int_type : {B : Before} {scope : Scope} {n : ℕ} → n ≤ B.ceiling → HasType B scope (IntTerm n) (TypeLocal IntType)
+    truth_type : {B : Before} {scope : Scope} {b : Bool} → HasType B scope (TruthTerm b) (TypeLocal BoolType)
+    variable_type : {B : Before} {scope : Scope} {x : List ℕ} {t : ValueType} → type_in x scope ≡ Some t → HasType B scope (VarTerm x) t
+    uid_type : {B : Before} {scope : Scope} → HasType B scope UidTerm (TypeLocal IntType)
+    nbr_link_type : {B : Before} {scope : Scope} → HasType B scope NbrLinkTerm (TypeField IntType)
+    sense_type : {B : Before} {scope : Scope} {x : List ℕ} {i : Input} → input_named x B.inputs ≡ Some i → HasType B scope (SenseTerm x) (TypeLocal (input_type i.type))
+    builtin_type : {B : Before} {scope : Scope} {b : Builtin} {es : Terms} {ts : List ValueType} {t : ValueType} →
+        HaveTypes B scope es ts → HasRule b ts t → HasType B scope (ApplyTerm b es) t
+    nbr_type : {B : Before} {scope : Scope} {e : Term} {t : LocalType} → HasType B scope e (TypeLocal t) → HasType B scope (NbrTerm e) (TypeField t)
+    rep_type : {B : Before} {scope : Scope} {e : Term} {x : List ℕ} {b : Term} {t : LocalType} →
+        HasType B scope e (TypeLocal t) → HasType B (bind x (TypeLocal t) scope) b (TypeLocal t) → IsFree x scope → HasType B scope (RepTerm e x b) (TypeLocal t)
+    share_type : {B : Before} {scope : Scope} {e : Term} {x : List ℕ} {b : Term} {t : LocalType} →
+        HasType B scope e (TypeLocal t) → HasType B (bind x (TypeField t) scope) b (TypeLocal t) → IsFree x scope → HasType B scope (ShareTerm e x b) (TypeLocal t)
+    if_type : {B : Before} {scope : Scope} {c a b : Term} {t : LocalType} →
+        HasType B scope c (TypeLocal BoolType) → HasType B scope a (TypeLocal t) → HasType B scope b (TypeLocal t) → HasType B scope (IfTerm c a b) (TypeLocal t)
+    let_type : {B : Before} {scope : Scope} {x : List ℕ} {a b : Term} {s t : ValueType} →
+        HasType B scope a s → HasType B (bind x s scope) b t → IsFree x scope → HasType B scope (LetTerm x a b) t
+    call_type : {B : Before} {scope : Scope} {f : List ℕ} {es : Terms} {g : Function} →
+        function_named f B.functions ≡ Some g → HaveTypes B scope es (parameter_types g) → HasType B scope (CallTerm f es) g.result
+
+  pub data HaveTypes : Before → Scope → Terms → List ValueType → Type 0 where
+    no_types : {B : Before} {scope : Scope} → HaveTypes B scope NoTerms []
+    more_types : {B : Before} {scope : Scope} {e : Term} {es : Terms} {t : ValueType} {ts : List ValueType} →
+        HasType B scope e t → HaveTypes B scope es ts → HaveTypes B scope (MoreTerms e es) (t ∷ ts)
+
+-- a type with at most 8 leaves
+abbrev pub IsNarrow : ValueType → Type 0
+IsNarrow t = leaves (inner t) ≤ 8
+
+-- a range of integers, within those of the program
+abbrev pub IsRange : ℕ → ℕ → ℕ → Type 0
+IsRange ceiling least greatest = (least ≤ greatest) × (greatest ≤ ceiling)
+
+abbrev pub IsInputRange : ℕ → InputTy → Type 0
+IsInputRange ceiling input.Truth = Unit {0}
+IsInputRange ceiling (input.Whole least greatest) = IsRange ceiling least greatest
+
+-- parameters behind others of their function: distinct names, and narrow types
+abbrev pub AreParameters : Scope → List Parameter → Type 0
+AreParameters before [] = Unit {0}
+AreParameters before (p ∷ ps) = IsFree p.name before × IsNarrow p.type × AreParameters (before ++ p ∷ []) ps
+
+-- a declaration is typed
+abbrev pub IsTypedDeclaration : Before → Declaration → Type 0
+IsTypedDeclaration B (LanguageIs n) = Unit {0}
+IsTypedDeclaration B (CeilingIs n) = 1 ≤ n
+IsTypedDeclaration B (InputIs x t) = (input_named x B.inputs ≡ None) × IsInputRange B.ceiling t
+IsTypedDeclaration B (MetricIs least greatest) = (B.metric ≡ None) × IsRange B.ceiling least greatest
+IsTypedDeclaration B (DefIs f params result body) =
+    (function_named f B.functions ≡ None) × AreParameters [] params × IsNarrow result × HasType B params body result
+IsTypedDeclaration B (MainIs e) = (t : LocalType) × HasType B [] e (TypeLocal t)
+
+-- each declaration is typed, under those before it
+abbrev pub AreTyped : Before → List Declaration → Type 0
+AreTyped B [] = Unit {0}
+AreTyped B (d ∷ ds) = IsTypedDeclaration B d × AreTyped (and_then B d) ds
+
+-- a typed program
+abbrev pub IsTyped : List Declaration → Type 0
+IsTyped ds = AreTyped nothing ds

@@ -1,0 +1,39 @@
+//! Why an expression or a declaration has no type.
+
+ghost use Rattle.std.specs.Prelude.{◌≡◌};
+ghost use Rattle.fc_types.specs.declared.refusal.Refusal.TheVariants as refusal;
+
+use crate::faults::TypeKind;
+use fc_values::Memory;
+use std::alloc::{AllocError, AllocFailed};
+
+/// The kind of a first fault, or want of memory.
+#[derive(Clone, Copy)]
+pub enum Refusal {
+    Kind(TypeKind),
+    Memory,
+}
+
+impl From<Memory> for Refusal {
+    ghost from_gives = { λ _ r. r ≡ refusal.Memory };
+
+    fn from(_: Memory) -> Self {
+        Refusal::Memory
+    }
+}
+
+impl From<AllocError> for Refusal {
+    ghost from_gives = { λ _ r. r ≡ refusal.Memory };
+
+    fn from(_: AllocError) -> Self {
+        Refusal::Memory
+    }
+}
+
+impl<T: Drop> From<AllocFailed<T>> for Refusal {
+    ghost from_gives = { λ _ r. r ≡ refusal.Memory };
+
+    fn from(_: AllocFailed<T>) -> Self {
+        Refusal::Memory
+    }
+}

@@ -1,0 +1,11 @@
+pub mod Lists
+pub mod Links
+pub mod NearChanges
+pub mod Devices
+pub mod Rooms
+pub mod Changed
+pub mod Orders
+pub mod Sorting
+pub mod NearEach
+pub mod Kept
+pub mod Making

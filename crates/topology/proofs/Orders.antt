@@ -1,0 +1,82 @@
+-- Where a device stands among rising devices, and a link among rising links.
+use Rattle.std.proofs.Common.{◌≡◌, ℕ, zero, suc, ◌+◌, ◌<◌, inl, inr, List, [], ◌∷◌, length, map, get_or, refl, sym, ◌∙◌, ap, subst, arith, Bool, true, false, cond, nat_eq, nat_lt, ◌||◌}
+use Rattle.std.specs.List.{prefix_len}
+use Rattle.std.specs.List.Sorted.{IsPartitionedBy}
+use Rattle.std.proofs.lemmas.Bool.{eqb-true, eqb-false, ltb-true, ltb-false, lt-ltb, ne_eqb}
+use Rattle.fc_values.specs.Fields.{Rises}
+use Rattle.topology.specs.declared.types.Device.{Device}
+use Rattle.topology.specs.declared.types.Link.{Link}
+use Rattle.topology.specs.Networks.{NetDevice, Edge, device_of, edge_of, numbers, is_in, Before, BeforeAll, IsRisingLinks}
+use Rattle.topology.specs.Changes.{is_before}
+use Rattle.topology.proofs.NearChanges.{before_ends}
+use Rattle.topology.proofs.Devices.{rises_at, rises_apart, rises_tail}
+
+-- ---- devices
+
+pub number_get : (xs : List Device) (i : ℕ) (d : Device) → i < length xs → get_or (numbers (map device_of xs)) i 0 ≡ (get_or xs i d).id
+number_get [] i d h = absurd (omega arith)
+number_get (x ∷ xs) zero d h = refl
+number_get (x ∷ xs) (suc i) d h = number_get xs i d (omega arith)
+
+pub numbers_length : (xs : List Device) → length (numbers (map device_of xs)) ≡ length xs
+numbers_length [] = refl
+numbers_length (x ∷ xs) = ap suc (numbers_length xs)
+
+pub devices_parted : (id : ℕ) (xs : List Device) → Rises (numbers (map device_of xs)) → IsPartitionedBy (λ (x : Device). nat_lt x.id id) xs
+devices_parted id xs r i j d h l t = by_test (nat_eq i j) refl
+  where
+    by_test : (q : Bool) → nat_eq i j ≡ q → nat_lt (get_or xs i d).id id ≡ true
+    by_test true e = let k = eqb-true i j e in subst (λ m. nat_lt (get_or xs m d).id id ≡ true) (sym k) t
+    by_test false e =
+        let k = eqb-false i j e in
+        let u = rises_at (numbers (map device_of xs)) r i j (omega (arith, k)) (omega (arith, numbers_length xs)) in
+        let v = ltb-true (get_or xs j d).id id t in
+        lt-ltb (get_or xs i d).id id (omega (arith, number_get xs i d (omega arith), number_get xs j d l))
+
+-- a device of which neither the number at its place nor any other is, isn't there
+pub not_there : (id k : ℕ) (ns : List NetDevice) → Rises (numbers ns) → k ≡ prefix_len (λ (n : NetDevice). nat_lt n.id id) ns → (k < length ns → get_or (numbers ns) k 0 ≡ id → ⊥) → is_in id (numbers ns) ≡ false
+not_there id k [] r e h = refl
+not_there id k (n ∷ ns) r e h = by_test (nat_lt n.id id) refl e (λ m g f. not_there id m ns (rises_tail n.id (numbers ns) r) g f)
+  where
+    by_test : (q : Bool) → nat_lt n.id id ≡ q → k ≡ cond q (1 + prefix_len (λ (n : NetDevice). nat_lt n.id id) ns) 0
+        → ((m : ℕ) → m ≡ prefix_len (λ (n : NetDevice). nat_lt n.id id) ns → (m < length ns → get_or (numbers ns) m 0 ≡ id → ⊥) → is_in id (numbers ns) ≡ false)
+        → is_in id (numbers (n ∷ ns)) ≡ false
+    by_test true t u ih =
+        let v = ltb-true n.id id t in
+        rw (ne_eqb id n.id (λ x. absurd (omega arith)))
+        (ih (prefix_len (λ (n : NetDevice). nat_lt n.id id) ns) refl (λ x y. h (omega arith) (at_next (prefix_len (λ (n : NetDevice). nat_lt n.id id) ns) u y)))
+      where
+        at_next : (m : ℕ) → k ≡ 1 + m → get_or (numbers ns) m 0 ≡ id → get_or (n.id ∷ numbers ns) k 0 ≡ id
+        at_next m u y = let w : k ≡ suc m = omega arith in rw w y
+    by_test false t u ih =
+        let v = ltb-false n.id id t in
+        let w : id ≡ n.id → ⊥ = λ x. h (omega arith) (rw u (sym x)) in
+        rises_apart id (n ∷ ns) (omega (arith, w), r)
+
+-- ---- links
+
+before_closed : (a b : ℕ) (l m : Edge) → Before l m → is_before a b m ≡ true → is_before a b l ≡ true
+before_closed a b l m p t = elim (before_ends a b m t) [
+  | inl h ↦ let x = p.first in rw (lt-ltb l.a a (omega arith)) refl
+  | inr h ↦ by_test (nat_eq l.a a) refl h
+]
+  where
+    by_test : (q : Bool) → nat_eq l.a a ≡ q → (m.a ≡ a) × (m.b < b) → is_before a b l ≡ true
+    by_test true e h = let x = eqb-true l.a a e in let y : l.b < m.b = p.second (x ∙ sym h.0) in let z = h.1 in rw (e, lt-ltb l.b b (omega arith)) (last (nat_lt l.a a))
+      where
+        last : (q : Bool) → (q || true) ≡ true
+        last true = refl
+        last false = refl
+    by_test false e h = let x = eqb-false l.a a e in let y = p.first in let z = h.0 in rw (lt-ltb l.a a (omega (arith, x))) refl
+
+before_get : (l : Edge) (ms : List Link) (j : ℕ) (d : Link) → BeforeAll l (map edge_of ms) → j < length ms → Before l (edge_of (get_or ms j d))
+before_get l [] j d b h = absurd (omega arith)
+before_get l (m ∷ ms) zero d b h = b.0
+before_get l (m ∷ ms) (suc j) d b h = before_get l ms j d b.1 (omega arith)
+
+pub links_parted : (a b : ℕ) (ls : List Link) → IsRisingLinks (map edge_of ls) → IsPartitionedBy (λ (l : Link). is_before a b (edge_of l)) ls
+links_parted a b [] r i j d h l t = absurd (omega arith)
+links_parted a b (m ∷ ms) r zero zero d h l t = t
+links_parted a b (m ∷ ms) r zero (suc j) d h l t = before_closed a b (edge_of m) (edge_of (get_or ms j d)) (before_get (edge_of m) ms j d r.0 (omega arith)) t
+links_parted a b (m ∷ ms) r (suc i) zero d h l t = absurd (omega arith)
+links_parted a b (m ∷ ms) r (suc i) (suc j) d h l t = links_parted a b ms r.1 i j d (omega arith) (omega arith) t

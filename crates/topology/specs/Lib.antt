@@ -1,0 +1,4 @@
+pub mod Inputs
+pub mod Networks
+pub mod Changes
+pub mod Nearby

@@ -1,0 +1,91 @@
+//! Copies of the parts of a network.
+
+ghost use Rattle.std.specs.Prelude.{◌≡◌, ◌≤◌, length, map, vec_capacity, IfOk, replicate, []};
+ghost use Rattle.fc_values.specs.Types.{input_of, declarations_of};
+ghost use Rattle.fc_values.specs.Values.{local_of};
+ghost use Rattle.topology.specs.Networks.{device_of, edge_of};
+ghost use Rattle.topology.specs.Nearby.{items_of};
+
+use crate::nearby::{Nearby, copy_near};
+use crate::types::{Device, Link};
+use fc_values::{Declared, InputDecl, Local, Memory, Name, copy};
+use std::alloc::Global;
+
+pub(crate) fn copy_declared(alloc: Global, declared: &Declared) -> Result<Declared, Memory>
+    ensures { IfOk result (λ d. declarations_of d ≡ declarations_of declared.now) }
+{
+    let inputs = copy_inputs(alloc, &declared.inputs)?;
+    Ok(Declared {
+        ceiling: declared.ceiling,
+        inputs,
+        metric: declared.metric,
+    })
+}
+
+fn copy_inputs(alloc: Global, inputs: &[InputDecl]) -> Result<Vec<InputDecl>, Memory>
+    ensures { IfOk result (λ v. map input_of v.items ≡ map input_of inputs.now) }
+{
+    let mut copies = Vec::new(alloc);
+    for input in inputs {
+        let text = Vec::from_slice(alloc, &input.name.text)?;
+        let name = Name { text };
+        copies.push(InputDecl { name, ty: input.ty })?;
+    }
+    Ok(copies)
+}
+
+fn copy_locals(alloc: Global, values: &[Local]) -> Result<Vec<Local>, Memory>
+    ensures { IfOk result (λ v. map local_of v.items ≡ map local_of values.now) }
+{
+    let mut copies = Vec::new(alloc);
+    for value in values {
+        copies.push(copy(alloc, value)?)?;
+    }
+    Ok(copies)
+}
+
+pub(crate) fn copy_devices(alloc: Global, devices: &[Device]) -> Result<Vec<Device>, Memory>
+    ensures { IfOk result (λ v. map device_of v.items ≡ map device_of devices.now) }
+{
+    let mut copies = Vec::new(alloc);
+    for device in devices {
+        let inputs = copy_locals(alloc, &device.inputs)?;
+        copies.push(Device {
+            id: device.id,
+            inputs,
+        })?;
+    }
+    Ok(copies)
+}
+
+/// The links, in a list with room for as many as were asked for.
+pub(crate) fn copy_links(alloc: Global, links: &[Link], room: usize) -> Result<Vec<Link>, Memory>
+    requires { length links.now ≤ room }
+    ensures links { IfOk result (λ v. map edge_of v.items ≡ map edge_of links.now) }
+    ensures room { IfOk result (λ v. room ≤ vec_capacity v) }
+{
+    let mut copies = Vec::with_capacity(alloc, room)?;
+    copies.extend_from_slice(links)?;
+    Ok(copies)
+}
+
+pub(crate) fn copy_nearby(alloc: Global, near: &[Nearby]) -> Result<Vec<Nearby>, Memory>
+    ensures { IfOk result (λ v. map items_of v.items ≡ map items_of near.now) }
+{
+    let mut copies = Vec::new(alloc);
+    for one in near {
+        copies.push(copy_near(one))?;
+    }
+    Ok(copies)
+}
+
+/// So many lists without a neighbour.
+pub(crate) fn no_nearby(alloc: Global, count: usize) -> Result<Vec<Nearby>, Memory>
+    ensures { IfOk result (λ v. map items_of v.items ≡ replicate count []) }
+{
+    let mut lists = Vec::new(alloc);
+    for _ in 0..count {
+        lists.push(Nearby::new())?;
+    }
+    Ok(lists)
+}

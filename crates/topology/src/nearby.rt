@@ -1,0 +1,65 @@
+//! The neighbours of a device, as a network keeps them beside its links.
+
+ghost use Rattle.std.specs.Prelude.{◌≡◌, ◌<◌, length, nat_lt};
+ghost use Rattle.std.specs.List.{prefix_len};
+ghost use Rattle.topology.specs.Networks.{is_in};
+ghost use Rattle.topology.specs.Nearby.{near_numbers, drop_near, insert_near};
+
+use arrayvec::ArrayVec;
+
+/// The neighbours of a device, rising, with the weights of the links.
+pub(crate) type Nearby = ArrayVec<(u32, u32), 32>;
+
+/// The same neighbours.
+pub(crate) fn copy_near(near: &Nearby) -> Nearby
+    ensures { result.items ≡ near.now.items }
+{
+    let mut copied = ArrayVec::new();
+    for one in near.as_slice() {
+        copied.push(*one);
+    }
+    copied
+}
+
+/// Whether a device is among the neighbours.
+pub(crate) fn is_near(near: &Nearby, device: u32) -> bool
+    ensures { result ≡ is_in device (near_numbers near.now.items) }
+{
+    for one in near.as_slice() {
+        if one.0 == device {
+            return true;
+        }
+    }
+    false
+}
+
+/// The neighbours without a device.
+pub(crate) fn drop_near(near: &Nearby, device: u32) -> Nearby
+    ensures { result.items ≡ drop_near device near.now.items }
+{
+    let mut kept = ArrayVec::new();
+    for one in near.as_slice() {
+        if one.0 != device {
+            kept.push(*one);
+        }
+    }
+    kept
+}
+
+/// The neighbours with this one, in place of that of its number or as one more.
+pub(crate) fn put_near(near: &Nearby, device: u32, weight: u32) -> Nearby
+    requires { length (drop_near device near.now.items) < 32 }
+    ensures { result.items ≡ insert_near device weight (drop_near device near.now.items) }
+{
+    let mut kept = drop_near(near, device);
+    let at = place_near(kept.as_slice(), device);
+    kept.insert(at, (device, weight));
+    kept
+}
+
+// How many neighbours come before a number.
+fn place_near(near: &[(u32, u32)], device: u32) -> usize
+    ensures { result ≡ prefix_len (λ n. nat_lt n.0 device) near.now }
+{
+    near.iter().take_while(|one| one.0 < device).count()
+}

@@ -1,0 +1,51 @@
+//! Devices, links, and why a network refuses a change.
+
+use fc_values::Local;
+
+/// A device: its number, and its inputs in declared order.
+#[derive(Drop)]
+pub struct Device {
+    pub id: u32,
+    pub inputs: Vec<Local>,
+}
+
+/// A link between two devices, the lesser one first, with its weight.
+#[derive(Clone, Copy, Debug, PartialEq, Eq)]
+pub struct Link {
+    pub a: u32,
+    pub b: u32,
+    pub weight: u32,
+}
+
+/// Why a network refuses a change. `InFlight` is the answer of a core alone.
+#[derive(Clone, Copy, Debug, PartialEq, Eq)]
+pub enum NetFault {
+    Twice,
+    NoDevice,
+    SelfLink,
+    Degree,
+    Weight,
+    NoLink,
+    NoInput,
+    InputType,
+    InputRange,
+    Devices,
+    InFlight,
+    Last,
+}
+
+/// Why there is no network of some devices: the first device that is refused, by its index, the number of devices, or
+/// want of memory.
+#[derive(Clone, Copy, Debug, PartialEq, Eq)]
+pub enum MakeFault {
+    Net(u32, NetFault),
+    Devices(usize),
+    Memory,
+}
+
+/// Why a device can't join, or want of memory.
+#[derive(Clone, Copy, Debug, PartialEq, Eq)]
+pub enum JoinFault {
+    Net(NetFault),
+    Memory,
+}
