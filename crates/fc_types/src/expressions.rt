@@ -182,8 +182,8 @@ fn nbr_type(ty: Ty) -> Result<Ty, Refusal>
     }
 }
 
-/// The type of the variable of a `share`.
-fn shared_type(alloc: Global, start: &Ty) -> Result<Ty, Memory>
+/// The type of the variable of a `share`, from that of its first expression.
+pub fn shared_type(alloc: Global, start: &Ty) -> Result<Ty, Memory>
     ensures { IfOk result (λ t. type_of t ≡ shared (type_of start.now)) }
 {
     match start {

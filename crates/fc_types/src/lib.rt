@@ -12,11 +12,15 @@ mod scopes;
 mod typed;
 mod types;
 
+pub use builtins::builtin_type;
 pub use check::check_types;
+pub use expressions::shared_type;
 pub use faults::{TypeFault, TypeKind};
+pub use known::{Function, Known};
 pub use laws::{one_first_fault, one_type, typed_or_at_fault};
+pub use refusal::Refusal;
 pub use typed::Typed;
-pub use types::{copy_local_type, copy_type, same_local_type, same_types};
+pub use types::{copy_local_type, copy_type, inner, same_local_type, same_types};
 
 #[cfg(test)]
 mod tests;

@@ -4,3 +4,6 @@ pub mod SlotTrees
 pub mod OneShape
 pub mod WalkSteps
 pub mod Fits
+pub mod ReadBack
+pub mod FillSteps
+pub mod ReadTrees

@@ -47,7 +47,7 @@ pub no_slot : (g : Bool) (c : ℕ) (u : LocalType) (xs : List Slot) (k : ℕ) �
 no_slot g c u xs k l h = let w = h.within in omega (arith, l, w, length-map xs slot_of)
 
 -- what the node of a term keeps
-abbrev own_type : Term → Option LocalType
+abbrev pub own_type : Term → Option LocalType
 own_type (Plain t l) = None
 own_type (Apply t o ts) = None
 own_type (Nbr t a) = Some (inner t)
@@ -55,7 +55,7 @@ own_type (Evolve t e a b) = Some (inner t)
 own_type (If t x a b) = Some BoolType
 own_type (Let t a b) = None
 
-abbrev branches : Term → Bool
+abbrev pub branches : Term → Bool
 branches (Plain t l) = false
 branches (Apply t o ts) = false
 branches (Nbr t a) = false
@@ -97,7 +97,7 @@ module _ (g : Bool) (c : ℕ) (k : ℕ) (xs : List SlotValue) where
   kept_whole (Let t a b) = omega arith
 
 module _ (ns : List Node) (s : Sort) (t : ValueType) (ks : List ℕ) where
-  own_is : (u : Term) (p : ℕ) → HasNode ns p s t ks → Laid ns p u → kept_type s t ≡ own_type u
+  pub own_is : (u : Term) (p : ℕ) → HasNode ns p s t ks → Laid ns p u → kept_type s t ≡ own_type u
   own_is (Plain t' v) p h l = let e : s ≡ OfLeaf v = cc in rw e refl
   own_is (Apply t' o ts) p h l = let l0 = l.0 in let e : s ≡ OfApply o = cc in rw e refl
   own_is (Nbr t' a) p h l = let l0 = l.0 in let e : s ≡ OfNbr = cc in let f : t ≡ t' = cc in rw (e, f) refl
@@ -105,7 +105,7 @@ module _ (ns : List Node) (s : Sort) (t : ValueType) (ks : List ℕ) where
   own_is (If t' x a b) p h l = let l0 = l.0 in let e : s ≡ OfIf = cc in rw e refl
   own_is (Let t' a b) p h l = let l0 = l.0 in let e : s ≡ OfLet = cc in rw e refl
 
-  branches_is : (u : Term) (p : ℕ) → HasNode ns p s t ks → Laid ns p u → is_branching s ≡ branches u
+  pub branches_is : (u : Term) (p : ℕ) → HasNode ns p s t ks → Laid ns p u → is_branching s ≡ branches u
   branches_is (Plain t' v) p h l = let e : s ≡ OfLeaf v = cc in rw e refl
   branches_is (Apply t' o ts) p h l = let l0 = l.0 in let e : s ≡ OfApply o = cc in rw e refl
   branches_is (Nbr t' a) p h l = let l0 = l.0 in let e : s ≡ OfNbr = cc in rw e refl
@@ -121,7 +121,7 @@ type_is ns s t ks (Evolve t' v a b) p h l = let l0 = l.0 in let e : t' ≡ t = c
 type_is ns s t ks (If t' x a b) p h l = let l0 = l.0 in let e : t' ≡ t = cc in e
 type_is ns s t ks (Let t' a b) p h l = let l0 = l.0 in let e : t' ≡ t = cc in e
 
-if_sort : (s : Sort) → is_branching s ≡ true → s ≡ OfIf
+pub if_sort : (s : Sort) → is_branching s ≡ true → s ≡ OfIf
 if_sort (OfLeaf l) e = absurd cc
 if_sort (OfApply o) e = absurd cc
 if_sort OfNbr e = absurd cc
@@ -185,7 +185,7 @@ module _ (ns : List Node) (ab : AllAbove ns) (p : ℕ) (st : StandsAt ns p) (s :
       by_index (suc (suc (suc i))) e l = absurd (omega arith)
 
   module _ (q0 q1 q2 : ℕ) (f0 : q0 ≡ get_or ks 0 0) (f1 : q1 ≡ get_or ks 1 0) (f2 : q2 ≡ get_or ks 2 0) where
-    term_is : term_at ns p ≡ If t (term_at ns q0) (term_at ns q1) (term_at ns q2)
+    pub term_is : term_at ns p ≡ If t (term_at ns q0) (term_at ns q1) (term_at ns q2)
     term_is =
         let th = three in
         th.term ∙ ap (λ q. If t (term_at ns q) (term_at ns (get_or ks 1 0)) (term_at ns (get_or ks 2 0))) (sym f0)

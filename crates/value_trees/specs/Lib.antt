@@ -5,3 +5,5 @@ pub mod SlotFits
 pub mod Shapes
 pub mod Walks
 pub mod Fitting
+pub mod KeptReads
+pub mod Filling

@@ -4,9 +4,11 @@
 mod copies;
 mod exports;
 mod fitting;
+mod reading;
 mod walks;
 
 pub use copies::{Near, Snap};
 pub use exports::{kept, one_shape, overwrite_export};
 pub use fitting::snap_fits;
+pub use reading::{KeptFault, from_kept};
 pub use walks::well_typed;

@@ -166,7 +166,7 @@ fn has_form(ty: &LocalTy, value: &Local) -> bool
 }
 
 /// The local type in a type.
-fn inner(ty: &Ty) -> &LocalTy
+pub fn inner(ty: &Ty) -> &LocalTy
     ensures { local_type_of result.now ≡ inner_type (type_of ty.now) }
 {
     match ty {
@@ -176,7 +176,7 @@ fn inner(ty: &Ty) -> &LocalTy
 }
 
 /// Whether a node is an `if`.
-fn is_if(node: &Node) -> bool
+pub fn is_if(node: &Node) -> bool
     ensures { result ≡ is_branching (sort_of node.now.op) }
 {
     match &node.op {
@@ -186,7 +186,7 @@ fn is_if(node: &Node) -> bool
 }
 
 /// The truth that the value of a slot names.
-fn truth_at(slots: &[Slot], at: usize) -> bool
+pub fn truth_at(slots: &[Slot], at: usize) -> bool
     requires { at < length (slots_of slots.now) }
     ensures { result ≡ truth_in (slot_at at (slots_of slots.now)).1 }
 {
@@ -202,7 +202,7 @@ fn truth_of(value: &Local) -> bool
     }
 }
 
-fn both(a: bool, b: bool) -> bool
+pub fn both(a: bool, b: bool) -> bool
     ensures { result ≡ (a && b) }
 {
     a && b

@@ -1,0 +1,39 @@
+-- Judgements one after another, and the faults of code.
+use Rattle.std.proofs.Common.{◌≡◌, ℕ, zero, suc, ◌+◌, ◌<◌, ◌≤◌, List, [], ◌∷◌, length, map, drop, get_or, refl, sym, ap, ◌∙◌, arith, drop-cons}
+use Rattle.serde_json.specs.Data.{Data}
+use Rattle.serde_json.specs.View.{view, items_of}
+use Rattle.serde_json.specs.declared.value.Value.{Value}
+use Rattle.net_json.specs.declared.types.JsonFault.{JsonFault}
+use Rattle.net_json.specs.declared.types.JsonFault.TheVariants as fault
+use Rattle.net_json.specs.Judging.{Judged, Accepted, and_then, in_turn, at_index, RefusedWith}
+
+-- what refuses the first check refuses the whole
+pub refused_next : {A B : Type 0} (first : Judged A) (next : A → Judged B) (f : JsonFault) → RefusedWith first f → RefusedWith (and_then first next) f
+refused_next first next fault.Json h = ap (λ j. and_then j next) h
+refused_next first next (fault.Shape p) h = ap (λ j. and_then j next) h
+refused_next first next (fault.Net p f) h = ap (λ j. and_then j next) h
+refused_next first next (fault.Kept p place) h = ap (λ j. and_then j next) h
+refused_next first next (fault.Devices count) h = ap (λ j. and_then j next) h
+refused_next first next fault.Memory h = tt
+
+-- ---- items in turn
+
+module _ {A : Type 0} (judge : A → List ℕ → Data → Judged A) (path : List ℕ) where
+  -- the next item of a list of values
+  pub turn : (before : A) (vs : List Value) (i : ℕ) (v : Value) → i < length vs
+      → in_turn judge path before i (items_of (map view (drop i vs)))
+      ≡ and_then (judge before (at_index path i) (view (get_or vs i v))) (λ next. in_turn judge path next (i + 1) (items_of (map view (drop (i + 1) vs))))
+  turn before vs i v h =
+      let e : i + 1 ≡ suc i = omega arith in
+      ap (λ xs. in_turn judge path before i (items_of (map view xs))) (drop-cons vs i v h)
+      ∙ ap (λ k. and_then (judge before (at_index path i) (view (get_or vs i v))) (λ next. in_turn judge path next (i + 1) (items_of (map view (drop k vs))))) (sym e)
+
+  -- no item is left
+  pub turn_end : (before : A) (vs : List Value) (i : ℕ) → length vs ≤ i → in_turn judge path before i (items_of (map view (drop i vs))) ≡ Accepted before
+  turn_end before vs i h = ap (λ xs. in_turn judge path before i (items_of (map view xs))) (drop_past vs i h)
+    where
+      drop_past : (ws : List Value) (k : ℕ) → length ws ≤ k → drop k ws ≡ []
+      drop_past [] zero l = refl
+      drop_past [] (suc k) l = refl
+      drop_past (w ∷ ws) zero l = absurd (omega arith)
+      drop_past (w ∷ ws) (suc k) l = drop_past ws k (omega arith)

@@ -1,0 +1,8 @@
+mod Shapes
+pub mod Judgements
+mod MemberNames
+mod Risings
+mod Gathering
+mod Limits
+mod Linked
+mod Threes

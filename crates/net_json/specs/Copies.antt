@@ -1,0 +1,117 @@
+-- The copies of a scene that are in flight.
+use Rattle.std.specs.Prelude.{ℕ, ◌&&◌, List, not, nat_eq, nat_le, codes, Option, Some, None, Bool, true, false}
+use Rattle.serde_json.specs.Data.{Data, null, boolean, number, string, array, object, Items}
+use Rattle.serde_json.specs.Find.{as_array}
+use Rattle.fc_values.specs.Values.{LocalValue}
+use Rattle.fc_values.specs.Trees.{TreeExport, NearCopy, Copy}
+use Rattle.fc_nodes.specs.Program.{Unfolding}
+use Rattle.topology.specs.declared.types.NetFault.TheVariants as fault
+use Rattle.topology.specs.Networks.{Network, lives, is_in}
+use Rattle.topology.specs.Changes.{in_metric}
+use Rattle.net_json.specs.Judging.{Judged, Accepted, Misshaped, BadNetwork, and_then, given, require, gather, at_member}
+use Rattle.net_json.specs.Reading.{whole, value_of, two_members, four_members, size_of, count_items}
+use Rattle.net_json.specs.Inputs.{inputs_judged}
+use Rattle.net_json.specs.KeptItems.{item_of_values}
+use Rattle.net_json.specs.Exports.{export_judged}
+
+-- ---- the own export
+
+-- the export of an object with exactly a value and a kept list, in format 1
+abbrev pub own_export : Unfolding → List ℕ → Data → Judged TreeExport
+own_export U path d =
+    and_then (given (Misshaped path) (two_members (codes "value") (codes "kept") d)) (λ m.
+    and_then (given (Misshaped (at_member path (codes "value"))) (value_of m.0)) (λ v.
+    and_then (given (Misshaped (at_member path (codes "kept"))) (as_array m.1)) (λ ds. export_judged U item_of_values path v ds)))
+
+abbrev pub some_export : Judged TreeExport → Judged (Option TreeExport)
+some_export e = and_then e (λ x. Accepted (Some x))
+
+-- null, or an export
+abbrev pub own_judged : Unfolding → List ℕ → Data → Judged (Option TreeExport)
+own_judged U path null = Accepted None
+own_judged U path (boolean b) = some_export (own_export U path (boolean b))
+own_judged U path (number n) = some_export (own_export U path (number n))
+own_judged U path (string s) = some_export (own_export U path (string s))
+own_judged U path (array ds) = some_export (own_export U path (array ds))
+own_judged U path (object ms) = some_export (own_export U path (object ms))
+
+abbrev pub is_null_or_object : Data → Bool
+is_null_or_object null = true
+is_null_or_object (boolean b) = false
+is_null_or_object (number n) = false
+is_null_or_object (string s) = false
+is_null_or_object (array ds) = false
+is_null_or_object (object ms) = true
+
+-- ---- neighbours
+
+-- what an item of `near` holds, by its form: two whole numbers, a value, and an array
+pub record NearForm : Type 0 where
+  pub id : ℕ
+  pub weight : ℕ
+  pub value : LocalValue
+  pub kept : Items
+
+abbrev pub near_form : List ℕ → Data → Judged NearForm
+near_form path d =
+    and_then (given (Misshaped path) (four_members (codes "id") (codes "weight") (codes "value") (codes "kept") d)) (λ m.
+    and_then (given (Misshaped (at_member path (codes "id"))) (whole m.0.0)) (λ id.
+    and_then (given (Misshaped (at_member path (codes "weight"))) (whole m.0.1)) (λ w.
+    and_then (given (Misshaped (at_member path (codes "value"))) (value_of m.1.0)) (λ v.
+    and_then (given (Misshaped (at_member path (codes "kept"))) (as_array m.1.1)) (λ ds.
+    Accepted (record { id = id; weight = w; value = v; kept = ds }))))))
+
+-- A neighbour beside the numbers of those before: its form; its number, at most 65,535, that of another device and of
+-- none before; its weight, in the range of the metric; its export.
+abbrev pub near_judged : Unfolding → ℕ → List ℕ → List ℕ → Data → Judged NearCopy
+near_judged U device before path d =
+    and_then (near_form path d) (λ form.
+    require (nat_le form.id 65535 && not (nat_eq form.id device) && not (is_in form.id before)) (Misshaped (at_member path (codes "id")))
+    (require (in_metric U.declared form.weight) (BadNetwork (at_member path (codes "weight")) fault.Weight)
+    (and_then (export_judged U item_of_values path form.value form.kept) (λ e.
+    Accepted (record { device = form.id; weight = form.weight; export = e })))))
+
+abbrev pub near_number : NearCopy → ℕ
+near_number n = n.device
+
+-- at most 32 neighbours, each judged in turn
+abbrev pub nears_judged : Unfolding → ℕ → List ℕ → Items → Judged (List NearCopy)
+nears_judged U device path ds = require (nat_le (count_items ds) 32) (Misshaped path) (gather near_number (near_judged U device) path ds)
+
+-- ---- copies
+
+-- what a copy holds, by its form: a whole number, an object, null or an object, and an array
+pub record CopyForm : Type 0 where
+  pub id : ℕ
+  pub inputs : Data
+  pub own : Data
+  pub near : Items
+
+abbrev pub copy_form : List ℕ → Data → Judged CopyForm
+copy_form path d =
+    and_then (given (Misshaped path) (four_members (codes "id") (codes "inputs") (codes "own") (codes "near") d)) (λ m.
+    and_then (given (Misshaped (at_member path (codes "id"))) (whole m.0.0)) (λ id.
+    and_then (given (Misshaped (at_member path (codes "inputs"))) (size_of m.0.1)) (λ size.
+    require (is_null_or_object m.1.0) (Misshaped (at_member path (codes "own")))
+    (and_then (given (Misshaped (at_member path (codes "near"))) (as_array m.1.1)) (λ ds.
+    Accepted (record { id = id; inputs = m.0.1; own = m.1.0; near = ds }))))))
+
+abbrev pub copy_number : Copy → ℕ
+copy_number c = c.device
+
+-- what a copy holds beside its number: its inputs, its own export, its neighbours
+abbrev pub parts_judged : Unfolding → List ℕ → CopyForm → Judged Copy
+parts_judged U path form =
+    and_then (inputs_judged U.declared.inputs (at_member path (codes "inputs")) form.inputs) (λ vs.
+    and_then (own_judged U (at_member path (codes "own")) form.own) (λ own.
+    and_then (nears_judged U form.id (at_member path (codes "near")) form.near) (λ ns.
+    Accepted (record { device = form.id; inputs = vs; own = own; near = ns }))))
+
+-- a copy beside the numbers of those before: its form, its number as that of a row, its parts
+abbrev pub copy_judged : Unfolding → Network → List ℕ → List ℕ → Data → Judged Copy
+copy_judged U n before path d =
+    and_then (copy_form path d) (λ form.
+    require (lives n form.id && not (is_in form.id before)) (Misshaped (at_member path (codes "id"))) (parts_judged U path form))
+
+abbrev pub copies_judged : Unfolding → Network → List ℕ → Items → Judged (List Copy)
+copies_judged U n path ds = gather copy_number (copy_judged U n) path ds

@@ -1,0 +1,68 @@
+-- Judgements: what is accepted, or the first refusal.
+use Rattle.std.specs.Prelude.{ℕ, Bool, ◌≡◌, ◌+◌, List, [], ◌∷◌, ◌++◌, Option, Some, None, if◌then◌else◌, decimal, map, nat_lt}
+use Rattle.serde_json.specs.Data.{Data, Items, no_items, item}
+use Rattle.topology.specs.declared.types.NetFault.{NetFault}
+use Rattle.topology.specs.Changes.{insert_after}
+use Rattle.net_json.specs.declared.types.JsonFault.{JsonFault}
+use Rattle.net_json.specs.declared.types.JsonFault.TheVariants as fault
+
+-- Why a text is no scene: it is no JSON, or at a path it has another shape, a fault of networks, or a kept list that is
+-- none of an export, with the place of its first misfit; or it has too many devices.
+pub data Refusal : Type 0 where
+  NotJson : Refusal
+  Misshaped : List ℕ → Refusal
+  BadNetwork : List ℕ → NetFault → Refusal
+  BadKept : List ℕ → ℕ → Refusal
+  TooManyDevices : ℕ → Refusal
+
+pub data Judged (A : Type 0) : Type 0 where
+  Accepted : A → Judged A
+  Refused : Refusal → Judged A
+
+-- one check after another: the first refusal counts
+abbrev pub and_then : {A B : Type 0} → Judged A → (A → Judged B) → Judged B
+and_then (Accepted x) next = next x
+and_then (Refused r) next = Refused r
+
+-- what is there, else a refusal
+abbrev pub given : {A : Type 0} → Refusal → Option A → Judged A
+given r None = Refused r
+given r (Some x) = Accepted x
+
+-- the rest where a test holds, else a refusal
+abbrev pub require : {A : Type 0} → Bool → Refusal → Judged A → Judged A
+require test r rest = if test then rest else Refused r
+
+-- the rest where networks have no fault to name, else that fault at a path
+abbrev pub no_fault : {A : Type 0} → Option NetFault → List ℕ → Judged A → Judged A
+no_fault None path rest = rest
+no_fault (Some f) path rest = Refused (BadNetwork path f)
+
+-- a path goes on with `/` and the name of a member, or with `/` and an index
+abbrev pub at_member : List ℕ → List ℕ → List ℕ
+at_member path name = path ++ 47 ∷ name
+
+abbrev pub at_index : List ℕ → ℕ → List ℕ
+at_index path i = path ++ 47 ∷ decimal i
+
+-- items one after another, with their paths, each beside what those before have given
+abbrev pub in_turn : {A : Type 0} → (A → List ℕ → Data → Judged A) → List ℕ → A → ℕ → Items → Judged A
+in_turn judge path before i no_items = Accepted before
+in_turn judge path before i (item d ds) = and_then (judge before (at_index path i) d) (λ next. in_turn judge path next (i + 1) ds)
+
+-- one thing more beside those before, all by rising numbers. It is judged beside the numbers of those before
+abbrev pub gathered : {X : Type 0} → (X → ℕ) → (List ℕ → List ℕ → Data → Judged X) → List X → List ℕ → Data → Judged (List X)
+gathered number judge before path d = and_then (judge (map number before) path d) (λ x. Accepted (insert_after (λ y. nat_lt (number y) (number x)) x before))
+
+-- the things that items give, by rising numbers
+abbrev pub gather : {X : Type 0} → (X → ℕ) → (List ℕ → List ℕ → Data → Judged X) → List ℕ → Items → Judged (List X)
+gather number judge path ds = in_turn (gathered number judge) path [] 0 ds
+
+-- a fault in code is the refusal of a judgement. Want of memory is free
+abbrev pub RefusedWith : {A : Type 0} → Judged A → JsonFault → Type 0
+RefusedWith judged fault.Json = judged ≡ Refused NotJson
+RefusedWith judged (fault.Shape p) = judged ≡ Refused (Misshaped p.text.items)
+RefusedWith judged (fault.Net p f) = judged ≡ Refused (BadNetwork p.text.items f)
+RefusedWith judged (fault.Kept p place) = judged ≡ Refused (BadKept p.text.items place)
+RefusedWith judged (fault.Devices count) = judged ≡ Refused (TooManyDevices count)
+RefusedWith judged fault.Memory = Unit {0}

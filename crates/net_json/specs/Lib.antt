@@ -1,0 +1,13 @@
+pub mod Judging
+pub mod Places
+pub mod Reading
+pub mod Inputs
+pub mod Devices
+pub mod Links
+pub mod KeptItems
+pub mod KeptCode
+pub mod Exports
+pub mod Tables
+pub mod Copies
+pub mod Scenes
+pub mod TableTexts

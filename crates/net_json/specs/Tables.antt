@@ -1,0 +1,59 @@
+-- The table of a scene, in either format.
+use Rattle.std.specs.Prelude.{ℕ, ◌&&◌, List, not, codes, Option}
+use Rattle.serde_json.specs.Data.{Data, null, boolean, number, string, array, object, Items}
+use Rattle.serde_json.specs.Find.{as_array}
+use Rattle.fc_values.specs.Values.{LocalValue}
+use Rattle.fc_values.specs.Trees.{TreeExport}
+use Rattle.fc_nodes.specs.Program.{Unfolding}
+use Rattle.topology.specs.Networks.{Network, lives, is_in}
+use Rattle.net_json.specs.Judging.{Judged, Accepted, Refused, Misshaped, and_then, given, require, gather, at_member}
+use Rattle.net_json.specs.Reading.{whole, value_of, two_members, three_members, is_exactly}
+use Rattle.net_json.specs.KeptItems.{KeptItem, item_of_values, item_of_places}
+use Rattle.net_json.specs.Exports.{export_judged}
+
+-- a row: a device with its export
+abbrev pub Row : Type 0
+Row = ℕ × TreeExport
+
+abbrev pub row_number : Row → ℕ
+row_number r = r.0
+
+-- what a row of either format holds, by its form: a whole number, a value, and an array
+pub record RowForm : Type 0 where
+  pub id : ℕ
+  pub value : LocalValue
+  pub kept : Items
+
+abbrev pub row_form : List ℕ → Data → Judged RowForm
+row_form path d =
+    and_then (given (Misshaped path) (three_members (codes "id") (codes "value") (codes "kept") d)) (λ m.
+    and_then (given (Misshaped (at_member path (codes "id"))) (whole m.0)) (λ id.
+    and_then (given (Misshaped (at_member path (codes "value"))) (value_of m.1.0)) (λ v.
+    and_then (given (Misshaped (at_member path (codes "kept"))) (as_array m.1.1)) (λ ds.
+    Accepted (record { id = id; value = v; kept = ds })))))
+
+-- a row beside the numbers of those before: its form, its number, its export
+abbrev pub row_judged : Unfolding → Network → (Data → Option KeptItem) → List ℕ → List ℕ → Data → Judged Row
+row_judged U n read before path d =
+    and_then (row_form path d) (λ form.
+    require (lives n form.id && not (is_in form.id before)) (Misshaped (at_member path (codes "id")))
+    (and_then (export_judged U read path form.value form.kept) (λ e. Accepted (form.id, e))))
+
+abbrev pub rows_judged : Unfolding → Network → (Data → Option KeptItem) → List ℕ → Items → Judged (List Row)
+rows_judged U n read path ds = gather row_number (row_judged U n read) path ds
+
+-- an object of format 2: exactly the members `format`, which is the number 2, and `rows`, an array
+abbrev pub second_format : List ℕ → Data → Judged Items
+second_format path d =
+    and_then (given (Misshaped path) (two_members (codes "format") (codes "rows") d)) (λ m.
+    require (is_exactly 2 (whole m.0)) (Misshaped (at_member path (codes "format")))
+    (given (Misshaped (at_member path (codes "rows"))) (as_array m.1)))
+
+-- a table: an array of rows of format 1, or an object of format 2
+abbrev pub table_judged : Unfolding → Network → List ℕ → Data → Judged (List Row)
+table_judged U n path null = Refused (Misshaped path)
+table_judged U n path (boolean b) = Refused (Misshaped path)
+table_judged U n path (number x) = Refused (Misshaped path)
+table_judged U n path (string s) = Refused (Misshaped path)
+table_judged U n path (array ds) = rows_judged U n item_of_values path ds
+table_judged U n path (object ms) = and_then (second_format path (object ms)) (λ ds. rows_judged U n item_of_places (at_member path (codes "rows")) ds)

@@ -1,0 +1,117 @@
+//! The devices of a scene.
+
+ghost use Rattle.std.specs.Prelude.{◌≡◌, IfOk, IfErr, map, codes};
+ghost use Rattle.serde_json.specs.View.{view, items_view};
+ghost use Rattle.fc_values.specs.Types.{input_of};
+ghost use Rattle.fc_values.specs.Fields.{Rises};
+ghost use Rattle.topology.specs.Networks.{device_of};
+ghost use Rattle.net_json.specs.Judging.{Accepted, RefusedWith, at_member, gather};
+ghost use Rattle.net_json.specs.Devices.{device_form, device_number, device_judged, number_of, devices_judged};
+ghost use Rattle.net_json.specs.Places.{IsPlace};
+
+use crate::inputs::read_inputs;
+use crate::rising::room;
+use crate::types::{JsonFault, Path};
+use crate::values::{two_members, whole};
+use fc_values::InputDecl;
+use serde_json::Value;
+use std::alloc::Global;
+use topology::{Device, NetFault};
+
+/// The number and the inputs of a device, by its form.
+#[tactic(auto, using(crate::proofs::Judgements::refused_next))]
+fn form<'v>(alloc: Global, path: &Path, value: &'v Value) -> Result<(u64, &'v Value), JsonFault>
+    ensures ok { IfOk result (λ f. device_form path.now.text.items (view value.now) ≡ Accepted (f.0, view f.1.now)) }
+    ensures refused { IfErr result (RefusedWith (device_form path.now.text.items (view value.now))) }
+{
+    let Some((id, inputs)) = two_members(value, "id", "inputs") else {
+        return Err(JsonFault::Shape(path.copy(alloc)?));
+    };
+    let Some(id) = whole(id) else {
+        return Err(JsonFault::Shape(path.member(alloc, b"id")?));
+    };
+    if inputs.as_object().is_none() {
+        return Err(JsonFault::Shape(path.member(alloc, b"inputs")?));
+    }
+    Ok((id, inputs))
+}
+
+/// The number of a device, with its place among those of the devices before.
+#[tactic(auto, using(crate::proofs::Judgements::refused_next))]
+fn number(alloc: Global, numbers: &[u32], path: &Path, id: u64) -> Result<(usize, u32), JsonFault>
+    requires { Rises numbers.now }
+    ensures ok { IfOk result (λ d. device_number numbers.now (at_member path.now.text.items (codes "id")) id ≡ Accepted d.1) }
+    ensures place { IfOk result (λ d. IsPlace numbers.now d.1 d.0) }
+    ensures refused { IfErr result (RefusedWith (device_number numbers.now (at_member path.now.text.items (codes "id")) id)) }
+{
+    if id > 65_535 {
+        return Err(JsonFault::Shape(path.member(alloc, b"id")?));
+    }
+    let id = id as u32;
+    match room(numbers, id) {
+        Some(at) => Ok((at, id)),
+        None => Err(JsonFault::Net(path.member(alloc, b"id")?, NetFault::Twice)),
+    }
+}
+
+/// A device, with the place of its number among those of the devices before.
+#[tactic(auto, using(crate::proofs::Judgements::refused_next))]
+fn read_device(
+    alloc: Global,
+    inputs: &[InputDecl],
+    numbers: &[u32],
+    path: &Path,
+    value: &Value,
+) -> Result<(usize, Device), JsonFault>
+    requires { Rises numbers.now }
+    ensures ok { IfOk result (λ d. device_judged (map input_of inputs.now) numbers.now path.now.text.items (view value.now) ≡ Accepted (device_of d.1)) }
+    ensures place { IfOk result (λ d. IsPlace numbers.now d.1.id d.0) }
+    ensures refused { IfErr result (RefusedWith (device_judged (map input_of inputs.now) numbers.now path.now.text.items (view value.now))) }
+{
+    let (id, members) = form(alloc, path, value)?;
+    let (at, id) = number(alloc, numbers, path, id)?;
+    let inner = path.member(alloc, b"inputs")?;
+    let inputs = read_inputs(alloc, inputs, &inner, members)?;
+    Ok((at, Device { id, inputs }))
+}
+
+/// The devices of a list, by rising numbers.
+#[tactic(auto, using(crate::proofs::Judgements::refused_next))]
+fn gather_devices(
+    alloc: Global,
+    inputs: &[InputDecl],
+    path: &Path,
+    items: &[Value],
+) -> Result<Vec<Device>, JsonFault>
+    ensures ok { IfOk result (λ ds. gather number_of (device_judged (map input_of inputs.now)) path.now.text.items (items_view items.now) ≡ Accepted (map device_of ds.items)) }
+    ensures refused { IfErr result (RefusedWith (gather number_of (device_judged (map input_of inputs.now)) path.now.text.items (items_view items.now))) }
+{
+    let mut numbers = Vec::new(alloc);
+    let mut devices = Vec::new(alloc);
+    for (i, item) in items.iter().enumerate() {
+        let place = path.index(alloc, i)?;
+        let (at, device) = read_device(alloc, inputs, &numbers, &place, item)?;
+        numbers.insert(at, device.id)?;
+        devices.insert(at, device)?;
+    }
+    Ok(devices)
+}
+
+/// The devices of a scene, by rising numbers.
+pub(crate) fn read_devices(
+    alloc: Global,
+    inputs: &[InputDecl],
+    path: &Path,
+    items: &[Value],
+) -> Result<Vec<Device>, JsonFault>
+    ensures ok { IfOk result (λ ds. devices_judged (map input_of inputs.now) path.now.text.items (items_view items.now) ≡ Accepted (map device_of ds.items)) }
+    ensures refused { IfErr result (RefusedWith (devices_judged (map input_of inputs.now) path.now.text.items (items_view items.now))) }
+{
+    if items.is_empty() {
+        return Err(JsonFault::Shape(path.copy(alloc)?));
+    }
+    if items.len() > 1024 {
+        return Err(JsonFault::Devices(items.len()));
+    }
+    gather_devices(alloc, inputs, path, items)
+}

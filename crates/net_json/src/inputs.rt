@@ -1,0 +1,108 @@
+//! The inputs of a device or of a copy.
+
+ghost use Rattle.std.specs.Prelude.{◌≡◌, IfOk, IfErr, map, option_map, []};
+ghost use Rattle.serde_json.specs.View.{view};
+ghost use Rattle.serde_json.specs.Find.{get};
+ghost use Rattle.fc_values.specs.Types.{input_of};
+ghost use Rattle.fc_values.specs.Values.{local_of};
+ghost use Rattle.topology.specs.Inputs.{input_fault};
+ghost use Rattle.net_json.specs.Judging.{Accepted, RefusedWith, at_member};
+ghost use Rattle.net_json.specs.Inputs.{has_names, has_exactly, input_judged, values_judged, inputs_judged};
+
+use crate::types::{JsonFault, Path};
+use crate::values::{has_size, local};
+use fc_values::{InputDecl, InputTy, Local, Name};
+use serde_json::Value;
+use std::alloc::Global;
+use topology::NetFault;
+
+/// The member of a declared name.
+fn member<'v>(value: &'v Value, name: &Name) -> Option<&'v Value>
+    ensures { option_map (λ v. view v.now) result ≡ get name.now.text.items (view value.now) }
+{
+    let members = value.as_object()?;
+    match std::str::from_utf8(&name.text) {
+        Ok(name) => members.get(name),
+        Err(_) => None,
+    }
+}
+
+/// Whether the declared names are members of an object.
+fn has_names(inputs: &[InputDecl], value: &Value) -> bool
+    ensures { result ≡ has_names (map input_of inputs.now) (view value.now) }
+{
+    for input in inputs {
+        if member(value, &input.name).is_none() {
+            return false;
+        }
+    }
+    true
+}
+
+/// Why a value is none of an input.
+fn input_fault(ty: InputTy, value: &Local) -> Option<NetFault>
+    ensures { result ≡ input_fault ty (local_of value.now) }
+{
+    match (ty, value) {
+        (InputTy::Truth, Local::Bool(_)) => None,
+        (InputTy::Whole(least, greatest), Local::Int(n)) => {
+            if least <= *n && *n <= greatest {
+                None
+            } else {
+                Some(NetFault::InputRange)
+            }
+        }
+        _ => Some(NetFault::InputType),
+    }
+}
+
+/// The value of an input of an object.
+#[tactic(auto, using(crate::proofs::Judgements::refused_next))]
+fn input(alloc: Global, input: &InputDecl, path: &Path, value: &Value) -> Result<Local, JsonFault>
+    ensures ok { IfOk result (λ v. input_judged input.now.ty (at_member path.now.text.items input.now.name.text.items) (get input.now.name.text.items (view value.now)) ≡ Accepted (local_of v)) }
+    ensures refused { IfErr result (RefusedWith (input_judged input.now.ty (at_member path.now.text.items input.now.name.text.items) (get input.now.name.text.items (view value.now)))) }
+{
+    let Some(found) = member(value, &input.name) else {
+        return Err(JsonFault::Shape(path.member(alloc, &input.name.text)?));
+    };
+    let Some(local) = local(alloc, found)? else {
+        return Err(JsonFault::Shape(path.member(alloc, &input.name.text)?));
+    };
+    match input_fault(input.ty, &local) {
+        None => Ok(local),
+        Some(fault) => Err(JsonFault::Net(path.member(alloc, &input.name.text)?, fault)),
+    }
+}
+
+/// The values of the declared inputs, in their order, of an object that has exactly their names.
+#[tactic(auto, using(crate::proofs::Judgements::refused_next))]
+pub(crate) fn read_inputs(
+    alloc: Global,
+    inputs: &[InputDecl],
+    path: &Path,
+    value: &Value,
+) -> Result<Vec<Local>, JsonFault>
+    ensures ok { IfOk result (λ vs. inputs_judged (map input_of inputs.now) path.now.text.items (view value.now) ≡ Accepted (map local_of vs.items)) }
+    ensures refused { IfErr result (RefusedWith (inputs_judged (map input_of inputs.now) path.now.text.items (view value.now))) }
+{
+    if !has_size(value, inputs.len()) || !has_names(inputs, value) {
+        return Err(JsonFault::Shape(path.copy(alloc)?));
+    }
+    read_values(alloc, inputs, path, value)
+}
+
+fn read_values(
+    alloc: Global,
+    inputs: &[InputDecl],
+    path: &Path,
+    value: &Value,
+) -> Result<Vec<Local>, JsonFault>
+    ensures ok { IfOk result (λ vs. values_judged path.now.text.items (view value.now) [] (map input_of inputs.now) ≡ Accepted (map local_of vs.items)) }
+    ensures refused { IfErr result (RefusedWith (values_judged path.now.text.items (view value.now) [] (map input_of inputs.now))) }
+{
+    let mut values = Vec::new(alloc);
+    for one in inputs {
+        values.push(input(alloc, one, path, value)?)?;
+    }
+    Ok(values)
+}

@@ -1,0 +1,15 @@
+//! Scenes and tables as JSON.
+#![tactic(auto)]
+
+mod copies;
+mod devices;
+mod inputs;
+mod kept;
+mod links;
+mod paths;
+mod rising;
+mod tables;
+mod types;
+mod values;
+
+pub use types::{JsonFault, Path, Scene};

@@ -1,0 +1,6 @@
+pub mod Unfolding
+pub mod Nodes
+pub mod Counting
+pub mod Laws
+pub mod Views
+pub mod Found

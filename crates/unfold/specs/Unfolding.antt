@@ -1,0 +1,166 @@
+-- `main` with each call replaced by one `let` per argument around the function's body.
+use Rattle.std.specs.Prelude.{ℕ, suc, ◌+◌, if◌then◌else◌, List, [], ◌∷◌, ◌++◌, Option, Some, None, bytes_eq, option_map, slice_get}
+use Rattle.fc_values.specs.declared.builtins.Builtin.{Builtin}
+use Rattle.fc_values.specs.Types.{IntType, BoolType, ValueType, TypeLocal, TypeField, Input, input_type}
+use Rattle.fc_values.specs.Values.{IntValue, BoolValue}
+use Rattle.fc_values.specs.BuiltinTypes.{inner}
+use Rattle.fc_syntax.specs.Terms.{Term as Expression, IntTerm, TruthTerm, VarTerm, UidTerm, NbrLinkTerm, SenseTerm, ApplyTerm, NbrTerm, RepTerm, ShareTerm, IfTerm, LetTerm, CallTerm, Terms as Expressions, NoTerms, MoreTerms, Parameter, Declaration, LanguageIs, CeilingIs, InputIs, MetricIs, DefIs, MainIs}
+use Rattle.fc_types.specs.Before.{Function, nothing, and_all}
+use Rattle.fc_types.specs.Faults.{shared_type}
+use Rattle.fc_types.specs.Judging.{Judgement, TypeIs, FaultIs, judge_builtin}
+use Rattle.fc_nodes.specs.Terms.{Literal, Variable, Sense, Uid, NbrLink, Evolution, ByRep, ByShare, Term, Terms, Plain, Apply, Nbr, Evolve, If, Let, NoMore, More, type_of, size}
+use Rattle.fc_nodes.specs.Typing.{types_of}
+
+-- a name in scope: the place of the node that binds it, and its type
+pub record Binder : Type 0 where
+  pub name : List ℕ
+  pub place : ℕ
+  pub type : ValueType
+
+-- the names in scope, the nearest first
+abbrev pub Scope : Type 0
+Scope = List Binder
+
+abbrev pub binder_of : List ℕ → Scope → Option Binder
+binder_of x [] = None
+binder_of x (b ∷ scope) = if bytes_eq x b.name then Some b else binder_of x scope
+
+-- a function, and what its body is at a place, in the scope of its parameters
+pub record Meaning : Type 0 where
+  pub name : List ℕ
+  pub params : List Parameter
+  pub body : Scope → ℕ → Term
+
+abbrev pub meaning_of : List ℕ → List Meaning → Option Meaning
+meaning_of x [] = None
+meaning_of x (m ∷ ms) = if bytes_eq x m.name then Some m else meaning_of x ms
+
+-- what stands for an expression that has no type; no typed program has one
+abbrev pub untyped : Term
+untyped = Plain (TypeLocal IntType) NbrLink
+
+abbrev pub variable_term : Option Binder → Term
+variable_term None = untyped
+variable_term (Some b) = Plain b.type (Variable b.place)
+
+-- an input by its number, in declared order
+abbrev pub numbered_term : ℕ → Option Input → Term
+numbered_term n None = untyped
+numbered_term n (Some i) = Plain (TypeLocal (input_type i.type)) (Sense n)
+
+abbrev pub input_number : List ℕ → List Input → Option ℕ
+input_number x [] = None
+input_number x (i ∷ is) = if bytes_eq x i.name then Some 0 else option_map suc (input_number x is)
+
+abbrev pub sense_by : List Input → Option ℕ → Term
+sense_by is None = untyped
+sense_by is (Some n) = numbered_term n (slice_get is n)
+
+-- the type that a builtin gives
+abbrev pub type_given : Judgement → ValueType
+type_given (TypeIs t) = t
+type_given (FaultIs k) = TypeLocal IntType
+
+abbrev pub apply_term : Builtin → Terms → Term
+apply_term b xs = Apply (type_given (judge_builtin b (types_of xs))) b xs
+
+abbrev pub nbr_term : Term → Term
+nbr_term a = Nbr (TypeField (inner (type_of a))) a
+
+-- the type of the variable, from that of the first expression
+abbrev pub variable_type : Evolution → ValueType → ValueType
+variable_type ByRep t = t
+variable_type ByShare t = shared_type t
+
+abbrev pub bind : List ℕ → ℕ → ValueType → Scope → Scope
+bind x p t scope = record { name = x; place = p; type = t } ∷ scope
+
+-- Nodes at a place from what their kids are. The first kid stands behind the node, and each further one behind the last
+-- node of the one before.
+abbrev pub evolve_term : Evolution → List ℕ → Scope → ℕ → Term → (Scope → ℕ → Term) → Term
+evolve_term v x scope p a body = Evolve (type_of a) v a (body (bind x p (variable_type v (type_of a)) scope) (suc p + size a))
+
+abbrev pub branches : ℕ → Term → Term → (ℕ → Term) → Term
+branches p c a other = If (type_of a) c a (other (suc p + size c + size a))
+
+abbrev pub if_term : ℕ → Term → (ℕ → Term) → (ℕ → Term) → Term
+if_term p c then_by else_by = branches p c (then_by (suc p + size c)) else_by
+
+abbrev pub around : Term → Term → Term
+around a b = Let (type_of b) a b
+
+abbrev pub let_term : List ℕ → Scope → ℕ → Term → (Scope → ℕ → Term) → Term
+let_term x scope p a body = around a (body (bind x p (type_of a) scope) (suc p + size a))
+
+-- an argument of a call: a `let` that binds the next parameter
+abbrev pub with_argument : List Parameter → ℕ → ValueType → Scope → Scope
+with_argument [] p t given = given
+with_argument (x ∷ params) p t given = given ++ record { name = x.name; place = p; type = t } ∷ []
+
+abbrev pub behind_first : List Parameter → List Parameter
+behind_first [] = []
+behind_first (x ∷ params) = params
+
+abbrev pub argument_term : List Parameter → Scope → ℕ → Term → (Scope → ℕ → Term) → Term
+argument_term params given p a next = around a (next (with_argument params p (type_of a) given) (suc p + size a))
+
+abbrev pub params_of : Option Meaning → List Parameter
+params_of None = []
+params_of (Some m) = m.params
+
+abbrev pub body_of : Option Meaning → Scope → ℕ → Term
+body_of None given p = untyped
+body_of (Some m) given p = m.body given p
+
+abbrev pub more_terms : ℕ → Term → (ℕ → Terms) → Terms
+more_terms p a next = More a (next (p + size a))
+
+-- An expression that stands at a place, in a scope, with the inputs of the program and what the functions before are. An
+-- argument of a call is read in the scope of the call, and the body in that of the parameters alone.
+abbrev mutual
+  pub unfolded : List Input → List Meaning → Scope → ℕ → Expression → Term
+  unfolded is ms scope p (IntTerm n) = Plain (TypeLocal IntType) (Literal (IntValue n))
+  unfolded is ms scope p (TruthTerm b) = Plain (TypeLocal BoolType) (Literal (BoolValue b))
+  unfolded is ms scope p (VarTerm x) = variable_term (binder_of x scope)
+  unfolded is ms scope p UidTerm = Plain (TypeLocal IntType) Uid
+  unfolded is ms scope p NbrLinkTerm = Plain (TypeField IntType) NbrLink
+  unfolded is ms scope p (SenseTerm x) = sense_by is (input_number x is)
+  unfolded is ms scope p (ApplyTerm b es) = apply_term b (unfolded_all is ms scope (suc p) es)
+  unfolded is ms scope p (NbrTerm e) = nbr_term (unfolded is ms scope (suc p) e)
+  unfolded is ms scope p (RepTerm e x b) = evolve_term ByRep x scope p (unfolded is ms scope (suc p) e) (λ inner q. unfolded is ms inner q b)
+  unfolded is ms scope p (ShareTerm e x b) = evolve_term ByShare x scope p (unfolded is ms scope (suc p) e) (λ inner q. unfolded is ms inner q b)
+  unfolded is ms scope p (IfTerm c a b) = if_term p (unfolded is ms scope (suc p) c) (λ q. unfolded is ms scope q a) (λ q. unfolded is ms scope q b)
+  unfolded is ms scope p (LetTerm x a b) = let_term x scope p (unfolded is ms scope (suc p) a) (λ inner q. unfolded is ms inner q b)
+  unfolded is ms scope p (CallTerm f es) = unfolded_call is ms scope (params_of (meaning_of f ms)) [] p (body_of (meaning_of f ms)) es
+
+  pub unfolded_call : List Input → List Meaning → Scope → List Parameter → Scope → ℕ → (Scope → ℕ → Term) → Expressions → Term
+  unfolded_call is ms scope params given p body NoTerms = body given p
+  unfolded_call is ms scope params given p body (MoreTerms e es) =
+      argument_term params given p (unfolded is ms scope (suc p) e) (λ more q. unfolded_call is ms scope (behind_first params) more q body es)
+
+  pub unfolded_all : List Input → List Meaning → Scope → ℕ → Expressions → Terms
+  unfolded_all is ms scope p NoTerms = NoMore
+  unfolded_all is ms scope p (MoreTerms e es) = more_terms p (unfolded is ms scope p e) (λ q. unfolded_all is ms scope q es)
+
+-- what functions are, each with those before it
+abbrev pub meaning : List Input → List Meaning → Function → Meaning
+meaning is ms f = record { name = f.name; params = f.params; body = λ given p. unfolded is ms given p f.body }
+
+abbrev pub meanings : List Input → List Meaning → List Function → List Meaning
+meanings is ms [] = ms
+meanings is ms (f ∷ fs) = meanings is (ms ++ meaning is ms f ∷ []) fs
+
+-- the expression of `main`
+abbrev pub main_expression : List Declaration → Expression
+main_expression [] = UidTerm
+main_expression (MainIs e ∷ ds) = e
+main_expression (LanguageIs n ∷ ds) = main_expression ds
+main_expression (CeilingIs n ∷ ds) = main_expression ds
+main_expression (InputIs x t ∷ ds) = main_expression ds
+main_expression (MetricIs least greatest ∷ ds) = main_expression ds
+main_expression (DefIs f params result body ∷ ds) = main_expression ds
+
+-- `main`, unfolded
+abbrev pub main_term : List Declaration → Term
+main_term ds =
+    unfolded (and_all nothing ds).inputs (meanings (and_all nothing ds).inputs [] (and_all nothing ds).functions) [] 0 (main_expression ds)

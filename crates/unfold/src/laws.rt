@@ -1,0 +1,14 @@
+//! Laws of the definitions.
+
+ghost use Rattle.unfold.specs.Laws.{UnfoldingIsProgram, NodesAreMain, NodesAreCounted};
+
+/// The nodes of a typed program are well-formed and well-typed, and their term is `main`, unfolded.
+pub fn unfolding_is_program()
+    ensures program { UnfoldingIsProgram }
+    ensures main { NodesAreMain }
+{}
+
+/// The nodes of a program are as many as are counted without making them.
+pub fn nodes_are_counted()
+    ensures { NodesAreCounted }
+{}
