@@ -2,8 +2,8 @@
 use Rattle.std.proofs.Common.{ℕ, suc, ◌≡◌, ◌+◌, ◌<◌, ◌≤◌, List, [], ◌∷◌, ◌++◌, length, drop, get_or, map, flat_map, refl, ap, sym, ◌∙◌, add-one, append_assoc, append-nil, option_map}
 use Rattle.std.proofs.Math.Seq.{drop-cons}
 use Rattle.std.proofs.lemmas.List.{drop_all}
-use Rattle.firing_core.specs.declared.topology.Device.{Device}
-use Rattle.firing_core.specs.Networks.{NetDevice, device_of}
+use Rattle.topology.specs.declared.types.Device.{Device}
+use Rattle.topology.specs.Networks.{NetDevice, device_of}
 use Rattle.firing_core.specs.Cores.{Core}
 use Rattle.fc_program.specs.Texts.{device_line, export_value, values_text}
 

@@ -1,8 +1,14 @@
 pub mod FirstLine
 pub mod Cut
 pub mod Calm
-pub mod Numbers
 pub mod Entries
-pub mod PairFacts
 pub mod CoreLines
 pub mod Shown
+pub mod SectionSizes
+pub mod Replying
+pub mod PairFacts
+pub mod LogFit
+pub mod Refusing
+pub mod OneReply
+pub mod Pairs
+pub mod FormFacts

@@ -4,5 +4,8 @@ pub mod Words
 pub mod Restricted
 pub mod PairScene
 pub mod Texts
+pub mod Forms
+pub mod Sources
+pub mod Kinds
 pub mod Reply
 pub mod Top

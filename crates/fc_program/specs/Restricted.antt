@@ -1,62 +1,10 @@
--- The restricted form of the three sections of a replay: one program, two networks, and a log of begins and ends.
-use Rattle.std.specs.Prelude.{ℕ, ◌+◌, ◌-◌, ◌*◌, Bool, true, false, ◌==◌, ◌||◌, ◌&&◌, nat_lt, nat_le, cond, min, fold, List, [], ◌∷◌, length, take, drop, codes, None, Some}
+-- The restricted form of the network and the log of a replay: two networks, and a log of begins and ends.
+use Rattle.std.specs.Prelude.{ℕ, Bool, true, false, ◌==◌, cond, List, [], ◌∷◌, length, codes, None, Some}
 use Rattle.std.specs.declared.option.Option.{Option}
 use Rattle.std.specs.Str.{bytes_eq}
-use Rattle.std.specs.List.{prefix_len}
 use Rattle.fc_program.specs.Lines.{lines_of, line_text}
-use Rattle.fc_program.specs.declared.restricted.Program.{Program}
 use Rattle.firing_core.specs.declared.entries.Entry.{Entry}
 use Rattle.firing_core.specs.declared.entries.Entry.TheVariants.{Begin, End, Idle}
-
--- the spaces of a program's text
-abbrev pub is_space : ℕ → Bool
-is_space b = b == 9 || b == 10 || b == 13 || b == 32
-
--- a decimal digit
-abbrev pub is_digit : ℕ → Bool
-is_digit b = nat_lt 47 b && nat_lt b 58
-
--- a text without the spaces at its front
-abbrev pub after_spaces : List ℕ → List ℕ
-after_spaces text = drop (prefix_len is_space text) text
-
--- the number that decimal digits write, and 1,000,001 where it is larger
-abbrev pub number_of : List ℕ → ℕ
-number_of digits = min (fold (λ n digit. n * 10 + (digit - 48)) 0 digits) 1000001
-
--- The form of a program. A blank stands for any spaces, also none, `_` for one space, and `#` for a number.
-unfoldable pub program_form : List ℕ
-program_form = codes " ceiling_ # ; main = minHoodLoc ( nbr { # } + # , # ) ; "
-
--- one more number before those that were read
-abbrev pub onto_numbers : ℕ → Option (List ℕ) → Option (List ℕ)
-onto_numbers n None = None
-onto_numbers n (Some ns) = Some (n ∷ ns)
-
--- a text begins with what a piece of the form stands for, which is one byte
-abbrev pub begins_with : ℕ → List ℕ → Bool
-begins_with piece [] = false
-begins_with piece (b ∷ text) = cond (piece == 95) (is_space b) (b == piece)
-
--- the numbers that a text has where its form has `#`, or none where the text is not of that form
-abbrev pub numbers_of : List ℕ → List ℕ → Option (List ℕ)
-numbers_of [] text = cond (nat_lt 0 (length text)) None (Some [])
-numbers_of (piece ∷ form) text =
-    cond (piece == 32) (numbers_of form (after_spaces text))
-    (cond (piece == 35)
-    (cond (nat_lt 0 (prefix_len is_digit text)) (onto_numbers (number_of (take (prefix_len is_digit text) text)) (numbers_of form (drop (prefix_len is_digit text) text))) None)
-    (cond (begins_with piece text) (numbers_of form (drop 1 text)) None))
-
--- the program of these numbers: its ceiling is 1 to 1,000,000, and the others are at most the ceiling
-abbrev pub program_within : Option (List ℕ) → Option Program
-program_within (Some (ceiling ∷ shared ∷ added ∷ local ∷ [])) =
-    cond (nat_lt 0 ceiling && nat_le ceiling 1000000 && nat_le shared ceiling && nat_le added ceiling && nat_le local ceiling)
-    (Some (record { ceiling = ceiling; shared = shared; added = added; local = local })) None
-program_within numbers = None
-
--- the program that a section says: `ceiling N;` and `main = minHoodLoc(nbr{A} + B, C);`
-unfoldable pub program_of : List ℕ → Option Program
-program_of section = program_within (numbers_of program_form section)
 
 -- two devices, linked with weight 1 or not
 abbrev pub linked_text : List ℕ

@@ -1,5 +1,5 @@
 -- An input is cut into sections by the lines that are exactly `%%`.
-use Rattle.std.specs.Prelude.{ℕ, Bool, cond, List, [], ◌∷◌, ◌++◌, codes}
+use Rattle.std.specs.Prelude.{ℕ, ◌≤◌, Bool, cond, List, [], ◌∷◌, ◌++◌, length, codes}
 use Rattle.std.specs.Str.{bytes_eq}
 use Rattle.fc_program.specs.Lines.{lines_of, line_text}
 
@@ -20,3 +20,8 @@ sections_from (line ∷ lines) = cond (is_separator line) ([] ∷ sections_from 
 -- the sections of an input: what stands between the lines that separate
 abbrev pub sections_of : List ℕ → List (List ℕ)
 sections_of input = sections_from (lines_of input)
+
+-- no section is longer than this
+abbrev pub AreWithin : ℕ → List (List ℕ) → Type 0
+AreWithin most [] = Unit {0}
+AreWithin most (section ∷ sections) = (length section ≤ most) × AreWithin most sections

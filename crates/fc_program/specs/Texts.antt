@@ -3,7 +3,7 @@ use Rattle.std.specs.Prelude.{ℕ, true, false, flat_map, List, ◌++◌, codes,
 use Rattle.std.specs.declared.option.Option.{Option}
 use Rattle.std.specs.Fmt.{decimal}
 use Rattle.fc_values.specs.Trees.{TreeExport}
-use Rattle.firing_core.specs.Networks.{NetDevice}
+use Rattle.topology.specs.Networks.{NetDevice}
 use Rattle.firing_core.specs.Cores.{Core}
 use Rattle.fc_values.specs.Values.{LocalValue, IntValue, BoolValue, PairValue}
 

@@ -1,14 +1,26 @@
 -- What a run promises of its sink and its status.
-use Rattle.std.specs.Prelude.{ℕ, ◌≡◌, ◌<◌, List, length, take}
+use Rattle.std.specs.Prelude.{ℕ, ◌≡◌, ◌<◌, Bool, List, length, take}
 use Rattle.std.specs.declared.option.Option.{Option}
 use Rattle.std.specs.Io.KnownBytes.{Appends}
-use Rattle.fc_program.specs.Reply.{Reply}
+use Rattle.fc_program.specs.declared.words.Command.{Command}
+use Rattle.fc_program.specs.Reply.{Reply, Replies, has_book}
 
--- the sink took the text of this reply and nothing else, and the status is the reply's
-pub record IsExact (old new : Option (List ℕ)) (answered : ℕ) (reply : Reply) : Type 0 where
+-- the sink took the text of the reply and nothing else, and the status is the reply's
+pub record IsExact (command : Option Command) (input : List ℕ) (old new : Option (List ℕ)) (answered : ℕ) : Type 0 where
+  pub reply : Reply
+  pub replies : Replies command input reply
   pub status : answered ≡ reply.status
   pub text : Appends old new reply.text
 
--- the sink took a front of the reply's text
-abbrev pub IsCut : Option (List ℕ) → Option (List ℕ) → Reply → Type 0
-IsCut old new reply = (n : ℕ) × (n < length reply.text) × Appends old new (take n reply.text)
+-- the sink took a front of the reply's text, and whether there is a book is told by the reply's status
+pub record IsCut (command : Option Command) (input : List ℕ) (old new : Option (List ℕ)) (book : Bool) : Type 0 where
+  pub reply : Reply
+  pub replies : Replies command input reply
+  pub size : ℕ
+  pub short : size < length reply.text
+  pub text : Appends old new (take size reply.text)
+  pub kept : book ≡ has_book command reply.status
+
+-- an input has at most one reply
+abbrev pub OneReply : Type 0
+OneReply = (command : Option Command) (input : List ℕ) (reply other : Reply) → Replies command input reply → Replies command input other → reply ≡ other

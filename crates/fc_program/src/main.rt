@@ -1,12 +1,15 @@
-//! `fc`: replays a log of firings on a network and writes what each device holds.
+//! `fc`: writes a program's canonical text, or replays a log of firings on a network and writes what each device holds.
 #![tactic(auto)]
 
+mod forms;
+mod kinds;
 mod lines;
 mod refusal;
 mod replies;
 mod restricted;
 mod scene;
 mod sections;
+mod sources;
 #[cfg(test)]
 mod tests;
 mod texts;

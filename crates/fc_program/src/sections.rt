@@ -1,6 +1,6 @@
 //! The sections of an input.
-ghost use Rattle.std.specs.Prelude.{◌≡◌, map, IfOk};
-ghost use Rattle.fc_program.specs.Sections.{is_separator, sections_of};
+ghost use Rattle.std.specs.Prelude.{◌≡◌, length, map, IfOk};
+ghost use Rattle.fc_program.specs.Sections.{AreWithin, is_separator, sections_of};
 
 use crate::lines::{first_line, line_text};
 use fc_values::Memory;
@@ -15,7 +15,8 @@ fn separates(line: &[u8]) -> bool
 
 /// The sections, each without the lines that separate them.
 pub fn sections(alloc: Global, input: &[u8]) -> Result<Vec<&[u8]>, Memory>
-    ensures { IfOk result (λ v. map (λ s. s.now) v.items ≡ sections_of input.now) }
+    ensures sections { IfOk result (λ v. map (λ s. s.now) v.items ≡ sections_of input.now) }
+    ensures within { IfOk result (λ v. AreWithin (length input.now) (map (λ s. s.now) v.items)) }
 {
     let mut found = Vec::new(alloc);
     let mut start = 0;

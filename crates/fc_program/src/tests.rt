@@ -2,9 +2,10 @@
 
 use crate::refusal::Refusal;
 use crate::replies::{answer, refuse};
-use crate::restricted::{Program, read_log, read_program};
-use crate::scene::{book, network, unfolded};
+use crate::restricted::read_log;
+use crate::scene::{book, network_for};
 use crate::sections::sections;
+use crate::sources::{read_program, read_source};
 use crate::texts::values;
 use crate::top::{calm, fc};
 use crate::words::Command;
@@ -17,9 +18,6 @@ const PROGRAM: &str = "ceiling 10; main = minHoodLoc(nbr{1} + 1, 5);\n";
 
 const LINKED: &str =
     "{\"devices\":[{\"id\":0,\"inputs\":{}},{\"id\":1,\"inputs\":{}}],\"links\":[[0,1,1]]}\n";
-
-const APART: &str =
-    "{\"devices\":[{\"id\":0,\"inputs\":{}},{\"id\":1,\"inputs\":{}}],\"links\":[]}\n";
 
 const LOG: &str = "B0\nE0\nB1\nE1\n";
 
@@ -34,7 +32,7 @@ fn words(alloc: Global, list: &[&str]) -> Result<Vec<String>, AllocError> {
 // Three sections as one input.
 fn input(alloc: Global, parts: [&str; 3]) -> Result<Vec<u8>, AllocError> {
     let [program, network, log] = parts;
-    Ok(format!(in alloc; "{program}%%\n{network}%%\n{log}")?.into_bytes())
+    Ok(format!(in alloc; "{program}\n%%\n{network}%%\n{log}")?.into_bytes())
 }
 
 #[test]
@@ -72,17 +70,34 @@ fn faults(rt: HostRuntime) -> Result<(), Fail> {
     Ok(())
 }
 
-// What the program answers to three sections, and what it writes.
-fn answers(
+// What a replay of a program on the two linked devices answers, and what it writes.
+fn replays(
     rt: &impl Abort,
     alloc: Global,
-    word: &str,
-    parts: [&str; 3],
+    program: &str,
+    log: &str,
     status: u8,
     text: &str,
 ) -> Result<(), Fail> {
-    let words = words(alloc, &["fc", word])?;
-    let mut source = CalmSource::new(input(alloc, parts)?);
+    let words = words(alloc, &["fc", "replay"])?;
+    let mut source = CalmSource::new(input(alloc, [program, LINKED, log])?);
+    let mut sink = CalmSink::new(alloc, 100)?;
+    let outcome = fc(alloc, &words, &mut source, &mut sink);
+    assert_eq!(rt; outcome.status, status);
+    assert_eq!(rt; sink.taken(), text.as_bytes());
+    Ok(())
+}
+
+// What `format` answers to a text, and what it writes.
+fn formats(
+    rt: &impl Abort,
+    alloc: Global,
+    program: &str,
+    status: u8,
+    text: &str,
+) -> Result<(), Fail> {
+    let words = words(alloc, &["fc", "format"])?;
+    let mut source = CalmSource::new(program.as_bytes().to_vec(alloc)?);
     let mut sink = CalmSink::new(alloc, 100)?;
     let outcome = fc(alloc, &words, &mut source, &mut sink);
     assert_eq!(rt; outcome.status, status);
@@ -93,71 +108,66 @@ fn answers(
 #[test]
 fn values_after_logs(rt: HostRuntime) -> Result<(), Fail> {
     let alloc = rt.alloc();
-    answers(&rt, alloc, "replay", [PROGRAM, LINKED, ""], 0, "0 -\n1 -\n")?;
-    answers(&rt, alloc, "replay", [PROGRAM, APART, LOG], 0, "0 5\n1 5\n")?;
-    let log = "B0\r\n\nI\nB1\nE1\nE0\r";
-    answers(
+    replays(&rt, alloc, PROGRAM, "", 0, "0 -\n1 -\n")?;
+    replays(
         &rt,
         alloc,
-        "replay",
-        [PROGRAM, LINKED, log],
+        PROGRAM,
+        "B0\r\n\nI\nB1\nE1\nE0\r",
         0,
         "0 5\n1 5\n",
     )?;
-    let program = "\tceiling\r\n07;main=minHoodLoc ( nbr{ 3}+2,006);\n";
-    answers(
+    let spaced = "\tceiling\r\n07;main=minHoodLoc ( nbr{ 3}+2,006); // six";
+    replays(&rt, alloc, spaced, LOG, 0, "0 6\n1 5\n")?;
+    Ok(())
+}
+
+#[test]
+fn canonical_texts(rt: HostRuntime) -> Result<(), Fail> {
+    let alloc = rt.alloc();
+    let text = "ceiling 10 ; main=(1+2)*sumHood(nbr{ 1 });";
+    formats(
         &rt,
         alloc,
-        "replay",
-        [program, LINKED, LOG],
+        text,
         0,
-        "0 6\n1 5\n",
+        "ceiling 10;\nmain = (1 + 2) * sumHood(nbr{1});\n",
+    )?;
+    formats(&rt, alloc, "ceiling 10;\nmain = 5", 3, "syntax 2 2\n")?;
+    formats(&rt, alloc, "ceiling 10;\nmain = 5 $ 6;", 3, "lexical 21\n")?;
+    formats(
+        &rt,
+        alloc,
+        "ceiling 10; main = 1 + true;\n%%\n",
+        3,
+        "sections 2\n",
     )?;
     Ok(())
 }
 
 #[test]
-fn programs_outside_the_form(rt: HostRuntime) -> Result<(), Fail> {
+fn refused_replays(rt: HostRuntime) -> Result<(), Fail> {
     let alloc = rt.alloc();
-    let program = "ceiling10; main = 5;\n";
-    answers(&rt, alloc, "replay", [program, "", "B2"], 3, "form 1\n")?;
-    let program = "ceiling 1000001; main = minHoodLoc(nbr{1} + 1, 5);\n";
-    answers(&rt, alloc, "replay", [program, LINKED, ""], 3, "form 1\n")?;
-    let program = "ceiling 4; main = minHoodLoc(nbr{1} + 1, 5);\n";
-    answers(&rt, alloc, "replay", [program, LINKED, ""], 3, "form 1\n")?;
-    Ok(())
-}
-
-#[test]
-fn other_refusals(rt: HostRuntime) -> Result<(), Fail> {
-    let alloc = rt.alloc();
-    answers(&rt, alloc, "replay", [PROGRAM, "{}\n", "B2"], 3, "form 2\n")?;
-    answers(
+    replays(
         &rt,
         alloc,
-        "replay",
-        [PROGRAM, LINKED, "B0\n E0"],
+        "ceiling 10; main = 1 + true;",
+        "",
         3,
-        "form 3\n",
+        "types 2 mismatch\n",
     )?;
-    answers(
+    replays(&rt, alloc, "ceiling 10; main = 5;", "", 3, "form 1\n")?;
+    replays(
         &rt,
         alloc,
-        "replay",
-        [PROGRAM, LINKED, "B0\nB0"],
+        "ceiling 10; metric 2..3; main = 1;",
+        "B2",
         3,
-        "form 3\n",
+        "form 1\n",
     )?;
-    answers(
-        &rt,
-        alloc,
-        "replay",
-        [PROGRAM, LINKED, "B0\n%%\nE0"],
-        3,
-        "form 0\n",
-    )?;
-    let usage = "usage: fc check|stable|run|replay|format|gen|trace|mail\n";
-    answers(&rt, alloc, "check", [PROGRAM, LINKED, LOG], 2, usage)?;
+    replays(&rt, alloc, PROGRAM, "B0\n E0", 3, "form 3\n")?;
+    replays(&rt, alloc, PROGRAM, "B0\nB0", 3, "form 3\n")?;
+    replays(&rt, alloc, PROGRAM, "B0\n%%\nE0", 3, "sections 4\n")?;
     Ok(())
 }
 
@@ -175,23 +185,9 @@ fn too_many_bytes(rt: HostRuntime) -> Result<(), Fail> {
 
 // Each call that may want memory, once with ample memory.
 
-const FORM: Program = Program {
-    ceiling: 10,
-    shared: 1,
-    added: 1,
-    local: 5,
-};
-
 #[test]
 fn sections_are_cut(rt: HostRuntime) -> Result<(), Fail> {
     assert_eq!(rt; sections(rt.alloc(), b"a\n%%\nb")?.len(), 2);
-    Ok(())
-}
-
-#[test]
-fn a_program_is_read(rt: HostRuntime) -> Result<(), Fail> {
-    let form = read_program(rt.alloc(), PROGRAM.as_bytes())?;
-    assert!(rt; form == Some(FORM));
     Ok(())
 }
 
@@ -205,21 +201,22 @@ fn a_log_is_read(rt: HostRuntime) -> Result<(), Fail> {
 }
 
 #[test]
-fn a_program_is_built(rt: HostRuntime) -> Result<(), Fail> {
-    assert_eq!(rt; unfolded(rt.alloc(), FORM)?.size(), 6);
-    Ok(())
-}
-
-#[test]
-fn a_network_is_built(rt: HostRuntime) -> Result<(), Fail> {
-    assert_eq!(rt; network(rt.alloc(), FORM, true)?.links().len(), 1);
-    Ok(())
-}
-
-#[test]
-fn a_book_is_made_and_shown(rt: HostRuntime) -> Result<(), Fail> {
+fn a_program_is_read_and_run(rt: HostRuntime) -> Result<(), Fail> {
     let alloc = rt.alloc();
-    let Some(book) = book(alloc, FORM, true, Vec::new(alloc))? else {
+    let text = b"ceiling 10; main = minHoodLoc(nbr{1} + 1, 5);";
+    let Ok(source) = read_source(alloc, text) else {
+        return Err(Fail::new("the text derives no program"));
+    };
+    assert_eq!(rt; source.decls.len(), 2);
+    let Ok(program) = read_program(alloc, text) else {
+        return Err(Fail::new("the text is no program"));
+    };
+    assert_eq!(rt; program.size(), 6);
+    let Some(net) = network_for(alloc, program.declared(), Some(true))? else {
+        return Err(Fail::new("the program may not run"));
+    };
+    assert_eq!(rt; net.links().len(), 1);
+    let Some(book) = book(alloc, program, net, Vec::new(alloc))? else {
         return Err(Fail::new("the log has no replay"));
     };
     let mut text = Vec::new(alloc);
@@ -233,7 +230,7 @@ fn a_refusal_is_answered(rt: HostRuntime) -> Result<(), Fail> {
     let alloc = rt.alloc();
     assert_eq!(rt; refuse(alloc, Refusal::Form(2))?.status(), 3);
     let (reply, _) = answer(alloc, Command::Replay, b"")?;
-    assert_eq!(rt; reply.text(), b"form 0\n".as_slice());
+    assert_eq!(rt; reply.text(), b"sections 1\n".as_slice());
     Ok(())
 }
 

@@ -2,9 +2,9 @@
 ghost use Rattle.std.specs.Prelude.{◌≡◌, ◌≢◌, ◌≤◌, ◌<◌, ◌⊎◌, [], length, map, string_bytes, IfOk, OnOk, OnErr, IfSome, IsErrOf, IsNone, None, is_some};
 ghost use Rattle.std.specs.Io.KnownBytes.{Keeps, IsAtEnd};
 ghost use Rattle.fc_io.specs.Causes.{Rose};
-ghost use Rattle.fc_program.specs.Reply.{reply_to, has_book, IsBookFor};
+ghost use Rattle.fc_program.specs.Reply.{Reply, Replies, has_book, IsBookFor};
 ghost use Rattle.fc_program.specs.Words.{command_of};
-ghost use Rattle.fc_program.specs.Top.{IsExact, IsCut};
+ghost use Rattle.fc_program.specs.Top.{IsExact, IsCut, OneReply};
 ghost use Rattle.fc_program.specs.declared.top.Stop.TheVariants as stop;
 
 use crate::LIMIT;
@@ -12,6 +12,9 @@ use crate::refusal::Refusal;
 use crate::replies::{Reply, answer, refuse};
 use crate::words::asked;
 use fc_io::{CalmSink, CalmSource, ReadAll, Sink, Source, read_all, write_all};
+use fc_lexer::one_reading;
+use fc_parser::one_meaning;
+use fc_types::{one_first_fault, typed_or_at_fault};
 use fc_values::Memory;
 use firing_core::Book;
 use std::alloc::Global;
@@ -37,7 +40,7 @@ fn reply<S: Source>(
     words: &[String],
     src: &mut S,
 ) -> Result<(Reply, Option<Book>), Stop>
-    ensures exact { IfOk result (λ r. IfSome (S.left src.old) (λ input. r.0 ≡ reply_to (command_of (map string_bytes words.now)) input)) }
+    ensures replies { IfOk result (λ r. IfSome (S.left src.old) (λ input. Replies (command_of (map string_bytes words.now)) input r.0)) }
     ensures usage { IfOk result (λ r. r.0.status ≡ 2 → command_of (map string_bytes words.now) ≡ None) }
     ensures outside { IfOk result (λ r. command_of (map string_bytes words.now) ≡ None → r.0.status ≡ 2) }
     ensures status { IfOk result (λ r. r.0.status ≤ 4) }
@@ -72,7 +75,7 @@ pub struct Outcome {
 /// Does all that the program does, and answers its status.
 pub fn fc<S: Source, K: Sink>(alloc: Global, words: &[String], src: &mut S, out: &mut K) -> Outcome
     // Where a status from 0 to 4 is answered, the sink took exactly the text of the reply.
-    ensures exact { result.status ≤ 4 → IfSome (S.left src.old) (λ input. IsExact (K.taken out.old) (K.taken out.new) result.status (reply_to (command_of (map string_bytes words.now)) input)) }
+    ensures exact { result.status ≤ 4 → IfSome (S.left src.old) (λ input. IsExact (command_of (map string_bytes words.now)) input (K.taken out.old) (K.taken out.new) result.status) }
     ensures end { result.status ≤ 1 → IsAtEnd (S.left src.new) }
     ensures refused { result.status ≡ 3 → IsAtEnd (S.left src.new) }
 
@@ -83,21 +86,20 @@ pub fn fc<S: Source, K: Sink>(alloc: Global, words: &[String], src: &mut S, out:
     ensures write { result.status ≡ 6 → Rose (K.faults out.old) (K.faults out.new) }
     ensures unread { result.status ≢ 5 → S.faults src.new ≡ S.faults src.old }
     ensures unwritten { result.status ≢ 6 → K.faults out.new ≡ K.faults out.old }
-    ensures cut { result.status ≡ 6 → IfSome (S.left src.old) (λ input. IsCut (K.taken out.old) (K.taken out.new) (reply_to (command_of (map string_bytes words.now)) input)) }
+    ensures cut { result.status ≡ 6 → IfSome (S.left src.old) (λ input. IsCut (command_of (map string_bytes words.now)) input (K.taken out.old) (K.taken out.new) (is_some result.book)) }
     ensures memory { result.status ≡ 7 → Keeps (K.taken out.old) (K.taken out.new) }
     ensures range { result.status ≤ 7 }
     ensures room { K.room out.new ≡ K.room out.old }
 
-    // The book is that of the input. It is there exactly where the reply has status 0, written whole or cut.
+    // The book is that of the input. It is there exactly where the reply has status 0, written whole or cut (`cut`).
     ensures book { IfSome result.book (λ b. IfSome (S.left src.old) (λ input. IsBookFor (command_of (map string_bytes words.now)) input b)) }
     ensures present { result.status ≤ 4 → is_some result.book ≡ has_book (command_of (map string_bytes words.now)) result.status }
-    ensures present_cut { result.status ≡ 6 → IfSome (S.left src.old) (λ input. is_some result.book ≡ has_book (command_of (map string_bytes words.now)) (reply_to (command_of (map string_bytes words.now)) input).status) }
     ensures unread_book { result.status ≡ 5 → IsNone result.book }
     ensures memory_book { result.status ≡ 7 → IsNone result.book }
 
     // Where no count rose, want of memory is the one answer beside the defined one.
     ensures complete { (Rose (S.faults src.old) (S.faults src.new) → ⊥) → (Rose (K.faults out.old) (K.faults out.new) → ⊥) → result.status ≢ 7
-        → IfSome (S.left src.old) (λ input. IsExact (K.taken out.old) (K.taken out.new) result.status (reply_to (command_of (map string_bytes words.now)) input)) }
+        → IfSome (S.left src.old) (λ input. IsExact (command_of (map string_bytes words.now)) input (K.taken out.old) (K.taken out.new) result.status) }
 {
     let (status, book) = match reply(alloc, words, src) {
         Ok((reply, book)) => match write_all(out, reply.text()) {
@@ -110,16 +112,25 @@ pub fn fc<S: Source, K: Sink>(alloc: Global, words: &[String], src: &mut S, out:
     Outcome { status, book }
 }
 
+/// An input has at most one reply: its status and its text are a function of the words and the input.
+pub fn one_reply()
+    ensures { OneReply }
+{
+    one_reading();
+    one_meaning();
+    typed_or_at_fault();
+    one_first_fault();
+}
+
 /// `fc` over a source and a sink that stay calm, with more room than the text has bytes: it never
 /// answers 5 or 6, and where memory suffices it does what is defined.
 pub fn calm(alloc: Global, words: &[String], input: Vec<u8>, out: &mut CalmSink) -> Outcome
     requires fresh { out.old.faults ≡ 0 }
     requires empty { out.old.taken ≡ [] }
-    requires room { length (reply_to (command_of (map string_bytes words.now)) input.items).text < out.old.room }
+    requires room { (reply : Reply) → Replies (command_of (map string_bytes words.now)) input.items reply → length reply.text < out.old.room }
     ensures read { result.status ≢ 5 }
     ensures write { result.status ≢ 6 }
-    ensures status { result.status ≢ 7 → result.status ≡ (reply_to (command_of (map string_bytes words.now)) input.items).status }
-    ensures text { result.status ≢ 7 → out.new.taken ≡ (reply_to (command_of (map string_bytes words.now)) input.items).text }
+    ensures replies { result.status ≢ 7 → Replies (command_of (map string_bytes words.now)) input.items (record { status = result.status; text = out.new.taken }) }
     ensures memory { result.status ≡ 7 → out.new.taken ≡ [] }
 {
     let mut source = CalmSource::new(input);

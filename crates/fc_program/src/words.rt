@@ -5,6 +5,9 @@ ghost use Rattle.fc_program.specs.Words.{command_of};
 /// What the program can be asked for.
 #[derive(Clone, Copy, Debug, PartialEq, Eq)]
 pub enum Command {
+    /// The canonical text of a program.
+    Format,
+    /// The values after a log.
     Replay,
 }
 
@@ -17,6 +20,9 @@ pub fn asked(words: &[String]) -> Option<Command>
     };
     if word.as_str() == "replay" {
         return Some(Command::Replay);
+    }
+    if word.as_str() == "format" {
+        return Some(Command::Format);
     }
     None
 }

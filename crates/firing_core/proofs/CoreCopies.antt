@@ -10,7 +10,7 @@ use Rattle.fc_nodes.specs.Program.{Program, Unfolding}
 use Rattle.value_trees.specs.declared.copies.Snap.{Snap}
 use Rattle.value_trees.specs.Copies.{WhereSome}
 use Rattle.value_trees.specs.Snaps.{tree_of, snap_copy, IsSnap}
-use Rattle.firing_core.specs.Networks.{Network, numbers}
+use Rattle.topology.specs.Networks.{Network, numbers}
 use Rattle.firing_core.specs.Cores.{Core}
 use Rattle.firing_core.specs.CoreViews.{CoreValue, core_of, program_of, slot_at, AllExports, AllFlights, AllSnaps, FlightOf, IsCore}
 use Rattle.firing_core.proofs.SnapCopies.{own_same, own_export}

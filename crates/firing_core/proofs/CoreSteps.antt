@@ -11,9 +11,9 @@ use Rattle.value_trees.specs.Copies.{WhereSome}
 use Rattle.device_eval.specs.Copies.{EvaluatesCopy}
 use Rattle.value_trees.specs.Snaps.{tree_of, snap_copy, IsExportOf, IsSnap}
 use Rattle.device_eval.specs.Firing.{FiredValue, IsFired}
-use Rattle.firing_core.specs.declared.entries.Entry.TheVariants as entry
+use Rattle.firing_core.specs.Entries.{BeginEntry, EndEntry}
 use Rattle.firing_core.specs.declared.entries.StepFault.TheVariants as fault
-use Rattle.firing_core.specs.Networks.{Network, numbers, lives, IsNetwork}
+use Rattle.topology.specs.Networks.{Network, numbers, lives, IsNetwork}
 use Rattle.firing_core.specs.Cores.{put, Core, copy_of, begun, ended, Ends}
 use Rattle.firing_core.specs.Replays.{fault_of}
 use Rattle.firing_core.specs.CoreViews.{CoreValue, core_of, program_of, slot_at, AllExports, AllFlights, FlightOf, IsCore, IsEmptyCore}
@@ -99,7 +99,7 @@ module _ (v : CoreValue) (k : IsCore v) (p d : ℕ) (h : p < length v.net.device
   export_at x q = slot_read (tree_of (program_of v)) (numbers v.net.devices) v.exports p d x apart in_numbers e exports q
 
   -- a begin: the device flies already, or not yet
-  pub begin_flying : (x : Option Snap) → x ≡ get_or v.flying p x → lives v.net d ≡ true → is_some x ≡ true → fault_of (core_of v) (entry.Begin d) ≡ Some fault.Flying
+  pub begin_flying : (x : Option Snap) → x ≡ get_or v.flying p x → lives v.net d ≡ true → is_some x ≡ true → fault_of (core_of v) (BeginEntry d) ≡ Some fault.Flying
   begin_flying None q l s = absurd cc
   begin_flying (Some x) q l s = let f = flight_at (Some x) q in rw (l, f) refl
 
@@ -107,16 +107,16 @@ module _ (v : CoreValue) (k : IsCore v) (p d : ℕ) (h : p < length v.net.device
   not_flying None q s = flight_at None q
   not_flying (Some x) q s = absurd cc
 
-  pub begin_free : (x : Option Snap) → x ≡ get_or v.flying p x → lives v.net d ≡ true → is_some x ≡ false → fault_of (core_of v) (entry.Begin d) ≡ None
+  pub begin_free : (x : Option Snap) → x ≡ get_or v.flying p x → lives v.net d ≡ true → is_some x ≡ false → fault_of (core_of v) (BeginEntry d) ≡ None
   begin_free x q l s = let f = not_flying x q s in rw (l, f) refl
 
-  pub end_resting : (x : Option Snap) → x ≡ get_or v.flying p x → lives v.net d ≡ true → is_some x ≡ false → fault_of (core_of v) (entry.End d) ≡ Some fault.NotFlying
+  pub end_resting : (x : Option Snap) → x ≡ get_or v.flying p x → lives v.net d ≡ true → is_some x ≡ false → fault_of (core_of v) (EndEntry d) ≡ Some fault.NotFlying
   end_resting x q l s = let f = not_flying x q s in rw (l, f) refl
 
   pub record Flies (x : Option Snap) : Type 0 where
     pub snap : Snap
     pub flies : (core_of v).flying d ≡ Some (snap_copy (program_of v) snap)
-    pub fault : fault_of (core_of v) (entry.End d) ≡ None
+    pub fault : fault_of (core_of v) (EndEntry d) ≡ None
 
   pub flies : (x : Option Snap) → x ≡ get_or v.flying p x → lives v.net d ≡ true → is_some x ≡ true → Flies x
   flies None q l s = absurd cc

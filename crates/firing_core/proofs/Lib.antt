@@ -1,4 +1,3 @@
-pub mod Numbers
 pub mod Slots
 pub mod Views
 pub mod Neighbours
@@ -12,3 +11,5 @@ pub mod Steps
 pub mod Appends
 pub mod Replaying
 pub mod StepsKeep
+pub mod CoreEdits
+pub mod Flights

@@ -4,7 +4,7 @@ use Rattle.std.proofs.Math.Path.{fun_ext}
 use Rattle.std.proofs.lemmas.Bool.{eqb-true, eq-eqb}
 use Rattle.std.specs.Prelude.{slice_set, ◌||◌}
 use Rattle.fc_values.specs.Fields.{Rises}
-use Rattle.firing_core.specs.Networks.{is_in}
+use Rattle.topology.specs.Networks.{is_in}
 use Rattle.firing_core.specs.Cores.{put}
 use Rattle.firing_core.specs.CoreViews.{slot_at}
 

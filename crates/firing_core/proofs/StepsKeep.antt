@@ -1,17 +1,21 @@
 -- Steps keep a core good.
-use Rattle.std.proofs.Common.{◌≡◌, ℕ, List, [], ◌∷◌, sym, ◌∙◌, ap, subst, Option, Some, None}
+use Rattle.std.proofs.Common.{◌≡◌, ℕ, List, [], ◌∷◌, refl, sym, ◌∙◌, ap, subst, Bool, true, false, not, ◌||◌, if◌then◌else◌, nat_eq, Option, Some, None}
+use Rattle.std.proofs.lemmas.Bool.{eqb-false}
+use Rattle.topology.specs.declared.types.NetFault.TheVariants as net_fault
 use Rattle.fc_values.specs.Trees.{TreeExport, Copy}
 use Rattle.fc_nodes.specs.Program.{Program, Unfolding, unfolding_of, IsProgram}
-use Rattle.fc_nodes.specs.Flat.{IsWellTyped}
+use Rattle.fc_nodes.specs.Flat.{IsWellTyped, tree_export}
 use Rattle.value_trees.specs.Copies.{FitsCopy}
 use Rattle.device_eval.specs.Copies.{HasOneExport}
 use Rattle.device_eval.proofs.OneExport.{program_export}
-use Rattle.firing_core.specs.declared.entries.Entry.{Entry}
-use Rattle.firing_core.specs.declared.entries.Entry.TheVariants as entry
-use Rattle.firing_core.specs.Networks.{Lives, IsNetwork}
-use Rattle.firing_core.specs.Cores.{Core, copy_of, begun, ended, Ends, Step, Run, GoodExport, GoodFlight, IsGood}
+use Rattle.topology.specs.Networks.{Network, numbers, is_in, lives, Lives, IsNetwork}
+use Rattle.topology.specs.Changes.{insert_device, drop_device}
+use Rattle.topology.proofs.Devices.{put_numbers, insert_in}
+use Rattle.topology.proofs.Changed.{linked_network, unlinked_network, input_network, set_none, joined_network, left_network}
+use Rattle.firing_core.specs.Entries.{EditValue, LinkEdit, UnlinkEdit, SetEdit, PokeEdit, JoinEdit, LeaveEdit, EntryValue, BeginEntry, EndEntry, IdleEntry, EditEntry}
+use Rattle.firing_core.specs.Cores.{Core, copy_of, begun, ended, Ends, Edits, EditFits, edit_fault, edited, Step, Run, GoodExport, GoodFlight, IsGood}
 use Rattle.firing_core.proofs.Neighbours.{copy_fits}
-use Rattle.firing_core.proofs.Steps.{put_case}
+use Rattle.firing_core.proofs.Steps.{put_case, may_leave, stays}
 
 -- the copy that a begin takes is a good flight
 taken_good : (U : Unfolding) (c : Core) (d e : ℕ) (s : Copy) → IsNetwork c.net → IsGood U c → Lives c.net d → e ≡ d → copy_of c.net c.exports d ≡ s → GoodFlight U c.net e s
@@ -47,18 +51,90 @@ ended_good P c next d program good s = record {
   flying = λ e t. put_case (λ (v : Option Copy). v ≡ Some t → GoodFlight (unfolding_of P) c.net e t) c.flying d e None (λ same q. absurd cc) (good.flying e t);
 }
 
-pub step_good : (P : Program) (c next : Core) (e : Entry) → IsProgram P → IsNetwork c.net → IsGood (unfolding_of P) c → Step (unfolding_of P) c e next → IsGood (unfolding_of P) next
-step_good P c next (entry.Begin d) program net good s = subst (IsGood (unfolding_of P)) (sym s.2) (begun_good (unfolding_of P) c d net good s.0)
-step_good P c next (entry.End d) program net good s = subst (IsGood (unfolding_of P)) (sym s.after) (ended_good P c next d program good s)
-step_good P c next entry.Idle program net good s = subst (IsGood (unfolding_of P)) (sym s) good
+-- ---- edits
 
--- steps change no network
-pub step_net : (U : Unfolding) (c next : Core) (e : Entry) → Step U c e next → next.net ≡ c.net
-step_net U c next (entry.Begin d) s = ap (λ (k : Core). k.net) s.2
-step_net U c next (entry.End d) s = ap (λ (k : Core). k.net) s.after
-step_net U c next entry.Idle s = ap (λ (k : Core). k.net) s
+there_export : (U : Unfolding) (n m : Network) (d : ℕ) (x : TreeExport) → Lives m d → GoodExport U n d x → GoodExport U m d x
+there_export U n m d x h g = record { there = h; typed = g.typed }
 
-pub run_good : (P : Program) (c last : Core) (log : List Entry) → IsProgram P → IsNetwork c.net → IsGood (unfolding_of P) c → Run (unfolding_of P) c log last → IsGood (unfolding_of P) last
+there_flight : (U : Unfolding) (n m : Network) (d : ℕ) (s : Copy) → Lives m d → GoodFlight U n d s → GoodFlight U m d s
+there_flight U n m d s h g = record { there = h; names = g.names; fits = g.fits }
+
+or_true : (p q : Bool) → q ≡ true → (p || q) ≡ true
+or_true true q e = refl
+or_true false q e = e
+
+edited_good : (U : Unfolding) (c : Core) (e : EditValue) → IsGood U c → EditFits U e → edit_fault c e ≡ None → IsGood U (edited U c e)
+edited_good U c (LinkEdit a b w) good fits q = record {
+  declared = good.declared;
+  exports = λ d x r. let g = good.exports d x r in record { there = g.there; typed = g.typed };
+  flying = λ d s r. let g = good.flying d s r in record { there = g.there; names = g.names; fits = g.fits };
+}
+edited_good U c (UnlinkEdit a b) good fits q = record {
+  declared = good.declared;
+  exports = λ d x r. let g = good.exports d x r in record { there = g.there; typed = g.typed };
+  flying = λ d s r. let g = good.flying d s r in record { there = g.there; names = g.names; fits = g.fits };
+}
+edited_good U c (SetEdit d i v) good fits q = record {
+  declared = good.declared;
+  exports = λ e x r. let g = good.exports e x r in record { there = ap (is_in e) (put_numbers d i v c.net.devices) ∙ g.there; typed = g.typed };
+  flying = λ e s r. let g = good.flying e s r in record { there = ap (is_in e) (put_numbers d i v c.net.devices) ∙ g.there; names = g.names; fits = g.fits };
+}
+edited_good U c (PokeEdit d p) good fits q = record {
+  declared = good.declared;
+  exports = λ e x. put_case (λ (v : Option TreeExport). v ≡ Some x → GoodExport U c.net e x) c.exports d e (Some (tree_export U p))
+      (λ same r. let poked : tree_export U p ≡ x = cc in record { there = subst (λ (k : ℕ). Lives c.net k) (sym same) (poked_there (lives c.net d) q); typed = subst (IsWellTyped U) poked fits.typed }) (good.exports e x);
+  flying = good.flying;
+}
+  where
+    poked_there : (b : Bool) → (if not b then Some net_fault.NoDevice else None) ≡ None → b ≡ true
+    poked_there true r = refl
+    poked_there false r = absurd cc
+edited_good U c (JoinEdit y) good fits q = record {
+  declared = good.declared;
+  exports = λ e x. put_case (λ (v : Option TreeExport). v ≡ Some x → GoodExport U (edited U c (JoinEdit y)).net e x) c.exports y.id e None (λ k r. absurd cc)
+      (λ r. let g = good.exports e x r in record { there = more e g.there; typed = g.typed });
+  flying = λ e s. put_case (λ (v : Option Copy). v ≡ Some s → GoodFlight U (edited U c (JoinEdit y)).net e s) c.flying y.id e None (λ k r. absurd cc)
+      (λ r. let g = good.flying e s r in record { there = more e g.there; names = g.names; fits = g.fits });
+}
+  where
+    more : (e : ℕ) → Lives c.net e → is_in e (numbers (insert_device y c.net.devices)) ≡ true
+    more e h = insert_in e y c.net.devices ∙ or_true (nat_eq e y.id) (lives c.net e) h
+edited_good U c (LeaveEdit d) good fits q = record {
+  declared = good.declared;
+  exports = λ e x r. left_export e x (nat_eq e d) refl r;
+  flying = λ e s r. let g = good.flying e s r in record { there = stays c d e (λ k. let m = may_leave c d q in let n = m.rests in let f : c.flying d ≡ Some s = ap c.flying k ∙ r in absurd cc) g.there; names = g.names; fits = g.fits };
+}
+  where
+    left_export : (e : ℕ) (x : TreeExport) (b : Bool) → nat_eq e d ≡ b → (if b then None else c.exports e) ≡ Some x → GoodExport U (edited U c (LeaveEdit d)).net e x
+    left_export e x true t r = absurd cc
+    left_export e x false t r = let g = good.exports e x r in record { there = stays c d e (λ k. eqb-false e d t (sym k)) g.there; typed = g.typed }
+
+pub step_good : (P : Program) (c next : Core) (e : EntryValue) → IsProgram P → IsNetwork c.net → IsGood (unfolding_of P) c → Step (unfolding_of P) c e next → IsGood (unfolding_of P) next
+step_good P c next (BeginEntry d) program net good s = subst (IsGood (unfolding_of P)) (sym s.2) (begun_good (unfolding_of P) c d net good s.0)
+step_good P c next (EndEntry d) program net good s = subst (IsGood (unfolding_of P)) (sym s.after) (ended_good P c next d program good s)
+step_good P c next IdleEntry program net good s = subst (IsGood (unfolding_of P)) (sym s) good
+step_good P c next (EditEntry e) program net good s = subst (IsGood (unfolding_of P)) (sym s.after) (edited_good (unfolding_of P) c e good s.fits s.allowed)
+
+edited_net : (U : Unfolding) (c : Core) (e : EditValue) → IsNetwork c.net → EditFits U e → edit_fault c e ≡ None → IsNetwork (edited U c e).net
+edited_net U c (LinkEdit a b w) net fits q = linked_network c.net a b w net q
+edited_net U c (UnlinkEdit a b) net fits q = unlinked_network c.net a b net
+edited_net U c (SetEdit d i v) net fits q = input_network c.net d i v net (set_none c.net d i v q).1
+edited_net U c (PokeEdit d p) net fits q = net
+edited_net U c (JoinEdit y) net fits q = joined_network c.net y net fits q
+edited_net U c (LeaveEdit d) net fits q = let m = may_leave c d q in left_network c.net d net (let t = m.there in let n = m.others in rw (t, n) refl)
+
+-- and the network a network
+pub step_net : (U : Unfolding) (c next : Core) (e : EntryValue) → IsNetwork c.net → Step U c e next → IsNetwork next.net
+step_net U c next (BeginEntry d) net s = subst (λ (k : Core). IsNetwork k.net) (sym s.2) net
+step_net U c next (EndEntry d) net s = subst (λ (k : Core). IsNetwork k.net) (sym s.after) net
+step_net U c next IdleEntry net s = subst (λ (k : Core). IsNetwork k.net) (sym s) net
+step_net U c next (EditEntry e) net s = subst (λ (k : Core). IsNetwork k.net) (sym s.after) (edited_net U c e net s.fits s.allowed)
+
+pub run_good : (P : Program) (c last : Core) (log : List EntryValue) → IsProgram P → IsNetwork c.net → IsGood (unfolding_of P) c → Run (unfolding_of P) c log last → IsGood (unfolding_of P) last
 run_good P c last [] program net good r = subst (IsGood (unfolding_of P)) (sym r) good
 run_good P c last (e ∷ es) program net good r =
-    run_good P r.0 last es program (subst IsNetwork (sym (step_net (unfolding_of P) c r.0 e r.1)) net) (step_good P c r.0 e program net good r.1) r.2
+    run_good P r.0 last es program (step_net (unfolding_of P) c r.0 e net r.1) (step_good P c r.0 e program net good r.1) r.2
+
+pub run_net : (U : Unfolding) (c last : Core) (log : List EntryValue) → IsNetwork c.net → Run U c log last → IsNetwork last.net
+run_net U c last [] net r = subst (λ (k : Core). IsNetwork k.net) (sym r) net
+run_net U c last (e ∷ es) net r = run_net U r.0 last es (step_net U c r.0 e net r.1) r.2

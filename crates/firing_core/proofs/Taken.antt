@@ -8,8 +8,8 @@ use Rattle.fc_values.specs.Exports.{export_of}
 use Rattle.value_trees.specs.declared.copies.Snap.{Snap}
 use Rattle.value_trees.specs.Copies.{FitsCopy}
 use Rattle.value_trees.specs.Snaps.{tree_of, near_copy, snap_copy, NearAreExports, IsSnap}
-use Rattle.firing_core.specs.declared.topology.Device.{Device}
-use Rattle.firing_core.specs.Networks.{device_of, numbers, is_in, Lives, inputs_in, near}
+use Rattle.topology.specs.declared.types.Device.{Device}
+use Rattle.topology.specs.Networks.{device_of, numbers, is_in, Lives, inputs_in, near}
 use Rattle.firing_core.specs.Cores.{near_copies, copy_of}
 use Rattle.firing_core.specs.CoreViews.{CoreValue, core_of, program_of, IsCore}
 use Rattle.firing_core.proofs.Slots.{Distinct}

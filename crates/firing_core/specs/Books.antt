@@ -1,13 +1,16 @@
 -- Books: a program, a start, a log, and the core to which the log leads.
-use Rattle.std.specs.Prelude.{ℕ, ◌≡◌, List, [], ◌∷◌, ◌++◌, length, Some, None}
+use Rattle.std.specs.Prelude.{ℕ, ◌≡◌, List, [], ◌∷◌, ◌++◌, length, Some, None, Result, Err}
 use Rattle.fc_nodes.specs.Program.{Program, Unfolding, unfolding_of}
 use Rattle.firing_core.specs.declared.entries.Entry.{Entry}
 use Rattle.firing_core.specs.declared.entries.StepFault.{StepFault}
 use Rattle.firing_core.specs.declared.entries.StepFault.TheVariants as fault
 use Rattle.firing_core.specs.declared.entries.ReplayFault.{ReplayFault}
 use Rattle.firing_core.specs.declared.entries.ReplayFault.TheVariants as replay_fault
+use Rattle.firing_core.specs.declared.entries.EditFault.{EditFault}
+use Rattle.firing_core.specs.declared.entries.EditFault.TheVariants as edit_refusal
+use Rattle.firing_core.specs.Entries.{EntryValue, entry_of, entries_of}
 use Rattle.firing_core.specs.Cores.{Core, Step, Run, IsGood}
-use Rattle.firing_core.specs.Replays.{fault_of, FailsAt, replay}
+use Rattle.firing_core.specs.Replays.{fault_of, net_fault_of, FailsAt, replay}
 use Rattle.firing_core.specs.CoreViews.{CoreValue, core_of}
 
 -- what contracts see of a book: these four, and for how many entries the log has room
@@ -23,7 +26,7 @@ pub record IsBook (b : BookValue) : Type 0 where
   pub started : b.start.program ≡ b.program
   pub held : b.core.program ≡ b.program
   pub good : IsGood (unfolding_of b.program) (core_of b.start)
-  pub runs : Run (unfolding_of b.program) (core_of b.start) b.log (core_of b.core)
+  pub runs : Run (unfolding_of b.program) (core_of b.start) (entries_of b.log) (core_of b.core)
 
 -- all but the room in the log stays
 pub record IsSameBook (old new : BookValue) : Type 0 where
@@ -37,26 +40,40 @@ pub record AppendsEntry (old new : BookValue) (entry : Entry) : Type 0 where
   pub program : new.program ≡ old.program
   pub start : new.start ≡ old.start
   pub log : new.log ≡ old.log ++ entry ∷ []
-  pub step : Step (unfolding_of old.program) (core_of old.core) entry (core_of new.core)
+  pub step : Step (unfolding_of old.program) (core_of old.core) (entry_of entry) (core_of new.core)
 
 -- an entry has no step from a core, for this reason. Want of memory is free
-abbrev pub HasFault : Core → Entry → StepFault → Type 0
+abbrev pub HasFault : Core → EntryValue → StepFault → Type 0
 HasFault c e fault.NoDevice = fault_of c e ≡ Some fault.NoDevice
 HasFault c e fault.Flying = fault_of c e ≡ Some fault.Flying
 HasFault c e fault.NotFlying = fault_of c e ≡ Some fault.NotFlying
 HasFault c e fault.Memory = Unit {0}
 
 -- the book refuses an entry: it has no step from the book's core, and its index is that after the log. Want of memory is free
-abbrev pub RefusesEntry : BookValue → Entry → ReplayFault → Type 0
+abbrev pub RefusesEntry : BookValue → EntryValue → ReplayFault → Type 0
 RefusesEntry b e (replay_fault.At index why) = (index ≡ length b.log) × (fault_of (core_of b.core) e ≡ Some why)
+RefusesEntry b e (replay_fault.EditAt index why) = (index ≡ length b.log) × (net_fault_of (core_of b.core) e ≡ Some why)
 RefusesEntry b e replay_fault.Memory = Unit {0}
 
 -- the entry at that index is the first of the log that has no step, for this reason
-abbrev pub FailsReplay : Unfolding → Core → List Entry → ReplayFault → Type 0
-FailsReplay U c log (replay_fault.At index why) = FailsAt U c log index why
+abbrev pub FailsReplay : Unfolding → Core → List EntryValue → ReplayFault → Type 0
+FailsReplay U c log (replay_fault.At index why) = FailsAt U c log index (λ k e. fault_of k e ≡ Some why)
+FailsReplay U c log (replay_fault.EditAt index why) = FailsAt U c log index (λ k e. net_fault_of k e ≡ Some why)
 FailsReplay U c log replay_fault.Memory = Unit {0}
 
 -- the log leads to no core
-abbrev pub IsStuckReplay : Unfolding → Core → List Entry → ReplayFault → Type 0
+abbrev pub IsStuckReplay : Unfolding → Core → List EntryValue → ReplayFault → Type 0
 IsStuckReplay U c log (replay_fault.At index why) = replay U c log ≡ None
+IsStuckReplay U c log (replay_fault.EditAt index why) = replay U c log ≡ None
 IsStuckReplay U c log replay_fault.Memory = Unit {0}
+
+-- what the answer to the entry at an index says of a refusal. Want of memory is free
+abbrev pub AtIndex : ℕ → Result (Unit {0}) StepFault → ReplayFault → Type 0
+AtIndex i answer (replay_fault.At index why) = (index ≡ i) × (answer ≡ Err why) × (why ≡ fault.Memory → ⊥)
+AtIndex i answer (replay_fault.EditAt index why) = ⊥
+AtIndex i answer replay_fault.Memory = Unit {0}
+
+abbrev pub EditAtIndex : ℕ → Result (Unit {0}) EditFault → ReplayFault → Type 0
+EditAtIndex i answer (replay_fault.At index why) = ⊥
+EditAtIndex i answer (replay_fault.EditAt index why) = (index ≡ i) × (answer ≡ Err (edit_refusal.Net why))
+EditAtIndex i answer replay_fault.Memory = Unit {0}

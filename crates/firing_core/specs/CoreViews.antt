@@ -7,7 +7,7 @@ use Rattle.value_trees.specs.declared.copies.Near.{Near}
 use Rattle.value_trees.specs.declared.copies.Snap.{Snap}
 use Rattle.value_trees.specs.Copies.{WhereSome}
 use Rattle.value_trees.specs.Snaps.{tree_of, snap_copy, IsExportOf, IsSnap}
-use Rattle.firing_core.specs.Networks.{Network, IsNetwork, numbers}
+use Rattle.topology.specs.Networks.{Network, IsNetwork, numbers}
 use Rattle.firing_core.specs.Cores.{Map, Core}
 
 pub record CoreValue : Type 0 where

@@ -1,13 +1,15 @@
 -- Cores and their steps.
-use Rattle.std.specs.Prelude.{ℕ, ◌≡◌, List, [], ◌∷◌, Option, Some, None, nat_eq, if◌then◌else◌}
+use Rattle.std.specs.Prelude.{ℕ, ◌≡◌, ◌≤◌, not, List, [], ◌∷◌, length, Option, Some, None, is_some, nat_eq, nat_le, if◌then◌else◌}
 use Rattle.fc_values.specs.Trees.{TreeExport, NearCopy, Copy}
 use Rattle.fc_nodes.specs.Program.{Unfolding}
-use Rattle.fc_nodes.specs.Flat.{IsWellTyped}
+use Rattle.fc_nodes.specs.Flat.{IsWellTyped, IsExport, tree_export}
 use Rattle.value_trees.specs.Copies.{FitsCopy}
 use Rattle.device_eval.specs.Copies.{EvaluatesCopy}
-use Rattle.firing_core.specs.declared.entries.Entry.{Entry}
-use Rattle.firing_core.specs.declared.entries.Entry.TheVariants as entry
-use Rattle.firing_core.specs.Networks.{Network, Lives, inputs_in, near}
+use Rattle.topology.specs.declared.types.NetFault.{NetFault}
+use Rattle.topology.specs.declared.types.NetFault.TheVariants as fault
+use Rattle.topology.specs.Networks.{Network, lives, Lives, inputs_in, near}
+use Rattle.topology.specs.Changes.{first_fault, link_fault, linked, unlink_fault, unlinked, set_fault, with_input, join_fault, joined, left}
+use Rattle.firing_core.specs.Entries.{EditValue, LinkEdit, UnlinkEdit, SetEdit, PokeEdit, JoinEdit, LeaveEdit, EntryValue, BeginEntry, EndEntry, IdleEntry, EditEntry}
 
 -- a finite map from devices, read by look-up
 abbrev pub Map : Type 0 → Type 0
@@ -50,18 +52,63 @@ pub record Ends (U : Unfolding) (c : Core) (d : ℕ) (next : Core) : Type 0 wher
   pub evaluates : EvaluatesCopy U copy export
   pub after : next ≡ ended c d export
 
+-- ---- edits
+
+-- why an edit has no step. A device in flight can't leave
+abbrev pub edit_fault : Core → EditValue → Option NetFault
+edit_fault c (LinkEdit a b w) = link_fault c.net a b w
+edit_fault c (UnlinkEdit a b) = unlink_fault c.net a b
+edit_fault c (SetEdit d i v) = set_fault c.net d i v
+edit_fault c (PokeEdit d e) = first_fault ((not (lives c.net d), fault.NoDevice) ∷ [])
+edit_fault c (JoinEdit x) = join_fault c.net x
+edit_fault c (LeaveEdit d) = first_fault (
+    (not (lives c.net d), fault.NoDevice)
+    ∷ (is_some (c.flying d), fault.InFlight)
+    ∷ (nat_le (length c.net.devices) 1, fault.Last)
+    ∷ [])
+
+-- a poked export is one of the program, and a joined device has a number of at most 65,535
+abbrev pub EditFits : Unfolding → EditValue → Type 0
+EditFits U (LinkEdit a b w) = Unit {0}
+EditFits U (UnlinkEdit a b) = Unit {0}
+EditFits U (SetEdit d i v) = Unit {0}
+EditFits U (PokeEdit d e) = IsExport U e
+EditFits U (JoinEdit x) = x.id ≤ 65535
+EditFits U (LeaveEdit d) = Unit {0}
+
+abbrev pub on_net : Core → Network → Core
+on_net c n = record { net = n; exports = c.exports; flying = c.flying }
+
+-- the core after an edit. Copies in flight stay
+abbrev pub edited : Unfolding → Core → EditValue → Core
+edited U c (LinkEdit a b w) = on_net c (linked c.net a b w)
+edited U c (UnlinkEdit a b) = on_net c (unlinked c.net a b)
+edited U c (SetEdit d i v) = on_net c (with_input c.net d i v)
+edited U c (PokeEdit d e) = record { net = c.net; exports = put c.exports d (Some (tree_export U e)); flying = c.flying }
+edited U c (JoinEdit x) = record { net = joined c.net x; exports = put c.exports x.id None; flying = put c.flying x.id None }
+edited U c (LeaveEdit d) = record { net = left c.net d; exports = put c.exports d None; flying = c.flying }
+
+-- an edit that the core allows
+pub record Edits (U : Unfolding) (c : Core) (e : EditValue) (next : Core) : Type 0 where
+  pub fits : EditFits U e
+  pub allowed : edit_fault c e ≡ None
+  pub after : next ≡ edited U c e
+
+-- ---- steps
+
 -- one step, where a begin of device d takes its copy from the table that it sees
-abbrev pub StepSeeing : Unfolding → (ℕ → Map TreeExport) → Core → Entry → Core → Type 0
-StepSeeing U sees c (entry.Begin d) next = Lives c.net d × (c.flying d ≡ None) × (next ≡ begun (sees d) c d)
-StepSeeing U sees c (entry.End d) next = Ends U c d next
-StepSeeing U sees c entry.Idle next = next ≡ c
+abbrev pub StepSeeing : Unfolding → (ℕ → Map TreeExport) → Core → EntryValue → Core → Type 0
+StepSeeing U sees c (BeginEntry d) next = Lives c.net d × (c.flying d ≡ None) × (next ≡ begun (sees d) c d)
+StepSeeing U sees c (EndEntry d) next = Ends U c d next
+StepSeeing U sees c IdleEntry next = next ≡ c
+StepSeeing U sees c (EditEntry e) next = Edits U c e next
 
 -- one step: a begin takes its copy from the core's own exports
-abbrev pub Step : Unfolding → Core → Entry → Core → Type 0
+abbrev pub Step : Unfolding → Core → EntryValue → Core → Type 0
 Step U c e next = StepSeeing U (λ d. c.exports) c e next
 
 -- the entries of a log lead from a core to a core, one step each
-abbrev pub Run : Unfolding → Core → List Entry → Core → Type 0
+abbrev pub Run : Unfolding → Core → List EntryValue → Core → Type 0
 Run U c [] last = last ≡ c
 Run U c (e ∷ es) last = (next : Core) × Step U c e next × Run U next es last
 

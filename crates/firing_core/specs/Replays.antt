@@ -5,12 +5,12 @@ use Rattle.fc_values.specs.Trees.{Tree, TreeExport, Copy}
 use Rattle.fc_nodes.specs.Program.{Unfolding}
 use Rattle.device_eval.specs.Evaluation.{Outcome, eval_of}
 use Rattle.device_eval.specs.Copies.{situation_of, env_of}
-use Rattle.firing_core.specs.declared.entries.Entry.{Entry}
-use Rattle.firing_core.specs.declared.entries.Entry.TheVariants as entry
 use Rattle.firing_core.specs.declared.entries.StepFault.{StepFault}
 use Rattle.firing_core.specs.declared.entries.StepFault.TheVariants as fault
-use Rattle.firing_core.specs.Networks.{lives}
-use Rattle.firing_core.specs.Cores.{Core, Run, begun, ended}
+use Rattle.topology.specs.declared.types.NetFault.{NetFault}
+use Rattle.topology.specs.Networks.{lives}
+use Rattle.firing_core.specs.Entries.{EntryValue, BeginEntry, EndEntry, IdleEntry, EditEntry}
+use Rattle.firing_core.specs.Cores.{Core, Run, begun, ended, edit_fault, EditFits, edited}
 
 abbrev pub export_with : AnyValue → Tree → Option TreeExport
 export_with (ValueLocal v) tree = Some (record { value = v; tree = tree })
@@ -35,10 +35,29 @@ end_fault false flight = Some fault.NoDevice
 end_fault true None = Some fault.NotFlying
 end_fault true (Some s) = None
 
-abbrev pub fault_of : Core → Entry → Option StepFault
-fault_of c (entry.Begin d) = begin_fault (lives c.net d) (c.flying d)
-fault_of c (entry.End d) = end_fault (lives c.net d) (c.flying d)
-fault_of c entry.Idle = None
+abbrev pub fault_of : Core → EntryValue → Option StepFault
+fault_of c (BeginEntry d) = begin_fault (lives c.net d) (c.flying d)
+fault_of c (EndEntry d) = end_fault (lives c.net d) (c.flying d)
+fault_of c IdleEntry = None
+fault_of c (EditEntry e) = None
+
+-- why an edit among the entries has no step
+abbrev pub net_fault_of : Core → EntryValue → Option NetFault
+net_fault_of c (BeginEntry d) = None
+net_fault_of c (EndEntry d) = None
+net_fault_of c IdleEntry = None
+net_fault_of c (EditEntry e) = edit_fault c e
+
+-- the exports that are poked are of the program, and the devices that join have numbers of at most 65,535
+abbrev pub EntryFits : Unfolding → EntryValue → Type 0
+EntryFits U (BeginEntry d) = Unit {0}
+EntryFits U (EndEntry d) = Unit {0}
+EntryFits U IdleEntry = Unit {0}
+EntryFits U (EditEntry e) = EditFits U e
+
+abbrev pub LogFits : Unfolding → List EntryValue → Type 0
+LogFits U [] = Unit {0}
+LogFits U (e ∷ es) = EntryFits U e × LogFits U es
 
 -- the core after an entry, or none where it has no step
 abbrev pub flown : Option TreeExport → Core → ℕ → Option Core
@@ -49,34 +68,35 @@ abbrev pub landed : Unfolding → Option Copy → Core → ℕ → Option Core
 landed U None c d = None
 landed U (Some s) c d = flown (evaluated U s) c d
 
-abbrev pub unless : Option StepFault → Option Core → Option Core
+abbrev pub unless : {F : Type 0} → Option F → Option Core → Option Core
 unless None next = next
 unless (Some f) next = None
 
-abbrev pub step_of : Unfolding → Core → Entry → Option Core
-step_of U c (entry.Begin d) = Some (begun c.exports c d)
-step_of U c (entry.End d) = landed U (c.flying d) c d
-step_of U c entry.Idle = Some c
+abbrev pub step_of : Unfolding → Core → EntryValue → Option Core
+step_of U c (BeginEntry d) = Some (begun c.exports c d)
+step_of U c (EndEntry d) = landed U (c.flying d) c d
+step_of U c IdleEntry = Some c
+step_of U c (EditEntry e) = Some (edited U c e)
 
-abbrev pub step : Unfolding → Core → Entry → Option Core
-step U c e = unless (fault_of c e) (step_of U c e)
+abbrev pub step : Unfolding → Core → EntryValue → Option Core
+step U c e = unless (fault_of c e) (unless (net_fault_of c e) (step_of U c e))
 
 abbrev pub and_replay : Option Core → (Core → Option Core) → Option Core
 and_replay None f = None
 and_replay (Some c) f = f c
 
 -- the core to which a log leads, or none where an entry has no step
-abbrev pub replay : Unfolding → Core → List Entry → Option Core
+abbrev pub replay : Unfolding → Core → List EntryValue → Option Core
 replay U c [] = Some c
 replay U c (e ∷ es) = and_replay (step U c e) (λ next. replay U next es)
 
--- the entry at an index is the first that has no step, for this reason
-pub record FailsAt (U : Unfolding) (c : Core) (log : List Entry) (index : ℕ) (why : StepFault) : Type 0 where
-  pub front : List Entry
-  pub entry : Entry
-  pub rest : List Entry
+-- the entry at an index is the first that has no step, and this is so of the core before it
+pub record FailsAt (U : Unfolding) (c : Core) (log : List EntryValue) (index : ℕ) (refused : Core → EntryValue → Type 0) : Type 0 where
+  pub front : List EntryValue
+  pub entry : EntryValue
+  pub rest : List EntryValue
   pub cut : log ≡ front ++ entry ∷ rest
   pub place : index ≡ length front
   pub before : Core
   pub runs : Run U c front before
-  pub refused : fault_of before entry ≡ Some why
+  pub refuses : refused before entry

@@ -1,7 +1,7 @@
 //! Books: a program, a start, a log of steps, and the core to which the log leads.
 
 use crate::cores::Core;
-use crate::entries::{Entry, ReplayFault, StepFault};
+use crate::entries::{Edit, EditFault, Entry, ReplayFault, StepFault};
 use crate::snaps::copy_snap;
 use device_eval::{Fired, fire};
 use fc_nodes::Unfolded;
@@ -42,9 +42,12 @@ impl Book {
     ghost use Rattle.fc_values.specs.Trees.{Copy};
     ghost use Rattle.fc_nodes.specs.Program.{unfolding_of};
     ghost use Rattle.value_trees.specs.Snaps.{snap_copy};
-    ghost use Rattle.firing_core.specs.Replays.{fault_of};
+    ghost use Rattle.firing_core.specs.Entries.{BeginEntry, EndEntry, edit_of, entry_of};
+    ghost use Rattle.firing_core.specs.Cores.{EditFits, edit_fault};
+    ghost use Rattle.firing_core.specs.Replays.{fault_of, net_fault_of, EntryFits};
     ghost use Rattle.firing_core.specs.CoreViews.{core_of};
     ghost use Rattle.firing_core.specs.Books.{IsBook, IsSameBook, AppendsEntry, HasFault, RefusesEntry};
+    ghost use Rattle.firing_core.specs.Refusals.{RefusesEdit};
     ghost use Rattle.firing_core.specs.declared.entries.Entry.TheVariants as entry;
     ghost use Rattle.firing_core.specs.declared.entries.StepFault.TheVariants as fault;
 
@@ -115,8 +118,8 @@ impl Book {
         requires { 1 ≤ self.old.spare }
         ensures ok { OnOk result (AppendsEntry self.old self.new (entry.Begin device)) }
         ensures spare { OnOk result (self.new.spare + 1 ≡ self.old.spare) }
-        ensures no_device { IsErrOf result StepFault.NoDevice ↔ (fault_of (core_of self.old.core) (entry.Begin device) ≡ Some fault.NoDevice) }
-        ensures flying { IsErrOf result StepFault.Flying ↔ (fault_of (core_of self.old.core) (entry.Begin device) ≡ Some fault.Flying) }
+        ensures no_device { IsErrOf result StepFault.NoDevice ↔ (fault_of (core_of self.old.core) (BeginEntry device) ≡ Some fault.NoDevice) }
+        ensures flying { IsErrOf result StepFault.Flying ↔ (fault_of (core_of self.old.core) (BeginEntry device) ≡ Some fault.Flying) }
         ensures never { IsErrOf result StepFault.NotFlying → ⊥ }
         ensures err { OnErr result (self.new ≡ self.old) }
     {
@@ -132,14 +135,29 @@ impl Book {
         requires copy { (s : Copy) → (core_of self.old.core).flying fired.snap.device ≡ Some s → s ≡ snap_copy (unfolding_of self.old.program) fired.snap }
         ensures ok { OnOk result (AppendsEntry self.old self.new (entry.End fired.snap.device)) }
         ensures room { OnOk result (self.new.spare + 1 ≡ self.old.spare) }
-        ensures refused { IfErr result (λ e. fault_of (core_of self.old.core) (entry.End fired.snap.device) ≡ Some e.1) }
-        ensures accepted { OnOk result (fault_of (core_of self.old.core) (entry.End fired.snap.device) ≡ None) }
+        ensures refused { IfErr result (λ e. fault_of (core_of self.old.core) (EndEntry fired.snap.device) ≡ Some e.1) }
+        ensures accepted { OnOk result (fault_of (core_of self.old.core) (EndEntry fired.snap.device) ≡ None) }
         ensures back { IfErr result (λ e. e.0 ≡ fired) }
         ensures err { OnErr result (self.new ≡ self.old) }
     {
         let device = fired.snap().device;
         self.core.end(fired)?;
         self.log.push_reserved(Entry::End(device));
+        Ok(())
+    }
+
+    /// Edits the core, and appends the entry. It takes no memory but that of the core's edit.
+    pub fn edit(&mut self, alloc: Global, edit: Edit) -> Result<(), EditFault>
+        requires spare { 1 ≤ self.old.spare }
+        requires fits { EditFits (unfolding_of self.old.program) (edit_of edit) }
+        ensures ok { OnOk result (AppendsEntry self.old self.new (entry.Edit edit)) }
+        ensures room { OnOk result (self.new.spare + 1 ≡ self.old.spare) }
+        ensures accepted { OnOk result (edit_fault (core_of self.old.core) (edit_of edit) ≡ None) }
+        ensures refused { IfErr result (RefusesEdit (core_of self.old.core) (edit_of edit)) }
+        ensures err { OnErr result (self.new ≡ self.old) }
+    {
+        self.core.edit(alloc, &edit)?;
+        self.log.push_reserved(Entry::Edit(edit));
         Ok(())
     }
 
@@ -155,37 +173,38 @@ impl Book {
     /// Applies one entry, an end by evaluating the copy in flight, and appends it. A refusal changes nothing but the room
     /// in the log.
     pub fn step(&mut self, alloc: Global, entry: Entry) -> Result<(), ReplayFault>
+        requires { EntryFits (unfolding_of self.old.program) (entry_of entry) }
         ensures ok { OnOk result (AppendsEntry self.old self.new entry) }
-        ensures refused { IfErr result (RefusesEntry self.old entry) }
-        ensures accepted { OnOk result (fault_of (core_of self.old.core) entry ≡ None) }
+        ensures refused { IfErr result (RefusesEntry self.old (entry_of entry)) }
+        ensures accepted { OnOk result (fault_of (core_of self.old.core) (entry_of entry) ≡ None) }
+        ensures allowed { OnOk result (net_fault_of (core_of self.old.core) (entry_of entry) ≡ None) }
         ensures err { OnErr result (IsSameBook self.old self.new) }
     {
         if self.reserve(1).is_err() {
             return Err(ReplayFault::Memory);
         }
-        let index = self.log.len();
-        match self.apply(alloc, entry) {
-            Ok(()) => Ok(()),
-            Err(StepFault::Memory) => Err(ReplayFault::Memory),
-            Err(fault) => Err(ReplayFault::At { index, fault }),
-        }
+        self.apply(alloc, entry)
     }
 
     // One entry, where the log has room for it.
-    fn apply(&mut self, alloc: Global, entry: Entry) -> Result<(), StepFault>
-        requires { 1 ≤ self.old.spare }
+    fn apply(&mut self, alloc: Global, entry: Entry) -> Result<(), ReplayFault>
+        requires spare { 1 ≤ self.old.spare }
+        requires fits { EntryFits (unfolding_of self.old.program) (entry_of entry) }
         ensures ok { OnOk result (AppendsEntry self.old self.new entry) }
-        ensures refused { IfErr result (HasFault (core_of self.old.core) entry) }
-        ensures accepted { OnOk result (fault_of (core_of self.old.core) entry ≡ None) }
+        ensures refused { IfErr result (RefusesEntry self.old (entry_of entry)) }
+        ensures accepted { OnOk result (fault_of (core_of self.old.core) (entry_of entry) ≡ None) }
+        ensures allowed { OnOk result (net_fault_of (core_of self.old.core) (entry_of entry) ≡ None) }
         ensures err { OnErr result (self.new ≡ self.old) }
     {
+        let index = self.log.len();
         match entry {
-            Entry::Begin(device) => self.begin(alloc, device),
-            Entry::End(device) => self.finish(alloc, device),
+            Entry::Begin(device) => at_index(index, self.begin(alloc, device)),
+            Entry::End(device) => at_index(index, self.finish(alloc, device)),
             Entry::Idle => {
                 self.idle();
                 Ok(())
             }
+            Entry::Edit(edit) => edit_at_index(index, self.edit(alloc, edit)),
         }
     }
 
@@ -193,8 +212,8 @@ impl Book {
     fn finish(&mut self, alloc: Global, device: u32) -> Result<(), StepFault>
         requires { 1 ≤ self.old.spare }
         ensures ok { OnOk result (AppendsEntry self.old self.new (entry.End device)) }
-        ensures refused { IfErr result (HasFault (core_of self.old.core) (entry.End device)) }
-        ensures accepted { OnOk result (fault_of (core_of self.old.core) (entry.End device) ≡ None) }
+        ensures refused { IfErr result (HasFault (core_of self.old.core) (EndEntry device)) }
+        ensures accepted { OnOk result (fault_of (core_of self.old.core) (EndEntry device) ≡ None) }
         ensures err { OnErr result (self.new ≡ self.old) }
     {
         let fired = evaluate(alloc, &self.core, device)?;
@@ -205,18 +224,18 @@ impl Book {
     }
 }
 
-ghost use Rattle.std.specs.Prelude.{◌≡◌, IfOk, IfErr, Some, None};
+ghost use Rattle.std.specs.Prelude.{◌≡◌, ◌↔◌, IfOk, IfErr, IsOk, Some, None};
 ghost use Rattle.value_trees.specs.Snaps.{snap_copy, IsSnap};
 ghost use Rattle.firing_core.specs.CoreViews.{core_of, program_of};
 ghost use Rattle.firing_core.specs.Books.{HasFault, FailsReplay, IsStuckReplay};
-ghost use Rattle.firing_core.specs.declared.entries.Entry.TheVariants as entry;
+ghost use Rattle.firing_core.specs.Entries.{EndEntry};
 
 // The copy with which a device flies, evaluated.
 fn evaluate(alloc: Global, core: &Core, device: u32) -> Result<Fired, StepFault>
     ensures program { IfOk result (λ f. f.program ≡ core.now.program) }
     ensures device { IfOk result (λ f. f.snap.device ≡ device) }
     ensures copy { IfOk result (λ f. (core_of core.now).flying device ≡ Some (snap_copy (program_of core.now) f.snap)) }
-    ensures refused { IfErr result (HasFault (core_of core.now) (entry.End device)) }
+    ensures refused { IfErr result (HasFault (core_of core.now) (EndEntry device)) }
 {
     let snap = flight(alloc, core, device)?;
     match fire(alloc, core.program(), snap) {
@@ -230,7 +249,7 @@ fn flight(alloc: Global, core: &Core, device: u32) -> Result<Snap, StepFault>
     ensures snap { IfOk result (λ s. IsSnap (program_of core.now) s) }
     ensures device { IfOk result (λ s. s.device ≡ device) }
     ensures copy { IfOk result (λ s. (core_of core.now).flying device ≡ Some (snap_copy (program_of core.now) s)) }
-    ensures refused { IfErr result (HasFault (core_of core.now) (entry.End device)) }
+    ensures refused { IfErr result (HasFault (core_of core.now) (EndEntry device)) }
 {
     let Some(snap) = core.flying(device) else {
         return Err(missing(core, device));
@@ -244,7 +263,7 @@ fn flight(alloc: Global, core: &Core, device: u32) -> Result<Snap, StepFault>
 // Why a device that doesn't fly can't end a firing.
 fn missing(core: &Core, device: u32) -> StepFault
     requires { (core_of core.now).flying device ≡ None }
-    ensures { HasFault (core_of core.now) (entry.End device) result }
+    ensures { HasFault (core_of core.now) (EndEntry device) result }
 {
     match core.net().place(device) {
         Some(_) => StepFault::NotFlying,
@@ -253,7 +272,33 @@ fn missing(core: &Core, device: u32) -> StepFault
 }
 
 ghost use Rattle.fc_nodes.specs.Program.{unfolding_of};
-ghost use Rattle.firing_core.specs.Replays.{replay as replay_of};
+ghost use Rattle.firing_core.specs.Entries.{entries_of};
+ghost use Rattle.firing_core.specs.Replays.{LogFits, replay as replay_of};
+ghost use Rattle.firing_core.specs.Books.{AtIndex, EditAtIndex};
+
+// The answer to a begin or an end that is the entry at an index.
+fn at_index(index: usize, answer: Result<(), StepFault>) -> Result<(), ReplayFault>
+    ensures ok { IsOk result ↔ IsOk answer }
+    ensures refused { IfErr result (AtIndex index answer) }
+{
+    match answer {
+        Ok(()) => Ok(()),
+        Err(StepFault::Memory) => Err(ReplayFault::Memory),
+        Err(fault) => Err(ReplayFault::At { index, fault }),
+    }
+}
+
+// The answer to an edit that is the entry at an index.
+fn edit_at_index(index: usize, answer: Result<(), EditFault>) -> Result<(), ReplayFault>
+    ensures ok { IsOk result ↔ IsOk answer }
+    ensures refused { IfErr result (EditAtIndex index answer) }
+{
+    match answer {
+        Ok(()) => Ok(()),
+        Err(EditFault::Memory) => Err(ReplayFault::Memory),
+        Err(EditFault::Net(fault)) => Err(ReplayFault::EditAt { index, fault }),
+    }
+}
 
 /// The book of a start and a log, or the first entry that has no step.
 pub fn replay(
@@ -262,13 +307,14 @@ pub fn replay(
     start: Core,
     log: Vec<Entry>,
 ) -> Result<Book, ReplayFault>
-    requires { program.now.value ≡ start.program }
+    requires program { program.now.value ≡ start.program }
+    requires fits { LogFits (unfolding_of program.now.value) (entries_of log.items) }
     ensures program { IfOk result (λ b. b.program ≡ program.now.value) }
     ensures start { IfOk result (λ b. core_of b.start ≡ core_of start) }
     ensures log { IfOk result (λ b. b.log ≡ log.items) }
-    ensures core { IfOk result (λ b. replay_of (unfolding_of program.now.value) (core_of start) log.items ≡ Some (core_of b.core)) }
-    ensures refused { IfErr result (FailsReplay (unfolding_of program.now.value) (core_of start) log.items) }
-    ensures stuck { IfErr result (IsStuckReplay (unfolding_of program.now.value) (core_of start) log.items) }
+    ensures core { IfOk result (λ b. replay_of (unfolding_of program.now.value) (core_of start) (entries_of log.items) ≡ Some (core_of b.core)) }
+    ensures refused { IfErr result (FailsReplay (unfolding_of program.now.value) (core_of start) (entries_of log.items)) }
+    ensures stuck { IfErr result (IsStuckReplay (unfolding_of program.now.value) (core_of start) (entries_of log.items)) }
 {
     let Ok(program) = program.clone() else {
         return Err(ReplayFault::Memory);
@@ -276,8 +322,8 @@ pub fn replay(
     let Ok(mut book) = Book::new(alloc, program, start) else {
         return Err(ReplayFault::Memory);
     };
-    for entry in &log {
-        book.step(alloc, *entry)?;
+    for entry in log {
+        book.step(alloc, entry)?;
     }
     Ok(book)
 }

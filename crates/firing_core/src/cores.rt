@@ -1,15 +1,15 @@
 //! Cores: a network, the exports of its devices, and the copies in flight.
 
-use crate::entries::StepFault;
-use crate::snaps::{copy_exports, copy_flights, copy_locals, copy_own};
-use crate::topology::Network;
+use crate::entries::{Edit, EditFault, StepFault};
+use crate::snaps::{copy_device, copy_exports, copy_flights, copy_locals, copy_own, copy_plain};
 use arrayvec::ArrayVec;
 use device_eval::Fired;
 use fc_nodes::Unfolded;
-use fc_values::{Export, Memory, copy_export};
+use fc_values::{Export, Local, Memory, copy_export};
 use std::alloc::Global;
 use std::marker::Model;
 use std::sync::Arc;
+use topology::{Device, JoinFault, NetFault, Network};
 use value_trees::{Near, Snap};
 
 /// A network of devices that run a program, with the export and the copy in flight of each.
@@ -55,11 +55,14 @@ impl Core {
     ghost use Rattle.fc_values.specs.Trees.{Copy};
     ghost use Rattle.fc_nodes.specs.Program.{unfolding_of};
     ghost use Rattle.value_trees.specs.Snaps.{snap_copy, tree_of, near_copy, NearAreExports, IsSnap, IsExportOf};
-    ghost use Rattle.firing_core.specs.Networks.{lives, numbers, near as near_of};
-    ghost use Rattle.firing_core.specs.Cores.{Step, IsGood, copy_of, near_copies};
+    ghost use Rattle.topology.specs.Networks.{lives, numbers, device_of, near as near_of};
+    ghost use Rattle.firing_core.specs.Cores.{Step, IsGood, Edits, EditFits, edit_fault, copy_of, near_copies};
     ghost use Rattle.firing_core.specs.Replays.{fault_of};
     ghost use Rattle.firing_core.specs.CoreViews.{core_of, program_of, IsCore, IsSameCore, IsEmptyCore};
-    ghost use Rattle.firing_core.specs.declared.entries.Entry.TheVariants as entry;
+    ghost use Rattle.firing_core.specs.Entries.{BeginEntry, EndEntry, LinkEdit, UnlinkEdit, SetEdit, PokeEdit, JoinEdit, LeaveEdit, edit_of};
+    ghost use Rattle.firing_core.specs.Refusals.{RefusesEdit};
+    ghost use Rattle.fc_values.specs.Values.{local_of};
+    ghost use Rattle.fc_values.specs.Exports.{export_of};
     ghost use Rattle.firing_core.specs.declared.entries.StepFault.TheVariants as fault;
 
     /// The core of a network in which no device has an export and none is in flight.
@@ -181,9 +184,9 @@ impl Core {
 
     /// Puts the copy of a device's closed neighbourhood in flight.
     pub fn begin(&mut self, alloc: Global, device: u32) -> Result<(), StepFault>
-        ensures ok { OnOk result (Step (program_of self.old) (core_of self.old) (entry.Begin device) (core_of self.new)) }
-        ensures no_device { IsErrOf result StepFault.NoDevice ↔ (fault_of (core_of self.old) (entry.Begin device) ≡ Some fault.NoDevice) }
-        ensures flying { IsErrOf result StepFault.Flying ↔ (fault_of (core_of self.old) (entry.Begin device) ≡ Some fault.Flying) }
+        ensures ok { OnOk result (Step (program_of self.old) (core_of self.old) (BeginEntry device) (core_of self.new)) }
+        ensures no_device { IsErrOf result StepFault.NoDevice ↔ (fault_of (core_of self.old) (BeginEntry device) ≡ Some fault.NoDevice) }
+        ensures flying { IsErrOf result StepFault.Flying ↔ (fault_of (core_of self.old) (BeginEntry device) ≡ Some fault.Flying) }
         ensures never { IsErrOf result StepFault.NotFlying → ⊥ }
         ensures err { OnErr result (self.new ≡ self.old) }
         ensures same { IsSameCore self.old self.new }
@@ -205,9 +208,9 @@ impl Core {
     pub fn end(&mut self, fired: Fired) -> Result<(), (Fired, StepFault)>
         requires program { fired.program ≡ self.old.program }
         requires copy { (s : Copy) → (core_of self.old).flying fired.snap.device ≡ Some s → s ≡ snap_copy (program_of self.old) fired.snap }
-        ensures ok { OnOk result (Step (program_of self.old) (core_of self.old) (entry.End fired.snap.device) (core_of self.new)) }
-        ensures refused { IfErr result (λ e. fault_of (core_of self.old) (entry.End fired.snap.device) ≡ Some e.1) }
-        ensures accepted { OnOk result (fault_of (core_of self.old) (entry.End fired.snap.device) ≡ None) }
+        ensures ok { OnOk result (Step (program_of self.old) (core_of self.old) (EndEntry fired.snap.device) (core_of self.new)) }
+        ensures refused { IfErr result (λ e. fault_of (core_of self.old) (EndEntry fired.snap.device) ≡ Some e.1) }
+        ensures accepted { OnOk result (fault_of (core_of self.old) (EndEntry fired.snap.device) ≡ None) }
         ensures back { IfErr result (λ e. e.0 ≡ fired) }
         ensures err { OnErr result (self.new ≡ self.old) }
         ensures same { IsSameCore self.old self.new }
@@ -222,6 +225,131 @@ impl Core {
         let (_, export) = fired.into_parts();
         self.exports[place] = Some(export);
         self.flying[place] = None;
+        Ok(())
+    }
+
+    /// Edits the core. Copies in flight stay. `Link`, `Unlink`, `Set` and `Leave` take no memory.
+    pub fn edit(&mut self, alloc: Global, edit: &Edit) -> Result<(), EditFault>
+        requires { EditFits (program_of self.old) (edit_of edit.now) }
+        ensures ok { OnOk result (Edits (program_of self.old) (core_of self.old) (edit_of edit.now) (core_of self.new)) }
+        ensures accepted { OnOk result (edit_fault (core_of self.old) (edit_of edit.now) ≡ None) }
+        ensures refused { IfErr result (RefusesEdit (core_of self.old) (edit_of edit.now)) }
+        ensures err { OnErr result (self.new ≡ self.old) }
+        ensures program { self.new.program ≡ self.old.program }
+    {
+        match edit {
+            Edit::Link(a, b, weight) => self.link(*a, *b, *weight),
+            Edit::Unlink(a, b) => self.unlink(*a, *b),
+            Edit::Set(device, input, value) => self.set(*device, *input, value),
+            Edit::Poke(device, export) => self.poke(alloc, *device, export),
+            Edit::Join(device) => self.join(alloc, device),
+            Edit::Leave(device) => self.leave(*device),
+        }
+    }
+
+    fn link(&mut self, a: u32, b: u32, weight: u32) -> Result<(), EditFault>
+        ensures ok { OnOk result (Edits (program_of self.old) (core_of self.old) (LinkEdit a b weight) (core_of self.new)) }
+        ensures refused { IfErr result (RefusesEdit (core_of self.old) (LinkEdit a b weight)) }
+        ensures err { OnErr result (self.new ≡ self.old) }
+        ensures program { self.new.program ≡ self.old.program }
+    {
+        if let Err(fault) = self.net.link(a, b, weight) {
+            return Err(EditFault::Net(fault));
+        }
+        Ok(())
+    }
+
+    fn unlink(&mut self, a: u32, b: u32) -> Result<(), EditFault>
+        ensures ok { OnOk result (Edits (program_of self.old) (core_of self.old) (UnlinkEdit a b) (core_of self.new)) }
+        ensures refused { IfErr result (RefusesEdit (core_of self.old) (UnlinkEdit a b)) }
+        ensures err { OnErr result (self.new ≡ self.old) }
+        ensures program { self.new.program ≡ self.old.program }
+    {
+        if let Err(fault) = self.net.unlink(a, b) {
+            return Err(EditFault::Net(fault));
+        }
+        Ok(())
+    }
+
+    // A pair is no value of an input, so what is put is copied without memory.
+    fn set(&mut self, device: u32, input: u32, value: &Local) -> Result<(), EditFault>
+        ensures ok { OnOk result (Edits (program_of self.old) (core_of self.old) (SetEdit device input (local_of value.now)) (core_of self.new)) }
+        ensures refused { IfErr result (RefusesEdit (core_of self.old) (SetEdit device input (local_of value.now))) }
+        ensures err { OnErr result (self.new ≡ self.old) }
+        ensures program { self.new.program ≡ self.old.program }
+    {
+        if let Some(fault) = self.net.set_fault(device, input, value) {
+            return Err(EditFault::Net(fault));
+        }
+        let Some(plain) = copy_plain(value) else {
+            return Err(EditFault::Net(NetFault::InputType));
+        };
+        if let Err(fault) = self.net.set_input(device, input, plain) {
+            return Err(EditFault::Net(fault));
+        }
+        Ok(())
+    }
+
+    fn poke(&mut self, alloc: Global, device: u32, export: &Export) -> Result<(), EditFault>
+        requires { IsExportOf (program_of self.old) export.now }
+        ensures ok { OnOk result (Edits (program_of self.old) (core_of self.old) (PokeEdit device (export_of export.now)) (core_of self.new)) }
+        ensures refused { IfErr result (RefusesEdit (core_of self.old) (PokeEdit device (export_of export.now))) }
+        ensures err { OnErr result (self.new ≡ self.old) }
+        ensures program { self.new.program ≡ self.old.program }
+    {
+        let Some(place) = self.net.place(device) else {
+            return Err(EditFault::Net(NetFault::NoDevice));
+        };
+        let Ok(copied) = copy_export(alloc, export) else {
+            return Err(EditFault::Memory);
+        };
+        self.exports[place] = Some(copied);
+        Ok(())
+    }
+
+    fn join(&mut self, alloc: Global, device: &Device) -> Result<(), EditFault>
+        requires { device.now.id ≤ 65535 }
+        ensures ok { OnOk result (Edits (program_of self.old) (core_of self.old) (JoinEdit (device_of device.now)) (core_of self.new)) }
+        ensures refused { IfErr result (RefusesEdit (core_of self.old) (JoinEdit (device_of device.now))) }
+        ensures err { OnErr result (self.new ≡ self.old) }
+        ensures program { self.new.program ≡ self.old.program }
+    {
+        let Ok(copied) = copy_device(alloc, device) else {
+            return Err(EditFault::Memory);
+        };
+        if self.exports.reserve(1).is_err() || self.flying.reserve(1).is_err() {
+            return Err(EditFault::Memory);
+        }
+        let place = self.net.room(device.id);
+        match self.net.join(copied) {
+            Ok(()) => {
+                let _ = self.exports.insert(place, None);
+                let _ = self.flying.insert(place, None);
+                Ok(())
+            }
+            Err(JoinFault::Net(fault)) => Err(EditFault::Net(fault)),
+            Err(JoinFault::Memory) => Err(EditFault::Memory),
+        }
+    }
+
+    fn leave(&mut self, device: u32) -> Result<(), EditFault>
+        ensures ok { OnOk result (Edits (program_of self.old) (core_of self.old) (LeaveEdit device) (core_of self.new)) }
+        ensures refused { IfErr result (RefusesEdit (core_of self.old) (LeaveEdit device)) }
+        ensures err { OnErr result (self.new ≡ self.old) }
+        ensures program { self.new.program ≡ self.old.program }
+    {
+        let Some(place) = self.net.place(device) else {
+            return Err(EditFault::Net(NetFault::NoDevice));
+        };
+        let flies = self.flying[place].is_some();
+        if flies {
+            return Err(EditFault::Net(NetFault::InFlight));
+        }
+        if let Err(fault) = self.net.leave(device) {
+            return Err(EditFault::Net(fault));
+        }
+        self.exports.remove(place);
+        self.flying.remove(place);
         Ok(())
     }
 }

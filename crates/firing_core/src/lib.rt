@@ -6,11 +6,9 @@ mod cores;
 mod entries;
 mod laws;
 mod snaps;
-pub mod topology;
 
 pub use books::{Book, replay};
 pub use cores::Core;
-pub use entries::{Entry, ReplayFault, StepFault};
-pub use laws::{steps_agree, steps_keep_good};
+pub use entries::{Edit, EditFault, Entry, ReplayFault, StepFault};
+pub use laws::{logs_decide, steps_agree, steps_keep_good};
 pub use snaps::copy_snap;
-pub use topology::{Device, Link, Network};

@@ -1,17 +1,20 @@
 //! Copies of values, of exports, and of copies.
 
-ghost use Rattle.std.specs.Prelude.{◌≡◌, ◌≤◌, length, map, option_map, IfOk};
+ghost use Rattle.std.specs.Prelude.{◌≡◌, ◌≤◌, length, map, option_map, IfOk, IfSome, IfNone};
+ghost use Rattle.fc_values.specs.Rows.{IsPairValue};
 ghost use Rattle.fc_values.specs.Values.{local_of};
 ghost use Rattle.fc_nodes.specs.Program.{Unfolding, unfolding_of};
 ghost use Rattle.fc_values.specs.Exports.{export_of};
 ghost use Rattle.value_trees.specs.Snaps.{snap_copy, IsSnap};
 ghost use Rattle.value_trees.specs.Copies.{WhereSome};
+ghost use Rattle.topology.specs.Networks.{device_of};
 ghost use Rattle.firing_core.specs.CoreViews.{near_view, AllSnaps};
 
 use arrayvec::ArrayVec;
 use fc_nodes::Unfolded;
 use fc_values::{Export, Local, Memory, copy, copy_export};
 use std::alloc::Global;
+use topology::Device;
 use value_trees::{Near, Snap};
 
 /// Copies of local values.
@@ -23,6 +26,29 @@ pub(crate) fn copy_locals(alloc: Global, values: &[Local]) -> Result<Vec<Local>,
         copies.push(copy(alloc, value)?)?;
     }
     Ok(copies)
+}
+
+/// A copy of a value that is no pair. It takes no memory.
+pub(crate) fn copy_plain(value: &Local) -> Option<Local>
+    ensures same { IfSome result (λ v. local_of v ≡ local_of value.now) }
+    ensures pair { IfNone result (IsPairValue (local_of value.now)) }
+{
+    match value {
+        Local::Int(n) => Some(Local::Int(*n)),
+        Local::Bool(b) => Some(Local::Bool(*b)),
+        Local::Pair(_, _) => None,
+    }
+}
+
+/// A copy of a device.
+pub(crate) fn copy_device(alloc: Global, device: &Device) -> Result<Device, Memory>
+    ensures { IfOk result (λ d. device_of d ≡ device_of device.now) }
+{
+    let inputs = copy_locals(alloc, &device.inputs)?;
+    Ok(Device {
+        id: device.id,
+        inputs,
+    })
 }
 
 /// A copy of an export, if there is one.

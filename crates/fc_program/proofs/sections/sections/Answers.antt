@@ -1,6 +1,7 @@
 use Rattle.std.proofs.Common.{ap, ◌∙◌, sym, subst, map}
 use Rattle.std.proofs.lemmas.List.{map-append}
-use Rattle.fc_program.proofs.Cut.{IsCutTo, cut_first, slice_separator, slice_line}
+use Rattle.fc_program.proofs.Cut.{IsCutTo, cut_first, cut_last, slice_separator, slice_line}
+use Rattle.fc_program.proofs.SectionSizes.{within_input}
 use Rattle.fc_program.proofs.sections.sections.Goals as goal
 
 pub lines-init : goal.lines-init
@@ -14,3 +15,9 @@ lines-preserved-in_ok-push c =
 pub lines-preserved : goal.lines-preserved
 lines-preserved c =
     slice_line _ _ _ _ _ _ c.lines.invariant c.lines-test.true c.first_line.ensures.size c.first_line.ensures.within c.separates.ensures c.if-separates.false
+
+pub returns-clause-sections : goal.returns-clause-sections
+returns-clause-sections c = ap (map (λ s. s.now)) c.in_ok-push-2.ensures.items ∙ map-append _ _ _ ∙ cut_last _ _ _ _ c.lines.invariant c.lines-test.false
+
+pub returns-clause-within : goal.returns-clause-within
+returns-clause-within c = within_input c.args.input.now _ (returns-clause-sections c)

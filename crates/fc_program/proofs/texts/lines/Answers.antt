@@ -1,5 +1,5 @@
 use Rattle.std.proofs.Common.{ap, ◌∙◌, ◌++◌}
-use Rattle.firing_core.specs.Networks.{Network}
+use Rattle.topology.specs.Networks.{Network}
 use Rattle.fc_program.specs.Texts.{device_line}
 use Rattle.fc_program.proofs.CoreLines.{written_none, written_more, written_all}
 use Rattle.fc_program.proofs.texts.lines.Goals as goal

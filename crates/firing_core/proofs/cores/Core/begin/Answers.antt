@@ -2,11 +2,11 @@ use Rattle.std.proofs.Common.{◌≡◌, sym, subst, ap, Some, None, arith}
 use Rattle.std.specs.Prelude.{slice_set}
 use Rattle.fc_values.specs.Trees.{Copy}
 use Rattle.value_trees.specs.Snaps.{snap_copy, IsSnap}
-use Rattle.firing_core.specs.Networks.{Lives}
+use Rattle.topology.specs.Networks.{Lives}
 use Rattle.firing_core.specs.Cores.{begun, copy_of}
 use Rattle.firing_core.specs.Replays.{fault_of}
 use Rattle.firing_core.specs.CoreViews.{CoreValue, core_of, program_of}
-use Rattle.firing_core.specs.declared.entries.Entry.TheVariants as entry
+use Rattle.firing_core.specs.Entries.{BeginEntry, EndEntry}
 use Rattle.firing_core.specs.declared.entries.StepFault.TheVariants as fault
 use Rattle.firing_core.proofs.CoreSteps.{flight_within, begin_flying, begin_free, not_flying, begun_core, begun_kept}
 use Rattle.firing_core.proofs.cores.Core.begin.Goals as goal
@@ -19,22 +19,22 @@ index_mut-requires c = let w = flight_within _ c.self.invariant c.in-Some.place 
 
 pub returns-then-is_some-clause-flying : goal.returns-then-is_some-clause-flying
 returns-then-is_some-clause-flying c =
-    let why : fault_of (core_of c.args.self.now) (entry.Begin c.args.device) ≡ Some fault.Flying =
-    subst (λ (v : CoreValue). fault_of (core_of v) (entry.Begin c.args.device) ≡ Some fault.Flying) c.self.view_is
+    let why : fault_of (core_of c.args.self.now) (BeginEntry c.args.device) ≡ Some fault.Flying =
+    subst (λ (v : CoreValue). fault_of (core_of v) (BeginEntry c.args.device) ≡ Some fault.Flying) c.self.view_is
     (begin_flying _ c.self.invariant c.in-Some.place c.args.device c.in-Some.ensures.within c.in-Some.ensures.there _ c.index.ensures c.in-Some.ensures.lives (sym c.if-is_some.ensures)) in
     (λ e. why, λ e. cc)
 
 pub returns-in_default-neighbourhood-clause-flying : goal.returns-in_default-neighbourhood-clause-flying
 returns-in_default-neighbourhood-clause-flying c =
-    let why : fault_of (core_of c.args.self.now) (entry.Begin c.args.device) ≡ None =
-    subst (λ (v : CoreValue). fault_of (core_of v) (entry.Begin c.args.device) ≡ None) c.self.view_is
+    let why : fault_of (core_of c.args.self.now) (BeginEntry c.args.device) ≡ None =
+    subst (λ (v : CoreValue). fault_of (core_of v) (BeginEntry c.args.device) ≡ None) c.self.view_is
     (begin_free _ c.self.invariant c.in-Some.place c.args.device c.in-Some.ensures.within c.in-Some.ensures.there _ c.index.ensures c.in-Some.ensures.lives (sym c.if-is_some.ensures)) in
     (λ e. absurd cc, λ e. absurd cc)
 
 pub returns-clause-flying : goal.returns-clause-flying
 returns-clause-flying c =
-    let why : fault_of (core_of c.args.self.now) (entry.Begin c.args.device) ≡ None =
-    subst (λ (v : CoreValue). fault_of (core_of v) (entry.Begin c.args.device) ≡ None) c.self.view_is
+    let why : fault_of (core_of c.args.self.now) (BeginEntry c.args.device) ≡ None =
+    subst (λ (v : CoreValue). fault_of (core_of v) (BeginEntry c.args.device) ≡ None) c.self.view_is
     (begin_free _ c.self.invariant c.in-Some.place c.args.device c.in-Some.ensures.within c.in-Some.ensures.there _ c.index.ensures c.in-Some.ensures.lives (sym c.if-is_some.ensures)) in
     (λ e. absurd cc, λ e. absurd cc)
 

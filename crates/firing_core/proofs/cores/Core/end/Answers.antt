@@ -6,7 +6,7 @@ use Rattle.fc_values.specs.Trees.{Copy}
 use Rattle.firing_core.specs.Cores.{Ends}
 use Rattle.firing_core.specs.Replays.{fault_of}
 use Rattle.firing_core.specs.CoreViews.{CoreValue, core_of, program_of}
-use Rattle.firing_core.specs.declared.entries.Entry.TheVariants as entry
+use Rattle.firing_core.specs.Entries.{BeginEntry, EndEntry}
 use Rattle.firing_core.specs.declared.entries.StepFault.TheVariants as fault
 use Rattle.firing_core.proofs.CoreSteps.{flight_within, end_resting, flies, lives_at, fired_export, ends_with, ended_kept}
 use Rattle.firing_core.proofs.cores.Core.end.Goals as goal
@@ -19,13 +19,13 @@ index_mut-requires-2 c = let w = flight_within _ c.self.invariant c.in-Some.plac
 
 pub returns-then-is_none-clause-refused : goal.returns-then-is_none-clause-refused
 returns-then-is_none-clause-refused c =
-    subst (λ (v : CoreValue). fault_of (core_of v) (entry.End c.args.fired.snap.device) ≡ Some fault.NotFlying) c.self.view_is
+    subst (λ (v : CoreValue). fault_of (core_of v) (EndEntry c.args.fired.snap.device) ≡ Some fault.NotFlying) c.self.view_is
     (end_resting _ c.self.invariant c.in-Some.place c.args.fired.snap.device c.in-Some.ensures.within (c.in-Some.ensures.there ∙ ap (λ (s : Snap). s.device) c.snap.ensures.value) _ c.index.ensures
     (lives_at c.self.inside.net _ _ c.snap.ensures.value c.in-Some.ensures.lives) c.if-is_none.ensures)
 
 pub returns-clause-accepted : goal.returns-clause-accepted
 returns-clause-accepted c =
-    subst (λ (v : CoreValue). fault_of (core_of v) (entry.End c.args.fired.snap.device) ≡ None) c.self.view_is
+    subst (λ (v : CoreValue). fault_of (core_of v) (EndEntry c.args.fired.snap.device) ≡ None) c.self.view_is
     (flies _ c.self.invariant c.in-Some.place c.args.fired.snap.device c.in-Some.ensures.within (c.in-Some.ensures.there ∙ ap (λ (s : Snap). s.device) c.snap.ensures.value) _ c.index.ensures
     (lives_at c.self.inside.net _ _ c.snap.ensures.value c.in-Some.ensures.lives) c.if-is_none.ensures).fault
 

@@ -1,7 +1,7 @@
 use Rattle.std.proofs.Common.{◌≡◌, ◌∙◌, sym, subst, arith}
 use Rattle.std.specs.Prelude.{option_map, IfSome}
 use Rattle.value_trees.specs.Snaps.{snap_copy, IsSnap}
-use Rattle.firing_core.specs.Networks.{numbers}
+use Rattle.topology.specs.Networks.{numbers}
 use Rattle.firing_core.specs.CoreViews.{CoreValue, core_of, program_of}
 use Rattle.firing_core.proofs.Slots.{slot_none}
 use Rattle.firing_core.proofs.CoreSteps.{flight_at, flight_within, flight_kept}

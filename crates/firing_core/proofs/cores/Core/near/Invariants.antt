@@ -1,6 +1,6 @@
 use Rattle.std.proofs.Common.{◌≡◌, ◌++◌, ◌≤◌, drop, map, length}
 use Rattle.value_trees.specs.Snaps.{near_copy, NearAreExports}
-use Rattle.firing_core.specs.Networks.{near}
+use Rattle.topology.specs.Networks.{near}
 use Rattle.firing_core.specs.Cores.{near_copies}
 use Rattle.firing_core.specs.CoreViews.{core_of, program_of}
 use Rattle.firing_core.proofs.cores.Core.near.Given as goal

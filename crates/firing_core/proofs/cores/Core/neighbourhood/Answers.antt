@@ -4,8 +4,8 @@ use Rattle.fc_values.specs.Values.{local_of}
 use Rattle.fc_values.specs.Exports.{export_of}
 use Rattle.value_trees.specs.declared.copies.Snap.{Snap}
 use Rattle.value_trees.specs.Snaps.{snap_copy, near_copy, NearAreExports, IsSnap}
-use Rattle.firing_core.specs.declared.topology.Device.{Device}
-use Rattle.firing_core.specs.Networks.{NetDevice, device_of, numbers, inputs_in, near}
+use Rattle.topology.specs.declared.types.Device.{Device}
+use Rattle.topology.specs.Networks.{NetDevice, device_of, numbers, inputs_in, near}
 use Rattle.firing_core.specs.Cores.{copy_of, near_copies}
 use Rattle.firing_core.specs.CoreViews.{CoreValue, core_of, program_of}
 use Rattle.firing_core.specs.contracts.cores.Core.{the_view}

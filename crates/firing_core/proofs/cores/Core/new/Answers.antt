@@ -1,7 +1,7 @@
 use Rattle.std.proofs.Common.{◌≡◌, ◌∙◌, sym, ap, length}
 use Rattle.std.proofs.lemmas.List.{length-map}
 use Rattle.fc_nodes.specs.Program.{Program}
-use Rattle.firing_core.specs.Networks.{device_of}
+use Rattle.topology.specs.Networks.{device_of}
 use Rattle.firing_core.proofs.CoreSteps.{new_core, empty_core}
 use Rattle.firing_core.proofs.cores.Core.new.Goals as goal
 
