@@ -4,3 +4,8 @@ pub mod Stands
 pub mod Typed
 pub mod Programs
 pub mod Firsts
+pub mod Weights
+pub mod Inputs
+pub mod Written
+pub mod Calls
+pub mod Whole

@@ -200,7 +200,7 @@ lawful_start (DefIs f ps r b ∷ ds) h a = absurd h
 lawful_start (MainIs m ∷ ds) h a = absurd h
 
 -- no more inputs than declarations
-few_inputs : (ds : List Declaration) (B : Before) → length (and_all B ds).inputs ≤ length B.inputs + length ds
+pub few_inputs : (ds : List Declaration) (B : Before) → length (and_all B ds).inputs ≤ length B.inputs + length ds
 few_inputs [] B = omega arith
 few_inputs (LanguageIs n ∷ ds) B = let i = few_inputs ds (and_then B (LanguageIs n)) in omega (arith, i)
 few_inputs (CeilingIs n ∷ ds) B = let i = few_inputs ds (and_then B (CeilingIs n)) in omega (arith, i)

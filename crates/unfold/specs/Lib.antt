@@ -4,3 +4,4 @@ pub mod Counting
 pub mod Laws
 pub mod Views
 pub mod Found
+pub mod Writing

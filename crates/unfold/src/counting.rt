@@ -27,7 +27,7 @@ pub fn count_nodes(alloc: Global, typed: &Typed) -> Result<u32, Memory>
 }
 
 /// What a program declares.
-fn table(alloc: Global, program: &Program) -> Result<Known<'_>, Memory>
+pub fn table(alloc: Global, program: &Program) -> Result<Known<'_>, Memory>
     requires { IsTyped (program_of program.now) }
     ensures { IfOk result (λ known. known_of known ≡ and_all nothing (program_of program.now)) }
 {
@@ -52,7 +52,7 @@ fn body_counts(alloc: Global, known: &Known<'_>) -> Result<Vec<u32>, Memory>
 }
 
 /// The expression of `main`.
-fn main_of(program: &Program) -> &Expr
+pub fn main_of(program: &Program) -> &Expr
     requires { IsPrintable (program_of program.now) }
     ensures { term_of result.now ≡ main_expression (program_of program.now) }
 {

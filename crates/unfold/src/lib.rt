@@ -6,10 +6,15 @@ mod counting;
 mod faults;
 mod laws;
 mod names;
+mod putting;
+mod scopes;
+mod unfolding;
+mod writing;
 
 pub use counting::count_nodes;
 pub use faults::UnfoldFault;
 pub use laws::{nodes_are_counted, unfolding_is_program};
+pub use unfolding::unfold;
 
 #[cfg(test)]
 mod tests;

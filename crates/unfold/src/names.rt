@@ -1,11 +1,13 @@
-//! Functions by their names.
+//! Functions and inputs by their names.
 
-ghost use Rattle.std.specs.Prelude.{◌<◌, IfSome};
+ghost use Rattle.std.specs.Prelude.{◌≡◌, ◌<◌, ◌^◌, IfSome, length};
 ghost use Rattle.fc_types.specs.Views.{known_of};
+ghost use Rattle.unfold.specs.Unfolding.{input_number, sense_by};
 ghost use Rattle.unfold.specs.Views.{IsFound};
+ghost use Rattle.unfold.specs.Writing.{input_term};
 
 use fc_types::{Function, Known};
-use fc_values::Name;
+use fc_values::{InputTy, Name};
 
 /// A function among the first so many, with its number.
 pub fn find<'k>(known: &Known<'k>, visible: usize, name: &Name) -> Option<(usize, Function<'k>)>
@@ -20,6 +22,17 @@ pub fn find<'k>(known: &Known<'k>, visible: usize, name: &Name) -> Option<(usize
                 None
             }
         }
+        None => None,
+    }
+}
+
+/// The number of an input, in declared order, and its type.
+pub fn find_input(known: &Known<'_>, name: &Name) -> Option<(u32, InputTy)>
+    requires { length (known_of known.now).inputs < 2 ^ 32 }
+    ensures { sense_by (known_of known.now).inputs (input_number name.now.text.items (known_of known.now).inputs) ≡ input_term result }
+{
+    match known.inputs.get_full(&name.text.as_slice()) {
+        Some((number, _, ty)) => Some((number as u32, *ty)),
         None => None,
     }
 }

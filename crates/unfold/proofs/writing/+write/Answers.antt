@@ -1,0 +1,108 @@
+use Rattle.std.proofs.Common.{◌∙◌, ap, refl, ◌-◌, ◌∷◌, [], arith, map, take, drop, length}
+use Rattle.std.proofs.lemmas.List.{map-append}
+use Rattle.fc_syntax.specs.Terms.{term_of, terms}
+use Rattle.fc_values.specs.Types.{type_of}
+use Rattle.fc_types.specs.Judging.{judge_builtin}
+use Rattle.fc_types.specs.Views.{known_of, function_of}
+use Rattle.fc_nodes.specs.Terms.{ByRep, ByShare}
+use Rattle.unfold.specs.Unfolding.{type_given}
+use Rattle.unfold.specs.Writing.{scope_of, argument_of}
+use Rattle.unfold.proofs.Written.{nbr_written, evolve_written, let_written, if_written, apply_written}
+use Rattle.unfold.proofs.Calls.{call_written, found_body, no_body, found_size, no_size, first_and_rest, row_nodes, row_places, row_types}
+use Rattle.unfold.proofs.Weights.{first_lighter}
+use Rattle.unfold.proofs.writing.+write.Goals as goal
+
+pub write_all-returns-clause-nodes : goal.write_all-returns-clause-nodes
+write_all-returns-clause-nodes t c =
+    let s = first_and_rest c.args.args.now c.arg-item.result c.in-len1-up.len_at_least c.arg-item.is in
+    rw s (row_nodes (known_of c.args.known.now) c.args.visible (scope_of c.args.scope.now) (term_of c.arg-item.result) (terms (map term_of (take (length c.args.args.now - 1) (drop 1 c.args.args.now)))) c.args.nodes.now.items c.write.new.nodes.items c.in_ok-write.field-0 c.in_ok-write.ensures.long c.in_ok-write.ensures.written
+    c.write_all.new.nodes.items c.in_ok-write_all.ensures.nodes)
+
+pub write_all-returns-clause-places : goal.write_all-returns-clause-places
+write_all-returns-clause-places t c =
+    let s = first_and_rest c.args.args.now c.arg-item.result c.in-len1-up.len_at_least c.arg-item.is in
+    rw s (row_places (known_of c.args.known.now) c.args.visible (scope_of c.args.scope.now) (term_of c.arg-item.result) (terms (map term_of (take (length c.args.args.now - 1) (drop 1 c.args.args.now)))) c.args.nodes.now.items c.write.new.nodes.items c.in_ok-write.field-0 c.in_ok-write.ensures.long c.in_ok-write.ensures.written
+    c.args.places.now.items c.push.new.self.items c.write_all.new.places.items c.len.result (c.len.ensures ∙ c.args.nodes.now.ok.0) c.in_ok-push.ensures.items c.in_ok-write_all.ensures.places)
+
+pub write_all-returns-clause-types : goal.write_all-returns-clause-types
+write_all-returns-clause-types t c =
+    let s = first_and_rest c.args.args.now c.arg-item.result c.in-len1-up.len_at_least c.arg-item.is in
+    rw s (row_types (known_of c.args.known.now) c.args.visible (scope_of c.args.scope.now) (term_of c.arg-item.result) (terms (map term_of (take (length c.args.args.now - 1) (drop 1 c.args.args.now)))) c.args.nodes.now.items c.write.new.nodes.items c.in_ok-write.field-0 c.in_ok-write.ensures.long c.in_ok-write.ensures.written
+    (map type_of c.args.types.now.items) (map type_of c.push-2.new.self.items) (map type_of c.write_all.new.types.items) (type_of c.in_ok-write.field-0) refl (ap (map type_of) c.in_ok-push-2.ensures.items ∙ map-append type_of c.args.types.now.items (c.in_ok-write.field-0 ∷ [])) c.in_ok-write_all.ensures.types)
+
+pub write_apply-returns-clause-written : goal.write_apply-returns-clause-written
+write_apply-returns-clause-written t c =
+    let no_places = c.in_ok-places.ensures.items in
+    let no_types = c.in_ok-types.ensures.items in
+    apply_written (known_of c.args.known.now) c.args.visible (scope_of c.args.scope.now) c.args.nodes.now.items c.begin_node.new.nodes.items _ c.in_ok-place.place c.in_ok-place.ensures.place c.in_ok-place.ensures.long c.in_ok-place.ensures.behind
+    c.args.builtin (terms (map term_of c.args.args.now)) c.write_all.new.nodes.items c.end_node.new.nodes.items c.in_ok-ty.ty c.in_ok-copy_type.field-0 (map type_of c.write_all.new.types.items) c.write_all.new.places.items
+    c.in_ok-write_all.ensures.nodes (rw no_places at c.in_ok-write_all.ensures.places) (rw no_types at c.in_ok-write_all.ensures.types) (c.in_ok-ty.ensures ∙ ap (λ ts. type_given (judge_builtin c.args.builtin (map type_of ts))) c.deref.ensures.value) c.in_ok-copy_type.ensures c.end_node.ensures.set
+
+pub write_body-write-requires : goal.write_body-write-requires
+write_body-write-requires t c =
+    let d = c.decreases in
+    let r = c.requires.room in
+    let f = c.in-Some.ensures.function in
+    let w = first_lighter f.1 c.args.visible c.in-Some.ensures.earlier in
+    let s = found_size (known_of c.args.known.now) c.args.visible c.args.name.now.text.items c.in-Some.number (function_of f.0 c.in-Some.function) f.1 c.in-Some.ensures.earlier in
+    (omega (arith, d, w), (c.requires.inputs, omega (arith, r, s)))
+
+pub write_body-returns-in_ok-ty-in-Some-clause-long : goal.write_body-returns-in_ok-ty-in-Some-clause-long
+write_body-returns-in_ok-ty-in-Some-clause-long t c =
+    let f = c.in-Some.ensures.function in
+    let l = c.in_ok-ty-in-Some.ensures.long in
+    let s = found_size (known_of c.args.known.now) c.args.visible c.args.name.now.text.items c.in-Some.number (function_of f.0 c.in-Some.function) f.1 c.in-Some.ensures.earlier in
+    omega (arith, l, s)
+
+pub write_body-returns-in_ok-ty-in-Some-clause-written : goal.write_body-returns-in_ok-ty-in-Some-clause-written
+write_body-returns-in_ok-ty-in-Some-clause-written t c =
+    let f = c.in-Some.ensures.function in
+    found_body (known_of c.args.known.now) c.args.visible c.args.name.now.text.items c.in-Some.number (function_of f.0 c.in-Some.function) (map argument_of c.args.given.now) c.args.nodes.now.items c.write.new.nodes.items c.in_ok-ty-in-Some.ty f.1 c.in-Some.ensures.earlier
+    c.in_ok-ty-in-Some.ensures.written
+
+pub write_body-returns-in_ok-ty-in-None-clause-long : goal.write_body-returns-in_ok-ty-in-None-clause-long
+write_body-returns-in_ok-ty-in-None-clause-long t c =
+    let l = c.in_ok-ty-in-None.ensures.long in
+    let s = no_size (known_of c.args.known.now) c.args.visible c.args.name.now.text.items c.in-None.ensures.function in
+    omega (arith, l, s)
+
+pub write_body-returns-in_ok-ty-in-None-clause-written : goal.write_body-returns-in_ok-ty-in-None-clause-written
+write_body-returns-in_ok-ty-in-None-clause-written t c =
+    no_body (known_of c.args.known.now) c.args.visible c.args.name.now.text.items (map argument_of c.args.given.now) c.args.nodes.now.items c.put_untyped.new.nodes.items c.in_ok-ty-in-None.ty c.in-None.ensures.function c.in_ok-ty-in-None.ensures.written
+
+pub write_call-returns-clause-written : goal.write_call-returns-clause-written
+write_call-returns-clause-written t c =
+    let s = first_and_rest c.args.args.now c.arg-item.result c.in-len1-up.len_at_least c.arg-item.is in
+    rw s (call_written (known_of c.args.known.now) c.args.visible (scope_of c.args.scope.now) c.args.name.now.text.items (term_of c.arg-item.result) (terms (map term_of (take (length c.args.args.now - 1) (drop 1 c.args.args.now))))
+    c.args.nodes.now.items c.begin_node.new.nodes.items c.write.new.nodes.items c.write_call.new.nodes.items c.end_node.new.nodes.items _ c.in_ok-place.place (map argument_of c.args.given.items) (map argument_of c.push.new.self.items) c.in_ok-ty.ty c.in_ok-ty-2.ty c.in_ok-copy_type.field-0 c.len-second.result c.in_ok-kids.kids.items
+    c.in_ok-place.ensures.place c.in_ok-place.ensures.long c.in_ok-place.ensures.behind c.in_ok-ty.ensures.long c.in_ok-ty.ensures.written (ap (map argument_of) c.in_ok-push.ensures.items ∙ map-append argument_of c.args.given.items _) c.in_ok-ty-2.ensures.written (c.len-second.ensures ∙ c.write.new.nodes.ok.0) c.in_ok-copy_type.ensures c.in_ok-kids.ensures.items c.end_node.ensures.set)
+
+pub write_if-returns-clause-written : goal.write_if-returns-clause-written
+write_if-returns-clause-written t c =
+    if_written (known_of c.args.known.now) c.args.visible (scope_of c.args.scope.now) c.args.nodes.now.items c.begin_node.new.nodes.items _ c.in_ok-place.place c.in_ok-place.ensures.place c.in_ok-place.ensures.long c.in_ok-place.ensures.behind
+    (term_of c.args.condition.now) (term_of c.args.then.now) (term_of c.args.other.now) c.write.new.nodes.items c.write-2.new.nodes.items c.write-3.new.nodes.items c.end_node.new.nodes.items c.in_ok-write.field-0 c.in_ok-ty.ty c.in_ok-write-2.field-0 c.in_ok-copy_type.field-0 c.len-second.result c.len-third.result c.in_ok-kids.kids.items
+    c.in_ok-write.ensures.long c.in_ok-write.ensures.written c.in_ok-ty.ensures.long c.in_ok-ty.ensures.written c.in_ok-write-2.ensures.written (c.len-second.ensures ∙ c.write.new.nodes.ok.0) (c.len-third.ensures ∙ c.write-2.new.nodes.ok.0) c.in_ok-copy_type.ensures c.in_ok-kids.ensures.items c.end_node.ensures.set
+
+pub write_let-returns-clause-written : goal.write_let-returns-clause-written
+write_let-returns-clause-written t c =
+    let_written (known_of c.args.known.now) c.args.visible (scope_of c.args.scope.now) c.args.nodes.now.items c.begin_node.new.nodes.items _ c.in_ok-place.place c.in_ok-place.ensures.place c.in_ok-place.ensures.long c.in_ok-place.ensures.behind
+    c.args.name.now.text.items (term_of c.args.bound.now) (term_of c.args.body.now) c.write.new.nodes.items c.write-2.new.nodes.items c.end_node.new.nodes.items c.in_ok-bound.bound c.in_ok-ty.ty c.in_ok-copy_type.field-0 c.len-second.result c.in_ok-kids.kids.items
+    c.in_ok-bound.ensures.long c.in_ok-bound.ensures.written c.in_ok-ty.ensures.written (c.len-second.ensures ∙ c.write.new.nodes.ok.0) c.in_ok-copy_type.ensures c.in_ok-kids.ensures.items c.end_node.ensures.set
+
+pub write_nbr-returns-clause-written : goal.write_nbr-returns-clause-written
+write_nbr-returns-clause-written t c =
+    nbr_written (known_of c.args.known.now) c.args.visible (scope_of c.args.scope.now) c.args.nodes.now.items c.begin_node.new.nodes.items _ c.in_ok-place.place c.in_ok-place.ensures.place c.in_ok-place.ensures.long c.in_ok-place.ensures.behind
+    (term_of c.args.inner.now) c.write.new.nodes.items c.end_node.new.nodes.items c.in_ok-write.field-0 c.field_type-ty.result c.in_ok-copy_type.field-0 c.in_ok-kids.kids.items
+    c.in_ok-write.ensures.written c.field_type-ty.ensures c.in_ok-copy_type.ensures c.in_ok-kids.ensures.items c.end_node.ensures.set
+
+pub write_rep-returns-clause-written : goal.write_rep-returns-clause-written
+write_rep-returns-clause-written t c =
+    evolve_written (known_of c.args.known.now) c.args.visible (scope_of c.args.scope.now) c.args.nodes.now.items c.begin_node.new.nodes.items _ c.in_ok-place.place c.in_ok-place.ensures.place c.in_ok-place.ensures.long c.in_ok-place.ensures.behind
+    ByRep c.args.name.now.text.items (term_of c.args.first.now) (term_of c.args.body.now) c.write.new.nodes.items c.write-2.new.nodes.items c.end_node.new.nodes.items c.in_ok-ty.ty c.in_ok-write.field-0 c.in_ok-copy_type.field-0 (type_of c.in_ok-ty.ty) c.len-second.result c.in_ok-kids.kids.items
+    c.in_ok-ty.ensures.long c.in_ok-ty.ensures.written refl c.in_ok-write.ensures.written (c.len-second.ensures ∙ c.write.new.nodes.ok.0) c.in_ok-copy_type.ensures c.in_ok-kids.ensures.items c.end_node.ensures.set
+
+pub write_share-returns-clause-written : goal.write_share-returns-clause-written
+write_share-returns-clause-written t c =
+    evolve_written (known_of c.args.known.now) c.args.visible (scope_of c.args.scope.now) c.args.nodes.now.items c.begin_node.new.nodes.items _ c.in_ok-place.place c.in_ok-place.ensures.place c.in_ok-place.ensures.long c.in_ok-place.ensures.behind
+    ByShare c.args.name.now.text.items (term_of c.args.first.now) (term_of c.args.body.now) c.write.new.nodes.items c.write-2.new.nodes.items c.end_node.new.nodes.items c.in_ok-ty.ty c.in_ok-write.field-0 c.in_ok-copy_type.field-0 (type_of c.in_ok-shared.shared) c.len-second.result c.in_ok-kids.kids.items
+    c.in_ok-ty.ensures.long c.in_ok-ty.ensures.written c.in_ok-shared.ensures c.in_ok-write.ensures.written (c.len-second.ensures ∙ c.write.new.nodes.ok.0) c.in_ok-copy_type.ensures c.in_ok-kids.ensures.items c.end_node.ensures.set

@@ -1,0 +1,69 @@
+-- What the code that writes nodes has in hand.
+use Rattle.std.specs.Prelude.{ℕ, List, [], ◌∷◌, ◌++◌, map, take, drop, length, Option, Some, None, ◌≡◌}
+use Rattle.std.specs.Borrow.{Bor}
+use Rattle.fc_values.specs.declared.types.InputTy.{InputTy}
+use Rattle.fc_values.specs.declared.types.Ty.{Ty}
+use Rattle.fc_values.specs.Types.{ValueType, TypeLocal, input_type, type_of}
+use Rattle.fc_syntax.specs.Terms.{Term as Expression, Terms as Expressions, Parameter, parameter_of}
+use Rattle.fc_types.specs.Before.{Before}
+use Rattle.fc_nodes.specs.declared.nodes.Node.{Node}
+use Rattle.fc_nodes.specs.Terms.{Variable, Sense, Term, Terms, Plain, view_of, type_of as term_type}
+use Rattle.unfold.specs.declared.faults.UnfoldFault.{UnfoldFault}
+use Rattle.unfold.specs.declared.faults.UnfoldFault.TheVariants as fault
+use Rattle.unfold.specs.declared.scopes.Argument.{Argument}
+use Rattle.unfold.specs.declared.scopes.Scope.{Scope as AScope}
+use Rattle.unfold.specs.declared.scopes.Scope.TheVariants as scope
+use Rattle.unfold.specs.Nodes.{listed}
+use Rattle.unfold.specs.Unfolding.{Scope, bind, Meaning, meaning_of, meanings, params_of, body_of, untyped, unfolded, unfolded_call, unfolded_all}
+
+-- an argument: the place of the `let` that binds it, and its type
+abbrev pub argument_of : Argument → ℕ × ValueType
+argument_of a = (a.place, type_of a.ty)
+
+-- parameters with their arguments
+abbrev pub arguments : List (ℕ × ValueType) → List Parameter → Scope
+arguments [] params = []
+arguments (a ∷ given) [] = []
+arguments (a ∷ given) (x ∷ params) = record { name = x.name; place = a.0; type = a.1 } ∷ arguments given params
+
+abbrev pub scope_of : AScope → Scope
+scope_of (scope.Arguments params given) = arguments (map argument_of given.now) (map parameter_of params.now)
+scope_of (scope.Bind' x n t p rest) = bind x.now.text.items n (type_of t.now) (scope_of rest)
+
+-- the term of a name that was looked for in a scope, and of an input
+abbrev pub found_term : Option (ℕ × Bor Ty) → Term
+found_term None = untyped
+found_term (Some r) = Plain (type_of r.1.now) (Variable r.0)
+
+abbrev pub input_term : Option (ℕ × InputTy) → Term
+input_term None = untyped
+input_term (Some r) = Plain (TypeLocal (input_type r.1)) (Sense r.0)
+
+-- what the first so many functions are
+abbrev pub first_meanings : Before → ℕ → List Meaning
+first_meanings B n = meanings B.inputs [] (take n B.functions)
+
+-- an expression that sees the first so many functions
+abbrev pub unfolded_in : Before → ℕ → Scope → ℕ → Expression → Term
+unfolded_in B n scope p e = unfolded B.inputs (first_meanings B n) scope p e
+
+abbrev pub all_unfolded_in : Before → ℕ → Scope → ℕ → Expressions → Terms
+all_unfolded_in B n scope p es = unfolded_all B.inputs (first_meanings B n) scope p es
+
+-- what is left of a call, behind the arguments that are given
+abbrev pub call_by : List Meaning → Before → Scope → List Parameter → (Scope → ℕ → Term) → List (ℕ × ValueType) → ℕ → Expressions → Term
+call_by ms B scope params body given p es = unfolded_call B.inputs ms scope (drop (length given) params) (arguments given params) p body es
+
+abbrev pub call_in : Before → ℕ → Scope → List ℕ → List (ℕ × ValueType) → ℕ → Expressions → Term
+call_in B n scope f given p es =
+    call_by (first_meanings B n) B scope (params_of (meaning_of f (first_meanings B n))) (body_of (meaning_of f (first_meanings B n))) given p es
+
+-- the nodes of a term are put behind others, and this is its type
+pub record IsWritten (before after : List Node) (t : Ty) (u : Term) : Type 0 where
+  pub nodes : map view_of after ≡ map view_of before ++ listed (length before) u
+  pub type : type_of t ≡ term_type u
+
+-- what is said of the size of a program that is too large
+abbrev pub IfTooLarge : UnfoldFault → (ℕ → Type 0) → Type 0
+IfTooLarge (fault.TooLarge n) P = P n
+IfTooLarge fault.Memory P = Unit {0}

@@ -1,0 +1,347 @@
+//! Writing the nodes of expressions in preorder.
+
+ghost use Rattle.std.specs.Prelude.{◌≡◌, ◌≤◌, ◌<◌, ◌+◌, ◌^◌, ◌++◌, [], ◌∷◌, IfOk, length, map};
+ghost use Rattle.fc_syntax.specs.Terms.{ApplyTerm, CallTerm, IfTerm, LetTerm, NbrTerm, RepTerm, ShareTerm, NoTerms, term_of, terms};
+ghost use Rattle.fc_values.specs.Types.{type_of};
+ghost use Rattle.fc_nodes.specs.Terms.{places as places_of, view_of};
+ghost use Rattle.fc_nodes.specs.Typing.{types_of};
+ghost use Rattle.fc_types.specs.Views.{known_of};
+ghost use Rattle.unfold.specs.Counting.{count, count_all, count_arguments, size_of};
+ghost use Rattle.unfold.specs.Nodes.{all_listed};
+ghost use Rattle.unfold.specs.Views.{counted};
+ghost use Rattle.unfold.specs.Writing.{IsWritten, all_unfolded_in, argument_of, call_in, scope_of, unfolded_in};
+
+use crate::names::find;
+use crate::putting::{
+    begin_node, end_node, field_type, given_type, put_input, put_leaf, put_untyped, put_variable,
+};
+use crate::scopes::{Argument, Scope};
+use fc_nodes::{Node, Op};
+use fc_syntax::Expr;
+use fc_types::{Known, copy_type, shared_type};
+use fc_values::{Builtin, Local, LocalTy, Memory, Name, Ty};
+use std::alloc::Global;
+
+/// The nodes of an expression behind others, with its type. It sees the first so many functions. Expressions may be
+/// thousands of levels deep, so each form has a function of its own, and a level takes little of the stack.
+#[cycle(write)]
+pub fn write(
+    alloc: Global,
+    known: &Known<'_>,
+    visible: usize,
+    scope: &Scope<'_>,
+    expr: &Expr,
+    nodes: &mut Vec<Node>,
+) -> Result<Ty, Memory>
+    requires inputs { length (known_of known.now).inputs < 2 ^ 32 }
+    requires room { length nodes.old.items + count (counted (known_of known.now) visible) (term_of expr.now) ≤ 2048 }
+    ensures long { IfOk result (λ ty. length nodes.new.items ≡ length nodes.old.items + count (counted (known_of known.now) visible) (term_of expr.now)) }
+    ensures written { IfOk result (λ ty. IsWritten nodes.old.items nodes.new.items ty (unfolded_in (known_of known.now) visible (scope_of scope.now) (length nodes.old.items) (term_of expr.now))) }
+{
+    match expr {
+        Expr::Int(n) => put_leaf(
+            alloc,
+            nodes,
+            Op::Lit(Local::Int(*n)),
+            Ty::Local(LocalTy::Int),
+        ),
+        Expr::Truth(b) => put_leaf(
+            alloc,
+            nodes,
+            Op::Lit(Local::Bool(*b)),
+            Ty::Local(LocalTy::Bool),
+        ),
+        Expr::Var(name) => put_variable(alloc, scope, name, nodes),
+        Expr::Uid => put_leaf(alloc, nodes, Op::Uid, Ty::Local(LocalTy::Int)),
+        Expr::NbrLink => put_leaf(alloc, nodes, Op::NbrLink, Ty::Field(LocalTy::Int)),
+        Expr::Sense(name) => put_input(alloc, known, name, nodes),
+        Expr::Apply(builtin, args) => {
+            write_apply(alloc, known, visible, scope, *builtin, args, nodes)
+        }
+        Expr::Nbr(inner) => write_nbr(alloc, known, visible, scope, inner, nodes),
+        Expr::Rep(first, name, body) => {
+            write_rep(alloc, known, visible, &*scope, first, name, body, nodes)
+        }
+        Expr::Share(first, name, body) => {
+            write_share(alloc, known, visible, &*scope, first, name, body, nodes)
+        }
+        Expr::If(condition, then, other) => write_if(
+            alloc, known, visible, scope, condition, then, other, nodes,
+        ),
+        Expr::Let(name, bound, body) => {
+            write_let(alloc, known, visible, &*scope, name, bound, body, nodes)
+        }
+        Expr::Call(name, args) => {
+            let given = Vec::new(alloc);
+            write_call(alloc, known, visible, scope, name, given, args, nodes)
+        }
+    }
+}
+
+/// A builtin.
+#[cycle(write)]
+#[inline(never)]
+fn write_apply(
+    alloc: Global,
+    known: &Known<'_>,
+    visible: usize,
+    scope: &Scope<'_>,
+    builtin: Builtin,
+    args: &[Expr],
+    nodes: &mut Vec<Node>,
+) -> Result<Ty, Memory>
+    requires inputs { length (known_of known.now).inputs < 2 ^ 32 }
+    requires room { length nodes.old.items + count (counted (known_of known.now) visible) (ApplyTerm builtin (terms (map term_of args.now))) ≤ 2048 }
+    ensures long { IfOk result (λ ty. length nodes.new.items ≡ length nodes.old.items + count (counted (known_of known.now) visible) (ApplyTerm builtin (terms (map term_of args.now)))) }
+    ensures written { IfOk result (λ ty. IsWritten nodes.old.items nodes.new.items ty (unfolded_in (known_of known.now) visible (scope_of scope.now) (length nodes.old.items) (ApplyTerm builtin (terms (map term_of args.now))))) }
+{
+    let place = begin_node(alloc, nodes)?;
+    let mut places = Vec::with_capacity(alloc, args.len())?;
+    let mut types = Vec::with_capacity(alloc, args.len())?;
+    write_all(
+        alloc,
+        known,
+        visible,
+        scope,
+        args,
+        nodes,
+        &mut places,
+        &mut types,
+    )?;
+    let ty = given_type(alloc, builtin, &types)?;
+    end_node(
+        nodes,
+        place,
+        Op::Apply(builtin),
+        copy_type(alloc, &ty)?,
+        places,
+    );
+    Ok(ty)
+}
+
+/// The nodes of expressions in a row, with their places and types behind others.
+#[cycle(write)]
+#[inline(never)]
+fn write_all(
+    alloc: Global,
+    known: &Known<'_>,
+    visible: usize,
+    scope: &Scope<'_>,
+    args: &[Expr],
+    nodes: &mut Vec<Node>,
+    places: &mut Vec<u32>,
+    types: &mut Vec<Ty>,
+) -> Result<(), Memory>
+    requires inputs { length (known_of known.now).inputs < 2 ^ 32 }
+    requires room { length nodes.old.items + count_all (counted (known_of known.now) visible) (terms (map term_of args.now)) ≤ 2048 }
+    ensures long { IfOk result (λ _. length nodes.new.items ≡ length nodes.old.items + count_all (counted (known_of known.now) visible) (terms (map term_of args.now))) }
+    ensures nodes { IfOk result (λ _. map view_of nodes.new.items ≡ map view_of nodes.old.items ++ all_listed (length nodes.old.items) (all_unfolded_in (known_of known.now) visible (scope_of scope.now) (length nodes.old.items) (terms (map term_of args.now)))) }
+    ensures places { IfOk result (λ _. places.new.items ≡ places.old.items ++ places_of (length nodes.old.items) (all_unfolded_in (known_of known.now) visible (scope_of scope.now) (length nodes.old.items) (terms (map term_of args.now)))) }
+    ensures types { IfOk result (λ _. map type_of types.new.items ≡ map type_of types.old.items ++ types_of (all_unfolded_in (known_of known.now) visible (scope_of scope.now) (length nodes.old.items) (terms (map term_of args.now)))) }
+{
+    let [arg, rest @ ..] = args else {
+        return Ok(());
+    };
+    places.push(nodes.len() as u32)?;
+    types.push(write(alloc, known, visible, scope, arg, nodes)?)?;
+    write_all(alloc, known, visible, scope, rest, nodes, places, types)?;
+    Ok(())
+}
+
+/// A sharing of a value with the neighbours.
+#[cycle(write)]
+#[inline(never)]
+fn write_nbr(
+    alloc: Global,
+    known: &Known<'_>,
+    visible: usize,
+    scope: &Scope<'_>,
+    inner: &Expr,
+    nodes: &mut Vec<Node>,
+) -> Result<Ty, Memory>
+    requires inputs { length (known_of known.now).inputs < 2 ^ 32 }
+    requires room { length nodes.old.items + count (counted (known_of known.now) visible) (NbrTerm (term_of inner.now)) ≤ 2048 }
+    ensures long { IfOk result (λ ty. length nodes.new.items ≡ length nodes.old.items + count (counted (known_of known.now) visible) (NbrTerm (term_of inner.now))) }
+    ensures written { IfOk result (λ ty. IsWritten nodes.old.items nodes.new.items ty (unfolded_in (known_of known.now) visible (scope_of scope.now) (length nodes.old.items) (NbrTerm (term_of inner.now)))) }
+{
+    let place = begin_node(alloc, nodes)?;
+    let ty = field_type(write(alloc, known, visible, scope, inner, nodes)?);
+    let kids = vec![in alloc; place + 1]?;
+    end_node(nodes, place, Op::Nbr, copy_type(alloc, &ty)?, kids);
+    Ok(ty)
+}
+
+/// A value that evolves by `rep`.
+#[cycle(write)]
+#[inline(never)]
+fn write_rep<'a>(
+    alloc: Global,
+    known: &Known<'_>,
+    visible: usize,
+    scope: &'a Scope<'a>,
+    first: &Expr,
+    name: &'a Name,
+    body: &Expr,
+    nodes: &mut Vec<Node>,
+) -> Result<Ty, Memory>
+    requires inputs { length (known_of known.now).inputs < 2 ^ 32 }
+    requires room { length nodes.old.items + count (counted (known_of known.now) visible) (RepTerm (term_of first.now) name.now.text.items (term_of body.now)) ≤ 2048 }
+    ensures long { IfOk result (λ ty. length nodes.new.items ≡ length nodes.old.items + count (counted (known_of known.now) visible) (RepTerm (term_of first.now) name.now.text.items (term_of body.now))) }
+    ensures written { IfOk result (λ ty. IsWritten nodes.old.items nodes.new.items ty (unfolded_in (known_of known.now) visible (scope_of scope.now) (length nodes.old.items) (RepTerm (term_of first.now) name.now.text.items (term_of body.now)))) }
+{
+    let place = begin_node(alloc, nodes)?;
+    let ty = write(alloc, known, visible, scope, first, nodes)?;
+    let second = nodes.len() as u32;
+    let inner = Scope::Bind(&*name, place, &ty, &*scope);
+    write(alloc, known, visible, &inner, body, nodes)?;
+    let kids = vec![in alloc; place + 1, second]?;
+    end_node(nodes, place, Op::Rep, copy_type(alloc, &ty)?, kids);
+    Ok(ty)
+}
+
+/// A value that evolves by `share`.
+#[cycle(write)]
+#[inline(never)]
+fn write_share<'a>(
+    alloc: Global,
+    known: &Known<'_>,
+    visible: usize,
+    scope: &'a Scope<'a>,
+    first: &Expr,
+    name: &'a Name,
+    body: &Expr,
+    nodes: &mut Vec<Node>,
+) -> Result<Ty, Memory>
+    requires inputs { length (known_of known.now).inputs < 2 ^ 32 }
+    requires room { length nodes.old.items + count (counted (known_of known.now) visible) (ShareTerm (term_of first.now) name.now.text.items (term_of body.now)) ≤ 2048 }
+    ensures long { IfOk result (λ ty. length nodes.new.items ≡ length nodes.old.items + count (counted (known_of known.now) visible) (ShareTerm (term_of first.now) name.now.text.items (term_of body.now))) }
+    ensures written { IfOk result (λ ty. IsWritten nodes.old.items nodes.new.items ty (unfolded_in (known_of known.now) visible (scope_of scope.now) (length nodes.old.items) (ShareTerm (term_of first.now) name.now.text.items (term_of body.now)))) }
+{
+    let place = begin_node(alloc, nodes)?;
+    let ty = write(alloc, known, visible, scope, first, nodes)?;
+    let shared = shared_type(alloc, &ty)?;
+    let second = nodes.len() as u32;
+    let inner = Scope::Bind(&*name, place, &shared, &*scope);
+    write(alloc, known, visible, &inner, body, nodes)?;
+    let kids = vec![in alloc; place + 1, second]?;
+    end_node(nodes, place, Op::Share, copy_type(alloc, &ty)?, kids);
+    Ok(ty)
+}
+
+/// A branching.
+#[cycle(write)]
+#[inline(never)]
+fn write_if(
+    alloc: Global,
+    known: &Known<'_>,
+    visible: usize,
+    scope: &Scope<'_>,
+    condition: &Expr,
+    then: &Expr,
+    other: &Expr,
+    nodes: &mut Vec<Node>,
+) -> Result<Ty, Memory>
+    requires inputs { length (known_of known.now).inputs < 2 ^ 32 }
+    requires room { length nodes.old.items + count (counted (known_of known.now) visible) (IfTerm (term_of condition.now) (term_of then.now) (term_of other.now)) ≤ 2048 }
+    ensures long { IfOk result (λ ty. length nodes.new.items ≡ length nodes.old.items + count (counted (known_of known.now) visible) (IfTerm (term_of condition.now) (term_of then.now) (term_of other.now))) }
+    ensures written { IfOk result (λ ty. IsWritten nodes.old.items nodes.new.items ty (unfolded_in (known_of known.now) visible (scope_of scope.now) (length nodes.old.items) (IfTerm (term_of condition.now) (term_of then.now) (term_of other.now)))) }
+{
+    let place = begin_node(alloc, nodes)?;
+    write(alloc, known, visible, scope, condition, nodes)?;
+    let second = nodes.len() as u32;
+    let ty = write(alloc, known, visible, scope, then, nodes)?;
+    let third = nodes.len() as u32;
+    write(alloc, known, visible, scope, other, nodes)?;
+    let kids = vec![in alloc; place + 1, second, third]?;
+    end_node(nodes, place, Op::If, copy_type(alloc, &ty)?, kids);
+    Ok(ty)
+}
+
+/// A bound value.
+#[cycle(write)]
+#[inline(never)]
+fn write_let<'a>(
+    alloc: Global,
+    known: &Known<'_>,
+    visible: usize,
+    scope: &'a Scope<'a>,
+    name: &'a Name,
+    bound: &Expr,
+    body: &Expr,
+    nodes: &mut Vec<Node>,
+) -> Result<Ty, Memory>
+    requires inputs { length (known_of known.now).inputs < 2 ^ 32 }
+    requires room { length nodes.old.items + count (counted (known_of known.now) visible) (LetTerm name.now.text.items (term_of bound.now) (term_of body.now)) ≤ 2048 }
+    ensures long { IfOk result (λ ty. length nodes.new.items ≡ length nodes.old.items + count (counted (known_of known.now) visible) (LetTerm name.now.text.items (term_of bound.now) (term_of body.now))) }
+    ensures written { IfOk result (λ ty. IsWritten nodes.old.items nodes.new.items ty (unfolded_in (known_of known.now) visible (scope_of scope.now) (length nodes.old.items) (LetTerm name.now.text.items (term_of bound.now) (term_of body.now)))) }
+{
+    let place = begin_node(alloc, nodes)?;
+    let bound = write(alloc, known, visible, scope, bound, nodes)?;
+    let second = nodes.len() as u32;
+    let inner = Scope::Bind(&*name, place, &bound, &*scope);
+    let ty = write(alloc, known, visible, &inner, body, nodes)?;
+    let kids = vec![in alloc; place + 1, second]?;
+    end_node(nodes, place, Op::Let, copy_type(alloc, &ty)?, kids);
+    Ok(ty)
+}
+
+/// What is left of a call, behind the arguments that are given: a `let` for each further one, around the body.
+#[cycle(write)]
+#[inline(never)]
+fn write_call(
+    alloc: Global,
+    known: &Known<'_>,
+    visible: usize,
+    scope: &Scope<'_>,
+    name: &Name,
+    given: Vec<Argument>,
+    args: &[Expr],
+    nodes: &mut Vec<Node>,
+) -> Result<Ty, Memory>
+    requires inputs { length (known_of known.now).inputs < 2 ^ 32 }
+    requires room { length nodes.old.items + (count_arguments (counted (known_of known.now) visible) (terms (map term_of args.now)) + size_of name.now.text.items (counted (known_of known.now) visible)) ≤ 2048 }
+    ensures long { IfOk result (λ ty. length nodes.new.items ≡ length nodes.old.items + (count_arguments (counted (known_of known.now) visible) (terms (map term_of args.now)) + size_of name.now.text.items (counted (known_of known.now) visible))) }
+    ensures written { IfOk result (λ ty. IsWritten nodes.old.items nodes.new.items ty (call_in (known_of known.now) visible (scope_of scope.now) name.now.text.items (map argument_of given.items) (length nodes.old.items) (terms (map term_of args.now)))) }
+{
+    let [arg, rest @ ..] = args else {
+        return write_body(alloc, known, visible, name, &given, nodes);
+    };
+    let place = begin_node(alloc, nodes)?;
+    let ty = write(alloc, known, visible, scope, arg, nodes)?;
+    let second = nodes.len() as u32;
+    let mut given = given;
+    given.push(Argument { place, ty })?;
+    let ty = write_call(alloc, known, visible, scope, name, given, rest, nodes)?;
+    let kids = vec![in alloc; place + 1, second]?;
+    end_node(nodes, place, Op::Let, copy_type(alloc, &ty)?, kids);
+    Ok(ty)
+}
+
+/// A function's body, with its arguments.
+#[cycle(write)]
+#[inline(never)]
+fn write_body(
+    alloc: Global,
+    known: &Known<'_>,
+    visible: usize,
+    name: &Name,
+    given: &[Argument],
+    nodes: &mut Vec<Node>,
+) -> Result<Ty, Memory>
+    requires inputs { length (known_of known.now).inputs < 2 ^ 32 }
+    requires room { length nodes.old.items + size_of name.now.text.items (counted (known_of known.now) visible) ≤ 2048 }
+    ensures long { IfOk result (λ ty. length nodes.new.items ≡ length nodes.old.items + size_of name.now.text.items (counted (known_of known.now) visible)) }
+    ensures written { IfOk result (λ ty. IsWritten nodes.old.items nodes.new.items ty (call_in (known_of known.now) visible [] name.now.text.items (map argument_of given.now) (length nodes.old.items) NoTerms)) }
+{
+    match find(known, visible, name) {
+        Some((number, function)) => {
+            let scope = Scope::Arguments(function.params, given);
+            let ty = write(alloc, known, number, &scope, function.body, nodes)?;
+            Ok(ty)
+        }
+        None => {
+            let ty = put_untyped(alloc, nodes)?;
+            Ok(ty)
+        }
+    }
+}
