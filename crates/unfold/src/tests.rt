@@ -1,13 +1,16 @@
-//! The count of a program that is built by hand.
+//! The count and the nodes of programs that are built by hand.
 
 ghost use Rattle.std.specs.Prelude.{IfOk, false};
 ghost use Rattle.fc_syntax.specs.Printable.{IsExpression};
 ghost use Rattle.fc_syntax.specs.Terms.{term_of};
 
 use crate::counting::count_nodes;
+use crate::faults::UnfoldFault;
+use crate::unfolding::unfold;
+use fc_nodes::Op;
 use fc_syntax::{Decl, Expr, Program};
-use fc_types::{TypeFault, check_types};
-use fc_values::{Builtin, Memory};
+use fc_types::{TypeFault, Typed, check_types};
+use fc_values::{Builtin, Local, Memory};
 use std::alloc::Global;
 use std::test::Fail;
 
@@ -21,23 +24,38 @@ fn sum(alloc: Global) -> Result<Expr, Memory>
     Ok(Expr::Apply(Builtin::Add, args))
 }
 
-/// The number of nodes of `ceiling 10; main = E;`, or its fault.
-fn nodes_of(alloc: Global, main: Expr) -> Result<Result<u32, TypeFault>, Memory>
+/// `ceiling 10; main = E;`, typed, or its fault.
+fn typed(alloc: Global, main: Expr) -> Result<Result<Typed, TypeFault>, Memory>
     requires { IsExpression false (term_of main) }
 {
     let mut decls = Vec::new(alloc);
     decls.push(Decl::Ceiling(10))?;
     decls.push(Decl::Main(main))?;
-    match check_types(alloc, Program { decls }) {
-        Ok(typed) => Ok(Ok(count_nodes(alloc, &typed)?)),
-        Err(fault) => Ok(Err(fault)),
+    Ok(check_types(alloc, Program { decls }))
+}
+
+/// The number of nodes, and the number in the last of three.
+fn unfolded(alloc: Global, typed: &Typed) -> Result<(u32, Option<u32>), UnfoldFault> {
+    let program = unfold(alloc, typed)?;
+    let size = program.size();
+    if size != 3 {
+        return Ok((size, None));
+    }
+    match &program.node(2).op {
+        Op::Lit(Local::Int(n)) => Ok((size, Some(*n))),
+        _ => Ok((size, None)),
     }
 }
 
 #[test]
-fn counts_a_sum(rt: HostRuntime) -> Result<(), Fail> {
+fn unfolds_a_sum(rt: HostRuntime) -> Result<(), Fail> {
     let alloc = rt.alloc();
-    assert_eq!(rt; nodes_of(alloc, sum(alloc)?)?, Ok(3));
-    assert_eq!(rt; nodes_of(alloc, Expr::Uid)?, Ok(1));
+    match typed(alloc, sum(alloc)?)? {
+        Ok(typed) => {
+            assert_eq!(rt; count_nodes(alloc, &typed)?, 3);
+            assert_eq!(rt; unfolded(alloc, &typed), Ok((3, Some(2))));
+        }
+        Err(fault) => assert_eq!(rt; fault, TypeFault::Memory),
+    }
     Ok(())
 }
