@@ -5,7 +5,7 @@ use Rattle.std.proofs.lemmas.List.{length-append, take_all}
 use Rattle.fc_values.specs.declared.types.Ty.{Ty}
 use Rattle.fc_values.specs.Types.{ValueType, type_of}
 use Rattle.fc_syntax.specs.declared.tree.Expr.{Expr}
-use Rattle.fc_syntax.specs.Terms.{Term as Expression, Terms as Expressions, NoTerms, MoreTerms, Parameter, term_of, terms}
+use Rattle.fc_syntax.specs.Terms.{Term as Expression, Terms as Expressions, NoTerms, MoreTerms, CallTerm, Parameter, term_of, terms}
 use Rattle.fc_types.specs.Before.{Before, Function}
 use Rattle.fc_nodes.specs.declared.nodes.Node.{Node}
 use Rattle.fc_nodes.specs.Terms.{Term, size, View, Has, OfLet, places, view_of, type_of as term_type}
@@ -15,7 +15,7 @@ use Rattle.unfold.specs.Nodes.{listed, all_listed}
 use Rattle.unfold.specs.Counting.{count, size_of}
 use Rattle.unfold.specs.Unfolding.{Scope, bind, Meaning, meaning_of, params_of, body_of, with_argument, behind_first, untyped, unfolded_call}
 use Rattle.unfold.specs.Views.{counted}
-use Rattle.unfold.specs.Writing.{IsWritten, arguments, first_meanings, unfolded_in, all_unfolded_in, call_by, call_in}
+use Rattle.unfold.specs.Writing.{IsWritten, SameCall, arguments, first_meanings, unfolded_in, all_unfolded_in, call_by, call_in}
 use Rattle.unfold.proofs.Firsts.{meaning_found, meaning_none, size_found, size_none}
 use Rattle.unfold.proofs.Written.{size_is, two_kids, two_behind}
 
@@ -126,3 +126,23 @@ module _ (B : Before) (n : ℕ) (S : Scope) (e : Expression) (es : Expressions) 
       let h' = rw behind at h in
       let us = all_unfolded_in B n S (length N0 + size (unfolded_in B n S (length N0) e)) es in
       h' ∙ ap (λ (l : List ValueType). l ++ types_of us) (f ∙ ap (λ (m : ValueType). ss ++ m ∷ []) (q ∙ w.type)) ∙ append_assoc ss (term_type (unfolded_in B n S (length N0) e) ∷ []) _
+
+-- a call without arguments whose body is one
+bare_term : (B : Before) (n j : ℕ) (x y : List ℕ) (g : Function) → FirstAt x B.functions j g → j < n → g.body ≡ CallTerm y NoTerms → (S : Scope) (p : ℕ) → unfolded_in B n S p (CallTerm x NoTerms) ≡ unfolded_in B j S p (CallTerm y NoTerms)
+bare_term B n j x y g first l e S p =
+    let m = meaning_found first B.inputs [] n refl l in
+    ap (λ (o : Option Meaning). body_of o [] p) m ∙ ap (λ (b : Expression). unfolded_in B j [] p b) e
+
+pub bare_same : (B : Before) (v n j : ℕ) (f x y : List ℕ) (r : (g : Function) × FirstAt x B.functions j g × (j < n) × (g.body ≡ CallTerm y NoTerms)) → SameCall B v f n x → SameCall B v f j y
+bare_same B v n j f x y r h =
+    let s = found_size B n x j r.0 r.1 r.2 in
+    let z = h.size in
+    let c : count (counted B j) r.0.body ≡ 0 + size_of y (counted B j) = ap (count (counted B j)) r.3 in
+    record { term = λ S p. h.term S p ∙ bare_term B n j x y r.0 r.1 r.2 r.3 S p; size = omega (arith, z, s, c) }
+
+pub same_call : (B : Before) (n : ℕ) (f : List ℕ) → SameCall B n f n f
+same_call B n f = record { term = λ S p. refl; size = refl }
+
+pub same_written : (B : Before) (n : ℕ) (f : List ℕ) (m : ℕ) (g : List ℕ) (N0 N1 : List Node) (t : Ty) → SameCall B n f m g →
+    IsWritten N0 N1 t (call_in B m [] g [] (length N0) NoTerms) → IsWritten N0 N1 t (call_in B n [] f [] (length N0) NoTerms)
+same_written B n f m g N0 N1 t h w = let P : Term → Type 0 = (λ u. IsWritten N0 N1 t u) in subst P (sym (h.term [] (length N0))) w

@@ -16,3 +16,10 @@ first_lighter (first_here h) zero l = absurd (omega arith)
 first_lighter (first_here h) (suc v) l = omega arith
 first_lighter (first_later h k) zero l = absurd (omega arith)
 first_lighter (first_later h k) (suc v) l = let r = first_lighter k v (omega arith) in omega (arith, r)
+
+pub fewer_lighter : (fs : List Function) (j v : ℕ) → j ≤ v → bodies (take j fs) ≤ bodies (take v fs)
+fewer_lighter [] zero v l = omega arith
+fewer_lighter [] (suc j) v l = omega arith
+fewer_lighter (f ∷ fs) zero v l = omega arith
+fewer_lighter (f ∷ fs) (suc j) zero l = absurd (omega arith)
+fewer_lighter (f ∷ fs) (suc j) (suc v) l = let r = fewer_lighter fs j v (omega arith) in omega (arith, r)

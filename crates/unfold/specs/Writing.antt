@@ -1,11 +1,12 @@
 -- What the code that writes nodes has in hand.
-use Rattle.std.specs.Prelude.{ℕ, List, [], ◌∷◌, ◌++◌, map, take, drop, length, Option, Some, None, ◌≡◌}
+use Rattle.std.specs.Prelude.{ℕ, List, [], ◌∷◌, ◌++◌, map, take, drop, length, ◌<◌, Option, Some, None, ◌≡◌}
 use Rattle.std.specs.Borrow.{Bor}
 use Rattle.fc_values.specs.declared.types.InputTy.{InputTy}
+use Rattle.fc_values.specs.declared.types.Name.{Name}
 use Rattle.fc_values.specs.declared.types.Ty.{Ty}
 use Rattle.fc_values.specs.Types.{ValueType, TypeLocal, input_type, type_of}
-use Rattle.fc_syntax.specs.Terms.{Term as Expression, Terms as Expressions, Parameter, parameter_of}
-use Rattle.fc_types.specs.Before.{Before}
+use Rattle.fc_syntax.specs.Terms.{Term as Expression, Terms as Expressions, CallTerm, NoTerms, Parameter, parameter_of}
+use Rattle.fc_types.specs.Before.{Before, Function}
 use Rattle.fc_nodes.specs.declared.nodes.Node.{Node}
 use Rattle.fc_nodes.specs.Terms.{Variable, Sense, Term, Terms, Plain, view_of, type_of as term_type}
 use Rattle.unfold.specs.declared.faults.UnfoldFault.{UnfoldFault}
@@ -13,8 +14,11 @@ use Rattle.unfold.specs.declared.faults.UnfoldFault.TheVariants as fault
 use Rattle.unfold.specs.declared.scopes.Argument.{Argument}
 use Rattle.unfold.specs.declared.scopes.Scope.{Scope as AScope}
 use Rattle.unfold.specs.declared.scopes.Scope.TheVariants as scope
+use Rattle.unfold.specs.Counting.{size_of}
+use Rattle.unfold.specs.Found.{FirstAt}
 use Rattle.unfold.specs.Nodes.{listed}
 use Rattle.unfold.specs.Unfolding.{Scope, bind, Meaning, meaning_of, meanings, params_of, body_of, untyped, unfolded, unfolded_call, unfolded_all}
+use Rattle.unfold.specs.Views.{counted}
 
 -- an argument: the place of the `let` that binds it, and its type
 abbrev pub argument_of : Argument → ℕ × ValueType
@@ -62,6 +66,16 @@ call_in B n scope f given p es =
 pub record IsWritten (before after : List Node) (t : Ty) (u : Term) : Type 0 where
   pub nodes : map view_of after ≡ map view_of before ++ listed (length before) u
   pub type : type_of t ≡ term_type u
+
+-- the body of a function is a call of another one, without arguments
+abbrev pub IsBareCall : Before → ℕ → List ℕ → Option (ℕ × Bor Name) → Type 0
+IsBareCall B visible x None = Unit {0}
+IsBareCall B visible x (Some r) = (f : Function) × FirstAt x B.functions r.0 f × (r.0 < visible) × (f.body ≡ CallTerm r.1.now.text.items NoTerms)
+
+-- two calls without arguments come to the same nodes
+pub record SameCall (B : Before) (n : ℕ) (f : List ℕ) (m : ℕ) (g : List ℕ) : Type 0 where
+  pub term : (scope : Scope) (p : ℕ) → unfolded_in B n scope p (CallTerm f NoTerms) ≡ unfolded_in B m scope p (CallTerm g NoTerms)
+  pub size : size_of f (counted B n) ≡ size_of g (counted B m)
 
 -- what is said of the size of a program that is too large
 abbrev pub IfTooLarge : UnfoldFault → (ℕ → Type 0) → Type 0

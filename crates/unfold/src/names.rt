@@ -1,11 +1,12 @@
 //! Functions and inputs by their names.
 
-ghost use Rattle.std.specs.Prelude.{◌≡◌, ◌<◌, ◌^◌, IfSome, length};
+ghost use Rattle.std.specs.Prelude.{◌≡◌, ◌<◌, ◌≤◌, ◌^◌, IfSome, length};
 ghost use Rattle.fc_types.specs.Views.{known_of};
 ghost use Rattle.unfold.specs.Unfolding.{input_number, sense_by};
 ghost use Rattle.unfold.specs.Views.{IsFound};
-ghost use Rattle.unfold.specs.Writing.{input_term};
+ghost use Rattle.unfold.specs.Writing.{IsBareCall, SameCall, input_term};
 
+use fc_syntax::Expr;
 use fc_types::{Function, Known};
 use fc_values::{InputTy, Name};
 
@@ -24,6 +25,32 @@ pub fn find<'k>(known: &Known<'k>, visible: usize, name: &Name) -> Option<(usize
         }
         None => None,
     }
+}
+
+/// The call without arguments that a function's body is, and how many functions it sees.
+fn bare_call<'k>(known: &Known<'k>, visible: usize, name: &Name) -> Option<(usize, &'k Name)>
+    ensures { IsBareCall (known_of known.now) visible name.now.text.items result }
+{
+    let (number, function) = find(known, visible, name)?;
+    match function.body {
+        Expr::Call(next, args) if args.is_empty() => Some((number, next)),
+        _ => None,
+    }
+}
+
+/// What a call without arguments comes to, where the body is such a call again, and so on: these chains may be longer than
+/// the stack is deep.
+pub fn last_call<'a>(known: &'a Known<'_>, visible: usize, name: &'a Name) -> (usize, &'a Name)
+    ensures same { SameCall (known_of known.now) visible name.now.text.items result.0 result.1.now.text.items }
+    ensures fewer { result.0 ≤ visible }
+{
+    let mut seen = visible;
+    let mut last = name;
+    while let Some((number, next)) = bare_call(known, seen, last) {
+        seen = number;
+        last = &*next;
+    }
+    (seen, last)
 }
 
 /// The number of an input, in declared order, and its type.

@@ -11,7 +11,7 @@ ghost use Rattle.unfold.specs.Nodes.{all_listed};
 ghost use Rattle.unfold.specs.Views.{counted};
 ghost use Rattle.unfold.specs.Writing.{IsWritten, all_unfolded_in, argument_of, call_in, scope_of, unfolded_in};
 
-use crate::names::find;
+use crate::names::{find, last_call};
 use crate::putting::{
     begin_node, end_node, field_type, given_type, put_input, put_leaf, put_untyped, put_variable,
 };
@@ -70,6 +70,9 @@ pub fn write(
         ),
         Expr::Let(name, bound, body) => {
             write_let(alloc, known, visible, &*scope, name, bound, body, nodes)
+        }
+        Expr::Call(name, args) if args.is_empty() => {
+            write_bare_call(alloc, known, visible, name, nodes)
         }
         Expr::Call(name, args) => {
             let given = Vec::new(alloc);
@@ -344,4 +347,24 @@ fn write_body(
             Ok(ty)
         }
     }
+}
+
+/// A call without arguments.
+#[cycle(write)]
+#[inline(never)]
+fn write_bare_call(
+    alloc: Global,
+    known: &Known<'_>,
+    visible: usize,
+    name: &Name,
+    nodes: &mut Vec<Node>,
+) -> Result<Ty, Memory>
+    requires inputs { length (known_of known.now).inputs < 2 ^ 32 }
+    requires room { length nodes.old.items + size_of name.now.text.items (counted (known_of known.now) visible) ≤ 2048 }
+    ensures long { IfOk result (λ ty. length nodes.new.items ≡ length nodes.old.items + size_of name.now.text.items (counted (known_of known.now) visible)) }
+    ensures written { IfOk result (λ ty. IsWritten nodes.old.items nodes.new.items ty (call_in (known_of known.now) visible [] name.now.text.items [] (length nodes.old.items) NoTerms)) }
+{
+    let (seen, last) = last_call(&*known, visible, &*name);
+    let ty = write_body(alloc, known, seen, last, &[], nodes)?;
+    Ok(ty)
 }

@@ -8,8 +8,8 @@ use Rattle.fc_nodes.specs.Terms.{ByRep, ByShare}
 use Rattle.unfold.specs.Unfolding.{type_given}
 use Rattle.unfold.specs.Writing.{scope_of, argument_of}
 use Rattle.unfold.proofs.Written.{nbr_written, evolve_written, let_written, if_written, apply_written}
-use Rattle.unfold.proofs.Calls.{call_written, found_body, no_body, found_size, no_size, first_and_rest, row_nodes, row_places, row_types}
-use Rattle.unfold.proofs.Weights.{first_lighter}
+use Rattle.unfold.proofs.Calls.{call_written, found_body, no_body, found_size, no_size, first_and_rest, row_nodes, row_places, row_types, same_written}
+use Rattle.unfold.proofs.Weights.{first_lighter, fewer_lighter}
 use Rattle.unfold.proofs.writing.+write.Goals as goal
 
 pub write_all-returns-clause-nodes : goal.write_all-returns-clause-nodes
@@ -106,3 +106,21 @@ write_share-returns-clause-written t c =
     evolve_written (known_of c.args.known.now) c.args.visible (scope_of c.args.scope.now) c.args.nodes.now.items c.begin_node.new.nodes.items _ c.in_ok-place.place c.in_ok-place.ensures.place c.in_ok-place.ensures.long c.in_ok-place.ensures.behind
     ByShare c.args.name.now.text.items (term_of c.args.first.now) (term_of c.args.body.now) c.write.new.nodes.items c.write-2.new.nodes.items c.end_node.new.nodes.items c.in_ok-ty.ty c.in_ok-write.field-0 c.in_ok-copy_type.field-0 (type_of c.in_ok-shared.shared) c.len-second.result c.in_ok-kids.kids.items
     c.in_ok-ty.ensures.long c.in_ok-ty.ensures.written c.in_ok-shared.ensures c.in_ok-write.ensures.written (c.len-second.ensures ∙ c.write.new.nodes.ok.0) c.in_ok-copy_type.ensures c.in_ok-kids.ensures.items c.end_node.ensures.set
+
+pub write_bare_call-write_body-requires : goal.write_bare_call-write_body-requires
+write_bare_call-write_body-requires t c =
+    let d = c.decreases in
+    let r = c.requires.room in
+    let w = fewer_lighter (known_of c.args.known.now).functions c.last_call-seen.result.0 c.args.visible c.last_call-seen.ensures.fewer in
+    let s = c.last_call-seen.ensures.same.size in
+    (omega (arith, d, w), (c.requires.inputs, omega (arith, r, s)))
+
+pub write_bare_call-returns-clause-long : goal.write_bare_call-returns-clause-long
+write_bare_call-returns-clause-long t c =
+    let l = c.in_ok-ty.ensures.long in
+    let s = c.last_call-seen.ensures.same.size in
+    omega (arith, l, s)
+
+pub write_bare_call-returns-clause-written : goal.write_bare_call-returns-clause-written
+write_bare_call-returns-clause-written t c =
+    same_written (known_of c.args.known.now) c.args.visible c.args.name.now.text.items c.last_call-seen.result.0 c.last_call-seen.result.1.now.text.items c.args.nodes.now.items c.write_body.new.nodes.items c.in_ok-ty.ty c.last_call-seen.ensures.same c.in_ok-ty.ensures.written

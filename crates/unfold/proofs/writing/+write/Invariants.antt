@@ -34,3 +34,6 @@ decreases-write_call l = seen (known_of l.known.now) l.visible + weights (terms 
 
 abbrev pub decreases-write_body : goal.decreases-write_body
 decreases-write_body l = seen (known_of l.known.now) l.visible + 1
+
+abbrev pub decreases-write_bare_call : goal.decreases-write_bare_call
+decreases-write_bare_call l = seen (known_of l.known.now) l.visible + 2
