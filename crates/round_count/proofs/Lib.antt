@@ -1,0 +1,5 @@
+pub mod Logs
+pub mod Rising
+pub mod Moves
+pub mod Wants
+pub mod Counts
