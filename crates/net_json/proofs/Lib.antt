@@ -6,3 +6,5 @@ mod Gathering
 mod Limits
 mod Linked
 mod Threes
+mod Takes
+mod TookTrees

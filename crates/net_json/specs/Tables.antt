@@ -1,13 +1,14 @@
 -- The table of a scene, in either format.
-use Rattle.std.specs.Prelude.{ℕ, ◌&&◌, List, not, codes, Option}
+use Rattle.std.specs.Prelude.{ℕ, List, codes, Option}
 use Rattle.serde_json.specs.Data.{Data, null, boolean, number, string, array, object, Items}
 use Rattle.serde_json.specs.Find.{as_array}
 use Rattle.fc_values.specs.Values.{LocalValue}
 use Rattle.fc_values.specs.Trees.{TreeExport}
 use Rattle.fc_nodes.specs.Program.{Unfolding}
-use Rattle.topology.specs.Networks.{Network, lives, is_in}
+use Rattle.topology.specs.Networks.{Network}
 use Rattle.net_json.specs.Judging.{Judged, Accepted, Refused, Misshaped, and_then, given, require, gather, at_member}
 use Rattle.net_json.specs.Reading.{whole, value_of, two_members, three_members, is_exactly}
+use Rattle.net_json.specs.Devices.{live_number}
 use Rattle.net_json.specs.KeptItems.{KeptItem, item_of_values, item_of_places}
 use Rattle.net_json.specs.Exports.{export_judged}
 
@@ -36,8 +37,8 @@ row_form path d =
 abbrev pub row_judged : Unfolding → Network → (Data → Option KeptItem) → List ℕ → List ℕ → Data → Judged Row
 row_judged U n read before path d =
     and_then (row_form path d) (λ form.
-    require (lives n form.id && not (is_in form.id before)) (Misshaped (at_member path (codes "id")))
-    (and_then (export_judged U read path form.value form.kept) (λ e. Accepted (form.id, e))))
+    and_then (live_number n before (at_member path (codes "id")) form.id) (λ id.
+    and_then (export_judged U read path form.value form.kept) (λ e. Accepted (id, e))))
 
 abbrev pub rows_judged : Unfolding → Network → (Data → Option KeptItem) → List ℕ → Items → Judged (List Row)
 rows_judged U n read path ds = gather row_number (row_judged U n read) path ds

@@ -3,9 +3,11 @@
 
 mod copies;
 mod devices;
+mod exports;
 mod inputs;
 mod kept;
 mod links;
+mod misfits;
 mod paths;
 mod rising;
 mod tables;
