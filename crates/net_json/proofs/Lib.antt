@@ -8,3 +8,4 @@ mod Linked
 mod Threes
 mod Takes
 mod TookTrees
+mod Living

@@ -1,7 +1,7 @@
 -- The copies of a scene that are in flight.
-use Rattle.std.specs.Prelude.{ℕ, ◌&&◌, List, not, nat_eq, nat_le, codes, Option, Some, None, Bool, true, false}
+use Rattle.std.specs.Prelude.{ℕ, ◌&&◌, List, not, nat_eq, nat_le, codes, Option, Some, None, is_some, if◌then◌else◌, Bool, true, false}
 use Rattle.serde_json.specs.Data.{Data, null, boolean, number, string, array, object, Items}
-use Rattle.serde_json.specs.Find.{as_array}
+use Rattle.serde_json.specs.Find.{as_null, as_array}
 use Rattle.fc_values.specs.Types.{Declarations}
 use Rattle.fc_values.specs.Values.{LocalValue}
 use Rattle.fc_values.specs.Trees.{TreeExport, NearCopy, Copy}
@@ -30,12 +30,7 @@ some_export e = and_then e (λ x. Accepted (Some x))
 
 -- null, or an export
 abbrev pub own_judged : Unfolding → List ℕ → Data → Judged (Option TreeExport)
-own_judged U path null = Accepted None
-own_judged U path (boolean b) = some_export (own_export U path (boolean b))
-own_judged U path (number n) = some_export (own_export U path (number n))
-own_judged U path (string s) = some_export (own_export U path (string s))
-own_judged U path (array ds) = some_export (own_export U path (array ds))
-own_judged U path (object ms) = some_export (own_export U path (object ms))
+own_judged U path d = if is_some (as_null d) then Accepted None else some_export (own_export U path d)
 
 abbrev pub is_null_or_object : Data → Bool
 is_null_or_object null = true

@@ -11,4 +11,5 @@ pub mod Exports
 pub mod Tables
 pub mod Copies
 pub mod Scenes
+pub mod SceneCode
 pub mod TableTexts
