@@ -9,3 +9,6 @@ mod Threes
 mod Takes
 mod TookTrees
 mod Living
+mod InputFacts
+mod Makes
+mod Jsons

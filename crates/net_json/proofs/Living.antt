@@ -1,5 +1,5 @@
 -- No device of a network has a number past 65,535.
-use Rattle.std.proofs.Common.{◌≡◌, ℕ, ◌<◌, ◌≤◌, min, List, [], ◌∷◌, refl, sym, ◌∙◌, ap, subst, arith, Bool, true, false, nat_eq, nat_le, ◌||◌}
+use Rattle.std.proofs.Common.{◌≡◌, ℕ, ◌<◌, min, List, [], ◌∷◌, refl, subst, arith, Bool, true, false, nat_le}
 use Rattle.std.proofs.lemmas.Bool.{ne_eqb, leb-true, leb-false}
 use Rattle.fc_values.specs.Types.{Declarations}
 use Rattle.topology.specs.Networks.{NetDevice, Network, IsNetwork, DevicesFit, numbers, is_in, lives}

@@ -5,8 +5,7 @@ use Rattle.std.specs.Prelude.{if◌then◌else◌, ◌&&◌}
 use Rattle.fc_values.specs.Types.{LocalType, ValueType, BoolType}
 use Rattle.fc_values.specs.Values.{LocalValue, Fits}
 use Rattle.fc_values.specs.BuiltinTypes.{inner}
-use Rattle.fc_values.specs.Trees.{Tree, Trees, Keep, Done, Then}
-use Rattle.fc_nodes.specs.declared.nodes.Node.{Node}
+use Rattle.fc_values.specs.Trees.{Keep, Done, Then}
 use Rattle.fc_nodes.specs.Terms.{Term, Terms, Plain, Apply, Nbr, Evolve, If, Let, NoMore, More, size, Sort, term_at, HasNode, AllLaid, places, kept_type}
 use Rattle.fc_nodes.specs.Program.{Program}
 use Rattle.fc_nodes.proofs.Places.{AllAbove, laid_within}

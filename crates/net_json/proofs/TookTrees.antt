@@ -1,22 +1,22 @@
 -- The tree that items are read to fits its term and keeps their values; so an export of these values has this tree.
-use Rattle.std.proofs.Common.{◌≡◌, ℕ, suc, ◌+◌, List, [], ◌∷◌, ◌++◌, map, refl, sym, ◌∙◌, ap, subst, Bool, true, false, Some, None, Option, append_assoc, append-nil}
+use Rattle.std.proofs.Common.{◌≡◌, ℕ, suc, ◌+◌, List, [], ◌∷◌, ◌++◌, map, refl, sym, ◌∙◌, ap, subst, Bool, true, false, Some, None, append_assoc, append-nil}
 use Rattle.std.specs.Prelude.{if◌then◌else◌, ◌&&◌}
 use Rattle.fc_values.specs.declared.exports.Export.{Export}
 use Rattle.fc_values.specs.Types.{LocalType, BoolType}
 use Rattle.fc_values.specs.Values.{LocalValue, IntValue, BoolValue, PairValue, Fits, local_of}
 use Rattle.fc_values.specs.BuiltinTypes.{inner}
-use Rattle.fc_values.specs.Trees.{Tree, Trees, Keep, Done, Then, TreeExport}
+use Rattle.fc_values.specs.Trees.{Tree, Trees, Keep, Done, Then}
 use Rattle.fc_nodes.specs.Terms.{Term, Terms, Plain, Apply, Nbr, Evolve, If, Let, NoMore, More, size}
 use Rattle.fc_nodes.specs.Program.{Unfolding}
 use Rattle.fc_nodes.specs.Flat.{FitsTree, FitTrees, IsWellTyped}
-use Rattle.value_trees.specs.KeptLists.{kept_in, kept_in_all, kept_values}
+use Rattle.value_trees.specs.KeptLists.{kept_in, kept_in_all}
 use Rattle.value_trees.specs.KeptReads.{has_type}
 use Rattle.value_trees.specs.SlotFits.{truth_in}
 use Rattle.value_trees.specs.Snaps.{tree_of}
 use Rattle.value_trees.specs.Walks.{FitsMain}
 use Rattle.value_trees.specs.Filling.{IsRead, NoExportKeeps}
 use Rattle.value_trees.proofs.ReadBack.{type_had, had_type}
-use Rattle.net_json.specs.Judging.{Judged, Accepted, Refused, BadKept}
+use Rattle.net_json.specs.Judging.{Accepted, Refused, BadKept}
 use Rattle.net_json.specs.KeptItems.{KeptItem, names_place, Taken, Took, Misfit, take_then, take_value, one_kid, two_kids, take_tree, take_trees}
 use Rattle.net_json.specs.KeptCode.{kept_of}
 use Rattle.net_json.specs.declared.kept.Item.{Item}

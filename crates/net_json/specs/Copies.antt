@@ -103,19 +103,19 @@ copy_form path d =
 abbrev pub copy_number : Copy → ℕ
 copy_number c = c.device
 
--- what a copy holds beside its number: its inputs, its own export, its neighbours
-abbrev pub parts_judged : Unfolding → List ℕ → CopyForm → Judged Copy
-parts_judged U path form =
+-- the copy of a device: its inputs, its own export, its neighbours
+abbrev pub parts_judged : Unfolding → List ℕ → ℕ → CopyForm → Judged Copy
+parts_judged U path device form =
     and_then (inputs_judged U.declared.inputs (at_member path (codes "inputs")) form.inputs) (λ vs.
     and_then (own_judged U (at_member path (codes "own")) form.own) (λ own.
-    and_then (nears_judged U form.id (at_member path (codes "near")) form.near) (λ ns.
-    Accepted (record { device = form.id; inputs = vs; own = own; near = ns }))))
+    and_then (nears_judged U device (at_member path (codes "near")) form.near) (λ ns.
+    Accepted (record { device = device; inputs = vs; own = own; near = ns }))))
 
 -- a copy beside the numbers of those before: its form, its number as that of a row, its parts
 abbrev pub copy_judged : Unfolding → Network → List ℕ → List ℕ → Data → Judged Copy
 copy_judged U n before path d =
     and_then (copy_form path d) (λ form.
-    and_then (live_number n before (at_member path (codes "id")) form.id) (λ id. parts_judged U path form))
+    and_then (live_number n before (at_member path (codes "id")) form.id) (λ id. parts_judged U path id form))
 
 abbrev pub copies_judged : Unfolding → Network → List ℕ → Items → Judged (List Copy)
 copies_judged U n path ds = gather copy_number (copy_judged U n) path ds

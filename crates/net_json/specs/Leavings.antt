@@ -1,7 +1,7 @@
 -- What a reading of items leaves, whatever it took, along the nodes of a program.
 use Rattle.std.specs.Prelude.{ℕ, Bool, List, [], ◌∷◌, Option, Some, None, slice_index, if◌then◌else◌}
 use Rattle.fc_values.specs.Types.{LocalType}
-use Rattle.fc_nodes.specs.Terms.{Term, size, term_at}
+use Rattle.fc_nodes.specs.Terms.{size, term_at}
 use Rattle.fc_nodes.specs.Program.{Program, Unfolding}
 use Rattle.net_json.specs.KeptItems.{KeptItem, Taken, Took, Misfit, take_value, take_tree}
 

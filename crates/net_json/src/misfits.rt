@@ -22,13 +22,7 @@ pub(crate) fn misfit(program: &Unfolded, items: &[Item]) -> Option<u32>
 {
     let size = program.size();
     match take(program, items, 0) {
-        Ok(rest) => {
-            if rest.is_empty() {
-                None
-            } else {
-                Some(size)
-            }
-        }
+        Ok(rest) => { if rest.is_empty() { None } else { Some(size) } }
         Err(place) => Some(place),
     }
 }

@@ -1,7 +1,7 @@
-use Rattle.std.proofs.Common.{ap, length}
+use Rattle.std.proofs.Common.{ap}
 use Rattle.fc_values.specs.Types.{local_type_of, Declarations}
 use Rattle.fc_values.specs.Values.{local_of}
-use Rattle.value_trees.proofs.WalkSteps.{root_stands, fits_main, main_fits}
+use Rattle.value_trees.proofs.WalkSteps.{fits_main, main_fits}
 use Rattle.net_json.proofs.TookTrees.{test_is}
 use Rattle.net_json.proofs.exports.value_fits.Goals as goal
 

@@ -1,4 +1,3 @@
-use Rattle.std.proofs.Common.{sym, ◌∙◌}
 use Rattle.net_json.proofs.Living.{absent, number_is}
 use Rattle.net_json.proofs.numbers.device.Goals as goal
 
