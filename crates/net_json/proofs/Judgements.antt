@@ -1,5 +1,5 @@
 -- Judgements one after another, and the faults of code.
-use Rattle.std.proofs.Common.{◌≡◌, ℕ, zero, suc, ◌+◌, ◌<◌, ◌≤◌, List, [], ◌∷◌, length, map, drop, get_or, refl, sym, ap, ◌∙◌, arith, drop-cons}
+use Rattle.std.proofs.Common.{◌≡◌, ℕ, zero, suc, ◌+◌, ◌<◌, ◌≤◌, List, [], ◌∷◌, length, map, drop, get_or, refl, sym, ap, ◌∙◌, subst, arith, drop-cons}
 use Rattle.serde_json.specs.Data.{Data}
 use Rattle.serde_json.specs.View.{view, items_of}
 use Rattle.serde_json.specs.declared.value.Value.{Value}
@@ -15,6 +15,10 @@ refused_next first next (fault.Net p f) h = ap (λ j. and_then j next) h
 refused_next first next (fault.Kept p place) h = ap (λ j. and_then j next) h
 refused_next first next (fault.Devices count) h = ap (λ j. and_then j next) h
 refused_next first next fault.Memory h = tt
+
+-- what refuses the rest, behind a check that accepts
+pub refused_later : {A B : Type 0} (first : Judged A) (next : A → Judged B) (x : A) (f : JsonFault) → first ≡ Accepted x → RefusedWith (next x) f → RefusedWith (and_then first next) f
+refused_later first next x f e h = subst (λ j. RefusedWith (and_then j next) f) (sym e) h
 
 -- ---- items in turn
 

@@ -6,3 +6,9 @@ mod Gathering
 mod Limits
 mod Linked
 mod Threes
+mod Takes
+mod TookTrees
+mod Living
+mod InputFacts
+mod Makes
+mod Jsons

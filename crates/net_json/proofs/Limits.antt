@@ -34,3 +34,11 @@ module _ {A : Type 0} (none many : Refusal) (rest : Judged A) (n count : ℕ) (s
   beyond l =
       ap (λ q. require q none (require (nat_le n 1024) many rest)) (some n (omega arith))
       ∙ ap (λ q. require q many rest) (is_above n 1024 (omega arith))
+
+-- at most so many
+module _ {A : Type 0} (many : Refusal) (rest : Judged A) (n count limit : ℕ) (same : n ≡ count) where
+  pub at_most : count ≤ limit → require (nat_le n limit) many rest ≡ rest
+  at_most l = ap (λ q. require q many rest) (is_le n limit (omega arith))
+
+  pub too_many : limit < count → require (nat_le n limit) many rest ≡ Refused many
+  too_many l = ap (λ q. require q many rest) (is_above n limit (omega arith))

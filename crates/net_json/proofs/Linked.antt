@@ -71,7 +71,7 @@ pair_one a b l o = by_iff (is_in b (near_numbers (near_in a (l ∷ [])))) (is_pa
       | inr e ↦ true_near a b l o (inr (h.1 ∙ e.1, h.0 ∙ e.0))
     ])
 
-in_append : (d : ℕ) (xs ys : List ℕ) → is_in d (xs ++ ys) ≡ (is_in d xs || is_in d ys)
+pub in_append : (d : ℕ) (xs ys : List ℕ) → is_in d (xs ++ ys) ≡ (is_in d xs || is_in d ys)
 in_append d [] ys = refl
 in_append d (x ∷ xs) ys = by_test (nat_eq d x) (in_append d xs ys)
   where

@@ -1,16 +1,18 @@
 -- The copies of a scene that are in flight.
-use Rattle.std.specs.Prelude.{ℕ, ◌&&◌, List, not, nat_eq, nat_le, codes, Option, Some, None, Bool, true, false}
+use Rattle.std.specs.Prelude.{ℕ, ◌&&◌, List, not, nat_eq, nat_le, codes, Option, Some, None, is_some, if◌then◌else◌, Bool, true, false}
 use Rattle.serde_json.specs.Data.{Data, null, boolean, number, string, array, object, Items}
-use Rattle.serde_json.specs.Find.{as_array}
+use Rattle.serde_json.specs.Find.{as_null, as_array}
+use Rattle.fc_values.specs.Types.{Declarations}
 use Rattle.fc_values.specs.Values.{LocalValue}
 use Rattle.fc_values.specs.Trees.{TreeExport, NearCopy, Copy}
 use Rattle.fc_nodes.specs.Program.{Unfolding}
 use Rattle.topology.specs.declared.types.NetFault.TheVariants as fault
-use Rattle.topology.specs.Networks.{Network, lives, is_in}
+use Rattle.topology.specs.Networks.{Network, is_in}
 use Rattle.topology.specs.Changes.{in_metric}
 use Rattle.net_json.specs.Judging.{Judged, Accepted, Misshaped, BadNetwork, and_then, given, require, gather, at_member}
 use Rattle.net_json.specs.Reading.{whole, value_of, two_members, four_members, size_of, count_items}
 use Rattle.net_json.specs.Inputs.{inputs_judged}
+use Rattle.net_json.specs.Devices.{live_number}
 use Rattle.net_json.specs.KeptItems.{item_of_values}
 use Rattle.net_json.specs.Exports.{export_judged}
 
@@ -28,12 +30,7 @@ some_export e = and_then e (λ x. Accepted (Some x))
 
 -- null, or an export
 abbrev pub own_judged : Unfolding → List ℕ → Data → Judged (Option TreeExport)
-own_judged U path null = Accepted None
-own_judged U path (boolean b) = some_export (own_export U path (boolean b))
-own_judged U path (number n) = some_export (own_export U path (number n))
-own_judged U path (string s) = some_export (own_export U path (string s))
-own_judged U path (array ds) = some_export (own_export U path (array ds))
-own_judged U path (object ms) = some_export (own_export U path (object ms))
+own_judged U path d = if is_some (as_null d) then Accepted None else some_export (own_export U path d)
 
 abbrev pub is_null_or_object : Data → Bool
 is_null_or_object null = true
@@ -61,15 +58,22 @@ near_form path d =
     and_then (given (Misshaped (at_member path (codes "kept"))) (as_array m.1.1)) (λ ds.
     Accepted (record { id = id; weight = w; value = v; kept = ds }))))))
 
--- A neighbour beside the numbers of those before: its form; its number, at most 65,535, that of another device and of
--- none before; its weight, in the range of the metric; its export.
+-- The number of a neighbour is at most 65,535, that of another device, and of none before.
+abbrev pub other_number : ℕ → List ℕ → List ℕ → ℕ → Judged ℕ
+other_number device before path id =
+    require (nat_le id 65535 && not (nat_eq id device) && not (is_in id before)) (Misshaped path) (Accepted id)
+
+-- the weight of a neighbour is in the range of the metric
+abbrev pub weight_judged : Declarations → List ℕ → ℕ → Judged ℕ
+weight_judged D path w = require (in_metric D w) (BadNetwork path fault.Weight) (Accepted w)
+
+-- a neighbour beside the numbers of those before: its form, its number, its weight, its export
 abbrev pub near_judged : Unfolding → ℕ → List ℕ → List ℕ → Data → Judged NearCopy
 near_judged U device before path d =
     and_then (near_form path d) (λ form.
-    require (nat_le form.id 65535 && not (nat_eq form.id device) && not (is_in form.id before)) (Misshaped (at_member path (codes "id")))
-    (require (in_metric U.declared form.weight) (BadNetwork (at_member path (codes "weight")) fault.Weight)
-    (and_then (export_judged U item_of_values path form.value form.kept) (λ e.
-    Accepted (record { device = form.id; weight = form.weight; export = e })))))
+    and_then (other_number device before (at_member path (codes "id")) form.id) (λ id.
+    and_then (weight_judged U.declared (at_member path (codes "weight")) form.weight) (λ w.
+    and_then (export_judged U item_of_values path form.value form.kept) (λ e. Accepted (record { device = id; weight = w; export = e })))))
 
 abbrev pub near_number : NearCopy → ℕ
 near_number n = n.device
@@ -99,19 +103,19 @@ copy_form path d =
 abbrev pub copy_number : Copy → ℕ
 copy_number c = c.device
 
--- what a copy holds beside its number: its inputs, its own export, its neighbours
-abbrev pub parts_judged : Unfolding → List ℕ → CopyForm → Judged Copy
-parts_judged U path form =
+-- the copy of a device: its inputs, its own export, its neighbours
+abbrev pub parts_judged : Unfolding → List ℕ → ℕ → CopyForm → Judged Copy
+parts_judged U path device form =
     and_then (inputs_judged U.declared.inputs (at_member path (codes "inputs")) form.inputs) (λ vs.
     and_then (own_judged U (at_member path (codes "own")) form.own) (λ own.
-    and_then (nears_judged U form.id (at_member path (codes "near")) form.near) (λ ns.
-    Accepted (record { device = form.id; inputs = vs; own = own; near = ns }))))
+    and_then (nears_judged U device (at_member path (codes "near")) form.near) (λ ns.
+    Accepted (record { device = device; inputs = vs; own = own; near = ns }))))
 
 -- a copy beside the numbers of those before: its form, its number as that of a row, its parts
 abbrev pub copy_judged : Unfolding → Network → List ℕ → List ℕ → Data → Judged Copy
 copy_judged U n before path d =
     and_then (copy_form path d) (λ form.
-    require (lives n form.id && not (is_in form.id before)) (Misshaped (at_member path (codes "id"))) (parts_judged U path form))
+    and_then (live_number n before (at_member path (codes "id")) form.id) (λ id. parts_judged U path id form))
 
 abbrev pub copies_judged : Unfolding → Network → List ℕ → Items → Judged (List Copy)
 copies_judged U n path ds = gather copy_number (copy_judged U n) path ds

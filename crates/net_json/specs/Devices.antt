@@ -1,9 +1,9 @@
 -- The devices of a scene.
-use Rattle.std.specs.Prelude.{ℕ, List, nat_le, nat_eq, not, codes}
+use Rattle.std.specs.Prelude.{ℕ, ◌&&◌, List, nat_le, nat_eq, not, codes}
 use Rattle.serde_json.specs.Data.{Data, Items}
 use Rattle.fc_values.specs.Types.{Input}
 use Rattle.topology.specs.declared.types.NetFault.TheVariants as fault
-use Rattle.topology.specs.Networks.{NetDevice, is_in}
+use Rattle.topology.specs.Networks.{NetDevice, Network, is_in, lives}
 use Rattle.net_json.specs.Judging.{Judged, Accepted, Misshaped, BadNetwork, TooManyDevices, and_then, given, require, gather, at_member}
 use Rattle.net_json.specs.Reading.{whole, two_members, size_of, count_items}
 use Rattle.net_json.specs.Inputs.{inputs_judged}
@@ -19,6 +19,10 @@ device_form path d =
 abbrev pub device_number : List ℕ → List ℕ → ℕ → Judged ℕ
 device_number before path id =
     require (nat_le id 65535) (Misshaped path) (require (not (is_in id before)) (BadNetwork path fault.Twice) (Accepted id))
+
+-- The number of a row or of a copy is that of a device, and it stood in none before.
+abbrev pub live_number : Network → List ℕ → List ℕ → ℕ → Judged ℕ
+live_number n before path id = require (lives n id && not (is_in id before)) (Misshaped path) (Accepted id)
 
 -- a device beside the numbers of those before: its form, its number, its inputs
 abbrev pub device_judged : List Input → List ℕ → List ℕ → Data → Judged NetDevice

@@ -1,5 +1,5 @@
 -- The export of a row or of a part of a copy: its value and its kept list.
-use Rattle.std.specs.Prelude.{ℕ, List, [], ◌∷◌, codes}
+use Rattle.std.specs.Prelude.{ℕ, List, [], ◌∷◌, codes, Option}
 use Rattle.serde_json.specs.Data.{Data, Items}
 use Rattle.fc_values.specs.Values.{LocalValue}
 use Rattle.fc_values.specs.BuiltinTypes.{inner}
@@ -7,8 +7,8 @@ use Rattle.fc_values.specs.Trees.{Tree, TreeExport}
 use Rattle.fc_nodes.specs.Terms.{type_of, size}
 use Rattle.fc_nodes.specs.Program.{Unfolding}
 use Rattle.net_json.specs.Judging.{Judged, Accepted, Refused, Misshaped, BadKept, and_then, require, in_turn, at_member}
-use Rattle.net_json.specs.KeptItems.{KeptItem, kept_judged, value_fits, Taken, Took, Misfit, take_tree}
-use Rattle.std.specs.Prelude.{Option}
+use Rattle.value_trees.specs.KeptReads.{has_type}
+use Rattle.net_json.specs.KeptItems.{KeptItem, kept_judged, Taken, Took, Misfit, take_tree}
 
 -- an export with this value, whose tree uses all items. Where some are left, the number of nodes is named
 abbrev pub whole_export : Unfolding → List ℕ → LocalValue → Taken Tree → Judged TreeExport
@@ -20,6 +20,6 @@ whole_export U path v (Misfit p) = Refused (BadKept path p)
 -- export. The path is that of the object that has both.
 abbrev pub export_judged : Unfolding → (Data → Option KeptItem) → List ℕ → LocalValue → Items → Judged TreeExport
 export_judged U read path v ds =
-    require (value_fits U.declared.ceiling (inner (type_of U.main)) v) (Misshaped (at_member path (codes "value")))
+    require (has_type U.declared.ceiling (inner (type_of U.main)) v) (Misshaped (at_member path (codes "value")))
     (and_then (in_turn (kept_judged read) (at_member path (codes "kept")) [] 0 ds) (λ xs.
     whole_export U path v (take_tree U.declared.ceiling U.main 0 xs)))

@@ -1,11 +1,16 @@
 -- Items of kept lists in code.
-use Rattle.std.specs.Prelude.{ℕ}
-use Rattle.fc_values.specs.declared.values.Local.{Local}
+use Rattle.std.specs.Prelude.{Option}
+use Rattle.serde_json.specs.Data.{Data}
 use Rattle.fc_values.specs.Values.{local_of}
-use Rattle.net_json.specs.KeptItems.{KeptItem, plain_item, placed_item}
+use Rattle.net_json.specs.declared.kept.Format.{Format}
+use Rattle.net_json.specs.declared.kept.Format.TheVariants as format
+use Rattle.net_json.specs.declared.kept.Item.{Item}
+use Rattle.net_json.specs.KeptItems.{KeptItem, item_of_values, item_of_places}
 
-abbrev pub plain_of : Local → KeptItem
-plain_of v = plain_item (local_of v)
+abbrev pub kept_of : Item → KeptItem
+kept_of x = record { place = x.place; value = local_of x.value }
 
-abbrev pub placed_of : ℕ × Local → KeptItem
-placed_of p = placed_item (p.0, local_of p.1)
+-- what an item is in a format
+abbrev pub item_by : Format → Data → Option KeptItem
+item_by format.Values = item_of_values
+item_by format.Places = item_of_places

@@ -1,12 +1,14 @@
 -- Kept lists as they stand in a row, and the trees that they are the kept values of.
-use Rattle.std.specs.Prelude.{ℕ, suc, Bool, true, false, ◌+◌, ◌&&◌, List, [], ◌∷◌, ◌++◌, Option, Some, None, nat_eq, nat_le, if◌then◌else◌, option_map, option_and_then}
+use Rattle.std.specs.Prelude.{ℕ, suc, Bool, true, ◌+◌, ◌&&◌, List, [], ◌∷◌, ◌++◌, Option, Some, None, nat_eq, if◌then◌else◌, option_map, option_and_then}
 use Rattle.serde_json.specs.Data.{Data, Items, no_items, item}
 use Rattle.serde_json.specs.Find.{as_array}
-use Rattle.fc_values.specs.Types.{LocalType, IntType, BoolType, PairType}
-use Rattle.fc_values.specs.Values.{LocalValue, IntValue, BoolValue, PairValue}
+use Rattle.fc_values.specs.Types.{LocalType, BoolType}
+use Rattle.fc_values.specs.Values.{LocalValue}
 use Rattle.fc_values.specs.BuiltinTypes.{inner}
 use Rattle.fc_values.specs.Trees.{Tree, Trees, Keep, Done, Then, leaf}
 use Rattle.fc_nodes.specs.Terms.{Term, Terms, Plain, Apply, Nbr, Evolve, If, Let, NoMore, More, size}
+use Rattle.value_trees.specs.KeptReads.{has_type}
+use Rattle.value_trees.specs.SlotFits.{truth_in}
 use Rattle.net_json.specs.Judging.{Judged, Accepted, Misshaped, and_then, given}
 use Rattle.net_json.specs.Reading.{whole, value_of, both}
 
@@ -37,13 +39,6 @@ item_of_places d = option_map placed_item (option_and_then place_and_value (as_a
 abbrev pub kept_judged : (Data → Option KeptItem) → List KeptItem → List ℕ → Data → Judged (List KeptItem)
 kept_judged read before path d = and_then (given (Misshaped path) (read d)) (λ x. Accepted (before ++ x ∷ []))
 
--- whether a value has a type, with each integer in it at most the ceiling
-abbrev pub value_fits : ℕ → LocalType → LocalValue → Bool
-value_fits ceiling IntType (IntValue n) = nat_le n ceiling
-value_fits ceiling BoolType (BoolValue b) = true
-value_fits ceiling (PairType s t) (PairValue a b) = value_fits ceiling s a && value_fits ceiling t b
-value_fits ceiling _ _ = false
-
 -- whether an item may stand at a place
 abbrev pub names_place : ℕ → Option ℕ → Bool
 names_place p None = true
@@ -62,13 +57,7 @@ take_then (Misfit p) next = Misfit p
 -- the value that the node at a place keeps
 abbrev pub take_value : ℕ → LocalType → ℕ → List KeptItem → Taken LocalValue
 take_value ceiling t p [] = Misfit p
-take_value ceiling t p (x ∷ xs) = if names_place p x.place && value_fits ceiling t x.value then Took x.value xs else Misfit p
-
--- whether a kept truth value names the first branch
-abbrev pub names_first : LocalValue → Bool
-names_first (IntValue n) = false
-names_first (BoolValue b) = b
-names_first (PairValue v w) = false
+take_value ceiling t p (x ∷ xs) = if names_place p x.place && has_type ceiling t x.value then Took x.value xs else Misfit p
 
 abbrev pub one_kid : Option LocalValue → Tree → Tree
 one_kid v a = Keep v (Then a Done)
@@ -89,7 +78,7 @@ abbrev mutual
       take_then (take_tree c b (suc p + size a) zs) (λ l us. Took (two_kids (Some v) k l) us)))
   take_tree c (If t x a b) p xs =
       take_then (take_value c BoolType p xs) (λ v ys. take_then (take_tree c x (suc p) ys) (λ k zs.
-      take_then (if names_first v then take_tree c a (suc p + size x) zs else take_tree c b (suc p + size x + size a) zs) (λ l us. Took (two_kids (Some v) k l) us)))
+      take_then (if truth_in v then take_tree c a (suc p + size x) zs else take_tree c b (suc p + size x + size a) zs) (λ l us. Took (two_kids (Some v) k l) us)))
   take_tree c (Let t a b) p xs =
       take_then (take_tree c a (suc p) xs) (λ k ys. take_then (take_tree c b (suc p + size a) ys) (λ l zs. Took (two_kids None k l) zs))
 

@@ -6,8 +6,11 @@ pub mod Devices
 pub mod Links
 pub mod KeptItems
 pub mod KeptCode
+pub mod Leavings
 pub mod Exports
 pub mod Tables
 pub mod Copies
+pub mod CopyCode
 pub mod Scenes
+pub mod SceneCode
 pub mod TableTexts

@@ -35,11 +35,10 @@ one_if_there (Some d) = 1
 
 -- an object with `devices` and `links`, at most beside `table` and `pending`
 abbrev pub scene_members : Data → Option (Data × Data)
-scene_members d = pair_if (has_size (2 + one_if_there (get (codes "table") d) + one_if_there (get (codes "pending") d)) d) (both (get (codes "devices") d) (get (codes "links") d))
-  where
-    pair_if : Bool → Option (Data × Data) → Option (Data × Data)
-    pair_if true p = p
-    pair_if false p = None
+scene_members d =
+    if has_size (2 + one_if_there (get (codes "table") d) + one_if_there (get (codes "pending") d)) d
+    then both (get (codes "devices") d) (get (codes "links") d)
+    else None
 
 abbrev pub is_table : Data → Bool
 is_table null = false

@@ -7,7 +7,7 @@ use Rattle.fc_values.specs.Values.{LocalValue, IntValue, BoolValue, PairValue}
 use Rattle.fc_values.specs.Trees.{Tree, Trees, Done, Then, Keep, child, nth_tree, kept_of}
 use Rattle.fc_nodes.specs.Terms.{Term, Terms, Plain, Apply, Nbr, Evolve, If, Let, NoMore, More, size}
 use Rattle.fc_nodes.specs.Program.{Unfolding}
-use Rattle.net_json.specs.KeptItems.{names_first}
+use Rattle.value_trees.specs.SlotFits.{truth_in}
 use Rattle.net_json.specs.Tables.{Row}
 
 -- a number, and a local value, as JSON
@@ -26,7 +26,7 @@ kept_at p (Some v) = (p, v) ∷ []
 -- whether what is kept names the first branch
 abbrev pub takes_first : Option LocalValue → Bool
 takes_first None = false
-takes_first (Some v) = names_first v
+takes_first (Some v) = truth_in v
 
 abbrev pub kids_of : Tree → Trees
 kids_of (Keep v ts) = ts

@@ -1,13 +1,14 @@
 -- The table of a scene, in either format.
-use Rattle.std.specs.Prelude.{ℕ, ◌&&◌, List, not, codes, Option}
-use Rattle.serde_json.specs.Data.{Data, null, boolean, number, string, array, object, Items}
+use Rattle.std.specs.Prelude.{ℕ, List, codes, Option, Some, None}
+use Rattle.serde_json.specs.Data.{Data, Items}
 use Rattle.serde_json.specs.Find.{as_array}
 use Rattle.fc_values.specs.Values.{LocalValue}
 use Rattle.fc_values.specs.Trees.{TreeExport}
 use Rattle.fc_nodes.specs.Program.{Unfolding}
-use Rattle.topology.specs.Networks.{Network, lives, is_in}
-use Rattle.net_json.specs.Judging.{Judged, Accepted, Refused, Misshaped, and_then, given, require, gather, at_member}
+use Rattle.topology.specs.Networks.{Network}
+use Rattle.net_json.specs.Judging.{Judged, Accepted, Misshaped, and_then, given, require, gather, at_member}
 use Rattle.net_json.specs.Reading.{whole, value_of, two_members, three_members, is_exactly}
+use Rattle.net_json.specs.Devices.{live_number}
 use Rattle.net_json.specs.KeptItems.{KeptItem, item_of_values, item_of_places}
 use Rattle.net_json.specs.Exports.{export_judged}
 
@@ -36,8 +37,8 @@ row_form path d =
 abbrev pub row_judged : Unfolding → Network → (Data → Option KeptItem) → List ℕ → List ℕ → Data → Judged Row
 row_judged U n read before path d =
     and_then (row_form path d) (λ form.
-    require (lives n form.id && not (is_in form.id before)) (Misshaped (at_member path (codes "id")))
-    (and_then (export_judged U read path form.value form.kept) (λ e. Accepted (form.id, e))))
+    and_then (live_number n before (at_member path (codes "id")) form.id) (λ id.
+    and_then (export_judged U read path form.value form.kept) (λ e. Accepted (id, e))))
 
 abbrev pub rows_judged : Unfolding → Network → (Data → Option KeptItem) → List ℕ → Items → Judged (List Row)
 rows_judged U n read path ds = gather row_number (row_judged U n read) path ds
@@ -49,11 +50,14 @@ second_format path d =
     require (is_exactly 2 (whole m.0)) (Misshaped (at_member path (codes "format")))
     (given (Misshaped (at_member path (codes "rows"))) (as_array m.1)))
 
+-- a table of format 2
+abbrev pub second_judged : Unfolding → Network → List ℕ → Data → Judged (List Row)
+second_judged U n path d = and_then (second_format path d) (λ ds. rows_judged U n item_of_places (at_member path (codes "rows")) ds)
+
 -- a table: an array of rows of format 1, or an object of format 2
+abbrev pub array_or : Unfolding → Network → List ℕ → Option Items → Judged (List Row) → Judged (List Row)
+array_or U n path (Some ds) other = rows_judged U n item_of_values path ds
+array_or U n path None other = other
+
 abbrev pub table_judged : Unfolding → Network → List ℕ → Data → Judged (List Row)
-table_judged U n path null = Refused (Misshaped path)
-table_judged U n path (boolean b) = Refused (Misshaped path)
-table_judged U n path (number x) = Refused (Misshaped path)
-table_judged U n path (string s) = Refused (Misshaped path)
-table_judged U n path (array ds) = rows_judged U n item_of_values path ds
-table_judged U n path (object ms) = and_then (second_format path (object ms)) (λ ds. rows_judged U n item_of_places (at_member path (codes "rows")) ds)
+table_judged U n path d = array_or U n path (as_array d) (second_judged U n path d)

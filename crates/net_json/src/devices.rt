@@ -1,13 +1,15 @@
 //! The devices of a scene.
 
-ghost use Rattle.std.specs.Prelude.{◌≡◌, IfOk, IfErr, map, codes};
+ghost use Rattle.std.specs.Prelude.{◌≡◌, ◌≤◌, IfOk, IfErr, length, map, codes};
+ghost use Rattle.std.specs.List.{All};
 ghost use Rattle.serde_json.specs.View.{view, items_view};
 ghost use Rattle.fc_values.specs.Types.{input_of};
 ghost use Rattle.fc_values.specs.Fields.{Rises};
-ghost use Rattle.topology.specs.Networks.{device_of};
+ghost use Rattle.topology.specs.Networks.{device_of, numbers};
 ghost use Rattle.net_json.specs.Judging.{Accepted, RefusedWith, at_member, gather};
 ghost use Rattle.net_json.specs.Devices.{device_form, device_number, device_judged, number_of, devices_judged};
 ghost use Rattle.net_json.specs.Places.{IsPlace};
+ghost use Rattle.net_json.specs.SceneCode.{DeviceFits};
 
 use crate::inputs::read_inputs;
 use crate::rising::room;
@@ -42,6 +44,7 @@ fn number(alloc: Global, numbers: &[u32], path: &Path, id: u64) -> Result<(usize
     requires { Rises numbers.now }
     ensures ok { IfOk result (λ d. device_number numbers.now (at_member path.now.text.items (codes "id")) id ≡ Accepted d.1) }
     ensures place { IfOk result (λ d. IsPlace numbers.now d.1 d.0) }
+    ensures small { IfOk result (λ d. d.1 ≤ 65535) }
     ensures refused { IfErr result (RefusedWith (device_number numbers.now (at_member path.now.text.items (codes "id")) id)) }
 {
     if id > 65_535 {
@@ -66,6 +69,7 @@ fn read_device(
     requires { Rises numbers.now }
     ensures ok { IfOk result (λ d. device_judged (map input_of inputs.now) numbers.now path.now.text.items (view value.now) ≡ Accepted (device_of d.1)) }
     ensures place { IfOk result (λ d. IsPlace numbers.now d.1.id d.0) }
+    ensures fits { IfOk result (λ d. DeviceFits (map input_of inputs.now) (device_of d.1)) }
     ensures refused { IfErr result (RefusedWith (device_judged (map input_of inputs.now) numbers.now path.now.text.items (view value.now))) }
 {
     let (id, members) = form(alloc, path, value)?;
@@ -84,6 +88,9 @@ fn gather_devices(
     items: &[Value],
 ) -> Result<Vec<Device>, JsonFault>
     ensures ok { IfOk result (λ ds. gather number_of (device_judged (map input_of inputs.now)) path.now.text.items (items_view items.now) ≡ Accepted (map device_of ds.items)) }
+    ensures rising { IfOk result (λ ds. Rises (numbers (map device_of ds.items))) }
+    ensures fit { IfOk result (λ ds. All (λ d. DeviceFits (map input_of inputs.now) (device_of d)) ds.items) }
+    ensures many { IfOk result (λ ds. length ds.items ≡ length items.now) }
     ensures refused { IfErr result (RefusedWith (gather number_of (device_judged (map input_of inputs.now)) path.now.text.items (items_view items.now))) }
 {
     let mut numbers = Vec::new(alloc);
@@ -105,6 +112,10 @@ pub(crate) fn read_devices(
     items: &[Value],
 ) -> Result<Vec<Device>, JsonFault>
     ensures ok { IfOk result (λ ds. devices_judged (map input_of inputs.now) path.now.text.items (items_view items.now) ≡ Accepted (map device_of ds.items)) }
+    ensures rising { IfOk result (λ ds. Rises (numbers (map device_of ds.items))) }
+    ensures fit { IfOk result (λ ds. All (λ d. DeviceFits (map input_of inputs.now) (device_of d)) ds.items) }
+    ensures some { IfOk result (λ ds. 1 ≤ length ds.items) }
+    ensures few { IfOk result (λ ds. length ds.items ≤ 1024) }
     ensures refused { IfErr result (RefusedWith (devices_judged (map input_of inputs.now) path.now.text.items (items_view items.now))) }
 {
     if items.is_empty() {

@@ -5,7 +5,7 @@ ghost use Rattle.serde_json.specs.View.{view};
 ghost use Rattle.serde_json.specs.Find.{get};
 ghost use Rattle.fc_values.specs.Types.{input_of};
 ghost use Rattle.fc_values.specs.Values.{local_of};
-ghost use Rattle.topology.specs.Inputs.{input_fault};
+ghost use Rattle.topology.specs.Inputs.{InputsFit, input_fault};
 ghost use Rattle.net_json.specs.Judging.{Accepted, RefusedWith, at_member};
 ghost use Rattle.net_json.specs.Inputs.{has_names, has_exactly, input_judged, values_judged, inputs_judged};
 
@@ -83,6 +83,7 @@ pub(crate) fn read_inputs(
     value: &Value,
 ) -> Result<Vec<Local>, JsonFault>
     ensures ok { IfOk result (λ vs. inputs_judged (map input_of inputs.now) path.now.text.items (view value.now) ≡ Accepted (map local_of vs.items)) }
+    ensures fit { IfOk result (λ vs. InputsFit (map input_of inputs.now) (map local_of vs.items)) }
     ensures refused { IfErr result (RefusedWith (inputs_judged (map input_of inputs.now) path.now.text.items (view value.now))) }
 {
     if !has_size(value, inputs.len()) || !has_names(inputs, value) {
@@ -98,6 +99,7 @@ fn read_values(
     value: &Value,
 ) -> Result<Vec<Local>, JsonFault>
     ensures ok { IfOk result (λ vs. values_judged path.now.text.items (view value.now) [] (map input_of inputs.now) ≡ Accepted (map local_of vs.items)) }
+    ensures fit { IfOk result (λ vs. InputsFit (map input_of inputs.now) (map local_of vs.items)) }
     ensures refused { IfErr result (RefusedWith (values_judged path.now.text.items (view value.now) [] (map input_of inputs.now))) }
 {
     let mut values = Vec::new(alloc);

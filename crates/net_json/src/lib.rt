@@ -2,14 +2,22 @@
 #![tactic(auto)]
 
 mod copies;
+mod copy_forms;
 mod devices;
+mod exports;
 mod inputs;
 mod kept;
 mod links;
+mod misfits;
+mod networks;
+mod numbers;
 mod paths;
 mod rising;
+mod rows;
+mod scenes;
 mod tables;
 mod types;
 mod values;
 
+pub use scenes::read_scene;
 pub use types::{JsonFault, Path, Scene};

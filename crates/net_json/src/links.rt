@@ -51,6 +51,7 @@ fn are_linked(net: &Network, a: u32, b: u32) -> bool
 #[tactic(auto, using(crate::proofs::Judgements::refused_next))]
 fn add_link(alloc: Global, net: &mut Network, path: &Path, value: &Value) -> Result<(), JsonFault>
     ensures ok { OnOk result (link_judged net.old path.now.text.items (view value.now) ≡ Accepted net.new) }
+    ensures declared { OnOk result (net.new.declared ≡ net.old.declared) }
     ensures refused { IfErr result (RefusedWith (link_judged net.old path.now.text.items (view value.now))) }
 {
     let Some((a, b, weight)) = link_of(value) else {
@@ -74,6 +75,7 @@ pub(crate) fn read_links(
     items: &[Value],
 ) -> Result<Network, JsonFault>
     ensures ok { IfOk result (λ n. links_judged path.now.text.items net (items_view items.now) ≡ Accepted n) }
+    ensures declared { IfOk result (λ n. n.declared ≡ net.declared) }
     ensures refused { IfErr result (RefusedWith (links_judged path.now.text.items net (items_view items.now))) }
 {
     let mut net = net;

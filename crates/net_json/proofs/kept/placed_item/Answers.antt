@@ -3,7 +3,7 @@ use Rattle.std.proofs.lemmas.List.{length-map}
 use Rattle.serde_json.specs.View.{view}
 use Rattle.net_json.specs.KeptItems.{place_and_value, placed_item}
 use Rattle.net_json.proofs.Shapes.{no_place}
-use Rattle.net_json.proofs.kept.place_and_value.Goals as goal
+use Rattle.net_json.proofs.kept.placed_item.Goals as goal
 
 pub returns-then-items-ne2 : goal.returns-then-items-ne2
 returns-then-items-ne2 c =

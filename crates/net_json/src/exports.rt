@@ -1,0 +1,91 @@
+//! Exports, by their values and their kept lists.
+
+ghost use Rattle.std.specs.Prelude.{◌≡◌, IsTrue, IfOk, IfErr, map};
+ghost use Rattle.serde_json.specs.View.{items_view};
+ghost use Rattle.fc_values.specs.Values.{local_of};
+ghost use Rattle.fc_values.specs.BuiltinTypes.{inner as inner_type};
+ghost use Rattle.fc_nodes.specs.Terms.{type_of};
+ghost use Rattle.fc_nodes.specs.Program.{unfolding_of};
+ghost use Rattle.value_trees.specs.KeptReads.{has_type};
+ghost use Rattle.value_trees.specs.Snaps.{tree_of, IsExportOf};
+ghost use Rattle.value_trees.specs.Walks.{FitsMain};
+ghost use Rattle.net_json.specs.Judging.{Accepted, RefusedWith};
+ghost use Rattle.net_json.specs.KeptItems.{take_tree};
+ghost use Rattle.net_json.specs.KeptCode.{kept_of, item_by};
+ghost use Rattle.net_json.specs.Exports.{whole_export, export_judged};
+
+use crate::kept::{Format, Item, read_items};
+use crate::misfits::{inner, misfit};
+use crate::types::{JsonFault, Path};
+use fc_nodes::Unfolded;
+use fc_values::{Export, Local, Memory, fits};
+use serde_json::Value;
+use std::alloc::Global;
+use value_trees::{KeptFault, from_kept};
+
+/// The export with a value and a kept list, both of the object at a path.
+#[tactic(auto, using(crate::proofs::Judgements::refused_next))]
+pub(crate) fn read_export(
+    alloc: Global,
+    program: &Unfolded,
+    format: Format,
+    path: &Path,
+    value: Local,
+    kept: &[Value],
+) -> Result<Export, JsonFault>
+    ensures ok { IfOk result (λ e. export_judged (unfolding_of program.now) (item_by format) path.now.text.items (local_of value) (items_view kept.now) ≡ Accepted (tree_of (unfolding_of program.now) e)) }
+    ensures export { IfOk result (λ e. IsExportOf (unfolding_of program.now) e) }
+    ensures refused { IfErr result (RefusedWith (export_judged (unfolding_of program.now) (item_by format) path.now.text.items (local_of value) (items_view kept.now))) }
+{
+    if !value_fits(program, &value) {
+        return Err(JsonFault::Shape(path.member(alloc, b"value")?));
+    }
+    let list = path.member(alloc, b"kept")?;
+    let items = read_items(alloc, format, &list, kept)?;
+    export_of_items(alloc, program, path, value, items)
+}
+
+/// The export with a value and the items of a kept list.
+fn export_of_items(
+    alloc: Global,
+    program: &Unfolded,
+    path: &Path,
+    value: Local,
+    items: Vec<Item>,
+) -> Result<Export, JsonFault>
+    requires { FitsMain (unfolding_of program.now) (local_of value) }
+    ensures ok { IfOk result (λ e. whole_export (unfolding_of program.now) path.now.text.items (local_of value) (take_tree program.now.declared.ceiling (unfolding_of program.now).main 0 (map kept_of items.items)) ≡ Accepted (tree_of (unfolding_of program.now) e)) }
+    ensures export { IfOk result (λ e. IsExportOf (unfolding_of program.now) e) }
+    ensures refused { IfErr result (RefusedWith (whole_export (unfolding_of program.now) path.now.text.items (local_of value) (take_tree program.now.declared.ceiling (unfolding_of program.now).main 0 (map kept_of items.items)))) }
+{
+    if let Some(place) = misfit(program, &items) {
+        return Err(JsonFault::Kept(path.copy(alloc)?, place));
+    }
+    let list = values_of(alloc, items)?;
+    match from_kept(alloc, program, value, list) {
+        Ok(export) => Ok(export),
+        Err(KeptFault::Memory) => Err(JsonFault::Memory),
+        Err(KeptFault::At(_)) => unreachable!(),
+    }
+}
+
+/// The values of items.
+fn values_of(alloc: Global, items: Vec<Item>) -> Result<Vec<Local>, Memory>
+    ensures { IfOk result (λ list. map local_of list.items ≡ map (λ x. local_of x.value) items.items) }
+{
+    let mut list = Vec::new(alloc);
+    for item in items {
+        list.push(item.value)?;
+    }
+    Ok(list)
+}
+
+/// Whether a value fits the type of `main`.
+fn value_fits(program: &Unfolded, value: &Local) -> bool
+    ensures test { result ≡ has_type program.now.declared.ceiling (inner_type (type_of (unfolding_of program.now).main)) (local_of value.now) }
+    ensures fits { IsTrue result → FitsMain (unfolding_of program.now) (local_of value.now) }
+{
+    let ceiling = program.declared().ceiling;
+    let main = program.node(0);
+    fits(inner(&main.ty), value, ceiling)
+}

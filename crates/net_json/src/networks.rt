@@ -1,0 +1,91 @@
+//! The network of a scene.
+
+ghost use Rattle.std.specs.Prelude.{◌≡◌, ◌≤◌, IfOk, IfErr, length, map};
+ghost use Rattle.std.specs.List.{All};
+ghost use Rattle.serde_json.specs.View.{items_view};
+ghost use Rattle.fc_values.specs.Types.{declarations_of, input_of};
+ghost use Rattle.fc_values.specs.Fields.{Rises};
+ghost use Rattle.fc_nodes.specs.Program.{unfolding_of};
+ghost use Rattle.topology.specs.Changes.{made};
+ghost use Rattle.topology.specs.Networks.{device_of, numbers};
+ghost use Rattle.net_json.specs.Judging.{Accepted, RefusedWith};
+ghost use Rattle.net_json.specs.SceneCode.{DeviceFits};
+ghost use Rattle.net_json.specs.Scenes.{network_judged};
+ghost use Rattle.net_json.specs.declared.types.JsonFault.TheVariants as fault;
+
+use crate::devices::read_devices;
+use crate::links::read_links;
+use crate::types::{JsonFault, Path};
+use fc_nodes::Unfolded;
+use fc_values::{Declared, InputDecl, Memory, Name};
+use serde_json::Value;
+use std::alloc::Global;
+use topology::{Device, MakeFault, Network};
+
+/// The network of a scene: its devices, then its links.
+#[tactic(auto, using(crate::proofs::Judgements::refused_next))]
+pub(crate) fn read_network(
+    alloc: Global,
+    program: &Unfolded,
+    devices: &[Value],
+    links: &[Value],
+) -> Result<Network, JsonFault>
+    ensures ok { IfOk result (λ n. network_judged (unfolding_of program.now) (items_view devices.now) (items_view links.now) ≡ Accepted n) }
+    ensures declared { IfOk result (λ n. n.declared ≡ program.now.declared) }
+    ensures refused { IfErr result (RefusedWith (network_judged (unfolding_of program.now) (items_view devices.now) (items_view links.now))) }
+{
+    let root = Path {
+        text: Vec::new(alloc),
+    };
+    let declared = copy_declared(alloc, program.declared())?;
+    let place = root.member(alloc, b"devices")?;
+    let devices = read_devices(alloc, &declared.inputs, &place, devices)?;
+    let net = new_network(alloc, declared, devices)?;
+    let place = root.member(alloc, b"links")?;
+    read_links(alloc, net, &place, links)
+}
+
+/// The network of devices that make one.
+fn new_network(
+    alloc: Global,
+    declared: Declared,
+    devices: Vec<Device>,
+) -> Result<Network, JsonFault>
+    requires some { 1 ≤ length devices.items }
+    requires few { length devices.items ≤ 1024 }
+    requires rising { Rises (numbers (map device_of devices.items)) }
+    requires fit { All (λ d. DeviceFits (declarations_of declared).inputs (device_of d)) devices.items }
+    ensures ok { IfOk result (λ n. n ≡ made (declarations_of declared) (map device_of devices.items)) }
+    ensures memory { IfErr result (λ f. f ≡ fault.Memory) }
+{
+    match Network::new(alloc, declared, devices) {
+        Ok(net) => Ok(net),
+        Err(MakeFault::Memory) => Err(JsonFault::Memory),
+        Err(MakeFault::Net(_, _)) => unreachable!(),
+        Err(MakeFault::Devices(_)) => unreachable!(),
+    }
+}
+
+/// A copy of declarations.
+fn copy_declared(alloc: Global, declared: &Declared) -> Result<Declared, Memory>
+    ensures { IfOk result (λ d. declarations_of d ≡ declarations_of declared.now) }
+{
+    let inputs = copy_inputs(alloc, &declared.inputs)?;
+    Ok(Declared {
+        ceiling: declared.ceiling,
+        inputs,
+        metric: declared.metric,
+    })
+}
+
+fn copy_inputs(alloc: Global, inputs: &[InputDecl]) -> Result<Vec<InputDecl>, Memory>
+    ensures { IfOk result (λ v. map input_of v.items ≡ map input_of inputs.now) }
+{
+    let mut copies = Vec::new(alloc);
+    for input in inputs {
+        let text = Vec::from_slice(alloc, &input.name.text)?;
+        let name = Name { text };
+        copies.push(InputDecl { name, ty: input.ty })?;
+    }
+    Ok(copies)
+}

@@ -1,0 +1,109 @@
+//! The rows of a table.
+
+ghost use Rattle.std.specs.Prelude.{◌≡◌, IfOk, IfErr, map, true};
+ghost use Rattle.serde_json.specs.View.{view, items_view};
+ghost use Rattle.fc_values.specs.Fields.{Rises};
+ghost use Rattle.fc_nodes.specs.Program.{unfolding_of};
+ghost use Rattle.value_trees.specs.Snaps.{IsExportOf};
+ghost use Rattle.topology.specs.Networks.{lives};
+ghost use Rattle.net_json.specs.Judging.{Accepted, RefusedWith};
+ghost use Rattle.net_json.specs.KeptCode.{item_by};
+ghost use Rattle.net_json.specs.Places.{IsPlace};
+ghost use Rattle.net_json.specs.SceneCode.{row_of, AreRows};
+ghost use Rattle.net_json.specs.Tables.{row_judged, rows_judged, second_judged, table_judged};
+
+use crate::exports::read_export;
+use crate::kept::Format;
+use crate::numbers::live_number;
+use crate::tables::{form, second_format};
+use crate::types::{JsonFault, Path};
+use fc_nodes::Unfolded;
+use fc_values::Export;
+use serde_json::Value;
+use std::alloc::Global;
+use topology::Network;
+
+/// A row, with the place of its number among those before.
+#[tactic(auto, using(crate::proofs::Judgements::refused_next))]
+fn read_row(
+    alloc: Global,
+    program: &Unfolded,
+    net: &Network,
+    format: Format,
+    numbers: &[u32],
+    path: &Path,
+    value: &Value,
+) -> Result<(usize, (u32, Export)), JsonFault>
+    requires { Rises numbers.now }
+    ensures ok { IfOk result (λ r. row_judged (unfolding_of program.now) net.now (item_by format) numbers.now path.now.text.items (view value.now) ≡ Accepted (row_of (unfolding_of program.now) r.1)) }
+    ensures place { IfOk result (λ r. IsPlace numbers.now r.1.0 r.0) }
+    ensures there { IfOk result (λ r. lives net.now r.1.0 ≡ true) }
+    ensures export { IfOk result (λ r. IsExportOf (unfolding_of program.now) r.1.1) }
+    ensures refused { IfErr result (RefusedWith (row_judged (unfolding_of program.now) net.now (item_by format) numbers.now path.now.text.items (view value.now))) }
+{
+    let (id, value, kept) = form(alloc, path, value)?;
+    let (at, id) = live_number(alloc, net, numbers, path, id)?;
+    let export = read_export(alloc, program, format, path, value, kept)?;
+    Ok((at, (id, export)))
+}
+
+/// The rows of a list, by rising numbers.
+#[tactic(auto, using(crate::proofs::Judgements::refused_next))]
+fn gather_rows(
+    alloc: Global,
+    program: &Unfolded,
+    net: &Network,
+    format: Format,
+    path: &Path,
+    items: &[Value],
+) -> Result<Vec<(u32, Export)>, JsonFault>
+    ensures ok { IfOk result (λ rows. rows_judged (unfolding_of program.now) net.now (item_by format) path.now.text.items (items_view items.now) ≡ Accepted (map (row_of (unfolding_of program.now)) rows.items)) }
+    ensures rows { IfOk result (λ rows. AreRows (unfolding_of program.now) net.now rows.items) }
+    ensures refused { IfErr result (RefusedWith (rows_judged (unfolding_of program.now) net.now (item_by format) path.now.text.items (items_view items.now))) }
+{
+    let mut numbers = Vec::new(alloc);
+    let mut rows = Vec::new(alloc);
+    for (i, item) in items.iter().enumerate() {
+        let place = path.index(alloc, i)?;
+        let (at, row) = read_row(alloc, program, net, format, &numbers, &place, item)?;
+        numbers.insert(at, row.0)?;
+        rows.insert(at, row)?;
+    }
+    Ok(rows)
+}
+
+/// The rows of a table of format 2, by rising numbers.
+#[tactic(auto, using(crate::proofs::Judgements::refused_next))]
+fn read_second(
+    alloc: Global,
+    program: &Unfolded,
+    net: &Network,
+    path: &Path,
+    value: &Value,
+) -> Result<Vec<(u32, Export)>, JsonFault>
+    ensures ok { IfOk result (λ rows. second_judged (unfolding_of program.now) net.now path.now.text.items (view value.now) ≡ Accepted (map (row_of (unfolding_of program.now)) rows.items)) }
+    ensures rows { IfOk result (λ rows. AreRows (unfolding_of program.now) net.now rows.items) }
+    ensures refused { IfErr result (RefusedWith (second_judged (unfolding_of program.now) net.now path.now.text.items (view value.now))) }
+{
+    let rows = second_format(alloc, path, value)?;
+    let inner = path.member(alloc, b"rows")?;
+    gather_rows(alloc, program, net, Format::Places, &inner, rows)
+}
+
+/// The rows of a table of either format, by rising numbers.
+pub(crate) fn read_table(
+    alloc: Global,
+    program: &Unfolded,
+    net: &Network,
+    path: &Path,
+    value: &Value,
+) -> Result<Vec<(u32, Export)>, JsonFault>
+    ensures ok { IfOk result (λ rows. table_judged (unfolding_of program.now) net.now path.now.text.items (view value.now) ≡ Accepted (map (row_of (unfolding_of program.now)) rows.items)) }
+    ensures rows { IfOk result (λ rows. AreRows (unfolding_of program.now) net.now rows.items) }
+    ensures refused { IfErr result (RefusedWith (table_judged (unfolding_of program.now) net.now path.now.text.items (view value.now))) }
+{
+    match value.as_array() {
+        Some(rows) => gather_rows(alloc, program, net, Format::Values, path, rows),
+        None => read_second(alloc, program, net, path, value),
+    }
+}
