@@ -1,0 +1,2 @@
+pub mod WrittenSoFar
+pub mod ListTexts
