@@ -12,3 +12,5 @@ mod Living
 mod InputFacts
 mod Makes
 mod Jsons
+mod Placings
+mod Floats

@@ -14,3 +14,4 @@ pub mod CopyCode
 pub mod Scenes
 pub mod SceneCode
 pub mod TableTexts
+pub mod Placing

@@ -1,5 +1,6 @@
 -- Scenes in code: what they stand for, and what their rows and copies are.
 use Rattle.std.specs.Prelude.{ℕ, ◌≤◌, List, map}
+use Rattle.std.specs.Borrow.{Bor}
 use Rattle.std.specs.List.{All}
 use Rattle.fc_values.specs.declared.exports.Export.{Export}
 use Rattle.fc_values.specs.Types.{Input}
@@ -15,6 +16,9 @@ use Rattle.net_json.specs.Scenes.{SceneValue}
 
 abbrev pub row_of : Unfolding → ℕ × Export → Row
 row_of U r = (r.0, tree_of U r.1)
+
+abbrev pub borrowed_row : Unfolding → ℕ × Bor Export → Row
+borrowed_row U r = (r.0, tree_of U r.1.now)
 
 -- what a scene stands for
 abbrev pub value_of_scene : Unfolding → Scene → SceneValue

@@ -16,8 +16,10 @@ mod rising;
 mod rows;
 mod scenes;
 mod tables;
+mod texts;
 mod types;
 mod values;
 
 pub use scenes::read_scene;
+pub use texts::write_table;
 pub use types::{JsonFault, Path, Scene};
