@@ -8,6 +8,7 @@ mod Linked
 mod Threes
 mod Takes
 mod TookTrees
+mod PlainLists
 mod Living
 mod InputFacts
 mod Makes

@@ -41,7 +41,7 @@ module _ {A B : Type 0} where
   then_leaving (Took a xs) f g h = h a xs
   then_leaving (Misfit p) f g h = refl
 
-  renamed : (t : Taken A) (f : A → B) → leaving (take_then t (λ a xs. Took (f a) xs)) ≡ leaving t
+  pub renamed : (t : Taken A) (f : A → B) → leaving (take_then t (λ a xs. Took (f a) xs)) ≡ leaving t
   renamed (Took a xs) f = refl
   renamed (Misfit p) f = refl
 

@@ -7,6 +7,7 @@ mod devices;
 mod exports;
 mod inputs;
 mod kept;
+mod laws;
 mod links;
 mod misfits;
 mod networks;
@@ -20,6 +21,7 @@ mod texts;
 mod types;
 mod values;
 
+pub use laws::plain_lists_misfit_as_values;
 pub use scenes::read_scene;
 pub use texts::write_table;
 pub use types::{JsonFault, Path, Scene};

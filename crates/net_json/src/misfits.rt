@@ -22,7 +22,8 @@ pub(crate) fn misfit(program: &Unfolded, items: &[Item]) -> Option<u32>
 {
     let size = program.size();
     match take(program, items, 0) {
-        Ok(rest) => { if rest.is_empty() { None } else { Some(size) } }
+        Ok(rest) if rest.is_empty() => None,
+        Ok(_) => Some(size),
         Err(place) => Some(place),
     }
 }

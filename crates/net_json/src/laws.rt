@@ -1,0 +1,13 @@
+//! Laws of the definitions.
+
+ghost use Rattle.std.specs.Prelude.{◌≡◌, List, map};
+ghost use Rattle.fc_nodes.specs.Program.{Unfolding};
+ghost use Rattle.fc_values.specs.Values.{LocalValue};
+ghost use Rattle.value_trees.specs.KeptReads.{misfit_of};
+ghost use Rattle.net_json.specs.KeptItems.{plain_item};
+ghost use Rattle.net_json.specs.Leavings.{misfit_among};
+
+/// A kept list of format 1 has the fault that `from_kept` names.
+pub fn plain_lists_misfit_as_values()
+    ensures { (U : Unfolding) (vs : List LocalValue) → misfit_among U (map plain_item vs) ≡ misfit_of U vs }
+{}
