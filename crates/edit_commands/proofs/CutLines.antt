@@ -1,5 +1,5 @@
 -- A text that is cut after its first line.
-use Rattle.std.proofs.Common.{ℕ, ◌≡◌, ◌<◌, Bool, false, ◌==◌, List, ◌∷◌, length, take, drop, sym, ap, ◌∙◌, arith, length-drop}
+use Rattle.std.proofs.Common.{ℕ, ◌≡◌, ◌+◌, ◌≤◌, ◌<◌, Bool, false, ◌==◌, List, ◌∷◌, length, take, drop, sym, ap, ◌∙◌, arith, length-drop}
 use Rattle.std.proofs.lemmas.Bool.Decides.{nat_tests}
 use Rattle.edit_commands.specs.Lines.{lines_of, line_size, line_text}
 use Rattle.edit_commands.proofs.FirstLine.{lines-first}
@@ -22,3 +22,15 @@ cut_at rest front back line n t is more size some f b l =
       is = l;
       less = omega (arith, ap length b, length-drop n rest);
     }
+
+-- so many lines were counted before the rest
+pub record AreCounted (text : List ℕ) (count : ℕ) (rest : List ℕ) : Type 0 where
+  pub counted : length (lines_of text) ≡ count + length (lines_of rest)
+  pub short : count + length rest ≤ length text
+
+pub none_counted : (text : List ℕ) → AreCounted text 0 text
+none_counted text = record { counted = omega arith; short = omega arith }
+
+pub one_counted : (text rest front back line : List ℕ) (count : ℕ) → AreCounted text count rest → IsCut rest front back line → AreCounted text (count + 1) back
+one_counted text rest front back line count r c =
+    record { counted = r.counted ∙ ap (λ ls. count + length ls) c.first ∙ omega arith; short = omega (arith, r.short, c.less) }

@@ -8,7 +8,8 @@ use Rattle.edit_commands.specs.declared.types.Fault.{Fault}
 use Rattle.edit_commands.specs.declared.types.LineFault.{LineFault}
 use Rattle.edit_commands.specs.declared.types.LineFault.TheVariants as line_fault
 use Rattle.edit_commands.specs.EditLines.{EditLine, edit_line}
-use Rattle.edit_commands.specs.Judging.{Refused, unless, WhereAccepted, edit_fault, DoesEdit, words_judged}
+use Rattle.edit_commands.specs.LineByLine.{Refused, unless, WhereAccepted}
+use Rattle.edit_commands.specs.Judging.{edit_fault, DoesEdit, words_judged}
 use Rattle.edit_commands.specs.Logs.{OfEdit, text_judged, DoesEntry}
 use Rattle.edit_commands.specs.Code.{HasFault}
 
@@ -21,7 +22,7 @@ entry_done U n next e None h = absurd h
 entry_done U n next e (Some l) h = by_case (edit_fault U n none_flies l) h
   where
     by_case : (f : Option Fault) → WhereAccepted (DoesEdit U n next e) (unless f l) → WhereAccepted (DoesEntry U n next (EditEntry e)) (unless f (OfEdit l))
-    by_case None k = record { says = k.says; fits = k.fits; after = k.after }
+    by_case None k = record { says = k.says; fits = k.fits; after_is = k.after_is }
     by_case (Some f) k = absurd k
 
 entry_refused : (U : Unfolding) (n : Network) (o : Option EditLine) (f : LineFault) → HasFault (words_judged U n none_flies o) f → HasFault (text_judged U n (option_map OfEdit o)) f

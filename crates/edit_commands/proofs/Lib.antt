@@ -14,5 +14,9 @@ pub mod WideEdits
 pub mod ReadEdits
 pub mod EditEntries
 pub mod CutLines
+pub mod ReadLines
 pub mod ReadLogs
 pub mod ValueTexts
+pub mod ScriptEdits
+pub mod ScriptWords
+pub mod ReadScripts

@@ -8,11 +8,11 @@ use Rattle.topology.specs.Networks.{Network}
 use Rattle.firing_core.specs.Entries.{EditValue}
 use Rattle.firing_core.specs.Cores.{EditFits}
 use Rattle.edit_commands.specs.declared.edits.EditLine.{EditLine as Line}
-use Rattle.edit_commands.specs.declared.types.Fault.TheVariants as fault
 use Rattle.edit_commands.specs.declared.types.LineFault.{LineFault}
 use Rattle.edit_commands.specs.declared.types.LineFault.TheVariants as line_fault
-use Rattle.edit_commands.specs.EditLines.{EditLine, edit_line}
-use Rattle.edit_commands.specs.Judging.{Accepted, Refused, unless, WhereAccepted, edit_fault, after_edit, IsEdit, DoesEdit, words_judged}
+use Rattle.edit_commands.specs.EditLines.{EditLine}
+use Rattle.edit_commands.specs.LineByLine.{Accepted, unless, WhereAccepted}
+use Rattle.edit_commands.specs.Judging.{edit_fault, after_edit, IsEdit, DoesEdit, words_judged}
 use Rattle.edit_commands.specs.Narrow.{narrow_line}
 use Rattle.edit_commands.specs.Code.{line_of, IsFaultOf, HasFault}
 use Rattle.edit_commands.proofs.WideEdits.{program_narrow, fault_narrow, allowed_same}
@@ -27,22 +27,12 @@ pub record IsRead (o : Option EditLine) (read : EditLine) : Type 0 where
 pub same_inputs : (d : Declared) (inputs : List Input) (D : Declarations) (n : Network) → declarations_of d ≡ D → n.declared ≡ D → inputs ≡ map input_of d.inputs.items → inputs ≡ n.declared.inputs
 same_inputs d inputs D n e f g = g ∙ ap (λ (E : Declarations). E.inputs) e ∙ sym (ap (λ (E : Declarations). E.inputs) f)
 
-pub is_read : (is js : List Input) (words : List (List ℕ)) (o : Option Line) (line : Line) → is ≡ js → option_map line_of o ≡ option_map narrow_line (edit_line is words) → o ≡ Some line → IsRead (edit_line js words) (line_of line)
-is_read is js words o line e f g =
-    by_case (edit_line js words) refl (ap (option_map line_of) (sym g) ∙ f ∙ ap (λ ks. option_map narrow_line (edit_line ks words)) e)
+pub is_read : (f : List Input → Option EditLine) (is js : List Input) (o : Option Line) (line : Line) → is ≡ js → option_map line_of o ≡ option_map narrow_line (f is) → o ≡ Some line → IsRead (f js) (line_of line)
+is_read f is js o line e g h = by_case (f js) refl (ap (option_map line_of) (sym h) ∙ g ∙ ap (λ ks. option_map narrow_line (f ks)) e)
   where
-    by_case : (p : Option EditLine) → edit_line js words ≡ p → Some (line_of line) ≡ option_map narrow_line p → IsRead (edit_line js words) (line_of line)
-    by_case None k h = absurd cc
-    by_case (Some l) k h = record { line = l; says = k; narrow = cc }
-
-pub none_read : (U : _) (n : Network) (flies : ℕ → Bool) (is js : List Input) (words : List (List ℕ)) (o : Option Line) → is ≡ js → option_map line_of o ≡ option_map narrow_line (edit_line is words) → o ≡ None
-    → words_judged U n flies (edit_line js words) ≡ Refused fault.Form
-none_read U n flies is js words o e f g =
-    by_case (edit_line js words) (ap (option_map line_of) (sym g) ∙ f ∙ ap (λ ks. option_map narrow_line (edit_line ks words)) e)
-  where
-    by_case : (p : Option EditLine) → None ≡ option_map narrow_line p → words_judged U n flies p ≡ Refused fault.Form
-    by_case None h = refl
-    by_case (Some l) h = absurd cc
+    by_case : (p : Option EditLine) → f js ≡ p → Some (line_of line) ≡ option_map narrow_line p → IsRead (f js) (line_of line)
+    by_case None k i = absurd cc
+    by_case (Some l) k i = record { line = l; says = k; narrow = cc }
 
 module _ (p : Program) (h : IsProgram p) (n : Network) (flies : ℕ → Bool) where
   pub edit_refused : (o : Option EditLine) (read : EditLine) (f : LineFault) → IsRead o read → IsFaultOf (edit_fault (unfolding_of p) n flies read) f → HasFault (words_judged (unfolding_of p) n flies o) f
@@ -61,7 +51,7 @@ module _ (p : Program) (h : IsProgram p) (n : Network) (flies : ℕ → Bool) wh
       let done : DoesEdit (unfolding_of p) n next e r.line = record {
         says = subst (λ l. IsEdit (unfolding_of p) l e) same says;
         fits = fits;
-        after = after ∙ ap (after_edit n) same;
+        after_is = after ∙ ap (after_edit n) same;
       } in
       let judged : words_judged (unfolding_of p) n flies o ≡ Accepted r.line = ap (words_judged (unfolding_of p) n flies) r.says ∙ ap (λ q. unless q r.line) g in
       subst (WhereAccepted (DoesEdit (unfolding_of p) n next e)) (sym judged) done

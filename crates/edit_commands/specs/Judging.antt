@@ -16,6 +16,7 @@ use Rattle.firing_core.specs.Entries.{EditValue, LinkEdit, UnlinkEdit, SetEdit, 
 use Rattle.firing_core.specs.Cores.{EditFits}
 use Rattle.edit_commands.specs.declared.types.Fault.{Fault}
 use Rattle.edit_commands.specs.declared.types.Fault.TheVariants as fault
+use Rattle.edit_commands.specs.LineByLine.{Judged, Refused, unless, Does}
 use Rattle.edit_commands.specs.EditLines.{EditLine, LinkLine, UnlinkLine, SetLine, PokeLine, JoinLine, LeaveLine}
 
 -- a value and a list that are those of an export of a program
@@ -75,26 +76,11 @@ IsEdit U (PokeLine d v ks) e = PokesWith U d v ks e
 IsEdit U (JoinLine x) e = e ≡ JoinEdit x
 IsEdit U (LeaveLine d) e = e ≡ LeaveEdit d
 
--- what is accepted, or its fault
-pub data Judged (A : Type 0) : Type 0 where
-  Accepted : A → Judged A
-  Refused : Fault → Judged A
-
-abbrev pub unless : {A : Type 0} → Option Fault → A → Judged A
-unless None x = Accepted x
-unless (Some f) x = Refused f
-
-abbrev pub WhereAccepted : {A : Type 0} → (A → Type 0) → Judged A → Type 0
-WhereAccepted P (Accepted x) = P x
-WhereAccepted P (Refused f) = ⊥
-
 -- the edit that words say, judged
-abbrev pub words_judged : Unfolding → Network → (ℕ → Bool) → Option EditLine → Judged EditLine
+abbrev pub words_judged : Unfolding → Network → (ℕ → Bool) → Option EditLine → Judged Fault EditLine
 words_judged U n flies None = Refused fault.Form
 words_judged U n flies (Some l) = unless (edit_fault U n flies l) l
 
 -- an edit that a line says, with the network after it
-pub record DoesEdit (U : Unfolding) (n : Network) (next : Network) (e : EditValue) (l : EditLine) : Type 0 where
-  pub says : IsEdit U l e
-  pub fits : EditFits U e
-  pub after : next ≡ after_edit n l
+abbrev pub DoesEdit : Unfolding → Network → Network → EditValue → EditLine → Type 0
+DoesEdit U n after e l = Does after_edit (IsEdit U) (EditFits U) n after e l

@@ -6,10 +6,12 @@ mod judging;
 mod laws;
 mod lines;
 mod logs;
+mod scripts;
 mod types;
 mod values;
 mod words;
 
 pub use laws::values_are_read;
 pub use logs::read_log;
+pub use scripts::read_script;
 pub use types::{Command, Fault, Line, ScriptFault};

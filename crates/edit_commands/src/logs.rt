@@ -7,7 +7,8 @@ ghost use Rattle.firing_core.specs.Replays.{EntryFits, LogFits};
 ghost use Rattle.edit_commands.specs.Logs.{line_judged, text_judged, OfEdit, DoesEntry, IsLog, RefusesLog, numbered, entry_in};
 ghost use Rattle.edit_commands.specs.Lines.{words_of};
 ghost use Rattle.edit_commands.specs.Words.{number_of};
-ghost use Rattle.edit_commands.specs.Judging.{WhereAccepted, DoesEdit, words_judged};
+ghost use Rattle.edit_commands.specs.LineByLine.{WhereAccepted};
+ghost use Rattle.edit_commands.specs.Judging.{DoesEdit, words_judged};
 ghost use Rattle.edit_commands.specs.EditLines.{edit_line};
 ghost use Rattle.edit_commands.specs.Code.{HasFault, HasFaultAt, flies_in, texts};
 

@@ -95,6 +95,17 @@ impl From<Memory> for ScriptFault {
     }
 }
 
+impl From<AllocError> for ScriptFault {
+    ghost use Rattle.std.specs.Prelude.{◌≡◌};
+    ghost use Rattle.edit_commands.specs.declared.types.ScriptFault.TheVariants as script;
+
+    ghost from_gives = { λ _ e. e ≡ script.Memory };
+
+    fn from(_: AllocError) -> Self {
+        ScriptFault::Memory
+    }
+}
+
 impl<T: Drop> From<AllocFailed<T>> for ScriptFault {
     ghost use Rattle.std.specs.Prelude.{◌≡◌};
     ghost use Rattle.edit_commands.specs.declared.types.ScriptFault.TheVariants as script;

@@ -2,7 +2,7 @@ use Rattle.std.proofs.Common.{map, ap}
 use Rattle.fc_nodes.specs.Program.{unfolding_of}
 use Rattle.edit_commands.specs.Logs.{numbered}
 use Rattle.edit_commands.proofs.CutLines.{cut_at}
-use Rattle.edit_commands.proofs.ReadLogs.{read_none, skipped, read, refused, fits_plain, numbered_push}
+use Rattle.edit_commands.proofs.ReadLogs.{read_none, skipped, read, refused, all_read, fits_plain, numbered_push}
 use Rattle.edit_commands.proofs.logs.read_log.Goals as goal
 
 pub lines-init : goal.lines-init
@@ -26,3 +26,6 @@ returns-in-Err-clause-refused c =
 
 pub returns-clause-fits : goal.returns-clause-fits
 returns-clause-fits c = fits_plain (unfolding_of c.args.program.now) c.lines.entries.items c.lines.invariant.fits
+
+pub returns-clause-log : goal.returns-clause-log
+returns-clause-log c = all_read (unfolding_of c.args.program.now) c.args.net.now c.args.text.now _ _ _ _ _ c.lines.invariant c.is_empty.ensures c.lines-test.false
