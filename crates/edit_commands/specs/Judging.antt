@@ -1,0 +1,86 @@
+-- Edits against the network that the lines before leave: the first fault, and the network after.
+use Rattle.std.specs.Prelude.{ℕ, Bool, ◌≡◌, not, ◌&&◌, is_none, nat_le, if◌then◌else◌, List, [], ◌∷◌, length, Option, Some, None, option_map}
+use Rattle.fc_values.specs.Values.{LocalValue}
+use Rattle.fc_values.specs.BuiltinTypes.{inner}
+use Rattle.fc_values.specs.Exports.{FlatExport}
+use Rattle.fc_nodes.specs.Terms.{type_of}
+use Rattle.fc_nodes.specs.Program.{Unfolding}
+use Rattle.fc_nodes.specs.Flat.{IsExport, tree_export}
+use Rattle.value_trees.specs.KeptLists.{kept_values}
+use Rattle.value_trees.specs.KeptReads.{has_type, misfit_of}
+use Rattle.topology.specs.declared.types.NetFault.{NetFault}
+use Rattle.topology.specs.declared.types.NetFault.TheVariants as net
+use Rattle.topology.specs.Networks.{Network, lives}
+use Rattle.topology.specs.Changes.{first_fault, link_fault, linked, unlink_fault, unlinked, set_fault, with_input, join_fault, joined, left}
+use Rattle.firing_core.specs.Entries.{EditValue, LinkEdit, UnlinkEdit, SetEdit, PokeEdit, JoinEdit, LeaveEdit}
+use Rattle.firing_core.specs.Cores.{EditFits}
+use Rattle.edit_commands.specs.declared.types.Fault.{Fault}
+use Rattle.edit_commands.specs.declared.types.Fault.TheVariants as fault
+use Rattle.edit_commands.specs.LineByLine.{Judged, Refused, unless, Does}
+use Rattle.edit_commands.specs.EditLines.{EditLine, LinkLine, UnlinkLine, SetLine, PokeLine, JoinLine, LeaveLine}
+
+-- a value and a list that are those of an export of a program
+abbrev pub fits_kept : Unfolding → LocalValue → List LocalValue → Bool
+fits_kept U v ks = has_type U.declared.ceiling (inner (type_of U.main)) v && is_none (misfit_of U ks)
+
+-- why a device can't be poked, and why one can't leave where some devices are known to fly
+abbrev pub poke_fault : Unfolding → Network → ℕ → LocalValue → List LocalValue → Option Fault
+poke_fault U n d v ks = if lives n d then (if fits_kept U v ks then None else Some fault.Kept) else Some (fault.Net net.NoDevice)
+
+abbrev pub leave_fault : Network → (ℕ → Bool) → ℕ → Option NetFault
+leave_fault n flies d = first_fault (
+    (not (lives n d), net.NoDevice)
+    ∷ (flies d, net.InFlight)
+    ∷ (nat_le (length n.devices) 1, net.Last)
+    ∷ [])
+
+-- the first fault of an edit
+abbrev pub edit_fault : Unfolding → Network → (ℕ → Bool) → EditLine → Option Fault
+edit_fault U n flies (LinkLine a b w) = option_map fault.Net (link_fault n a b w)
+edit_fault U n flies (UnlinkLine a b) = option_map fault.Net (unlink_fault n a b)
+edit_fault U n flies (SetLine d i v) = option_map fault.Net (set_fault n d i v)
+edit_fault U n flies (PokeLine d v ks) = poke_fault U n d v ks
+edit_fault U n flies (JoinLine x) = option_map fault.Net (join_fault n x)
+edit_fault U n flies (LeaveLine d) = option_map fault.Net (leave_fault n flies d)
+
+-- the network after an edit
+abbrev pub after_edit : Network → EditLine → Network
+after_edit n (LinkLine a b w) = linked n a b w
+after_edit n (UnlinkLine a b) = unlinked n a b
+after_edit n (SetLine d i v) = with_input n d i v
+after_edit n (PokeLine d v ks) = n
+after_edit n (JoinLine x) = joined n x
+after_edit n (LeaveLine d) = left n d
+
+-- an export of a program with this value and these kept values
+pub record Keeps (U : Unfolding) (v : LocalValue) (ks : List LocalValue) (x : FlatExport) : Type 0 where
+  pub export : IsExport U x
+  pub value : (tree_export U x).value ≡ v
+  pub list : kept_values (tree_export U x) ≡ ks
+
+-- a poke of a device with such an export
+abbrev pub PokesWith : Unfolding → ℕ → LocalValue → List LocalValue → EditValue → Type 0
+PokesWith U d v ks (LinkEdit a b w) = ⊥
+PokesWith U d v ks (UnlinkEdit a b) = ⊥
+PokesWith U d v ks (SetEdit e i w) = ⊥
+PokesWith U d v ks (PokeEdit e x) = (e ≡ d) × Keeps U v ks x
+PokesWith U d v ks (JoinEdit x) = ⊥
+PokesWith U d v ks (LeaveEdit e) = ⊥
+
+-- the edit that a line says
+abbrev pub IsEdit : Unfolding → EditLine → EditValue → Type 0
+IsEdit U (LinkLine a b w) e = e ≡ LinkEdit a b w
+IsEdit U (UnlinkLine a b) e = e ≡ UnlinkEdit a b
+IsEdit U (SetLine d i v) e = e ≡ SetEdit d i v
+IsEdit U (PokeLine d v ks) e = PokesWith U d v ks e
+IsEdit U (JoinLine x) e = e ≡ JoinEdit x
+IsEdit U (LeaveLine d) e = e ≡ LeaveEdit d
+
+-- the edit that words say, judged
+abbrev pub words_judged : Unfolding → Network → (ℕ → Bool) → Option EditLine → Judged Fault EditLine
+words_judged U n flies None = Refused fault.Form
+words_judged U n flies (Some l) = unless (edit_fault U n flies l) l
+
+-- an edit that a line says, with the network after it
+abbrev pub DoesEdit : Unfolding → Network → Network → EditValue → EditLine → Type 0
+DoesEdit U n after e l = Does after_edit (IsEdit U) (EditFits U) n after e l

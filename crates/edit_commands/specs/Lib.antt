@@ -1,0 +1,11 @@
+pub mod Lines
+pub mod Words
+pub mod Values
+pub mod EditLines
+pub mod LineByLine
+pub mod Judging
+pub mod Narrow
+pub mod Code
+pub mod Logs
+pub mod Scripts
+pub mod ScriptCode

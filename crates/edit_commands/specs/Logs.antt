@@ -1,0 +1,95 @@
+-- Logs: each line is judged against the network that the lines before leave.
+use Rattle.std.specs.Prelude.{ℕ, false, ◌≡◌, ◌==◌, if◌then◌else◌, List, [], ◌∷◌, Option, Some, None, option_map}
+use Rattle.fc_values.specs.Types.{Input}
+use Rattle.fc_nodes.specs.Program.{Unfolding}
+use Rattle.topology.specs.Networks.{Network}
+use Rattle.firing_core.specs.declared.entries.Entry.{Entry}
+use Rattle.firing_core.specs.Entries.{EntryValue, BeginEntry, EndEntry, IdleEntry, EditEntry, entry_of}
+use Rattle.firing_core.specs.Replays.{EntryFits}
+use Rattle.edit_commands.specs.declared.types.Fault.{Fault}
+use Rattle.edit_commands.specs.declared.types.Fault.TheVariants as fault
+use Rattle.edit_commands.specs.declared.types.ScriptFault.{ScriptFault}
+use Rattle.edit_commands.specs.declared.types.ScriptFault.TheVariants as script
+use Rattle.edit_commands.specs.Lines.{lines_of, words_of}
+use Rattle.edit_commands.specs.Words.{number_of}
+use Rattle.edit_commands.specs.EditLines.{EditLine, edit_line}
+use Rattle.edit_commands.specs.LineByLine.{Judged, Refused, unless, Lines, StopsAt, lines_from, Does, SaidBy}
+use Rattle.edit_commands.specs.Judging.{edit_fault, after_edit, IsEdit}
+
+-- a line of a log
+pub data LogLine : Type 0 where
+  BeginLine : ℕ → LogLine
+  EndLine : ℕ → LogLine
+  IdleLine : LogLine
+  OfEdit : EditLine → LogLine
+
+abbrev pub idle_line : List ℕ → Option LogLine
+idle_line [] = Some IdleLine
+idle_line (b ∷ bs) = None
+
+-- what the text of a line says: `B` or `E` and a number, `I`, or an edit
+abbrev pub log_line : List Input → List ℕ → Option LogLine
+log_line is [] = None
+log_line is (b ∷ bs) =
+    if b == 66 then option_map BeginLine (number_of bs) else
+    if b == 69 then option_map EndLine (number_of bs) else
+    if b == 73 then idle_line bs else option_map OfEdit (edit_line is (words_of (b ∷ bs)))
+
+-- The first fault of a line. That no device that leaves flies is found when the log is replayed.
+abbrev pub line_fault : Unfolding → Network → LogLine → Option Fault
+line_fault U n (BeginLine d) = None
+line_fault U n (EndLine d) = None
+line_fault U n IdleLine = None
+line_fault U n (OfEdit l) = edit_fault U n (λ d. false) l
+
+abbrev pub after_line : Network → LogLine → Network
+after_line n (BeginLine d) = n
+after_line n (EndLine d) = n
+after_line n IdleLine = n
+after_line n (OfEdit l) = after_edit n l
+
+-- the text of a line, judged
+abbrev pub text_judged : Unfolding → Network → Option LogLine → Judged Fault LogLine
+text_judged U n None = Refused fault.Form
+text_judged U n (Some l) = unless (line_fault U n l) l
+
+abbrev pub line_judged : Unfolding → Network → List ℕ → Judged Fault LogLine
+line_judged U n text = text_judged U n (log_line n.declared.inputs text)
+
+-- the lines of a log
+unfoldable pub log_of : Unfolding → Network → List ℕ → Lines Fault LogLine
+log_of U n text = lines_from (line_judged U) after_line n 1 (lines_of text)
+
+-- the entry that a line says
+abbrev pub IsEntry : Unfolding → LogLine → EntryValue → Type 0
+IsEntry U (BeginLine d) e = e ≡ BeginEntry d
+IsEntry U (EndLine d) e = e ≡ EndEntry d
+IsEntry U IdleLine e = e ≡ IdleEntry
+IsEntry U (OfEdit l) (BeginEntry d) = ⊥
+IsEntry U (OfEdit l) (EndEntry d) = ⊥
+IsEntry U (OfEdit l) IdleEntry = ⊥
+IsEntry U (OfEdit l) (EditEntry e) = IsEdit U l e
+
+-- an entry that a line says, with the network after it
+abbrev pub DoesEntry : Unfolding → Network → Network → EntryValue → LogLine → Type 0
+DoesEntry U n after e l = Does after_line (IsEntry U) (EntryFits U) n after e l
+
+-- the entries of a log in which no line has a fault, with the numbers of their lines
+abbrev pub IsLog : Unfolding → Network → List ℕ → List (ℕ × EntryValue) → Type 0
+IsLog U n text es = SaidBy (IsEntry U) es (log_of U n text)
+
+-- an entry of the code, with the number of its line
+abbrev pub numbered : ℕ × Entry → ℕ × EntryValue
+numbered e = (e.0, entry_of e.1)
+
+-- the same without its number
+abbrev pub entry_in : ℕ × Entry → Entry
+entry_in e = e.1
+
+-- why a log is refused: its first line that has a fault. Want of memory is free
+abbrev pub RefusesLog : Unfolding → Network → List ℕ → ScriptFault → Type 0
+RefusesLog U n text (script.At k f) = log_of U n text ≡ StopsAt k f
+RefusesLog U n text (script.Lines count) = ⊥
+RefusesLog U n text (script.Scrambles count) = ⊥
+RefusesLog U n text (script.Firings count) = ⊥
+RefusesLog U n text script.Memory = Unit {0}

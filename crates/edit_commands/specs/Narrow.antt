@@ -1,0 +1,80 @@
+-- Values that are too wide for every type of a program: they are not kept, since nothing asks what is in them.
+use Rattle.std.specs.Prelude.{ℕ, ◌+◌, ◌≤◌, nat_le, if◌then◌else◌, List, map, reverse, Option, option_map, slice_range, ◌≡◌, length}
+use Rattle.fc_values.specs.Values.{LocalValue, IntValue, BoolValue, PairValue, local_of}
+use Rattle.topology.specs.Networks.{NetDevice}
+use Rattle.edit_commands.specs.declared.values.Part.{Part}
+use Rattle.edit_commands.specs.declared.values.Part.TheVariants as part
+use Rattle.edit_commands.specs.declared.values.Since.{Since as SinceCode}
+use Rattle.edit_commands.specs.declared.values.Since.TheVariants as since
+use Rattle.edit_commands.specs.Values.{Since, Bytes, Closed, Reading, reading}
+use Rattle.edit_commands.specs.EditLines.{EditLine, LinkLine, UnlinkLine, SetLine, PokeLine, JoinLine, LeaveLine, device_with}
+
+-- the whole numbers and truth values in a value
+abbrev pub leaves_in : LocalValue → ℕ
+leaves_in (IntValue n) = 1
+leaves_in (BoolValue b) = 1
+leaves_in (PairValue v w) = leaves_in v + leaves_in w
+
+-- a pair that fits no type of a program, since its integers are above every ceiling
+abbrev pub stand_in : LocalValue
+stand_in = PairValue (IntValue 4294967295) (IntValue 4294967295)
+
+-- No type has more than eight leaves. A wider value fits none, and a pair stands for it that fits none either.
+abbrev pub narrow : LocalValue → LocalValue
+narrow v = if nat_le (leaves_in v) 8 then v else stand_in
+
+abbrev pub narrow_device : NetDevice → NetDevice
+narrow_device x = device_with x.id (map narrow x.inputs)
+
+abbrev pub narrow_line : EditLine → EditLine
+narrow_line (LinkLine a b w) = LinkLine a b w
+narrow_line (UnlinkLine a b) = UnlinkLine a b
+narrow_line (SetLine d i v) = SetLine d i (narrow v)
+narrow_line (PokeLine d v ks) = PokeLine d (narrow v) (map narrow ks)
+narrow_line (JoinLine x) = JoinLine (narrow_device x)
+narrow_line (LeaveLine d) = LeaveLine d
+
+-- a value with its leaves, or one with more than eight
+pub data PartValue : Type 0 where
+  SmallPart : LocalValue → ℕ → PartValue
+  WidePart : PartValue
+
+abbrev pub atom_part : LocalValue → PartValue
+atom_part v = SmallPart v 1
+
+abbrev pub pair_part : PartValue → PartValue → PartValue
+pair_part WidePart q = WidePart
+pair_part (SmallPart v m) WidePart = WidePart
+pair_part (SmallPart v m) (SmallPart w n) = if nat_le (m + n) 8 then SmallPart (PairValue v w) (m + n) else WidePart
+
+-- what is shown of a part
+abbrev pub shown_part : PartValue → LocalValue
+shown_part (SmallPart v n) = v
+shown_part WidePart = stand_in
+
+-- ---- the code's parts
+
+abbrev pub part_of : Part → PartValue
+part_of (part.Small v n) = SmallPart (local_of v) n
+part_of part.Wide = WidePart
+
+-- the open pairs, of which the code has the innermost last
+unfoldable pub open_of : List (Option Part) → List (Option PartValue)
+open_of ps = reverse (map (option_map part_of) ps)
+
+-- what stands since the last mark, in a text up to an index
+abbrev pub since_of : List ℕ → ℕ → SinceCode → Since PartValue
+since_of text i (since.Bytes start) = Bytes (slice_range text start i)
+since_of text i (since.Closed p) = Closed (part_of p)
+
+-- it begins at the index or before
+abbrev pub StandsBefore : ℕ → SinceCode → Type 0
+StandsBefore i (since.Bytes start) = start ≤ i
+StandsBefore i (since.Closed p) = Unit {0}
+
+abbrev pub reading_of : List ℕ → ℕ → List (Option Part) → SinceCode → Reading PartValue
+reading_of text i ps s = reading (open_of ps) (since_of text i s)
+
+-- what is read of a text before an index
+abbrev pub ReadsTo : ℕ → List (Option Part) → Option SinceCode → (List ℕ → Option (Reading PartValue)) → Type 0
+ReadsTo i ps o next = (text : List ℕ) → i ≤ length text → option_map (reading_of text i ps) o ≡ next text

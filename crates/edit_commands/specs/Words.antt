@@ -1,0 +1,45 @@
+-- Words of a line that are numbers, and those that are names.
+use Rattle.std.specs.Prelude.{ℕ, Bool, true, false, nat_le, ◌&&◌, if◌then◌else◌, List, [], ◌∷◌, length, Option, Some, None, option_and_then}
+use Rattle.std.specs.List.{list_all}
+use Rattle.std.specs.Char.{is_ascii_digit}
+use Rattle.std.specs.Str.Parse.{digits_value}
+use Rattle.fc_lexer.specs.Bytes.{is_piece, is_letter, is_name_byte}
+use Rattle.fc_lexer.specs.Kinds.{TokenKind, TokenView, NumberOf, WordOf, NameOf, MarkOf, token_kind}
+
+-- a number is a word of 1 to 7 decimal digits
+abbrev pub is_number : List ℕ → Bool
+is_number word = nat_le 1 (length word) && nat_le (length word) 7 && list_all is_ascii_digit word
+
+-- the number that a word writes, if it is one; leading zeros are allowed
+abbrev pub number_of : List ℕ → Option ℕ
+number_of word = if is_number word then Some (digits_value 10 word) else None
+
+-- the number of a device that may join
+abbrev pub if_device : ℕ → Option ℕ
+if_device n = if nat_le n 65535 then Some n else None
+
+abbrev pub device_of : List ℕ → Option ℕ
+device_of word = option_and_then if_device (number_of word)
+
+-- whether a token of a program is a name
+abbrev pub names : Option TokenKind → Bool
+names None = false
+names (Some (NumberOf n)) = false
+names (Some (WordOf w)) = false
+names (Some (NameOf n)) = true
+names (Some (MarkOf m)) = false
+
+-- whether a word is a name of the tokens of a program
+abbrev pub is_name : List ℕ → Bool
+is_name word = is_piece word && names (token_kind word)
+
+-- a letter, and then letters, digits and `_`
+abbrev pub is_spelled : List ℕ → Bool
+is_spelled [] = false
+is_spelled (b ∷ bs) = is_letter b && list_all is_name_byte bs
+
+-- one token that is a name
+abbrev pub is_one_name : List TokenView → Bool
+is_one_name [] = false
+is_one_name (t ∷ []) = names (Some t.kind)
+is_one_name (t ∷ u ∷ ts) = false

@@ -1,0 +1,17 @@
+//! Scripts and logs: the lines of a text, each judged against the network that the lines before leave.
+#![tactic(auto)]
+
+mod edits;
+mod judging;
+mod laws;
+mod lines;
+mod logs;
+mod scripts;
+mod types;
+mod values;
+mod words;
+
+pub use laws::values_are_read;
+pub use logs::read_log;
+pub use scripts::read_script;
+pub use types::{Command, Fault, Line, ScriptFault};

@@ -1,0 +1,149 @@
+//! Logs.
+
+ghost use Rattle.std.specs.Prelude.{◌≡◌, ◌<◌, ◌^◌, length, map, IfOk, IfErr, Some, None, option_map};
+ghost use Rattle.fc_nodes.specs.Program.{unfolding_of};
+ghost use Rattle.firing_core.specs.Entries.{entry_of, entries_of, edit_of};
+ghost use Rattle.firing_core.specs.Replays.{EntryFits, LogFits};
+ghost use Rattle.edit_commands.specs.Logs.{line_judged, text_judged, OfEdit, DoesEntry, IsLog, RefusesLog, numbered, entry_in};
+ghost use Rattle.edit_commands.specs.Lines.{words_of};
+ghost use Rattle.edit_commands.specs.Words.{number_of};
+ghost use Rattle.edit_commands.specs.LineByLine.{WhereAccepted};
+ghost use Rattle.edit_commands.specs.Judging.{DoesEdit, words_judged};
+ghost use Rattle.edit_commands.specs.EditLines.{edit_line};
+ghost use Rattle.edit_commands.specs.Code.{HasFault, HasFaultAt, flies_in, texts};
+
+use crate::edits::edit_line;
+use crate::judging::judge;
+use crate::lines::{first_line, line_text, words};
+use crate::types::{Fault, LineFault, ScriptFault};
+use crate::words::number;
+use fc_nodes::Unfolded;
+use firing_core::{Core, Edit, Entry};
+use std::alloc::Global;
+use topology::Network;
+
+/// The edit that words say, which is done to the network. Where a core is given, its devices in flight can't leave.
+pub(crate) fn read_edit(
+    alloc: Global,
+    program: &Unfolded,
+    net: &mut Network,
+    start: Option<&Core>,
+    words: &[&[u8]],
+) -> Result<Edit, LineFault>
+    requires { net.old.declared ≡ program.now.declared }
+    ensures ok { IfOk result (λ e. WhereAccepted (DoesEdit (unfolding_of program.now) net.old net.new (edit_of e)) (words_judged (unfolding_of program.now) net.old (flies_in start.entry) (edit_line net.old.declared.inputs (texts words.now)))) }
+    ensures refused { IfErr result (HasFault (words_judged (unfolding_of program.now) net.old (flies_in start.entry) (edit_line net.old.declared.inputs (texts words.now)))) }
+{
+    let inputs = &program.declared().inputs;
+    let Some(line) = edit_line(alloc, inputs, words)? else {
+        return Err(LineFault::Bad(Fault::Form));
+    };
+    match judge(alloc, program, net, start, line) {
+        Ok(edit) => Ok(edit),
+        Err(fault) => Err(fault),
+    }
+}
+
+/// The entry that the text of a line says. An edit is done to the network.
+fn read_entry(
+    alloc: Global,
+    program: &Unfolded,
+    net: &mut Network,
+    text: &[u8],
+) -> Result<Entry, LineFault>
+    requires { net.old.declared ≡ program.now.declared }
+    ensures ok { IfOk result (λ e. WhereAccepted (DoesEntry (unfolding_of program.now) net.old net.new (entry_of e)) (line_judged (unfolding_of program.now) net.old text.now)) }
+    ensures refused { IfErr result (HasFault (line_judged (unfolding_of program.now) net.old text.now)) }
+{
+    match text {
+        [b'B', digits @ ..] => Ok(Entry::Begin(device(digits)?)),
+        [b'E', digits @ ..] => Ok(Entry::End(device(digits)?)),
+        [b'I'] => Ok(Entry::Idle),
+        _ => read_edit_entry(alloc, program, net, text),
+    }
+}
+
+/// The number of a device that begins or ends.
+fn device(digits: &[u8]) -> Result<u32, LineFault>
+    ensures ok { IfOk result (λ d. number_of digits.now ≡ Some d) }
+    ensures refused { IfErr result (λ f. (number_of digits.now ≡ None) × (f ≡ LineFault.Bad Fault.Form)) }
+{
+    match number(digits) {
+        Some(device) => Ok(device),
+        None => Err(LineFault::Bad(Fault::Form)),
+    }
+}
+
+/// The edit that the text of a line says, as an entry.
+fn read_edit_entry(
+    alloc: Global,
+    program: &Unfolded,
+    net: &mut Network,
+    text: &[u8],
+) -> Result<Entry, LineFault>
+    requires { net.old.declared ≡ program.now.declared }
+    ensures ok { IfOk result (λ e. WhereAccepted (DoesEntry (unfolding_of program.now) net.old net.new (entry_of e)) (text_judged (unfolding_of program.now) net.old (option_map OfEdit (edit_line net.old.declared.inputs (words_of text.now))))) }
+    ensures refused { IfErr result (HasFault (text_judged (unfolding_of program.now) net.old (option_map OfEdit (edit_line net.old.declared.inputs (words_of text.now))))) }
+{
+    let words = words(alloc, text)?;
+    match read_edit(alloc, program, net, None, &words) {
+        Ok(edit) => Ok(Entry::Edit(edit)),
+        Err(fault) => Err(fault),
+    }
+}
+
+/// The entries of a log with the numbers of their lines from 1: each line is judged against the network that the lines
+/// before it leave. `At` is the first line that has a fault. `Lines`, `Scrambles` and `Firings` never come.
+pub fn read_log(
+    alloc: Global,
+    program: &Unfolded,
+    net: &Network,
+    text: &[u8],
+) -> Result<Vec<(u32, Entry)>, ScriptFault>
+    requires declared { net.now.declared ≡ program.now.declared }
+    requires short { length text.now < 2 ^ 32 }
+    ensures log { IfOk result (λ es. IsLog (unfolding_of program.now) net.now text.now (map numbered es.items)) }
+    ensures fits { IfOk result (λ es. LogFits (unfolding_of program.now) (entries_of (map entry_in es.items))) }
+    ensures refused { IfErr result (RefusesLog (unfolding_of program.now) net.now text.now) }
+{
+    let mut after = net.copy(alloc)?;
+    let mut entries = Vec::new(alloc);
+    let mut number = 0;
+    let mut rest = text;
+    'lines: while !rest.is_empty() {
+        let (front, back) = rest.split_at(first_line(rest));
+        let line = line_text(front);
+        number += 1;
+        if !line.is_empty() {
+            let entry = match read_numbered(alloc, program, &mut after, number, line) {
+                Ok(entry) => entry,
+                Err(fault) => return Err(fault),
+            };
+            entries.push((number, entry))?;
+        }
+        rest = back;
+    }
+    Ok(entries)
+}
+
+/// The entry that the text of the line of a number says. An edit is done to the network.
+fn read_numbered(
+    alloc: Global,
+    program: &Unfolded,
+    net: &mut Network,
+    number: u32,
+    text: &[u8],
+) -> Result<Entry, ScriptFault>
+    requires { net.old.declared ≡ program.now.declared }
+    ensures ok { IfOk result (λ e. WhereAccepted (DoesEntry (unfolding_of program.now) net.old net.new (entry_of e)) (line_judged (unfolding_of program.now) net.old text.now)) }
+    ensures refused { IfErr result (HasFaultAt number (line_judged (unfolding_of program.now) net.old text.now)) }
+{
+    match read_entry(alloc, program, net, text) {
+        Ok(entry) => Ok(entry),
+        Err(LineFault::Bad(fault)) => Err(ScriptFault::At {
+            line: number,
+            fault,
+        }),
+        Err(LineFault::Memory) => Err(ScriptFault::Memory),
+    }
+}

@@ -1,0 +1,118 @@
+//! The lines of scripts, and why a text is none.
+
+use fc_values::Memory;
+use firing_core::Edit;
+use std::alloc::{AllocError, AllocFailed};
+use topology::{JoinFault, NetFault};
+
+/// What a line of a script asks for: rounds; an edit; the rubbish of a number at every device; the values; or an edit among
+/// running firings, and then rounds.
+#[derive(Drop)]
+pub enum Command {
+    Run(u32),
+    Edit(Edit),
+    Scramble(u32),
+    Show,
+    Mix(u32, Edit),
+}
+
+/// A line of a script, with its number from 1.
+#[derive(Drop)]
+pub struct Line {
+    pub number: u32,
+    pub command: Command,
+}
+
+/// Why a line is refused: it isn't one of the lines of its text, the network refuses its edit, or its value or kept list
+/// is none of an export.
+#[derive(Clone, Copy, Debug, PartialEq, Eq)]
+pub enum Fault {
+    Form,
+    Net(NetFault),
+    Kept,
+}
+
+/// Why a text is refused: its first line that has a fault, by its number from 1; or how many lines, scrambles or firings it
+/// has, or has up to the line that passes the limit. Or there was no memory.
+#[derive(Clone, Copy, Debug, PartialEq, Eq)]
+pub enum ScriptFault {
+    At { line: u32, fault: Fault },
+    Lines(u32),
+    Scrambles(u32),
+    Firings(u64),
+    Memory,
+}
+
+/// Why a line is refused, or want of memory.
+#[derive(Clone, Copy, Debug, PartialEq, Eq)]
+pub(crate) enum LineFault {
+    Bad(Fault),
+    Memory,
+}
+
+impl From<NetFault> for LineFault {
+    ghost use Rattle.std.specs.Prelude.{◌≡◌};
+    ghost use Rattle.edit_commands.specs.declared.types.LineFault.TheVariants as line_fault;
+    ghost use Rattle.edit_commands.specs.declared.types.Fault.TheVariants as fault;
+
+    ghost from_gives = { λ f e. e ≡ line_fault.Bad (fault.Net f) };
+
+    fn from(fault: NetFault) -> Self {
+        LineFault::Bad(Fault::Net(fault))
+    }
+}
+
+impl From<Memory> for LineFault {
+    ghost use Rattle.std.specs.Prelude.{◌≡◌};
+    ghost use Rattle.edit_commands.specs.declared.types.LineFault.TheVariants as line_fault;
+
+    ghost from_gives = { λ _ e. e ≡ line_fault.Memory };
+
+    fn from(_: Memory) -> Self {
+        LineFault::Memory
+    }
+}
+
+impl From<AllocError> for LineFault {
+    ghost use Rattle.std.specs.Prelude.{◌≡◌};
+    ghost use Rattle.edit_commands.specs.declared.types.LineFault.TheVariants as line_fault;
+
+    ghost from_gives = { λ _ e. e ≡ line_fault.Memory };
+
+    fn from(_: AllocError) -> Self {
+        LineFault::Memory
+    }
+}
+
+impl From<Memory> for ScriptFault {
+    ghost use Rattle.std.specs.Prelude.{◌≡◌};
+    ghost use Rattle.edit_commands.specs.declared.types.ScriptFault.TheVariants as script;
+
+    ghost from_gives = { λ _ e. e ≡ script.Memory };
+
+    fn from(_: Memory) -> Self {
+        ScriptFault::Memory
+    }
+}
+
+impl From<AllocError> for ScriptFault {
+    ghost use Rattle.std.specs.Prelude.{◌≡◌};
+    ghost use Rattle.edit_commands.specs.declared.types.ScriptFault.TheVariants as script;
+
+    ghost from_gives = { λ _ e. e ≡ script.Memory };
+
+    fn from(_: AllocError) -> Self {
+        ScriptFault::Memory
+    }
+}
+
+impl<T: Drop> From<AllocFailed<T>> for ScriptFault {
+    ghost use Rattle.std.specs.Prelude.{◌≡◌};
+    ghost use Rattle.edit_commands.specs.declared.types.ScriptFault.TheVariants as script;
+
+    ghost from_gives = { λ _ e. e ≡ script.Memory };
+
+    fn from(_: AllocFailed<T>) -> Self {
+        ScriptFault::Memory
+    }
+}

@@ -1,0 +1,247 @@
+//! Values, read from their texts without recursion.
+
+ghost use Rattle.std.specs.Prelude.{ℕ, List, Option, ◌≡◌, ◌<◌, ◌≤◌, ◌+◌, ◌^◌, length, map, IfOk, OnOk, IfSome, MatchOption, [], ◌∷◌, option_map, slice_index, slice_range, take};
+ghost use Rattle.fc_values.specs.Values.{local_of};
+ghost use Rattle.edit_commands.specs.Values.{atom_of, value_of, value_with, opens, parts, closes, goes_on, step, part_since, reading, Closed};
+ghost use Rattle.edit_commands.specs.EditLines.{values_of};
+ghost use Rattle.edit_commands.specs.Narrow.{narrow, stand_in, PartValue, atom_part, pair_part, part_of as part_view, open_of, since_of, reading_of, StandsBefore, ReadsTo};
+ghost use Rattle.edit_commands.specs.Code.{texts};
+
+use crate::words::number;
+use fc_values::{Local, Memory};
+use std::alloc::Global;
+
+/// A value, with how many numbers and truth values it has, or one that has too many for every type.
+#[derive(Drop)]
+pub(crate) enum Part {
+    Small(Local, u8),
+    Wide,
+}
+
+/// What stands since the last mark: the bytes from an index on, or a pair that was closed.
+#[derive(Drop)]
+pub(crate) enum Since {
+    Bytes(usize),
+    Closed(Part),
+}
+
+/// The number or truth value that a text writes.
+fn atom(text: &[u8]) -> Option<Local>
+    ensures { option_map local_of result ≡ atom_of text.now }
+{
+    if text == b"true".as_slice() {
+        return Some(Local::Bool(true));
+    }
+    if text == b"false".as_slice() {
+        return Some(Local::Bool(false));
+    }
+    let number = number(text)?;
+    Some(Local::Int(number))
+}
+
+/// The part that a text writes that is no pair.
+fn atom_part(text: &[u8]) -> Option<Part>
+    ensures { option_map part_view result ≡ option_map atom_part (atom_of text.now) }
+{
+    let value = atom(text)?;
+    Some(Part::Small(value, 1))
+}
+
+/// The pair of two parts.
+fn pair(alloc: Global, first: Part, second: Part) -> Result<Part, Memory>
+    ensures { IfOk result (λ p. part_view p ≡ pair_part (part_view first) (part_view second)) }
+{
+    let Part::Small(a, m) = first else {
+        return Ok(Part::Wide);
+    };
+    let Part::Small(b, n) = second else {
+        return Ok(Part::Wide);
+    };
+    let leaves = u32::from(m) + u32::from(n);
+    if leaves > 8 {
+        return Ok(Part::Wide);
+    }
+    let value = Local::Pair(Box::new(alloc, a)?, Box::new(alloc, b)?);
+    Ok(Part::Small(value, leaves as u8))
+}
+
+/// The part that stands since the last mark before an index of a text.
+fn part_since(text: &[u8], at: usize, since: Since) -> Option<Part>
+    requires within { at ≤ length text.now }
+    requires before { StandsBefore at since }
+    ensures { option_map part_view result ≡ part_since atom_part (since_of text.now at since) }
+{
+    match since {
+        Since::Bytes(start) => atom_part(&text[start..at]),
+        Since::Closed(part) => Some(part),
+    }
+}
+
+/// Puts a bracket that is open behind others, with its first part where that is there.
+fn push_half(halves: &mut Vec<Option<Part>>, half: Option<Part>) -> Result<(), Memory>
+    ensures { OnOk result (open_of halves.new.items ≡ option_map part_view half ∷ open_of halves.old.items) }
+{
+    halves.push(half)?;
+    Ok(())
+}
+
+/// Takes the last bracket that is open.
+fn pop_half(halves: &mut Vec<Option<Part>>) -> Option<Option<Part>>
+    ensures { MatchOption result (open_of halves.old.items ≡ []) (λ half. open_of halves.old.items ≡ option_map part_view half ∷ open_of halves.new.items) }
+{
+    halves.pop()
+}
+
+/// A bracket opens at an index, where nothing stands since the last mark.
+fn opens(halves: &mut Vec<Option<Part>>, since: Since, at: usize) -> Result<Option<Since>, Memory>
+    requires room { at < 2 ^ 63 }
+    requires before { StandsBefore at since }
+    ensures reads { IfOk result (λ o. ReadsTo (at + 1) halves.new.items o (λ text. opens (open_of halves.old.items) (since_of text at since))) }
+    ensures before { IfOk result (λ o. IfSome o (StandsBefore (at + 1))) }
+{
+    let Since::Bytes(start) = since else {
+        return Ok(None);
+    };
+    if start < at {
+        return Ok(None);
+    }
+    push_half(halves, None)?;
+    Ok(Some(Since::Bytes(at + 1)))
+}
+
+/// A comma comes at an index, behind a first part.
+fn parts(
+    halves: &mut Vec<Option<Part>>,
+    part: Option<Part>,
+    at: usize,
+) -> Result<Option<Since>, Memory>
+    requires { at < 2 ^ 63 }
+    ensures reads { IfOk result (λ o. ReadsTo (at + 1) halves.new.items o (λ text. parts (open_of halves.old.items) (option_map part_view part))) }
+    ensures before { IfOk result (λ o. IfSome o (StandsBefore (at + 1))) }
+{
+    let Some(half) = pop_half(halves) else {
+        return Ok(None);
+    };
+    if half.is_some() {
+        return Ok(None);
+    }
+    let Some(part) = part else {
+        return Ok(None);
+    };
+    push_half(halves, Some(part))?;
+    Ok(Some(Since::Bytes(at + 1)))
+}
+
+/// A bracket closes behind a second part.
+fn closes(
+    alloc: Global,
+    halves: &mut Vec<Option<Part>>,
+    part: Option<Part>,
+) -> Result<Option<Part>, Memory>
+    ensures { IfOk result (λ o. option_map (λ p. reading (open_of halves.new.items) (Closed (part_view p))) o ≡ closes pair_part (open_of halves.old.items) (option_map part_view part)) }
+{
+    let Some(half) = pop_half(halves) else {
+        return Ok(None);
+    };
+    let Some(first) = half else {
+        return Ok(None);
+    };
+    let Some(second) = part else {
+        return Ok(None);
+    };
+    let both = pair(alloc, first, second)?;
+    Ok(Some(both))
+}
+
+/// Any other byte goes on with an atom.
+fn goes_on(since: Since, at: usize) -> Option<Since>
+    requires { StandsBefore at since }
+    ensures reads { (os : List (Option PartValue)) (text : List ℕ) → at < length text → option_map (λ s. reading os (since_of text (at + 1) s)) result ≡ goes_on os (since_of text at since) (slice_index text at) }
+    ensures before { IfSome result (StandsBefore (at + 1)) }
+{
+    let Since::Bytes(start) = since else {
+        return None;
+    };
+    Some(Since::Bytes(start))
+}
+
+/// The next byte of a text.
+fn step(
+    alloc: Global,
+    halves: &mut Vec<Option<Part>>,
+    since: Since,
+    text: &[u8],
+    at: usize,
+) -> Result<Option<Since>, Memory>
+    requires within { at < length text.now }
+    requires before { StandsBefore at since }
+    ensures reads { IfOk result (λ o. option_map (reading_of text.now (at + 1) halves.new.items) o ≡ step atom_part pair_part (reading_of text.now at halves.old.items since) (slice_index text.now at)) }
+    ensures before { IfOk result (λ o. IfSome o (StandsBefore (at + 1))) }
+{
+    let byte = text[at];
+    if byte == b'(' {
+        return opens(halves, since, at);
+    }
+    if byte == b',' {
+        return parts(halves, part_since(text, at, since), at);
+    }
+    if byte == b')' {
+        let closed = closes(alloc, halves, part_since(text, at, since))?;
+        return Ok(closed.map(Since::Closed));
+    }
+    Ok(goes_on(since, at))
+}
+
+/// The part that a text writes, if it writes a value.
+#[tactic(auto, unfolding(crate::specs::Values::value_with, crate::specs::Narrow::open_of))]
+fn part_of(alloc: Global, text: &[u8]) -> Result<Option<Part>, Memory>
+    ensures { IfOk result (λ p. option_map part_view p ≡ value_with atom_part pair_part text.now) }
+{
+    let mut halves = Vec::new(alloc);
+    let mut since = Since::Bytes(0);
+    for at in 0..text.len() {
+        let Some(next) = step(alloc, &mut halves, since, text, at)? else {
+            return Ok(None);
+        };
+        since = next;
+    }
+    if !halves.is_empty() {
+        return Ok(None);
+    }
+    Ok(part_since(text, text.len(), since))
+}
+
+/// The value that a text writes. A pair stands for one that is too wide for every type.
+#[tactic(auto, using(crate::proofs::Narrowed::shown_is_narrow))]
+pub(crate) fn read_value(alloc: Global, text: &[u8]) -> Result<Option<Local>, Memory>
+    ensures { IfOk result (λ v. option_map local_of v ≡ option_map narrow (value_of text.now)) }
+{
+    match part_of(alloc, text)? {
+        Some(Part::Small(value, _)) => Ok(Some(value)),
+        Some(Part::Wide) => Ok(Some(stand_in(alloc)?)),
+        None => Ok(None),
+    }
+}
+
+/// A pair that fits no type of a program.
+fn stand_in(alloc: Global) -> Result<Local, Memory>
+    ensures { IfOk result (λ v. local_of v ≡ stand_in) }
+{
+    let first = Box::new(alloc, Local::Int(4_294_967_295))?;
+    let second = Box::new(alloc, Local::Int(4_294_967_295))?;
+    Ok(Local::Pair(first, second))
+}
+
+/// The values that words write, if each writes one.
+pub(crate) fn read_values(alloc: Global, words: &[&[u8]]) -> Result<Option<Vec<Local>>, Memory>
+    ensures { IfOk result (λ vs. option_map (λ v. map local_of v.items) vs ≡ option_map (map narrow) (values_of (texts words.now))) }
+{
+    let mut values = Vec::new(alloc);
+    for word in words {
+        let Some(value) = read_value(alloc, word)? else {
+            return Ok(None);
+        };
+        values.push(value)?;
+    }
+    Ok(Some(values))
+}
