@@ -20,3 +20,4 @@ pub mod ValueTexts
 pub mod ScriptEdits
 pub mod ScriptWords
 pub mod ReadScripts
+pub mod Agreeing

@@ -7,5 +7,6 @@ pub mod Judging
 pub mod Narrow
 pub mod Code
 pub mod Logs
+pub mod Agreement
 pub mod Scripts
 pub mod ScriptCode

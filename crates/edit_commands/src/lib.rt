@@ -11,7 +11,8 @@ mod types;
 mod values;
 mod words;
 
-pub use laws::values_are_read;
+pub use laws::{readings_agree, values_are_read};
+pub use lines::{first_line, line_text};
 pub use logs::read_log;
 pub use scripts::read_script;
 pub use types::{Command, Fault, Line, ScriptFault};

@@ -8,7 +8,7 @@ use std::alloc::{AllocError, Global};
 
 /// How many bytes the first line of a text has, with its line feed.
 #[tactic(auto, using(crate::proofs::FirstLine::size_more, crate::proofs::FirstLine::size_here))]
-pub(crate) fn first_line(text: &[u8]) -> usize
+pub fn first_line(text: &[u8]) -> usize
     ensures size { result ≡ line_size text.now }
     ensures within { result ≤ length text.now }
     ensures some { 0 < length text.now → 0 < result }
@@ -32,7 +32,7 @@ fn without_last(text: &[u8], byte: u8) -> &[u8]
 }
 
 /// A line without its line feed, and without one carriage return before its end.
-pub(crate) fn line_text(line: &[u8]) -> &[u8]
+pub fn line_text(line: &[u8]) -> &[u8]
     ensures { result.now ≡ line_text line.now }
 {
     without_last(without_last(line, b'\n'), b'\r')

@@ -1,6 +1,6 @@
 //! Logs.
 
-ghost use Rattle.std.specs.Prelude.{◌≡◌, ◌<◌, ◌^◌, length, map, IfOk, IfErr, Some, None, option_map};
+ghost use Rattle.std.specs.Prelude.{◌≡◌, ◌<◌, ◌^◌, length, map, IfOk, IfErr, Some, None, false, option_map};
 ghost use Rattle.fc_nodes.specs.Program.{unfolding_of};
 ghost use Rattle.firing_core.specs.Entries.{entry_of, entries_of, edit_of};
 ghost use Rattle.firing_core.specs.Replays.{EntryFits, LogFits};
@@ -10,7 +10,7 @@ ghost use Rattle.edit_commands.specs.Words.{number_of};
 ghost use Rattle.edit_commands.specs.LineByLine.{WhereAccepted};
 ghost use Rattle.edit_commands.specs.Judging.{DoesEdit, words_judged};
 ghost use Rattle.edit_commands.specs.EditLines.{edit_line};
-ghost use Rattle.edit_commands.specs.Code.{HasFault, HasFaultAt, flies_in, texts};
+ghost use Rattle.edit_commands.specs.Code.{HasFault, HasFaultAt, texts};
 
 use crate::edits::edit_line;
 use crate::judging::judge;
@@ -18,27 +18,26 @@ use crate::lines::{first_line, line_text, words};
 use crate::types::{Fault, LineFault, ScriptFault};
 use crate::words::number;
 use fc_nodes::Unfolded;
-use firing_core::{Core, Edit, Entry};
+use firing_core::{Edit, Entry};
 use std::alloc::Global;
 use topology::Network;
 
-/// The edit that words say, which is done to the network. Where a core is given, its devices in flight can't leave.
-pub(crate) fn read_edit(
+/// The edit that words say, which is done to the network.
+fn read_edit(
     alloc: Global,
     program: &Unfolded,
     net: &mut Network,
-    start: Option<&Core>,
     words: &[&[u8]],
 ) -> Result<Edit, LineFault>
     requires { net.old.declared ≡ program.now.declared }
-    ensures ok { IfOk result (λ e. WhereAccepted (DoesEdit (unfolding_of program.now) net.old net.new (edit_of e)) (words_judged (unfolding_of program.now) net.old (flies_in start.entry) (edit_line net.old.declared.inputs (texts words.now)))) }
-    ensures refused { IfErr result (HasFault (words_judged (unfolding_of program.now) net.old (flies_in start.entry) (edit_line net.old.declared.inputs (texts words.now)))) }
+    ensures ok { IfOk result (λ e. WhereAccepted (DoesEdit (unfolding_of program.now) net.old net.new (edit_of e)) (words_judged (unfolding_of program.now) net.old (λ d. false) (edit_line net.old.declared.inputs (texts words.now)))) }
+    ensures refused { IfErr result (HasFault (words_judged (unfolding_of program.now) net.old (λ d. false) (edit_line net.old.declared.inputs (texts words.now)))) }
 {
     let inputs = &program.declared().inputs;
     let Some(line) = edit_line(alloc, inputs, words)? else {
         return Err(LineFault::Bad(Fault::Form));
     };
-    match judge(alloc, program, net, start, line) {
+    match judge(alloc, program, net, None, line) {
         Ok(edit) => Ok(edit),
         Err(fault) => Err(fault),
     }
@@ -86,7 +85,7 @@ fn read_edit_entry(
     ensures refused { IfErr result (HasFault (text_judged (unfolding_of program.now) net.old (option_map OfEdit (edit_line net.old.declared.inputs (words_of text.now))))) }
 {
     let words = words(alloc, text)?;
-    match read_edit(alloc, program, net, None, &words) {
+    match read_edit(alloc, program, net, &words) {
         Ok(edit) => Ok(Entry::Edit(edit)),
         Err(fault) => Err(fault),
     }

@@ -12,16 +12,21 @@ use Rattle.fc_parser.specs.Laws as parser
 use Rattle.fc_types.specs.Faults.{FirstFault}
 use Rattle.fc_types.specs.Laws as types
 use Rattle.fc_nodes.specs.Program.{Unfolding}
-use Rattle.fc_program.specs.Forms.{form_of, pair_program}
-use Rattle.fc_program.specs.declared.words.Command.{Command}
+use Rattle.firing_core.specs.Cores.{Core}
+use Rattle.firing_core.specs.Entries.{EntryValue}
+use Rattle.net_json.specs.Judging.{Judged}
+use Rattle.net_json.specs.Scenes.{SceneValue, scene_of}
+use Rattle.fc_program.specs.declared.tasks.Extras.{Extras}
+use Rattle.fc_program.specs.declared.tasks.Task.{Task}
 use Rattle.fc_program.specs.declared.refusal.Refusal.{Refusal}
 use Rattle.fc_program.specs.declared.refusal.Refusal.TheVariants.{Lexical, Tokens, Depth, Syntax, Types, Nodes as Size}
 use Rattle.unfold.specs.Nodes.{Nodes}
-use Rattle.fc_program.specs.Sources.{IsSource, IsNoSource, lexical, tokens, depth, syntax, IsProgramText, IsNoProgram, no_source, ill_typed, too_large, other_form}
-use Rattle.fc_program.specs.Restricted.{linked_of, entries_of}
-use Rattle.fc_program.specs.PairScene.{network_for}
-use Rattle.fc_program.specs.Reply.{Reply, refused, done, Formats, no_source, printed, Replays, no_program, judged, replayed, RepliesWithin, other_sections, formats, replays, Replies, usage, too_long, within}
+use Rattle.fc_program.specs.Sources.{IsSource, IsNoSource, lexical, tokens, depth, syntax, IsProgramText, IsNoProgram, no_source, ill_typed, too_large, unfolding_by}
+use Rattle.fc_program.specs.Refusals.{Reply, refused, done}
+use Rattle.fc_program.specs.Replays.{Logged, RepliesToEntries, RepliesToLog, RepliesToScene, Replays, stops, leads, faulty, entries, no_scene, from_scene, no_program, judged, start_of}
+use Rattle.fc_program.specs.Reply.{Formats, no_source, printed, RepliesWithin, other_sections, formats, replays, Replies, usage, too_long, within}
 use Rattle.fc_program.specs.Top.{OneReply}
+use Rattle.fc_program.proofs.OneEnding.{same_to_scene}
 
 -- a limit is one
 limit_same : (ts us : List TokenView) (p q : Option Passed) → ts ≡ us → limit_passed ts ≡ p → limit_passed us ≡ q → p ≡ q
@@ -61,37 +66,25 @@ module _ (one_list : lexer.OneList) (one_stop : lexer.OneStop) (stops_or_lexes :
   source_or_refused text ds r s (syntax ts n i l e x) = derives_or_fault ts ds n i (subst (λ l. Derives l ds) (one_list text s.tokens ts s.lexes l) s.derives) x
 
   same_unfolding : (text : List ℕ) (U V : Unfolding) → IsProgramText text U → IsProgramText text V → U ≡ V
-  same_unfolding text U V p q =
-      let e : form_of p.declarations ≡ form_of q.declarations = ap form_of (same_source text p.declarations q.declarations p.source q.source) in
-      let f : Some p.form ≡ Some q.form = sym p.reads ∙ e ∙ q.reads in
-      let same : p.form ≡ q.form = cc in
-      p.unfolds ∙ ap pair_program same ∙ sym q.unfolds
+  same_unfolding text U V p q = p.unfolds ∙ ap unfolding_by (same_source text p.declarations q.declarations p.source q.source) ∙ sym q.unfolds
 
   same_no_program : (text : List ℕ) (r s : Refusal) → IsNoProgram text r → IsNoProgram text s → r ≡ s
   same_no_program text r s (no_source a x) (no_source b y) = same_refusal text r s x y
   same_no_program text r s (no_source a x) (ill_typed ds n k y f) = absurd (source_or_refused text ds r y x)
-  same_no_program text r s (no_source a x) (other_form ds y t w l) = absurd (source_or_refused text ds r y x)
   same_no_program text r s (no_source a x) (too_large ds y t l) = absurd (source_or_refused text ds r y x)
   same_no_program text r s (ill_typed ds n k x f) (no_source b y) = absurd (source_or_refused text ds s x y)
   same_no_program text r s (ill_typed ds n k x f) (ill_typed es m j y g) =
       let same = one_first_fault es n m k j (subst (λ v. FirstFault v n k) (same_source text ds es x y) f) g in
       ap (λ v. Types v k) same.0 ∙ ap (Types m) same.1
-  same_no_program text r s (ill_typed ds n k x f) (other_form es y t w l) = absurd (typed_or_fault es n k t (subst (λ v. FirstFault v n k) (same_source text ds es x y) f))
   same_no_program text r s (ill_typed ds n k x f) (too_large es y t l) = absurd (typed_or_fault es n k t (subst (λ v. FirstFault v n k) (same_source text ds es x y) f))
-  same_no_program text r s (other_form ds x t w l) (no_source b y) = absurd (source_or_refused text ds s x y)
-  same_no_program text r s (other_form ds x t w l) (ill_typed es m j y g) = absurd (typed_or_fault ds m j t (subst (λ v. FirstFault v m j) (sym (same_source text ds es x y)) g))
-  same_no_program text r s (other_form ds x t w l) (other_form es y u v k) = refl
-  same_no_program text r s (other_form ds x t w l) (too_large es y u k) = let e = ap (λ v. length (Nodes v)) (same_source text ds es x y) in absurd (omega (arith, e, w, k))
   same_no_program text r s (too_large ds x t l) (no_source b y) = absurd (source_or_refused text ds s x y)
   same_no_program text r s (too_large ds x t l) (ill_typed es m j y g) = absurd (typed_or_fault ds m j t (subst (λ v. FirstFault v m j) (sym (same_source text ds es x y)) g))
-  same_no_program text r s (too_large ds x t l) (other_form es y u v k) = let e = ap (λ w. length (Nodes w)) (same_source text ds es x y) in absurd (omega (arith, e, l, v))
   same_no_program text r s (too_large ds x t l) (too_large es y u k) = ap (λ v. Size (min 1000000 (length (Nodes v)))) (same_source text ds es x y)
 
   program_or_refused : (text : List ℕ) (U : Unfolding) (r : Refusal) → IsProgramText text U → IsNoProgram text r → ⊥
   program_or_refused text U r p (no_source a x) = source_or_refused text p.declarations r p.source x
   program_or_refused text U r p (ill_typed ds n k x f) = typed_or_fault p.declarations n k p.typed (subst (λ v. FirstFault v n k) (same_source text ds p.declarations x p.source) f)
   program_or_refused text U r p (too_large ds x t l) = let e = ap (λ v. length (Nodes v)) (same_source text ds p.declarations x p.source) in omega (arith, e, l, p.few)
-  program_or_refused text U r p (other_form ds x t w l) = let e : form_of ds ≡ form_of p.declarations = ap form_of (same_source text ds p.declarations x p.source) in let f : None ≡ Some p.form = sym l ∙ e ∙ p.reads in cc
 
   same_formats : (text : List ℕ) (r s : Reply) → Formats text r → Formats text s → r ≡ s
   same_formats text r s (no_source a x) (no_source b y) = ap refused (same_refusal text a b x y)
@@ -99,25 +92,26 @@ module _ (one_list : lexer.OneList) (one_stop : lexer.OneStop) (stops_or_lexes :
   same_formats text r s (printed ds x) (no_source b y) = absurd (source_or_refused text ds b x y)
   same_formats text r s (printed ds x) (printed es y) = ap (λ v. done (program_text v)) (same_source text ds es x y)
 
-  same_replays : (program network log : List ℕ) (r s : Reply) → Replays program network log r → Replays program network log s → r ≡ s
-  same_replays program network log r s (no_program a x) (no_program b y) = ap refused (same_no_program program a b x y)
-  same_replays program network log r s (no_program a x) (judged U y) = absurd (program_or_refused program U a y x)
-  same_replays program network log r s (judged U x) (no_program b y) = absurd (program_or_refused program U b x y)
-  same_replays program network log r s (judged U x) (judged V y) =
-      ap (λ (W : Unfolding). replayed W (network_for W.declared (linked_of network)) (entries_of log)) (same_unfolding program U V x y)
+  same_replays : (x : Extras) (program network log : List ℕ) (r s : Reply) → Replays x program network log r → Replays x program network log s → r ≡ s
+  same_replays x program network log r s (no_program a p) (no_program b q) = ap refused (same_no_program program a b p q)
+  same_replays x program network log r s (no_program a p) (judged U t q h) = absurd (program_or_refused program U a q p)
+  same_replays x program network log r s (judged U t p h) (no_program b q) = absurd (program_or_refused program U b p q)
+  same_replays x program network log r s (judged U t p h) (judged V u q k) =
+      let e : U ≡ V = same_unfolding program U V p q in
+      same_to_scene x V log (scene_of V network) t u (subst (λ W. RepliesToScene x W log (scene_of W network) t) e h) k
 
-  same_within : (command : Command) (sections : List (List ℕ)) (r s : Reply) → RepliesWithin command sections r → RepliesWithin command sections s → r ≡ s
-  same_within command sections r s (other_sections c ss e) (other_sections d tt f) = refl
-  same_within command sections r s (other_sections c ss e) (formats text q y) = absurd (e refl)
-  same_within command sections r s (other_sections c ss e) (replays p n l q y) = absurd (e refl)
-  same_within command sections r s (formats text q x) (other_sections d ss f) = absurd (f refl)
-  same_within command sections r s (formats text q x) (formats text' o y) = same_formats text r s x y
-  same_within command sections r s (replays p n l q x) (other_sections d ss f) = absurd (f refl)
-  same_within command sections r s (replays p n l q x) (replays p' n' l' o y) = same_replays p n l r s x y
+  same_within : (task : Task) (sections : List (List ℕ)) (r s : Reply) → RepliesWithin task sections r → RepliesWithin task sections s → r ≡ s
+  same_within task sections r s (other_sections c ss e) (other_sections d tt f) = refl
+  same_within task sections r s (other_sections c ss e) (formats text q y) = absurd (e refl)
+  same_within task sections r s (other_sections c ss e) (replays x p n l q y) = absurd (e refl)
+  same_within task sections r s (formats text q x) (other_sections d ss f) = absurd (f refl)
+  same_within task sections r s (formats text q x) (formats text' o y) = same_formats text r s x y
+  same_within task sections r s (replays x p n l q h) (other_sections d ss f) = absurd (f refl)
+  same_within task sections r s (replays x p n l q h) (replays y p' n' l' o k) = same_replays x p n l r s h k
 
   pub same_reply : OneReply
-  same_reply command input r s (usage i) (usage j) = refl
-  same_reply command input r s (too_long c i l) (too_long d j k) = refl
-  same_reply command input r s (too_long c i l) (within d j q k y) = absurd (omega arith)
-  same_reply command input r s (within c i q l x) (too_long d j k) = absurd (omega arith)
-  same_reply command input r s (within c i q l x) (within d j o k y) = same_within c _ r s x y
+  same_reply task input r s (usage i) (usage j) = refl
+  same_reply task input r s (too_long c i l) (too_long d j k) = refl
+  same_reply task input r s (too_long c i l) (within d j q k y) = absurd (omega arith)
+  same_reply task input r s (within c i q l x) (too_long d j k) = absurd (omega arith)
+  same_reply task input r s (within c i q l x) (within d j o k y) = same_within c _ r s x y

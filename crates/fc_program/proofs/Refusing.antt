@@ -1,5 +1,5 @@
 -- The causes of a refused program.
-use Rattle.std.proofs.Common.{ℕ, ◌≡◌, ◌<◌, List, min, subst, sym, ap}
+use Rattle.std.proofs.Common.{ℕ, ◌≡◌, ◌<◌, List, length, min, subst, sym, ap}
 use Rattle.fc_lexer.specs.Kinds.{TokenView}
 use Rattle.fc_lexer.specs.declared.tokens.LexFault.{LexFault}
 use Rattle.fc_lexer.specs.declared.tokens.LexFault.TheVariants as lex_fault
@@ -14,10 +14,14 @@ use Rattle.fc_types.specs.declared.faults.TypeFault.TheVariants as type_fault
 use Rattle.fc_types.specs.Typing.{IsTyped}
 use Rattle.fc_types.specs.Faults.{FirstFault}
 use Rattle.fc_types.specs.Views.{IfFault}
-use Rattle.fc_program.specs.declared.refusal.Refusal.TheVariants.{Lexical, Tokens, Depth, Syntax, Types, Nodes as Size, Form as Section}
+use Rattle.unfold.specs.declared.faults.UnfoldFault.{UnfoldFault}
+use Rattle.unfold.specs.declared.faults.UnfoldFault.TheVariants as unfold_fault
+use Rattle.unfold.specs.Nodes.{Nodes}
+use Rattle.unfold.specs.Writing.{IfTooLarge}
+use Rattle.fc_program.specs.declared.refusal.Refusal.TheVariants.{Lexical, Tokens, Depth, Syntax, Types, Nodes as Size}
 use Rattle.fc_program.specs.declared.sources.NoProgram.{NoProgram}
 use Rattle.fc_program.specs.declared.sources.NoProgram.TheVariants as no_program
-use Rattle.fc_program.specs.Sources.{IsSource, IsNoSource, lexical, tokens, depth, syntax, IsNoProgram, no_source, ill_typed, too_large, other_form, IsNotRun, RefusesSource, RefusesProgram}
+use Rattle.fc_program.specs.Sources.{IsSource, IsNoSource, lexical, tokens, depth, syntax, IsNoProgram, no_source, ill_typed, too_large, RefusesSource, RefusesProgram}
 
 pub by_tokens : (text : List ℕ) (ts : List TokenView) (f : ParseFault) (number count : ℕ) → f ≡ fault.Tokens number count → Lexes text ts → Refuses ts f → IsNoSource text (Tokens count)
 by_tokens text ts f number count e l r = tokens ts number count l (subst (Refuses ts) e r)
@@ -35,11 +39,12 @@ pub by_types : (text : List ℕ) (ds : List Declaration) (f : TypeFault) (number
     → IsNoProgram text (Types number kind)
 by_types text ds f number kind e s h = ill_typed ds number kind s (subst (λ g. IfFault g (FirstFault ds)) e h)
 
-pub not_run : (text : List ℕ) (ds : List Declaration) (e : NoProgram) → IsSource text ds → IsTyped ds → IsNotRun ds e → RefusesProgram text e
-not_run text ds (no_program.Refused (Size n)) s t h = subst (λ m. IsNoProgram text (Size m)) (sym h.1) (too_large ds s t h.0)
-not_run text ds (no_program.Refused (Section n)) s t h = subst (λ m. IsNoProgram text (Section m)) (sym h.0) (other_form ds s t h.1 h.2)
-not_run text ds (no_program.Refused refusal) s t h = absurd h
-not_run text ds no_program.Memory s t h = tt
+pub by_nodes : (text : List ℕ) (ds : List Declaration) (f : UnfoldFault) (size : ℕ) → f ≡ unfold_fault.TooLarge size → IsSource text ds → IsTyped ds → IfTooLarge f (λ n. 2048 < length (Nodes ds))
+    → IfTooLarge f (λ n. n ≡ min 1000000 (length (Nodes ds))) → IsNoProgram text (Size size)
+by_nodes text ds f size e s t h k =
+    let large : 2048 < length (Nodes ds) = subst (λ g. IfTooLarge g (λ n. 2048 < length (Nodes ds))) e h in
+    let is : size ≡ min 1000000 (length (Nodes ds)) = subst (λ g. IfTooLarge g (λ n. n ≡ min 1000000 (length (Nodes ds)))) e k in
+    subst (λ n. IsNoProgram text (Size n)) (sym is) (too_large ds s t large)
 
 -- what is no source is no program
 pub no_source_no_program : (text : List ℕ) (e : NoProgram) → RefusesSource text e → RefusesProgram text e

@@ -1,11 +1,9 @@
-pub mod Lines
 pub mod Sections
-pub mod Words
-pub mod Restricted
-pub mod PairScene
-pub mod Texts
-pub mod Forms
+pub mod Tasks
 pub mod Sources
-pub mod Kinds
+pub mod FaultWords
+pub mod Refusals
+pub mod SceneFaults
+pub mod Replays
 pub mod Reply
 pub mod Top

@@ -1,20 +1,24 @@
 //! `fc`: writes a program's canonical text, or replays a log of firings on a network and writes what each device holds.
 #![tactic(auto)]
 
-mod forms;
-mod kinds;
-mod lines;
+#[cfg(test)]
+mod examples;
+mod fault_words;
+#[cfg(test)]
+mod layers;
 mod refusal;
+mod replays;
 mod replies;
-mod restricted;
-mod scene;
+mod reply;
+#[cfg(test)]
+mod rows;
+mod scene_faults;
 mod sections;
 mod sources;
+mod tasks;
 #[cfg(test)]
 mod tests;
-mod texts;
 mod top;
-mod words;
 
 use fc_io::{StdSink, StdSource};
 use std::alloc::Global;

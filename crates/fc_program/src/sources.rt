@@ -1,5 +1,5 @@
 //! The program that the text of a section is.
-ghost use Rattle.std.specs.Prelude.{ℕ, ◌≡◌, Some, ◌≤◌, IfErr, IfOk, List, length};
+ghost use Rattle.std.specs.Prelude.{ℕ, ◌≡◌, ◌≤◌, ◌<◌, IfErr, IfOk, List, length, min};
 ghost use Rattle.fc_lexer.specs.Kinds.{TokenView, tokens_of};
 ghost use Rattle.fc_lexer.specs.Lexes.{Lexes, Stops};
 ghost use Rattle.fc_syntax.specs.Printable.{IsPrintable};
@@ -8,20 +8,19 @@ ghost use Rattle.fc_parser.specs.Faults.{Refuses};
 ghost use Rattle.fc_types.specs.Faults.{FirstFault};
 ghost use Rattle.fc_types.specs.Views.{IfFault};
 ghost use Rattle.fc_nodes.specs.Program.{unfolding_of};
+ghost use Rattle.fc_types.specs.Typing.{IsTyped};
 ghost use Rattle.unfold.specs.Nodes.{Nodes};
-ghost use Rattle.fc_program.specs.declared.forms.Form.{Form};
-ghost use Rattle.fc_program.specs.Forms.{form_of as form_of_declarations, pair_program};
-ghost use Rattle.fc_program.specs.Sources.{IsSource, IsProgramText, IsNotRun, RefusesSource, RefusesProgram};
+ghost use Rattle.unfold.specs.Writing.{IfTooLarge};
+ghost use Rattle.fc_program.specs.Sources.{IsSource, IsProgramText, RefusesSource, RefusesProgram};
 
-use crate::forms::{form_of, unfolded as unfolded_form};
 use crate::refusal::Refusal;
 use fc_lexer::{LexFault, lex};
 use fc_nodes::Unfolded;
 use fc_parser::{ParseFault, derived_is_printable, few_declarations, parse};
 use fc_syntax::Program;
-use fc_types::{TypeFault, Typed, check_types};
+use fc_types::{TypeFault, check_types};
 use std::alloc::Global;
-use unfold::count_nodes;
+use unfold::{UnfoldFault, unfold};
 
 /// Why a text is no program, or that there was no memory.
 #[derive(Clone, Copy)]
@@ -69,28 +68,13 @@ fn no_types(fault: TypeFault) -> NoProgram
     }
 }
 
-// The greatest number of nodes.
-const MOST_NODES: u32 = 2048;
-
-// What a typed program of the form that is run today unfolds to.
-fn unfolded(alloc: Global, typed: &Typed) -> Result<Unfolded, NoProgram>
-    ensures few { IfOk result (λ u. length (Nodes (program_of typed.now.program)) ≤ 2048) }
-    ensures program { IfOk result (λ u. (form : Form) × (form_of_declarations (program_of typed.now.program) ≡ Some form) × (unfolding_of u ≡ pair_program form)) }
-    ensures refused { IfErr result (λ e. IsNotRun (program_of typed.now.program) e) }
+// Why a typed program isn't unfolded.
+fn no_nodes(fault: UnfoldFault) -> NoProgram
+    ensures { (text : List ℕ) (ds : List Declaration) → IsSource text ds → IsTyped ds → IfTooLarge fault (λ size. 2048 < length (Nodes ds)) → IfTooLarge fault (λ size. size ≡ min 1000000 (length (Nodes ds))) → RefusesProgram text result }
 {
-    let size = match count_nodes(alloc, typed) {
-        Ok(size) => size,
-        Err(_) => return Err(NoProgram::Memory),
-    };
-    if size > MOST_NODES {
-        return Err(NoProgram::Refused(Refusal::Nodes(size)));
-    }
-    let Some(form) = form_of(typed.program()) else {
-        return Err(NoProgram::Refused(Refusal::Form(1)));
-    };
-    match unfolded_form(alloc, form) {
-        Ok(unfolded) => Ok(unfolded),
-        Err(_) => Err(NoProgram::Memory),
+    match fault {
+        UnfoldFault::TooLarge { size } => NoProgram::Refused(Refusal::Nodes(size)),
+        UnfoldFault::Memory => NoProgram::Memory,
     }
 }
 
@@ -130,8 +114,8 @@ pub fn read_program(alloc: Global, text: &[u8]) -> Result<Unfolded, NoProgram>
         Ok(typed) => typed,
         Err(fault) => return Err(no_types(fault)),
     };
-    match unfolded(alloc, &typed) {
+    match unfold(alloc, &typed) {
         Ok(unfolded) => Ok(unfolded),
-        Err(fault) => Err(fault),
+        Err(fault) => Err(no_nodes(fault)),
     }
 }

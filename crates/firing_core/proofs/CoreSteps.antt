@@ -1,8 +1,8 @@
 -- The slots of a core in code, read and written at the place of a device.
 use Rattle.std.proofs.Common.{◌≡◌, ℕ, zero, suc, ◌<◌, List, [], ◌∷◌, length, map, get_or, refl, sym, ◌∙◌, ap, subst, arith, Bool, true, false, nat_eq, if◌then◌else◌, Option, Some, None, length-set}
-use Rattle.std.specs.Prelude.{slice_set, option_map, is_some, replicate}
+use Rattle.std.specs.Prelude.{slice_set, option_map, is_some}
 use Rattle.std.proofs.lemmas.Bool.{eqb-true, eq-eqb}
-use Rattle.std.proofs.lemmas.List.{length-map, length-replicate}
+use Rattle.std.proofs.lemmas.List.{length-map}
 use Rattle.fc_values.specs.declared.exports.Export.{Export}
 use Rattle.fc_values.specs.Trees.{Copy}
 use Rattle.fc_nodes.specs.Program.{Program, Unfolding, unfolding_of}
@@ -13,12 +13,14 @@ use Rattle.value_trees.specs.Snaps.{tree_of, snap_copy, IsExportOf, IsSnap}
 use Rattle.device_eval.specs.Firing.{FiredValue, IsFired}
 use Rattle.firing_core.specs.Entries.{BeginEntry, EndEntry}
 use Rattle.firing_core.specs.declared.entries.StepFault.TheVariants as fault
-use Rattle.topology.specs.Networks.{Network, numbers, lives, IsNetwork}
-use Rattle.firing_core.specs.Cores.{put, Core, copy_of, begun, ended, Ends}
+use Rattle.topology.specs.Networks.{Network, numbers, lives}
+use Rattle.firing_core.specs.Cores.{Map, put, Core, copy_of, begun, ended, Ends}
 use Rattle.firing_core.specs.Replays.{fault_of}
-use Rattle.firing_core.specs.CoreViews.{CoreValue, core_of, program_of, slot_at, AllExports, AllFlights, FlightOf, IsCore, IsEmptyCore}
-use Rattle.firing_core.proofs.Slots.{Distinct, rises_distinct, slot_set}
-use Rattle.firing_core.proofs.Views.{many_flights, many_numbers, no_exports, no_flights, slot_empty}
+use Rattle.firing_core.specs.CoreViews.{CoreValue, core_of, program_of, slot_at, AllExports, AllFlights, FlightOf, rooms_of, mark, IsCore}
+use Rattle.firing_core.specs.Rooms.{SpareValue, IsRest}
+use Rattle.firing_core.proofs.RoomSlots.{some_put, many_rooms, rooms_begun, rooms_ended, rooms_taken}
+use Rattle.firing_core.proofs.Slots.{Distinct, rises_distinct, slot_here, slot_set}
+use Rattle.firing_core.proofs.Views.{many_flights, many_numbers}
 
 -- reading the slot of the device at a place
 pub slot_read : {X Y : Type 0} (f : X → Y) (is : List ℕ) (xs : List (Option X)) (p d : ℕ) (x : Option X) → Distinct is → p < length is → get_or is p 0 ≡ d → length xs ≡ length is → x ≡ get_or xs p x
@@ -72,6 +74,15 @@ flight_kept U (i ∷ is) [] p x a h q = absurd a
 flight_kept U (i ∷ is) (y ∷ ys) zero x a h q = subst (WhereSome (IsSnap U)) (sym q) (snap_where U i y a.0)
 flight_kept U (i ∷ is) (y ∷ ys) (suc p) x a h q = flight_kept U is ys p x a.1 (omega arith) q
 
+-- what stands for a place past the end doesn't matter within
+get_or_other : {X : Type 0} (xs : List X) (p : ℕ) (x y : X) → p < length xs → get_or xs p x ≡ get_or xs p y
+get_or_other [] p x y h = absurd (omega arith)
+get_or_other (z ∷ zs) zero x y h = refl
+get_or_other (z ∷ zs) (suc p) x y h = get_or_other zs p x y (omega arith)
+
+pub same_at : {X : Type 0} (xs : List X) (p : ℕ) (x y : X) → p < length xs → x ≡ get_or xs p x → y ≡ get_or xs p y → x ≡ y
+same_at xs p x y h q r = q ∙ get_or_other xs p x y h ∙ sym r
+
 -- a core, and the place p of its device d
 module _ (v : CoreValue) (k : IsCore v) (p d : ℕ) (h : p < length v.net.devices) (e : get_or (numbers v.net.devices) p 0 ≡ d) where
   in_numbers : p < length (numbers v.net.devices)
@@ -124,25 +135,61 @@ module _ (v : CoreValue) (k : IsCore v) (p d : ℕ) (h : p < length v.net.device
 
   -- the core with a copy put in flight
   abbrev pub with_flight : Snap → CoreValue
-  with_flight s = record { program = v.program; net = v.net; exports = v.exports; flying = slice_set v.flying p (Some s) }
+  with_flight s = record { program = v.program; net = v.net; exports = v.exports; flying = slice_set v.flying p (Some s); rooms = v.rooms }
 
   pub begun_core : (s : Snap) → snap_copy (program_of v) s ≡ copy_of v.net (core_of v).exports d → core_of (with_flight s) ≡ begun (core_of v).exports (core_of v) d
   begun_core s q =
       let w = slot_write (snap_copy (program_of v)) (numbers v.net.devices) v.flying p d (Some s) apart in_numbers e flights in
       ap (λ f. let c : Core = record { net = v.net; exports = (core_of v).exports; flying = f } in c) (w ∙ ap (λ c. put (core_of v).flying d (Some c)) q)
 
-  pub begun_kept : (s : Snap) → s.device ≡ d → IsSnap (program_of v) s → IsCore (with_flight s)
-  begun_kept s names fits = record {
+  pub begun_kept : (x : Option Snap) (s : Snap) → x ≡ get_or v.flying p x → is_some x ≡ false → s.device ≡ d → IsSnap (program_of v) s → IsCore (with_flight s)
+  begun_kept x s q rests names fits = record {
     declared = k.declared;
     net = k.net;
     many = k.many;
     exports = k.exports;
     flying = flights_set (program_of v) (numbers v.net.devices) v.flying p d (Some s) k.flying in_numbers e (record { names = names; snap = fits });
+    rooms = rooms_begun (program_of v) v.flying v.rooms p x s flight_within q rests k.rooms;
   }
+
+  -- and what it left of a room beside it
+  abbrev pub with_room : Snap → SpareValue → CoreValue
+  with_room s r = record { program = v.program; net = v.net; exports = v.exports; flying = slice_set v.flying p (Some s); rooms = slice_set v.rooms p (Some r) }
+
+  pub roomed_kept : (s : Snap) (r : SpareValue) → s.device ≡ d → IsSnap (program_of v) s → IsRest (program_of v) s r → IsCore (with_room s r)
+  roomed_kept s r names fits rest = record {
+    declared = k.declared;
+    net = k.net;
+    many = k.many;
+    exports = k.exports;
+    flying = flights_set (program_of v) (numbers v.net.devices) v.flying p d (Some s) k.flying in_numbers e (record { names = names; snap = fits });
+    rooms = rooms_taken (program_of v) v.flying v.rooms p s r rest k.rooms;
+  }
+
+  rooms_long : length (numbers v.net.devices) ≡ length v.rooms
+  rooms_long = let m = flights in let n = many_rooms (program_of v) v.flying v.rooms k.rooms in omega arith
+
+  pub room_within : p < length v.rooms
+  room_within = let m = rooms_long in let n = in_numbers in omega arith
+
+  -- which devices have a room, after one slot was written
+  rooms_written : (o : Option SpareValue) → (λ i. is_some (slot_at (numbers v.net.devices) (slice_set v.rooms p o) i)) ≡ mark (rooms_of v) d (is_some o)
+  rooms_written o =
+      ap (λ (f : Map SpareValue). λ i. is_some (f i)) (slot_set (numbers v.net.devices) v.rooms p o apart in_numbers rooms_long ∙ ap (λ i. put (slot_at (numbers v.net.devices) v.rooms) i o) e)
+      ∙ some_put (slot_at (numbers v.net.devices) v.rooms) d o
+
+  -- whether the device has a room
+  pub room_at : (o : Option SpareValue) → o ≡ get_or v.rooms p o → is_some o ≡ rooms_of v d
+  room_at o q =
+      let w = room_within in
+      ap is_some (q ∙ get_or_other v.rooms p o None w ∙ sym (slot_here (numbers v.net.devices) v.rooms p d apart in_numbers e rooms_long))
+
+  pub roomed_set : (s : Snap) (r : SpareValue) → rooms_of (with_room s r) ≡ mark (rooms_of v) d true
+  roomed_set s r = rooms_written (Some r)
 
   -- the core with an export published and the flight ended
   abbrev pub with_export : Export → CoreValue
-  with_export x = record { program = v.program; net = v.net; exports = slice_set v.exports p (Some x); flying = slice_set v.flying p None }
+  with_export x = record { program = v.program; net = v.net; exports = slice_set v.exports p (Some x); flying = slice_set v.flying p None; rooms = slice_set v.rooms p None }
 
   pub ended_core : (x : Export) → core_of (with_export x) ≡ ended (core_of v) d (tree_of (program_of v) x)
   ended_core x =
@@ -158,7 +205,11 @@ module _ (v : CoreValue) (k : IsCore v) (p d : ℕ) (h : p < length v.net.device
     many = length-set v.exports p (Some x) ∙ k.many;
     exports = exports_set (program_of v) v.exports p (Some x) k.exports w;
     flying = flights_set (program_of v) (numbers v.net.devices) v.flying p d None k.flying in_numbers e tt;
+    rooms = rooms_ended (program_of v) v.flying v.rooms p k.rooms;
   }
+
+  pub ended_set : (x : Export) → rooms_of (with_export x) ≡ mark (rooms_of v) d false
+  ended_set x = rooms_written None
 
   -- an end of a firing of this core's program, whose copy is the one in flight
   pub ends : (x : Option Snap) (f : FiredValue) → x ≡ get_or v.flying p x → lives v.net d ≡ true → is_some x ≡ true → IsFired f → f.program ≡ v.program
@@ -184,22 +235,3 @@ lives_at n s t e l = subst (λ (x : Snap). lives n x.device ≡ true) e l
 pub fired_export : (f : FiredValue) (r : Program) (x : Export) → f.program ≡ r → x ≡ f.export → IsFired f → IsExportOf (unfolding_of r) x
 fired_export f r x e q fired =
     subst (λ (y : Export). IsExportOf (unfolding_of r) y) (sym q) (subst (λ (t : Program). IsExportOf (unfolding_of t) f.export) e fired.export)
-
--- a core without exports and flights
-pub new_core : (r : Program) (net : Network) (n : ℕ) (xs : List (Option Export)) (ys : List (Option Snap)) → IsNetwork net → net.declared ≡ r.declared → n ≡ length net.devices
-    → xs ≡ replicate n None → ys ≡ replicate n None → IsCore (record { program = r; net = net; exports = xs; flying = ys })
-new_core r net n xs ys k same many ex fl = record {
-  declared = same;
-  net = k;
-  many = ap length ex ∙ length-replicate n None ∙ many;
-  exports = subst (AllExports (unfolding_of r)) (sym ex) (no_exports (unfolding_of r) n);
-  flying = subst (AllFlights (unfolding_of r) (numbers net.devices)) (sym fl) (no_flights (unfolding_of r) (numbers net.devices) n (many ∙ sym (many_numbers net.devices)));
-}
-
-pub empty_core : (r : Program) (net : Network) (n : ℕ) (xs : List (Option Export)) (ys : List (Option Snap)) → xs ≡ replicate n None → ys ≡ replicate n None
-    → IsEmptyCore net (core_of (record { program = r; net = net; exports = xs; flying = ys }))
-empty_core r net n xs ys ex fl = record {
-  net = refl;
-  exports = λ d. subst (λ (zs : List (Option Export)). slot_at (numbers net.devices) (map (option_map (tree_of (unfolding_of r))) zs) d ≡ None) (sym ex) (slot_empty (tree_of (unfolding_of r)) (numbers net.devices) n d);
-  flying = λ d. subst (λ (zs : List (Option Snap)). slot_at (numbers net.devices) (map (option_map (snap_copy (unfolding_of r))) zs) d ≡ None) (sym fl) (slot_empty (snap_copy (unfolding_of r)) (numbers net.devices) n d);
-}

@@ -41,3 +41,6 @@ exports_more U (m ∷ ms) n a w = (a.0, exports_more U ms n a.1 w)
 
 pub longer : (old : List Near) (n : Near) (k : ℕ) → length old ≤ k → length (old ++ n ∷ []) ≤ k + 1
 longer old n k h = omega (arith, length-append old (n ∷ []))
+
+pub one_longer : (old new : List Near) (n : Near) → new ≡ old ++ n ∷ [] → length new ≡ length old + 1
+one_longer old new n q = omega (arith, length-append old (n ∷ []), ap length q)

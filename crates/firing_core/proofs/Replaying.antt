@@ -1,7 +1,7 @@
 -- A log, replayed entry by entry.
-use Rattle.std.proofs.Common.{◌≡◌, ℕ, List, [], ◌∷◌, ◌++◌, length, map, refl, sym, ◌∙◌, ap, subst, append_assoc, append-nil, arith, Some, None}
+use Rattle.std.proofs.Common.{◌≡◌, ℕ, List, [], ◌∷◌, ◌++◌, length, refl, sym, ◌∙◌, ap, subst, append_assoc, append-nil, arith, Some}
 use Rattle.std.proofs.lemmas.List.{map-append, length-map}
-use Rattle.fc_nodes.specs.Program.{Program, Unfolding, unfolding_of}
+use Rattle.fc_nodes.specs.Program.{Program, unfolding_of}
 use Rattle.firing_core.specs.declared.entries.Entry.{Entry}
 use Rattle.firing_core.specs.declared.entries.ReplayFault.{ReplayFault}
 use Rattle.firing_core.specs.declared.entries.ReplayFault.TheVariants as replay_fault

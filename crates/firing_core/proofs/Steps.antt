@@ -9,7 +9,7 @@ use Rattle.device_eval.specs.Copies.{EvaluatesCopy, situation_of, env_of}
 use Rattle.device_eval.proofs.Agree.{rule_gives, gives_rule}
 use Rattle.topology.specs.declared.types.NetFault.{NetFault}
 use Rattle.topology.specs.declared.types.NetFault.TheVariants as net_fault
-use Rattle.topology.specs.Networks.{NetDevice, Network, numbers, is_in, IsNetwork}
+use Rattle.topology.specs.Networks.{numbers, is_in}
 use Rattle.topology.specs.Changes.{insert_device, drop_device}
 use Rattle.topology.proofs.Devices.{put_numbers, insert_in, drop_in}
 use Rattle.topology.proofs.Changed.{no_fault}

@@ -9,11 +9,11 @@ use Rattle.value_trees.specs.Copies.{FitsCopy}
 use Rattle.device_eval.specs.Copies.{HasOneExport}
 use Rattle.device_eval.proofs.OneExport.{program_export}
 use Rattle.topology.specs.Networks.{Network, numbers, is_in, lives, Lives, IsNetwork}
-use Rattle.topology.specs.Changes.{insert_device, drop_device}
+use Rattle.topology.specs.Changes.{insert_device}
 use Rattle.topology.proofs.Devices.{put_numbers, insert_in}
 use Rattle.topology.proofs.Changed.{linked_network, unlinked_network, input_network, set_none, joined_network, left_network}
 use Rattle.firing_core.specs.Entries.{EditValue, LinkEdit, UnlinkEdit, SetEdit, PokeEdit, JoinEdit, LeaveEdit, EntryValue, BeginEntry, EndEntry, IdleEntry, EditEntry}
-use Rattle.firing_core.specs.Cores.{Core, copy_of, begun, ended, Ends, Edits, EditFits, edit_fault, edited, Step, Run, GoodExport, GoodFlight, IsGood}
+use Rattle.firing_core.specs.Cores.{Core, copy_of, begun, ended, Ends, EditFits, edit_fault, edited, Step, Run, GoodExport, GoodFlight, IsGood}
 use Rattle.firing_core.proofs.Neighbours.{copy_fits}
 use Rattle.firing_core.proofs.Steps.{put_case, may_leave, stays}
 

@@ -2,17 +2,21 @@
 use Rattle.std.proofs.Common.{◌≡◌, ℕ, zero, suc, ◌<◌, List, [], ◌∷◌, length, map, get_or, refl, sym, ◌∙◌, ap, subst, arith, Bool, true, false, nat_eq, if◌then◌else◌, Option}
 use Rattle.std.specs.Prelude.{option_map, ◌||◌}
 use Rattle.std.proofs.lemmas.Bool.{eqb-true, eq-eqb}
+use Rattle.std.proofs.lemmas.List.{length-map}
+use Rattle.fc_values.specs.declared.values.Local.{Local}
 use Rattle.fc_values.specs.declared.exports.Export.{Export}
 use Rattle.fc_values.specs.Values.{local_of}
 use Rattle.fc_values.specs.Exports.{export_of}
 use Rattle.value_trees.specs.declared.copies.Snap.{Snap}
-use Rattle.value_trees.specs.Copies.{FitsCopy}
+use Rattle.value_trees.specs.Copies.{FitsCopy, InputsFit}
 use Rattle.value_trees.specs.Snaps.{tree_of, near_copy, snap_copy, NearAreExports, IsSnap}
 use Rattle.topology.specs.declared.types.Device.{Device}
-use Rattle.topology.specs.Networks.{device_of, numbers, is_in, Lives, inputs_in, near}
+use Rattle.topology.specs.Networks.{NetDevice, device_of, numbers, is_in, Lives, inputs_in, near}
 use Rattle.firing_core.specs.Cores.{near_copies, copy_of}
 use Rattle.firing_core.specs.CoreViews.{CoreValue, core_of, program_of, IsCore}
-use Rattle.firing_core.proofs.Slots.{Distinct}
+use Rattle.firing_core.specs.Rooms.{types_of, declared_types}
+use Rattle.firing_core.proofs.RoomSteps.{input_forms}
+use Rattle.firing_core.proofs.Slots.{Distinct, rises_distinct}
 use Rattle.firing_core.proofs.Views.{many_numbers, export_there}
 use Rattle.firing_core.proofs.Neighbours.{copy_fits}
 use Rattle.firing_core.proofs.SnapCopies.{own_same, own_export}
@@ -32,6 +36,14 @@ inputs_at (y ∷ ys) (suc p) d x n h q e = by_test (nat_eq d y.id) refl (inputs_
         same_length [] = refl
         same_length (w ∷ ws) = ap suc (same_length ws)
     by_test false t ih = ih
+
+-- in the network of a core
+pub device_inputs : (v : CoreValue) → IsCore v → (p d : ℕ) (xs : List Device) (x : Device) → map device_of xs ≡ v.net.devices → p < length v.net.devices → get_or (numbers v.net.devices) p 0 ≡ d → x ≡ get_or xs p x
+    → map local_of x.inputs.items ≡ inputs_in d v.net.devices
+device_inputs v k p d xs x all h q i =
+    let n : Distinct (numbers (map device_of xs)) = subst (λ (ns : List NetDevice). Distinct (numbers ns)) (sym all) (rises_distinct _ k.net.rising) in
+    let l : p < length xs = omega (arith, h, length-map xs device_of, ap length all) in
+    inputs_at xs p d x n l i (subst (λ (ns : List NetDevice). get_or (numbers ns) p 0 ≡ d) (sym all) q) ∙ ap (inputs_in d) all
 
 -- a number at a place is among the numbers
 pub in_at : (is : List ℕ) (p d : ℕ) → p < length is → get_or is p 0 ≡ d → is_in d is ≡ true
@@ -71,3 +83,9 @@ module _ (v : CoreValue) (k : IsCore v) (p d : ℕ) (h : p < length v.net.device
     own = own_export (program_of v) s.own x parts.own (export_kept (program_of v) v.exports p x k.exports (export_within v k p d h e) q);
     near = parts.exports;
   }
+
+  -- the inputs of a device have the declared types
+  pub there_forms : (vs : List Local) → map local_of vs ≡ inputs_in d v.net.devices → types_of vs ≡ declared_types (program_of v)
+  there_forms vs q = input_forms (program_of v).declared.inputs vs (subst (InputsFit (program_of v).declared.inputs) (sym q)
+      (copy_fits (program_of v) v.net (core_of v).exports d k.net k.declared there
+      (λ i y r. (export_there (program_of v) (numbers v.net.devices) v.exports i y k.exports r).typed)).inputs)

@@ -1,6 +1,6 @@
 -- A core in code stands for a good core.
-use Rattle.std.proofs.Common.{◌≡◌, ℕ, zero, suc, List, [], ◌∷◌, length, map, refl, sym, ◌∙◌, ap, subst, arith, Bool, true, false, nat_eq, if◌then◌else◌, Option, Some, None}
-use Rattle.std.specs.Prelude.{option_map, replicate}
+use Rattle.std.proofs.Common.{◌≡◌, ℕ, suc, List, [], ◌∷◌, length, map, refl, sym, ◌∙◌, ap, subst, Bool, true, false, nat_eq, if◌then◌else◌, Option, Some, None}
+use Rattle.std.specs.Prelude.{option_map}
 use Rattle.std.proofs.lemmas.Bool.{eqb-true}
 use Rattle.std.proofs.lemmas.List.{length-map}
 use Rattle.fc_values.specs.declared.exports.Export.{Export}
@@ -67,23 +67,3 @@ many_flights U (i ∷ is) (x ∷ xs) a = ap suc (many_flights U is xs a.1)
 
 pub many_numbers : (ns : List NetDevice) → length (numbers ns) ≡ length ns
 many_numbers ns = length-map ns (λ (n : NetDevice). n.id)
-
--- slots without anything
-pub no_exports : (U : Unfolding) (n : ℕ) → AllExports U (replicate n None)
-no_exports U zero = tt
-no_exports U (suc n) = (tt, no_exports U n)
-
-pub no_flights : (U : Unfolding) (is : List ℕ) (n : ℕ) → n ≡ length is → AllFlights U is (replicate n None)
-no_flights U [] zero e = tt
-no_flights U [] (suc n) e = absurd (omega arith)
-no_flights U (i ∷ is) zero e = absurd (omega arith)
-no_flights U (i ∷ is) (suc n) e = (tt, no_flights U is n (omega arith))
-
-pub slot_empty : {X Y : Type 0} (f : X → Y) (is : List ℕ) (n d : ℕ) → slot_at is (map (option_map f) (replicate n None)) d ≡ None
-slot_empty f [] n d = refl
-slot_empty f (i ∷ is) zero d = refl
-slot_empty {X} {Y} f (i ∷ is) (suc n) d = by_test (nat_eq d i) (slot_empty f is n d)
-  where
-    by_test : (b : Bool) → slot_at is (map (option_map f) (replicate n None)) d ≡ None → (if b then None else slot_at is (map (option_map f) (replicate n None)) d) ≡ None
-    by_test true ih = refl
-    by_test false ih = ih

@@ -1,17 +1,20 @@
 -- Books: a program, a start, a log, and the core to which the log leads.
-use Rattle.std.specs.Prelude.{ℕ, ◌≡◌, List, [], ◌∷◌, ◌++◌, length, Some, None, Result, Err}
+use Rattle.std.specs.Prelude.{ℕ, Bool, false, ◌≡◌, List, [], ◌∷◌, ◌++◌, map, length, if◌then◌else◌, Some, None, is_some, Result, Err}
+use Rattle.fc_values.specs.Trees.{Copy}
+use Rattle.topology.specs.Networks.{numbers}
 use Rattle.fc_nodes.specs.Program.{Program, Unfolding, unfolding_of}
 use Rattle.firing_core.specs.declared.entries.Entry.{Entry}
+use Rattle.firing_core.specs.declared.entries.Entry.TheVariants as entry
 use Rattle.firing_core.specs.declared.entries.StepFault.{StepFault}
 use Rattle.firing_core.specs.declared.entries.StepFault.TheVariants as fault
 use Rattle.firing_core.specs.declared.entries.ReplayFault.{ReplayFault}
 use Rattle.firing_core.specs.declared.entries.ReplayFault.TheVariants as replay_fault
 use Rattle.firing_core.specs.declared.entries.EditFault.{EditFault}
 use Rattle.firing_core.specs.declared.entries.EditFault.TheVariants as edit_refusal
-use Rattle.firing_core.specs.Entries.{EntryValue, entry_of, entries_of}
-use Rattle.firing_core.specs.Cores.{Core, Step, Run, IsGood}
+use Rattle.firing_core.specs.Entries.{EntryValue, BeginEntry, EndEntry, IdleEntry, EditEntry, entry_of, entries_of}
+use Rattle.firing_core.specs.Cores.{Map, Core, Step, Run, IsGood}
 use Rattle.firing_core.specs.Replays.{fault_of, net_fault_of, FailsAt, replay}
-use Rattle.firing_core.specs.CoreViews.{CoreValue, core_of}
+use Rattle.firing_core.specs.CoreViews.{CoreValue, core_of, mark}
 
 -- what contracts see of a book: these four, and for how many entries the log has room
 pub record BookValue : Type 0 where
@@ -41,6 +44,43 @@ pub record AppendsEntry (old new : BookValue) (entry : Entry) : Type 0 where
   pub start : new.start ≡ old.start
   pub log : new.log ≡ old.log ++ entry ∷ []
   pub step : Step (unfolding_of old.program) (core_of old.core) (entry_of entry) (core_of new.core)
+
+-- which flights have a room after an entry: an end of one without it, or of one with it, takes its device out
+abbrev pub rooms_after : EntryValue → (ℕ → Bool) → ℕ → Bool
+rooms_after (BeginEntry d) set = set
+rooms_after (EndEntry d) set = mark set d false
+rooms_after IdleEntry set = set
+rooms_after (EditEntry e) set = set
+
+-- ---- flights that are ended
+
+-- the devices of a list that fly
+abbrev pub fliers : Map Copy → List ℕ → List ℕ
+fliers flying [] = []
+fliers flying (d ∷ ds) = if is_some (flying d) then d ∷ fliers flying ds else fliers flying ds
+
+-- the devices in flight, rising
+abbrev pub in_flight : Core → List ℕ
+in_flight c = fliers c.flying (numbers c.net.devices)
+
+abbrev pub ends_of : List ℕ → List Entry
+ends_of ds = map (λ d. entry.End d) ds
+
+-- the flights of these devices are ended, one after another
+pub record EndsFlights (old new : BookValue) (ds : List ℕ) : Type 0 where
+  pub program : new.program ≡ old.program
+  pub start : new.start ≡ old.start
+  pub log : new.log ≡ old.log ++ ends_of ds
+  pub run : Run (unfolding_of old.program) (core_of old.core) (entries_of (ends_of ds)) (core_of new.core)
+
+-- some of the flights are ended, those of the smallest devices
+pub record EndsSome (old new : BookValue) : Type 0 where
+  pub ended : List ℕ
+  pub left : List ℕ
+  pub flights : in_flight (core_of old.core) ≡ ended ++ left
+  pub ends : EndsFlights old new ended
+
+-- ---- refusals
 
 -- an entry has no step from a core, for this reason. Want of memory is free
 abbrev pub HasFault : Core → EntryValue → StepFault → Type 0

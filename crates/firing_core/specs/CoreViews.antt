@@ -1,5 +1,5 @@
 -- What contracts see of a core in code: one slot for each device, in the order of the network.
-use Rattle.std.specs.Prelude.{ℕ, ◌≡◌, List, [], ◌∷◌, map, length, nat_eq, if◌then◌else◌, Option, None, option_map}
+use Rattle.std.specs.Prelude.{ℕ, Bool, ◌≡◌, List, [], ◌∷◌, map, length, nat_eq, if◌then◌else◌, Option, Some, None, is_some, option_map}
 use Rattle.fc_values.specs.declared.exports.Export.{Export}
 use Rattle.fc_nodes.specs.Program.{Program, Unfolding, unfolding_of}
 use Rattle.fc_values.specs.Exports.{FlatExport, export_of}
@@ -9,12 +9,14 @@ use Rattle.value_trees.specs.Copies.{WhereSome}
 use Rattle.value_trees.specs.Snaps.{tree_of, snap_copy, IsExportOf, IsSnap}
 use Rattle.topology.specs.Networks.{Network, IsNetwork, numbers}
 use Rattle.firing_core.specs.Cores.{Map, Core}
+use Rattle.firing_core.specs.Rooms.{SpareValue, IsRest}
 
 pub record CoreValue : Type 0 where
   pub program : Program
   pub net : Network
   pub exports : List (Option Export)
   pub flying : List (Option Snap)
+  pub rooms : List (Option SpareValue)
 
 -- a neighbour in a copy, as plain values
 abbrev pub near_view : Near → ℕ × ℕ × FlatExport
@@ -56,6 +58,26 @@ abbrev pub AllSnaps : Unfolding → List (Option Snap) → Type 0
 AllSnaps U [] = Unit {0}
 AllSnaps U (x ∷ xs) = WhereSome (IsSnap U) x × AllSnaps U xs
 
+-- whether a device's flight has a room
+abbrev pub rooms_of : CoreValue → ℕ → Bool
+rooms_of c d = is_some (slot_at (numbers c.net.devices) c.rooms d)
+
+-- a set of devices with one more, or with one less
+abbrev pub mark : (ℕ → Bool) → ℕ → Bool → ℕ → Bool
+mark set d b e = if nat_eq e d then b else set e
+
+-- what is left of a room lies beside the flight that was taken from it
+abbrev pub RoomBeside : Unfolding → Option Snap → Option SpareValue → Type 0
+RoomBeside U None None = Unit {0}
+RoomBeside U None (Some r) = ⊥
+RoomBeside U (Some s) None = Unit {0}
+RoomBeside U (Some s) (Some r) = IsRest U s r
+
+abbrev pub AllRooms : Unfolding → List (Option Snap) → List (Option SpareValue) → Type 0
+AllRooms U [] [] = Unit {0}
+AllRooms U (s ∷ ss) (r ∷ rs) = RoomBeside U s r × AllRooms U ss rs
+AllRooms U _ _ = ⊥
+
 -- what its type keeps
 pub record IsCore (c : CoreValue) : Type 0 where
   pub declared : c.net.declared ≡ c.program.declared
@@ -63,14 +85,9 @@ pub record IsCore (c : CoreValue) : Type 0 where
   pub many : length c.exports ≡ length c.net.devices
   pub exports : AllExports (program_of c) c.exports
   pub flying : AllFlights (program_of c) (numbers c.net.devices) c.flying
+  pub rooms : AllRooms (program_of c) c.flying c.rooms
 
 -- the program and the network stay
 pub record IsSameCore (old new : CoreValue) : Type 0 where
   pub program : new.program ≡ old.program
   pub net : new.net ≡ old.net
-
--- a core of a network without exports and flights
-pub record IsEmptyCore (n : Network) (c : Core) : Type 0 where
-  pub net : c.net ≡ n
-  pub exports : (d : ℕ) → c.exports d ≡ None
-  pub flying : (d : ℕ) → c.flying d ≡ None

@@ -1,5 +1,5 @@
 -- The entries of a log, as plain values.
-use Rattle.std.specs.Prelude.{ℕ, Bool, true, false, List, [], ◌∷◌, map, if◌then◌else◌}
+use Rattle.std.specs.Prelude.{ℕ, List, map}
 use Rattle.fc_values.specs.Exports.{FlatExport, export_of}
 use Rattle.fc_values.specs.Values.{LocalValue, local_of}
 use Rattle.topology.specs.Networks.{NetDevice, device_of}

@@ -2,6 +2,8 @@ pub mod Entries
 pub mod Cores
 pub mod Refusals
 pub mod Replays
+pub mod Rooms
 pub mod CoreViews
+pub mod Starts
 pub mod Books
 pub mod Rounds

@@ -2,6 +2,7 @@
 
 use crate::cores::Core;
 use crate::entries::{Edit, EditFault, Entry, ReplayFault, StepFault};
+use crate::rooms::Room;
 use crate::snaps::copy_snap;
 use device_eval::{Fired, fire};
 use fc_nodes::Unfolded;
@@ -38,15 +39,16 @@ impl Model for Book {
 }
 
 impl Book {
-    ghost use Rattle.std.specs.Prelude.{◌≡◌, ◌↔◌, ◌≤◌, ◌+◌, [], IfOk, OnOk, OnErr, IfErr, IsErrOf, Some, None};
+    ghost use Rattle.std.specs.Prelude.{◌≡◌, ◌↔◌, ◌≤◌, ◌+◌, ℕ, [], ◌∷◌, IfOk, OnOk, OnErr, IfErr, IsErrOf, Some, None, true, false};
     ghost use Rattle.fc_values.specs.Trees.{Copy};
     ghost use Rattle.fc_nodes.specs.Program.{unfolding_of};
-    ghost use Rattle.value_trees.specs.Snaps.{snap_copy};
+    ghost use Rattle.value_trees.specs.Snaps.{snap_copy, IsSnap};
     ghost use Rattle.firing_core.specs.Entries.{BeginEntry, EndEntry, edit_of, entry_of};
-    ghost use Rattle.firing_core.specs.Cores.{EditFits, edit_fault};
+    ghost use Rattle.firing_core.specs.Cores.{EditFits, edit_fault, copy_of};
+    ghost use Rattle.firing_core.specs.Rooms.{IsRoom};
     ghost use Rattle.firing_core.specs.Replays.{fault_of, net_fault_of, EntryFits};
-    ghost use Rattle.firing_core.specs.CoreViews.{core_of};
-    ghost use Rattle.firing_core.specs.Books.{IsBook, IsSameBook, AppendsEntry, HasFault, RefusesEntry};
+    ghost use Rattle.firing_core.specs.CoreViews.{core_of, rooms_of, mark};
+    ghost use Rattle.firing_core.specs.Books.{IsBook, IsSameBook, AppendsEntry, HasFault, RefusesEntry, EndsFlights, EndsSome, fliers, in_flight, rooms_after};
     ghost use Rattle.firing_core.specs.Refusals.{RefusesEdit};
     ghost use Rattle.firing_core.specs.declared.entries.Entry.TheVariants as entry;
     ghost use Rattle.firing_core.specs.declared.entries.StepFault.TheVariants as fault;
@@ -118,6 +120,7 @@ impl Book {
         requires { 1 ≤ self.old.spare }
         ensures ok { OnOk result (AppendsEntry self.old self.new (entry.Begin device)) }
         ensures spare { OnOk result (self.new.spare + 1 ≡ self.old.spare) }
+        ensures rooms { rooms_of self.new.core ≡ rooms_of self.old.core }
         ensures no_device { IsErrOf result StepFault.NoDevice ↔ (fault_of (core_of self.old.core) (BeginEntry device) ≡ Some fault.NoDevice) }
         ensures flying { IsErrOf result StepFault.Flying ↔ (fault_of (core_of self.old.core) (BeginEntry device) ≡ Some fault.Flying) }
         ensures never { IsErrOf result StepFault.NotFlying → ⊥ }
@@ -128,6 +131,46 @@ impl Book {
         Ok(())
     }
 
+    /// Begins a firing in a room, as the core does, and appends the entry. It takes no memory.
+    pub fn begin_with(&mut self, device: u32, room: Room) -> Result<Snap, (Room, StepFault)>
+        requires spare { 1 ≤ self.old.spare }
+        requires room { IsRoom (unfolding_of self.old.program) room }
+        ensures ok { OnOk result (AppendsEntry self.old self.new (entry.Begin device)) }
+        ensures spare { OnOk result (self.new.spare + 1 ≡ self.old.spare) }
+        ensures copy { IfOk result (λ s. snap_copy (unfolding_of self.old.program) s ≡ copy_of self.old.core.net (core_of self.old.core).exports device) }
+        ensures snap { IfOk result (IsSnap (unfolding_of self.old.program)) }
+        ensures rooms { OnOk result (rooms_of self.new.core ≡ mark (rooms_of self.old.core) device true) }
+        ensures refused { IfErr result (λ e. fault_of (core_of self.old.core) (BeginEntry device) ≡ Some e.1) }
+        ensures accepted { OnOk result (fault_of (core_of self.old.core) (BeginEntry device) ≡ None) }
+        ensures back { IfErr result (λ e. e.0 ≡ room) }
+        ensures err { OnErr result (self.new ≡ self.old) }
+    {
+        let answer = self.core.begin_with(device, room)?;
+        self.log.push_reserved(Entry::Begin(device));
+        Ok(answer)
+    }
+
+    /// Ends a firing whose flight has a room, as the core does, and appends the entry. It takes no memory.
+    pub fn end_with(&mut self, fired: Fired) -> Result<Room, (Fired, StepFault)>
+        requires spare { 1 ≤ self.old.spare }
+        requires program { fired.program ≡ self.old.program }
+        requires copy { (s : Copy) → (core_of self.old.core).flying fired.snap.device ≡ Some s → s ≡ snap_copy (unfolding_of self.old.program) fired.snap }
+        requires room { (s : Copy) → (core_of self.old.core).flying fired.snap.device ≡ Some s → rooms_of self.old.core fired.snap.device ≡ true }
+        ensures ok { OnOk result (AppendsEntry self.old self.new (entry.End fired.snap.device)) }
+        ensures spare { OnOk result (self.new.spare + 1 ≡ self.old.spare) }
+        ensures room { IfOk result (IsRoom (unfolding_of self.old.program)) }
+        ensures rooms { OnOk result (rooms_of self.new.core ≡ mark (rooms_of self.old.core) fired.snap.device false) }
+        ensures refused { IfErr result (λ e. fault_of (core_of self.old.core) (EndEntry fired.snap.device) ≡ Some e.1) }
+        ensures accepted { OnOk result (fault_of (core_of self.old.core) (EndEntry fired.snap.device) ≡ None) }
+        ensures back { IfErr result (λ e. e.0 ≡ fired) }
+        ensures err { OnErr result (self.new ≡ self.old) }
+    {
+        let device = fired.snap().device;
+        let room = self.core.end_with(fired)?;
+        self.log.push_reserved(Entry::End(device));
+        Ok(room)
+    }
+
     /// Ends a firing, as the core does, and appends the entry. It takes no memory.
     pub fn end(&mut self, fired: Fired) -> Result<(), (Fired, StepFault)>
         requires spare { 1 ≤ self.old.spare }
@@ -135,6 +178,7 @@ impl Book {
         requires copy { (s : Copy) → (core_of self.old.core).flying fired.snap.device ≡ Some s → s ≡ snap_copy (unfolding_of self.old.program) fired.snap }
         ensures ok { OnOk result (AppendsEntry self.old self.new (entry.End fired.snap.device)) }
         ensures room { OnOk result (self.new.spare + 1 ≡ self.old.spare) }
+        ensures rooms { OnOk result (rooms_of self.new.core ≡ mark (rooms_of self.old.core) fired.snap.device false) }
         ensures refused { IfErr result (λ e. fault_of (core_of self.old.core) (EndEntry fired.snap.device) ≡ Some e.1) }
         ensures accepted { OnOk result (fault_of (core_of self.old.core) (EndEntry fired.snap.device) ≡ None) }
         ensures back { IfErr result (λ e. e.0 ≡ fired) }
@@ -152,6 +196,7 @@ impl Book {
         requires fits { EditFits (unfolding_of self.old.program) (edit_of edit) }
         ensures ok { OnOk result (AppendsEntry self.old self.new (entry.Edit edit)) }
         ensures room { OnOk result (self.new.spare + 1 ≡ self.old.spare) }
+        ensures rooms { rooms_of self.new.core ≡ rooms_of self.old.core }
         ensures accepted { OnOk result (edit_fault (core_of self.old.core) (edit_of edit) ≡ None) }
         ensures refused { IfErr result (RefusesEdit (core_of self.old.core) (edit_of edit)) }
         ensures err { OnErr result (self.new ≡ self.old) }
@@ -166,6 +211,7 @@ impl Book {
         requires { 1 ≤ self.old.spare }
         ensures appended { AppendsEntry self.old self.new entry.Idle }
         ensures room { self.new.spare + 1 ≡ self.old.spare }
+        ensures rooms { rooms_of self.new.core ≡ rooms_of self.old.core }
     {
         self.log.push_reserved(Entry::Idle);
     }
@@ -175,6 +221,7 @@ impl Book {
     pub fn step(&mut self, alloc: Global, entry: Entry) -> Result<(), ReplayFault>
         requires { EntryFits (unfolding_of self.old.program) (entry_of entry) }
         ensures ok { OnOk result (AppendsEntry self.old self.new entry) }
+        ensures rooms { OnOk result (rooms_of self.new.core ≡ rooms_after (entry_of entry) (rooms_of self.old.core)) }
         ensures refused { IfErr result (RefusesEntry self.old (entry_of entry)) }
         ensures accepted { OnOk result (fault_of (core_of self.old.core) (entry_of entry) ≡ None) }
         ensures allowed { OnOk result (net_fault_of (core_of self.old.core) (entry_of entry) ≡ None) }
@@ -186,11 +233,40 @@ impl Book {
         self.apply(alloc, entry)
     }
 
+    /// Ends each flight, that of the smallest device first. For want of memory some flights, the first of these, are ended.
+    pub fn settle(&mut self, alloc: Global) -> Result<(), Memory>
+        ensures ok { OnOk result (EndsFlights self.old self.new (in_flight (core_of self.old.core))) }
+        ensures rests { OnOk result ((d : ℕ) → (core_of self.new.core).flying d ≡ None) }
+        ensures memory { OnErr result (EndsSome self.old self.new) }
+    {
+        let count = self.core().net().devices().len();
+        for place in 0..count {
+            let device = self.core().net().devices()[place].id;
+            self.settle_one(alloc, device)?;
+        }
+        Ok(())
+    }
+
+    // Ends the flight of a device, if it flies.
+    fn settle_one(&mut self, alloc: Global, device: u32) -> Result<(), Memory>
+        ensures ok { OnOk result (EndsFlights self.old self.new (fliers (core_of self.old.core).flying (device ∷ []))) }
+        ensures err { OnErr result (IsSameBook self.old self.new) }
+    {
+        if self.core().flying(device).is_none() {
+            return Ok(());
+        }
+        match self.step(alloc, Entry::End(device)) {
+            Ok(()) => Ok(()),
+            Err(_) => Err(Memory),
+        }
+    }
+
     // One entry, where the log has room for it.
     fn apply(&mut self, alloc: Global, entry: Entry) -> Result<(), ReplayFault>
         requires spare { 1 ≤ self.old.spare }
         requires fits { EntryFits (unfolding_of self.old.program) (entry_of entry) }
         ensures ok { OnOk result (AppendsEntry self.old self.new entry) }
+        ensures rooms { OnOk result (rooms_of self.new.core ≡ rooms_after (entry_of entry) (rooms_of self.old.core)) }
         ensures refused { IfErr result (RefusesEntry self.old (entry_of entry)) }
         ensures accepted { OnOk result (fault_of (core_of self.old.core) (entry_of entry) ≡ None) }
         ensures allowed { OnOk result (net_fault_of (core_of self.old.core) (entry_of entry) ≡ None) }
@@ -212,6 +288,7 @@ impl Book {
     fn finish(&mut self, alloc: Global, device: u32) -> Result<(), StepFault>
         requires { 1 ≤ self.old.spare }
         ensures ok { OnOk result (AppendsEntry self.old self.new (entry.End device)) }
+        ensures rooms { OnOk result (rooms_of self.new.core ≡ mark (rooms_of self.old.core) device false) }
         ensures refused { IfErr result (HasFault (core_of self.old.core) (EndEntry device)) }
         ensures accepted { OnOk result (fault_of (core_of self.old.core) (EndEntry device) ≡ None) }
         ensures err { OnErr result (self.new ≡ self.old) }

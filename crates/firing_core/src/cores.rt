@@ -1,6 +1,8 @@
 //! Cores: a network, the exports of its devices, and the copies in flight.
 
 use crate::entries::{Edit, EditFault, StepFault};
+use crate::filling::{export_slots, flight_slots, no_slots, open_slot};
+use crate::rooms::Spare;
 use crate::snaps::{copy_device, copy_exports, copy_flights, copy_locals, copy_own, copy_plain};
 use arrayvec::ArrayVec;
 use device_eval::Fired;
@@ -12,6 +14,8 @@ use std::sync::Arc;
 use topology::{Device, JoinFault, NetFault, Network};
 use value_trees::{Near, Snap};
 
+mod roomed;
+
 /// A network of devices that run a program, with the export and the copy in flight of each.
 #[derive(Drop)]
 pub struct Core {
@@ -19,6 +23,8 @@ pub struct Core {
     net: Network,
     exports: Vec<Option<Export>>,
     flying: Vec<Option<Snap>>,
+    // what a copy in flight left of the room that it was taken from
+    rooms: Vec<Option<Spare>>,
 }
 
 impl Model for Core {
@@ -32,54 +38,52 @@ impl Model for Core {
 
     ghost coded = { Prim.hlevel (codes, local_value_code, local.the_row.coded, local_ty.the_row.coded) };
 
-    ghost view = { λ c. record { program = c.program.value; net = c.net; exports = c.exports.items; flying = c.flying.items } };
+    ghost view = { λ c. record { program = c.program.value; net = c.net; exports = c.exports.items; flying = c.flying.items; rooms = c.rooms.items } };
 
-    ghost invariant = { λ c. IsCore (record { program = c.program.value; net = c.net; exports = c.exports.items; flying = c.flying.items }) };
-}
-
-ghost use Rattle.std.specs.Prelude.{◌≡◌, IfOk, replicate, None};
-
-// So many empty slots.
-fn no_slots<T: Drop>(alloc: Global, count: usize) -> Result<Vec<Option<T>>, Memory>
-    ensures { IfOk result (λ v. v.items ≡ replicate count None) }
-{
-    let mut slots = Vec::new(alloc);
-    for _ in 0..count {
-        slots.push(None)?;
-    }
-    Ok(slots)
+    ghost invariant = { λ c. IsCore (record { program = c.program.value; net = c.net; exports = c.exports.items; flying = c.flying.items; rooms = c.rooms.items }) };
 }
 
 impl Core {
-    ghost use Rattle.std.specs.Prelude.{◌≡◌, ◌↔◌, ◌<◌, IfOk, OnOk, OnErr, IfErr, IfSome, IfNone, IsErrOf, IsSome, Some, None, true, false, option_copied, option_map, length, slice_index, map, ◌≤◌};
+    ghost use Rattle.std.specs.Prelude.{◌≡◌, ◌↔◌, ◌<◌, ℕ, IfOk, OnOk, OnErr, IfErr, IfSome, IfNone, IsErrOf, IsSome, Some, None, true, false, option_copied, option_map, length, slice_index, map, ◌≤◌};
     ghost use Rattle.fc_values.specs.Trees.{Copy};
     ghost use Rattle.fc_nodes.specs.Program.{unfolding_of};
     ghost use Rattle.value_trees.specs.Snaps.{snap_copy, tree_of, near_copy, NearAreExports, IsSnap, IsExportOf};
     ghost use Rattle.topology.specs.Networks.{lives, numbers, device_of, near as near_of};
     ghost use Rattle.firing_core.specs.Cores.{Step, IsGood, Edits, EditFits, edit_fault, copy_of, near_copies};
     ghost use Rattle.firing_core.specs.Replays.{fault_of};
-    ghost use Rattle.firing_core.specs.CoreViews.{core_of, program_of, IsCore, IsSameCore, IsEmptyCore};
+    ghost use Rattle.firing_core.specs.CoreViews.{core_of, program_of, IsCore, IsSameCore, rooms_of, mark};
+    ghost use Rattle.firing_core.specs.Starts.{started, IsTable, IsPending};
     ghost use Rattle.firing_core.specs.Entries.{BeginEntry, EndEntry, LinkEdit, UnlinkEdit, SetEdit, PokeEdit, JoinEdit, LeaveEdit, edit_of};
     ghost use Rattle.firing_core.specs.Refusals.{RefusesEdit};
     ghost use Rattle.fc_values.specs.Values.{local_of};
     ghost use Rattle.fc_values.specs.Exports.{export_of};
     ghost use Rattle.firing_core.specs.declared.entries.StepFault.TheVariants as fault;
 
-    /// The core of a network in which no device has an export and none is in flight.
-    pub fn new(alloc: Global, program: &Arc<Unfolded>, net: Network) -> Result<Self, Memory>
-        requires { net.declared ≡ program.now.value.declared }
+    /// The core of a network with a table of exports, and with these copies in flight.
+    pub fn new(
+        alloc: Global,
+        program: &Arc<Unfolded>,
+        net: Network,
+        table: Vec<(u32, Export)>,
+        pending: Vec<Snap>,
+    ) -> Result<Self, Memory>
+        requires declared { net.declared ≡ program.now.value.declared }
+        requires table { IsTable (unfolding_of program.now.value) net table.items }
+        requires pending { IsPending (unfolding_of program.now.value) net pending.items }
         ensures program { IfOk result (λ c. c.program ≡ program.now.value) }
-        ensures core { IfOk result (λ c. IsEmptyCore net (core_of c)) }
+        ensures core { IfOk result (λ c. core_of c ≡ started (unfolding_of program.now.value) net table.items pending.items) }
+        ensures rooms { IfOk result (λ c. (d : ℕ) → rooms_of c d ≡ false) }
     {
         let program = program.clone()?;
-        let count = net.devices().len();
-        let exports = no_slots(alloc, count)?;
-        let flying = no_slots(alloc, count)?;
+        let exports = export_slots(alloc, &net, table)?;
+        let flying = flight_slots(alloc, &net, pending)?;
+        let rooms = no_slots(alloc, flying.len())?;
         Ok(Core {
             program,
             net,
             exports,
             flying,
+            rooms,
         })
     }
 
@@ -120,21 +124,24 @@ impl Core {
         self.flying[place].as_ref()
     }
 
-    /// A copy of the core.
+    /// A copy of the core. None of its flights has a room.
     pub fn copy(&self, alloc: Global) -> Result<Self, Memory>
         ensures program { IfOk result (λ c. c.program ≡ self.now.program) }
         ensures core { IfOk result (λ c. core_of c ≡ core_of self.now) }
         ensures kept { IfOk result IsCore }
+        ensures rooms { IfOk result (λ c. (d : ℕ) → rooms_of c d ≡ false) }
     {
         let program = self.program.clone()?;
         let net = self.net.copy(alloc)?;
         let exports = copy_exports(alloc, &self.exports)?;
         let flying = copy_flights(alloc, &self.program, &self.flying)?;
+        let rooms = no_slots(alloc, flying.len())?;
         Ok(Core {
             program,
             net,
             exports,
             flying,
+            rooms,
         })
     }
 
@@ -190,6 +197,7 @@ impl Core {
         ensures never { IsErrOf result StepFault.NotFlying → ⊥ }
         ensures err { OnErr result (self.new ≡ self.old) }
         ensures same { IsSameCore self.old self.new }
+        ensures rooms { rooms_of self.new ≡ rooms_of self.old }
     {
         let Some(place) = self.net.place(device) else {
             return Err(StepFault::NoDevice);
@@ -204,7 +212,8 @@ impl Core {
         Ok(())
     }
 
-    /// Publishes the export of a firing and ends it. It takes no memory. What was fired comes back with a refusal.
+    /// Publishes the export of a firing and ends it. It takes no memory, and drops what is left of a room. What was fired
+    /// comes back with a refusal.
     pub fn end(&mut self, fired: Fired) -> Result<(), (Fired, StepFault)>
         requires program { fired.program ≡ self.old.program }
         requires copy { (s : Copy) → (core_of self.old).flying fired.snap.device ≡ Some s → s ≡ snap_copy (program_of self.old) fired.snap }
@@ -214,6 +223,7 @@ impl Core {
         ensures back { IfErr result (λ e. e.0 ≡ fired) }
         ensures err { OnErr result (self.new ≡ self.old) }
         ensures same { IsSameCore self.old self.new }
+        ensures rooms { OnOk result (rooms_of self.new ≡ mark (rooms_of self.old) fired.snap.device false) }
     {
         let device = fired.snap().device;
         let Some(place) = self.net.place(device) else {
@@ -225,6 +235,7 @@ impl Core {
         let (_, export) = fired.into_parts();
         self.exports[place] = Some(export);
         self.flying[place] = None;
+        self.rooms[place] = None;
         Ok(())
     }
 
@@ -236,6 +247,7 @@ impl Core {
         ensures refused { IfErr result (RefusesEdit (core_of self.old) (edit_of edit.now)) }
         ensures err { OnErr result (self.new ≡ self.old) }
         ensures program { self.new.program ≡ self.old.program }
+        ensures rooms { rooms_of self.new ≡ rooms_of self.old }
     {
         match edit {
             Edit::Link(a, b, weight) => self.link(*a, *b, *weight),
@@ -252,6 +264,7 @@ impl Core {
         ensures refused { IfErr result (RefusesEdit (core_of self.old) (LinkEdit a b weight)) }
         ensures err { OnErr result (self.new ≡ self.old) }
         ensures program { self.new.program ≡ self.old.program }
+        ensures rooms { rooms_of self.new ≡ rooms_of self.old }
     {
         if let Err(fault) = self.net.link(a, b, weight) {
             return Err(EditFault::Net(fault));
@@ -264,6 +277,7 @@ impl Core {
         ensures refused { IfErr result (RefusesEdit (core_of self.old) (UnlinkEdit a b)) }
         ensures err { OnErr result (self.new ≡ self.old) }
         ensures program { self.new.program ≡ self.old.program }
+        ensures rooms { rooms_of self.new ≡ rooms_of self.old }
     {
         if let Err(fault) = self.net.unlink(a, b) {
             return Err(EditFault::Net(fault));
@@ -277,6 +291,7 @@ impl Core {
         ensures refused { IfErr result (RefusesEdit (core_of self.old) (SetEdit device input (local_of value.now))) }
         ensures err { OnErr result (self.new ≡ self.old) }
         ensures program { self.new.program ≡ self.old.program }
+        ensures rooms { rooms_of self.new ≡ rooms_of self.old }
     {
         if let Some(fault) = self.net.set_fault(device, input, value) {
             return Err(EditFault::Net(fault));
@@ -296,6 +311,7 @@ impl Core {
         ensures refused { IfErr result (RefusesEdit (core_of self.old) (PokeEdit device (export_of export.now))) }
         ensures err { OnErr result (self.new ≡ self.old) }
         ensures program { self.new.program ≡ self.old.program }
+        ensures rooms { rooms_of self.new ≡ rooms_of self.old }
     {
         let Some(place) = self.net.place(device) else {
             return Err(EditFault::Net(NetFault::NoDevice));
@@ -313,18 +329,23 @@ impl Core {
         ensures refused { IfErr result (RefusesEdit (core_of self.old) (JoinEdit (device_of device.now))) }
         ensures err { OnErr result (self.new ≡ self.old) }
         ensures program { self.new.program ≡ self.old.program }
+        ensures rooms { rooms_of self.new ≡ rooms_of self.old }
     {
         let Ok(copied) = copy_device(alloc, device) else {
             return Err(EditFault::Memory);
         };
-        if self.exports.reserve(1).is_err() || self.flying.reserve(1).is_err() {
+        if self.exports.reserve(1).is_err()
+            || self.flying.reserve(1).is_err()
+            || self.rooms.reserve(1).is_err()
+        {
             return Err(EditFault::Memory);
         }
         let place = self.net.room(device.id);
         match self.net.join(copied) {
             Ok(()) => {
-                let _ = self.exports.insert(place, None);
-                let _ = self.flying.insert(place, None);
+                open_slot(&mut self.exports, place);
+                open_slot(&mut self.flying, place);
+                open_slot(&mut self.rooms, place);
                 Ok(())
             }
             Err(JoinFault::Net(fault)) => Err(EditFault::Net(fault)),
@@ -337,6 +358,7 @@ impl Core {
         ensures refused { IfErr result (RefusesEdit (core_of self.old) (LeaveEdit device)) }
         ensures err { OnErr result (self.new ≡ self.old) }
         ensures program { self.new.program ≡ self.old.program }
+        ensures rooms { rooms_of self.new ≡ rooms_of self.old }
     {
         let Some(place) = self.net.place(device) else {
             return Err(EditFault::Net(NetFault::NoDevice));
@@ -350,6 +372,7 @@ impl Core {
         }
         self.exports.remove(place);
         self.flying.remove(place);
+        self.rooms.remove(place);
         Ok(())
     }
 }

@@ -47,3 +47,13 @@ pub enum ReplayFault {
     EditAt { index: usize, fault: NetFault },
     Memory,
 }
+
+/// The stretch of a log that a line of a script made: the number of the line, its rounds, the first position, and the
+/// position after the last.
+#[derive(Clone, Copy, Debug, PartialEq, Eq)]
+pub struct Part {
+    pub line: u32,
+    pub rounds: u32,
+    pub from: usize,
+    pub to: usize,
+}

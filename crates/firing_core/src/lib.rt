@@ -4,11 +4,14 @@
 mod books;
 mod cores;
 mod entries;
+mod filling;
 mod laws;
+mod rooms;
 mod snaps;
 
 pub use books::{Book, replay};
 pub use cores::Core;
-pub use entries::{Edit, EditFault, Entry, ReplayFault, StepFault};
+pub use entries::{Edit, EditFault, Entry, Part, ReplayFault, StepFault};
 pub use laws::{logs_decide, steps_agree, steps_keep_good};
+pub use rooms::Room;
 pub use snaps::copy_snap;

@@ -6,7 +6,7 @@ use Rattle.topology.specs.Networks.{Lives}
 use Rattle.firing_core.specs.Cores.{begun, copy_of}
 use Rattle.firing_core.specs.Replays.{fault_of}
 use Rattle.firing_core.specs.CoreViews.{CoreValue, core_of, program_of}
-use Rattle.firing_core.specs.Entries.{BeginEntry, EndEntry}
+use Rattle.firing_core.specs.Entries.{BeginEntry}
 use Rattle.firing_core.specs.declared.entries.StepFault.TheVariants as fault
 use Rattle.firing_core.proofs.CoreSteps.{flight_within, begin_flying, begin_free, not_flying, begun_core, begun_kept}
 use Rattle.firing_core.proofs.cores.Core.begin.Goals as goal
@@ -40,13 +40,13 @@ returns-clause-flying c =
 
 pub invariant_of-self : goal.invariant_of-self
 invariant_of-self c =
-    begun_kept _ c.self.invariant c.in-Some.place c.args.device c.in-Some.ensures.within c.in-Some.ensures.there c.in-Ok.snap
+    begun_kept _ c.self.invariant c.in-Some.place c.args.device c.in-Some.ensures.within c.in-Some.ensures.there _ c.in-Ok.snap c.index.ensures (sym c.if-is_some.ensures)
     (ap (λ (x : Copy). x.device) c.in-Ok.ensures.copy)
     (subst (λ (v : CoreValue). IsSnap (program_of v) c.in-Ok.snap) (sym c.self.view_is) c.in-Ok.ensures.snap)
 
 pub returns-clause-ok : goal.returns-clause-ok
 returns-clause-ok c =
-    let new : CoreValue = record { program = c.self.inside.program.value; net = c.self.inside.net; exports = c.self.inside.exports.items; flying = slice_set c.self.inside.flying.items c.in-Some.place (Some c.in-Ok.snap) } in
+    let new : CoreValue = record { program = c.self.inside.program.value; net = c.self.inside.net; exports = c.self.inside.exports.items; flying = slice_set c.self.inside.flying.items c.in-Some.place (Some c.in-Ok.snap); rooms = c.self.inside.rooms.items } in
     subst (λ (v : CoreValue). Lives v.net c.args.device × ((core_of v).flying c.args.device ≡ None) × (core_of new ≡ begun (core_of v).exports (core_of v) c.args.device)) c.self.view_is (
       c.in-Some.ensures.lives,
       not_flying _ c.self.invariant c.in-Some.place c.args.device c.in-Some.ensures.within c.in-Some.ensures.there _ c.index.ensures (sym c.if-is_some.ensures),

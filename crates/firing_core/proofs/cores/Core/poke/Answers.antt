@@ -1,4 +1,4 @@
-use Rattle.std.proofs.Common.{◌≡◌, sym, subst, None, not, true}
+use Rattle.std.proofs.Common.{sym, subst}
 use Rattle.fc_values.specs.Exports.{export_of}
 use Rattle.fc_nodes.specs.Flat.{IsExport}
 use Rattle.firing_core.specs.Entries.{PokeEdit}

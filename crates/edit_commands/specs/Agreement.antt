@@ -1,0 +1,71 @@
+-- Readings of one log: they may differ in what an export holds at the places of a branch that isn't taken, and in nothing else.
+use Rattle.std.specs.Prelude.{ℕ, ◌≡◌, List, [], ◌∷◌, map}
+use Rattle.fc_values.specs.Exports.{FlatExport}
+use Rattle.fc_nodes.specs.Program.{Unfolding}
+use Rattle.fc_nodes.specs.Flat.{IsExport, tree_export}
+use Rattle.topology.specs.Networks.{Network}
+use Rattle.firing_core.specs.declared.entries.ReplayFault.{ReplayFault}
+use Rattle.firing_core.specs.Entries.{EditValue, LinkEdit, UnlinkEdit, SetEdit, PokeEdit, JoinEdit, LeaveEdit, EntryValue, BeginEntry, EndEntry, IdleEntry, EditEntry}
+use Rattle.firing_core.specs.Cores.{Core}
+use Rattle.firing_core.specs.Replays.{replay}
+use Rattle.firing_core.specs.Books.{FailsReplay}
+use Rattle.edit_commands.specs.Logs.{IsLog}
+
+-- two exports of a program that stand for one tree
+pub record SameExport (U : Unfolding) (x y : FlatExport) : Type 0 where
+  pub first : IsExport U x
+  pub second : IsExport U y
+  pub tree : tree_export U x ≡ tree_export U y
+
+abbrev pub SamePoke : Unfolding → ℕ → FlatExport → EditValue → Type 0
+SamePoke U d x (LinkEdit a b w) = ⊥
+SamePoke U d x (UnlinkEdit a b) = ⊥
+SamePoke U d x (SetEdit e i v) = ⊥
+SamePoke U d x (PokeEdit e y) = (e ≡ d) × SameExport U x y
+SamePoke U d x (JoinEdit y) = ⊥
+SamePoke U d x (LeaveEdit e) = ⊥
+
+abbrev pub SameEdit : Unfolding → EditValue → EditValue → Type 0
+SameEdit U (LinkEdit a b w) f = f ≡ LinkEdit a b w
+SameEdit U (UnlinkEdit a b) f = f ≡ UnlinkEdit a b
+SameEdit U (SetEdit d i v) f = f ≡ SetEdit d i v
+SameEdit U (PokeEdit d x) f = SamePoke U d x f
+SameEdit U (JoinEdit x) f = f ≡ JoinEdit x
+SameEdit U (LeaveEdit d) f = f ≡ LeaveEdit d
+
+abbrev pub SameAsEdit : Unfolding → EditValue → EntryValue → Type 0
+SameAsEdit U e (BeginEntry d) = ⊥
+SameAsEdit U e (EndEntry d) = ⊥
+SameAsEdit U e IdleEntry = ⊥
+SameAsEdit U e (EditEntry f) = SameEdit U e f
+
+abbrev pub SameEntry : Unfolding → EntryValue → EntryValue → Type 0
+SameEntry U (BeginEntry d) f = f ≡ BeginEntry d
+SameEntry U (EndEntry d) f = f ≡ EndEntry d
+SameEntry U IdleEntry f = f ≡ IdleEntry
+SameEntry U (EditEntry e) f = SameAsEdit U e f
+
+abbrev pub SameEntries : Unfolding → List EntryValue → List EntryValue → Type 0
+SameEntries U [] [] = Unit {0}
+SameEntries U (e ∷ es) (f ∷ fs) = SameEntry U e f × SameEntries U es fs
+SameEntries U _ _ = ⊥
+
+abbrev pub number_in : ℕ × EntryValue → ℕ
+number_in e = e.0
+
+abbrev pub value_in : ℕ × EntryValue → EntryValue
+value_in e = e.1
+
+-- two readings of a log have the same lines, and the same entries
+abbrev pub ReadingsAgree : Type 0
+ReadingsAgree =
+    (U : Unfolding) (n : Network) (text : List ℕ) (es fs : List (ℕ × EntryValue)) → IsLog U n text es → IsLog U n text fs
+    → (map number_in es ≡ map number_in fs) × SameEntries U (map value_in es) (map value_in fs)
+
+-- the same entries lead to the same core
+abbrev pub ReplaysAgree : Type 0
+ReplaysAgree = (U : Unfolding) (es fs : List EntryValue) → SameEntries U es fs → (c : Core) → replay U c es ≡ replay U c fs
+
+-- or they are refused at the same entry, for the same reason
+abbrev pub FaultsAgree : Type 0
+FaultsAgree = (U : Unfolding) (es fs : List EntryValue) → SameEntries U es fs → (c : Core) (fault : ReplayFault) → FailsReplay U c es fault → FailsReplay U c fs fault

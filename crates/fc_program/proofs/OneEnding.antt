@@ -1,0 +1,55 @@
+-- The lines of a log have at most one reply.
+use Rattle.std.proofs.Common.{ℕ, ◌≡◌, ◌≤◌, List, refl, ap, ◌∙◌, sym, subst, arith, [], Option, Some, None}
+use Rattle.fc_nodes.specs.Program.{Unfolding}
+use Rattle.topology.specs.Networks.{numbers}
+use Rattle.firing_core.specs.Cores.{Core}
+use Rattle.firing_core.specs.Entries.{EntryValue}
+use Rattle.firing_core.specs.Replays.{replay}
+use Rattle.firing_core.specs.Rounds.{HasRounds, after_edit}
+use Rattle.net_json.specs.Judging.{Judged, Refusal}
+use Rattle.net_json.specs.Scenes.{SceneValue}
+use Rattle.edit_commands.specs.declared.types.Fault.{Fault}
+use Rattle.edit_commands.specs.LineByLine.{Lines}
+use Rattle.edit_commands.specs.Logs.{LogLine, log_of}
+use Rattle.fc_program.specs.declared.refusal.LogFault.{LogFault}
+use Rattle.fc_program.specs.declared.tasks.Extras.{Extras}
+use Rattle.fc_program.specs.Refusals.{Reply, refused, done, log_refusal}
+use Rattle.fc_program.specs.Replays.{Logged, entries_in, first_stop, IsGreatest, replay_text, start_of, RepliesToEntries, RepliesToLog, RepliesToScene, stops, leads, faulty, entries, no_scene, from_scene}
+use Rattle.fc_program.proofs.Stops.{never_stops}
+use Rattle.fc_program.proofs.Alike.{AllAlike, all_alike, same_stop, same_replay, same_part}
+
+not_more : (live live' : List ℕ) (es es' : List EntryValue) (n m : ℕ) → live ≡ live' → after_edit es ≡ after_edit es' → IsGreatest live es n → IsGreatest live' es' m → n ≤ m
+not_more live live' es es' n m e f g h = h.most n (subst (λ part. HasRounds live' part n) f (subst (λ l. HasRounds l (after_edit es) n) e g.has))
+
+one_greatest : (live live' : List ℕ) (es es' : List EntryValue) (n m : ℕ) → live ≡ live' → after_edit es ≡ after_edit es' → IsGreatest live es n → IsGreatest live' es' m → n ≡ m
+one_greatest live live' es es' n m e f g h = omega (arith, not_more live live' es es' n m e f g h, not_more live' live es' es m n (sym e) (sym f) h g)
+
+abbrev at_line : ℕ → LogFault → Option (ℕ × LogFault)
+at_line at fault = Some (at, fault)
+
+abbrev stopped : Option (ℕ × LogFault) → Reply
+stopped None = done []
+stopped (Some s) = refused (log_refusal s.0 s.1)
+
+one_stop : (at bt : ℕ) (f g : LogFault) → at_line at f ≡ at_line bt g → refused (log_refusal at f) ≡ refused (log_refusal bt g)
+one_stop at bt f g h = ap stopped h
+
+same_to_entries : (x : Extras) (U : Unfolding) (start : Core) (a b : List Logged) (r s : Reply) → AllAlike U a b → RepliesToEntries x U start a r → RepliesToEntries x U start b s → r ≡ s
+same_to_entries x U start a b r s alike (stops at f h) (stops bt g k) = one_stop at bt f g (sym h ∙ same_stop U start a b alike ∙ k)
+same_to_entries x U start a b r s alike (stops at f h) (leads core n k g) =
+    let e : at_line at f ≡ None = sym h ∙ same_stop U start a b alike ∙ never_stops U start core b k in absurd cc
+same_to_entries x U start a b r s alike (leads core n h g) (stops bt f k) =
+    let e : at_line bt f ≡ None = sym k ∙ sym (same_stop U start a b alike) ∙ never_stops U start core a h in absurd cc
+same_to_entries x U start a b r s alike (leads core n h g) (leads other m k i) =
+    let e : Some core ≡ Some other = sym h ∙ same_replay U start a b alike ∙ k in
+    let same : core ≡ other = cc in
+    let many : n ≡ m = one_greatest (numbers core.net.devices) (numbers other.net.devices) (entries_in a) (entries_in b) n m (ap (λ (c : Core). numbers c.net.devices) same) (same_part U a b alike) g i in
+    ap (λ c. done (replay_text x U c n)) same ∙ ap (λ j. done (replay_text x U other j)) many
+
+same_to_log : (x : Extras) (U : Unfolding) (s : SceneValue) (j : Lines Fault LogLine) (r t : Reply) → RepliesToLog x U s j r → RepliesToLog x U s j t → r ≡ t
+same_to_log x U s j r t (faulty at f) (faulty bt g) = refl
+same_to_log x U s j r t (entries ls a q are h) (entries ms b p too k) = same_to_entries x U (start_of s) a b r t (all_alike U ls a b are too) h k
+
+pub same_to_scene : (x : Extras) (U : Unfolding) (log : List ℕ) (j : Judged SceneValue) (r t : Reply) → RepliesToScene x U log j r → RepliesToScene x U log j t → r ≡ t
+same_to_scene x U log j r t (no_scene a) (no_scene b) = refl
+same_to_scene x U log j r t (from_scene s q h) (from_scene u p k) = same_to_log x U s (log_of U s.net log) r t h k

@@ -1,0 +1,173 @@
+-- What rooms hold: exports of one shape, and copies without exports.
+use Rattle.std.proofs.Common.{◌≡◌, ℕ, zero, suc, ◌<◌, ◌≤◌, List, [], ◌∷◌, ◌++◌, length, map, take, drop, get_or, refl, sym, ◌∙◌, ap, subst, arith, Option, Some, None}
+use Rattle.std.specs.Prelude.{slice_set}
+use Rattle.fc_values.specs.declared.values.Local.{Local}
+use Rattle.fc_values.specs.declared.exports.Export.{Export}
+use Rattle.fc_values.specs.declared.types.InputTy.{InputTy}
+use Rattle.fc_values.specs.declared.types.InputTy.TheVariants as input
+use Rattle.fc_values.specs.declared.types.InputDecl.{InputDecl}
+use Rattle.fc_values.specs.Types.{ValueType, Declarations, Input, input_of, input_type, type_of as value_type_of}
+use Rattle.fc_values.specs.BuiltinTypes.{inner}
+use Rattle.fc_values.specs.Values.{LocalValue, IntValue, BoolValue, PairValue, local_of, form_of, SameForm}
+use Rattle.fc_values.specs.Exports.{FlatExport, export_of}
+use Rattle.fc_nodes.specs.declared.nodes.Node.{Node}
+use Rattle.fc_nodes.specs.Terms.{Term, Plain, Apply, Nbr, Evolve, If, Let, Sort, HasNode, Laid, type_of, kept_types, view_at, view_of, sort_of}
+use Rattle.fc_nodes.specs.Program.{Program, IsProgram, Unfolding, unfolding_of}
+use Rattle.fc_nodes.specs.Flat.{IsExport, HaveForms}
+use Rattle.value_trees.specs.declared.copies.Near.{Near}
+use Rattle.value_trees.specs.declared.copies.Snap.{Snap}
+use Rattle.value_trees.specs.Copies.{InputFits, InputsFit}
+use Rattle.value_trees.specs.Snaps.{IsExportOf, NearAreExports, IsSnap}
+use Rattle.value_trees.specs.Shapes.{IsShaped}
+use Rattle.value_trees.proofs.Forms.{fits_form}
+use Rattle.flat_exports.specs.Layouts.{LayoutValue, IsLayout, blank_slots}
+use Rattle.flat_exports.proofs.Blanks.{have_forms}
+use Rattle.firing_core.specs.Rooms.{SpareValue, AllShaped, IsSpare, types_of, declared_types, IsBlank, owns}
+
+-- ---- values of one type
+
+pub same_form : (v w : LocalValue) → form_of v ≡ form_of w → SameForm v w
+same_form (IntValue m) (IntValue n) e = tt
+same_form (BoolValue a) (BoolValue b) e = tt
+same_form (PairValue a b) (PairValue c d) e = let f : form_of a ≡ form_of c = cc in let g : form_of b ≡ form_of d = cc in (same_form a c f, same_form b d g)
+same_form (IntValue m) (BoolValue b) e = absurd cc
+same_form (IntValue m) (PairValue c d) e = absurd cc
+same_form (BoolValue a) (IntValue n) e = absurd cc
+same_form (BoolValue a) (PairValue c d) e = absurd cc
+same_form (PairValue a b) (IntValue n) e = absurd cc
+same_form (PairValue a b) (BoolValue c) e = absurd cc
+
+-- values written one after another, up to a place
+pub record WrittenTo (i : ℕ) (xs ys : List Local) : Type 0 where
+  pub done : map local_of (take i xs) ≡ map local_of (take i ys)
+  pub left : types_of (drop i xs) ≡ types_of (drop i ys)
+
+long : (i : ℕ) (xs : List Local) → i < length xs → types_of (drop i xs) ≡ [] → ⊥
+long i [] h e = absurd (omega arith)
+long zero (a ∷ xs) h e = cc
+long (suc i) (a ∷ xs) h e = long i xs (omega arith) e
+
+forms_at : (i : ℕ) (xs ys : List Local) (x y : Local) → i < length xs → types_of (drop i xs) ≡ types_of (drop i ys) → y ≡ get_or ys i y → form_of (local_of (get_or xs i x)) ≡ form_of (local_of y)
+forms_at i [] ys x y h e q = absurd (omega arith)
+forms_at zero (a ∷ xs) [] x y h e q = absurd cc
+forms_at zero (a ∷ xs) (b ∷ ys) x y h e q = cc
+forms_at (suc i) (a ∷ xs) [] x y h e q = absurd (long i xs (omega arith) e)
+forms_at (suc i) (a ∷ xs) (b ∷ ys) x y h e q = forms_at i xs ys x y (omega arith) e q
+
+-- the values at the place are of one form
+pub here_forms : (i : ℕ) (xs ys : List Local) (x y : Local) → i < length xs → WrittenTo i xs ys → y ≡ get_or ys i y → SameForm (local_of (get_or xs i x)) (local_of y)
+here_forms i xs ys x y h w q = same_form (local_of (get_or xs i x)) (local_of y) (forms_at i xs ys x y h w.left q)
+
+next_done : (i : ℕ) (xs ys : List Local) (v y : Local) → i < length xs → map local_of (take i xs) ≡ map local_of (take i ys) → types_of (drop i xs) ≡ types_of (drop i ys) → local_of v ≡ local_of y → y ≡ get_or ys i y
+    → map local_of (take (suc i) (slice_set xs i v)) ≡ map local_of (take (suc i) ys)
+next_done i [] ys v y h d e p q = absurd (omega arith)
+next_done zero (a ∷ xs) [] v y h d e p q = absurd cc
+next_done zero (a ∷ xs) (b ∷ ys) v y h d e p q = ap (λ x. x ∷ []) (p ∙ ap local_of q)
+next_done (suc i) (a ∷ xs) [] v y h d e p q = absurd (long i xs (omega arith) e)
+next_done (suc i) (a ∷ xs) (b ∷ ys) v y h d e p q =
+    let first : local_of a ≡ local_of b = cc in
+    let rest : map local_of (take i xs) ≡ map local_of (take i ys) = cc in
+    let ih = next_done i xs ys v y (omega arith) rest e p q in
+    ap (λ x. x ∷ map local_of (take (suc i) (slice_set xs i v))) first ∙ ap (λ zs. local_of b ∷ zs) ih
+
+next_left : (i : ℕ) (xs ys : List Local) (v : Local) → i < length xs → types_of (drop i xs) ≡ types_of (drop i ys) → types_of (drop (suc i) (slice_set xs i v)) ≡ types_of (drop (suc i) ys)
+next_left i [] ys v h e = absurd (omega arith)
+next_left zero (a ∷ xs) [] v h e = absurd cc
+next_left zero (a ∷ xs) (b ∷ ys) v h e = cc
+next_left (suc i) (a ∷ xs) [] v h e = absurd (long i xs (omega arith) e)
+next_left (suc i) (a ∷ xs) (b ∷ ys) v h e = next_left i xs ys v (omega arith) e
+
+pub written_next : (i j : ℕ) (xs ys : List Local) (v y : Local) → j ≡ suc i → i < length xs → local_of v ≡ local_of y → y ≡ get_or ys i y → WrittenTo i xs ys → WrittenTo j (slice_set xs i v) ys
+written_next i j xs ys v y e h p q w = subst (λ k. WrittenTo k (slice_set xs i v) ys) (sym e) (record { done = next_done i xs ys v y h w.done w.left p q; left = next_left i xs ys v h w.left })
+
+pub written_whole : (i : ℕ) (xs ys : List Local) → length xs ≤ i → WrittenTo i xs ys → map local_of xs ≡ map local_of ys
+written_whole i [] [] h w = refl
+written_whole zero [] (y ∷ ys) h w = let l = w.left in absurd cc
+written_whole (suc i) [] (y ∷ ys) h w = let d = w.done in absurd cc
+written_whole zero (x ∷ xs) ys h w = absurd (omega arith)
+written_whole (suc i) (x ∷ xs) [] h w = let d = w.done in absurd cc
+written_whole (suc i) (x ∷ xs) (y ∷ ys) h w =
+    let d = w.done in
+    let first : local_of x ≡ local_of y = cc in
+    let rest : map local_of (take i xs) ≡ map local_of (take i ys) = cc in
+    ap (λ z. z ∷ map local_of xs) first ∙ ap (λ zs. local_of y ∷ zs) (written_whole i xs ys (omega arith) (record { done = rest; left = w.left }))
+
+-- ---- exports that are kept
+
+pub shaped_front : (U : Unfolding) (xs : List Export) (e : Export) → AllShaped U (xs ++ e ∷ []) → AllShaped U xs × IsShaped U (export_of e)
+shaped_front U [] e a = (tt, a.0)
+shaped_front U (x ∷ xs) e a = let r = shaped_front U xs e a.1 in ((a.0, r.0), r.1)
+
+pub shaped_more : (U : Unfolding) (xs : List Export) (e : Export) → AllShaped U xs → IsShaped U (export_of e) → AllShaped U (xs ++ e ∷ [])
+shaped_more U [] e a s = (s, tt)
+shaped_more U (x ∷ xs) e a s = (a.0, shaped_more U xs e a.1 s)
+
+-- an export of a program has its shape
+pub export_shaped : (U : Unfolding) (x : FlatExport) → IsExport U x → IsShaped U x
+export_shaped U x k = record { value = fits_form _ _ _ k.typed.value; slots = k.shaped }
+
+pub spare_front : (U : Unfolding) (old new : SpareValue) (e : Export) → old.exports ≡ new.exports ++ e ∷ [] → new.capacity ≡ old.capacity → IsSpare U old → IsSpare U new × IsShaped U (export_of e)
+spare_front U old new e q c s =
+    let r = shaped_front U new.exports e (subst (AllShaped U) q s.shaped) in
+    let w = s.wide in
+    (record { shaped = r.0; wide = omega arith }, r.1)
+
+pub spare_more : (U : Unfolding) (old new : SpareValue) (e : Export) → new.exports ≡ old.exports ++ e ∷ [] → new.capacity ≡ old.capacity → IsExportOf U e → IsSpare U old → IsSpare U new
+spare_more U old new e q c x s =
+    let w = s.wide in
+    record { shaped = subst (AllShaped U) (sym q) (shaped_more U old.exports e s.shaped (export_shaped U (export_of e) x)); wide = omega arith }
+
+-- ---- an export of a program's shape
+
+laid_type : (ns : List Node) (s : Sort) (t : ValueType) (ks : List ℕ) (u : Term) (p : ℕ) → HasNode ns p s t ks → Laid ns p u → t ≡ type_of u
+laid_type ns s t ks (Plain v l) p h w = cc
+laid_type ns s t ks (Apply v o xs) p h w = let a = w.0 in cc
+laid_type ns s t ks (Nbr v a) p h w = let b = w.0 in cc
+laid_type ns s t ks (Evolve v e a b) p h w = let d = w.0 in cc
+laid_type ns s t ks (If v c a b) p h w = let d = w.0 in cc
+laid_type ns s t ks (Let v a b) p h w = let d = w.0 in cc
+
+pub blank_shaped : (P : Program) (n : Node) (l : LayoutValue) (x : FlatExport) → IsProgram P → view_at P.nodes 0 ≡ Some (view_of n) → IsLayout P.nodes l → x.slots ≡ blank_slots l.blanks → form_of x.value ≡ inner (value_type_of n.ty) → IsShaped (unfolding_of P) x
+blank_shaped P n l x p v k s f = record {
+  value = f ∙ ap inner (laid_type P.nodes (sort_of n.op) (value_type_of n.ty) n.kids.items _ 0 v p.formed.laid);
+  slots = subst (λ ys. HaveForms (kept_types (unfolding_of P).main) ys) (sym s) (have_forms l.blanks _ k.forms);
+}
+
+-- ---- copies without exports
+
+pub input_forms : (is : List Input) (vs : List Local) → InputsFit is (map local_of vs) → types_of vs ≡ map (λ (i : Input). input_type i.type) is
+input_forms [] [] h = refl
+input_forms [] (v ∷ vs) h = absurd h
+input_forms (i ∷ is) [] h = absurd h
+input_forms (i ∷ is) (v ∷ vs) h = let a = one i.type (local_of v) h.0 in let b = input_forms is vs h.1 in cc
+  where
+    one : (t : InputTy) (x : LocalValue) → InputFits t x → form_of x ≡ input_type t
+    one input.Truth (BoolValue b) k = refl
+    one input.Truth (IntValue n) k = absurd k
+    one input.Truth (PairValue a b) k = absurd k
+    one (input.Whole l g) (IntValue n) k = refl
+    one (input.Whole l g) (BoolValue b) k = absurd k
+    one (input.Whole l g) (PairValue a b) k = absurd k
+
+pub blank_of : (U : Unfolding) (s t : Snap) → IsSnap U s → t.inputs ≡ s.inputs → t.own ≡ None → t.near.items ≡ [] → IsBlank U t
+blank_of U s t k i o n = record {
+  inputs = subst (λ vs. types_of vs.items ≡ declared_types U) (sym i) (input_forms U.declared.inputs s.inputs.items k.fits.inputs);
+  own = o;
+  near = n;
+}
+
+pub declared_forms : (D : Declarations) (is : List InputDecl) → map input_of is ≡ D.inputs → map (λ (i : InputDecl). input_type (input_of i).type) is ≡ map (λ (i : Input). input_type i.type) D.inputs
+declared_forms D is e = go is ∙ ap (map (λ (i : Input). input_type i.type)) e
+  where
+    go : (js : List InputDecl) → map (λ (i : InputDecl). input_type (input_of i).type) js ≡ map (λ (i : Input). input_type i.type) (map input_of js)
+    go [] = refl
+    go (j ∷ js) = ap (λ ts. input_type (input_of j).type ∷ ts) (go js)
+
+pub near_front : (U : Unfolding) (xs : List Near) (n : Near) → NearAreExports U (xs ++ n ∷ []) → NearAreExports U xs × IsExportOf U n.export
+near_front U [] n a = (tt, a.0)
+near_front U (x ∷ xs) n a = let r = near_front U xs n a.1 in ((a.0, r.0), r.1)
+
+-- a device has one export at most
+pub owns_few : (o : Option Export) → owns o ≤ 1
+owns_few None = omega arith
+owns_few (Some e) = omega arith
