@@ -1,12 +1,12 @@
 -- Two lists of entries that one log says differ at most in how the code writes a poked export down.
-use Rattle.std.proofs.Common.{ℕ, ◌≡◌, ◌≤◌, Bool, true, false, ◌||◌, List, [], ◌∷◌, length, map, refl, ap, ◌∙◌, sym, subst, cond, Option, Some, None}
+use Rattle.std.proofs.Common.{ℕ, ◌≡◌, Bool, true, false, ◌||◌, List, [], ◌∷◌, refl, ap, ◌∙◌, sym, subst, Option, Some, None}
 use Rattle.std.specs.Prelude.{if◌then◌else◌}
 use Rattle.fc_values.specs.Values.{LocalValue}
 use Rattle.fc_values.specs.Exports.{FlatExport}
 use Rattle.fc_nodes.specs.Program.{Unfolding}
 use Rattle.fc_nodes.specs.Flat.{tree_export}
 use Rattle.value_trees.proofs.ReadTrees.{one_export}
-use Rattle.firing_core.specs.Cores.{Core, put, edited}
+use Rattle.firing_core.specs.Cores.{Core, put}
 use Rattle.firing_core.specs.Entries.{EditValue, LinkEdit, UnlinkEdit, SetEdit, PokeEdit, JoinEdit, LeaveEdit, EntryValue, BeginEntry, EndEntry, IdleEntry, EditEntry}
 use Rattle.firing_core.specs.Replays.{fault_of, net_fault_of, unless, step_of, step, and_replay, replay}
 use Rattle.firing_core.specs.Rounds.{is_edit, has_edit, after_edit}
@@ -14,7 +14,6 @@ use Rattle.edit_commands.specs.EditLines.{EditLine, LinkLine, UnlinkLine, SetLin
 use Rattle.edit_commands.specs.LineByLine.{AreSaid}
 use Rattle.edit_commands.specs.Judging.{Keeps, PokesWith, IsEdit}
 use Rattle.edit_commands.specs.Logs.{LogLine, BeginLine, EndLine, IdleLine, OfEdit, IsEntry}
-use Rattle.fc_program.specs.declared.refusal.LogFault.{LogFault}
 use Rattle.fc_program.specs.Replays.{Logged, entries_in, no_step, stop_here, stop_later, first_stop}
 
 pub data Alike (U : Unfolding) : EntryValue → EntryValue → Type 0 where

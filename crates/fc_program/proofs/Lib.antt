@@ -7,4 +7,5 @@ pub mod OneEnding
 pub mod Replaying
 pub mod Replying
 pub mod Refusing
+pub mod Rooms
 pub mod OneReply

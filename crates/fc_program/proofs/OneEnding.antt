@@ -4,9 +4,8 @@ use Rattle.fc_nodes.specs.Program.{Unfolding}
 use Rattle.topology.specs.Networks.{numbers}
 use Rattle.firing_core.specs.Cores.{Core}
 use Rattle.firing_core.specs.Entries.{EntryValue}
-use Rattle.firing_core.specs.Replays.{replay}
 use Rattle.firing_core.specs.Rounds.{HasRounds, after_edit}
-use Rattle.net_json.specs.Judging.{Judged, Refusal}
+use Rattle.net_json.specs.Judging.{Judged}
 use Rattle.net_json.specs.Scenes.{SceneValue}
 use Rattle.edit_commands.specs.declared.types.Fault.{Fault}
 use Rattle.edit_commands.specs.LineByLine.{Lines}
@@ -14,7 +13,7 @@ use Rattle.edit_commands.specs.Logs.{LogLine, log_of}
 use Rattle.fc_program.specs.declared.refusal.LogFault.{LogFault}
 use Rattle.fc_program.specs.declared.tasks.Extras.{Extras}
 use Rattle.fc_program.specs.Refusals.{Reply, refused, done, log_refusal}
-use Rattle.fc_program.specs.Replays.{Logged, entries_in, first_stop, IsGreatest, replay_text, start_of, RepliesToEntries, RepliesToLog, RepliesToScene, stops, leads, faulty, entries, no_scene, from_scene}
+use Rattle.fc_program.specs.Replays.{Logged, entries_in, IsGreatest, replay_text, start_of, RepliesToEntries, RepliesToLog, RepliesToScene, stops, leads, faulty, entries, no_scene, from_scene}
 use Rattle.fc_program.proofs.Stops.{never_stops}
 use Rattle.fc_program.proofs.Alike.{AllAlike, all_alike, same_stop, same_replay, same_part}
 

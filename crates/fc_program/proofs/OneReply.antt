@@ -1,7 +1,6 @@
 -- An input has at most one reply.
-use Rattle.std.proofs.Common.{ℕ, ◌≡◌, ◌<◌, ◌≤◌, ◌⊎◌, List, [], ◌∷◌, length, refl, ap, ◌∙◌, sym, subst, arith, min, Option, Some, None}
+use Rattle.std.proofs.Common.{ℕ, ◌≡◌, List, length, refl, ap, ◌∙◌, sym, subst, arith, min, Option, Some, None}
 use Rattle.fc_lexer.specs.Kinds.{TokenView}
-use Rattle.fc_lexer.specs.Lexes.{Lexes, StopsAt}
 use Rattle.fc_lexer.specs.Laws as lexer
 use Rattle.fc_syntax.specs.Terms.{Declaration}
 use Rattle.fc_syntax.specs.Text.{program_text}
@@ -12,19 +11,16 @@ use Rattle.fc_parser.specs.Laws as parser
 use Rattle.fc_types.specs.Faults.{FirstFault}
 use Rattle.fc_types.specs.Laws as types
 use Rattle.fc_nodes.specs.Program.{Unfolding}
-use Rattle.firing_core.specs.Cores.{Core}
-use Rattle.firing_core.specs.Entries.{EntryValue}
-use Rattle.net_json.specs.Judging.{Judged}
-use Rattle.net_json.specs.Scenes.{SceneValue, scene_of}
+use Rattle.net_json.specs.Scenes.{scene_of}
 use Rattle.fc_program.specs.declared.tasks.Extras.{Extras}
 use Rattle.fc_program.specs.declared.tasks.Task.{Task}
 use Rattle.fc_program.specs.declared.refusal.Refusal.{Refusal}
-use Rattle.fc_program.specs.declared.refusal.Refusal.TheVariants.{Lexical, Tokens, Depth, Syntax, Types, Nodes as Size}
+use Rattle.fc_program.specs.declared.refusal.Refusal.TheVariants.{Lexical, Tokens, Syntax, Types, Nodes as Size}
 use Rattle.unfold.specs.Nodes.{Nodes}
 use Rattle.fc_program.specs.Sources.{IsSource, IsNoSource, lexical, tokens, depth, syntax, IsProgramText, IsNoProgram, no_source, ill_typed, too_large, unfolding_by}
 use Rattle.fc_program.specs.Refusals.{Reply, refused, done}
-use Rattle.fc_program.specs.Replays.{Logged, RepliesToEntries, RepliesToLog, RepliesToScene, Replays, stops, leads, faulty, entries, no_scene, from_scene, no_program, judged, start_of}
-use Rattle.fc_program.specs.Reply.{Formats, no_source, printed, RepliesWithin, other_sections, formats, replays, Replies, usage, too_long, within}
+use Rattle.fc_program.specs.Replays.{RepliesToScene, Replays, no_program, judged}
+use Rattle.fc_program.specs.Reply.{Formats, no_source, printed, RepliesWithin, other_sections, formats, replays, usage, too_long, within}
 use Rattle.fc_program.specs.Top.{OneReply}
 use Rattle.fc_program.proofs.OneEnding.{same_to_scene}
 

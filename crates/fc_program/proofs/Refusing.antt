@@ -1,5 +1,5 @@
 -- The causes of a refused program.
-use Rattle.std.proofs.Common.{ℕ, ◌≡◌, ◌<◌, List, length, min, subst, sym, ap}
+use Rattle.std.proofs.Common.{ℕ, ◌≡◌, ◌<◌, List, length, min, subst, sym}
 use Rattle.fc_lexer.specs.Kinds.{TokenView}
 use Rattle.fc_lexer.specs.declared.tokens.LexFault.{LexFault}
 use Rattle.fc_lexer.specs.declared.tokens.LexFault.TheVariants as lex_fault

@@ -1,10 +1,10 @@
 -- What the code has read and replayed, as the definitions say it.
-use Rattle.std.proofs.Common.{ℕ, suc, ◌≡◌, ◌+◌, ◌<◌, ◌≤◌, Bool, true, false, List, [], ◌∷◌, ◌++◌, length, map, drop, get_or, refl, ap, ◌∙◌, sym, subst, arith, add-one, append_assoc, append-nil, length-append, Option, Some, None, option_map}
+use Rattle.std.proofs.Common.{ℕ, suc, ◌≡◌, ◌+◌, ◌<◌, ◌≤◌, List, [], ◌∷◌, ◌++◌, length, map, drop, get_or, refl, ap, ◌∙◌, sym, subst, arith, add-one, append_assoc, append-nil, length-append, Option, Some, None}
 use Rattle.std.specs.Prelude.{if◌then◌else◌, nat_eq, IfSome}
 use Rattle.std.specs.Borrow.{Bor}
 use Rattle.std.proofs.Math.Path.{fun_ext}
 use Rattle.std.proofs.Math.Seq.{drop-cons}
-use Rattle.std.proofs.lemmas.List.{drop_all, length-map}
+use Rattle.std.proofs.lemmas.List.{drop_all}
 use Rattle.std.proofs.lemmas.List.Elements.{All-head, All-tail}
 use Rattle.std.specs.List.{All}
 use Rattle.fc_values.specs.declared.exports.Export.{Export}
@@ -12,7 +12,7 @@ use Rattle.fc_values.specs.Fields.{Rises}
 use Rattle.fc_values.specs.Trees.{Copy, TreeExport}
 use Rattle.fc_nodes.specs.Program.{Unfolding, unfolding_of}
 use Rattle.value_trees.specs.declared.copies.Snap.{Snap}
-use Rattle.value_trees.specs.Snaps.{tree_of, snap_copy, IsExportOf, IsSnap}
+use Rattle.value_trees.specs.Snaps.{snap_copy, IsExportOf, IsSnap}
 use Rattle.topology.specs.declared.types.Device.{Device}
 use Rattle.topology.specs.Networks.{Network, NetDevice, Lives, IsNetwork, device_of, numbers}
 use Rattle.firing_core.specs.Cores.{Map, Core, IsGood}

@@ -1,9 +1,8 @@
 -- What `replay` answers to a program, a scene and a log.
 use Rattle.std.specs.Prelude.{ℕ, Bool, true, false, ◌≡◌, ◌<◌, ◌≤◌, slice_index, List, [], ◌∷◌, ◌++◌, map, codes, Option, Some, None}
-use Rattle.std.specs.Fmt.{decimal}
 use Rattle.fc_nodes.specs.Program.{Unfolding, unfolding_of}
 use Rattle.topology.specs.declared.types.NetFault.{NetFault}
-use Rattle.topology.specs.Networks.{Network, NetDevice, numbers}
+use Rattle.topology.specs.Networks.{NetDevice, numbers}
 use Rattle.firing_core.specs.declared.entries.StepFault.{StepFault}
 use Rattle.firing_core.specs.Cores.{Core}
 use Rattle.firing_core.specs.declared.entries.ReplayFault.{ReplayFault}

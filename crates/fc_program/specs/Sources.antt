@@ -1,5 +1,5 @@
 -- What the text of a program's section is: by tokens and grammar, and by types and unfolding.
-use Rattle.std.specs.Prelude.{ℕ, ◌≡◌, ◌≤◌, ◌<◌, min, length, List, Option, Some, None}
+use Rattle.std.specs.Prelude.{ℕ, ◌≡◌, ◌≤◌, ◌<◌, min, length, List, Some, None}
 use Rattle.fc_lexer.specs.Kinds.{TokenView}
 use Rattle.fc_lexer.specs.Lexes.{Lexes, StopsAt}
 use Rattle.fc_syntax.specs.Terms.{Declaration}

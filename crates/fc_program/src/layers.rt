@@ -1,5 +1,9 @@
 //! Calls of the layers below that may want memory, with ample memory, on the hop count.
 
+ghost use Rattle.std.specs.Prelude.{IfOk};
+ghost use Rattle.fc_nodes.specs.Program.{unfolding_of};
+ghost use Rattle.firing_core.specs.Rooms.{IsRoom};
+
 use crate::sources::{read_program, read_source};
 use crate::tests::{input, words};
 use crate::top::fc;
@@ -7,7 +11,7 @@ use device_eval::fire;
 use fc_io::{CalmSink, CalmSource};
 use fc_nodes::{Op, Unfolded};
 use fc_values::Local;
-use firing_core::{Book, Entry, copy_snap};
+use firing_core::{Book, Entry, Room, copy_snap};
 use std::alloc::Global;
 use std::test::Fail;
 use value_trees::kept;
@@ -102,5 +106,35 @@ fn a_book_is_settled(rt: HostRuntime) -> Result<(), Fail> {
     assert!(rt; book.core().flying(0).is_none());
     assert!(rt; book.core().flying(1).is_none());
     assert_eq!(rt; book.log().len(), 4);
+    Ok(())
+}
+
+// One firing of device 0 in a room, which comes back.
+fn fire_in(alloc: Global, book: &mut Book, room: Room) -> Result<Room, Fail>
+    requires { IsRoom (unfolding_of book.old.program) room }
+    ensures { IfOk result (IsRoom (unfolding_of book.new.program)) }
+{
+    book.reserve(2)?;
+    let Ok(snap) = book.begin_with(0, room) else {
+        return Err(Fail::new("no begin"));
+    };
+    let Ok(fired) = fire(alloc, book.program(), snap) else {
+        return Err(Fail::new("there was no memory"));
+    };
+    let Ok(room) = book.end_with(fired) else {
+        return Err(Fail::new("no end"));
+    };
+    Ok(room)
+}
+
+#[test]
+fn a_room_comes_back(rt: HostRuntime) -> Result<(), Fail> {
+    let alloc = rt.alloc();
+    let mut book = book(alloc, "")?;
+    let mut room = Room::new(alloc, book.program())?;
+    'firings: for _ in 0..1000 {
+        room = fire_in(alloc, &mut book, room)?;
+    }
+    assert_eq!(rt; book.log().len(), 2000);
     Ok(())
 }

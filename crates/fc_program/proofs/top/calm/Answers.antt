@@ -1,4 +1,4 @@
-use Rattle.std.proofs.Common.{◌≡◌, List, map, string_bytes, subst}
+use Rattle.std.proofs.Common.{◌≡◌, map, string_bytes, subst}
 use Rattle.fc_program.specs.Reply.{Replies}
 use Rattle.fc_program.specs.Tasks.{task_of}
 use Rattle.fc_program.proofs.Calm.{never}
