@@ -7,7 +7,8 @@ use Rattle.std.proofs.lemmas.Slice.Eq.{bytes_eq-Decides}
 use Rattle.command_words.specs.declared.settings.Setting.{Setting}
 use Rattle.command_words.specs.declared.settings.Setting.TheVariants as set
 use Rattle.command_words.specs.declared.settings.Numbered.{Numbered}
-use Rattle.command_words.specs.Settings.{before, flag_of, is_equals, number_of, option_of, setting_of, settings_of, with_number}
+use Rattle.fc_values.specs.Numbers.{number_of}
+use Rattle.command_words.specs.Settings.{before, flag_of, is_equals, option_of, setting_of, settings_of, with_number}
 
 -- how a flag is written
 abbrev pub spelled : Setting → List ℕ

@@ -4,7 +4,8 @@ use Rattle.std.proofs.Common.{ℕ, suc, ◌≡◌, ◌+◌, ◌<◌, map, drop, 
 use Rattle.command_words.specs.declared.settings.Setting.{Setting}
 use Rattle.command_words.specs.declared.settings.Numbered.{Numbered}
 use Rattle.command_words.specs.declared.settings.Setting.TheVariants as set
-use Rattle.command_words.specs.Settings.{before, number_of, option_of, setting_of, settings_of, with_number}
+use Rattle.fc_values.specs.Numbers.{number_of}
+use Rattle.command_words.specs.Settings.{before, option_of, setting_of, settings_of, with_number}
 
 -- the settings of the words, of which the first is the number of an option where one waits for it
 abbrev pub settings_after : Option Numbered → List (List ℕ) → Option (List Setting)

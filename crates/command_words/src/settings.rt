@@ -3,7 +3,8 @@
 ghost use Rattle.std.specs.Prelude.{◌≡◌, IfOk, map, option_map, string_bytes};
 ghost use Rattle.std.specs.Char.{is_ascii_digit};
 ghost use Rattle.std.specs.List.{list_all};
-ghost use Rattle.command_words.specs.Settings.{attached, flag_of, is_number, number_of, option_of, setting_of, settings_of};
+ghost use Rattle.fc_values.specs.Numbers.{is_number, number_of};
+ghost use Rattle.command_words.specs.Settings.{attached, flag_of, option_of, setting_of, settings_of};
 
 use fc_values::Memory;
 use std::alloc::Global;

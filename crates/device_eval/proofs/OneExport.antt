@@ -14,7 +14,8 @@ use Rattle.fc_nodes.specs.Typing.{HasType}
 use Rattle.fc_nodes.specs.Program.{Program, Unfolding, unfolding_of, InputIsLawful, InputsAreLawful, IsLawful, IsProgram}
 use Rattle.fc_nodes.specs.Flat.{FitsTree, IsWellTyped}
 use Rattle.device_eval.specs.Evaluation.{eval_of}
-use Rattle.value_trees.specs.Copies.{InputFits, InputsFit, WhereSome, AllNearFit, near_devices, FitsCopy}
+use Rattle.fc_values.specs.Inputs.{InputFits, InputsFit}
+use Rattle.value_trees.specs.Copies.{WhereSome, AllNearFit, near_devices, FitsCopy}
 use Rattle.device_eval.specs.Copies.{near_tree, env_of, situation_of, HasOneExport}
 use Rattle.device_eval.proofs.Numbers.{is_in, with_number}
 use Rattle.device_eval.proofs.Sights.{FitsEnv, EachNear, AllLight, near_numbers}

@@ -1,5 +1,6 @@
 -- Readings of one log agree.
-use Rattle.std.proofs.Common.{ℕ, suc, ◌≡◌, List, [], ◌∷◌, ◌++◌, map, length, refl, sym, ap, subst, ◌∙◌, Some, None, Option}
+use Rattle.std.proofs.Common.{ℕ, suc, ◌≡◌, Bool, true, false, ◌||◌, List, [], ◌∷◌, ◌++◌, map, length, refl, sym, ap, subst, ◌∙◌, Some, None, Option}
+use Rattle.std.specs.Prelude.{if◌then◌else◌}
 use Rattle.fc_values.specs.Trees.{TreeExport}
 use Rattle.fc_values.specs.Values.{LocalValue}
 use Rattle.fc_values.specs.Exports.{FlatExport}
@@ -10,12 +11,13 @@ use Rattle.firing_core.specs.declared.entries.ReplayFault.TheVariants as replay_
 use Rattle.firing_core.specs.Entries.{EditValue, LinkEdit, UnlinkEdit, SetEdit, PokeEdit, JoinEdit, LeaveEdit, EntryValue, BeginEntry, EndEntry, IdleEntry, EditEntry}
 use Rattle.firing_core.specs.Cores.{Core, put, edit_fault, edited, Edits, Step, Run}
 use Rattle.firing_core.specs.Replays.{fault_of, net_fault_of, step_of, unless, step, and_replay, replay, FailsAt}
+use Rattle.firing_core.specs.Rounds.{is_edit, has_edit, after_edit}
 use Rattle.edit_commands.specs.declared.types.Fault.{Fault}
 use Rattle.edit_commands.specs.EditLines.{EditLine, LinkLine, UnlinkLine, SetLine, PokeLine, JoinLine, LeaveLine}
 use Rattle.edit_commands.specs.LineByLine.{Lines, AllLines, StopsAt, AreSaid, SaidBy}
 use Rattle.edit_commands.specs.Judging.{Keeps, PokesWith, IsEdit}
 use Rattle.edit_commands.specs.Logs.{LogLine, BeginLine, EndLine, IdleLine, OfEdit, log_of, IsEntry}
-use Rattle.edit_commands.specs.Agreement.{SameExport, SameEdit, SameEntry, SameEntries, number_in, value_in, ReadingsAgree, ReplaysAgree, FaultsAgree}
+use Rattle.edit_commands.specs.Agreement.{SameExport, SameEdit, SameEntry, SameEntries, number_in, value_in, ReadingsAgree, StepsAgree, ReplaysAgree, FaultsAgree, PartsAgree}
 
 -- ---- what one line says
 
@@ -148,6 +150,9 @@ same_step U c e f h =
     ∙ ap (λ x. unless (fault_of c f) (unless x (step_of U c e))) (same_net_fault U c e f h)
     ∙ ap (λ x. unless (fault_of c f) (unless (net_fault_of c f) x)) (same_next U c e f h)
 
+pub steps_agree : StepsAgree
+steps_agree U e f h c = (same_fault U c e f h, same_net_fault U c e f h, same_next U c e f h)
+
 pub replays_agree : ReplaysAgree
 replays_agree U [] [] h c = refl
 replays_agree U [] (f ∷ fs) h c = absurd h
@@ -235,3 +240,60 @@ pub faults_agree : FaultsAgree
 faults_agree U es fs h c (replay_fault.At index why) r = fails_agree U es fs c index _ h (λ k e f s q. sym (same_fault U k e f s) ∙ q) r
 faults_agree U es fs h c (replay_fault.EditAt index why) r = fails_agree U es fs c index _ h (λ k e f s q. sym (same_net_fault U k e f s) ∙ q) r
 faults_agree U es fs h c replay_fault.Memory r = tt
+
+-- ---- the same entries, after the last edit
+
+same_is_edit : (U : Unfolding) (e f : EntryValue) → SameEntry U e f → is_edit e ≡ is_edit f
+same_is_edit U (BeginEntry d) f h = ap is_edit (sym h)
+same_is_edit U (EndEntry d) f h = ap is_edit (sym h)
+same_is_edit U IdleEntry f h = ap is_edit (sym h)
+same_is_edit U (EditEntry e) (EditEntry f) h = refl
+same_is_edit U (EditEntry e) (BeginEntry d) h = absurd h
+same_is_edit U (EditEntry e) (EndEntry d) h = absurd h
+same_is_edit U (EditEntry e) IdleEntry h = absurd h
+
+equal_firings : (U : Unfolding) (e f : EntryValue) → SameEntry U e f → is_edit e ≡ false → e ≡ f
+equal_firings U (BeginEntry d) f h plain = sym h
+equal_firings U (EndEntry d) f h plain = sym h
+equal_firings U IdleEntry f h plain = sym h
+equal_firings U (EditEntry e) f h plain = absurd cc
+
+same_has_edit : (U : Unfolding) (es fs : List EntryValue) → SameEntries U es fs → has_edit es ≡ has_edit fs
+same_has_edit U [] [] h = refl
+same_has_edit U [] (f ∷ fs) h = absurd h
+same_has_edit U (e ∷ es) [] h = absurd h
+same_has_edit U (e ∷ es) (f ∷ fs) h = ap (λ b. b || has_edit es) (same_is_edit U e f h.0) ∙ ap (λ b. is_edit f || b) (same_has_edit U es fs h.1)
+
+neither : (p q : Bool) → (p || q) ≡ false → (p ≡ false) × (q ≡ false)
+neither true q h = absurd cc
+neither false q h = (refl, h)
+
+equal_plain : (U : Unfolding) (es fs : List EntryValue) → SameEntries U es fs → has_edit es ≡ false → es ≡ fs
+equal_plain U [] [] h plain = refl
+equal_plain U [] (f ∷ fs) h plain = absurd h
+equal_plain U (e ∷ es) [] h plain = absurd h
+equal_plain U (e ∷ es) (f ∷ fs) h plain =
+    let both = neither (is_edit e) (has_edit es) plain in
+    ap (λ x. x ∷ es) (equal_firings U e f h.0 both.0) ∙ ap (λ xs. f ∷ xs) (equal_plain U es fs h.1 both.1)
+
+-- the part of a list from its first entry on, where no later entry is an edit
+abbrev from_first : Bool → EntryValue → List EntryValue → List EntryValue
+from_first first e es = if first then es else e ∷ es
+
+from_first_same : (U : Unfolding) (first : Bool) (e f : EntryValue) (es fs : List EntryValue) → SameEntry U e f → es ≡ fs → is_edit e ≡ first → from_first first e es ≡ from_first first f fs
+from_first_same U true e f es fs h same is = same
+from_first_same U false e f es fs h same is = ap (λ x. x ∷ es) (equal_firings U e f h is) ∙ ap (λ xs. f ∷ xs) same
+
+pub parts_agree : PartsAgree
+parts_agree U [] [] h = refl
+parts_agree U [] (f ∷ fs) h = absurd h
+parts_agree U (e ∷ es) [] h = absurd h
+parts_agree U (e ∷ es) (f ∷ fs) h =
+    by_later (parts_agree U es fs h.1) (has_edit es) refl
+    ∙ ap (λ b. if b then after_edit fs else from_first (is_edit e) f fs) (same_has_edit U es fs h.1)
+    ∙ ap (λ b. if has_edit fs then after_edit fs else from_first b f fs) (same_is_edit U e f h.0)
+  where
+    by_later : after_edit es ≡ after_edit fs → (later : Bool) → has_edit es ≡ later
+        → (if later then after_edit es else from_first (is_edit e) e es) ≡ (if later then after_edit fs else from_first (is_edit e) f fs)
+    by_later ih true is = ih
+    by_later ih false is = from_first_same U (is_edit e) e f es fs h.0 (equal_plain U es fs h.1 is) refl

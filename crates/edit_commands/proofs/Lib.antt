@@ -8,7 +8,6 @@ pub mod Texts
 pub mod Prefixes
 pub mod Names
 pub mod Pokes
-pub mod NarrowTypes
 pub mod Wide
 pub mod WideEdits
 pub mod ReadEdits

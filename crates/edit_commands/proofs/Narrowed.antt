@@ -4,7 +4,7 @@ use Rattle.std.specs.Prelude.{Option, option_map, option_and_then, if◌then◌e
 use Rattle.std.specs.Str.{bytes_eq}
 use Rattle.std.proofs.lemmas.Bool.Decides.{nat_tests}
 use Rattle.fc_values.specs.Values.{LocalValue, IntValue, BoolValue, PairValue}
-use Rattle.edit_commands.specs.Words.{number_of}
+use Rattle.fc_values.specs.Numbers.{number_of}
 use Rattle.edit_commands.specs.Values.{Since, Bytes, Closed, Reading, reading, part_since, opens, parts, closes, goes_on, step, steps, when_closed, whole_part, value_with, value_of, atom_of}
 use Rattle.edit_commands.specs.Narrow.{leaves_in, stand_in, narrow, PartValue, SmallPart, WidePart, atom_part, pair_part, shown_part}
 

@@ -8,7 +8,7 @@ use Rattle.std.specs.Str.Parse.{digits_value}
 use Rattle.std.proofs.lemmas.Bool.Decides.{nat_tests}
 use Rattle.std.proofs.lemmas.Slice.Eq.{bytes_eq-Decides}
 use Rattle.fc_values.specs.Values.{LocalValue, IntValue, BoolValue, PairValue}
-use Rattle.edit_commands.specs.Words.{number_of}
+use Rattle.fc_values.specs.Numbers.{number_of}
 use Rattle.edit_commands.specs.Values.{atom_of, IsValueText, AtomText, PairText, Since, Bytes, Closed, Reading, reading, part_since, opens, parts, closes, goes_on, step, steps, when_closed, whole_part, value_with, value_of, ValuesAreRead}
 
 abbrev same : LocalValue → LocalValue

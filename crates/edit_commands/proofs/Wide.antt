@@ -9,7 +9,7 @@ use Rattle.fc_nodes.specs.Program.{Unfolding}
 use Rattle.fc_nodes.specs.Flat.{by_truth}
 use Rattle.value_trees.specs.KeptReads.{Left, Rest, Off, and_left, has_type, own_left, left_by, left_by_all, surplus, misfit_of}
 use Rattle.edit_commands.specs.Narrow.{leaves_in, stand_in, narrow}
-use Rattle.edit_commands.proofs.NarrowTypes.{IsNarrow, KeepsNarrow, AllKeepNarrow}
+use Rattle.fc_nodes.proofs.NarrowTypes.{IsNarrow, Keeps, AllKeep}
 
 -- a value that has a type has as many leaves
 same_leaves : (c : ℕ) (s : LocalType) (v : LocalValue) → has_type c s v ≡ true → leaves_in v ≡ leaves s
@@ -87,23 +87,20 @@ module _ (c : ℕ) (few : c ≤ 1000000) where
   picked (BoolValue false) a b x y t e f = f
   picked (PairValue v w) a b x y t e f = absurd cc
 
-  bool_narrow : IsNarrow BoolType
-  bool_narrow = record { few = omega arith }
-
   mutual
-    left_narrowed : (p : ℕ) (t : Term) (vs : List LocalValue) → KeepsNarrow t → left_by c p t (map narrow vs) ≡ narrowed (left_by c p t vs)
+    left_narrowed : (p : ℕ) (t : Term) (vs : List LocalValue) → Keeps IsNarrow t → left_by c p t (map narrow vs) ≡ narrowed (left_by c p t vs)
     left_narrowed p (Plain t l) vs h = refl
     left_narrowed p (Apply t o xs) vs h = all_narrowed (suc p) xs vs h
     left_narrowed p (Nbr t a) vs h = own_narrowed (inner t) p vs _ _ h.0 (λ v us e. left_narrowed (suc p) a us h.1)
     left_narrowed p (Evolve t e a b) vs h =
         own_narrowed (inner t) p vs _ _ h.0 (λ v us e'. then_narrowed _ _ _ _ (left_narrowed (suc p) a us h.1) (λ ws. left_narrowed (suc p + size a) b ws h.2))
     left_narrowed p (If t x a b) vs h =
-        own_narrowed BoolType p vs _ _ bool_narrow
-        (λ v us e. then_narrowed _ _ _ _ (left_narrowed (suc p) x us h.0)
-        (λ ws. picked v _ _ _ _ e (left_narrowed (suc p + size x) a ws h.1) (left_narrowed (suc p + size x + size a) b ws h.2)))
+        own_narrowed BoolType p vs _ _ h.0
+        (λ v us e. then_narrowed _ _ _ _ (left_narrowed (suc p) x us h.1)
+        (λ ws. picked v _ _ _ _ e (left_narrowed (suc p + size x) a ws h.2) (left_narrowed (suc p + size x + size a) b ws h.3)))
     left_narrowed p (Let t a b) vs h = then_narrowed _ _ _ _ (left_narrowed (suc p) a vs h.0) (λ ws. left_narrowed (suc p + size a) b ws h.1)
 
-    all_narrowed : (p : ℕ) (xs : Terms) (vs : List LocalValue) → AllKeepNarrow xs → left_by_all c p xs (map narrow vs) ≡ narrowed (left_by_all c p xs vs)
+    all_narrowed : (p : ℕ) (xs : Terms) (vs : List LocalValue) → AllKeep IsNarrow xs → left_by_all c p xs (map narrow vs) ≡ narrowed (left_by_all c p xs vs)
     all_narrowed p NoMore vs h = refl
     all_narrowed p (More x xs) vs h = then_narrowed _ _ _ _ (left_narrowed p x vs h.0) (λ us. all_narrowed (p + size x) xs us h.1)
 
@@ -132,7 +129,7 @@ module _ (c : ℕ) (few : c ≤ 1000000) where
   picked_same (PairValue v w) x y us ws t e f g = absurd cc
 
   mutual
-    left_same : (p : ℕ) (t : Term) (vs us : List LocalValue) → KeepsNarrow t → left_by c p t vs ≡ Rest us → Same us → Same vs
+    left_same : (p : ℕ) (t : Term) (vs us : List LocalValue) → Keeps IsNarrow t → left_by c p t vs ≡ Rest us → Same us → Same vs
     left_same p (Plain t l) vs us h e s = let f : vs ≡ us = cc in subst Same (sym f) s
     left_same p (Apply t o xs) vs us h e s = all_same (suc p) xs vs us h e s
     left_same p (Nbr t a) vs us h e s = own_same (inner t) p vs us _ h.0 e (λ v ws t' f. left_same (suc p) a ws us h.1 f s)
@@ -140,15 +137,15 @@ module _ (c : ℕ) (few : c ≤ 1000000) where
         own_same (inner t) p vs us _ h.0 e
         (λ v ws t' f. then_same (left_by c (suc p) a ws) us ws _ f (λ xs g. left_same (suc p + size a) b xs us h.2 g s) (λ xs g s'. left_same (suc p) a ws xs h.1 g s'))
     left_same p (If t x a b) vs us h e s =
-        own_same BoolType p vs us _ bool_narrow e
+        own_same BoolType p vs us _ h.0 e
         (λ v ws t' f. then_same (left_by c (suc p) x ws) us ws _ f
         (λ xs g. picked_same v (left_by c (suc p + size x) a xs) (left_by c (suc p + size x + size a) b xs) us xs t' g
-        (λ k. left_same (suc p + size x) a xs us h.1 k s) (λ k. left_same (suc p + size x + size a) b xs us h.2 k s))
-        (λ xs g s'. left_same (suc p) x ws xs h.0 g s'))
+        (λ k. left_same (suc p + size x) a xs us h.2 k s) (λ k. left_same (suc p + size x + size a) b xs us h.3 k s))
+        (λ xs g s'. left_same (suc p) x ws xs h.1 g s'))
     left_same p (Let t a b) vs us h e s =
         then_same (left_by c (suc p) a vs) us vs _ e (λ xs g. left_same (suc p + size a) b xs us h.1 g s) (λ xs g s'. left_same (suc p) a vs xs h.0 g s')
 
-    all_same : (p : ℕ) (xs : Terms) (vs us : List LocalValue) → AllKeepNarrow xs → left_by_all c p xs vs ≡ Rest us → Same us → Same vs
+    all_same : (p : ℕ) (xs : Terms) (vs us : List LocalValue) → AllKeep IsNarrow xs → left_by_all c p xs vs ≡ Rest us → Same us → Same vs
     all_same p NoMore vs us h e s = let f : vs ≡ us = cc in subst Same (sym f) s
     all_same p (More x xs) vs us h e s =
         then_same (left_by c p x vs) us vs _ e (λ ws g. all_same (p + size x) xs ws us h.1 g s) (λ ws g s'. left_same p x vs ws h.0 g s')
@@ -165,9 +162,9 @@ no_surplus n (Rest []) h = refl
 no_surplus n (Rest (v ∷ vs)) h = absurd cc
 no_surplus n (Off p) h = absurd cc
 
-pub misfit_narrow : (U : Unfolding) (ks : List LocalValue) → U.declared.ceiling ≤ 1000000 → KeepsNarrow U.main → misfit_of U (map narrow ks) ≡ misfit_of U ks
+pub misfit_narrow : (U : Unfolding) (ks : List LocalValue) → U.declared.ceiling ≤ 1000000 → Keeps IsNarrow U.main → misfit_of U (map narrow ks) ≡ misfit_of U ks
 misfit_narrow U ks few h =
     ap (surplus (size U.main)) (left_narrowed U.declared.ceiling few 0 U.main ks h) ∙ surplus_narrowed (size U.main) (left_by U.declared.ceiling 0 U.main ks)
 
-pub fitting_narrow : (U : Unfolding) (ks : List LocalValue) → U.declared.ceiling ≤ 1000000 → KeepsNarrow U.main → misfit_of U ks ≡ None → map narrow ks ≡ ks
+pub fitting_narrow : (U : Unfolding) (ks : List LocalValue) → U.declared.ceiling ≤ 1000000 → Keeps IsNarrow U.main → misfit_of U ks ≡ None → map narrow ks ≡ ks
 fitting_narrow U ks few h e = left_same U.declared.ceiling few 0 U.main ks [] h (no_surplus (size U.main) (left_by U.declared.ceiling 0 U.main ks) e) refl

@@ -20,13 +20,13 @@ use Rattle.edit_commands.specs.declared.types.Fault.TheVariants as fault
 use Rattle.edit_commands.specs.EditLines.{EditLine, LinkLine, UnlinkLine, SetLine, PokeLine, JoinLine, LeaveLine, device_with}
 use Rattle.edit_commands.specs.Judging.{fits_kept, poke_fault, edit_fault}
 use Rattle.edit_commands.specs.Narrow.{leaves_in, stand_in, narrow, narrow_device, narrow_line}
-use Rattle.edit_commands.proofs.NarrowTypes.{IsNarrow, KeepsNarrow, term_narrow}
+use Rattle.fc_nodes.proofs.NarrowTypes.{IsNarrow, Keeps, term_narrow}
 use Rattle.edit_commands.proofs.Wide.{narrow_types, narrow_same, misfit_narrow, fitting_narrow}
 
 pub record IsNarrowProgram (U : Unfolding) : Type 0 where
   pub few : U.declared.ceiling ≤ 1000000
   pub main : IsNarrow (inner (type_of U.main))
-  pub keeps : KeepsNarrow U.main
+  pub keeps : Keeps IsNarrow U.main
 
 pub program_narrow : (p : Program) → IsProgram p → IsNarrowProgram (unfolding_of p)
 program_narrow p h =

@@ -7,7 +7,8 @@ use Rattle.topology.specs.Networks.{Network}
 use Rattle.firing_core.specs.declared.entries.ReplayFault.{ReplayFault}
 use Rattle.firing_core.specs.Entries.{EditValue, LinkEdit, UnlinkEdit, SetEdit, PokeEdit, JoinEdit, LeaveEdit, EntryValue, BeginEntry, EndEntry, IdleEntry, EditEntry}
 use Rattle.firing_core.specs.Cores.{Core}
-use Rattle.firing_core.specs.Replays.{replay}
+use Rattle.firing_core.specs.Replays.{fault_of, net_fault_of, step_of, replay}
+use Rattle.firing_core.specs.Rounds.{after_edit}
 use Rattle.firing_core.specs.Books.{FailsReplay}
 use Rattle.edit_commands.specs.Logs.{IsLog}
 
@@ -62,6 +63,10 @@ ReadingsAgree =
     (U : Unfolding) (n : Network) (text : List ℕ) (es fs : List (ℕ × EntryValue)) → IsLog U n text es → IsLog U n text fs
     → (map number_in es ≡ map number_in fs) × SameEntries U (map value_in es) (map value_in fs)
 
+-- an entry and the same one are refused alike, and lead to the same core
+abbrev pub StepsAgree : Type 0
+StepsAgree = (U : Unfolding) (e f : EntryValue) → SameEntry U e f → (c : Core) → (fault_of c e ≡ fault_of c f) × (net_fault_of c e ≡ net_fault_of c f) × (step_of U c e ≡ step_of U c f)
+
 -- the same entries lead to the same core
 abbrev pub ReplaysAgree : Type 0
 ReplaysAgree = (U : Unfolding) (es fs : List EntryValue) → SameEntries U es fs → (c : Core) → replay U c es ≡ replay U c fs
@@ -69,3 +74,7 @@ ReplaysAgree = (U : Unfolding) (es fs : List EntryValue) → SameEntries U es fs
 -- or they are refused at the same entry, for the same reason
 abbrev pub FaultsAgree : Type 0
 FaultsAgree = (U : Unfolding) (es fs : List EntryValue) → SameEntries U es fs → (c : Core) (fault : ReplayFault) → FailsReplay U c es fault → FailsReplay U c fs fault
+
+-- after their last edit they are equal
+abbrev pub PartsAgree : Type 0
+PartsAgree = (U : Unfolding) (es fs : List EntryValue) → SameEntries U es fs → after_edit es ≡ after_edit fs

@@ -2,7 +2,7 @@
 use Rattle.std.specs.Prelude.{ℕ, true, false, ◌≡◌, ◌↔◌, ◌==◌, ◌++◌, if◌then◌else◌, List, [], ◌∷◌, Option, Some, None, option_map, option_and_then, codes}
 use Rattle.std.specs.Str.{bytes_eq}
 use Rattle.fc_values.specs.Values.{LocalValue, IntValue, BoolValue, PairValue}
-use Rattle.edit_commands.specs.Words.{number_of}
+use Rattle.fc_values.specs.Numbers.{number_of}
 
 -- a number, `true` or `false`
 abbrev pub atom_of : List ℕ → Option LocalValue

@@ -1,18 +1,9 @@
--- Words of a line that are numbers, and those that are names.
-use Rattle.std.specs.Prelude.{ℕ, Bool, true, false, nat_le, ◌&&◌, if◌then◌else◌, List, [], ◌∷◌, length, Option, Some, None, option_and_then}
+-- Words of a line that number devices, and those that are names.
+use Rattle.std.specs.Prelude.{ℕ, Bool, true, false, nat_le, ◌&&◌, if◌then◌else◌, List, [], ◌∷◌, Option, Some, None, option_and_then}
 use Rattle.std.specs.List.{list_all}
-use Rattle.std.specs.Char.{is_ascii_digit}
-use Rattle.std.specs.Str.Parse.{digits_value}
+use Rattle.fc_values.specs.Numbers.{number_of}
 use Rattle.fc_lexer.specs.Bytes.{is_piece, is_letter, is_name_byte}
 use Rattle.fc_lexer.specs.Kinds.{TokenKind, TokenView, NumberOf, WordOf, NameOf, MarkOf, token_kind}
-
--- a number is a word of 1 to 7 decimal digits
-abbrev pub is_number : List ℕ → Bool
-is_number word = nat_le 1 (length word) && nat_le (length word) 7 && list_all is_ascii_digit word
-
--- the number that a word writes, if it is one; leading zeros are allowed
-abbrev pub number_of : List ℕ → Option ℕ
-number_of word = if is_number word then Some (digits_value 10 word) else None
 
 -- the number of a device that may join
 abbrev pub if_device : ℕ → Option ℕ

@@ -6,7 +6,7 @@ ghost use Rattle.firing_core.specs.Entries.{entry_of, entries_of, edit_of};
 ghost use Rattle.firing_core.specs.Replays.{EntryFits, LogFits};
 ghost use Rattle.edit_commands.specs.Logs.{line_judged, text_judged, OfEdit, DoesEntry, IsLog, RefusesLog, numbered, entry_in};
 ghost use Rattle.edit_commands.specs.Lines.{words_of};
-ghost use Rattle.edit_commands.specs.Words.{number_of};
+ghost use Rattle.fc_values.specs.Numbers.{number_of};
 ghost use Rattle.edit_commands.specs.LineByLine.{WhereAccepted};
 ghost use Rattle.edit_commands.specs.Judging.{DoesEdit, words_judged};
 ghost use Rattle.edit_commands.specs.EditLines.{edit_line};

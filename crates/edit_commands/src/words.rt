@@ -4,7 +4,8 @@ ghost use Rattle.std.specs.Prelude.{◌≡◌, ◌≤◌, length, true, IfOk};
 ghost use Rattle.std.specs.List.{list_all};
 ghost use Rattle.std.specs.Char.{is_ascii_digit};
 ghost use Rattle.fc_lexer.specs.Bytes.{is_letter as letter_test, is_name_byte as name_byte_test};
-ghost use Rattle.edit_commands.specs.Words.{number_of, device_of, is_name, is_spelled, is_one_name};
+ghost use Rattle.fc_values.specs.Numbers.{number_of};
+ghost use Rattle.edit_commands.specs.Words.{device_of, is_name, is_spelled, is_one_name};
 ghost use Rattle.fc_lexer.specs.Kinds.{tokens_of};
 
 use fc_lexer::{Kind, Token, lex};

@@ -2,3 +2,4 @@ pub mod Places
 pub mod Kids
 pub mod Kept
 pub mod PairProgram
+pub mod NarrowTypes

@@ -2,9 +2,9 @@ pub mod Cut
 pub mod Calm
 pub mod SectionSizes
 pub mod Stops
-pub mod Alike
 pub mod OneEnding
 pub mod Replaying
+pub mod Resuming
 pub mod Replying
 pub mod Refusing
 pub mod Rooms

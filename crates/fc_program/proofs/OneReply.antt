@@ -12,6 +12,7 @@ use Rattle.fc_types.specs.Faults.{FirstFault}
 use Rattle.fc_types.specs.Laws as types
 use Rattle.fc_nodes.specs.Program.{Unfolding}
 use Rattle.net_json.specs.Scenes.{scene_of}
+use Rattle.edit_commands.specs.Agreement as edits
 use Rattle.fc_program.specs.declared.tasks.Extras.{Extras}
 use Rattle.fc_program.specs.declared.tasks.Task.{Task}
 use Rattle.fc_program.specs.declared.refusal.Refusal.{Refusal}
@@ -28,7 +29,7 @@ use Rattle.fc_program.proofs.OneEnding.{same_to_scene}
 limit_same : (ts us : List TokenView) (p q : Option Passed) → ts ≡ us → limit_passed ts ≡ p → limit_passed us ≡ q → p ≡ q
 limit_same ts us p q e a b = sym a ∙ ap limit_passed e ∙ b
 
-module _ (one_list : lexer.OneList) (one_stop : lexer.OneStop) (stops_or_lexes : lexer.NeverBoth) (one_program : parser.OneProgram) (one_fault : parser.OneFault) (derives_or_fault : parser.NeverBoth)
+module _ (readings : edits.ReadingsAgree) (steps : edits.StepsAgree) (replays_agree : edits.ReplaysAgree) (parts : edits.PartsAgree) (one_list : lexer.OneList) (one_stop : lexer.OneStop) (stops_or_lexes : lexer.NeverBoth) (one_program : parser.OneProgram) (one_fault : parser.OneFault) (derives_or_fault : parser.NeverBoth)
     (typed_or_fault : types.NotTypedAtFault) (one_first_fault : types.OneFirstFault) where
   pub same_source : (text : List ℕ) (ds es : List Declaration) → IsSource text ds → IsSource text es → ds ≡ es
   same_source text ds es s t =
@@ -94,7 +95,7 @@ module _ (one_list : lexer.OneList) (one_stop : lexer.OneStop) (stops_or_lexes :
   same_replays x program network log r s (judged U t p h) (no_program b q) = absurd (program_or_refused program U b p q)
   same_replays x program network log r s (judged U t p h) (judged V u q k) =
       let e : U ≡ V = same_unfolding program U V p q in
-      same_to_scene x V log (scene_of V network) t u (subst (λ W. RepliesToScene x W log (scene_of W network) t) e h) k
+      same_to_scene readings steps replays_agree parts x V log (scene_of V network) t u (subst (λ W. RepliesToScene x W log (scene_of W network) t) e h) k
 
   same_within : (task : Task) (sections : List (List ℕ)) (r s : Reply) → RepliesWithin task sections r → RepliesWithin task sections s → r ≡ s
   same_within task sections r s (other_sections c ss e) (other_sections d tt f) = refl

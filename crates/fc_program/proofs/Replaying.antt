@@ -44,7 +44,8 @@ use Rattle.fc_program.specs.declared.refusal.LogFault.{LogFault}
 use Rattle.fc_program.specs.declared.refusal.LogFault.TheVariants.{Line, Step}
 use Rattle.fc_program.specs.declared.tasks.Extras.{Extras}
 use Rattle.fc_program.specs.Refusals.{Reply, refused, done, log_refusal}
-use Rattle.fc_program.specs.Replays.{Logged, entries_in, first_stop, start_of, row_of, rows_of, replay_text, IsGreatest, where_asked, table_line, RepliesToEntries, stops, leads, RepliesToLog, faulty, entries, RepliesToScene, no_scene, from_scene, IsBookFrom, IsBookOfLog, IsFaultOfLog, IsReplyToFault, stop_of, StopsWithin, Shows}
+use Rattle.fc_program.specs.Replays.{Logged, entries_in, first_stop, start_of, row_of, rows_of, replay_text, IsGreatest, where_asked, table_line, RepliesToEntries, stops, leads, RepliesToLog, faulty, entries, RepliesToScene, no_scene, from_scene, IsBookFrom, IsBookOfLog}
+use Rattle.fc_program.specs.ReplayCode.{IsFaultOfLog, IsReplyToFault, stop_of, StopsWithin, Shows}
 use Rattle.fc_program.proofs.Stops.{RunsAreReplays, step_stops, edit_stops}
 
 -- ---- the start
@@ -129,7 +130,7 @@ rows_above core b (d ∷ ds) h = by_export (rows_above core b ds (rises_skip b d
     by_export without with_it None = without
     by_export without with_it (Some e) = (h.0, with_it)
 
-rows_rise : (core : Core) (ds : List NetDevice) → Rises (numbers ds) → Rises (owners (rows_of core ds))
+pub rows_rise : (core : Core) (ds : List NetDevice) → Rises (numbers ds) → Rises (owners (rows_of core ds))
 rows_rise core [] h = tt
 rows_rise core (d ∷ ds) h = by_export (rows_rise core ds (rises_tail d.id (numbers ds) h)) (core.exports d.id)
   where

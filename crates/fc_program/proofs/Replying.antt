@@ -32,7 +32,8 @@ use Rattle.fc_program.specs.declared.sources.NoProgram.TheVariants as no_text
 use Rattle.fc_program.specs.Sources.{RefusesProgram, IsSource, IsNoSource, lexical, tokens, depth, syntax, IsProgramText, IsNoProgram, no_source, ill_typed, too_large}
 use Rattle.fc_program.specs.Refusals.{Reply, refused, status_of, done, limit_of, limit_in, or_refusal, log_refusal}
 use Rattle.fc_program.specs.SceneFaults.{scene_refused, or_network}
-use Rattle.fc_program.specs.Replays.{Logged, RepliesToEntries, RepliesToLog, RepliesToScene, Replays, stops, leads, faulty, entries, no_scene, from_scene, no_program, judged, IsBookOfTexts, start_of, IsRefusedBy}
+use Rattle.fc_program.specs.Replays.{Logged, RepliesToEntries, RepliesToLog, RepliesToScene, Replays, stops, leads, faulty, entries, no_scene, from_scene, no_program, judged, IsBookOfTexts, start_of}
+use Rattle.fc_program.specs.ReplayCode.{IsRefusedBy}
 use Rattle.fc_program.specs.Reply.{IsBookWithin, Formats, sections_for, RepliesWithin, Replies, no_source, printed, other_sections, formats, replays, usage, too_long, within}
 
 -- `format`

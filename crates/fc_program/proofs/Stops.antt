@@ -7,6 +7,7 @@ use Rattle.firing_core.specs.Cores.{Core, Run, IsGood}
 use Rattle.firing_core.specs.Entries.{EntryValue, BeginEntry, EndEntry, IdleEntry, EditEntry}
 use Rattle.firing_core.specs.Replays.{fault_of, net_fault_of, unless, step_of, step, and_replay, replay, LogFits, FailsAt}
 use Rattle.edit_commands.specs.declared.types.Fault.TheVariants.{Net}
+use Rattle.edit_commands.specs.Agreement.{SameEntries, StepsAgree, number_in}
 use Rattle.fc_program.specs.declared.refusal.LogFault.{LogFault}
 use Rattle.fc_program.specs.declared.refusal.LogFault.TheVariants.{Line, Step}
 use Rattle.fc_program.specs.Replays.{Logged, entries_in, no_step, stop_here, stop_later, first_stop}
@@ -55,6 +56,26 @@ never_stops U c last (x ∷ xs) h =
     let b = begins U c last x.1 (entries_in xs) h in
     later_stop U c b.next x xs b.first ∙ never_stops U b.next last xs b.rest
 
+-- ---- two readings of one log stop alike
+pub same_stop : (steps : StepsAgree) (U : Unfolding) (c : Core) (xs ys : List Logged) → map number_in xs ≡ map number_in ys → SameEntries U (entries_in xs) (entries_in ys) → first_stop U c xs ≡ first_stop U c ys
+same_stop steps U c [] [] n h = refl
+same_stop steps U c [] (y ∷ ys) n h = absurd h
+same_stop steps U c (x ∷ xs) [] n h = absurd h
+same_stop steps U c (x ∷ xs) (y ∷ ys) n h =
+    let s = steps U x.1 y.1 h.0 c in
+    let at : x.0 ≡ y.0 = cc in
+    let rest : map number_in xs ≡ map number_in ys = cc in
+    ap (λ n. stop_here n (no_step (fault_of c x.1) (net_fault_of c x.1)) (stop_later (step_of U c x.1) (λ next. first_stop U next xs))) at
+    ∙ ap (λ f. stop_here y.0 (no_step f (net_fault_of c x.1)) (stop_later (step_of U c x.1) (λ next. first_stop U next xs))) s.0
+    ∙ ap (λ g. stop_here y.0 (no_step (fault_of c y.1) g) (stop_later (step_of U c x.1) (λ next. first_stop U next xs))) s.1
+    ∙ ap (stop_here y.0 (no_step (fault_of c y.1) (net_fault_of c y.1)))
+    (ap (λ o. stop_later o (λ next. first_stop U next xs)) s.2 ∙ later (λ next. same_stop steps U next xs ys rest h.1) (step_of U c y.1))
+  where
+    later : ((next : Core) → first_stop U next xs ≡ first_stop U next ys) → (o : Option Core) → stop_later o (λ next. first_stop U next xs) ≡ stop_later o (λ next. first_stop U next ys)
+    later ih None = refl
+    later ih (Some next) = ih next
+
+-- ---- what the code has found
 -- the number of the line at an index
 abbrev pub line_at : List Logged → ℕ → ℕ
 line_at xs i = get_or (map (λ (x : Logged). x.0) xs) i 0

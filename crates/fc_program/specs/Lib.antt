@@ -5,5 +5,7 @@ pub mod FaultWords
 pub mod Refusals
 pub mod SceneFaults
 pub mod Replays
+pub mod ReplayCode
+pub mod Resuming
 pub mod Reply
 pub mod Top

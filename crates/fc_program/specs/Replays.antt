@@ -1,13 +1,11 @@
 -- What `replay` answers to a program, a scene and a log.
-use Rattle.std.specs.Prelude.{ℕ, Bool, true, false, ◌≡◌, ◌<◌, ◌≤◌, slice_index, List, [], ◌∷◌, ◌++◌, map, codes, Option, Some, None}
+use Rattle.std.specs.Prelude.{ℕ, Bool, true, false, ◌≡◌, ◌≤◌, List, [], ◌∷◌, ◌++◌, map, codes, Option, Some, None}
 use Rattle.fc_nodes.specs.Program.{Unfolding, unfolding_of}
 use Rattle.topology.specs.declared.types.NetFault.{NetFault}
 use Rattle.topology.specs.Networks.{NetDevice, numbers}
 use Rattle.firing_core.specs.declared.entries.StepFault.{StepFault}
 use Rattle.firing_core.specs.Cores.{Core}
-use Rattle.firing_core.specs.declared.entries.ReplayFault.{ReplayFault}
-use Rattle.firing_core.specs.declared.entries.ReplayFault.TheVariants as replay_fault
-use Rattle.firing_core.specs.CoreViews.{core_of, program_of}
+use Rattle.firing_core.specs.CoreViews.{core_of}
 use Rattle.firing_core.specs.Entries.{EntryValue, entries_of}
 use Rattle.firing_core.specs.Replays.{fault_of, net_fault_of, step_of, replay}
 use Rattle.firing_core.specs.Books.{BookValue}
@@ -20,10 +18,6 @@ use Rattle.net_json.specs.Scenes.{SceneValue, scene_of}
 use Rattle.net_json.specs.Tables.{Row}
 use Rattle.net_json.specs.TableTexts.{table_text}
 use Rattle.edit_commands.specs.declared.types.Fault.{Fault}
-use Rattle.edit_commands.specs.declared.types.ScriptFault.{ScriptFault}
-use Rattle.edit_commands.specs.declared.types.ScriptFault.TheVariants as script
-use Rattle.fc_program.specs.declared.sources.NoProgram.{NoProgram}
-use Rattle.fc_program.specs.declared.sources.NoProgram.TheVariants as no_text
 use Rattle.edit_commands.specs.declared.types.Fault.TheVariants.{Net}
 use Rattle.edit_commands.specs.LineByLine.{Lines, AllLines, StopsAt, AreSaid}
 use Rattle.edit_commands.specs.Logs.{LogLine, IsEntry, log_of}
@@ -150,43 +144,3 @@ pub record IsBookOfTexts (program network log : List ℕ) (book : BookValue) : T
   pub main : Unfolding
   pub is_program : IsProgramText program main
   pub is_book : IsBookOfScene main log (scene_of main network) book
-
--- ---- what the code has on the way
-
--- the line at which a log stops, and why, from the numbers of its lines; none where memory was wanted
-abbrev pub stop_of : List ℕ → ReplayFault → Option (ℕ × LogFault)
-stop_of lines (replay_fault.At index why) = Some (slice_index lines index, Step why)
-stop_of lines (replay_fault.EditAt index why) = Some (slice_index lines index, Line (Net why))
-stop_of lines replay_fault.Memory = None
-
--- the entry at which a log stops is one of so many
-abbrev pub StopsWithin : ℕ → ReplayFault → Type 0
-StopsWithin n (replay_fault.At index why) = index < n
-StopsWithin n (replay_fault.EditAt index why) = index < n
-StopsWithin n replay_fault.Memory = Unit {0}
-
--- a reply to a text that is no program, and to a log that isn't read. Want of memory has none
-abbrev pub IsRefusedBy : NoProgram → Reply → Type 0
-IsRefusedBy (no_text.Refused refusal) reply = reply ≡ refused refusal
-IsRefusedBy no_text.Memory reply = ⊥
-
-abbrev pub IsFaultOfLog : ScriptFault → Type 0
-IsFaultOfLog (script.At at fault) = Unit {0}
-IsFaultOfLog (script.Lines count) = ⊥
-IsFaultOfLog (script.Scrambles count) = ⊥
-IsFaultOfLog (script.Firings count) = ⊥
-IsFaultOfLog script.Memory = Unit {0}
-
-abbrev pub IsReplyToFault : ScriptFault → Reply → Type 0
-IsReplyToFault (script.At at fault) reply = reply ≡ refused (log_refusal at (Line fault))
-IsReplyToFault (script.Lines count) reply = ⊥
-IsReplyToFault (script.Scrambles count) reply = ⊥
-IsReplyToFault (script.Firings count) reply = ⊥
-IsReplyToFault script.Memory reply = ⊥
-
--- a reply that shows a book
-pub record Shows (extras : Extras) (book : BookValue) (reply : Reply) : Type 0 where
-  pub rounds : ℕ
-  pub greatest : IsGreatest (numbers (core_of book.core).net.devices) (entries_of book.log) rounds
-  pub held : book.core.program ≡ book.program
-  pub shown : reply ≡ done (replay_text extras (program_of book.core) (core_of book.core) rounds)

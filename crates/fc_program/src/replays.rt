@@ -15,7 +15,9 @@ ghost use Rattle.net_json.specs.SceneCode.{borrowed_row, value_of_scene};
 ghost use Rattle.edit_commands.specs.Logs.{entry_in, log_of, numbered};
 ghost use Rattle.report.specs.Verdicts.{rounds_text};
 ghost use Rattle.fc_program.specs.Refusals.{refused};
-ghost use Rattle.fc_program.specs.Replays.{Replays, RepliesToScene, RepliesToLog, RepliesToEntries, IsGreatest, IsBookFrom, IsBookOfLog, IsBookOfScene, IsBookOfTexts, replay_text, rows_of, start_of, entries_in, where_asked, table_line, stop_of, StopsWithin, IsFaultOfLog, IsReplyToFault, IsRefusedBy, Shows};
+ghost use Rattle.fc_program.specs.Replays.{Replays, RepliesToScene, RepliesToLog, RepliesToEntries, IsGreatest, IsBookFrom, IsBookOfLog, IsBookOfScene, IsBookOfTexts, replay_text, rows_of, start_of, entries_in, where_asked, table_line};
+ghost use Rattle.fc_program.specs.Resuming.{TablesResume};
+ghost use Rattle.fc_program.specs.ReplayCode.{stop_of, StopsWithin, IsFaultOfLog, IsReplyToFault, IsRefusedBy, Shows};
 
 use crate::refusal::{LogFault, Refusal, log_refusal};
 use crate::reply::{Reply, done, refuse};
@@ -26,7 +28,7 @@ use edit_commands::{Fault, ScriptFault, read_log};
 use fc_nodes::Unfolded;
 use fc_values::{Export, Memory};
 use firing_core::{Book, Core, Entry, ReplayFault, replay as replay_log, steps_agree};
-use net_json::{Scene, read_scene, write_table};
+use net_json::{Scene, read_scene, tables_read_back, write_table};
 use report::{rounds_line, values};
 use round_count::rounds;
 use std::alloc::Global;
@@ -299,4 +301,12 @@ fn no_program(alloc: Global, fault: NoProgram) -> Result<(Reply, Option<Book>), 
         NoProgram::Refused(refusal) => Ok(refused(alloc, refusal)?),
         NoProgram::Memory => Err(Memory),
     }
+}
+
+/// A table that `replay` has written, given back as the table of a scene of the same network, is read to the same rows,
+/// and the scene starts from the same exports.
+pub fn tables_resume()
+    ensures { TablesResume }
+{
+    tables_read_back();
 }

@@ -31,6 +31,10 @@ const PENDING: &str =
 const TABLE: &str =
     "{\"devices\":[{\"id\":0,\"inputs\":{\"src\":true}},{\"id\":1,\"inputs\":{\"src\":false}}],\"links\":[[0,1,1]],\"table\":[{\"id\":0,\"value\":3,\"kept\":[3,4]}]}";
 
+// The scene with the source, with a table that a replay has written.
+const WRITTEN: &str =
+    "{\"devices\":[{\"id\":0,\"inputs\":{\"src\":true}},{\"id\":1,\"inputs\":{\"src\":false}}],\"links\":[[0,1,1]],\"table\":{\"format\":2,\"rows\":[{\"id\":0,\"kept\":[[0,0],[4,10]],\"value\":0},{\"id\":1,\"kept\":[[0,10],[4,10]],\"value\":10}]}}";
+
 /// A program, a network, a log, and the text that a replay writes.
 type Replay = (&'static str, &'static str, &'static str, &'static str);
 
@@ -192,6 +196,13 @@ fn rounds_and_tables(rt: HostRuntime) -> Result<(), Fail> {
         &both,
         0,
     )?;
+    let back = (
+        HOPS,
+        WRITTEN,
+        "",
+        "0 0\n1 10\n{\"format\":2,\"rows\":[{\"id\":0,\"kept\":[[0,0],[4,10]],\"value\":0},{\"id\":1,\"kept\":[[0,10],[4,10]],\"value\":10}]}\n",
+    );
+    replays(&rt, alloc, &["fc", "replay", "--table"], &back, 0)?;
     Ok(())
 }
 

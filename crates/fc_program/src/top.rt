@@ -13,6 +13,7 @@ use crate::refusal::Refusal;
 use crate::replies::answer;
 use crate::reply::{Reply, refuse};
 use crate::tasks::{Task, asked};
+use edit_commands::readings_agree;
 use fc_io::{CalmSink, CalmSource, ReadAll, Sink, Source, read_all, write_all};
 use fc_lexer::one_reading;
 use fc_parser::one_meaning;
@@ -144,6 +145,7 @@ pub fn one_reply()
     one_meaning();
     typed_or_at_fault();
     one_first_fault();
+    readings_agree();
 }
 
 /// `fc` over a source and a sink that stay calm, with more room than the text has bytes: it never

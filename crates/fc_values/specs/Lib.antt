@@ -1,5 +1,7 @@
 pub mod Types
 pub mod Values
+pub mod Inputs
+pub mod Numbers
 pub mod Fields
 pub mod Builtins
 pub mod BuiltinTypes

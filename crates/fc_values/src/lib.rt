@@ -15,7 +15,7 @@ pub use builtins::{Builtin, apply};
 pub use exports::{Export, Slot, Slots, copy_export};
 pub use laws::builtin_has_value;
 pub use memory::Memory;
-pub use types::{Declared, InputDecl, InputTy, LocalTy, Name, Ty};
+pub use types::{Declared, InputDecl, InputTy, LocalTy, Name, Ty, copy_declared};
 pub use values::{FieldVal, Local, Value, compare, copy, fits, overwrite};
 
 #[cfg(test)]

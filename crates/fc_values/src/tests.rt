@@ -6,7 +6,8 @@ ghost use Rattle.fc_values.specs.Fields.{value_of, ValueField, ValueLocal};
 ghost use Rattle.fc_values.specs.Values.{IntValue};
 
 use crate::{
-    Builtin, Export, FieldVal, Local, Memory, Slot, Slots, Value, apply, copy, copy_export,
+    Builtin, Declared, Export, FieldVal, InputDecl, InputTy, Local, Memory, Name, Slot, Slots,
+    Value, apply, copy, copy_declared, copy_export,
 };
 use std::alloc::Global;
 use std::test::Fail;
@@ -97,6 +98,33 @@ fn copies(rt: HostRuntime) -> Result<(), Fail> {
     assert_eq!(rt; made.slots.list.len(), 2);
     assert!(rt; made.slots.list[0].kept && is_truth(&made.slots.list[0].value, true));
     assert!(rt; !made.slots.list[1].kept && is_integer(&made.slots.list[1].value, 5));
+    Ok(())
+}
+
+#[test]
+fn copies_of_declarations(rt: HostRuntime) -> Result<(), Fail> {
+    let alloc = rt.alloc();
+    let mut inputs = Vec::new(alloc);
+    inputs.push(InputDecl {
+        name: Name {
+            text: Vec::from_slice(alloc, b"src")?,
+        },
+        ty: InputTy::Whole(2, 5),
+    })?;
+    let made = copy_declared(
+        alloc,
+        &Declared {
+            ceiling: 10,
+            inputs,
+            metric: (1, 3),
+        },
+    )?;
+    assert_eq!(rt; made.ceiling, 10);
+    assert_eq!(rt; made.metric.0, 1);
+    assert_eq!(rt; made.metric.1, 3);
+    assert_eq!(rt; made.inputs.len(), 1);
+    assert!(rt; made.inputs[0].name.text.as_slice() == b"src".as_slice());
+    assert!(rt; made.inputs[0].ty == InputTy::Whole(2, 5));
     Ok(())
 }
 

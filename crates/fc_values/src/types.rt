@@ -1,5 +1,11 @@
 //! Types, and the declarations of a program.
 
+ghost use Rattle.std.specs.Prelude.{◌≡◌, map, IfOk};
+ghost use Rattle.fc_values.specs.Types.{input_of, declarations_of};
+
+use crate::memory::Memory;
+use std::alloc::Global;
+
 /// A type of local values.
 #[derive(Drop)]
 pub enum LocalTy {
@@ -41,4 +47,28 @@ pub struct Declared {
     pub ceiling: u32,
     pub inputs: Vec<InputDecl>,
     pub metric: (u32, u32),
+}
+
+/// A copy of declarations.
+pub fn copy_declared(alloc: Global, declared: &Declared) -> Result<Declared, Memory>
+    ensures { IfOk result (λ d. declarations_of d ≡ declarations_of declared.now) }
+{
+    let inputs = copy_inputs(alloc, &declared.inputs)?;
+    Ok(Declared {
+        ceiling: declared.ceiling,
+        inputs,
+        metric: declared.metric,
+    })
+}
+
+fn copy_inputs(alloc: Global, inputs: &[InputDecl]) -> Result<Vec<InputDecl>, Memory>
+    ensures { IfOk result (λ v. map input_of v.items ≡ map input_of inputs.now) }
+{
+    let mut copies = Vec::new(alloc);
+    for input in inputs {
+        let text = Vec::from_slice(alloc, &input.name.text)?;
+        let name = Name { text };
+        copies.push(InputDecl { name, ty: input.ty })?;
+    }
+    Ok(copies)
 }

@@ -2,16 +2,13 @@
 use Rattle.std.proofs.Common.{◌≡◌, ◌≢◌, ℕ, suc, ◌<◌, ◌≤◌, List, [], ◌∷◌, length, map, refl, sym, ◌∙◌, ap, subst, arith, Bool, true, false, nat_eq, if◌then◌else◌, Option, Some, None}
 use Rattle.std.specs.Prelude.{◌||◌}
 use Rattle.std.proofs.lemmas.Bool.{eqb-true}
-use Rattle.fc_values.specs.Types.{Declarations, Input}
-use Rattle.fc_values.specs.declared.types.InputTy.{InputTy}
-use Rattle.fc_values.specs.declared.types.InputTy.TheVariants as input
-use Rattle.fc_values.specs.Values.{LocalValue, IntValue, BoolValue, PairValue}
-use Rattle.topology.specs.Inputs.{InputFits as NetInputFits, InputsFit as NetInputsFit}
+use Rattle.fc_values.specs.Types.{Declarations}
 use Rattle.fc_values.specs.Fields.{Rises}
 use Rattle.fc_values.specs.Trees.{TreeExport, NearCopy}
 use Rattle.fc_nodes.specs.Program.{Unfolding}
 use Rattle.fc_nodes.specs.Flat.{IsWellTyped}
-use Rattle.value_trees.specs.Copies.{InputFits, InputsFit, WhereSome, AllNearFit, near_devices, FitsCopy}
+use Rattle.fc_values.specs.Inputs.{InputsFit}
+use Rattle.value_trees.specs.Copies.{WhereSome, AllNearFit, near_devices, FitsCopy}
 use Rattle.topology.specs.Networks.{Network, NetDevice, Edge, numbers, is_in, Lives, inputs_in, near_in, near, BeforeAll, LinksFit, DevicesFit, IsNetwork}
 use Rattle.firing_core.specs.Cores.{Map, near_with, near_copies, copy_of}
 
@@ -80,28 +77,13 @@ near_fits D ds d (l ∷ ls) f = by_test (nat_eq l.a d) (nat_eq l.b d) refl refl 
     by_test false true s t ih = let e = eqb-true l.b d t in let o = f.0.order in (record { other = λ x. absurd (omega arith); above = f.0.above; below = f.0.below }, ih)
     by_test false false s t ih = ih
 
--- inputs that fit a network fit a copy
-input_fits : (t : InputTy) (v : LocalValue) → NetInputFits t v → InputFits t v
-input_fits input.Truth (IntValue n) f = f
-input_fits input.Truth (BoolValue b) f = f
-input_fits input.Truth (PairValue a b) f = f
-input_fits (input.Whole l g) (IntValue n) f = f
-input_fits (input.Whole l g) (BoolValue b) f = f
-input_fits (input.Whole l g) (PairValue a b) f = f
-
-copied_inputs : (is : List Input) (vs : List LocalValue) → NetInputsFit is vs → InputsFit is vs
-copied_inputs [] [] f = tt
-copied_inputs [] (v ∷ vs) f = f
-copied_inputs (i ∷ is) [] f = f
-copied_inputs (i ∷ is) (v ∷ vs) f = (input_fits i.type v f.0, copied_inputs is vs f.1)
-
 -- the inputs of a device that is there
 pub inputs_fit : (D : Declarations) (ns : List NetDevice) (d : ℕ) → DevicesFit D ns → is_in d (numbers ns) ≡ true → InputsFit D.inputs (inputs_in d ns)
 inputs_fit D [] d f h = absurd (cc)
 inputs_fit D (n ∷ ns) d f h = by_test (nat_eq d n.id) h (inputs_fit D ns d f.2)
   where
     by_test : (b : Bool) → (b || is_in d (numbers ns)) ≡ true → (is_in d (numbers ns) ≡ true → InputsFit D.inputs (inputs_in d ns)) → InputsFit D.inputs (if b then n.inputs else inputs_in d ns)
-    by_test true t ih = copied_inputs D.inputs n.inputs f.1
+    by_test true t ih = f.1
     by_test false t ih = ih t
 
 -- the copies of those neighbours that have an export in a table of well-typed exports

@@ -16,7 +16,7 @@ use Rattle.fc_nodes.specs.Program.{Program, IsProgram, Unfolding, unfolding_of}
 use Rattle.fc_nodes.specs.Flat.{IsExport, HaveForms}
 use Rattle.value_trees.specs.declared.copies.Near.{Near}
 use Rattle.value_trees.specs.declared.copies.Snap.{Snap}
-use Rattle.value_trees.specs.Copies.{InputFits, InputsFit}
+use Rattle.fc_values.specs.Inputs.{InputFits, InputsFit}
 use Rattle.value_trees.specs.Snaps.{IsExportOf, NearAreExports, IsSnap}
 use Rattle.value_trees.specs.Shapes.{IsShaped}
 use Rattle.value_trees.proofs.Forms.{fits_form}

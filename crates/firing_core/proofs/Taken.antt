@@ -8,7 +8,8 @@ use Rattle.fc_values.specs.declared.exports.Export.{Export}
 use Rattle.fc_values.specs.Values.{local_of}
 use Rattle.fc_values.specs.Exports.{export_of}
 use Rattle.value_trees.specs.declared.copies.Snap.{Snap}
-use Rattle.value_trees.specs.Copies.{FitsCopy, InputsFit}
+use Rattle.fc_values.specs.Inputs.{InputsFit}
+use Rattle.value_trees.specs.Copies.{FitsCopy}
 use Rattle.value_trees.specs.Snaps.{tree_of, near_copy, snap_copy, NearAreExports, IsSnap}
 use Rattle.topology.specs.declared.types.Device.{Device}
 use Rattle.topology.specs.Networks.{NetDevice, device_of, numbers, is_in, Lives, inputs_in, near}

@@ -8,10 +8,10 @@ use Rattle.fc_values.specs.declared.types.InputTy.{InputTy}
 use Rattle.fc_values.specs.declared.types.InputTy.TheVariants as input
 use Rattle.fc_values.specs.Types.{Input}
 use Rattle.fc_values.specs.Values.{LocalValue, IntValue, BoolValue, PairValue}
-use Rattle.value_trees.specs.Copies as copies
 use Rattle.topology.specs.declared.types.NetFault.{NetFault}
 use Rattle.topology.specs.declared.types.NetFault.TheVariants as fault
-use Rattle.topology.specs.Inputs.{InputFits, InputsFit, input_fault, inputs_fault}
+use Rattle.fc_values.specs.Inputs.{InputFits, InputsFit}
+use Rattle.topology.specs.Inputs.{input_fault, inputs_fault}
 use Rattle.net_json.specs.Judging.{Judged, Accepted, Refused, Misshaped, and_then, given, no_fault, at_member}
 use Rattle.net_json.specs.Reading.{value_of}
 use Rattle.net_json.specs.Inputs.{input_judged, values_judged}
@@ -47,17 +47,7 @@ fits_none input.Truth (BoolValue b) h = refl
 fits_none (input.Whole least greatest) (IntValue n) h = let a = le_test least n h.0 in let b = le_test n greatest h.1 in rw (a, b) refl
 fits_none ty v h = absurd h
 
-copy_fits : (ty : InputTy) (v : LocalValue) → InputFits ty v → copies.InputFits ty v
-copy_fits input.Truth (BoolValue b) h = tt
-copy_fits (input.Whole least greatest) (IntValue n) h = h
-copy_fits ty v h = absurd h
-
 -- ---- all values
-
-pub copy_inputs : (is : List Input) (vs : List LocalValue) → InputsFit is vs → copies.InputsFit is vs
-copy_inputs [] [] h = tt
-copy_inputs (i ∷ is) (v ∷ vs) h = (copy_fits i.type v h.0, copy_inputs is vs h.1)
-copy_inputs is vs h = absurd h
 
 pub inputs_long : (is : List Input) (vs : List LocalValue) → InputsFit is vs → length vs ≡ length is
 inputs_long [] [] h = refl

@@ -15,3 +15,6 @@ mod Makes
 mod Jsons
 mod Placings
 mod Floats
+mod TakenBack
+mod RowsBack
+mod Depths

@@ -15,3 +15,4 @@ pub mod Scenes
 pub mod SceneCode
 pub mod TableTexts
 pub mod Placing
+pub mod ReadingBack

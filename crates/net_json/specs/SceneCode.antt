@@ -8,7 +8,7 @@ use Rattle.fc_values.specs.Fields.{Rises}
 use Rattle.fc_nodes.specs.Program.{Unfolding}
 use Rattle.value_trees.specs.declared.copies.Snap.{Snap}
 use Rattle.value_trees.specs.Snaps.{tree_of, snap_copy, IsExportOf, IsSnap}
-use Rattle.topology.specs.Inputs.{InputsFit}
+use Rattle.fc_values.specs.Inputs.{InputsFit}
 use Rattle.topology.specs.Networks.{NetDevice, Network, Lives}
 use Rattle.net_json.specs.declared.types.Scene.{Scene}
 use Rattle.net_json.specs.Tables.{Row}

@@ -5,7 +5,8 @@ ghost use Rattle.serde_json.specs.View.{view};
 ghost use Rattle.serde_json.specs.Find.{get};
 ghost use Rattle.fc_values.specs.Types.{input_of};
 ghost use Rattle.fc_values.specs.Values.{local_of};
-ghost use Rattle.topology.specs.Inputs.{InputsFit, input_fault};
+ghost use Rattle.fc_values.specs.Inputs.{InputsFit};
+ghost use Rattle.topology.specs.Inputs.{input_fault};
 ghost use Rattle.net_json.specs.Judging.{Accepted, RefusedWith, at_member};
 ghost use Rattle.net_json.specs.Inputs.{has_names, has_exactly, input_judged, values_judged, inputs_judged};
 

@@ -3,7 +3,7 @@
 ghost use Rattle.std.specs.Prelude.{◌≡◌, ◌≤◌, IfOk, IfErr, length, map};
 ghost use Rattle.std.specs.List.{All};
 ghost use Rattle.serde_json.specs.View.{items_view};
-ghost use Rattle.fc_values.specs.Types.{declarations_of, input_of};
+ghost use Rattle.fc_values.specs.Types.{declarations_of};
 ghost use Rattle.fc_values.specs.Fields.{Rises};
 ghost use Rattle.fc_nodes.specs.Program.{unfolding_of};
 ghost use Rattle.topology.specs.Changes.{made};
@@ -17,7 +17,7 @@ use crate::devices::read_devices;
 use crate::links::read_links;
 use crate::types::{JsonFault, Path};
 use fc_nodes::Unfolded;
-use fc_values::{Declared, InputDecl, Memory, Name};
+use fc_values::{Declared, copy_declared};
 use serde_json::Value;
 use std::alloc::Global;
 use topology::{Device, MakeFault, Network};
@@ -64,28 +64,4 @@ fn new_network(
         Err(MakeFault::Net(_, _)) => unreachable!(),
         Err(MakeFault::Devices(_)) => unreachable!(),
     }
-}
-
-/// A copy of declarations.
-fn copy_declared(alloc: Global, declared: &Declared) -> Result<Declared, Memory>
-    ensures { IfOk result (λ d. declarations_of d ≡ declarations_of declared.now) }
-{
-    let inputs = copy_inputs(alloc, &declared.inputs)?;
-    Ok(Declared {
-        ceiling: declared.ceiling,
-        inputs,
-        metric: declared.metric,
-    })
-}
-
-fn copy_inputs(alloc: Global, inputs: &[InputDecl]) -> Result<Vec<InputDecl>, Memory>
-    ensures { IfOk result (λ v. map input_of v.items ≡ map input_of inputs.now) }
-{
-    let mut copies = Vec::new(alloc);
-    for input in inputs {
-        let text = Vec::from_slice(alloc, &input.name.text)?;
-        let name = Name { text };
-        copies.push(InputDecl { name, ty: input.ty })?;
-    }
-    Ok(copies)
 }

@@ -1,6 +1,6 @@
 //! Tables as text.
 
-ghost use Rattle.std.specs.Prelude.{◌≡◌, ◌++◌, [], IfOk, OnOk, length, map, codes, is_some};
+ghost use Rattle.std.specs.Prelude.{◌≡◌, ◌++◌, [], Some, IfOk, OnOk, length, map, codes, is_some};
 ghost use Rattle.std.specs.List.{All};
 ghost use Rattle.serde_json.specs.Data.{array, object, member, no_members};
 ghost use Rattle.serde_json.specs.View.{view, items_of};
@@ -12,6 +12,7 @@ ghost use Rattle.fc_nodes.specs.Terms.{node_keeps};
 ghost use Rattle.value_trees.specs.Snaps.{tree_of, IsExportOf};
 ghost use Rattle.net_json.specs.Placing.{more_if, kept_places, placed_slots};
 ghost use Rattle.net_json.specs.SceneCode.{borrowed_row};
+ghost use Rattle.net_json.specs.Scenes.{json_of};
 ghost use Rattle.net_json.specs.TableTexts.{whole_data, value_data, placed_data, row_data, table_data, table_text};
 
 use fc_nodes::{Node, Op, Unfolded};
@@ -27,7 +28,8 @@ pub fn write_table(
 ) -> Result<Vec<u8>, Memory>
     requires rising { Rises (map (λ r. r.0) table.now) }
     requires exports { All (λ r. IsExportOf (unfolding_of program.now) r.1.now) table.now }
-    ensures { IfOk result (λ text. text.items ≡ table_text (unfolding_of program.now) (map (borrowed_row (unfolding_of program.now)) table.now)) }
+    ensures text { IfOk result (λ text. text.items ≡ table_text (unfolding_of program.now) (map (borrowed_row (unfolding_of program.now)) table.now)) }
+    ensures reads_back { IfOk result (λ text. json_of text.items ≡ Some (table_data (unfolding_of program.now) (map (borrowed_row (unfolding_of program.now)) table.now))) }
 {
     let value = table_value(alloc, program, table)?;
     let text = value.to_vec(alloc)?;
@@ -37,7 +39,8 @@ pub fn write_table(
 /// A table in format 2.
 fn table_value(alloc: Global, program: &Unfolded, table: &[(u32, &Export)]) -> Result<Value, Memory>
     requires { All (λ r. IsExportOf (unfolding_of program.now) r.1.now) table.now }
-    ensures { IfOk result (λ v. view v ≡ table_data (unfolding_of program.now) (map (borrowed_row (unfolding_of program.now)) table.now)) }
+    ensures data { IfOk result (λ v. view v ≡ table_data (unfolding_of program.now) (map (borrowed_row (unfolding_of program.now)) table.now)) }
+    ensures program { IsProgram program.now }
 {
     let places = places_of(alloc, program)?;
     let mut rows = Vec::new(alloc);

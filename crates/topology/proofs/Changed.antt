@@ -6,7 +6,8 @@ use Rattle.fc_values.specs.Fields.{Rises}
 use Rattle.fc_values.specs.Values.{LocalValue}
 use Rattle.topology.specs.declared.types.NetFault.{NetFault}
 use Rattle.topology.specs.declared.types.NetFault.TheVariants as fault
-use Rattle.topology.specs.Inputs.{InputsFit, inputs_fault}
+use Rattle.fc_values.specs.Inputs.{InputsFit}
+use Rattle.topology.specs.Inputs.{inputs_fault}
 use Rattle.topology.specs.Networks.{NetDevice, Edge, Network, numbers, is_in, lives, near_in, near, LinkFits, LinksFit, IsNetwork}
 use Rattle.topology.specs.Changes.{first_fault, is_pair, touches, has_pair, drop_pair, drop_links, put_edge, pair_edge, are_linked, is_full, in_metric, insert_device, drop_device, link_fault, linked, unlink_fault, unlinked, nth_fault, set_fault, with_input, join_fault, joined, leave_fault, left}
 use Rattle.topology.proofs.Lists.{insert_length}

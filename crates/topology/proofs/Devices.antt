@@ -7,7 +7,8 @@ use Rattle.fc_values.specs.Types.{Declarations, Input}
 use Rattle.fc_values.specs.Fields.{Rises}
 use Rattle.fc_values.specs.Values.{LocalValue, IntValue, BoolValue, PairValue}
 use Rattle.topology.specs.declared.types.NetFault.TheVariants as fault
-use Rattle.topology.specs.Inputs.{InputFits, InputsFit, input_fault, inputs_fault, or_fault}
+use Rattle.fc_values.specs.Inputs.{InputFits, InputsFit}
+use Rattle.topology.specs.Inputs.{input_fault, inputs_fault, or_fault}
 use Rattle.topology.specs.Networks.{NetDevice, numbers, is_in, DevicesFit}
 use Rattle.topology.specs.Changes.{insert_device, drop_device, put_input, nth_fault}
 

@@ -1,38 +1,14 @@
 //! Copies of the parts of a network.
 
 ghost use Rattle.std.specs.Prelude.{◌≡◌, ◌≤◌, length, map, vec_capacity, IfOk, replicate, []};
-ghost use Rattle.fc_values.specs.Types.{input_of, declarations_of};
 ghost use Rattle.fc_values.specs.Values.{local_of};
 ghost use Rattle.topology.specs.Networks.{device_of, edge_of};
 ghost use Rattle.topology.specs.Nearby.{items_of};
 
 use crate::nearby::{Nearby, copy_near};
 use crate::types::{Device, Link};
-use fc_values::{Declared, InputDecl, Local, Memory, Name, copy};
+use fc_values::{Local, Memory, copy};
 use std::alloc::Global;
-
-pub(crate) fn copy_declared(alloc: Global, declared: &Declared) -> Result<Declared, Memory>
-    ensures { IfOk result (λ d. declarations_of d ≡ declarations_of declared.now) }
-{
-    let inputs = copy_inputs(alloc, &declared.inputs)?;
-    Ok(Declared {
-        ceiling: declared.ceiling,
-        inputs,
-        metric: declared.metric,
-    })
-}
-
-fn copy_inputs(alloc: Global, inputs: &[InputDecl]) -> Result<Vec<InputDecl>, Memory>
-    ensures { IfOk result (λ v. map input_of v.items ≡ map input_of inputs.now) }
-{
-    let mut copies = Vec::new(alloc);
-    for input in inputs {
-        let text = Vec::from_slice(alloc, &input.name.text)?;
-        let name = Name { text };
-        copies.push(InputDecl { name, ty: input.ty })?;
-    }
-    Ok(copies)
-}
 
 fn copy_locals(alloc: Global, values: &[Local]) -> Result<Vec<Local>, Memory>
     ensures { IfOk result (λ v. map local_of v.items ≡ map local_of values.now) }

@@ -1,6 +1,6 @@
 //! Networks, and their changes.
 
-use crate::copies::{copy_declared, copy_devices, copy_links, copy_nearby, no_nearby};
+use crate::copies::{copy_devices, copy_links, copy_nearby, no_nearby};
 use crate::edits::{drop_from_each, drop_link, drop_links, make_room, put_input, put_link};
 use crate::inputs::{in_metric, inputs_fault, nth_fault};
 use crate::makes::{first_misfit, first_twice, in_order};
@@ -8,7 +8,7 @@ use crate::nearby::{Nearby, copy_near, drop_near, is_near, put_near};
 use crate::places::{place, room_for_device};
 use crate::types::{Device, JoinFault, Link, MakeFault, NetFault};
 use arrayvec::ArrayVec;
-use fc_values::{Declared, Local, Memory};
+use fc_values::{Declared, Local, Memory, copy_declared};
 use std::alloc::Global;
 use std::marker::Model;
 

@@ -8,7 +8,8 @@ use Rattle.fc_nodes.specs.Program.{Unfolding}
 use Rattle.fc_nodes.specs.Flat.{IsWellTyped}
 use Rattle.value_trees.specs.declared.copies.Near.{Near}
 use Rattle.value_trees.specs.declared.copies.Snap.{Snap}
-use Rattle.value_trees.specs.Copies.{InputsFit, WhereSome, AllNearFit, near_devices}
+use Rattle.fc_values.specs.Inputs.{InputsFit}
+use Rattle.value_trees.specs.Copies.{WhereSome, AllNearFit, near_devices}
 use Rattle.value_trees.specs.Snaps.{tree_of, near_copy, IsExportOf, NearAreExports, IsSnap}
 use Rattle.value_trees.specs.Fitting.{NearRises}
 

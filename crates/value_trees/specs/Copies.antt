@@ -1,25 +1,10 @@
 -- Which copies fit a program.
 use Rattle.std.specs.Prelude.{ℕ, ◌≢◌, ◌≤◌, List, [], ◌∷◌, map, length, Option, Some, None}
-use Rattle.fc_values.specs.declared.types.InputTy.{InputTy}
-use Rattle.fc_values.specs.declared.types.InputTy.TheVariants as input
-use Rattle.fc_values.specs.Types.{Input}
-use Rattle.fc_values.specs.Values.{LocalValue, IntValue, BoolValue}
+use Rattle.fc_values.specs.Inputs.{InputsFit}
 use Rattle.fc_values.specs.Fields.{Rises}
 use Rattle.fc_values.specs.Trees.{NearCopy, Copy}
 use Rattle.fc_nodes.specs.Program.{Unfolding}
 use Rattle.fc_nodes.specs.Flat.{IsWellTyped}
-
--- a value of a declared input, of its type and in its range
-abbrev pub InputFits : InputTy → LocalValue → Type 0
-InputFits input.Truth (BoolValue b) = Unit {0}
-InputFits (input.Whole least greatest) (IntValue n) = (least ≤ n) × (n ≤ greatest)
-InputFits _ _ = ⊥
-
--- as many values as inputs, each of its input
-abbrev pub InputsFit : List Input → List LocalValue → Type 0
-InputsFit [] [] = Unit {0}
-InputsFit (i ∷ is) (v ∷ vs) = InputFits i.type v × InputsFit is vs
-InputsFit _ _ = ⊥
 
 abbrev pub WhereSome : {A : Type 0} → (A → Type 0) → Option A → Type 0
 WhereSome P None = Unit {0}

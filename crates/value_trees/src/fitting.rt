@@ -4,7 +4,8 @@ ghost use Rattle.std.specs.Prelude.{◌≡◌, ◌↔◌, ◌≤◌, IsTrue, map
 ghost use Rattle.fc_values.specs.Types.{declarations_of, input_of};
 ghost use Rattle.fc_values.specs.Values.{local_of};
 ghost use Rattle.fc_nodes.specs.Program.{unfolding_of, IsProgram};
-ghost use Rattle.value_trees.specs.Copies.{InputFits, InputsFit, WhereSome};
+ghost use Rattle.fc_values.specs.Inputs.{InputFits, InputsFit};
+ghost use Rattle.value_trees.specs.Copies.{WhereSome};
 ghost use Rattle.value_trees.specs.Snaps.{IsExportOf, IsSnap};
 ghost use Rattle.value_trees.specs.Fitting.{ComesBefore, IsNear, NearRises};
 

@@ -1,5 +1,5 @@
 use Rattle.std.proofs.Common.{◌≡◌, true, ap, sym, ◌∙◌}
-use Rattle.command_words.specs.Settings.{is_number}
+use Rattle.fc_values.specs.Numbers.{is_number}
 use Rattle.command_words.proofs.Numbers.{parsed}
 use Rattle.command_words.proofs.settings.number.Goals as goal
 

@@ -1,5 +1,6 @@
 use Rattle.std.proofs.Common.{◌≡◌, ◌+◌, ◌∷◌, map, drop, string_bytes, sym, ap, ◌∙◌, Some, None}
-use Rattle.command_words.specs.Settings.{number_of, option_of, setting_of}
+use Rattle.fc_values.specs.Numbers.{number_of}
+use Rattle.command_words.specs.Settings.{option_of, setting_of}
 use Rattle.command_words.proofs.Taken.{all_from, front, numbered, sets, sets_nothing, waits}
 use Rattle.command_words.proofs.settings.settings.Goals as goal
 use Rattle.command_words.proofs.settings.settings.Goals.{in-Some+in-Some-number+in_ok-push, in_default+in-Some-option, in_default+in_default-option+in-Some-set_by+in_ok-push-2}

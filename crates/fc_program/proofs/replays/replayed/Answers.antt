@@ -5,7 +5,8 @@ use Rattle.firing_core.specs.Entries.{entries_of}
 use Rattle.net_json.specs.SceneCode.{value_of_scene}
 use Rattle.edit_commands.specs.Logs.{numbered}
 use Rattle.fc_program.specs.Refusals.{refused}
-use Rattle.fc_program.specs.Replays.{RepliesToEntries, IsBookFrom, start_of, entries_in, stop_of, StopsWithin}
+use Rattle.fc_program.specs.Replays.{RepliesToEntries, IsBookFrom, start_of, entries_in}
+use Rattle.fc_program.specs.ReplayCode.{stop_of, StopsWithin}
 use Rattle.fc_program.proofs.Replaying.{has_read, fits_read, lines_within, replies_stop, replies_lead, book_from}
 use Rattle.fc_program.proofs.replays.replayed.Goals as goal
 

@@ -6,13 +6,12 @@ use Rattle.fc_values.specs.Values.{local_of}
 use Rattle.fc_nodes.specs.Program.{unfolding_of}
 use Rattle.value_trees.specs.Snaps.{tree_of}
 use Rattle.value_trees.proofs.Fits.{parts_fit}
-use Rattle.topology.specs.Inputs.{InputsFit}
+use Rattle.fc_values.specs.Inputs.{InputsFit}
 use Rattle.net_json.specs.Judging.{Accepted, and_then, at_member, RefusedWith}
 use Rattle.net_json.specs.Inputs.{inputs_judged}
 use Rattle.net_json.specs.Copies.{own_judged, nears_judged}
 use Rattle.net_json.specs.CopyCode.{form_of}
 use Rattle.net_json.proofs.Judgements.{refused_next, refused_later}
-use Rattle.net_json.proofs.InputFacts.{copy_inputs}
 use Rattle.net_json.proofs.copies.read_parts.Goals as goal
 
 pub returns-in_err-near-clause-refused : goal.returns-in_err-near-clause-refused
@@ -39,5 +38,5 @@ returns-clause-snap c =
     let vs = map local_of c.in_ok-inputs.inputs.items in
     let declared = ap (map input_of) c.deref.ensures.value ∙ ap (λ (d : Declarations). d.inputs) c.declared-declared.ensures.value in
     parts_fit U (record { device = c.args.device; inputs = c.in_ok-inputs.inputs; own = c.in_ok-own.own; near = c.in_ok-near.near })
-    (copy_inputs U.declared.inputs vs (subst (λ (is : List Input). InputsFit is vs) declared c.in_ok-inputs.ensures.fit))
+    (subst (λ (is : List Input). InputsFit is vs) declared c.in_ok-inputs.ensures.fit)
     c.in_ok-own.ensures.export c.in_ok-near.ensures.near c.in_ok-near.ensures.few

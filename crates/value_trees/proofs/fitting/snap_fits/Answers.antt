@@ -4,7 +4,7 @@ use Rattle.fc_values.specs.Types.{Declarations, Input, input_of}
 use Rattle.fc_values.specs.Values.{LocalValue, local_of}
 use Rattle.fc_nodes.specs.Program.{unfolding_of}
 use Rattle.value_trees.specs.declared.copies.Near.{Near}
-use Rattle.value_trees.specs.Copies.{InputsFit}
+use Rattle.fc_values.specs.Inputs.{InputsFit}
 use Rattle.value_trees.specs.Fitting.{NearRises}
 use Rattle.value_trees.proofs.Fits.{parts_fit, near_part}
 use Rattle.value_trees.proofs.fitting.snap_fits.Goals as goal

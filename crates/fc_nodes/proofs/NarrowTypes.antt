@@ -18,19 +18,19 @@ abbrev AreNarrow : List LocalType → Type 0
 AreNarrow [] = Unit {0}
 AreNarrow (s ∷ ss) = IsNarrow s × AreNarrow ss
 
--- all that a term keeps is of narrow types
+-- Q holds of each type that a term keeps
 abbrev mutual
-  pub KeepsNarrow : Term → Type 0
-  KeepsNarrow (Plain t l) = Unit {0}
-  KeepsNarrow (Apply t o xs) = AllKeepNarrow xs
-  KeepsNarrow (Nbr t a) = IsNarrow (inner t) × KeepsNarrow a
-  KeepsNarrow (Evolve t e a b) = IsNarrow (inner t) × KeepsNarrow a × KeepsNarrow b
-  KeepsNarrow (If t x a b) = KeepsNarrow x × KeepsNarrow a × KeepsNarrow b
-  KeepsNarrow (Let t a b) = KeepsNarrow a × KeepsNarrow b
+  pub Keeps : (LocalType → Type 0) → Term → Type 0
+  Keeps Q (Plain t l) = Unit {0}
+  Keeps Q (Apply t o xs) = AllKeep Q xs
+  Keeps Q (Nbr t a) = Q (inner t) × Keeps Q a
+  Keeps Q (Evolve t e a b) = Q (inner t) × Keeps Q a × Keeps Q b
+  Keeps Q (If t x a b) = Q BoolType × Keeps Q x × Keeps Q a × Keeps Q b
+  Keeps Q (Let t a b) = Keeps Q a × Keeps Q b
 
-  pub AllKeepNarrow : Terms → Type 0
-  AllKeepNarrow NoMore = Unit {0}
-  AllKeepNarrow (More x xs) = KeepsNarrow x × AllKeepNarrow xs
+  pub AllKeep : (LocalType → Type 0) → Terms → Type 0
+  AllKeep Q NoMore = Unit {0}
+  AllKeep Q (More x xs) = Keeps Q x × AllKeep Q xs
 
 int_narrow : IsNarrow IntType
 int_narrow = record { few = omega arith }
@@ -119,7 +119,7 @@ local_narrow s t u e f h = let g : inner u ≡ inner t = ap inner f ∙ sym (ap 
 
 module _ (D : Declarations) where
   mutual
-    pub term_narrow : (scope : Scope) (p : ℕ) (t : Term) → HasType D scope p t → ScopeIsNarrow scope → IsNarrow (inner (type_of t)) × KeepsNarrow t
+    pub term_narrow : (scope : Scope) (p : ℕ) (t : Term) → HasType D scope p t → ScopeIsNarrow scope → IsNarrow (inner (type_of t)) × Keeps IsNarrow t
     term_narrow scope p (Plain t l) h s = (leaf_narrow D scope t l h s, tt)
     term_narrow scope p (Apply t o xs) h s =
         let ih = terms_narrow scope (suc p) xs h.1 s in
@@ -139,13 +139,13 @@ module _ (D : Declarations) where
         let ih = term_narrow scope (suc p) x h.5 s in
         let ih' = term_narrow scope (suc p + size x) a h.6 s in
         let ih'' = term_narrow scope (suc p + size x + size a) b h.7 s in
-        (local_narrow h.0 t (type_of a) h.1 h.3 ih'.0, (ih.1, ih'.1, ih''.1))
+        (local_narrow h.0 t (type_of a) h.1 h.3 ih'.0, (bool_narrow, ih.1, ih'.1, ih''.1))
     term_narrow scope p (Let t a b) h s =
         let ih = term_narrow scope (suc p) a h.1 s in
         let ih' = term_narrow ((p, type_of a) ∷ scope) (suc p + size a) b h.2 (ih.0, s) in
         (subst (λ u. IsNarrow (inner u)) (sym h.0) ih'.0, (ih.1, ih'.1))
 
-    pub terms_narrow : (scope : Scope) (p : ℕ) (xs : Terms) → HaveTypes D scope p xs → ScopeIsNarrow scope → AreNarrow (inners (types_of xs)) × AllKeepNarrow xs
+    pub terms_narrow : (scope : Scope) (p : ℕ) (xs : Terms) → HaveTypes D scope p xs → ScopeIsNarrow scope → AreNarrow (inners (types_of xs)) × AllKeep IsNarrow xs
     terms_narrow scope p NoMore h s = (tt, tt)
     terms_narrow scope p (More x xs) h s =
         let ih = term_narrow scope p x h.0 s in

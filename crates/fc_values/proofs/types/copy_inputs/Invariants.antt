@@ -1,6 +1,6 @@
-use Rattle.std.proofs.Common.{◌≡◌, map, take}
+use Rattle.std.proofs.Common.{◌≡◌, take, map}
 use Rattle.fc_values.specs.Types.{input_of}
-use Rattle.net_json.proofs.networks.copy_inputs.Given as goal
+use Rattle.fc_values.proofs.types.copy_inputs.Given as goal
 
 abbrev pub invariant-loop-input : goal.invariant-loop-input
 invariant-loop-input l = map input_of l.copies.items ≡ map input_of (take l.input-index l.inputs)

@@ -1,6 +1,0 @@
-use Rattle.std.proofs.Common.{◌≡◌, take, map}
-use Rattle.fc_values.specs.Types.{input_of}
-use Rattle.topology.proofs.copies.copy_inputs.Given as goal
-
-abbrev pub invariant-loop-input : goal.invariant-loop-input
-invariant-loop-input l = map input_of l.copies.items ≡ map input_of (take l.input-index l.inputs)
