@@ -11,6 +11,7 @@ use Rattle.topology.specs.Inputs.{inputs_fault}
 use Rattle.topology.specs.Networks.{NetDevice, Edge, Network, numbers, is_in, lives, near_in, near, LinkFits, LinksFit, IsNetwork}
 use Rattle.topology.specs.Changes.{first_fault, is_pair, touches, has_pair, drop_pair, drop_links, put_edge, pair_edge, are_linked, is_full, in_metric, insert_device, drop_device, link_fault, linked, unlink_fault, unlinked, nth_fault, set_fault, with_input, join_fault, joined, leave_fault, left}
 use Rattle.topology.proofs.Lists.{insert_length}
+use Rattle.topology.proofs.Neighbours.{min_or}
 use Rattle.topology.proofs.Links.{count, count_is, count_one, count_filter, count_insert, count_drop, filter_fit, insert_fit, no_pair_left}
 use Rattle.topology.proofs.NearChanges.{near_put_other}
 use Rattle.topology.proofs.Devices.{or_none, inputs_none, insert_in, insert_rises, insert_devices_fit, drop_in, drop_rises, drop_devices_fit, drop_length, put_numbers, put_length, put_devices_fit}
@@ -64,13 +65,6 @@ can_link n a b w e =
 
 min_max : (a b : ℕ) → a ≢ b → min a b < max a b
 min_max a b h = omega (arith, h)
-
-pub min_or : (a b : ℕ) → (min a b ≡ a) × (max a b ≡ b) ⊎ (min a b ≡ b) × (max a b ≡ a)
-min_or a b = by_test (nat_le a b) refl
-  where
-    by_test : (q : Bool) → nat_le a b ≡ q → ((min a b ≡ a) × (max a b ≡ b)) ⊎ ((min a b ≡ b) × (max a b ≡ a))
-    by_test true e = let h = leb-true a b e in inl (omega arith, omega arith)
-    by_test false e = let h = leb-false a b e in inr (omega arith, omega arith)
 
 -- what is true of two devices is true of the lesser and the greater
 pub of_min : (P : ℕ → Type 0) (a b : ℕ) → P a → P b → P (min a b) × P (max a b)

@@ -1,4 +1,5 @@
 pub mod Lists
+pub mod Neighbours
 pub mod Links
 pub mod NearChanges
 pub mod Devices
@@ -9,3 +10,4 @@ pub mod Sorting
 pub mod NearEach
 pub mod Kept
 pub mod Making
+pub mod Lemmas

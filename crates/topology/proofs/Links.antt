@@ -1,10 +1,11 @@
 -- Rising links: without some, and with one more; the neighbours of a device among them.
-use Rattle.std.proofs.Common.{◌≡◌, ℕ, suc, ◌+◌, ◌≤◌, ◌⊎◌, inl, inr, List, [], ◌∷◌, ◌++◌, length, refl, sym, ◌∙◌, ap, arith, Bool, true, false, not, cond, nat_eq, nat_lt, if◌then◌else◌, ◌&&◌, ◌||◌, length-append}
+use Rattle.std.proofs.Common.{◌≡◌, ℕ, suc, ◌+◌, ◌≤◌, ◌⊎◌, inl, inr, List, [], ◌∷◌, length, refl, sym, ◌∙◌, ap, arith, Bool, true, false, not, cond, nat_eq, nat_lt, if◌then◌else◌, ◌&&◌, ◌||◌, length-append}
 use Rattle.std.specs.List.{filter}
-use Rattle.std.proofs.lemmas.Bool.{eqb-true, eqb-false, ltb-true, ltb-false, ne_eqb}
+use Rattle.std.proofs.lemmas.Bool.{eqb-true, eqb-false, ltb-true, ltb-false}
 use Rattle.fc_values.specs.Types.{Declarations}
 use Rattle.topology.specs.Networks.{Edge, near_in, Before, BeforeAll, IsRisingLinks, LinkFits, LinksFit}
 use Rattle.topology.specs.Changes.{is_pair, is_before, has_pair, drop_pair, insert_after, insert_edge}
+use Rattle.topology.proofs.Neighbours.{near_split}
 
 -- ---- order
 
@@ -105,15 +106,6 @@ pair_absent a b (l ∷ ls) n = rw (or_first (is_pair a b l) (has_pair a b ls) n)
 
 -- ---- neighbours, and how many there are
 
--- the neighbours of a device, one link after another
-pub near_split : (d : ℕ) (l : Edge) (ls : List Edge) → near_in d (l ∷ ls) ≡ near_in d (l ∷ []) ++ near_in d ls
-near_split d l ls = by_tests (nat_eq l.a d) (nat_eq l.b d)
-  where
-    by_tests : (p q : Bool) → (if p then (l.b, l.weight) ∷ near_in d ls else (if q then (l.a, l.weight) ∷ near_in d ls else near_in d ls)) ≡ (if p then (l.b, l.weight) ∷ [] else (if q then (l.a, l.weight) ∷ [] else [])) ++ near_in d ls
-    by_tests true q = refl
-    by_tests false true = refl
-    by_tests false false = refl
-
 pub count : ℕ → List Edge → ℕ
 count d ls = length (near_in d ls)
 
@@ -143,9 +135,6 @@ count_touch d l h = by_tests (nat_eq l.a d) (nat_eq l.b d) refl refl h
     by_tests false true e f h = refl
     by_tests false false e f (inl x) = absurd (eqb-false l.a d e x)
     by_tests false false e f (inr x) = absurd (eqb-false l.b d f x)
-
-pub near_apart : (d : ℕ) (l : Edge) → (l.a ≡ d → ⊥) → (l.b ≡ d → ⊥) → near_in d (l ∷ []) ≡ []
-near_apart d l h k = rw (ne_eqb l.a d h, ne_eqb l.b d k) refl
 
 pub count_filter : (d : ℕ) (p : Edge → Bool) (ls : List Edge) → count d (filter p ls) ≤ count d ls
 count_filter d p [] = omega arith

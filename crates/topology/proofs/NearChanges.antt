@@ -1,12 +1,13 @@
 -- The neighbours of a device after a change of the links.
-use Rattle.std.proofs.Common.{◌≡◌, ℕ, ◌<◌, ◌≤◌, ◌⊎◌, inl, inr, List, [], ◌∷◌, ◌++◌, refl, sym, ◌∙◌, ap, arith, Bool, true, false, not, cond, nat_eq, nat_lt, if◌then◌else◌, ◌&&◌, ◌||◌}
+use Rattle.std.proofs.Common.{◌≡◌, ℕ, ◌<◌, ◌⊎◌, inl, inr, List, [], ◌∷◌, ◌++◌, refl, sym, ◌∙◌, ap, arith, Bool, true, false, not, cond, nat_eq, nat_lt, if◌then◌else◌, ◌&&◌, ◌||◌}
 use Rattle.std.specs.List.{filter}
 use Rattle.std.proofs.lemmas.Bool.{eqb-true, ltb-true, lt-ltb, eq-eqb, ne_eqb}
 use Rattle.fc_values.specs.Types.{Declarations}
-use Rattle.topology.specs.Networks.{Edge, near_in, BeforeAll, LinkFits, LinksFit}
+use Rattle.topology.specs.Networks.{Edge, near_in, LinkFits, LinksFit}
 use Rattle.topology.specs.Changes.{is_pair, is_before, touches, has_pair, drop_pair, drop_links, insert_after, insert_edge, put_edge}
 use Rattle.topology.specs.Nearby.{drop_near, insert_near}
-use Rattle.topology.proofs.Links.{near_split, near_apart, insert_fit}
+use Rattle.topology.proofs.Neighbours.{AllAbove, above_first, above_second, near_split, near_apart}
+use Rattle.topology.proofs.Links.{insert_fit}
 
 -- ---- devices that a change doesn't name
 
@@ -121,32 +122,6 @@ pub near_leave : (D : Declarations) (ds : List ℕ) (o d : ℕ) (ls : List Edge)
 near_leave D ds o d ls u f = near_dropped d o (λ l. not (touches o l)) (λ l. l.a < l.b) ls (leave_one o d u) (λ D ds l k. k.order) D ds f
 
 -- ---- one link more
-
-abbrev pub AllAbove : ℕ → List (ℕ × ℕ) → Type 0
-AllAbove e [] = Unit {0}
-AllAbove e (n ∷ ns) = (e < n.0) × AllAbove e ns
-
-pub strictly : (a b : ℕ) → a ≤ b → (a ≡ b → ⊥) → a < b
-strictly a b h n = omega arith
-
--- the later neighbours of an end of a link are above its other end
-pub above_first : (D : Declarations) (ds : List ℕ) (l : Edge) (ms : List Edge) → l.a < l.b → BeforeAll l ms → LinksFit D ds ms → AllAbove l.b (near_in l.a ms)
-above_first D ds l [] o b f = tt
-above_first D ds l (m ∷ ms) o b f = by_test (nat_eq m.a l.a) (nat_eq m.b l.a) refl refl (above_first D ds l ms o b.1 f.2)
-  where
-    by_test : (p q : Bool) → nat_eq m.a l.a ≡ p → nat_eq m.b l.a ≡ q → AllAbove l.b (near_in l.a ms) → AllAbove l.b (if p then (m.b, m.weight) ∷ near_in l.a ms else (if q then (m.a, m.weight) ∷ near_in l.a ms else near_in l.a ms))
-    by_test true q s t ih = let e = eqb-true m.a l.a s in let k = b.0.second (sym e) in (k, ih)
-    by_test false true s t ih = let e = eqb-true m.b l.a t in let k = b.0.first in let o' = f.0.order in absurd (omega arith)
-    by_test false false s t ih = ih
-
-pub above_second : (D : Declarations) (ds : List ℕ) (l : Edge) (ms : List Edge) → l.a < l.b → BeforeAll l ms → LinksFit D ds ms → AllAbove l.a (near_in l.b ms)
-above_second D ds l [] o b f = tt
-above_second D ds l (m ∷ ms) o b f = by_test (nat_eq m.a l.b) (nat_eq m.b l.b) refl refl (above_second D ds l ms o b.1 f.2)
-  where
-    by_test : (p q : Bool) → nat_eq m.a l.b ≡ p → nat_eq m.b l.b ≡ q → AllAbove l.a (near_in l.b ms) → AllAbove l.a (if p then (m.b, m.weight) ∷ near_in l.b ms else (if q then (m.a, m.weight) ∷ near_in l.b ms else near_in l.b ms))
-    by_test true q s t ih = let e = eqb-true m.a l.b s in let o' = f.0.order in (omega arith, ih)
-    by_test false true s t ih = (strictly l.a m.a b.0.first (λ e. let k = b.0.second e in let y = eqb-true m.b l.b t in absurd (omega arith)), ih)
-    by_test false false s t ih = ih
 
 -- one neighbour more goes in front of greater ones
 insert_above : (d w : ℕ) (ns : List (ℕ × ℕ)) → AllAbove d ns → insert_near d w ns ≡ (d, w) ∷ ns

@@ -1,18 +1,18 @@
 -- The neighbours of each device after a change.
-use Rattle.std.proofs.Common.{◌≡◌, ◌≢◌, ℕ, zero, suc, ◌<◌, ◌⊎◌, inl, inr, min, max, List, [], ◌∷◌, ◌++◌, length, map, get_or, set, refl, sym, ◌∙◌, ap, subst, arith, Bool, true, false, not, nat_eq, nat_lt, if◌then◌else◌, ◌&&◌, ◌||◌}
+use Rattle.std.proofs.Common.{◌≡◌, ◌≢◌, ℕ, zero, suc, ◌<◌, inl, inr, min, max, List, [], ◌∷◌, length, map, get_or, set, refl, sym, ◌∙◌, ap, subst, arith, Bool, true, false, not, nat_eq, nat_lt}
 use Rattle.std.specs.List.{insert, remove}
 use Rattle.std.proofs.lemmas.Bool.{eqb-true, eqb-false, eq-eqb, ne_eqb, ltb-true, ltb-false}
-use Rattle.std.proofs.lemmas.List.{length-set, length-map, get_or-set_same, get_or-set_other, get_or-map, same_lists, map-append}
+use Rattle.std.proofs.lemmas.List.{length-set, length-map, get_or-set_same, get_or-set_other, get_or-map, same_lists}
 use Rattle.fc_values.specs.Types.{Declarations}
 use Rattle.fc_values.specs.Fields.{Rises}
 use Rattle.topology.specs.Networks.{NetDevice, Edge, numbers, is_in, near_in, LinkFits, LinksFit}
-use Rattle.topology.specs.Changes.{is_pair, has_pair, drop_pair, drop_links, put_edge, pair_edge, drop_device}
-use Rattle.topology.specs.Nearby.{near_each, near_numbers, drop_near, insert_near}
+use Rattle.topology.specs.Changes.{is_pair, drop_pair, drop_links, put_edge, pair_edge, drop_device}
+use Rattle.topology.specs.Nearby.{near_each, drop_near, insert_near}
 use Rattle.topology.proofs.Lists.{map_insert}
-use Rattle.topology.proofs.Links.{near_split, no_pair_left, filter_fit}
+use Rattle.topology.proofs.Neighbours.{min_or, near_none}
+use Rattle.topology.proofs.Links.{no_pair_left, filter_fit}
 use Rattle.topology.proofs.NearChanges.{near_put_other, near_drop_other, near_drop_first, near_drop_second, near_insert_first, near_insert_second, near_leave}
 use Rattle.topology.proofs.Devices.{rises_at, later_above, rises_tail}
-use Rattle.topology.proofs.Changed.{min_or}
 
 -- ---- a list of what each device has, changed at one or two of them
 
@@ -156,18 +156,8 @@ module _ (D : Declarations) (ds : List ℕ) (ls : List Edge) (fit : LinksFit D d
 
   -- ---- a device more
 
-  pub near_none : (d : ℕ) → is_in d ds ≡ false → near_in d ls ≡ []
-  near_none d n = none ls fit
-    where
-      none : (ms : List Edge) → LinksFit D ds ms → near_in d ms ≡ []
-      none [] f = refl
-      none (m ∷ ms) f = rw (ne_eqb m.a d (λ e. apart (subst (λ x. is_in x ds ≡ true) e f.0.from)), ne_eqb m.b d (λ e. apart (subst (λ x. is_in x ds ≡ true) e f.0.to))) (none ms f.2)
-        where
-          apart : is_in d ds ≡ true → ⊥
-          apart t = absurd (cc)
-
   pub each_join : (d i : ℕ) → is_in d ds ≡ false → insert (near_each ds ls) i [] ≡ near_each (insert ds i d) ls
-  each_join d i n = ap (λ x. insert (near_each ds ls) i x) (sym (near_none d n)) ∙ sym (map_insert (λ e. near_in e ls) ds i d)
+  each_join d i n = ap (λ x. insert (near_each ds ls) i x) (sym (near_none D ds d ls fit n)) ∙ sym (map_insert (λ e. near_in e ls) ds i d)
 
 -- ---- the place of a device that goes
 
@@ -182,70 +172,3 @@ remove_device d zero (n ∷ ns) r l e =
 remove_device d (suc i) (n ∷ ns) r l e =
     let x = later_above n.id (numbers ns) r i (omega arith) in
     rw (ne_eqb d n.id (λ q. absurd (omega arith))) (ap (λ ms. n ∷ ms) (remove_device d i ns (rises_tail n.id (numbers ns) r) (omega arith) e))
-
--- ---- whether two devices are linked
-
-by_iff : (p q : Bool) → (p ≡ true → q ≡ true) → (q ≡ true → p ≡ true) → p ≡ q
-by_iff true true f g = refl
-by_iff true false f g = sym (f refl)
-by_iff false true f g = g refl
-by_iff false false f g = refl
-
-near_true : (a b : ℕ) (l : Edge) → is_in b (near_numbers (near_in a (l ∷ []))) ≡ true → ((l.a ≡ a) × (l.b ≡ b)) ⊎ ((l.b ≡ a) × (l.a ≡ b))
-near_true a b l t = by_tests (nat_eq l.a a) (nat_eq l.b a) refl refl t
-  where
-    found : (m : ℕ) → (nat_eq b m || false) ≡ true → m ≡ b
-    found m t = by_test (nat_eq b m) refl t
-      where
-        by_test : (q : Bool) → nat_eq b m ≡ q → (q || false) ≡ true → m ≡ b
-        by_test true e t = sym (eqb-true b m e)
-        by_test false e t = absurd (cc)
-
-    by_tests : (p q : Bool) → nat_eq l.a a ≡ p → nat_eq l.b a ≡ q → is_in b (near_numbers (if p then (l.b, l.weight) ∷ [] else (if q then (l.a, l.weight) ∷ [] else []))) ≡ true
-        → ((l.a ≡ a) × (l.b ≡ b)) ⊎ ((l.b ≡ a) × (l.a ≡ b))
-    by_tests true q e f t = inl (eqb-true l.a a e, found l.b t)
-    by_tests false true e f t = inr (eqb-true l.b a f, found l.a t)
-    by_tests false false e f t = absurd (cc)
-
-true_near : (a b : ℕ) (l : Edge) → l.a < l.b → ((l.a ≡ a) × (l.b ≡ b)) ⊎ ((l.b ≡ a) × (l.a ≡ b)) → is_in b (near_numbers (near_in a (l ∷ []))) ≡ true
-true_near a b l o (inl h) = rw (eq-eqb l.a a h.0, eq-eqb b l.b (sym h.1)) refl
-true_near a b l o (inr h) = let x = h.0 in rw (ne_eqb l.a a (λ e. absurd (omega arith)), eq-eqb l.b a h.0, eq-eqb b l.a (sym h.1)) refl
-
-pair_true : (a b : ℕ) (l : Edge) → is_pair a b l ≡ true → (l.a ≡ a) × (l.b ≡ b)
-pair_true a b l t = by_tests (nat_eq l.a a) (nat_eq l.b b) refl refl t
-  where
-    by_tests : (p q : Bool) → nat_eq l.a a ≡ p → nat_eq l.b b ≡ q → (p && q) ≡ true → (l.a ≡ a) × (l.b ≡ b)
-    by_tests true true e f t = (eqb-true l.a a e, eqb-true l.b b f)
-    by_tests true false e f t = absurd (cc)
-    by_tests false q e f t = absurd (cc)
-
-true_pair : (a b : ℕ) (l : Edge) → l.a ≡ a → l.b ≡ b → is_pair a b l ≡ true
-true_pair a b l e f = rw (eq-eqb l.a a e, eq-eqb l.b b f) refl
-
-pair_one : (a b : ℕ) (l : Edge) → l.a < l.b → is_in b (near_numbers (near_in a (l ∷ []))) ≡ is_pair (min a b) (max a b) l
-pair_one a b l o = by_iff (is_in b (near_numbers (near_in a (l ∷ [])))) (is_pair (min a b) (max a b) l)
-    (λ t. elim (near_true a b l t) [
-      | inl h ↦ let x = h.0 in let y = h.1 in true_pair (min a b) (max a b) l (omega arith) (omega arith)
-      | inr h ↦ let x = h.0 in let y = h.1 in true_pair (min a b) (max a b) l (omega arith) (omega arith)
-    ])
-    (λ t. let h = pair_true (min a b) (max a b) l t in elim (min_or a b) [
-      | inl e ↦ true_near a b l o (inl (h.0 ∙ e.0, h.1 ∙ e.1))
-      | inr e ↦ true_near a b l o (inr (h.1 ∙ e.1, h.0 ∙ e.0))
-    ])
-
-in_append : (d : ℕ) (xs ys : List ℕ) → is_in d (xs ++ ys) ≡ (is_in d xs || is_in d ys)
-in_append d [] ys = refl
-in_append d (x ∷ xs) ys = by_test (nat_eq d x) (in_append d xs ys)
-  where
-    by_test : (q : Bool) → is_in d (xs ++ ys) ≡ (is_in d xs || is_in d ys) → (q || is_in d (xs ++ ys)) ≡ ((q || is_in d xs) || is_in d ys)
-    by_test true ih = refl
-    by_test false ih = ih
-
-pub near_linked : (D : Declarations) (ds : List ℕ) (a b : ℕ) (ls : List Edge) → LinksFit D ds ls → is_in b (near_numbers (near_in a ls)) ≡ has_pair (min a b) (max a b) ls
-near_linked D ds a b [] f = refl
-near_linked D ds a b (l ∷ ls) f =
-    ap (λ ns. is_in b (near_numbers ns)) (near_split a l ls)
-    ∙ ap (is_in b) (map-append (λ (n : ℕ × ℕ). n.0) (near_in a (l ∷ [])) (near_in a ls))
-    ∙ in_append b (near_numbers (near_in a (l ∷ []))) (near_numbers (near_in a ls))
-    ∙ ap (λ x. x || is_in b (near_numbers (near_in a ls))) (pair_one a b l f.0.order)
-    ∙ ap (λ x. is_pair (min a b) (max a b) l || x) (near_linked D ds a b ls f.2)

@@ -20,16 +20,23 @@ fn copy_locals(alloc: Global, values: &[Local]) -> Result<Vec<Local>, Memory>
     Ok(copies)
 }
 
+/// A copy of a device.
+pub fn copy_device(alloc: Global, device: &Device) -> Result<Device, Memory>
+    ensures { IfOk result (λ d. device_of d ≡ device_of device.now) }
+{
+    let inputs = copy_locals(alloc, &device.inputs)?;
+    Ok(Device {
+        id: device.id,
+        inputs,
+    })
+}
+
 pub(crate) fn copy_devices(alloc: Global, devices: &[Device]) -> Result<Vec<Device>, Memory>
     ensures { IfOk result (λ v. map device_of v.items ≡ map device_of devices.now) }
 {
     let mut copies = Vec::new(alloc);
     for device in devices {
-        let inputs = copy_locals(alloc, &device.inputs)?;
-        copies.push(Device {
-            id: device.id,
-            inputs,
-        })?;
+        copies.push(copy_device(alloc, device)?)?;
     }
     Ok(copies)
 }

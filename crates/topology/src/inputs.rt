@@ -9,8 +9,8 @@ ghost use Rattle.topology.specs.Changes.{nth_fault, in_metric};
 use crate::types::NetFault;
 use fc_values::{Declared, InputDecl, InputTy, Local};
 
-/// Why a value is none of an input.
-pub(crate) fn input_fault(ty: InputTy, value: &Local) -> Option<NetFault>
+/// Why a value is none of an input of a type.
+pub fn input_fault(ty: InputTy, value: &Local) -> Option<NetFault>
     ensures { result ≡ input_fault ty (local_of value.now) }
 {
     match (ty, value) {

@@ -11,7 +11,9 @@ mod networks;
 mod places;
 mod types;
 
-pub use laws::changes_keep_networks;
+pub use copies::copy_device;
+pub use inputs::input_fault;
+pub use laws::{changes_keep_networks, neighbours_are_mutual, order_keeps_devices};
 pub use networks::Network;
 pub use types::{Device, JoinFault, Link, MakeFault, NetFault};
 

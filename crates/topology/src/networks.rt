@@ -44,9 +44,10 @@ impl Network {
     ghost use Rattle.std.specs.List.{prefix_len};
     ghost use Rattle.fc_values.specs.Types.{declarations_of};
     ghost use Rattle.fc_values.specs.Values.{local_of};
+    ghost use Rattle.fc_values.specs.Fields.{Rises};
     ghost use Rattle.topology.specs.Networks.{NetDevice, IsNetwork, device_of, edge_of, near as near_of, lives, numbers};
     ghost use Rattle.topology.specs.Changes.{HaveNumbers, HaveInputs, RefusesMake, make_fault, made, are_linked, is_full, link_fault, linked, unlink_fault, unlinked, set_fault, with_input, RefusesJoin, join_fault, joined, leave_fault, left};
-    ghost use Rattle.topology.specs.Nearby.{AtPlace, AtEnds};
+    ghost use Rattle.topology.specs.Nearby.{AtPlace, AtEnds, near_numbers};
 
     /// The network of these declarations and devices, without links.
     pub fn new(alloc: Global, declared: Declared, devices: Vec<Device>) -> Result<Self, MakeFault>
@@ -129,6 +130,8 @@ impl Network {
     /// The numbers of the devices that are linked to a device, rising, with the weights of the links.
     pub fn neighbours(&self, device: u32) -> ArrayVec<(u32, u32), 32>
         ensures value { result.items ≡ near_of self.now device }
+        ensures rising { Rises (near_numbers result.items) }
+        ensures none { lives self.now device ≡ false → result.items ≡ [] }
         ensures network { IsNetwork self.now }
     {
         match self.place(device) {
@@ -165,8 +168,19 @@ impl Network {
         Some((first, second))
     }
 
-    // Whether two devices are linked, the first of which has this place.
-    fn are_linked(&self, at: usize, a: u32, b: u32) -> bool
+    /// Whether two devices are linked.
+    pub fn are_linked(&self, a: u32, b: u32) -> bool
+        ensures linked { result ≡ are_linked self.now a b }
+        ensures network { IsNetwork self.now }
+    {
+        match self.place(a) {
+            Some(at) => self.has_near(at, a, b),
+            None => false,
+        }
+    }
+
+    // Whether a device, which has this place, is linked to another.
+    fn has_near(&self, at: usize, a: u32, b: u32) -> bool
         requires { AtPlace self.now a at }
         ensures { result ≡ are_linked self.now a b }
     {
@@ -208,7 +222,7 @@ impl Network {
         if !in_metric(self.declared(), weight) {
             return Err(NetFault::Weight);
         }
-        if !self.are_linked(at.0, a, b) && (self.is_full(at.0, a) || self.is_full(at.1, b)) {
+        if !self.has_near(at.0, a, b) && (self.is_full(at.0, a) || self.is_full(at.1, b)) {
             return Err(NetFault::Degree);
         }
         Ok(at)
@@ -251,7 +265,7 @@ impl Network {
         let Some(at) = self.ends(a, b) else {
             return Err(NetFault::NoDevice);
         };
-        if !self.are_linked(at.0, a, b) {
+        if !self.has_near(at.0, a, b) {
             return Err(NetFault::NoLink);
         }
         Ok(at)

@@ -1,18 +1,12 @@
-use Rattle.std.proofs.Common.{◌∙◌, sym, ap, subst, ℕ}
-use Rattle.arrayvec.specs.ArrayVec.{ArrayVec}
-use Rattle.topology.specs.Networks.{Network, numbers, is_in}
-use Rattle.topology.specs.Changes.{are_linked}
-use Rattle.topology.specs.Nearby.{near_numbers, AtPlace}
-use Rattle.topology.proofs.NearEach.{near_linked}
-use Rattle.topology.proofs.Kept.{list_at}
-use Rattle.topology.specs.contracts.networks.Network.{the_view}
+use Rattle.std.proofs.Common.{sym, ap, ◌∙◌}
+use Rattle.topology.specs.Networks.{numbers, is_in}
+use Rattle.topology.specs.Nearby.{near_numbers}
+use Rattle.topology.proofs.Neighbours.{near_linked, near_none}
 use Rattle.topology.proofs.networks.Network.are_linked.Goals as goal
 
-pub returns : goal.returns
-returns c =
-    let n = the_view c.self.inside in
-    let place : AtPlace (the_view c.self.inside) c.args.a c.args.at = subst (λ v. AtPlace v c.args.a c.args.at) (sym c.self.view_is) c.requires in
-    c.is_near.ensures ∙ ap (λ (v : ArrayVec (ℕ × ℕ)). is_in c.args.b (near_numbers v.items)) c.index.ensures
-    ∙ ap (λ ns. is_in c.args.b (near_numbers ns)) (list_at n c.self.inside.near.items _ c.self.invariant c.args.a c.args.at c.index.result.now place)
-    ∙ near_linked n.declared (numbers n.devices) c.args.a c.args.b n.links c.self.invariant.network.links
-    ∙ ap (λ (v : Network). are_linked v c.args.a c.args.b) c.self.view_is
+pub returns-in-None-clause-linked : goal.returns-in-None-clause-linked
+returns-in-None-clause-linked c =
+    let n = c.args.self.now in
+    let net = c.in-None.ensures.network in
+    sym (ap (λ ns. is_in c.args.b (near_numbers ns)) (near_none n.declared (numbers n.devices) c.args.a n.links net.links c.in-None.ensures.none))
+    ∙ near_linked n.declared (numbers n.devices) c.args.a c.args.b n.links net.links
