@@ -43,9 +43,6 @@ without_last : (k : ℕ) (xs : List ℕ) → ((j : ℕ) → In j xs → k ≢ j)
 without_last k [] n = ap (λ b. cond b [] (k ∷ [])) (eq-eqb k k refl)
 without_last k (x ∷ xs) n = without_by k x xs (eqb_tells k x) (n x (inl refl)) (without_last k xs (λ j i. n j (inr i)))
 
-pub below_split : (share : ℕ) (v : PassView ℕ) → IsBelow v → IsBelow (kept_part share v) × IsBelow (new_part share v)
-below_split share v b = ((λ k i. ⊎_elim (λ t. let l = b k t in omega (arith, l)) (λ (e : k ≡ v.made). omega (arith, e)) (in_snoc k v.made v.out i)), λ k i. absurd i)
-
 -- one note is written
 pub went_once : (v w : PassView ℕ) (x : ℕ) → 0 < v.left → Noted v w x → Went v w 1 x
 went_once v w x some n = record {

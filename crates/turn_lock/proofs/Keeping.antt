@@ -3,7 +3,6 @@ use Rattle.std.proofs.Common.{◌≡◌, ℕ, ◌+◌, ◌%◌, ◌<◌, ◌≤�
 use Rattle.std.proofs.Math.Nat.{mod-eq_of_lt}
 use mathlib.Core.Logic.{dite}
 use mathlib.Core.Option.{none, some, some-injective, some-ne-none}
-use mathlib.Core.Option as maybe
 use native.Mathlib.Decide.{ℕ_discrete}
 use lib.ListN.{get_elem?}
 use lib.Seq.{set-get_or}
@@ -17,7 +16,7 @@ use Rattle.turn_lock.specs.declared.views.Stage.TheVariants.{Idle, Waits, Has}
 use Rattle.turn_lock.specs.Logs.{StartsWith, In, IsOpen}
 use Rattle.turn_lock.specs.Passes.{Turned, MayAnswer}
 use Rattle.turn_lock.specs.Seats.{pass_view, opened_seat, staged, served, wrote_seat}
-use Rattle.turn_lock.specs.Rule.{tickets_at, tickets_of, left_of, entries_of, Stands, Core, Names, Own, Kept}
+use Rattle.turn_lock.specs.Rule.{total, At, Homes, Slot, tickets_at, tickets_of, left_of, entries_of, Stands, Core, Names, Own, Kept}
 use Rattle.turn_lock.specs.Steps.{SeatAgrees, Entered, draws, looks, serves}
 use denote.Param.Members.{Once}
 use Rattle.std.specs.Borrow.{MutBor}
@@ -36,17 +35,14 @@ module _ {T E : Type 0} (list : T → List E) (answers : List E → ℕ → Opti
   abbrev M : Type 0
   M = Me (Option T) V
 
-  abbrev Homes : Type 0
-  Homes = List (maybe.Option (Option T))
-
   -- who waits has a turn left
-  waits_left : (a b : ℕ) (seat : ℕ → ℕ) (log : List E) (homes : Homes) (id : ℕ) (v : V) (st : Stage) → Stands a b seat log homes id v st → tickets_at st ≤ v.left
+  waits_left : (a b : ℕ) (seat : ℕ → ℕ) (log : List E) (homes : Homes T) (id : ℕ) (v : V) (st : Stage) → Stands a b seat log homes id v st → tickets_at st ≤ v.left
   waits_left a b seat log homes id v Idle k = omega arith
   waits_left a b seat log homes id v (Waits t) k = let l = k.3 in omega arith
   waits_left a b seat log homes id v Has k = let l = k.2 in omega arith
 
   -- a ticket more for another pass
-  still : (a b : ℕ) (seat : ℕ → ℕ) (log : List E) (homes : Homes) (i id : ℕ) (v : V) (st : Stage) → a ≤ b → Stands a b seat log homes id v st → Stands a (b + 1) (put seat b i) log homes id v st
+  still : (a b : ℕ) (seat : ℕ → ℕ) (log : List E) (homes : Homes T) (i id : ℕ) (v : V) (st : Stage) → a ≤ b → Stands a b seat log homes id v st → Stands a (b + 1) (put seat b i) log homes id v st
   still a b seat log homes i id v Idle le k = tt
   still a b seat log homes i id v (Waits t) le k = (k.0, omega (arith, k.1), put_else seat b i t (λ e. absurd (omega (arith, k.1))) ∙ k.2, k.3)
   still a b seat log homes i id v Has le k = (omega (arith, k.0), put_else seat b i a (λ e. absurd (omega (arith, k.0))) ∙ k.1, k.2, k.3, k.4)
@@ -68,11 +64,32 @@ module _ {T E : Type 0} (list : T → List E) (answers : List E → ℕ → Opti
   pub idle_has : (st : Stage) → st ≡ Idle → st ≡ Has → ⊥
   idle_has st a b = let x : tickets_at Idle ≡ tickets_at Has = sym (ap tickets_at a) ∙ ap tickets_at b in absurd (omega (arith, x))
 
-  abbrev Slot : List E → Homes → List V → Type 0
-  Slot log homes views = ((y : T) × (homes ≡ some (Some y) ∷ []) × (list y ≡ log)) ⊎ ((id : ℕ) × (v : V) × (get_elem? views id ≡ some v) × (v.stage ≡ Has))
+  -- the seats change, and the words, the log and the slot stay
+  pub core_with : (log : List E) (s : S) (views : List V) (r : Core list log s) → total tickets_of views ≡ total tickets_of s.views → total left_of views ≡ total left_of s.views → total entries_of views ≡ total entries_of s.views
+      → ((id : ℕ) (v : V) → At views id v → v.spent ≡ false → (v.turns ≡ r.turns) × (v.start ≡ r.start))
+      → ((id : ℕ) (v : V) → At views id v → (p : ℕ) (e : E) → In (p, e) v.mine → r.start ≤ p)
+      → ((id : ℕ) (v : V) → At views id v → Stands r.serving r.ticket r.seat log s.homes id v v.stage)
+      → Slot list log s.homes views → Core list log record { words = s.words; homes = s.homes; views = views }
+  core_with log s views r tickets lefts entries made past stands slot = let d = r.drawn in let sh = r.shared in let cnt = r.counted in record {
+    ticket = r.ticket;
+    serving = r.serving;
+    turns = r.turns;
+    start = r.start;
+    seat = r.seat;
+    words = r.words;
+    few = r.few;
+    drawn = omega arith;
+    shared = omega arith;
+    counted = omega arith;
+    length_is = r.length_is;
+    made = made;
+    past = past;
+    stands = stands;
+    slot = slot;
+  }
 
   -- a pass without the turn changes
-  pub slot_stays : (log : List E) (homes : Homes) (views : List V) (id : ℕ) (v w : V) → get_elem? views id ≡ some v → (v.stage ≡ Has → ⊥) → Slot log homes views → Slot log homes (set views id w)
+  pub slot_stays : (log : List E) (homes : Homes T) (views : List V) (id : ℕ) (v w : V) → get_elem? views id ≡ some v → (v.stage ≡ Has → ⊥) → Slot list log homes views → Slot list log homes (set views id w)
   slot_stays log homes views id v w at not (inl h) = inl h
   slot_stays log homes views id v w at not (inr h) = inr (h.0, h.1, set_else views id h.0 w (λ e. not (ap (λ (u : V). u.stage) (some-injective v h.1 (sym at ∙ (ap (get_elem? views) (sym e) ∙ h.2))) ∙ h.3)) ∙ h.2, h.3)
 
@@ -126,19 +143,19 @@ module _ {T E : Type 0} (list : T → List E) (answers : List E → ℕ → Opti
   waits_has t st a b = let P : Stage → Type 0 = waits_not in subst P (sym a ∙ b) tt
 
   -- once the slot has come out
-  out_now : (a b : ℕ) (seat : ℕ → ℕ) (log : List E) (homes homes' : Homes) (y : T) (id : ℕ) (v : V) (st : Stage) → homes ≡ some (Some y) ∷ [] → Stands a b seat log homes id v st → Stands a b seat log homes' id v st
+  out_now : (a b : ℕ) (seat : ℕ → ℕ) (log : List E) (homes homes' : Homes T) (y : T) (id : ℕ) (v : V) (st : Stage) → homes ≡ some (Some y) ∷ [] → Stands a b seat log homes id v st → Stands a b seat log homes' id v st
   out_now a b seat log homes homes' y id v Idle is k = tt
   out_now a b seat log homes homes' y id v (Waits t) is k = k
   out_now a b seat log homes homes' y id v Has is k = absurd (some-ne-none (Some y) (some-injective (some (Some y)) none (ap (λ hs. get_elem? hs 0) (sym is ∙ k.4))))
 
-  same_slot : (log : List E) (homes : Homes) (views : List V) → (y : T) → homes ≡ some (Some y) ∷ [] → list y ≡ log → Slot log homes views
+  same_slot : (log : List E) (homes : Homes T) (views : List V) → (y : T) → homes ≡ some (Some y) ∷ [] → list y ≡ log → Slot list log homes views
   same_slot log homes views y a b = inl (y, a, b)
 
   pub unchanged : (s : S) (i id : ℕ) (cs : List (ℕ × Option T)) (v : V) → get_elem? s.views id ≡ some v → Kept list answers s → Kept list answers (stepped s i (get_or s.words i 0) id cs v keeps)
   unchanged s i id cs v at k = subst (λ (z : List ℕ × List V). Kept list answers record { words = z.0; homes = s.homes; views = z.1 }) (λ j. (sym (set-get_or s.words i 0) j, sym (set_again s.views id v at) j)) k
 
   module _ (slots id : ℕ) (me : M) (t : ℕ) (waits : me.0.stage ≡ Waits t) (empty : me.1 ≡ []) (live : me.0.spent ≡ false) where
-    takes_it : (s : S) (log : List E) (r : Core list log s) → Names s.views → Own answers log s.views → get_elem? s.views id ≡ some me.0 → get_or s.words 1 0 ≡ t → Slot log s.homes s.views
+    takes_it : (s : S) (log : List E) (r : Core list log s) → Names s.views → Own answers log s.views → get_elem? s.views id ≡ some me.0 → get_or s.words 1 0 ≡ t → Slot list log s.homes s.views
         → (w : V) × (a : Act (Option T)) × Valid s.homes me.1 a × Kept list answers (stepped s 1 (get_or s.words 1 0) id me.1 w a) × looks list answers (step slots 1 0 0 none) me (get_or s.words 1 0) (w, carried_after me.1 a)
     takes_it s log r ns os at is (inl h) =
         let y = h.0 in
@@ -209,7 +226,7 @@ module _ {T E : Type 0} (list : T → List E) (answers : List E → ℕ → Opti
         (λ other. (me.0, keeps, tt, unchanged s 1 id me.1 me.0 at kept, inr ((λ e. other (ticket_is (sym e ∙ waits))), refl)))
 
   -- the next is served, for another pass
-  moves_on : (a b : ℕ) (seat : ℕ → ℕ) (log log' : List E) (homes homes' : Homes) (me id : ℕ) (v : V) (st : Stage) → seat a ≡ me → id ≢ me → Stands a b seat log homes id v st → Stands (a + 1) b seat log' homes' id v st
+  moves_on : (a b : ℕ) (seat : ℕ → ℕ) (log log' : List E) (homes homes' : Homes T) (me id : ℕ) (v : V) (st : Stage) → seat a ≡ me → id ≢ me → Stands a b seat log homes id v st → Stands (a + 1) b seat log' homes' id v st
   moves_on a b seat log log' homes homes' me id v Idle mine not k = tt
   moves_on a b seat log log' homes homes' me id v (Waits t) mine not k = (dite (ℕ_discrete t a) (λ e. absurd (not (sym k.2 ∙ (ap seat e ∙ mine)))) (λ n. omega (arith, k.0, n)), k.1, k.2, k.3)
   moves_on a b seat log log' homes homes' me id v Has mine not k = absurd (not (sym k.1 ∙ mine))

@@ -3,5 +3,6 @@ mod Naming
 mod Owning
 mod Keeping
 mod Parting
+mod Seating
 mod Ending
 mod Fanning

@@ -2,19 +2,18 @@
 use Rattle.std.proofs.Common.{◌≡◌, ℕ, ◌<◌, ◌≤◌, ⊎_elim, List, [], ◌∷◌, ◌++◌, length, set, sym, refl, ap, ◌∙◌, subst, inl, inr, arith, Option, false}
 use Rattle.std.proofs.lemmas.Bool.{false≢true}
 use mathlib.Core.Option.{none, some, some-injective}
-use mathlib.Core.Option as maybe
 use Rattle.atomic_table.specs.Table.{State, Me, step, keeps, Allows, Splits, Joins}
 use Rattle.atomic_table.proofs.Lists.{at_longer, set_else}
 use Rattle.turn_lock.specs.declared.views.SeatView.{SeatView}
 use Rattle.turn_lock.specs.declared.views.Stage.TheVariants.{Idle}
 use Rattle.turn_lock.specs.Logs.{In}
 use Rattle.turn_lock.specs.Seats.{kept_seat, new_seat, joined_seat, spent_seat}
-use Rattle.turn_lock.specs.Rule.{At, tickets_at, tickets_of, left_of, entries_of, Stands, Kept}
+use Rattle.turn_lock.specs.Rule.{At, Homes, tickets_at, tickets_of, left_of, entries_of, Stands, Kept}
 use Rattle.turn_lock.specs.Steps.{tells}
 use Rattle.turn_lock.proofs.Lists.{total_set, total_snoc, total_at, each_set, each_snoc, begins_both, longest, merged_length, from_merged}
 use Rattle.turn_lock.proofs.Naming.{names_split, names_join}
 use Rattle.turn_lock.proofs.Owning.{own_same, own_snoc, own_join}
-use Rattle.turn_lock.proofs.Keeping.{idle_has, slot_stays, unchanged}
+use Rattle.turn_lock.proofs.Keeping.{idle_has, slot_stays, core_with, unchanged}
 
 module _ {T E : Type 0} (list : T → List E) (answers : List E → ℕ → Option ℕ) where
   abbrev V : Type 0
@@ -26,10 +25,7 @@ module _ {T E : Type 0} (list : T → List E) (answers : List E → ℕ → Opti
   abbrev M : Type 0
   M = Me (Option T) V
 
-  abbrev Homes : Type 0
-  Homes = List (maybe.Option (Option T))
-
-  idle_stands : (a b : ℕ) (seat : ℕ → ℕ) (log : List E) (homes : Homes) (id : ℕ) (v : V) → v.stage ≡ Idle → Stands a b seat log homes id v v.stage
+  idle_stands : (a b : ℕ) (seat : ℕ → ℕ) (log : List E) (homes : Homes T) (id : ℕ) (v : V) → v.stage ≡ Idle → Stands a b seat log homes id v v.stage
   idle_stands a b seat log homes id v idle = subst (Stands a b seat log homes id v) (sym idle) tt
 
   pub splitting : (id share : ℕ) (v : V) → v.stage ≡ Idle → v.spent ≡ false → share ≤ v.left → Splits (Kept list answers) id v (kept_seat share v) (new_seat share v)
@@ -44,24 +40,12 @@ module _ {T E : Type 0} (list : T → List E) (answers : List E → ℕ → Opti
       let made = r.made id v at in
       let b = kept.3.begins id v at in (
         log,
-        record {
-          ticket = r.ticket;
-          serving = r.serving;
-          turns = r.turns;
-          start = r.start;
-          seat = r.seat;
-          words = r.words;
-          few = r.few;
-          drawn = omega arith;
-          shared = omega arith;
-          counted = omega arith;
-          length_is = r.length_is;
-          past = each_snoc (λ j x. (p : ℕ) (e : E) → In (p, e) x.mine → r.start ≤ p) vs n (λ p e i. absurd i) (each_set (λ j x. (p : ℕ) (e : E) → In (p, e) x.mine → r.start ≤ p) s.views id w (r.past id v at) (λ j x _ a. r.past j x a));
-          made = each_snoc (λ j x. x.spent ≡ false → (x.turns ≡ r.turns) × (x.start ≡ r.start)) vs n made (each_set (λ j x. x.spent ≡ false → (x.turns ≡ r.turns) × (x.start ≡ r.start)) s.views id w made (λ j x _ e. r.made j x e));
-          stands = each_snoc (λ j x. Stands r.serving r.ticket r.seat log s.homes j x x.stage) vs n (idle_stands r.serving r.ticket r.seat log s.homes (length vs) n idle)
-              (each_set (λ j x. Stands r.serving r.ticket r.seat log s.homes j x x.stage) s.views id w (idle_stands r.serving r.ticket r.seat log s.homes id w idle) (λ j x _ e. r.stands j x e));
-          slot = ⊎_elim (λ h. inl h) (λ h. inr (h.0, h.1, at_longer vs (n ∷ []) h.0 h.1 h.2, h.3)) (slot_stays list answers log s.homes s.views id v w at (idle_has list answers v.stage idle) r.slot);
-        },
+        core_with list answers log s (vs ++ n ∷ []) r (omega arith) (omega arith) (omega arith)
+            (each_snoc (λ j x. x.spent ≡ false → (x.turns ≡ r.turns) × (x.start ≡ r.start)) vs n made (each_set (λ j x. x.spent ≡ false → (x.turns ≡ r.turns) × (x.start ≡ r.start)) s.views id w made (λ j x _ e. r.made j x e)))
+            (each_snoc (λ j x. (p : ℕ) (e : E) → In (p, e) x.mine → r.start ≤ p) vs n (λ p e i. absurd i) (each_set (λ j x. (p : ℕ) (e : E) → In (p, e) x.mine → r.start ≤ p) s.views id w (r.past id v at) (λ j x _ a. r.past j x a)))
+            (each_snoc (λ j x. Stands r.serving r.ticket r.seat log s.homes j x x.stage) vs n (idle_stands r.serving r.ticket r.seat log s.homes (length vs) n idle)
+            (each_set (λ j x. Stands r.serving r.ticket r.seat log s.homes j x x.stage) s.views id w (idle_stands r.serving r.ticket r.seat log s.homes id w idle) (λ j x _ e. r.stands j x e)))
+            (⊎_elim (λ h. inl h) (λ h. inr (h.0, h.1, at_longer vs (n ∷ []) h.0 h.1 h.2, h.3)) (slot_stays list answers log s.homes s.views id v w at (idle_has list answers v.stage idle) r.slot)),
         names_split E s.views id share v at live kept.2,
         own_snoc E answers log vs n refl (b.0, (log, refl), (log, refl)) (own_same E answers log s.views id v w at refl b kept.3),
       )
@@ -77,26 +61,14 @@ module _ {T E : Type 0} (list : T → List E) (answers : List E → ℕ → Opti
       let z : tickets_of v ≡ 0 = ap tickets_at idle in let zw : tickets_of w ≡ 0 = ap tickets_at idle_w in
       let d = r.drawn in let sh = r.shared in let cnt = r.counted in let len = merged_length v.mine w.mine in (
         log,
-        record {
-          ticket = r.ticket;
-          serving = r.serving;
-          turns = r.turns;
-          start = r.start;
-          seat = r.seat;
-          words = r.words;
-          few = r.few;
-          drawn = omega arith;
-          shared = omega arith;
-          counted = omega arith;
-          length_is = r.length_is;
-          past = each_set (λ j x. (p : ℕ) (e : E) → In (p, e) x.mine → r.start ≤ p) vs other spent_seat (λ p e i. absurd i)
-              (λ j x _ a. each_set (λ j x. (p : ℕ) (e : E) → In (p, e) x.mine → r.start ≤ p) s.views id b (λ p e i. ⊎_elim (λ t. r.past id v at p e t) (λ t. r.past other w was p e t) (from_merged (p, e) v.mine w.mine i)) (λ j x _ a. r.past j x a) j x a);
-          made = each_set (λ j x. x.spent ≡ false → (x.turns ≡ r.turns) × (x.start ≡ r.start)) vs other spent_seat (λ l. absurd (false≢true (sym l)))
-              (λ j x _ a. each_set (λ j x. x.spent ≡ false → (x.turns ≡ r.turns) × (x.start ≡ r.start)) s.views id b (r.made id v at) (λ j x _ e. r.made j x e) j x a);
-          stands = each_set (λ j x. Stands r.serving r.ticket r.seat log s.homes j x x.stage) vs other spent_seat tt
-              (λ j x _ a. each_set (λ j x. Stands r.serving r.ticket r.seat log s.homes j x x.stage) s.views id b (idle_stands r.serving r.ticket r.seat log s.homes id b idle) (λ j x _ e. r.stands j x e) j x a);
-          slot = slot_stays list answers log s.homes vs other w spent_seat at_w (idle_has list answers w.stage idle_w) (slot_stays list answers log s.homes s.views id v b at (idle_has list answers v.stage idle) r.slot);
-        },
+        core_with list answers log s (set vs other spent_seat) r (omega arith) (omega arith) (omega (arith, len))
+            (each_set (λ j x. x.spent ≡ false → (x.turns ≡ r.turns) × (x.start ≡ r.start)) vs other spent_seat (λ l. absurd (false≢true (sym l)))
+            (λ j x _ a. each_set (λ j x. x.spent ≡ false → (x.turns ≡ r.turns) × (x.start ≡ r.start)) s.views id b (r.made id v at) (λ j x _ e. r.made j x e) j x a))
+            (each_set (λ j x. (p : ℕ) (e : E) → In (p, e) x.mine → r.start ≤ p) vs other spent_seat (λ p e i. absurd i)
+            (λ j x _ a. each_set (λ j x. (p : ℕ) (e : E) → In (p, e) x.mine → r.start ≤ p) s.views id b (λ p e i. ⊎_elim (λ t. r.past id v at p e t) (λ t. r.past other w was p e t) (from_merged (p, e) v.mine w.mine i)) (λ j x _ a. r.past j x a) j x a))
+            (each_set (λ j x. Stands r.serving r.ticket r.seat log s.homes j x x.stage) vs other spent_seat tt
+            (λ j x _ a. each_set (λ j x. Stands r.serving r.ticket r.seat log s.homes j x x.stage) s.views id b (idle_stands r.serving r.ticket r.seat log s.homes id b idle) (λ j x _ e. r.stands j x e) j x a))
+            (slot_stays list answers log s.homes vs other w spent_seat at_w (idle_has list answers w.stage idle_w) (slot_stays list answers log s.homes s.views id v b at (idle_has list answers v.stage idle) r.slot)),
         names_join E s.views id other v w k at apart at_w live live_w name none_out kept.2,
         own_join E answers log s.views id other v w at apart was kept.3,
       )

@@ -1,6 +1,6 @@
 ghost use Rattle.std.specs.Prelude.{◌≡◌, ◌+◌, ◌<◌, ◌≤◌, ◌^◌, ℕ, List, [], ◌∷◌, ◌++◌, length, Option, Some, IfOk, IfErr, false};
-ghost use Rattle.turn_lock.specs.Logs.{In, Rises, StartsWith};
-ghost use Rattle.turn_lock.specs.Passes.{MayTurn, AppendsOne, Turned, Closed, opened, kept_part, new_part, joined};
+ghost use Rattle.turn_lock.specs.Logs.{In, Rises, StartsWith, IsEarlier, StaysFrom};
+ghost use Rattle.turn_lock.specs.Passes.{MayTurn, AppendsOne, Turned, Closed, IsBelow, opened, kept_part, new_part, joined};
 ghost use Rattle.turn_lock.specs.Steps.{Entered};
 ghost use Rattle.turn_lock.specs.declared.views.Stage.TheVariants.{Idle};
 
@@ -25,10 +25,10 @@ pub trait Logged {
     ghost answers: { List Self.Entry → ℕ → Option ℕ };
 
     /// It is a position before that entry.
-    ghost earlier: { (log : List Self.Entry) (j p : ℕ) → answers log j ≡ Some p → p < j };
+    ghost earlier: { IsEarlier answers };
 
     /// The entries up to there alone decide it.
-    ghost stays: { (log : List Self.Entry) (e : Self.Entry) (j : ℕ) → j < length log → answers (log ++ e ∷ []) j ≡ answers log j };
+    ghost stays: { StaysFrom answers };
 }
 
 /// A lock round a value. In contracts it is the identity of its table.
@@ -55,22 +55,24 @@ pub struct Pass<T: Logged> {
 }
 
 impl<T: Logged> Model for Pass<T> {
-    ghost use Rattle.std.specs.Prelude.{◌≡◌, [], false};
+    ghost use Rattle.std.specs.Prelude.{◌≡◌};
     ghost use Rattle.turn_lock.specs.Passes.{PassView};
-    ghost use Rattle.turn_lock.specs.Seats.{pass_view};
-    ghost use Rattle.turn_lock.specs.declared.views.Stage.TheVariants.{Idle};
+    ghost use Rattle.turn_lock.specs.Seats.{pass_view, IsSeated};
 
     ghost Value = { PassView T.Entry };
 
     ghost view = { λ p. pass_view p.seat.table_id p.seat.me.0 };
 
-    ghost invariant = { λ p. (p.left ≡ p.seat.me.0.left) × (p.seat.me.0.stage ≡ Idle) × (p.seat.me.1 ≡ []) × (p.seat.me.0.spent ≡ false) };
+    ghost invariant = { λ p. (p.left ≡ p.seat.me.0.left) × IsSeated p.seat.me };
 }
 
 impl<T: Logged> Pass<T> {
-    /// The number of its turns.
+    /// The number of its turns. Whoever has a pass learns here that its entries rise, and that its numbers that are out
+    /// were given out.
     pub fn left(&self) -> u64
-        ensures { result ≡ self.now.left }
+        ensures left { result ≡ self.now.left }
+        ensures rises { Rises self.now.mine }
+        ensures below { IsBelow self.now }
     {
         self.left
     }
@@ -109,6 +111,7 @@ impl<T: Logged> TurnLock<T> {
         requires enough { share ≤ pass.old.left }
         ensures kept { pass.new ≡ kept_part share pass.old }
         ensures given { result ≡ new_part share pass.old }
+        ensures below { IsBelow pass.old × IsBelow pass.new × IsBelow result }
     {
         self.split_by::<Brand>(pass, share)
     }
@@ -118,6 +121,7 @@ impl<T: Logged> TurnLock<T> {
         requires enough { (share ≡ K.share) × (share ≤ pass.old.left) }
         ensures kept { pass.new ≡ kept_part share pass.old }
         ensures given { result ≡ new_part share pass.old }
+        ensures below { IsBelow pass.old × IsBelow pass.new × IsBelow result }
     {
         let seat = self.table.shared.split_seat::<Cut<K>>(&mut pass.seat);
         pass.left -= share;
@@ -132,6 +136,7 @@ impl<T: Logged> TurnLock<T> {
         ensures joined { pass.new ≡ joined pass.old other }
         ensures seen { StartsWith pass.new.seen pass.old.seen × StartsWith pass.new.seen other.seen }
         ensures rises { Rises pass.new.mine }
+        ensures below { IsBelow pass.new }
     {
         let Pass { left, seat } = other;
         let shared = &self.table.shared;

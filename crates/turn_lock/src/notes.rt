@@ -1,7 +1,6 @@
 //! Notes under a lock: each thread with a pass writes notes, one a turn.
 ghost use Rattle.std.specs.Prelude.{◌≡◌, ◌⊎◌, ◌+◌, ◌<◌, ◌≤◌, ◌∷◌, ◌++◌, [], length, replicate, refl, IfOk, IfErr};
 ghost use Rattle.std.specs.Thread.{IsSync};
-ghost use Rattle.turn_lock.specs.Passes.{IsBelow};
 ghost use Rattle.turn_lock.specs.Noting.{HasRoom, Noted, Went, nothing, not_answered};
 
 use crate::{Logged, Pass, TurnLock};
@@ -133,7 +132,8 @@ pub fn two_notes<R: Threads + Wait + Sync>(
     Ok(lock.close(pass))
 }
 
-/// As many threads as `writers` write the same note once each, with passes that are split from this one and joined back.
+/// As many threads as `writers` write the same note once each, with passes that are split from this one and joined
+/// back.
 #[cycle(fan)]
 pub fn fan<R: Threads + Wait + Sync>(
     rt: &R,
@@ -146,7 +146,6 @@ pub fn fan<R: Threads + Wait + Sync>(
     requires own { pass.old.lock ≡ lock.now }
     requires room { HasRoom pass.old }
     requires some { (writers ≤ pass.old.left) × (0 < writers) }
-    requires below { IsBelow pass.old }
     ensures went { Went pass.old pass.new writers note }
 {
     if writers == 1 {
@@ -174,7 +173,6 @@ fn fan_both<R: Threads + Wait + Sync>(
     requires own { (pass.old.lock ≡ lock.now) × (other.old.lock ≡ lock.now) }
     requires room { HasRoom pass.old × HasRoom other.old }
     requires some { (first ≤ pass.old.left) × (0 < first) × (second ≤ other.old.left) × (0 < second) }
-    requires below { IsBelow pass.old × IsBelow other.old }
     ensures went { Went pass.old pass.new first note × Went other.old other.new second note }
 {
     join_mut(
@@ -184,7 +182,6 @@ fn fan_both<R: Threads + Wait + Sync>(
             requires own { pass.now.lock ≡ lock.now }
             requires room { HasRoom pass.now }
             requires some { (first ≤ pass.now.left) × (0 < first) }
-            requires below { IsBelow pass.now }
             ensures went { Went pass.entry.now pass.exit.now first note }
         { fan(rt, lock, pass, first, note) },
         &mut ||
@@ -192,7 +189,6 @@ fn fan_both<R: Threads + Wait + Sync>(
             requires own { other.now.lock ≡ lock.now }
             requires room { HasRoom other.now }
             requires some { (second ≤ other.now.left) × (0 < second) }
-            requires below { IsBelow other.now }
             ensures went { Went other.entry.now other.exit.now second note }
         { fan(rt, lock, other, second, note) },
     );

@@ -1,12 +1,8 @@
 use Rattle.std.proofs.Common.{◌≡◌, ◌+◌, ◌-◌, ◌/◌, ◌≤◌, ℕ, sym, subst, arith}
-use Rattle.turn_lock.specs.Passes.{IsBelow, PassView}
+use Rattle.turn_lock.specs.Passes.{PassView}
 use Rattle.turn_lock.specs.Noting.{Went}
-use Rattle.turn_lock.proofs.Fanning.{below_split, comes_back, went, went_once}
+use Rattle.turn_lock.proofs.Fanning.{comes_back, went, went_once}
 use Rattle.turn_lock.proofs.notes.+fan.Goals as goal
-
-pub fan-fan_both-requires-clause-below : goal.fan-fan_both-requires-clause-below
-fan-fan_both-requires-clause-below g t c κs within = let b = below_split (c.args.writers / 2) c.args.pass.now c.requires.below in
-    (subst (λ (u : PassView ℕ). IsBelow u) (sym c.split-other.ensures.kept) b.0, subst (λ (u : PassView ℕ). IsBelow u) (sym c.split-other.ensures.given) b.1)
 
 pub fan-join-requires-clause-name : goal.fan-join-requires-clause-name
 fan-join-requires-clause-name g t c =
@@ -29,7 +25,7 @@ fan-returns g t c =
     let less : half ≤ c.args.writers = omega arith in
     let fits : half ≤ v.left = omega (arith, c.requires.some.0, less) in
     let sum : (c.args.writers - half) + half ≡ c.args.writers = omega (arith, less) in
-    record { went = subst (λ n. Went v c.join.new.pass n c.args.note) sum (went v w1 w2 c.join.new.pass (c.args.writers - half) half c.args.note c.requires.below c.join.ensures.seen.0 fits one other c.join.ensures.joined) }
+    record { went = subst (λ n. Went v c.join.new.pass n c.args.note) sum (went v w1 w2 c.join.new.pass (c.args.writers - half) half c.args.note c.split-other.ensures.below.0 c.join.ensures.seen.0 fits one other c.join.ensures.joined) }
 
 pub fan-returns-then-writers-eq1 : goal.fan-returns-then-writers-eq1
 fan-returns-then-writers-eq1 g t c =
