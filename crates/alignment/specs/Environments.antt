@@ -1,7 +1,6 @@
 -- What a node sees: the device's own tree, if any, and the aligned neighbours.
-use Rattle.std.specs.Prelude.{ℕ, Bool, true, false, List, [], ◌∷◌, map, filter, nat_eq, ◌||◌, Option, Some, None, option_map, if◌then◌else◌}
+use Rattle.std.specs.Prelude.{ℕ, Bool, true, false, List, map, filter, Option, Some, None, option_map, if◌then◌else◌}
 use Rattle.fc_values.specs.Values.{LocalValue, IntValue, BoolValue, PairValue}
-use Rattle.fc_values.specs.Fields.{AnyValue, ValueLocal, ValueField}
 use Rattle.fc_values.specs.Trees.{Tree, kept_of, child}
 
 -- an aligned neighbour: its number, its weight and its tree
@@ -43,12 +42,6 @@ branch_env b env = record {
   near = filter (λ (n : NearTree). keeps_truth b (kept_of n.2)) env.near;
 }
 
--- whether a device is among some neighbours
-abbrev pub is_near : {A : Type 0} → ℕ → List (ℕ × ℕ × A) → Bool
-is_near d [] = false
-is_near d (n ∷ ns) = nat_eq n.0 d || is_near d ns
-
--- a field is restricted to the device and the aligned neighbours
-abbrev pub restricted : {A : Type 0} → ℕ → List (ℕ × ℕ × A) → AnyValue → AnyValue
-restricted d ns (ValueLocal v) = ValueLocal v
-restricted d ns (ValueField es) = ValueField (filter (λ (e : ℕ × LocalValue). nat_eq e.0 d || is_near e.0 ns) es)
+-- the numbers of some neighbours
+abbrev pub near_numbers : {A : Type 0} → List (ℕ × ℕ × A) → List ℕ
+near_numbers ns = map (λ n. n.0) ns

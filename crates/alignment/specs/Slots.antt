@@ -1,12 +1,7 @@
 -- Exports as flat slots that a node sees.
-use Rattle.std.specs.Prelude.{ℕ, Bool, false, ◌&&◌, ◌<◌, List, [], ◌∷◌, filter, length, Option, Some, None, slice_index_or as get_or}
-use Rattle.fc_values.specs.Values.{IntValue}
-use Rattle.fc_values.specs.Exports.{SlotValue}
+use Rattle.std.specs.Prelude.{ℕ, Bool, ◌&&◌, ◌<◌, List, [], ◌∷◌, filter, length, Option, Some, None}
+use Rattle.fc_values.specs.Exports.{SlotValue, slot_at}
 use Rattle.alignment.specs.Environments.{own_where, keeps_truth}
-
--- the slot of a number
-abbrev pub slot_in : ℕ → List SlotValue → SlotValue
-slot_in k xs = get_or xs k (false, IntValue 0)
 
 -- an aligned neighbour: its number, its weight and its slots
 abbrev pub NearSlots : Type 0
@@ -29,7 +24,7 @@ NearHave k (n ∷ ns) = (k < length n.2) × NearHave k ns
 
 -- whether a slot is kept, with this truth value
 abbrev pub slot_keeps : ℕ → Bool → List SlotValue → Bool
-slot_keeps k b xs = (slot_in k xs).0 && keeps_truth b (Some (slot_in k xs).1)
+slot_keeps k b xs = (slot_at k xs).0 && keeps_truth b (Some (slot_at k xs).1)
 
 -- the exports that keep this truth value in a slot, the own one too
 abbrev pub flat_branch : ℕ → Bool → FlatEnv → FlatEnv

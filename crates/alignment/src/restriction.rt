@@ -1,8 +1,8 @@
 //! Fields cut down to the aligned neighbours.
 
 ghost use Rattle.std.specs.Prelude.{◌≡◌, IfOk};
-ghost use Rattle.fc_values.specs.Fields.{entries_of, ValueField};
-ghost use Rattle.alignment.specs.Environments.{restricted, is_near as near_has};
+ghost use Rattle.fc_values.specs.Fields.{entries_of, is_in, restricted, ValueField};
+ghost use Rattle.alignment.specs.Environments.{near_numbers};
 ghost use Rattle.alignment.specs.References.{flat_of, nears_of};
 
 use crate::environments::{Env, NearRef};
@@ -16,7 +16,7 @@ pub fn restrict(
     device: u32,
     env: &Env<'_>,
 ) -> Result<FieldVal, Memory>
-    ensures { IfOk result (λ f. ValueField (entries_of f) ≡ restricted device (flat_of env.now).near (ValueField (entries_of field.now))) }
+    ensures { IfOk result (λ f. ValueField (entries_of f) ≡ restricted device (near_numbers (flat_of env.now).near) (ValueField (entries_of field.now))) }
 {
     let mut entries = Vec::new(alloc);
     let near = env.near.as_slice();
@@ -31,7 +31,7 @@ pub fn restrict(
 
 /// Whether a device is among the neighbours.
 fn is_near(near: &[NearRef<'_>], device: u32) -> bool
-    ensures { result ≡ near_has device (nears_of near.now) }
+    ensures { result ≡ is_in device (near_numbers (nears_of near.now)) }
 {
     for n in near {
         if n.device == device {

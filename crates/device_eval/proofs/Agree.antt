@@ -3,12 +3,11 @@ use Rattle.std.proofs.Common.{◌≡◌, ℕ, suc, ◌+◌, List, ◌∷◌, ref
 use Rattle.std.specs.Prelude.{option_map, slice_get}
 use Rattle.fc_values.specs.Types.{ValueType}
 use Rattle.fc_values.specs.Values.{LocalValue, IntValue, BoolValue, PairValue}
-use Rattle.fc_values.specs.Fields.{Entries, AnyValue, ValueLocal, ValueField}
+use Rattle.fc_values.specs.Fields.{Entries, AnyValue, ValueLocal, ValueField, with_entry, restricted}
 use Rattle.fc_values.specs.Builtins.{builtin_value}
 use Rattle.fc_values.specs.Trees.{Tree, Trees, Keep, Done, Then}
 use Rattle.fc_nodes.specs.Terms.{Leaf, Literal, Variable, Sense, Uid, NbrLink, ByRep, ByShare, Term, Terms, Plain, Apply, Nbr, Evolve, If, Let, NoMore, More, size}
-use Rattle.alignment.specs.Environments.{Env, child_env, branch_env, restricted}
-use Rattle.share_op.specs.Hearing.{with_entry}
+use Rattle.alignment.specs.Environments.{Env, child_env, branch_env, near_numbers}
 use Rattle.device_eval.specs.Neighbours.{kept_there}
 use Rattle.device_eval.specs.Evaluation.{Situation, Vars, variable_at, own_or, heard, eval_of, eval_all, after, after_all, and_then, on_some, on_local, on_truth, pick, Outcome, Outcomes}
 use Rattle.device_eval.specs.Rules.{Evaluates, EvaluateAll, literal, variable, sense, uid, nbr_link, builtin, nbr, rep, share, if_true, if_false, binding, none, one_more}
@@ -89,7 +88,7 @@ sent_gives d x (Some es) f P k = k es refl
 module _ (S : Situation) where
   leaf_rule : (t : ValueType) (l : Leaf) (p : ℕ) (vars : Vars) (env : Env) → IfGives (eval_of S p (Plain t l) vars env) (Evaluates S p (Plain t l) vars env)
   leaf_rule t (Literal v) p vars env = literal t v
-  leaf_rule t (Variable n) p vars env = mapped_gives (restricted S.device env.near) (variable_at n vars) _ (Evaluates S p (Plain t (Variable n)) vars env) (λ v e. variable t n v e)
+  leaf_rule t (Variable n) p vars env = mapped_gives (restricted S.device (near_numbers env.near)) (variable_at n vars) _ (Evaluates S p (Plain t (Variable n)) vars env) (λ v e. variable t n v e)
   leaf_rule t (Sense i) p vars env = mapped_gives ValueLocal (slice_get S.inputs i) _ (Evaluates S p (Plain t (Sense i)) vars env) (λ v e. sense t i v e)
   leaf_rule t Uid p vars env = uid t
   leaf_rule t NbrLink p vars env = nbr_link t

@@ -2,10 +2,10 @@
 use Rattle.std.proofs.Common.{◌≡◌, ℕ, suc, ◌≤◌, ◌+◌, List, [], ◌∷◌, map, filter, refl, ◌∙◌, arith, Bool, true, false, Option, Some, None, option_map}
 use Rattle.fc_values.specs.Types.{ValueType}
 use Rattle.fc_values.specs.Values.{LocalValue, IntValue, BoolValue, PairValue}
-use Rattle.fc_values.specs.Exports.{SlotValue}
+use Rattle.fc_values.specs.Exports.{SlotValue, slot_at}
 use Rattle.fc_values.specs.Trees.{kept_of, child}
 use Rattle.fc_nodes.specs.Terms.{Term, If, kept}
-use Rattle.fc_nodes.specs.Flat.{slot_at, by_truth, IfTruth, tree_at, Clear, Marked}
+use Rattle.fc_nodes.specs.Flat.{by_truth, IfTruth, tree_at, Clear, Marked}
 use Rattle.alignment.specs.Environments.{NearTree, near_by, child_env, branch_env, keeps_truth, own_where}
 use Rattle.device_eval.specs.Evaluation.{pick}
 use Rattle.alignment.specs.Slots.{FlatEnv, NearSlots, slot_keeps, flat_branch}

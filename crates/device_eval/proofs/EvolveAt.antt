@@ -6,10 +6,10 @@ use Rattle.fc_values.specs.BuiltinTypes.{inner}
 use Rattle.fc_values.specs.Values.{LocalValue}
 use Rattle.fc_values.specs.Fields.{AnyValue, ValueLocal}
 use Rattle.fc_values.specs.Trees.{Tree, Keep, Done, Then}
-use Rattle.fc_values.specs.Exports.{SlotValue}
+use Rattle.fc_values.specs.Exports.{SlotValue, slot_at}
 use Rattle.fc_nodes.specs.declared.nodes.Node.{Node}
 use Rattle.fc_nodes.specs.Terms.{Evolution, ByRep, ByShare, Term, Evolve, OfEvolve, kept, kept_before, size, term_at, HasNode}
-use Rattle.fc_nodes.specs.Flat.{slot_at, tree_at}
+use Rattle.fc_nodes.specs.Flat.{tree_at}
 use Rattle.fc_nodes.proofs.Places.{AllAbove}
 use Rattle.fc_nodes.proofs.Kids.{TwoKids, evolve_laid}
 use Rattle.fc_nodes.proofs.Kept.{one_more, kept_size}
@@ -21,7 +21,7 @@ use Rattle.device_eval.specs.Environments.{env_at, near_at}
 use Rattle.share_op.specs.Hearing.{slot_entries, own_slot_or}
 use Rattle.device_eval.specs.Starts.{started}
 use Rattle.device_eval.specs.Walks.{SameIn, Can, Did, CanAt, DidAt, Stands, IsLocal}
-use Rattle.device_eval.proofs.SlotLists.{slot_set_same, slot_set_other}
+use Rattle.fc_values.proofs.SlotReads.{slot_set_same, slot_set_other}
 use Rattle.device_eval.proofs.Frames.{tree_same, marked_same, env_child, env_fits, room_part, room_behind, still_then, still_set}
 use Rattle.device_eval.proofs.Steps.{after_some, local_is, can_all, did_all, kid_is, stands_kid, slot_is, own_has, near_have}
 

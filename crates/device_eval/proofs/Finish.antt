@@ -1,17 +1,16 @@
 -- A finished walk of `main` gives the export of the copy.
 use Rattle.std.proofs.Common.{◌≡◌, ℕ, List, [], length, refl, sym, ◌∙◌, ap, subst, false, Some, IsSome}
 use Rattle.fc_values.specs.Values.{LocalValue, Fits}
-use Rattle.fc_values.specs.Fields.{AnyValue, ValueLocal}
+use Rattle.fc_values.specs.Fields.{AnyValue, ValueLocal, with_number}
 use Rattle.fc_values.specs.BuiltinTypes.{inner}
 use Rattle.fc_values.specs.Trees.{Tree, Copy}
-use Rattle.fc_values.specs.Exports.{SlotValue, FlatExport}
+use Rattle.fc_values.specs.Exports.{SlotValue, FlatExport, slot_at}
 use Rattle.fc_nodes.specs.Terms.{type_of, kept, kept_types}
 use Rattle.fc_nodes.specs.Program.{Program, Unfolding, unfolding_of, IsProgram}
-use Rattle.fc_nodes.specs.Flat.{FitsTree, IsWellTyped, slot_at, tree_at, Marked, HaveForms, tree_export, IsExport}
+use Rattle.fc_nodes.specs.Flat.{FitsTree, IsWellTyped, tree_at, Marked, HaveForms, tree_export, IsExport}
 use Rattle.device_eval.specs.Evaluation.{Outcome, eval_of}
 use Rattle.value_trees.specs.Copies.{near_devices, FitsCopy}
 use Rattle.device_eval.specs.Copies.{env_of, situation_of, EvaluatesCopy}
-use Rattle.device_eval.proofs.Numbers.{with_number}
 use Rattle.device_eval.proofs.Progress.{Gives, IsLocalOf, local_of_type}
 use Rattle.device_eval.proofs.OneExport.{main_gives}
 use Rattle.device_eval.proofs.Agree.{gives_rule, only_one}

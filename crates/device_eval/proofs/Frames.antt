@@ -2,15 +2,15 @@
 use Rattle.std.proofs.Common.{◌≡◌, ◌≢◌, ℕ, suc, ◌<◌, ◌≤◌, ◌+◌, ◌⊎◌, inl, inr, List, [], ◌∷◌, length, map, refl, sym, ◌∙◌, ap, subst, arith, Bool, true, false, Option, Some, None}
 use Rattle.std.specs.Prelude.{option_map, slice_set}
 use Rattle.fc_values.specs.Values.{LocalValue, IntValue, BoolValue, PairValue}
-use Rattle.fc_values.specs.Exports.{SlotValue}
+use Rattle.fc_values.specs.Exports.{SlotValue, slot_at}
 use Rattle.fc_values.specs.Trees.{Keep, child}
 use Rattle.fc_nodes.specs.Terms.{Term, Terms, Plain, Apply, Nbr, Evolve, If, Let, NoMore, More, kept, kept_all}
-use Rattle.fc_nodes.specs.Flat.{slot_at, tree_at, trees_at, IfTruth, Clear, Marked, AllMarked}
+use Rattle.fc_nodes.specs.Flat.{tree_at, trees_at, IfTruth, Clear, Marked, AllMarked}
 use Rattle.alignment.specs.Environments.{near_by, child_env}
 use Rattle.alignment.specs.Slots.{FlatEnv, NearSlots}
 use Rattle.device_eval.specs.Environments.{near_at, env_at, OwnFits, NearFit, EnvFits}
 use Rattle.device_eval.specs.Walks.{Room, SameIn, SameOut, Still}
-use Rattle.device_eval.proofs.SlotLists.{slot_set_same, slot_set_other}
+use Rattle.fc_values.proofs.SlotReads.{slot_set_same, slot_set_other}
 
 pub part : {xs ys : List SlotValue} (k n k' n' : ℕ) → SameIn k n xs ys → k ≤ k' → k' + n' ≤ k + n → SameIn k' n' xs ys
 part k n k' n' s a b = record { same = λ j h h'. s.same j (omega arith) (omega arith) }

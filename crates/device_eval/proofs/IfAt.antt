@@ -5,10 +5,10 @@ use Rattle.fc_values.specs.Types.{ValueType, BoolType}
 use Rattle.fc_values.specs.Values.{IntValue, BoolValue, PairValue}
 use Rattle.fc_values.specs.Fields.{AnyValue, ValueLocal, ValueField}
 use Rattle.fc_values.specs.Trees.{Tree, Keep, Done, Then}
-use Rattle.fc_values.specs.Exports.{SlotValue}
+use Rattle.fc_values.specs.Exports.{SlotValue, slot_at}
 use Rattle.fc_nodes.specs.declared.nodes.Node.{Node}
 use Rattle.fc_nodes.specs.Terms.{Term, If, OfIf, kept, kept_before, size, term_at, HasNode, Laid}
-use Rattle.fc_nodes.specs.Flat.{slot_at, by_truth, IfTruth, tree_at, Clear, Marked}
+use Rattle.fc_nodes.specs.Flat.{by_truth, IfTruth, tree_at, Clear, Marked}
 use Rattle.fc_nodes.proofs.Places.{AllAbove}
 use Rattle.fc_nodes.proofs.Kids.{ThreeKids, if_laid}
 use Rattle.fc_nodes.proofs.Kept.{one_more, kept_size}
@@ -18,7 +18,7 @@ use Rattle.flat_exports.specs.Layouts.{LayoutValue, number_in}
 use Rattle.alignment.specs.Slots.{FlatEnv, flat_branch, OwnHas, NearHave}
 use Rattle.device_eval.specs.Environments.{env_at}
 use Rattle.device_eval.specs.Walks.{SameIn, Can, Did, CanAt, DidAt, Stands, IsTruth}
-use Rattle.device_eval.proofs.SlotLists.{slot_set_same, slot_set_other}
+use Rattle.fc_values.proofs.SlotReads.{slot_set_same, slot_set_other}
 use Rattle.device_eval.proofs.Frames.{tree_same, marked_same, env_child, env_fits, room_part, room_behind, still_then, still_set}
 use Rattle.device_eval.proofs.Steps.{after_some, can_all, did_all, kid_is, stands_kid, slot_is, own_has, near_have}
 use Rattle.device_eval.proofs.Branches.{arm, arm_slot, env_branch, arm_inside, arm_later, env_fits_arm}

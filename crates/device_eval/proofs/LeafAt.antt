@@ -3,14 +3,13 @@ use Rattle.std.proofs.Common.{◌≡◌, ℕ, List, [], ◌∷◌, map, filter, 
 use Rattle.std.specs.Prelude.{slice_get, option_map}
 use Rattle.fc_values.specs.Types.{ValueType}
 use Rattle.fc_values.specs.Values.{LocalValue, IntValue}
-use Rattle.fc_values.specs.Fields.{AnyValue, ValueLocal, ValueField, Entries}
+use Rattle.fc_values.specs.Fields.{AnyValue, ValueLocal, ValueField, Entries, with_entry, restricted}
 use Rattle.fc_values.specs.Exports.{SlotValue}
 use Rattle.fc_nodes.specs.declared.nodes.Node.{Node}
 use Rattle.fc_nodes.specs.Terms.{Leaf, Literal, Variable, Sense, Uid, NbrLink, Term, Plain, OfLeaf, kept_before, HasNode}
 use Rattle.fc_nodes.proofs.Places.{AllAbove, term_is}
-use Rattle.alignment.specs.Environments.{is_near, restricted}
+use Rattle.alignment.specs.Environments.{near_numbers}
 use Rattle.device_eval.specs.Neighbours.{weights}
-use Rattle.share_op.specs.Hearing.{with_entry}
 use Rattle.device_eval.specs.Evaluation.{Situation, Vars, leaf_value, variable_at}
 use Rattle.alignment.specs.Slots.{FlatEnv, NearSlots}
 use Rattle.device_eval.specs.Environments.{near_at, env_at}
@@ -20,21 +19,13 @@ use Rattle.device_eval.proofs.Steps.{some_on}
 
 -- which neighbours there are doesn't depend on their slots
 module _ (t : Term) (k : ℕ) where
-  pub near_same : (d : ℕ) (ns : List NearSlots) → is_near d (map (near_at t k) ns) ≡ is_near d ns
-  near_same d [] = refl
-  near_same d (n ∷ ns) = ap (λ (b : Bool). nat_eq n.0 d || b) (near_same d ns)
+  pub numbers_same : (ns : List NearSlots) → near_numbers (map (near_at t k) ns) ≡ near_numbers ns
+  numbers_same [] = refl
+  numbers_same (n ∷ ns) = ap (λ (ds : List ℕ). n.0 ∷ ds) (numbers_same ns)
 
   pub weights_same : (ns : List NearSlots) → weights (map (near_at t k) ns) ≡ weights ns
   weights_same [] = refl
   weights_same (n ∷ ns) = ap (λ (es : Entries). (n.0, IntValue n.1) ∷ es) (weights_same ns)
-
-  filter_same : (f g : ℕ × LocalValue → Bool) (es : Entries) → ((e : ℕ × LocalValue) → f e ≡ g e) → filter f es ≡ filter g es
-  filter_same f g [] h = refl
-  filter_same f g (e ∷ es) h = let s = h e in let ih = filter_same f g es h in rw (s, ih) refl
-
-  pub restricted_same : (d : ℕ) (ns : List NearSlots) (v : AnyValue) → restricted d (map (near_at t k) ns) v ≡ restricted d ns v
-  restricted_same d ns (ValueLocal v) = refl
-  restricted_same d ns (ValueField es) = ap ValueField (filter_same _ _ es (λ e. ap (λ (b : Bool). nat_eq e.0 d || b) (near_same e.0 ns)))
 
 some_mapped : {A : Type 0} (f : A → AnyValue) (o : Option A) → IsSome (option_map f o) → IsSome o
 some_mapped f None h = absurd cc
@@ -61,8 +52,8 @@ module _ (ns : List Node) (ab : AllAbove ns) (p : ℕ) (t : ValueType) (ks : Lis
   pub variable_bound : (n : ℕ) → HasNode ns p (OfLeaf (Variable n)) t ks → CanAt S ns p vars env xs → IsSome (variable_at n vars)
   variable_bound n h can = some_mapped _ _ (leaf_runs ns ab p (Variable n) t ks h S vars env xs can)
 
-  pub variable_done : (n : ℕ) → HasNode ns p (OfLeaf (Variable n)) t ks → (v w : AnyValue) → variable_at n vars ≡ Some v → w ≡ restricted S.device env.near v → DidAt S ns p vars env xs w xs
-  variable_done n h v w e f = leaf_done ns ab p (Variable n) t ks h S vars env xs w (rw (e, restricted_same (Plain t (Variable n)) (kept_before ns p) S.device env.near v, f) refl)
+  pub variable_done : (n : ℕ) → HasNode ns p (OfLeaf (Variable n)) t ks → (v w : AnyValue) → variable_at n vars ≡ Some v → w ≡ restricted S.device (near_numbers env.near) v → DidAt S ns p vars env xs w xs
+  variable_done n h v w e f = leaf_done ns ab p (Variable n) t ks h S vars env xs w (rw (e, numbers_same (Plain t (Variable n)) (kept_before ns p) env.near, f) refl)
 
   pub sense_there : (i : ℕ) → HasNode ns p (OfLeaf (Sense i)) t ks → CanAt S ns p vars env xs → IsSome (slice_get S.inputs i)
   sense_there i h can = some_mapped _ _ (leaf_runs ns ab p (Sense i) t ks h S vars env xs can)

@@ -1,4 +1,3 @@
-pub mod SlotLists
 pub mod Frames
 pub mod Steps
 pub mod LeafAt
@@ -11,7 +10,6 @@ pub mod RowSteps
 pub mod ApplyAt
 pub mod Agree
 pub mod Shapes
-pub mod Numbers
 pub mod Sights
 pub mod Progress
 pub mod OneExport

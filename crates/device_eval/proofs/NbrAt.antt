@@ -4,16 +4,15 @@ use Rattle.std.specs.Prelude.{slice_set}
 use Rattle.fc_values.specs.Types.{ValueType}
 use Rattle.fc_values.specs.BuiltinTypes.{inner}
 use Rattle.fc_values.specs.Values.{LocalValue}
-use Rattle.fc_values.specs.Fields.{AnyValue, ValueLocal, ValueField, Entries}
+use Rattle.fc_values.specs.Fields.{AnyValue, ValueLocal, ValueField, Entries, with_entry}
 use Rattle.fc_values.specs.Trees.{Keep, Done, Then}
-use Rattle.fc_values.specs.Exports.{SlotValue}
+use Rattle.fc_values.specs.Exports.{SlotValue, slot_at}
 use Rattle.fc_nodes.specs.declared.nodes.Node.{Node}
 use Rattle.fc_nodes.specs.Terms.{Term, Nbr, OfNbr, kept, kept_before, term_at, HasNode}
-use Rattle.fc_nodes.specs.Flat.{slot_at, tree_at}
+use Rattle.fc_nodes.specs.Flat.{tree_at}
 use Rattle.fc_nodes.proofs.Places.{AllAbove}
 use Rattle.fc_nodes.proofs.Kids.{OneKid, nbr_laid}
 use Rattle.fc_nodes.proofs.Kept.{one_more}
-use Rattle.share_op.specs.Hearing.{with_entry}
 use Rattle.device_eval.specs.Neighbours.{kept_there}
 use Rattle.device_eval.specs.Evaluation.{Situation, Vars, eval_of, on_local}
 use Rattle.flat_exports.specs.Layouts.{LayoutValue, number_in}
@@ -21,7 +20,7 @@ use Rattle.alignment.specs.Slots.{FlatEnv, NearSlots, NearHave}
 use Rattle.device_eval.specs.Environments.{env_at, near_at}
 use Rattle.share_op.specs.Hearing.{slot_entries}
 use Rattle.device_eval.specs.Walks.{SameIn, Can, Did, CanAt, DidAt, Stands, IsLocal}
-use Rattle.device_eval.proofs.SlotLists.{slot_set_same, slot_set_other}
+use Rattle.fc_values.proofs.SlotReads.{slot_set_same, slot_set_other}
 use Rattle.device_eval.proofs.Frames.{tree_same, marked_same, env_child, env_fits, room_part, still_then, still_set}
 use Rattle.device_eval.proofs.Steps.{after_some, local_is, can_all, did_all, kid_is, stands_kid, slot_is, near_have}
 

@@ -1,4 +1,4 @@
--- A copy that fits a program has exactly one export.
+-- Crates above cite this module: a copy that fits a program has exactly one export.
 use Rattle.std.proofs.Common.{◌≡◌, ℕ, zero, suc, ◌≤◌, ◌≢◌, List, [], ◌∷◌, map, refl, sym, ◌∙◌, ap, subst, arith, false, Option, Some, None, option_map, nat_eq}
 use Rattle.std.specs.Prelude.{slice_get}
 use Rattle.std.proofs.lemmas.Bool.Decides.{nat_tests}
@@ -6,7 +6,7 @@ use Rattle.fc_values.specs.declared.types.InputTy.{InputTy}
 use Rattle.fc_values.specs.declared.types.InputTy.TheVariants as input
 use Rattle.fc_values.specs.Types.{LocalType, TypeLocal, Input, input_type, Declarations}
 use Rattle.fc_values.specs.Values.{LocalValue, IntValue, BoolValue, PairValue, Fits}
-use Rattle.fc_values.specs.Fields.{AnyValue, ValueLocal}
+use Rattle.fc_values.specs.Fields.{AnyValue, ValueLocal, is_in, with_number}
 use Rattle.fc_values.specs.BuiltinTypes.{inner}
 use Rattle.fc_values.specs.Trees.{Tree, TreeExport, NearCopy, Copy}
 use Rattle.fc_nodes.specs.Terms.{type_of}
@@ -17,10 +17,10 @@ use Rattle.device_eval.specs.Evaluation.{eval_of}
 use Rattle.fc_values.specs.Inputs.{InputFits, InputsFit}
 use Rattle.value_trees.specs.Copies.{WhereSome, AllNearFit, near_devices, FitsCopy}
 use Rattle.device_eval.specs.Copies.{near_tree, env_of, situation_of, HasOneExport}
-use Rattle.device_eval.proofs.Numbers.{is_in, with_number}
-use Rattle.device_eval.proofs.Sights.{FitsEnv, EachNear, AllLight, near_numbers}
-use Rattle.device_eval.proofs.Progress.{Gives, Suits, local_of_type, progress}
+use Rattle.device_eval.proofs.Sights.{FitsEnv, EachNear, AllLight, Suits}
+use Rattle.device_eval.proofs.Progress.{Gives, local_of_type, progress}
 use Rattle.device_eval.proofs.Agree.{gives_rule, one_outcome}
+use Rattle.alignment.specs.Environments.{near_numbers}
 
 -- an input of a copy has the type of its declaration
 input_fits : (ceiling : ℕ) (t : InputTy) (v : LocalValue) → InputIsLawful ceiling t → InputFits t v → Fits ceiling (input_type t) v
@@ -32,7 +32,7 @@ input_fits ceiling (input.Whole least greatest) (BoolValue b) l h = absurd h
 input_fits ceiling (input.Whole least greatest) (PairValue a b) l h = absurd h
 
 module _ (ceiling : ℕ) (s : LocalType) where
-  input_there : (is : List Input) (vs : List LocalValue) (i : ℕ) → InputsAreLawful ceiling is → InputsFit is vs → option_map (λ (x : Input). input_type x.type) (slice_get is i) ≡ Some s
+  pub input_there : (is : List Input) (vs : List LocalValue) (i : ℕ) → InputsAreLawful ceiling is → InputsFit is vs → option_map (λ (x : Input). input_type x.type) (slice_get is i) ≡ Some s
       → (v : LocalValue) × (slice_get vs i ≡ Some v) × Fits ceiling s v
   input_there [] vs i l h e = absurd cc
   input_there (x ∷ is) [] i l h e = absurd h
@@ -62,11 +62,11 @@ module _ (U : Unfolding) (device : ℕ) where
   near_other (n ∷ ns) h =
       let first = h.0 in
       let other : n.device ≢ device = first.other in
-      let test : nat_eq n.device device ≡ false = grind (arith, nat_tests) in
+      let test : nat_eq device n.device ≡ false = grind (arith, nat_tests) in
       let rest = near_other ns h.1 in
       rw (test, rest) refl
 
-copy_env : (U : Unfolding) (s : Copy) → IsLawful U.declared → FitsCopy U s → FitsEnv U.declared.ceiling s.device (near_devices s.near) (FitsTree U.declared.ceiling U.main) (env_of s)
+pub copy_env : (U : Unfolding) (s : Copy) → IsLawful U.declared → FitsCopy U s → FitsEnv U.declared.ceiling s.device (near_devices s.near) (FitsTree U.declared.ceiling U.main) (env_of s)
 copy_env U s l h = record {
   own = own_fits U s.own h.own;
   near = near_fit U s.device s.near h.near;
@@ -82,7 +82,7 @@ export_with v t = record { value = v; tree = t }
 same_export : (e f : TreeExport) → ValueLocal e.value ≡ ValueLocal f.value → e.tree ≡ f.tree → e ≡ f
 same_export e f v t = let v' : e.value ≡ f.value = cc in ap (λ (x : LocalValue). export_with x e.tree) v' ∙ ap (export_with f.value) t
 
-copy_suits : (D : Declarations) (s : Copy) → IsLawful D → InputsFit D.inputs s.inputs → Suits D (situation_of D s)
+pub copy_suits : (D : Declarations) (s : Copy) → IsLawful D → InputsFit D.inputs s.inputs → Suits D (situation_of D s)
 copy_suits D s l h = record {
   ceiling = refl;
   least = let a = l.metric.0 in let b = l.metric.1 in omega (arith, a, b);

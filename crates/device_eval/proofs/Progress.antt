@@ -1,23 +1,23 @@
 -- A typed term is never stuck: in an environment that fits it has a value and a tree, and they fit.
-use Rattle.std.proofs.Common.{◌≡◌, ℕ, suc, ◌≤◌, ◌+◌, min, List, [], ◌∷◌, refl, ◌∙◌, ap, subst, arith, Bool, true, false, Option, Some, None}
+use Rattle.std.proofs.Common.{◌≡◌, ℕ, suc, ◌≤◌, ◌+◌, min, List, [], ◌∷◌, refl, sym, ◌∙◌, ap, subst, arith, Bool, true, false, Option, Some, None}
 use Rattle.std.specs.Prelude.{slice_get}
 use Rattle.fc_values.specs.declared.builtins.Builtin.{Builtin}
 use Rattle.fc_values.specs.Types.{LocalType, IntType, BoolType, ValueType, TypeLocal, TypeField, Declarations}
 use Rattle.fc_values.specs.Values.{LocalValue, IntValue, BoolValue, PairValue, Fits}
-use Rattle.fc_values.specs.Fields.{Entries, AnyValue, ValueLocal, ValueField, FitsOver, FitEachOver}
+use Rattle.fc_values.specs.Fields.{Entries, AnyValue, ValueLocal, ValueField, FitsOver, FitEachOver, with_entry, restricted, with_number}
 use Rattle.fc_values.specs.BuiltinTypes.{inner}
 use Rattle.fc_values.proofs.BuiltinTyped.{builtin_typed}
 use Rattle.fc_values.specs.Trees.{Tree, Trees, Keep, Done, Then, leaf, child}
 use Rattle.fc_nodes.specs.Terms.{Leaf, Literal, Variable, Sense, Uid, NbrLink, Evolution, ByRep, ByShare, Term, Terms, Plain, Apply, Nbr, Evolve, If, Let, NoMore, More, type_of, size}
 use Rattle.fc_nodes.specs.Typing.{Scope, sense_type, LeafHasType, evolving_type, types_of, HasType, HaveTypes}
 use Rattle.fc_nodes.specs.Flat.{HasKids, KeepsWith, OneKid, TwoKids, KeepsTruth, FitsTree, FitTrees}
-use Rattle.alignment.specs.Environments.{NearTree, Env, child_env, branch_env, restricted}
-use Rattle.share_op.specs.Hearing.{with_entry}
+use Rattle.alignment.specs.Environments.{NearTree, Env, child_env, branch_env, near_numbers}
 use Rattle.device_eval.specs.Neighbours.{kept_there, weights}
 use Rattle.device_eval.specs.Evaluation.{Situation, Vars, own_or, heard, evolving, eval_of, eval_all, Outcome, Outcomes}
 use Rattle.value_trees.specs.Copies.{WhereSome}
-use Rattle.device_eval.proofs.Numbers.{with_number, rises_test, rises_with}
-use Rattle.device_eval.proofs.Sights.{FitsEnv, EachNear, near_numbers, env_kid, env_as, near_as, InBranch, those_in, part_of, env_branch, kids_from, first_kid, rest_kids, devices_with, fit_with, devices_weights, fit_weights, Keeps, each_keeps, VarsFit, vars_part, bound_fits, Reads, variable_there, restricted_fits}
+use Rattle.fc_values.proofs.Rising.{rises_test}
+use Rattle.fc_values.proofs.Numbers.{rises_with}
+use Rattle.device_eval.proofs.Sights.{InputThere, Suits, FitsEnv, EachNear, env_kid, env_as, near_as, InBranch, those_in, part_of, env_branch, kids_from, first_kid, rest_kids, devices_with, fit_with, devices_weights, fit_weights, Keeps, each_keeps, VarsFit, vars_part, bound_fits, Reads, variable_there, restricted_fits}
 
 -- an outcome that is there and fits: the value over the device and its neighbours, and the tree
 pub record Gives (ceiling device : ℕ) (ds : List ℕ) (t : ValueType) (P : Tree → Type 0) (o : Outcome) : Type 0 where
@@ -33,18 +33,6 @@ pub record GiveAll (ceiling device : ℕ) (ds : List ℕ) (ts : List ValueType) 
   pub are : o ≡ Some (values, trees)
   pub fit : FitEachOver ceiling (with_number device ds) ts values
   pub formed : P trees
-
--- an input of a type
-pub record InputThere (S : Situation) (i : ℕ) (s : LocalType) : Type 0 where
-  pub value : LocalValue
-  pub is : slice_get S.inputs i ≡ Some value
-  pub fits : Fits S.ceiling s value
-
--- a situation in which a program with these declarations may be evaluated
-pub record Suits (D : Declarations) (S : Situation) : Type 0 where
-  pub ceiling : D.ceiling ≡ S.ceiling
-  pub least : S.least ≤ S.ceiling
-  pub inputs : (i : ℕ) (s : LocalType) → sense_type D i ≡ Some s → InputThere S i s
 
 -- what a tree of a kind keeps, and its kids
 pub one_first : (P : Tree → Type 0) (t : Tree) (V : LocalValue → Type 0) → KeepsWith V (OneKid P) t → P (child 0 t)
@@ -153,7 +141,7 @@ module _ (D : Declarations) (S : Situation) (suits : Suits D S) where
   leaf_progress t (Variable n) scope p ds P vars env ty vf ef =
       let r = variable_there S.ceiling S.device ds scope vars n t ty vf in
       let e = r.is in
-      record { value = restricted S.device env.near r.value; tree = leaf; is = rw e refl; fits = restricted_fits S.device env.near S.ceiling ds t r.value ef.numbers r.fits; formed = tt }
+      record { value = restricted S.device (near_numbers env.near) r.value; tree = leaf; is = rw e refl; fits = subst (λ (ns : List ℕ). FitsOver S.ceiling (with_number S.device ds) t (restricted S.device ns r.value)) (sym ef.numbers) (restricted_fits S.device ds S.ceiling t r.value r.fits); formed = tt }
   leaf_progress t (Sense i) scope p ds P vars env ty vf ef =
       let r = suits.inputs i ty.0 ty.1 in
       let e = r.is in

@@ -5,11 +5,11 @@ use Rattle.fc_values.specs.declared.values.Local.{Local}
 use Rattle.fc_values.specs.declared.exports.Export.{Export}
 use Rattle.fc_values.specs.Values.{LocalValue, local_of}
 use Rattle.fc_values.specs.Fields.{AnyValue, ValueLocal}
-use Rattle.fc_values.specs.Exports.{SlotValue, slots_of}
+use Rattle.fc_values.specs.Exports.{SlotValue, slots_of, slot_at}
 use Rattle.fc_values.specs.Trees.{TreeExport}
 use Rattle.fc_nodes.specs.Terms.{term_at, kept, kept_types, kept_before}
 use Rattle.fc_nodes.specs.Program.{Program, Unfolding, unfolding_of, IsProgram}
-use Rattle.fc_nodes.specs.Flat.{slot_at, tree_at, HaveForms, IsExport, tree_export}
+use Rattle.fc_nodes.specs.Flat.{tree_at, HaveForms, IsExport, tree_export}
 use Rattle.fc_nodes.proofs.Places.{laid_within}
 use Rattle.fc_nodes.proofs.Kept.{kept_none, kept_long}
 use Rattle.device_eval.specs.Evaluation.{Situation, eval_of}

@@ -1,10 +1,9 @@
 -- One more place of a row.
 use Rattle.std.proofs.Common.{◌≡◌, ℕ, ◌<◌, ◌≤◌, ◌+◌, List, [], ◌∷◌, ◌++◌, length, refl, sym, ◌∙◌, ap, subst, arith, Some, None, IsSome, get_or, append_assoc, append-nil, ◌⊎◌, inl, inr}
 use Rattle.fc_values.specs.Fields.{AnyValue}
-use Rattle.fc_values.specs.Exports.{SlotValue}
+use Rattle.fc_values.specs.Exports.{SlotValue, slot_at}
 use Rattle.fc_nodes.specs.declared.nodes.Node.{Node}
 use Rattle.fc_nodes.specs.Terms.{Term, Plain, Apply, Nbr, Evolve, If, Let, kept, kept_before, size, term_at, Laid}
-use Rattle.fc_nodes.specs.Flat.{slot_at}
 use Rattle.fc_nodes.proofs.Places.{laid_within}
 use Rattle.fc_nodes.proofs.Kept.{kept_size, kept_none}
 use Rattle.device_eval.specs.Evaluation.{Situation, Vars, Outcome, Outcomes, and_then}

@@ -4,9 +4,9 @@ use Rattle.fc_values.specs.Types.{LocalType, BoolType}
 use Rattle.fc_values.specs.Values.{LocalValue, IntValue, BoolValue, PairValue, form_of}
 use Rattle.fc_values.specs.BuiltinTypes.{inner}
 use Rattle.fc_values.specs.Trees.{Tree, Keep, Done, Then}
-use Rattle.fc_values.specs.Exports.{SlotValue}
+use Rattle.fc_values.specs.Exports.{SlotValue, slot_at}
 use Rattle.fc_nodes.specs.Terms.{Term, Terms, Plain, Apply, Nbr, Evolve, If, Let, NoMore, More, kept, kept_types, all_kept_types}
-use Rattle.fc_nodes.specs.Flat.{FitsTree, FitTrees, KeepsTruth, slot_at, by_truth, IfTruth, tree_at, trees_at, Clear, Marked, AllMarked, HaveForms}
+use Rattle.fc_nodes.specs.Flat.{FitsTree, FitTrees, KeepsTruth, by_truth, IfTruth, tree_at, trees_at, Clear, Marked, AllMarked, HaveForms}
 use Rattle.fc_nodes.proofs.Kept.{kept_long}
 use Rattle.value_trees.proofs.Forms.{FormsAt, fits_form, forms_first, forms_rest, forms_both, after_of, forms_two, two_forms, forms_three, three_forms, have_long, have_forms_at, forms_have}
 

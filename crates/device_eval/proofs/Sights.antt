@@ -1,25 +1,18 @@
--- Environments and variables that fit, and what nodes read of them.
+-- Crates above cite this module: environments and variables that fit, and what nodes read of them.
 use Rattle.std.proofs.Common.{◌≡◌, ℕ, zero, suc, ◌≤◌, List, [], ◌∷◌, map, refl, ◌∙◌, ap, subst, Bool, true, false, ◌||◌, Option, Some, None, option_map, nat_eq, nat_lt}
-use Rattle.std.specs.Prelude.{filter}
+use Rattle.std.specs.Prelude.{filter, slice_get}
 use Rattle.std.proofs.lemmas.Bool.{cond_both}
-use Rattle.fc_values.specs.Types.{LocalType, IntType, ValueType, TypeLocal, TypeField}
+use Rattle.fc_values.specs.Types.{LocalType, IntType, ValueType, TypeLocal, TypeField, Declarations}
 use Rattle.fc_values.specs.Values.{LocalValue, Fits}
-use Rattle.fc_values.specs.Fields.{Entries, AnyValue, ValueLocal, ValueField, devices, Rises, AllFit, FitsOver}
+use Rattle.fc_values.specs.Fields.{Entries, AnyValue, ValueLocal, ValueField, devices, Rises, AllFit, FitsOver, with_entry, restricted, is_in, with_number}
 use Rattle.fc_values.specs.Trees.{Tree, Trees, Keep, Done, Then, kept_of, nth_tree, child}
-use Rattle.fc_nodes.specs.Typing.{Scope, type_at}
+use Rattle.fc_nodes.specs.Typing.{Scope, type_at, sense_type}
 use Rattle.fc_nodes.specs.Flat.{OneMore}
-use Rattle.alignment.specs.Environments.{NearTree, Env, near_by, child_env, keeps_truth, own_where, branch_env, is_near, restricted}
-use Rattle.share_op.specs.Hearing.{with_entry}
+use Rattle.alignment.specs.Environments.{NearTree, Env, near_by, child_env, keeps_truth, own_where, branch_env, near_numbers}
 use Rattle.device_eval.specs.Neighbours.{kept_there, weights}
-use Rattle.device_eval.specs.Evaluation.{Vars, variable_at}
+use Rattle.device_eval.specs.Evaluation.{Situation, Vars, variable_at}
 use Rattle.value_trees.specs.Copies.{WhereSome}
-use Rattle.device_eval.proofs.Numbers.{is_in, with_number, stays, Part, part_none, part_skip, part_keep, rises_part, not_in_part, still_stays, all_stay}
-
-abbrev pub number_of : NearTree → ℕ
-number_of n = n.0
-
-abbrev pub near_numbers : List NearTree → List ℕ
-near_numbers ns = map number_of ns
+use Rattle.fc_values.proofs.Numbers.{stays, Part, part_none, part_skip, part_keep, rises_part, not_in_part, still_stays, all_stay}
 
 abbrev pub EachNear : (Tree → Type 0) → List NearTree → Type 0
 EachNear P [] = Unit {0}
@@ -213,7 +206,7 @@ VarsFit ceiling device ds (b ∷ bs) (v ∷ vs) = (b.0 ≡ v.0) × VariableFits 
 VarsFit ceiling device ds _ _ = ⊥
 
 module _ (ceiling device : ℕ) {ms ds : List ℕ} (p : Part ms ds) (r : Rises ds) (other : is_in device ds ≡ false) where
-  variable_part : (t : ValueType) (v : AnyValue) → VariableFits ceiling device ds t v → VariableFits ceiling device ms t v
+  pub variable_part : (t : ValueType) (v : AnyValue) → VariableFits ceiling device ds t v → VariableFits ceiling device ms t v
   variable_part (TypeLocal t) (ValueLocal v) h = h
   variable_part (TypeField t) (ValueField es) h = (h.0, still_stays device p r other (devices es) h.1)
   variable_part (TypeLocal t) (ValueField es) h = absurd h
@@ -255,29 +248,39 @@ variable_there ceiling device ds (b ∷ bs) (v ∷ vs) n t e h = by_test (nat_eq
         let rest = f (rw k at e) in
         record { value = rest.value; is = rw k' rest.is; fits = rest.fits }
 
-pub near_in : (d : ℕ) (ns : List NearTree) → is_near d ns ≡ is_in d (near_numbers ns)
-near_in d [] = refl
-near_in d (n ∷ ns) = ap (λ (b : Bool). nat_eq n.0 d || b) (near_in d ns)
-
-module _ (device : ℕ) (ns : List NearTree) where
+module _ (device : ℕ) (ns : List ℕ) where
   abbrev stays_near : ℕ × LocalValue → Bool
-  stays_near e = nat_eq e.0 device || is_near e.0 ns
+  stays_near e = stays device ns e.0
 
-  devices_restricted : (es : Entries) → devices (filter stays_near es) ≡ filter (stays device (near_numbers ns)) (devices es)
+  devices_restricted : (es : Entries) → devices (filter stays_near es) ≡ filter (stays device ns) (devices es)
   devices_restricted [] = refl
-  devices_restricted (e ∷ es) = by_test (stays device (near_numbers ns) e.0) refl (ap (λ (b : Bool). nat_eq e.0 device || b) (near_in e.0 ns)) (devices_restricted es)
+  devices_restricted (e ∷ es) = by_test (stays device ns e.0) refl (devices_restricted es)
     where
-      by_test : (b : Bool) → stays device (near_numbers ns) e.0 ≡ b → stays_near e ≡ stays device (near_numbers ns) e.0 → devices (filter stays_near es) ≡ filter (stays device (near_numbers ns)) (devices es)
-          → devices (filter stays_near (e ∷ es)) ≡ filter (stays device (near_numbers ns)) (devices (e ∷ es))
-      by_test true t u h = rw (u, t) (ap (λ (xs : List ℕ). e.0 ∷ xs) h)
-      by_test false t u h = rw (u, t) h
+      by_test : (b : Bool) → stays device ns e.0 ≡ b → devices (filter stays_near es) ≡ filter (stays device ns) (devices es)
+          → devices (filter stays_near (e ∷ es)) ≡ filter (stays device ns) (devices (e ∷ es))
+      by_test true t h = rw t (ap (λ (xs : List ℕ). e.0 ∷ xs) h)
+      by_test false t h = rw t h
 
   fit_restricted : (ceiling : ℕ) (s : LocalType) (es : Entries) → AllFit ceiling s es → AllFit ceiling s (filter stays_near es)
   fit_restricted ceiling s [] h = tt
-  fit_restricted ceiling s (e ∷ es) h = cond_both (stays_near e) (e ∷ filter stays_near es) (filter stays_near es) (AllFit ceiling s) (λ t. (h.0, fit_restricted ceiling s es h.1)) (λ t. fit_restricted ceiling s es h.1)
+  fit_restricted ceiling s (e ∷ es) h =
+      cond_both (stays_near e) (e ∷ filter stays_near es) (filter stays_near es) (AllFit ceiling s)
+      (λ t. (h.0, fit_restricted ceiling s es h.1)) (λ t. fit_restricted ceiling s es h.1)
 
-  pub restricted_fits : (ceiling : ℕ) (ds : List ℕ) (t : ValueType) (v : AnyValue) → near_numbers ns ≡ ds → VariableFits ceiling device ds t v → FitsOver ceiling (with_number device ds) t (restricted device ns v)
-  restricted_fits ceiling ds (TypeLocal t) (ValueLocal v) e h = h
-  restricted_fits ceiling ds (TypeField t) (ValueField es) e h = (devices_restricted es ∙ ap (λ (xs : List ℕ). filter (stays device xs) (devices es)) e ∙ h.1, fit_restricted ceiling t es h.0)
-  restricted_fits ceiling ds (TypeLocal t) (ValueField es) e h = absurd h
-  restricted_fits ceiling ds (TypeField t) (ValueLocal v) e h = absurd h
+  pub restricted_fits : (ceiling : ℕ) (t : ValueType) (v : AnyValue) → VariableFits ceiling device ns t v → FitsOver ceiling (with_number device ns) t (restricted device ns v)
+  restricted_fits ceiling (TypeLocal t) (ValueLocal v) h = h
+  restricted_fits ceiling (TypeField t) (ValueField es) h = (devices_restricted es ∙ h.1, fit_restricted ceiling t es h.0)
+  restricted_fits ceiling (TypeLocal t) (ValueField es) h = absurd h
+  restricted_fits ceiling (TypeField t) (ValueLocal v) h = absurd h
+
+-- an input of a type
+pub record InputThere (S : Situation) (i : ℕ) (s : LocalType) : Type 0 where
+  pub value : LocalValue
+  pub is : slice_get S.inputs i ≡ Some value
+  pub fits : Fits S.ceiling s value
+
+-- a situation in which a program with these declarations may be evaluated
+pub record Suits (D : Declarations) (S : Situation) : Type 0 where
+  pub ceiling : D.ceiling ≡ S.ceiling
+  pub least : S.least ≤ S.ceiling
+  pub inputs : (i : ℕ) (s : LocalType) → sense_type D i ≡ Some s → InputThere S i s

@@ -1,12 +1,11 @@
 -- Evaluation as a function: the value and the tree of a term, or none where it is stuck.
 use Rattle.std.specs.Prelude.{ℕ, suc, Bool, true, false, ◌+◌, List, [], ◌∷◌, min, Option, Some, None, option_map, nat_eq, slice_get, if◌then◌else◌}
 use Rattle.fc_values.specs.Values.{LocalValue, IntValue, BoolValue, PairValue}
-use Rattle.fc_values.specs.Fields.{Entries, AnyValue, ValueLocal, ValueField}
+use Rattle.fc_values.specs.Fields.{Entries, AnyValue, ValueLocal, ValueField, with_entry, restricted}
 use Rattle.fc_values.specs.Builtins.{builtin_value}
 use Rattle.fc_values.specs.Trees.{Tree, Trees, Keep, Done, Then, leaf, kept_of}
 use Rattle.fc_nodes.specs.Terms.{Leaf, Literal, Variable, Sense, Uid, NbrLink, Evolution, ByRep, ByShare, Term, Terms, Plain, Apply, Nbr, Evolve, If, Let, NoMore, More, size}
-use Rattle.alignment.specs.Environments.{Env, child_env, branch_env, restricted}
-use Rattle.share_op.specs.Hearing.{with_entry}
+use Rattle.alignment.specs.Environments.{Env, child_env, branch_env, near_numbers}
 use Rattle.device_eval.specs.Neighbours.{kept_there, weights}
 
 -- where evaluation happens: the device, the greatest integer, the least weight of a link, and the inputs of the copy
@@ -26,7 +25,7 @@ variable_at n (v ∷ vs) = if nat_eq v.0 n then Some v.1 else variable_at n vs
 
 abbrev pub leaf_value : Situation → Leaf → Vars → Env → Option AnyValue
 leaf_value S (Literal v) vars env = Some (ValueLocal v)
-leaf_value S (Variable n) vars env = option_map (restricted S.device env.near) (variable_at n vars)
+leaf_value S (Variable n) vars env = option_map (restricted S.device (near_numbers env.near)) (variable_at n vars)
 leaf_value S (Sense i) vars env = option_map ValueLocal (slice_get S.inputs i)
 leaf_value S Uid vars env = Some (ValueLocal (IntValue (min S.device S.ceiling)))
 leaf_value S NbrLink vars env = Some (ValueField (with_entry S.device (IntValue S.least) (weights env.near)))

@@ -3,12 +3,11 @@ use Rattle.std.specs.Prelude.{ℕ, suc, true, false, ◌≡◌, ◌+◌, List, [
 use Rattle.fc_values.specs.declared.builtins.Builtin.{Builtin}
 use Rattle.fc_values.specs.Types.{ValueType}
 use Rattle.fc_values.specs.Values.{LocalValue, IntValue, BoolValue}
-use Rattle.fc_values.specs.Fields.{Entries, AnyValue, ValueLocal, ValueField}
+use Rattle.fc_values.specs.Fields.{Entries, AnyValue, ValueLocal, ValueField, with_entry, restricted}
 use Rattle.fc_values.specs.Builtins.{builtin_value}
 use Rattle.fc_values.specs.Trees.{Tree, Trees, Keep, Done, Then, leaf}
 use Rattle.fc_nodes.specs.Terms.{Literal, Variable, Sense, Uid, NbrLink, ByRep, ByShare, Term, Terms, Plain, Apply, Nbr, Evolve, If, Let, NoMore, More, size}
-use Rattle.alignment.specs.Environments.{Env, child_env, branch_env, restricted}
-use Rattle.share_op.specs.Hearing.{with_entry}
+use Rattle.alignment.specs.Environments.{Env, child_env, branch_env, near_numbers}
 use Rattle.device_eval.specs.Neighbours.{kept_there, weights}
 use Rattle.device_eval.specs.Evaluation.{Situation, Vars, variable_at, own_or}
 
@@ -19,7 +18,7 @@ mutual
     literal : {p : ℕ} {vars : Vars} {env : Env} (t : ValueType) (v : LocalValue) → Evaluates S p (Plain t (Literal v)) vars env (ValueLocal v) leaf
     -- a variable is its value; a field is restricted to the aligned neighbours and the device
     variable : {p : ℕ} {vars : Vars} {env : Env} (t : ValueType) (n : ℕ) (v : AnyValue) → variable_at n vars ≡ Some v
-        → Evaluates S p (Plain t (Variable n)) vars env (restricted S.device env.near v) leaf
+        → Evaluates S p (Plain t (Variable n)) vars env (restricted S.device (near_numbers env.near) v) leaf
     -- an input is that of the copy
     sense : {p : ℕ} {vars : Vars} {env : Env} (t : ValueType) (i : ℕ) (v : LocalValue) → slice_get S.inputs i ≡ Some v
         → Evaluates S p (Plain t (Sense i)) vars env (ValueLocal v) leaf

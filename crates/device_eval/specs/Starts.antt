@@ -1,9 +1,8 @@
 -- What the variable of a `rep` or `share` starts from, out of exports as flat slots.
 use Rattle.std.specs.Prelude.{ℕ}
 use Rattle.fc_values.specs.Values.{LocalValue}
-use Rattle.fc_values.specs.Fields.{AnyValue, ValueLocal, ValueField}
+use Rattle.fc_values.specs.Fields.{AnyValue, ValueLocal, ValueField, with_entry}
 use Rattle.fc_nodes.specs.Terms.{Evolution, ByRep, ByShare}
-use Rattle.share_op.specs.Hearing.{with_entry}
 use Rattle.alignment.specs.Slots.{FlatEnv}
 use Rattle.share_op.specs.Hearing.{own_slot_or, slot_entries}
 

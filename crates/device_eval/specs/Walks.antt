@@ -2,10 +2,10 @@
 use Rattle.std.specs.Prelude.{ℕ, false, ◌≡◌, ◌<◌, ◌≤◌, ◌+◌, List, length, Some, IsSome}
 use Rattle.fc_values.specs.Values.{IntValue, BoolValue, PairValue}
 use Rattle.fc_values.specs.Fields.{AnyValue, ValueLocal, ValueField}
-use Rattle.fc_values.specs.Exports.{SlotValue}
+use Rattle.fc_values.specs.Exports.{SlotValue, slot_at}
 use Rattle.fc_nodes.specs.declared.nodes.Node.{Node}
 use Rattle.fc_nodes.specs.Terms.{Term, kept, kept_before, term_at, Laid}
-use Rattle.fc_nodes.specs.Flat.{slot_at, tree_at, Clear, Marked}
+use Rattle.fc_nodes.specs.Flat.{tree_at, Clear, Marked}
 use Rattle.device_eval.specs.Evaluation.{Situation, Vars, eval_of}
 use Rattle.flat_exports.specs.Layouts.{LayoutValue, IsLayout}
 use Rattle.alignment.specs.Slots.{FlatEnv}

@@ -3,13 +3,13 @@
 ghost use Rattle.std.specs.Prelude.{◌≡◌, ◌<◌, IfOk, OnOk, IsSome, Some, length, map, min, slice_get, slice_index};
 ghost use Rattle.fc_values.specs.Values.{local_of, BoolValue};
 ghost use Rattle.fc_values.specs.Types.{type_of};
-ghost use Rattle.fc_values.specs.Fields.{value_of, values_of, ValueLocal};
+ghost use Rattle.fc_values.specs.Fields.{value_of, values_of, ValueLocal, restricted};
 ghost use Rattle.fc_values.specs.Exports.{slots_of};
 ghost use Rattle.fc_nodes.specs.Terms.{HasNode, OfApply, OfNbr, OfEvolve, ByRep, ByShare, OfIf, OfLet};
 ghost use Rattle.fc_nodes.specs.Program.{IsProgram};
-ghost use Rattle.alignment.specs.Environments.{restricted};
 ghost use Rattle.device_eval.specs.Evaluation.{variable_at, pick};
 ghost use Rattle.flat_exports.specs.Layouts.{IsLayout, number_in};
+ghost use Rattle.alignment.specs.Environments.{near_numbers};
 ghost use Rattle.alignment.specs.References.{flat_of};
 ghost use Rattle.device_eval.specs.Contexts.{situation_in, vars_of};
 ghost use Rattle.device_eval.specs.Walks.{CanAt, DidAt, Stands, IsLocal, IsTruth};
@@ -267,7 +267,7 @@ fn lookup<'a>(vars: &Scope<'a>, binder: u32) -> &'a Value
 
 /// What a variable's value is for the device and the aligned neighbours.
 fn aligned(alloc: Global, value: &Value, device: u32, env: &Env<'_>) -> Result<Value, Memory>
-    ensures { IfOk result (λ v. value_of v ≡ restricted device (flat_of env.now).near (value_of value.now)) }
+    ensures { IfOk result (λ v. value_of v ≡ restricted device (near_numbers (flat_of env.now).near) (value_of value.now)) }
 {
     match value {
         Value::Local(local) => Ok(Value::Local(copy(alloc, local)?)),

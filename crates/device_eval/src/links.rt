@@ -2,9 +2,8 @@
 
 ghost use Rattle.std.specs.Prelude.{◌≡◌, IfOk};
 ghost use Rattle.fc_values.specs.Values.{IntValue};
-ghost use Rattle.fc_values.specs.Fields.{entries_of};
+ghost use Rattle.fc_values.specs.Fields.{entries_of, with_entry};
 ghost use Rattle.alignment.specs.References.{flat_of};
-ghost use Rattle.share_op.specs.Hearing.{with_entry};
 ghost use Rattle.device_eval.specs.Neighbours.{weights};
 
 use alignment::Env;

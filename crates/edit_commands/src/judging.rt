@@ -1,11 +1,8 @@
 //! Edits against the network that the lines before leave.
 
 ghost use Rattle.std.specs.Prelude.{◌≡◌, ◌≤◌, ◌↔◌, IsTrue, map, IfOk, IfErr, OnOk, None, option_map};
-ghost use Rattle.fc_values.specs.Types.{local_type_of, type_of as value_type_of};
 ghost use Rattle.fc_values.specs.Values.{local_of};
-ghost use Rattle.fc_values.specs.BuiltinTypes.{inner as inner_type};
 ghost use Rattle.fc_nodes.specs.Program.{unfolding_of};
-ghost use Rattle.value_trees.specs.Walks.{FitsMain};
 ghost use Rattle.topology.specs.Networks.{device_of, lives};
 ghost use Rattle.topology.specs.Changes.{set_fault, with_input, join_fault, joined, left};
 ghost use Rattle.firing_core.specs.Entries.{edit_of, SetEdit, JoinEdit, LeaveEdit};
@@ -17,22 +14,11 @@ ghost use Rattle.edit_commands.specs.Code.{line_of, LineFits, IsFaultOf, flies_i
 use crate::edits::EditLine;
 use crate::types::{Fault, LineFault};
 use fc_nodes::Unfolded;
-use fc_values::{Local, LocalTy, Memory, Ty, copy, fits};
+use fc_values::{Local, Memory, copy, copy_locals};
 use firing_core::{Core, Edit};
 use std::alloc::Global;
 use topology::{Device, JoinFault, NetFault, Network};
-use value_trees::{KeptFault, from_kept};
-
-/// Copies of local values.
-fn copy_locals(alloc: Global, values: &[Local]) -> Result<Vec<Local>, Memory>
-    ensures { IfOk result (λ v. map local_of v.items ≡ map local_of values.now) }
-{
-    let mut copies = Vec::new(alloc);
-    for value in values {
-        copies.push(copy(alloc, value)?)?;
-    }
-    Ok(copies)
-}
+use value_trees::{KeptFault, fits_main, from_kept};
 
 /// A copy of a device.
 fn copy_device(alloc: Global, device: &Device) -> Result<Device, Memory>
@@ -43,25 +29,6 @@ fn copy_device(alloc: Global, device: &Device) -> Result<Device, Memory>
         id: device.id,
         inputs,
     })
-}
-
-/// The local type of a value or of a field's values.
-fn inner(ty: &Ty) -> &LocalTy
-    ensures { local_type_of result.now ≡ inner_type (value_type_of ty.now) }
-{
-    match ty {
-        Ty::Local(t) => t,
-        Ty::Field(t) => t,
-    }
-}
-
-/// Whether a value fits the type of `main`.
-fn fits_main(program: &Unfolded, value: &Local) -> bool
-    ensures { IsTrue result ↔ FitsMain (unfolding_of program.now) (local_of value.now) }
-{
-    let ceiling = program.declared().ceiling;
-    let main = program.node(0);
-    fits(inner(&main.ty), value, ceiling)
 }
 
 /// Whether a device is known to fly.

@@ -15,6 +15,7 @@ use Rattle.fc_lexer.specs.Kinds.{TokenKind, TokenView, kind_view, token_kind, to
 use Rattle.fc_lexer.specs.Lexes.{IsAlone, StopsAlone, IsLongest, Cut, Lexes, StopsAt, line_at, token_as, token_at, tokens_from}
 use Rattle.fc_lexer.proofs.Longest.{longest, stuck}
 use Rattle.fc_lexer.proofs.OneReading.{never_both, one_list, one_stop}
+use Rattle.fc_values.proofs.Lists.{whole}
 
 -- how far reading has come: pieces up to here, and the tokens among them
 pub record IsReadTo (text : List ℕ) (at line : ℕ) (tokens : List TokenView) : Type 0 where
@@ -61,10 +62,6 @@ line_within text at =
     let e : count_by is_line_feed (take at text) ≤ length (take at text) = count_by-le-length is_line_feed (take at text) in
     let f : length (take at text) ≤ length text = grind (arith, common_steps) in
     omega arith
-
--- the code's slices
-whole : (xs : List ℕ) (at : ℕ) → take (length xs - at) (drop at xs) ≡ drop at xs
-whole xs at = grind (arith, common_steps)
 
 part : (xs : List ℕ) (at n : ℕ) → take (at + n - at) (drop at xs) ≡ take n (drop at xs)
 part xs at n = let e : at + n - at ≡ n = omega arith in ap (λ k. take k (drop at xs)) e

@@ -1,10 +1,12 @@
--- The kids of a node, where its term stands.
-use Rattle.std.proofs.Common.{◌≡◌, ℕ, suc, ◌<◌, ◌+◌, List, [], ◌∷◌, length, refl, sym, ◌∙◌, ap, subst, arith, get_or}
+-- Crates above cite this module: the kids of a node, where its term stands.
+use Rattle.std.proofs.Common.{◌≡◌, ℕ, zero, suc, ◌<◌, ◌+◌, List, [], ◌∷◌, length, refl, sym, ◌∙◌, ap, subst, arith, get_or, Bool, true, false, Option, Some, None}
 use Rattle.fc_values.specs.declared.builtins.Builtin.{Builtin}
-use Rattle.fc_values.specs.Types.{ValueType}
+use Rattle.fc_values.specs.Types.{LocalType, BoolType, ValueType}
 use Rattle.fc_nodes.specs.declared.nodes.Node.{Node}
-use Rattle.fc_nodes.specs.Terms.{Leaf, Evolution, Uid, Term, Terms, Plain, Apply, Nbr, Evolve, If, Let, NoMore, More, size, Sort, OfLeaf, OfApply, OfNbr, OfEvolve, OfIf, OfLet, term_by, terms_by, term_at, HasNode, Laid, AllLaid, places}
+use Rattle.fc_nodes.specs.Terms.{Leaf, Evolution, Uid, Term, Terms, Plain, Apply, Nbr, Evolve, If, Let, NoMore, More, size, Sort, OfLeaf, OfApply, OfNbr, OfEvolve, OfIf, OfLet, term_by, terms_by, term_at, HasNode, Laid, AllLaid, places, kept_type, is_branching}
 use Rattle.fc_nodes.proofs.Places.{AllAbove, term_is, laid_within}
+use Rattle.fc_values.specs.BuiltinTypes.{inner}
+use Rattle.fc_nodes.specs.Places.{StandsAt, StandAfter}
 
 module _ (ns : List Node) (ab : AllAbove ns) where
   mutual
@@ -20,10 +22,6 @@ module _ (ns : List Node) (ab : AllAbove ns) where
     pub laid_terms : (xs : Terms) (p : ℕ) → AllLaid ns p xs → terms_by (term_at ns) (places p xs) ≡ xs
     laid_terms NoMore p l = refl
     laid_terms (More x xs) p l = let e = laid_term x p l.0 in let f = laid_terms xs (p + size x) l.1 in cc
-
--- a node without kids
-pub leaf_is : (ns : List Node) → AllAbove ns → (p : ℕ) (v : Leaf) (t : ValueType) (ks : List ℕ) → HasNode ns p (OfLeaf v) t ks → term_at ns p ≡ Plain t v
-leaf_is ns ab p v t ks h = term_is ns ab p (OfLeaf v) t ks h
 
 -- a node with one kid
 pub record OneKid (ns : List Node) (p : ℕ) (f : Term → Term) (ks : List ℕ) : Type 0 where
@@ -186,3 +184,76 @@ module _ (ns : List Node) (ab : AllAbove ns) where
 
   pub kids_are : (p : ℕ) (s : Sort) (t : ValueType) (ks : List ℕ) → HasNode ns p s t ks → Laid ns p (term_at ns p) → KidsAre ns p (term_at ns p) ks
   kids_are p s t ks h l = kids_as (term_at ns p) p l s t ks h
+
+-- what the node of a term keeps
+abbrev pub own_type : Term → Option LocalType
+own_type (Plain t l) = None
+own_type (Apply t o ts) = None
+own_type (Nbr t a) = Some (inner t)
+own_type (Evolve t e a b) = Some (inner t)
+own_type (If t x a b) = Some BoolType
+own_type (Let t a b) = None
+
+abbrev pub branches : Term → Bool
+branches (Plain t l) = false
+branches (Apply t o ts) = false
+branches (Nbr t a) = false
+branches (Evolve t e a b) = false
+branches (If t x a b) = true
+branches (Let t a b) = false
+
+module _ (ns : List Node) (s : Sort) (t : ValueType) (ks : List ℕ) where
+  pub own_is : (u : Term) (p : ℕ) → HasNode ns p s t ks → Laid ns p u → kept_type s t ≡ own_type u
+  own_is (Plain t' v) p h l = let e : s ≡ OfLeaf v = cc in rw e refl
+  own_is (Apply t' o ts) p h l = let l0 = l.0 in let e : s ≡ OfApply o = cc in rw e refl
+  own_is (Nbr t' a) p h l = let l0 = l.0 in let e : s ≡ OfNbr = cc in let f : t ≡ t' = cc in rw (e, f) refl
+  own_is (Evolve t' v a b) p h l = let l0 = l.0 in let e : s ≡ OfEvolve v = cc in let f : t ≡ t' = cc in rw (e, f) refl
+  own_is (If t' x a b) p h l = let l0 = l.0 in let e : s ≡ OfIf = cc in rw e refl
+  own_is (Let t' a b) p h l = let l0 = l.0 in let e : s ≡ OfLet = cc in rw e refl
+
+  pub branches_is : (u : Term) (p : ℕ) → HasNode ns p s t ks → Laid ns p u → is_branching s ≡ branches u
+  branches_is (Plain t' v) p h l = let e : s ≡ OfLeaf v = cc in rw e refl
+  branches_is (Apply t' o ts) p h l = let l0 = l.0 in let e : s ≡ OfApply o = cc in rw e refl
+  branches_is (Nbr t' a) p h l = let l0 = l.0 in let e : s ≡ OfNbr = cc in rw e refl
+  branches_is (Evolve t' v a b) p h l = let l0 = l.0 in let e : s ≡ OfEvolve v = cc in rw e refl
+  branches_is (If t' x a b) p h l = let l0 = l.0 in let e : s ≡ OfIf = cc in rw e refl
+  branches_is (Let t' a b) p h l = let l0 = l.0 in let e : s ≡ OfLet = cc in rw e refl
+
+pub if_sort : (s : Sort) → is_branching s ≡ true → s ≡ OfIf
+if_sort (OfLeaf l) e = absurd cc
+if_sort (OfApply o) e = absurd cc
+if_sort OfNbr e = absurd cc
+if_sort (OfEvolve v) e = absurd cc
+if_sort OfIf e = refl
+if_sort OfLet e = absurd cc
+
+stand_after : (ns : List Node) (p : ℕ) (ks : List ℕ) → AllStand ns p ks → StandAfter ns p ks
+stand_after ns p [] h = tt
+stand_after ns p (k ∷ ks) h = (h.0, record { within = h.1; laid = h.2 }, stand_after ns p ks h.3)
+
+-- the kids of a node at a place stand after it
+module _ (ns : List Node) (ab : AllAbove ns) (p : ℕ) (st : StandsAt ns p) (s : Sort) (t : ValueType) (ks : List ℕ) (h : HasNode ns p s t ks) where
+  pub kids_stand : StandAfter ns p ks
+  kids_stand = let i = kids_are ns ab p s t ks h st.laid in stand_after ns p ks i.stands
+
+-- the kids of an `if` at a place
+module _ (ns : List Node) (ab : AllAbove ns) (p : ℕ) (st : StandsAt ns p) (s : Sort) (t : ValueType) (ks : List ℕ) (h : HasNode ns p s t ks) (branching : is_branching s ≡ true) where
+  pub three : ThreeKids ns p (If t) ks
+  three = if_laid ns ab p t ks (subst (λ q. HasNode ns p q t ks) (if_sort s branching) h) st.laid
+
+  pub kid_at : (i q : ℕ) → q ≡ get_or ks i q → i < 3 → q ≡ get_or ks i 0
+  kid_at i q e l = let th = three in let long = th.long in read ks i q e (omega (arith, long, l))
+    where
+      read : (ks : List ℕ) (i q : ℕ) → q ≡ get_or ks i q → i < length ks → q ≡ get_or ks i 0
+      read [] i q e l = absurd (omega arith)
+      read (y ∷ ys) zero q e l = e
+      read (y ∷ ys) (suc i) q e l = read ys i q e (omega arith)
+
+  pub kid_stands : (i q : ℕ) → q ≡ get_or ks i q → i < 3 → (p < q) × (q < length ns) × StandsAt ns q
+  kid_stands i q e l = by_index i (kid_at i q e l) l
+    where
+      by_index : (i : ℕ) → q ≡ get_or ks i 0 → i < 3 → (p < q) × (q < length ns) × StandsAt ns q
+      by_index zero e l = let th = three in let f = th.first_is in let w = laid_within ns (get_or ks 0 0) _ th.first in (omega (arith, e, f), omega (arith, e, w), subst (StandsAt ns) (sym e) (record { within = w; laid = th.first }))
+      by_index (suc zero) e l = let th = three in let f = th.second_is in let w = laid_within ns (get_or ks 1 0) _ th.second in (omega (arith, e, f), omega (arith, e, w), subst (StandsAt ns) (sym e) (record { within = w; laid = th.second }))
+      by_index (suc (suc zero)) e l = let th = three in let f = th.third_is in let w = laid_within ns (get_or ks 2 0) _ th.third in (omega (arith, e, f), omega (arith, e, w), subst (StandsAt ns) (sym e) (record { within = w; laid = th.third }))
+      by_index (suc (suc (suc i))) e l = absurd (omega arith)

@@ -1,10 +1,10 @@
 -- Which trees are exports of a program, and which tree a list of slots stands for.
-use Rattle.std.specs.Prelude.{ℕ, suc, true, false, ◌≡◌, ◌<◌, ◌≤◌, ◌+◌, List, [], ◌∷◌, Some, None, slice_index_or as get_or}
+use Rattle.std.specs.Prelude.{ℕ, suc, true, false, ◌≡◌, ◌<◌, ◌≤◌, ◌+◌, List, [], ◌∷◌, Some, None}
 use Rattle.fc_values.specs.Types.{LocalType}
 use Rattle.fc_values.specs.Values.{LocalValue, IntValue, BoolValue, PairValue, Fits, form_of}
 use Rattle.fc_values.specs.BuiltinTypes.{inner}
 use Rattle.fc_values.specs.Trees.{Tree, Trees, Keep, Done, Then, leaf, TreeExport}
-use Rattle.fc_values.specs.Exports.{SlotValue, FlatExport}
+use Rattle.fc_values.specs.Exports.{SlotValue, FlatExport, slot_at}
 use Rattle.fc_nodes.specs.Terms.{Term, Terms, Plain, Apply, Nbr, Evolve, If, Let, NoMore, More, type_of, kept, kept_types}
 use Rattle.fc_nodes.specs.Program.{Unfolding}
 
@@ -58,9 +58,6 @@ abbrev mutual
 pub record IsWellTyped (U : Unfolding) (e : TreeExport) : Type 0 where
   pub value : Fits U.declared.ceiling (inner (type_of U.main)) e.value
   pub tree : FitsTree U.declared.ceiling U.main e.tree
-
-unfoldable pub slot_at : ℕ → List SlotValue → SlotValue
-slot_at k xs = get_or xs k (false, IntValue 0)
 
 -- what a kept truth value picks
 abbrev pub by_truth : {A : Type 0} → LocalValue → A → A → A

@@ -2,3 +2,4 @@ pub mod Terms
 pub mod Typing
 pub mod Program
 pub mod Flat
+pub mod Places

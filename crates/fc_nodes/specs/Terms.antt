@@ -81,6 +81,15 @@ sort_of op.Share = OfEvolve ByShare
 sort_of op.If = OfIf
 sort_of op.Let = OfLet
 
+-- whether a node is an `if`
+abbrev pub is_branching : Sort → Bool
+is_branching (OfLeaf l) = false
+is_branching (OfApply o) = false
+is_branching OfNbr = false
+is_branching (OfEvolve e) = false
+is_branching OfIf = true
+is_branching OfLet = false
+
 -- a node: what it is, its type, and the places of its kids
 pub data View : Type 0 where
   Has : Sort → ValueType → List ℕ → View

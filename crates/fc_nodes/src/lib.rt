@@ -7,6 +7,6 @@ mod program;
 mod tests;
 mod verdicts;
 
-pub use nodes::{Node, Op};
+pub use nodes::{Node, Op, is_if};
 pub use program::Unfolded;
 pub use verdicts::{Reason, Verdict};

@@ -6,6 +6,7 @@ use Rattle.std.proofs.lemmas.Grind.{common_steps}
 use Rattle.edit_commands.specs.Lines.{lines_of, line_size}
 use Rattle.fc_program.specs.Sections.{is_separator, onto_section, sections_from, sections_of}
 use Rattle.edit_commands.proofs.FirstLine.{lines-first}
+use Rattle.fc_values.proofs.Lists.{whole}
 
 -- a first line that is a separator ends an empty section
 at_separator : (text : List ℕ) → 0 < length text → is_separator (take (line_size text) text) ≡ true → sections_of text ≡ [] ∷ sections_of (drop (line_size text) text)
@@ -106,10 +107,6 @@ cut_last input found start at c end =
     ∙ ap (λ l. found ++ l ∷ []) (sym (append-nil (slice_range input start at)))
     ∙ ap (λ l. found ++ onto_section (slice_range input start at) (sections_of l)) (sym done)
     ∙ c.cut
-
--- The same in the words of the code's slices: from at on, and from at to the end of the line.
-whole : (xs : List ℕ) (at : ℕ) → take (length xs - at) (drop at xs) ≡ drop at xs
-whole xs at = grind (arith, common_steps)
 
 line_slice : (xs : List ℕ) (at n : ℕ) → slice_range xs at (at + n) ≡ take n (drop at xs)
 line_slice xs at n = let size : at + n - at ≡ n = omega arith in ap (λ k. take k (drop at xs)) size

@@ -47,6 +47,7 @@ use Rattle.fc_program.specs.Refusals.{Reply, refused, done, log_refusal}
 use Rattle.fc_program.specs.Replays.{Logged, entries_in, first_stop, start_of, row_of, rows_of, replay_text, IsGreatest, where_asked, table_line, RepliesToEntries, stops, leads, RepliesToLog, faulty, entries, RepliesToScene, no_scene, from_scene, IsBookFrom, IsBookOfLog}
 use Rattle.fc_program.specs.ReplayCode.{IsFaultOfLog, IsReplyToFault, stop_of, StopsWithin, Shows}
 use Rattle.fc_program.proofs.Stops.{RunsAreReplays, step_stops, edit_stops}
+use Rattle.fc_values.proofs.Rising.{rises_tail}
 
 -- ---- the start
 looked_up : {X Y Z : Type 0} (f : X → Z) (key : Z → ℕ) (value : Z → Y) (xs : List X) (d : ℕ) → look_up (λ x. key (f x)) (λ x. value (f x)) xs d ≡ look_up key value (map f xs) d
@@ -114,10 +115,6 @@ rows_all U core items rows n w end same =
 rises_skip : (b d : ℕ) (ds : List ℕ) → b < d → Rises (d ∷ ds) → Rises (b ∷ ds)
 rises_skip b d [] less h = tt
 rises_skip b d (e ∷ ds) less h = (omega (arith, h.0), h.1)
-
-rises_tail : (d : ℕ) (ds : List ℕ) → Rises (d ∷ ds) → Rises ds
-rises_tail d [] h = tt
-rises_tail d (e ∷ ds) h = h.1
 
 abbrev owners : List Row → List ℕ
 owners rows = map (λ (r : Row). r.0) rows

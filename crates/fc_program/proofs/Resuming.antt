@@ -8,7 +8,8 @@ use Rattle.std.proofs.lemmas.List.Elements.{All-nil, All-cons}
 use Rattle.fc_values.specs.Trees.{TreeExport}
 use Rattle.fc_nodes.specs.Program.{Unfolding}
 use Rattle.fc_nodes.specs.Flat.{IsWellTyped}
-use Rattle.topology.specs.Networks.{NetDevice, Lives, is_in, numbers}
+use Rattle.topology.specs.Networks.{NetDevice, Lives, numbers}
+use Rattle.fc_values.specs.Fields.{is_in}
 use Rattle.firing_core.specs.Cores.{Core, IsGood}
 use Rattle.firing_core.specs.Starts.{look_up}
 use Rattle.net_json.specs.Tables.{Row}

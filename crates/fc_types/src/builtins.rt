@@ -9,8 +9,8 @@ ghost use Rattle.fc_types.specs.Views.{Gives};
 
 use crate::faults::TypeKind;
 use crate::refusal::Refusal;
-use crate::types::{copy_local_type, inner, leaves_to_nine, same_local_type};
-use fc_values::{Builtin, LocalTy, Ty};
+use crate::types::{copy_local_type, leaves_to_nine, same_local_type};
+use fc_values::{Builtin, LocalTy, Ty, inner};
 use std::alloc::Global;
 
 /// The type of a builtin's value, from the types of its arguments.

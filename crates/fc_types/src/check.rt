@@ -17,9 +17,9 @@ use crate::known::Known;
 use crate::refusal::Refusal;
 use crate::scopes::{Scope, lookup_parameter};
 use crate::typed::Typed;
-use crate::types::{inner, leaves_to_nine, same_types};
+use crate::types::{leaves_to_nine, same_types};
 use fc_syntax::{Decl, Expr, Param, Program};
-use fc_values::{Declared, InputTy, Name, Ty};
+use fc_values::{Declared, InputTy, Name, Ty, inner};
 use std::alloc::Global;
 
 /// The types of a program: the program with what it declares, or its first fault.

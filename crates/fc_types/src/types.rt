@@ -1,7 +1,6 @@
 //! Types: copies, comparison, width.
 
 ghost use Rattle.std.specs.Prelude.{◌≡◌, IfOk, min};
-ghost use Rattle.fc_values.specs.BuiltinTypes.{inner as inner_of};
 ghost use Rattle.fc_values.specs.Types.{leaves, local_type_of, type_of};
 ghost use Rattle.fc_types.specs.Judging.{same_local, same_type};
 
@@ -54,16 +53,6 @@ pub fn same_types(a: &Ty, b: &Ty) -> bool
         (Ty::Local(a), Ty::Local(b)) => same_local_type(a, b),
         (Ty::Field(a), Ty::Field(b)) => same_local_type(a, b),
         _ => false,
-    }
-}
-
-/// The type of a local value, or of a field's values.
-pub fn inner(ty: &Ty) -> &LocalTy
-    ensures { local_type_of result.now ≡ inner_of (type_of ty.now) }
-{
-    match ty {
-        Ty::Local(ty) => ty,
-        Ty::Field(ty) => ty,
     }
 }
 

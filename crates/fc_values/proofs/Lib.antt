@@ -1,3 +1,9 @@
+pub mod Rising
+pub mod Booleans
+pub mod Lists
+pub mod Numbers
+pub mod SlotReads
+pub mod Forms
 pub mod Inversions
 pub mod Folds
 pub mod ByPosition

@@ -1,8 +1,8 @@
 -- Exports as flat slots.
-use Rattle.std.specs.Prelude.{Bool, List, map}
+use Rattle.std.specs.Prelude.{ℕ, Bool, false, List, map, slice_index_or as get_or}
 use Rattle.fc_values.specs.declared.exports.Slot.{Slot}
 use Rattle.fc_values.specs.declared.exports.Export.{Export}
-use Rattle.fc_values.specs.Values.{LocalValue, local_of}
+use Rattle.fc_values.specs.Values.{LocalValue, IntValue, local_of}
 
 -- whether a slot is kept, and its value
 abbrev pub SlotValue : Type 0
@@ -13,6 +13,10 @@ slot_of s = (s.kept, local_of s.value)
 
 abbrev pub slots_of : List Slot → List SlotValue
 slots_of xs = map slot_of xs
+
+-- the slot of a number
+unfoldable pub slot_at : ℕ → List SlotValue → SlotValue
+slot_at k xs = get_or xs k (false, IntValue 0)
 
 -- an export: its value, and a slot for each kept place
 pub record FlatExport : Type 0 where

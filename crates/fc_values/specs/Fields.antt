@@ -1,5 +1,5 @@
 -- Fields, and values of any type.
-use Rattle.std.specs.Prelude.{ℕ, Bool, true, ◌≡◌, ◌<◌, List, [], ◌∷◌, map, nat_eq, nat_lt, ◌&&◌, if◌then◌else◌, Option, Some, None}
+use Rattle.std.specs.Prelude.{ℕ, Bool, true, false, ◌≡◌, ◌<◌, List, [], ◌∷◌, map, filter, nat_eq, nat_lt, ◌&&◌, ◌||◌, if◌then◌else◌, Option, Some, None}
 use Rattle.fc_values.specs.declared.values.Local.{Local}
 use Rattle.fc_values.specs.declared.values.FieldVal.{FieldVal}
 use Rattle.fc_values.specs.declared.values.Value.{Value}
@@ -40,6 +40,26 @@ devices es = map device_of es
 abbrev pub value_at : ℕ → Entries → Option LocalValue
 value_at d [] = None
 value_at d (e ∷ es) = if nat_eq e.0 d then Some e.1 else value_at d es
+
+-- one more entry, in rising order of devices
+abbrev pub with_entry : ℕ → LocalValue → Entries → Entries
+with_entry d v [] = (d, v) ∷ []
+with_entry d v (e ∷ es) = if nat_lt d e.0 then ((d, v) ∷ e ∷ es) else (e ∷ with_entry d v es)
+
+-- whether a number is one of these
+abbrev pub is_in : ℕ → List ℕ → Bool
+is_in d [] = false
+is_in d (n ∷ ns) = nat_eq d n || is_in d ns
+
+-- one more number, in its rising place
+abbrev pub with_number : ℕ → List ℕ → List ℕ
+with_number d [] = d ∷ []
+with_number d (n ∷ ns) = if nat_lt d n then (d ∷ n ∷ ns) else (n ∷ with_number d ns)
+
+-- a field is restricted to a device and to those with these numbers, the aligned neighbours
+abbrev pub restricted : ℕ → List ℕ → AnyValue → AnyValue
+restricted d ns (ValueLocal v) = ValueLocal v
+restricted d ns (ValueField es) = ValueField (filter (λ (e : ℕ × LocalValue). nat_eq e.0 d || is_in e.0 ns) es)
 
 -- the numbers rise
 abbrev pub Rises : List ℕ → Type 0

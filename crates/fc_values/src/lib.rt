@@ -15,8 +15,8 @@ pub use builtins::{Builtin, apply};
 pub use exports::{Export, Slot, Slots, copy_export};
 pub use laws::builtin_has_value;
 pub use memory::Memory;
-pub use types::{Declared, InputDecl, InputTy, LocalTy, Name, Ty, copy_declared};
-pub use values::{FieldVal, Local, Value, compare, copy, fits, overwrite};
+pub use types::{Declared, InputDecl, InputTy, LocalTy, Name, Ty, copy_declared, inner};
+pub use values::{FieldVal, Local, Value, blank_of, compare, copy, copy_locals, fits, overwrite};
 
 #[cfg(test)]
 mod tests;

@@ -1,7 +1,8 @@
 //! Types, and the declarations of a program.
 
 ghost use Rattle.std.specs.Prelude.{◌≡◌, map, IfOk};
-ghost use Rattle.fc_values.specs.Types.{input_of, declarations_of};
+ghost use Rattle.fc_values.specs.BuiltinTypes.{inner as inner_type};
+ghost use Rattle.fc_values.specs.Types.{input_of, declarations_of, local_type_of, type_of};
 
 use crate::memory::Memory;
 use std::alloc::Global;
@@ -19,6 +20,16 @@ pub enum LocalTy {
 pub enum Ty {
     Local(LocalTy),
     Field(LocalTy),
+}
+
+/// The local type of a value, or of a field's values.
+pub fn inner(ty: &Ty) -> &LocalTy
+    ensures { local_type_of result.now ≡ inner_type (type_of ty.now) }
+{
+    match ty {
+        Ty::Local(local) => local,
+        Ty::Field(local) => local,
+    }
 }
 
 /// The type of an input: a truth value, or a whole number from the first to the second.

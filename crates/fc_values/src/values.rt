@@ -1,8 +1,8 @@
 //! Local values, fields, and values of any type.
 
-ghost use Rattle.std.specs.Prelude.{◌≡◌, ◌↔◌, IsTrue, IfOk};
+ghost use Rattle.std.specs.Prelude.{◌≡◌, ◌↔◌, IsTrue, IfOk, map};
 ghost use Rattle.fc_values.specs.Types.{local_type_of};
-ghost use Rattle.fc_values.specs.Values.{local_of, Fits, compare_values, SameForm};
+ghost use Rattle.fc_values.specs.Values.{local_of, form_of, Fits, compare_values, SameForm};
 
 use crate::Memory;
 use crate::types::LocalTy;
@@ -67,6 +67,32 @@ pub fn copy(alloc: Global, value: &Local) -> Result<Local, Memory>
         Local::Pair(a, b) => {
             let first = Box::new(alloc, copy(alloc, a)?)?;
             let second = Box::new(alloc, copy(alloc, b)?)?;
+            Ok(Local::Pair(first, second))
+        }
+    }
+}
+
+/// Copies of values.
+pub fn copy_locals(alloc: Global, values: &[Local]) -> Result<Vec<Local>, Memory>
+    ensures { IfOk result (λ v. map local_of v.items ≡ map local_of values.now) }
+{
+    let mut copies = Vec::with_capacity(alloc, values.len())?;
+    for value in values {
+        copies.push(copy(alloc, value)?)?;
+    }
+    Ok(copies)
+}
+
+/// A value of a type: 0, false, or a pair of such.
+pub fn blank_of(alloc: Global, ty: &LocalTy) -> Result<Local, Memory>
+    ensures { IfOk result (λ v. form_of (local_of v) ≡ local_type_of ty.now) }
+{
+    match ty {
+        LocalTy::Int => Ok(Local::Int(0)),
+        LocalTy::Bool => Ok(Local::Bool(false)),
+        LocalTy::Pair(a, b) => {
+            let first = Box::new(alloc, blank_of(alloc, a)?)?;
+            let second = Box::new(alloc, blank_of(alloc, b)?)?;
             Ok(Local::Pair(first, second))
         }
     }

@@ -14,7 +14,8 @@ use Rattle.value_trees.specs.declared.copies.Snap.{Snap}
 use Rattle.value_trees.specs.Snaps.{tree_of, snap_copy}
 use Rattle.topology.specs.declared.types.NetFault.{NetFault}
 use Rattle.topology.specs.declared.types.NetFault.TheVariants as fault
-use Rattle.topology.specs.Networks.{NetDevice, Network, numbers, is_in, lives, Lives, IsNetwork}
+use Rattle.topology.specs.Networks.{NetDevice, Network, numbers, lives, Lives, IsNetwork}
+use Rattle.fc_values.specs.Fields.{is_in}
 use Rattle.fc_values.specs.declared.types.InputTy.{InputTy}
 use Rattle.fc_values.specs.declared.types.InputTy.TheVariants as input
 use Rattle.fc_values.specs.Types.{Input}
@@ -23,7 +24,8 @@ use Rattle.fc_values.specs.Rows.{IsPairValue}
 use Rattle.topology.specs.Inputs.{input_fault}
 use Rattle.topology.specs.Changes.{insert_device, drop_device, joined, left, link_fault, linked, unlink_fault, unlinked, nth_fault, set_fault, with_input, leave_fault}
 use Rattle.topology.proofs.Changed.{no_fault, linked_network, unlinked_network, input_network, set_none}
-use Rattle.topology.proofs.Lists.{map_insert, insert_prefix, insert_length}
+use Rattle.topology.proofs.Lists.{map_insert}
+use Rattle.fc_values.proofs.Lists.{insert_prefix, insert_length}
 use Rattle.topology.proofs.Devices.{drop_length, put_numbers}
 use Rattle.topology.proofs.NearEach.{map_remove, remove_device}
 use Rattle.firing_core.specs.Entries.{EditValue, LinkEdit, UnlinkEdit, SetEdit, PokeEdit, JoinEdit, LeaveEdit}

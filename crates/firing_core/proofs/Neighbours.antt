@@ -3,14 +3,15 @@ use Rattle.std.proofs.Common.{◌≡◌, ◌≢◌, ℕ, suc, ◌<◌, ◌≤◌
 use Rattle.std.specs.Prelude.{◌||◌}
 use Rattle.std.proofs.lemmas.Bool.{eqb-true}
 use Rattle.fc_values.specs.Types.{Declarations}
-use Rattle.fc_values.specs.Fields.{Rises}
+use Rattle.fc_values.specs.Fields.{Rises, is_in}
 use Rattle.fc_values.specs.Trees.{TreeExport, NearCopy}
 use Rattle.fc_nodes.specs.Program.{Unfolding}
 use Rattle.fc_nodes.specs.Flat.{IsWellTyped}
 use Rattle.fc_values.specs.Inputs.{InputsFit}
 use Rattle.value_trees.specs.Copies.{WhereSome, AllNearFit, near_devices, FitsCopy}
-use Rattle.topology.specs.Networks.{Network, NetDevice, Edge, numbers, is_in, Lives, inputs_in, near_in, near, BeforeAll, LinksFit, DevicesFit, IsNetwork}
+use Rattle.topology.specs.Networks.{Network, NetDevice, Edge, numbers, Lives, inputs_in, near_in, near, BeforeAll, LinksFit, DevicesFit, IsNetwork}
 use Rattle.firing_core.specs.Cores.{Map, near_with, near_copies, copy_of}
+use Rattle.fc_values.proofs.Rising.{rises_tail, strictly}
 
 -- what each neighbour of d is: another device, with a weight in the range
 pub record IsNear (D : Declarations) (d : ℕ) (n : ℕ × ℕ) : Type 0 where
@@ -35,9 +36,6 @@ near_numbers ns = map first_of ns
 rises_cons : (e : ℕ) (ns : List (ℕ × ℕ)) → AllAbove e ns → Rises (map first_of ns) → Rises (e ∷ map first_of ns)
 rises_cons e [] a r = tt
 rises_cons e (n ∷ ns) a r = (a.0, r)
-
-strictly : (a b : ℕ) → a ≤ b → (a ≡ b → ⊥) → a < b
-strictly a b h n = omega arith
 
 -- the later neighbours of an end of a link are above its other end
 above_first : (D : Declarations) (ds : List ℕ) (l : Edge) (ms : List Edge) → l.a < l.b → BeforeAll l ms → LinksFit D ds ms → AllAbove l.b (near_in l.a ms)
@@ -114,13 +112,9 @@ module _ (U : Unfolding) (d : ℕ) (table : Map TreeExport) (typed : (e : ℕ) (
       weaker [] a = tt
       weaker (k ∷ ks) a = let l = r.0 in let h = a.0 in (omega arith, weaker ks a.1)
 
-  rises_rest : (n : ℕ) (ns : List ℕ) → Rises (n ∷ ns) → Rises ns
-  rises_rest n [] r = tt
-  rises_rest n (m ∷ ms) r = r.1
-
   pub copies_rise : (ns : List (ℕ × ℕ)) → Rises (map first_of ns) → Rises (near_devices (near_copies table ns))
   copies_rise [] r = tt
-  copies_rise (n ∷ ns) r = by_export (table n.0) (copies_rise ns (rises_rest n.0 (map first_of ns) r))
+  copies_rise (n ∷ ns) r = by_export (table n.0) (copies_rise ns (rises_tail n.0 (map first_of ns) r))
     where
       by_export : (o : Option TreeExport) → Rises (near_devices (near_copies table ns)) → Rises (near_devices (near_with n o (near_copies table ns)))
       by_export None ih = ih

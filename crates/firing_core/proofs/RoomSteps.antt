@@ -23,19 +23,9 @@ use Rattle.value_trees.proofs.Forms.{fits_form}
 use Rattle.flat_exports.specs.Layouts.{LayoutValue, IsLayout, blank_slots}
 use Rattle.flat_exports.proofs.Blanks.{have_forms}
 use Rattle.firing_core.specs.Rooms.{SpareValue, AllShaped, IsSpare, types_of, declared_types, IsBlank, owns}
+use Rattle.fc_values.proofs.Forms.{same_form}
 
 -- ---- values of one type
-
-pub same_form : (v w : LocalValue) → form_of v ≡ form_of w → SameForm v w
-same_form (IntValue m) (IntValue n) e = tt
-same_form (BoolValue a) (BoolValue b) e = tt
-same_form (PairValue a b) (PairValue c d) e = let f : form_of a ≡ form_of c = cc in let g : form_of b ≡ form_of d = cc in (same_form a c f, same_form b d g)
-same_form (IntValue m) (BoolValue b) e = absurd cc
-same_form (IntValue m) (PairValue c d) e = absurd cc
-same_form (BoolValue a) (IntValue n) e = absurd cc
-same_form (BoolValue a) (PairValue c d) e = absurd cc
-same_form (PairValue a b) (IntValue n) e = absurd cc
-same_form (PairValue a b) (BoolValue c) e = absurd cc
 
 -- values written one after another, up to a place
 pub record WrittenTo (i : ℕ) (xs ys : List Local) : Type 0 where

@@ -7,7 +7,8 @@ use Rattle.std.proofs.Math.Seq.{take-suc}
 use Rattle.fc_values.specs.Trees.{Copy}
 use Rattle.fc_nodes.specs.Program.{Program, Unfolding, unfolding_of}
 use Rattle.topology.specs.declared.types.Device.{Device}
-use Rattle.topology.specs.Networks.{Network, NetDevice, device_of, numbers, is_in, IsNetwork}
+use Rattle.topology.specs.Networks.{Network, NetDevice, device_of, numbers, IsNetwork}
+use Rattle.fc_values.specs.Fields.{is_in}
 use Rattle.firing_core.specs.declared.entries.Entry.TheVariants as entry
 use Rattle.firing_core.specs.Entries.{EntryValue, entry_of, entries_of}
 use Rattle.firing_core.specs.Cores.{Map, put, Core, Run}
@@ -17,14 +18,6 @@ use Rattle.firing_core.proofs.Slots.{Distinct, rises_distinct, slot_none}
 use Rattle.firing_core.proofs.Views.{many_numbers}
 
 -- ---- which devices fly
-
-is_in_append : (d : ℕ) (xs ys : List ℕ) → is_in d (xs ++ ys) ≡ (is_in d xs || is_in d ys)
-is_in_append d [] ys = refl
-is_in_append d (x ∷ xs) ys = by_test (nat_eq d x) (is_in_append d xs ys)
-  where
-    by_test : (b : Bool) → is_in d (xs ++ ys) ≡ (is_in d xs || is_in d ys) → (b || is_in d (xs ++ ys)) ≡ ((b || is_in d xs) || is_in d ys)
-    by_test true ih = refl
-    by_test false ih = ih
 
 fliers_append : (f : Map Copy) (xs ys : List ℕ) → fliers f (xs ++ ys) ≡ fliers f xs ++ fliers f ys
 fliers_append f [] ys = refl

@@ -3,24 +3,15 @@ use Rattle.std.proofs.Common.{◌≡◌, ◌≢◌, ℕ, zero, suc, ◌<◌, Lis
 use Rattle.std.proofs.Math.Path.{fun_ext}
 use Rattle.std.proofs.lemmas.Bool.{eqb-true, eq-eqb}
 use Rattle.std.specs.Prelude.{slice_set, ◌||◌}
-use Rattle.fc_values.specs.Fields.{Rises}
-use Rattle.topology.specs.Networks.{is_in}
+use Rattle.fc_values.specs.Fields.{Rises, is_in}
 use Rattle.firing_core.specs.Cores.{put}
 use Rattle.firing_core.specs.CoreViews.{slot_at}
+use Rattle.fc_values.proofs.Rising.{later_above, rises_tail}
 
 -- no number stands twice
 abbrev pub Distinct : List ℕ → Type 0
 Distinct [] = Unit {0}
 Distinct (i ∷ is) = ((k : ℕ) → k < length is → get_or is k 0 ≢ i) × Distinct is
-
-later_above : (i : ℕ) (is : List ℕ) → Rises (i ∷ is) → (k : ℕ) → k < length is → i < get_or is k 0
-later_above i [] r k h = absurd (omega arith)
-later_above i (j ∷ js) r zero h = r.0
-later_above i (j ∷ js) r (suc k) h = let l = later_above j js r.1 k (omega arith) in omega arith
-
-rises_tail : (i : ℕ) (is : List ℕ) → Rises (i ∷ is) → Rises is
-rises_tail i [] r = tt
-rises_tail i (j ∷ js) r = r.1
 
 pub rises_distinct : (is : List ℕ) → Rises is → Distinct is
 rises_distinct [] r = tt

@@ -1,7 +1,7 @@
 -- Steps as a relation and as a function, and what steps keep.
 use Rattle.std.proofs.Common.{◌≡◌, ℕ, List, [], ◌∷◌, ◌++◌, length, refl, sym, ◌∙◌, ap, subst, Bool, true, false, not, ◌||◌, Option, Some, None, is_some, nat_eq, nat_le, if◌then◌else◌}
 use Rattle.std.proofs.lemmas.Bool.{eqb-true}
-use Rattle.fc_values.specs.Fields.{ValueLocal, ValueField}
+use Rattle.fc_values.specs.Fields.{ValueLocal, ValueField, is_in}
 use Rattle.fc_values.specs.Trees.{TreeExport, Copy}
 use Rattle.fc_nodes.specs.Program.{Unfolding}
 use Rattle.device_eval.specs.Evaluation.{Outcome, eval_of}
@@ -9,7 +9,7 @@ use Rattle.device_eval.specs.Copies.{EvaluatesCopy, situation_of, env_of}
 use Rattle.device_eval.proofs.Agree.{rule_gives, gives_rule}
 use Rattle.topology.specs.declared.types.NetFault.{NetFault}
 use Rattle.topology.specs.declared.types.NetFault.TheVariants as net_fault
-use Rattle.topology.specs.Networks.{numbers, is_in}
+use Rattle.topology.specs.Networks.{numbers}
 use Rattle.topology.specs.Changes.{insert_device, drop_device}
 use Rattle.topology.proofs.Devices.{put_numbers, insert_in, drop_in}
 use Rattle.topology.proofs.Changed.{no_fault}
@@ -18,6 +18,7 @@ use Rattle.firing_core.specs.declared.entries.StepFault.{StepFault}
 use Rattle.topology.specs.Networks.{lives, Lives}
 use Rattle.firing_core.specs.Cores.{Map, put, Core, begun, ended, Ends, Edits, edit_fault, edited, Step, Run, IsGood}
 use Rattle.firing_core.specs.Replays.{export_from, evaluated, begin_fault, end_fault, fault_of, net_fault_of, EntryFits, LogFits, flown, landed, unless, step_of, step, and_replay, replay, FailsAt}
+use Rattle.fc_values.proofs.Booleans.{or_true}
 
 -- a look-up after one write
 pub put_case : {X : Type 0} (P : Option X → Type 0) (f : Map X) (d e : ℕ) (v : Option X) → (e ≡ d → P v) → P (f e) → P (put f d v e)
@@ -43,10 +44,6 @@ ended_fly : (c : Core) (d : ℕ) (x : TreeExport) → FlyThere c → FlyThere (e
 ended_fly c d x fly = record {
   there = λ e s. put_case (λ (v : Option Copy). v ≡ Some s → Lives c.net e) c.flying d e None (λ q r. absurd cc) (fly.there e s);
 }
-
-or_true : (p q : Bool) → q ≡ true → (p || q) ≡ true
-or_true true q e = refl
-or_true false q e = e
 
 pub not_some : {X : Type 0} (o : Option X) → is_some o ≡ false → o ≡ None
 not_some None e = refl

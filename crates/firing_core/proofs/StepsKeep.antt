@@ -8,7 +8,8 @@ use Rattle.fc_nodes.specs.Flat.{IsWellTyped, tree_export}
 use Rattle.value_trees.specs.Copies.{FitsCopy}
 use Rattle.device_eval.specs.Copies.{HasOneExport}
 use Rattle.device_eval.proofs.OneExport.{program_export}
-use Rattle.topology.specs.Networks.{Network, numbers, is_in, lives, Lives, IsNetwork}
+use Rattle.topology.specs.Networks.{Network, numbers, lives, Lives, IsNetwork}
+use Rattle.fc_values.specs.Fields.{is_in}
 use Rattle.topology.specs.Changes.{insert_device}
 use Rattle.topology.proofs.Devices.{put_numbers, insert_in}
 use Rattle.topology.proofs.Changed.{linked_network, unlinked_network, input_network, set_none, joined_network, left_network}
@@ -16,6 +17,7 @@ use Rattle.firing_core.specs.Entries.{EditValue, LinkEdit, UnlinkEdit, SetEdit, 
 use Rattle.firing_core.specs.Cores.{Core, copy_of, begun, ended, Ends, EditFits, edit_fault, edited, Step, Run, GoodExport, GoodFlight, IsGood}
 use Rattle.firing_core.proofs.Neighbours.{copy_fits}
 use Rattle.firing_core.proofs.Steps.{put_case, may_leave, stays}
+use Rattle.fc_values.proofs.Booleans.{or_true}
 
 -- the copy that a begin takes is a good flight
 taken_good : (U : Unfolding) (c : Core) (d e : ℕ) (s : Copy) → IsNetwork c.net → IsGood U c → Lives c.net d → e ≡ d → copy_of c.net c.exports d ≡ s → GoodFlight U c.net e s
@@ -58,10 +60,6 @@ there_export U n m d x h g = record { there = h; typed = g.typed }
 
 there_flight : (U : Unfolding) (n m : Network) (d : ℕ) (s : Copy) → Lives m d → GoodFlight U n d s → GoodFlight U m d s
 there_flight U n m d s h g = record { there = h; names = g.names; fits = g.fits }
-
-or_true : (p q : Bool) → q ≡ true → (p || q) ≡ true
-or_true true q e = refl
-or_true false q e = e
 
 edited_good : (U : Unfolding) (c : Core) (e : EditValue) → IsGood U c → EditFits U e → edit_fault c e ≡ None → IsGood U (edited U c e)
 edited_good U c (LinkEdit a b w) good fits q = record {

@@ -12,7 +12,8 @@ use Rattle.fc_values.specs.Inputs.{InputsFit}
 use Rattle.value_trees.specs.Copies.{FitsCopy}
 use Rattle.value_trees.specs.Snaps.{tree_of, near_copy, snap_copy, NearAreExports, IsSnap}
 use Rattle.topology.specs.declared.types.Device.{Device}
-use Rattle.topology.specs.Networks.{NetDevice, device_of, numbers, is_in, Lives, inputs_in, near}
+use Rattle.topology.specs.Networks.{NetDevice, device_of, numbers, Lives, inputs_in, near}
+use Rattle.fc_values.specs.Fields.{is_in}
 use Rattle.firing_core.specs.Cores.{near_copies, copy_of}
 use Rattle.firing_core.specs.CoreViews.{CoreValue, core_of, program_of, IsCore}
 use Rattle.firing_core.specs.Rooms.{types_of, declared_types}

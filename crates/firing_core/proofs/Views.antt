@@ -10,7 +10,8 @@ use Rattle.fc_nodes.specs.Flat.{IsWellTyped}
 use Rattle.value_trees.specs.declared.copies.Snap.{Snap}
 use Rattle.value_trees.specs.Copies.{WhereSome, FitsCopy}
 use Rattle.value_trees.specs.Snaps.{tree_of, snap_copy, IsExportOf}
-use Rattle.topology.specs.Networks.{NetDevice, numbers, is_in}
+use Rattle.topology.specs.Networks.{NetDevice, numbers}
+use Rattle.fc_values.specs.Fields.{is_in}
 use Rattle.firing_core.specs.Cores.{IsGood}
 use Rattle.firing_core.specs.CoreViews.{CoreValue, core_of, program_of, slot_at, AllExports, AllFlights, FlightOf, IsCore}
 

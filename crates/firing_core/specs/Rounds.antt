@@ -1,6 +1,6 @@
 -- Rounds: stretches of a log in which each device begins a firing and later ends it.
 use Rattle.std.specs.Prelude.{ℕ, zero, suc, Bool, true, false, ◌≡◌, ◌⊎◌, ◌||◌, List, [], ◌∷◌, ◌++◌, if◌then◌else◌}
-use Rattle.topology.specs.Networks.{is_in}
+use Rattle.fc_values.specs.Fields.{is_in}
 use Rattle.firing_core.specs.Entries.{EntryValue, BeginEntry, EndEntry, IdleEntry, EditEntry}
 
 abbrev pub is_edit : EntryValue → Bool

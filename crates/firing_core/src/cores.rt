@@ -3,11 +3,11 @@
 use crate::entries::{Edit, EditFault, StepFault};
 use crate::filling::{export_slots, flight_slots, no_slots, open_slot};
 use crate::rooms::Spare;
-use crate::snaps::{copy_device, copy_exports, copy_flights, copy_locals, copy_own, copy_plain};
+use crate::snaps::{copy_device, copy_exports, copy_flights, copy_own, copy_plain};
 use arrayvec::ArrayVec;
 use device_eval::Fired;
 use fc_nodes::Unfolded;
-use fc_values::{Export, Local, Memory, copy_export};
+use fc_values::{Export, Local, Memory, copy_export, copy_locals};
 use std::alloc::Global;
 use std::marker::Model;
 use std::sync::Arc;

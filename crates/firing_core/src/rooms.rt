@@ -2,7 +2,9 @@
 
 use arrayvec::ArrayVec;
 use fc_nodes::Unfolded;
-use fc_values::{Export, InputDecl, InputTy, Local, LocalTy, Memory, Ty, copy_export, overwrite};
+use fc_values::{
+    Export, InputDecl, InputTy, Local, Memory, blank_of, copy_export, inner, overwrite,
+};
 use flat_exports::{Draft, Layout};
 use std::alloc::Global;
 use std::marker::Model;
@@ -145,8 +147,7 @@ impl Room {
 }
 
 ghost use Rattle.std.specs.Prelude.{◌≡◌, ◌≤◌, ◌+◌, [], IfOk, IfSome, length, map, option_map};
-ghost use Rattle.fc_values.specs.Types.{local_type_of, type_of, input_of, input_type};
-ghost use Rattle.fc_values.specs.BuiltinTypes.{inner as inner_type};
+ghost use Rattle.fc_values.specs.Types.{input_of, input_type};
 ghost use Rattle.fc_values.specs.Values.{local_of, form_of};
 ghost use Rattle.fc_values.specs.Exports.{export_of};
 ghost use Rattle.fc_nodes.specs.Program.{Unfolding, unfolding_of};
@@ -161,33 +162,8 @@ fn blank_export(alloc: Global, program: &Unfolded) -> Result<Export, Memory>
     let layout = Layout::new(alloc, program)?;
     let draft = Draft::new(alloc, &layout)?;
     let main = program.node(0);
-    let value = blank_value(alloc, inner(&main.ty))?;
+    let value = blank_of(alloc, inner(&main.ty))?;
     Ok(draft.finish(value))
-}
-
-/// The local type in a type.
-fn inner(ty: &Ty) -> &LocalTy
-    ensures { local_type_of result.now ≡ inner_type (type_of ty.now) }
-{
-    match ty {
-        Ty::Local(t) => t,
-        Ty::Field(t) => t,
-    }
-}
-
-/// A value of a type.
-fn blank_value(alloc: Global, ty: &LocalTy) -> Result<Local, Memory>
-    ensures { IfOk result (λ v. form_of (local_of v) ≡ local_type_of ty.now) }
-{
-    match ty {
-        LocalTy::Int => Ok(Local::Int(0)),
-        LocalTy::Bool => Ok(Local::Bool(false)),
-        LocalTy::Pair(a, b) => {
-            let first = Box::new(alloc, blank_value(alloc, a)?)?;
-            let second = Box::new(alloc, blank_value(alloc, b)?)?;
-            Ok(Local::Pair(first, second))
-        }
-    }
 }
 
 /// A copy without exports, with a value of its type for each declared input.

@@ -12,21 +12,10 @@ ghost use Rattle.firing_core.specs.CoreViews.{near_view, AllSnaps};
 
 use arrayvec::ArrayVec;
 use fc_nodes::Unfolded;
-use fc_values::{Export, Local, Memory, copy, copy_export};
+use fc_values::{Export, Local, Memory, copy_export, copy_locals};
 use std::alloc::Global;
 use topology::Device;
 use value_trees::{Near, Snap};
-
-/// Copies of local values.
-pub(crate) fn copy_locals(alloc: Global, values: &[Local]) -> Result<Vec<Local>, Memory>
-    ensures { IfOk result (λ v. map local_of v.items ≡ map local_of values.now) }
-{
-    let mut copies = Vec::new(alloc);
-    for value in values {
-        copies.push(copy(alloc, value)?)?;
-    }
-    Ok(copies)
-}
 
 /// A copy of a value that is no pair. It takes no memory.
 pub(crate) fn copy_plain(value: &Local) -> Option<Local>

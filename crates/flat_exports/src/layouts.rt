@@ -1,15 +1,13 @@
 //! Which slot each kept place of a program has.
 
 ghost use Rattle.std.specs.Prelude.{◌≡◌, ◌<◌, ◌^◌, [], ◌∷◌, ◌++◌, IfOk, OnOk, length, option_map, option_to_list};
-ghost use Rattle.fc_values.specs.Types.{local_type_of, type_of};
-ghost use Rattle.fc_values.specs.BuiltinTypes.{inner as inner_type};
 ghost use Rattle.fc_values.specs.Values.{local_of, form_of};
 ghost use Rattle.fc_nodes.specs.Terms.{node_keeps};
 ghost use Rattle.fc_nodes.specs.Program.{IsProgram};
 ghost use Rattle.flat_exports.specs.Layouts.{IsLayout, number_in, forms_of};
 
 use fc_nodes::{Node, Op, Unfolded};
-use fc_values::{Local, LocalTy, Memory, Ty};
+use fc_values::{Local, Memory, blank_of, inner};
 use std::alloc::Global;
 use std::marker::Model;
 
@@ -96,30 +94,5 @@ fn blank(alloc: Global, node: &Node) -> Result<Option<Local>, Memory>
         Op::Nbr | Op::Rep | Op::Share => Ok(Some(blank_of(alloc, inner(&node.ty))?)),
         Op::If => Ok(Some(Local::Bool(false))),
         _ => Ok(None),
-    }
-}
-
-/// The local type in a type.
-fn inner(ty: &Ty) -> &LocalTy
-    ensures { local_type_of result.now ≡ inner_type (type_of ty.now) }
-{
-    match ty {
-        Ty::Local(t) => t,
-        Ty::Field(t) => t,
-    }
-}
-
-/// A value of a type.
-fn blank_of(alloc: Global, ty: &LocalTy) -> Result<Local, Memory>
-    ensures { IfOk result (λ v. form_of (local_of v) ≡ local_type_of ty.now) }
-{
-    match ty {
-        LocalTy::Int => Ok(Local::Int(0)),
-        LocalTy::Bool => Ok(Local::Bool(false)),
-        LocalTy::Pair(a, b) => {
-            let first = Box::new(alloc, blank_of(alloc, a)?)?;
-            let second = Box::new(alloc, blank_of(alloc, b)?)?;
-            Ok(Local::Pair(first, second))
-        }
     }
 }

@@ -3,16 +3,13 @@ use Rattle.std.proofs.Common.{◌≡◌, ℕ, ◌<◌, ◌⊎◌, inl, inr, min,
 use Rattle.std.proofs.lemmas.Bool.{eqb-true, eq-eqb, ne_eqb, leb-true, leb-false}
 use Rattle.std.proofs.lemmas.List.{map-append}
 use Rattle.fc_values.specs.Types.{Declarations}
-use Rattle.topology.specs.Networks.{Edge, is_in, near_in, LinksFit}
+use Rattle.topology.specs.Networks.{Edge, near_in, LinksFit}
+use Rattle.fc_values.specs.Fields.{is_in}
 use Rattle.topology.specs.Changes.{is_pair, has_pair}
 use Rattle.topology.specs.Nearby.{near_numbers}
-
-min_or : (a b : ℕ) → (min a b ≡ a) × (max a b ≡ b) ⊎ (min a b ≡ b) × (max a b ≡ a)
-min_or a b = by_test (nat_le a b) refl
-  where
-    by_test : (q : Bool) → nat_le a b ≡ q → ((min a b ≡ a) × (max a b ≡ b)) ⊎ ((min a b ≡ b) × (max a b ≡ a))
-    by_test true e = let h = leb-true a b e in inl (omega arith, omega arith)
-    by_test false e = let h = leb-false a b e in inr (omega arith, omega arith)
+use Rattle.fc_values.proofs.Rising.{min_or}
+use Rattle.fc_values.proofs.Booleans.{by_iff}
+use Rattle.fc_values.proofs.Numbers.{in_append}
 
 -- the neighbours of a device, one link after another
 near_split : (d : ℕ) (l : Edge) (ls : List Edge) → near_in d (l ∷ ls) ≡ near_in d (l ∷ []) ++ near_in d ls
@@ -22,12 +19,6 @@ near_split d l ls = by_tests (nat_eq l.a d) (nat_eq l.b d)
     by_tests true q = refl
     by_tests false true = refl
     by_tests false false = refl
-
-by_iff : (p q : Bool) → (p ≡ true → q ≡ true) → (q ≡ true → p ≡ true) → p ≡ q
-by_iff true true f g = refl
-by_iff true false f g = sym (f refl)
-by_iff false true f g = g refl
-by_iff false false f g = refl
 
 near_true : (a b : ℕ) (l : Edge) → is_in b (near_numbers (near_in a (l ∷ []))) ≡ true → ((l.a ≡ a) × (l.b ≡ b)) ⊎ ((l.b ≡ a) × (l.a ≡ b))
 near_true a b l t = by_tests (nat_eq l.a a) (nat_eq l.b a) refl refl t
@@ -70,14 +61,6 @@ pair_one a b l o = by_iff (is_in b (near_numbers (near_in a (l ∷ [])))) (is_pa
       | inl e ↦ true_near a b l o (inl (h.0 ∙ e.0, h.1 ∙ e.1))
       | inr e ↦ true_near a b l o (inr (h.1 ∙ e.1, h.0 ∙ e.0))
     ])
-
-pub in_append : (d : ℕ) (xs ys : List ℕ) → is_in d (xs ++ ys) ≡ (is_in d xs || is_in d ys)
-in_append d [] ys = refl
-in_append d (x ∷ xs) ys = by_test (nat_eq d x) (in_append d xs ys)
-  where
-    by_test : (q : Bool) → is_in d (xs ++ ys) ≡ (is_in d xs || is_in d ys) → (q || is_in d (xs ++ ys)) ≡ ((q || is_in d xs) || is_in d ys)
-    by_test true ih = refl
-    by_test false ih = ih
 
 pub near_linked : (D : Declarations) (ds : List ℕ) (a b : ℕ) (ls : List Edge) → LinksFit D ds ls → is_in b (near_numbers (near_in a ls)) ≡ has_pair (min a b) (max a b) ls
 near_linked D ds a b [] f = refl

@@ -2,7 +2,8 @@
 use Rattle.std.proofs.Common.{◌≡◌, ℕ, ◌<◌, min, List, [], ◌∷◌, refl, subst, arith, Bool, true, false, nat_le}
 use Rattle.std.proofs.lemmas.Bool.{ne_eqb, leb-true, leb-false}
 use Rattle.fc_values.specs.Types.{Declarations}
-use Rattle.topology.specs.Networks.{NetDevice, Network, IsNetwork, DevicesFit, numbers, is_in, lives}
+use Rattle.topology.specs.Networks.{NetDevice, Network, IsNetwork, DevicesFit, numbers, lives}
+use Rattle.fc_values.specs.Fields.{is_in}
 
 past : (D : Declarations) (ds : List NetDevice) (d : ℕ) → DevicesFit D ds → 65535 < d → is_in d (numbers ds) ≡ false
 past D [] d f h = refl

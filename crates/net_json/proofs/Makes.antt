@@ -4,17 +4,17 @@ use Rattle.std.specs.Prelude.{if◌then◌else◌}
 use Rattle.std.specs.List.{All}
 use Rattle.std.proofs.lemmas.Bool.{eqb-true, ltb-true, ne_eqb}
 use Rattle.std.proofs.lemmas.List.{length-map}
-use Rattle.fc_values.specs.Fields.{Rises}
+use Rattle.fc_values.specs.Fields.{Rises, is_in}
 use Rattle.fc_values.specs.Types.{Declarations, Input}
 use Rattle.topology.specs.declared.types.Device.{Device}
 use Rattle.topology.specs.declared.types.MakeFault.TheVariants as make
 use Rattle.topology.specs.Inputs.{or_fault}
-use Rattle.topology.specs.Networks.{device_of, numbers, is_in}
+use Rattle.topology.specs.Networks.{device_of, numbers}
 use Rattle.topology.specs.Changes.{twice_fault, devices_fault, make_fault, HaveNumbers, HaveInputs}
 use Rattle.net_json.specs.SceneCode.{DeviceFits}
 use Rattle.net_json.proofs.InputFacts.{inputs_long, inputs_none}
-use Rattle.net_json.proofs.Linked.{in_append}
-use Rattle.net_json.proofs.Risings.{rises_tail, later_above}
+use Rattle.fc_values.proofs.Numbers.{in_append}
+use Rattle.fc_values.proofs.Rising.{rises_tail, later_above}
 
 module _ (is : List Input) where
   abbrev Fit : Device → Type 0

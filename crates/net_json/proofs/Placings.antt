@@ -4,13 +4,13 @@ use Rattle.std.specs.Prelude.{is_some, if◌then◌else◌}
 use Rattle.std.proofs.lemmas.List.{length-append, drop_all}
 use Rattle.fc_values.specs.Types.{ValueType}
 use Rattle.fc_values.specs.Values.{LocalValue, IntValue, BoolValue, PairValue, local_of}
-use Rattle.fc_values.specs.Exports.{SlotValue, FlatExport, slots_of}
+use Rattle.fc_values.specs.Exports.{SlotValue, FlatExport, slots_of, slot_at}
 use Rattle.fc_values.specs.declared.exports.Slot.{Slot}
 use Rattle.fc_values.specs.Trees.{Tree, Keep, Done, Then}
 use Rattle.fc_nodes.specs.declared.nodes.Node.{Node}
 use Rattle.fc_nodes.specs.Terms.{Term, Terms, Plain, Apply, Nbr, Evolve, If, Let, NoMore, More, size, sizes, Sort, Has, view_of, view_keeps, kept, kept_all, kept_type, term_at, HasNode, Laid, AllLaid, WellFormed}
 use Rattle.fc_nodes.specs.Program.{Unfolding}
-use Rattle.fc_nodes.specs.Flat.{slot_at, by_truth, IfTruth, KeepsTruth, FitsTree, FitTrees, tree_at, trees_at, Clear, Marked, AllMarked, tree_export, IsExport}
+use Rattle.fc_nodes.specs.Flat.{by_truth, IfTruth, KeepsTruth, FitsTree, FitTrees, tree_at, trees_at, Clear, Marked, AllMarked, tree_export, IsExport}
 use Rattle.fc_nodes.proofs.Kept.{kept_long}
 use Rattle.value_trees.specs.SlotFits.{truth_in}
 use Rattle.value_trees.proofs.Forms.{have_long}

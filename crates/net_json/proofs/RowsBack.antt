@@ -5,7 +5,7 @@ use Rattle.std.specs.Prelude.{codes}
 use Rattle.std.proofs.lemmas.Bool.{lt-ltb, ne_eqb}
 use Rattle.serde_json.specs.View.{items_of}
 use Rattle.serde_json.proofs.OnLiterals.{serde_json_on_literals}
-use Rattle.fc_values.specs.Fields.{Rises}
+use Rattle.fc_values.specs.Fields.{Rises, is_in}
 use Rattle.fc_values.specs.Trees.{TreeExport}
 use Rattle.fc_values.specs.Types.{LocalType, IntType, BoolType, PairType}
 use Rattle.fc_values.specs.Values.{LocalValue, IntValue, BoolValue, PairValue, Fits}
@@ -14,8 +14,8 @@ use Rattle.fc_nodes.specs.Terms.{type_of, Term, Terms, Plain, Apply, Nbr, Evolve
 use Rattle.fc_nodes.specs.Program.{Unfolding}
 use Rattle.fc_nodes.specs.Flat.{IsWellTyped}
 use Rattle.value_trees.proofs.ReadBack.{type_had}
-use Rattle.topology.specs.Networks.{Network, Lives, is_in}
-use Rattle.topology.specs.Changes.{insert_after}
+use Rattle.topology.specs.Networks.{Network, Lives}
+use Rattle.fc_values.specs.Lists.{insert_after}
 use Rattle.net_json.specs.Reading.{value_of}
 use Rattle.net_json.specs.Judging.{Judged, Accepted, and_then, in_turn, gathered, at_index, at_member}
 use Rattle.net_json.specs.KeptItems.{KeptItem, placed_item, take_tree, kept_judged, item_of_places}
@@ -23,7 +23,7 @@ use Rattle.net_json.specs.Exports.{whole_export, export_judged}
 use Rattle.net_json.specs.Tables.{Row, row_number, row_form, row_judged, rows_judged, second_format}
 use Rattle.net_json.specs.TableTexts.{value_data, placed, placed_data, row_data, table_data}
 use Rattle.net_json.specs.ReadingBack.{TablesReadBack}
-use Rattle.net_json.proofs.Risings.{rises_tail}
+use Rattle.fc_values.proofs.Rising.{rises_tail}
 use Rattle.fc_nodes.proofs.NarrowTypes.{Keeps, AllKeep}
 use Rattle.net_json.proofs.TakenBack.{AllAre, items, tree_back}
 

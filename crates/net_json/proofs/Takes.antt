@@ -6,15 +6,14 @@ use Rattle.fc_values.specs.Types.{LocalType, ValueType, BoolType}
 use Rattle.fc_values.specs.Values.{LocalValue, Fits}
 use Rattle.fc_values.specs.BuiltinTypes.{inner}
 use Rattle.fc_values.specs.Trees.{Keep, Done, Then}
-use Rattle.fc_nodes.specs.Terms.{Term, Terms, Plain, Apply, Nbr, Evolve, If, Let, NoMore, More, size, Sort, term_at, HasNode, AllLaid, places, kept_type}
+use Rattle.fc_nodes.specs.Terms.{Term, Terms, Plain, Apply, Nbr, Evolve, If, Let, NoMore, More, size, Sort, term_at, HasNode, AllLaid, places, kept_type, is_branching}
 use Rattle.fc_nodes.specs.Program.{Program}
 use Rattle.fc_nodes.proofs.Places.{AllAbove, laid_within}
-use Rattle.fc_nodes.proofs.Kids.{kids_of, kids_are, laid_term}
+use Rattle.fc_nodes.proofs.Kids.{kids_of, kids_are, laid_term, own_type, branches, own_is, branches_is, three, kid_at}
 use Rattle.value_trees.specs.KeptReads.{has_type}
-use Rattle.value_trees.specs.SlotFits.{is_branching, truth_in}
-use Rattle.value_trees.specs.Walks.{StandsAt, StandAfter}
+use Rattle.value_trees.specs.SlotFits.{truth_in}
+use Rattle.fc_nodes.specs.Places.{StandsAt, StandAfter}
 use Rattle.value_trees.proofs.ReadBack.{type_had, had_type}
-use Rattle.value_trees.proofs.WalkSteps.{own_type, branches, own_is, branches_is, three, kid_at}
 use Rattle.net_json.specs.KeptItems.{KeptItem, names_place, Taken, Took, Misfit, take_then, take_value, one_kid, two_kids, take_tree, take_trees}
 use Rattle.net_json.specs.Leavings.{Leaving, Leaves, Misses, leaving, and_leaving, own_leaving, leaving_at, kids_leaving, branch_in}
 
@@ -119,29 +118,29 @@ module _ (P : Program) (ab : AllAbove P.nodes) where
     -- ---- an `if`
     module _ (branching : is_branching s ≡ true) (xs : List KeptItem) where
       if_is : term_at P.nodes p ≡ If t (term_at P.nodes (get_or ks 0 0)) (term_at P.nodes (get_or ks 1 0)) (term_at P.nodes (get_or ks 2 0))
-      if_is = let th = three P.nodes ab p st s t ks h branching true 0 0 [] in th.term
+      if_is = let th = three P.nodes ab p st s t ks h branching in th.term
 
       pub three_long : length ks ≡ 3
-      three_long = let th = three P.nodes ab p st s t ks h branching true 0 0 [] in th.long
+      three_long = let th = three P.nodes ab p st s t ks h branching in th.long
 
       pub first_at : (q : ℕ) → q ≡ get_or ks 0 q → q ≡ get_or ks 0 0
-      first_at q e = kid_at P.nodes ab p st s t ks h branching true 0 0 [] 0 q e (omega arith)
+      first_at q e = kid_at P.nodes ab p st s t ks h branching 0 q e (omega arith)
 
       pub first_stands : (p < get_or ks 0 0) × (get_or ks 0 0 < length P.nodes) × StandsAt P.nodes (get_or ks 0 0)
       first_stands =
-          let th = three P.nodes ab p st s t ks h branching true 0 0 [] in
+          let th = three P.nodes ab p st s t ks h branching in
           let f = th.first_is in
           let w = laid_within P.nodes (get_or ks 0 0) _ th.first in
           (omega (arith, f), w, record { within = w; laid = th.first })
 
       pub branch_stands : (truth : Bool) → (p < branch_in ks truth) × (branch_in ks truth < length P.nodes) × StandsAt P.nodes (branch_in ks truth)
       branch_stands true =
-          let th = three P.nodes ab p st s t ks h branching true 0 0 [] in
+          let th = three P.nodes ab p st s t ks h branching in
           let f = th.second_is in
           let w = laid_within P.nodes (get_or ks 1 0) _ th.second in
           (omega (arith, f), w, record { within = w; laid = th.second })
       branch_stands false =
-          let th = three P.nodes ab p st s t ks h branching true 0 0 [] in
+          let th = three P.nodes ab p st s t ks h branching in
           let f = th.third_is in
           let w = laid_within P.nodes (get_or ks 2 0) _ th.third in
           (omega (arith, f), w, record { within = w; laid = th.third })
@@ -158,7 +157,7 @@ module _ (P : Program) (ab : AllAbove P.nodes) where
         if_leaves : leaving_at P p xs ≡ and_leaving (leaving_at P (get_or ks 0 0) ys) (λ zs. leaving_at P (branch_in ks truth) zs)
         if_leaves =
             let c = P.declared.ceiling in
-            let th = three P.nodes ab p st s t ks h branching true 0 0 [] in
+            let th = three P.nodes ab p st s t ks h branching in
             let i0 : get_or ks 0 0 ≡ suc p = th.first_is in
             let i1 : get_or ks 1 0 ≡ suc p + size (term_at P.nodes (get_or ks 0 0)) = th.second_is in
             let i2 : get_or ks 2 0 ≡ suc p + size (term_at P.nodes (get_or ks 0 0)) + size (term_at P.nodes (get_or ks 1 0)) = th.third_is in

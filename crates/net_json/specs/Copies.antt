@@ -7,7 +7,8 @@ use Rattle.fc_values.specs.Values.{LocalValue}
 use Rattle.fc_values.specs.Trees.{TreeExport, NearCopy, Copy}
 use Rattle.fc_nodes.specs.Program.{Unfolding}
 use Rattle.topology.specs.declared.types.NetFault.TheVariants as fault
-use Rattle.topology.specs.Networks.{Network, is_in}
+use Rattle.topology.specs.Networks.{Network}
+use Rattle.fc_values.specs.Fields.{is_in}
 use Rattle.topology.specs.Changes.{in_metric}
 use Rattle.net_json.specs.Judging.{Judged, Accepted, Misshaped, BadNetwork, and_then, given, require, gather, at_member}
 use Rattle.net_json.specs.Reading.{whole, value_of, two_members, four_members, size_of, count_items}

@@ -3,7 +3,8 @@ use Rattle.std.specs.Prelude.{ℕ, ◌&&◌, List, nat_le, nat_eq, not, codes}
 use Rattle.serde_json.specs.Data.{Data, Items}
 use Rattle.fc_values.specs.Types.{Input}
 use Rattle.topology.specs.declared.types.NetFault.TheVariants as fault
-use Rattle.topology.specs.Networks.{NetDevice, Network, is_in, lives}
+use Rattle.topology.specs.Networks.{NetDevice, Network, lives}
+use Rattle.fc_values.specs.Fields.{is_in}
 use Rattle.net_json.specs.Judging.{Judged, Accepted, Misshaped, BadNetwork, TooManyDevices, and_then, given, require, gather, at_member}
 use Rattle.net_json.specs.Reading.{whole, two_members, size_of, count_items}
 use Rattle.net_json.specs.Inputs.{inputs_judged}

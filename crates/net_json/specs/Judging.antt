@@ -2,7 +2,7 @@
 use Rattle.std.specs.Prelude.{ℕ, Bool, ◌≡◌, ◌+◌, List, [], ◌∷◌, ◌++◌, Option, Some, None, if◌then◌else◌, decimal, map, nat_lt}
 use Rattle.serde_json.specs.Data.{Data, Items, no_items, item}
 use Rattle.topology.specs.declared.types.NetFault.{NetFault}
-use Rattle.topology.specs.Changes.{insert_after}
+use Rattle.fc_values.specs.Lists.{insert_after}
 use Rattle.net_json.specs.declared.types.JsonFault.{JsonFault}
 use Rattle.net_json.specs.declared.types.JsonFault.TheVariants as fault
 

@@ -15,10 +15,10 @@ ghost use Rattle.net_json.specs.KeptCode.{kept_of, item_by};
 ghost use Rattle.net_json.specs.Exports.{whole_export, export_judged};
 
 use crate::kept::{Format, Item, read_items};
-use crate::misfits::{inner, misfit};
+use crate::misfits::misfit;
 use crate::types::{JsonFault, Path};
 use fc_nodes::Unfolded;
-use fc_values::{Export, Local, Memory, fits};
+use fc_values::{Export, Local, Memory, fits, inner};
 use serde_json::Value;
 use std::alloc::Global;
 use value_trees::{KeptFault, from_kept};

@@ -2,7 +2,8 @@
 
 ghost use Rattle.std.specs.Prelude.{◌≡◌, IfOk, IfErr, OnOk, option_map};
 ghost use Rattle.serde_json.specs.View.{view, items_view};
-ghost use Rattle.topology.specs.Networks.{IsNetwork, is_in};
+ghost use Rattle.topology.specs.Networks.{IsNetwork};
+ghost use Rattle.fc_values.specs.Fields.{is_in};
 ghost use Rattle.topology.specs.Nearby.{near_numbers};
 ghost use Rattle.topology.specs.Changes.{are_linked};
 ghost use Rattle.net_json.specs.Judging.{Accepted, RefusedWith};

@@ -1,20 +1,19 @@
 //! Where the items of a kept list misfit a program.
 
 ghost use Rattle.std.specs.Prelude.{◌≡◌, ◌<◌, MatchResult, map, length, Some, true};
-ghost use Rattle.fc_values.specs.Types.{local_type_of, type_of, BoolType};
-ghost use Rattle.fc_values.specs.BuiltinTypes.{inner as inner_type};
+ghost use Rattle.fc_values.specs.Types.{local_type_of, BoolType};
 ghost use Rattle.fc_values.specs.Values.{local_of};
-ghost use Rattle.fc_nodes.specs.Terms.{view_at, view_of, sort_of, node_keeps};
+ghost use Rattle.fc_nodes.specs.Terms.{view_at, view_of, sort_of, node_keeps, is_branching};
 ghost use Rattle.fc_nodes.specs.Program.{unfolding_of, IsProgram};
-ghost use Rattle.value_trees.specs.SlotFits.{is_branching, truth_in};
-ghost use Rattle.value_trees.specs.Walks.{StandsAt, StandAfter};
+ghost use Rattle.value_trees.specs.SlotFits.{truth_in};
+ghost use Rattle.fc_nodes.specs.Places.{StandsAt, StandAfter};
 ghost use Rattle.net_json.specs.KeptItems.{Took, Misfit, take_value, names_place};
 ghost use Rattle.net_json.specs.KeptCode.{kept_of};
 ghost use Rattle.net_json.specs.Leavings.{Leaves, Misses, own_leaving, leaving_at, kids_leaving, branch_in, misfit_among};
 
 use crate::kept::Item;
-use fc_nodes::{Node, Op, Unfolded};
-use fc_values::{Local, LocalTy, Ty, fits};
+use fc_nodes::{Node, Op, Unfolded, is_if};
+use fc_values::{Local, LocalTy, fits, inner};
 
 /// The first place whose item is missing, names another place or misfits; where items are left, the number of nodes.
 pub(crate) fn misfit(program: &Unfolded, items: &[Item]) -> Option<u32>
@@ -134,26 +133,6 @@ fn names(place: u32, named: Option<u64>) -> bool
     match named {
         Some(other) => other == place as u64,
         None => true,
-    }
-}
-
-/// The local type in a type.
-pub(crate) fn inner(ty: &Ty) -> &LocalTy
-    ensures { local_type_of result.now ≡ inner_type (type_of ty.now) }
-{
-    match ty {
-        Ty::Local(t) => t,
-        Ty::Field(t) => t,
-    }
-}
-
-/// Whether a node is an `if`.
-fn is_if(node: &Node) -> bool
-    ensures { result ≡ is_branching (sort_of node.now.op) }
-{
-    match &node.op {
-        Op::If => true,
-        _ => false,
     }
 }
 

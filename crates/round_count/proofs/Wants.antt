@@ -3,7 +3,7 @@ use Rattle.std.proofs.Common.{◌≡◌, ℕ, zero, suc, Bool, true, false, nat_
 use mathlib.Core.Logic.{⊎_elim}
 use Rattle.firing_core.specs.Entries.{EntryValue, BeginEntry, EndEntry, IdleEntry, EditEntry}
 use Rattle.firing_core.specs.Rounds.{is_edit, HasEnd, HasFiring}
-use Rattle.topology.specs.Networks.{is_in}
+use Rattle.fc_values.specs.Fields.{is_in}
 use Rattle.round_count.specs.Marks.{wanting, moved, noted}
 
 -- what a device wants comes in a stretch: a firing, the end of one, or nothing

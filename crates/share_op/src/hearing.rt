@@ -2,11 +2,11 @@
 
 ghost use Rattle.std.specs.Prelude.{◌≡◌, ◌<◌, IfOk, length};
 ghost use Rattle.fc_values.specs.Values.{local_of};
-ghost use Rattle.fc_values.specs.Fields.{entries_of};
-ghost use Rattle.fc_values.specs.Exports.{slots_of};
-ghost use Rattle.alignment.specs.Slots.{OwnHas, NearHave, slot_in};
+ghost use Rattle.fc_values.specs.Fields.{entries_of, with_entry};
+ghost use Rattle.fc_values.specs.Exports.{slots_of, slot_at};
+ghost use Rattle.alignment.specs.Slots.{OwnHas, NearHave};
 ghost use Rattle.alignment.specs.References.{flat_of};
-ghost use Rattle.share_op.specs.Hearing.{with_entry, slot_entries, own_slot_or};
+ghost use Rattle.share_op.specs.Hearing.{slot_entries, own_slot_or};
 
 use alignment::Env;
 use fc_values::{FieldVal, Local, Memory, Slots, copy};
@@ -71,7 +71,7 @@ pub fn heard_with(
 /// The value in a slot.
 fn slot_value(slots: &Slots, slot: u32) -> &Local
     requires { slot < length (slots_of slots.now.list.items) }
-    ensures { local_of result.now ≡ (slot_in slot (slots_of slots.now.list.items)).1 }
+    ensures { local_of result.now ≡ (slot_at slot (slots_of slots.now.list.items)).1 }
 {
     &slots.list[slot as usize].value
 }

@@ -2,19 +2,20 @@
 use Rattle.std.proofs.Common.{◌≡◌, ◌≢◌, ℕ, ◌+◌, ◌<◌, ◌≤◌, ◌⊎◌, inl, inr, min, max, List, [], ◌∷◌, length, refl, sym, ◌∙◌, ap, subst, arith, Bool, true, false, not, nat_eq, nat_lt, nat_le, if◌then◌else◌, ◌&&◌, ◌||◌, Some, None}
 use Rattle.std.proofs.lemmas.Bool.{eqb-true, eqb-false, leb-true, leb-false}
 use Rattle.fc_values.specs.Types.{Declarations}
-use Rattle.fc_values.specs.Fields.{Rises}
+use Rattle.fc_values.specs.Fields.{Rises, is_in}
 use Rattle.fc_values.specs.Values.{LocalValue}
 use Rattle.topology.specs.declared.types.NetFault.{NetFault}
 use Rattle.topology.specs.declared.types.NetFault.TheVariants as fault
 use Rattle.fc_values.specs.Inputs.{InputsFit}
 use Rattle.topology.specs.Inputs.{inputs_fault}
-use Rattle.topology.specs.Networks.{NetDevice, Edge, Network, numbers, is_in, lives, near_in, near, LinkFits, LinksFit, IsNetwork}
+use Rattle.topology.specs.Networks.{NetDevice, Edge, Network, numbers, lives, near_in, near, LinkFits, LinksFit, IsNetwork}
 use Rattle.topology.specs.Changes.{first_fault, is_pair, touches, has_pair, drop_pair, drop_links, put_edge, pair_edge, are_linked, is_full, in_metric, insert_device, drop_device, link_fault, linked, unlink_fault, unlinked, nth_fault, set_fault, with_input, join_fault, joined, leave_fault, left}
-use Rattle.topology.proofs.Lists.{insert_length}
-use Rattle.topology.proofs.Neighbours.{min_or}
+use Rattle.fc_values.proofs.Lists.{insert_length}
+use Rattle.fc_values.proofs.Rising.{min_or}
 use Rattle.topology.proofs.Links.{count, count_is, count_one, count_filter, count_insert, count_drop, filter_fit, insert_fit, no_pair_left}
 use Rattle.topology.proofs.NearChanges.{near_put_other}
 use Rattle.topology.proofs.Devices.{or_none, inputs_none, insert_in, insert_rises, insert_devices_fit, drop_in, drop_rises, drop_devices_fit, drop_length, put_numbers, put_length, put_devices_fit}
+use Rattle.fc_values.proofs.Booleans.{or_true}
 
 -- ---- no fault
 
@@ -206,10 +207,6 @@ links_over D ds es [] k f = tt
 links_over D ds es (l ∷ ls) k f =
     let h = f.0 in
     (record { order = h.order; from = k l.a h.from; to = k l.b h.to; above = h.above; below = h.below }, f.1, links_over D ds es ls k f.2)
-
-or_true : (p q : Bool) → q ≡ true → (p || q) ≡ true
-or_true true q e = refl
-or_true false q e = e
 
 pub joined_network : (n : Network) (x : NetDevice) → IsNetwork n → x.id ≤ 65535 → join_fault n x ≡ None → IsNetwork (joined n x)
 joined_network n x net small e =

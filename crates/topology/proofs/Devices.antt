@@ -4,13 +4,15 @@ use Rattle.std.proofs.lemmas.Bool.{eqb-true, eqb-false, ltb-true, ltb-false, leb
 use Rattle.fc_values.specs.declared.types.InputTy.{InputTy}
 use Rattle.fc_values.specs.declared.types.InputTy.TheVariants as input
 use Rattle.fc_values.specs.Types.{Declarations, Input}
-use Rattle.fc_values.specs.Fields.{Rises}
+use Rattle.fc_values.specs.Fields.{Rises, is_in}
 use Rattle.fc_values.specs.Values.{LocalValue, IntValue, BoolValue, PairValue}
 use Rattle.topology.specs.declared.types.NetFault.TheVariants as fault
 use Rattle.fc_values.specs.Inputs.{InputFits, InputsFit}
 use Rattle.topology.specs.Inputs.{input_fault, inputs_fault, or_fault}
-use Rattle.topology.specs.Networks.{NetDevice, numbers, is_in, DevicesFit}
+use Rattle.topology.specs.Networks.{NetDevice, numbers, DevicesFit}
 use Rattle.topology.specs.Changes.{insert_device, drop_device, put_input, nth_fault}
+use Rattle.fc_values.proofs.Rising.{rises_tail, later_above, rises_weaker}
+use Rattle.fc_values.proofs.Booleans.{or_no}
 
 -- ---- inputs
 
@@ -52,22 +54,6 @@ nth_put (x ∷ xs) (u ∷ us) zero v f e = (input_none x.type v e, f.1)
 nth_put (x ∷ xs) (u ∷ us) (suc i) v f e = (f.0, nth_put xs us i v f.1 e)
 
 -- ---- rising numbers
-
-pub rises_tail : (i : ℕ) (is : List ℕ) → Rises (i ∷ is) → Rises is
-rises_tail i [] r = tt
-rises_tail i (j ∷ js) r = r.1
-
-pub later_above : (i : ℕ) (is : List ℕ) → Rises (i ∷ is) → (k : ℕ) → k < length is → i < get_or is k 0
-later_above i [] r k h = absurd (omega arith)
-later_above i (j ∷ js) r zero h = r.0
-later_above i (j ∷ js) r (suc k) h = let l = later_above j js r.1 k (omega arith) in omega arith
-
-pub rises_at : (is : List ℕ) → Rises is → (i j : ℕ) → i < j → j < length is → get_or is i 0 < get_or is j 0
-rises_at [] r i j h l = absurd (omega arith)
-rises_at (k ∷ ks) r zero zero h l = absurd (omega arith)
-rises_at (k ∷ ks) r zero (suc j) h l = later_above k ks r j (omega arith)
-rises_at (k ∷ ks) r (suc i) zero h l = absurd (omega arith)
-rises_at (k ∷ ks) r (suc i) (suc j) h l = rises_at ks (rises_tail k ks r) i j (omega arith) (omega arith)
 
 -- a number that is there has a place
 pub in_at : (d : ℕ) (is : List ℕ) → is_in d is ≡ true → (i : ℕ) × (i < length is) × (get_or is i 0 ≡ d)
@@ -112,10 +98,6 @@ rises_insert_tail m x (n ∷ ns) h r k = by_test (nat_lt n.id x.id) k
     by_test true k = (r.0, k)
     by_test false k = (h, k)
 
-or_no : (p q : Bool) → (p || q) ≡ false → (p ≡ false) × (q ≡ false)
-or_no true q e = absurd (cc)
-or_no false q e = (refl, e)
-
 pub insert_rises : (x : NetDevice) (ns : List NetDevice) → Rises (numbers ns) → is_in x.id (numbers ns) ≡ false → Rises (numbers (insert_device x ns))
 insert_rises x [] r e = tt
 insert_rises x (n ∷ ns) r e =
@@ -151,10 +133,6 @@ drop_gone d (n ∷ ns) = by_test (nat_eq d n.id) refl (drop_gone d ns)
     by_test : (q : Bool) → nat_eq d n.id ≡ q → is_in d (numbers (drop_device d ns)) ≡ false → is_in d (numbers (cond (not q) (n ∷ drop_device d ns) (drop_device d ns))) ≡ false
     by_test true t ih = ih
     by_test false t ih = rw t ih
-
-rises_weaker : (m n : ℕ) (is : List ℕ) → m < n → Rises (n ∷ is) → Rises (m ∷ is)
-rises_weaker m n [] h r = tt
-rises_weaker m n (i ∷ is) h r = let k = r.0 in (omega arith, r.1)
 
 drop_rises_from : (d m : ℕ) (ns : List NetDevice) → Rises (m ∷ numbers ns) → Rises (m ∷ numbers (drop_device d ns))
 drop_rises_from d m [] r = tt

@@ -8,7 +8,8 @@ use Rattle.fc_values.specs.Values.{LocalValue}
 use Rattle.topology.specs.Networks.{NetDevice, Edge, Network, numbers, near_in, near}
 use Rattle.topology.specs.Changes.{put_edge, pair_edge, drop_links, insert_device, link_fault, linked, unlinked, nth_fault, with_input, join_fault, joined, leave_fault, left}
 use Rattle.topology.specs.Nearby.{near_each, items_of, drop_near, insert_near, AtPlace, AtEnds, IsKept}
-use Rattle.topology.proofs.Lists.{insert_length, map_insert}
+use Rattle.topology.proofs.Lists.{map_insert}
+use Rattle.fc_values.proofs.Lists.{insert_length}
 use Rattle.topology.proofs.Rooms.{few_links}
 use Rattle.topology.proofs.Devices.{put_numbers, put_length, drop_length}
 use Rattle.topology.proofs.Changed.{can_link, link_fits, linked_network, unlinked_network, input_network, can_join, joined_network, can_leave, left_network}

@@ -4,7 +4,8 @@ use Rattle.std.specs.List.{filter}
 use Rattle.std.proofs.lemmas.Bool.{eqb-true, eqb-false, ltb-true, ltb-false}
 use Rattle.fc_values.specs.Types.{Declarations}
 use Rattle.topology.specs.Networks.{Edge, near_in, Before, BeforeAll, IsRisingLinks, LinkFits, LinksFit}
-use Rattle.topology.specs.Changes.{is_pair, is_before, has_pair, drop_pair, insert_after, insert_edge}
+use Rattle.topology.specs.Changes.{is_pair, is_before, has_pair, drop_pair, insert_edge}
+use Rattle.fc_values.specs.Lists.{insert_after}
 use Rattle.topology.proofs.Neighbours.{near_split}
 
 -- ---- order

@@ -2,7 +2,7 @@
 use Rattle.std.proofs.Common.{◌≡◌, ℕ, zero, suc, ◌+◌, ◌≤◌, List, [], ◌∷◌, length, map, refl, ◌∙◌, ap, arith, Bool, true, false, cond}
 use Rattle.std.specs.List.{insert, filter, prefix_len}
 use Rattle.std.specs.List.Sorted.{IsPartitionPoint}
-use Rattle.topology.specs.Changes.{insert_after}
+use Rattle.fc_values.specs.Lists.{insert_after}
 
 -- how many elements in front pass a test
 abbrev pub front : {X : Type 0} → (X → Bool) → List X → ℕ
@@ -42,15 +42,6 @@ insert_front p x (y ∷ ys) = by_test (p y) (insert_front p x ys)
     by_test true ih = ap (λ zs. y ∷ zs) ih
     by_test false ih = refl
 
--- of elements and of their images
-pub insert_map : {X Y : Type 0} (f : X → Y) (p : Y → Bool) (x : X) (xs : List X) → map f (insert_after (λ y. p (f y)) x xs) ≡ insert_after p (f x) (map f xs)
-insert_map f p x [] = refl
-insert_map f p x (y ∷ ys) = by_test (p (f y)) (insert_map f p x ys)
-  where
-    by_test : (b : Bool) → map f (insert_after (λ y. p (f y)) x ys) ≡ insert_after p (f x) (map f ys) → map f (cond b (y ∷ insert_after (λ y. p (f y)) x ys) (x ∷ y ∷ ys)) ≡ cond b (f y ∷ insert_after p (f x) (map f ys)) (f x ∷ f y ∷ map f ys)
-    by_test true ih = ap (λ zs. f y ∷ zs) ih
-    by_test false ih = refl
-
 pub filter_map_of : {X Y : Type 0} (f : X → Y) (p : Y → Bool) (xs : List X) → map f (filter (λ y. p (f y)) xs) ≡ filter p (map f xs)
 filter_map_of f p [] = refl
 filter_map_of f p (y ∷ ys) = by_test (p (f y)) (filter_map_of f p ys)
@@ -59,14 +50,6 @@ filter_map_of f p (y ∷ ys) = by_test (p (f y)) (filter_map_of f p ys)
     by_test true ih = ap (λ zs. f y ∷ zs) ih
     by_test false ih = ih
 
-pub insert_length : {X : Type 0} (p : X → Bool) (x : X) (xs : List X) → length (insert_after p x xs) ≡ suc (length xs)
-insert_length p x [] = refl
-insert_length p x (y ∷ ys) = by_test (p y) (insert_length p x ys)
-  where
-    by_test : (b : Bool) → length (insert_after p x ys) ≡ suc (length ys) → length (cond b (y ∷ insert_after p x ys) (x ∷ y ∷ ys)) ≡ suc (suc (length ys))
-    by_test true ih = ap suc ih
-    by_test false ih = refl
-
 pub filter_length : {X : Type 0} (p : X → Bool) (xs : List X) → length (filter p xs) ≤ length xs
 filter_length p [] = omega arith
 filter_length p (y ∷ ys) = by_test (p y) (filter_length p ys)
@@ -74,9 +57,6 @@ filter_length p (y ∷ ys) = by_test (p y) (filter_length p ys)
     by_test : (b : Bool) → length (filter p ys) ≤ length ys → length (cond b (y ∷ filter p ys) (filter p ys)) ≤ suc (length ys)
     by_test true ih = omega arith
     by_test false ih = omega arith
-
-pub insert_prefix : {X : Type 0} (p : X → Bool) (x : X) (xs : List X) → insert xs (prefix_len p xs) x ≡ insert_after p x xs
-insert_prefix p x xs = ap (λ k. insert xs k x) (front_len p xs) ∙ insert_front p x xs
 
 pub prefix_within : {X : Type 0} (p : X → Bool) (xs : List X) → prefix_len p xs ≤ length xs
 prefix_within p xs = let k = front_len p xs in let h = front_within p xs in omega arith

@@ -3,7 +3,7 @@ use Rattle.std.proofs.Common.{◌≡◌, ℕ, zero, suc, ◌+◌, ◌*◌, ◌<�
 use Rattle.std.specs.Prelude.{replicate, OnOk, slice_set}
 use Rattle.std.proofs.lemmas.Bool.{eqb-true, eqb-false, eq-eqb, ne_eqb, ltb-true, ltb-false}
 use Rattle.std.proofs.lemmas.List.{length-map, get_or-map, map-set}
-use Rattle.fc_values.specs.Fields.{Rises}
+use Rattle.fc_values.specs.Fields.{Rises, is_in}
 use Rattle.fc_values.specs.Types.{Declarations, Input}
 use Rattle.fc_values.specs.Values.{LocalValue, local_of}
 use Rattle.topology.specs.declared.types.Device.{Device}
@@ -12,10 +12,11 @@ use Rattle.topology.specs.declared.types.MakeFault.TheVariants as make
 use Rattle.topology.specs.declared.types.NetFault.{NetFault}
 use Rattle.topology.specs.declared.types.NetFault.TheVariants as fault
 use Rattle.topology.specs.Inputs.{inputs_fault, or_fault}
-use Rattle.topology.specs.Networks.{NetDevice, device_of, numbers, is_in, DevicesFit, IsNetwork}
+use Rattle.topology.specs.Networks.{NetDevice, device_of, numbers, DevicesFit, IsNetwork}
 use Rattle.topology.specs.Changes.{in_order, put_input, nth_fault, twice_fault, devices_fault, at_index, make_fault, made, RefusesMake, HaveNumbers, HaveInputs}
 use Rattle.topology.specs.Nearby.{near_each, IsKept}
-use Rattle.topology.proofs.Devices.{or_none, inputs_length, later_above, rises_tail}
+use Rattle.topology.proofs.Devices.{or_none, inputs_length}
+use Rattle.fc_values.proofs.Rising.{rises_tail, later_above}
 use Rattle.topology.proofs.Sorting.{fresh_none, order_rises, order_length, order_fits}
 use Rattle.topology.proofs.Kept.{numbers_long}
 

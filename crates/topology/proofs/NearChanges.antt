@@ -4,7 +4,8 @@ use Rattle.std.specs.List.{filter}
 use Rattle.std.proofs.lemmas.Bool.{eqb-true, ltb-true, lt-ltb, eq-eqb, ne_eqb}
 use Rattle.fc_values.specs.Types.{Declarations}
 use Rattle.topology.specs.Networks.{Edge, near_in, LinkFits, LinksFit}
-use Rattle.topology.specs.Changes.{is_pair, is_before, touches, has_pair, drop_pair, drop_links, insert_after, insert_edge, put_edge}
+use Rattle.topology.specs.Changes.{is_pair, is_before, touches, has_pair, drop_pair, drop_links, insert_edge, put_edge}
+use Rattle.fc_values.specs.Lists.{insert_after}
 use Rattle.topology.specs.Nearby.{drop_near, insert_near}
 use Rattle.topology.proofs.Neighbours.{AllAbove, above_first, above_second, near_split, near_apart}
 use Rattle.topology.proofs.Links.{insert_fit}

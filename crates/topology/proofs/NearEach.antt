@@ -4,15 +4,15 @@ use Rattle.std.specs.List.{insert, remove}
 use Rattle.std.proofs.lemmas.Bool.{eqb-true, eqb-false, eq-eqb, ne_eqb, ltb-true, ltb-false}
 use Rattle.std.proofs.lemmas.List.{length-set, length-map, get_or-set_same, get_or-set_other, get_or-map, same_lists}
 use Rattle.fc_values.specs.Types.{Declarations}
-use Rattle.fc_values.specs.Fields.{Rises}
-use Rattle.topology.specs.Networks.{NetDevice, Edge, numbers, is_in, near_in, LinkFits, LinksFit}
+use Rattle.fc_values.specs.Fields.{Rises, is_in}
+use Rattle.topology.specs.Networks.{NetDevice, Edge, numbers, near_in, LinkFits, LinksFit}
 use Rattle.topology.specs.Changes.{is_pair, drop_pair, drop_links, put_edge, pair_edge, drop_device}
 use Rattle.topology.specs.Nearby.{near_each, drop_near, insert_near}
 use Rattle.topology.proofs.Lists.{map_insert}
-use Rattle.topology.proofs.Neighbours.{min_or, near_none}
+use Rattle.topology.proofs.Neighbours.{near_none}
 use Rattle.topology.proofs.Links.{no_pair_left, filter_fit}
 use Rattle.topology.proofs.NearChanges.{near_put_other, near_drop_other, near_drop_first, near_drop_second, near_insert_first, near_insert_second, near_leave}
-use Rattle.topology.proofs.Devices.{rises_at, later_above, rises_tail}
+use Rattle.fc_values.proofs.Rising.{rises_tail, later_above, rises_at, min_or}
 
 -- ---- a list of what each device has, changed at one or two of them
 

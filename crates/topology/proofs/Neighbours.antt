@@ -4,36 +4,15 @@ use Rattle.std.specs.List.{Contains}
 use Rattle.std.proofs.lemmas.Bool.{eqb-true, eq-eqb, ne_eqb, leb-true, leb-false}
 use Rattle.std.proofs.lemmas.List.{map-append}
 use Rattle.fc_values.specs.Types.{Declarations}
-use Rattle.fc_values.specs.Fields.{Rises}
-use Rattle.topology.specs.Networks.{Edge, is_in, near_in, BeforeAll, LinksFit}
+use Rattle.fc_values.specs.Fields.{Rises, is_in}
+use Rattle.topology.specs.Networks.{Edge, near_in, BeforeAll, LinksFit}
 use Rattle.topology.specs.Changes.{is_pair, has_pair}
 use Rattle.topology.specs.Nearby.{near_numbers}
+use Rattle.fc_values.proofs.Rising.{strictly, min_or}
+use Rattle.fc_values.proofs.Booleans.{by_iff}
+use Rattle.fc_values.proofs.Numbers.{in_append}
 
 -- ---- numbers
-
-pub strictly : (a b : ℕ) → a ≤ b → (a ≡ b → ⊥) → a < b
-strictly a b h n = omega arith
-
-pub min_or : (a b : ℕ) → (min a b ≡ a) × (max a b ≡ b) ⊎ (min a b ≡ b) × (max a b ≡ a)
-min_or a b = by_test (nat_le a b) refl
-  where
-    by_test : (q : Bool) → nat_le a b ≡ q → ((min a b ≡ a) × (max a b ≡ b)) ⊎ ((min a b ≡ b) × (max a b ≡ a))
-    by_test true e = let h = leb-true a b e in inl (omega arith, omega arith)
-    by_test false e = let h = leb-false a b e in inr (omega arith, omega arith)
-
-by_iff : (p q : Bool) → (p ≡ true → q ≡ true) → (q ≡ true → p ≡ true) → p ≡ q
-by_iff true true f g = refl
-by_iff true false f g = sym (f refl)
-by_iff false true f g = g refl
-by_iff false false f g = refl
-
-pub in_append : (d : ℕ) (xs ys : List ℕ) → is_in d (xs ++ ys) ≡ (is_in d xs || is_in d ys)
-in_append d [] ys = refl
-in_append d (x ∷ xs) ys = by_test (nat_eq d x) (in_append d xs ys)
-  where
-    by_test : (q : Bool) → is_in d (xs ++ ys) ≡ (is_in d xs || is_in d ys) → (q || is_in d (xs ++ ys)) ≡ ((q || is_in d xs) || is_in d ys)
-    by_test true ih = refl
-    by_test false ih = ih
 
 -- ---- neighbours, one link after another
 

@@ -3,13 +3,14 @@ use Rattle.std.proofs.Common.{◌≡◌, ℕ, zero, suc, ◌+◌, ◌<◌, inl, 
 use Rattle.std.specs.List.{prefix_len}
 use Rattle.std.specs.List.Sorted.{IsPartitionedBy}
 use Rattle.std.proofs.lemmas.Bool.{eqb-true, eqb-false, ltb-true, ltb-false, lt-ltb, ne_eqb}
-use Rattle.fc_values.specs.Fields.{Rises}
+use Rattle.fc_values.specs.Fields.{Rises, is_in}
 use Rattle.topology.specs.declared.types.Device.{Device}
 use Rattle.topology.specs.declared.types.Link.{Link}
-use Rattle.topology.specs.Networks.{NetDevice, Edge, device_of, edge_of, numbers, is_in, Before, BeforeAll, IsRisingLinks}
+use Rattle.topology.specs.Networks.{NetDevice, Edge, device_of, edge_of, numbers, Before, BeforeAll, IsRisingLinks}
 use Rattle.topology.specs.Changes.{is_before}
 use Rattle.topology.proofs.NearChanges.{before_ends}
-use Rattle.topology.proofs.Devices.{rises_at, rises_apart, rises_tail}
+use Rattle.topology.proofs.Devices.{rises_apart}
+use Rattle.fc_values.proofs.Rising.{rises_tail, rises_at}
 
 -- ---- devices
 

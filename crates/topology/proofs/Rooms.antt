@@ -3,7 +3,8 @@ use Rattle.std.proofs.Common.{◌≡◌, ℕ, suc, ◌+◌, ◌*◌, ◌≤◌, 
 use Rattle.std.specs.List.{filter}
 use Rattle.std.proofs.lemmas.Bool.{eqb-true}
 use Rattle.fc_values.specs.Types.{Declarations}
-use Rattle.topology.specs.Networks.{Edge, is_in, near_in, LinksFit}
+use Rattle.topology.specs.Networks.{Edge, near_in, LinksFit}
+use Rattle.fc_values.specs.Fields.{is_in}
 use Rattle.topology.proofs.Links.{count, count_is, count_split, count_touch, count_filter}
 
 -- each link is from one of the devices

@@ -9,17 +9,14 @@ use Rattle.topology.specs.declared.types.MakeFault.TheVariants as make
 use Rattle.topology.specs.declared.types.JoinFault.{JoinFault}
 use Rattle.topology.specs.declared.types.JoinFault.TheVariants as join
 use Rattle.topology.specs.Inputs.{input_fault, inputs_fault, or_fault}
-use Rattle.topology.specs.Networks.{NetDevice, Edge, Network, numbers, is_in, lives, near}
+use Rattle.topology.specs.Networks.{NetDevice, Edge, Network, numbers, lives, near}
+use Rattle.fc_values.specs.Fields.{is_in}
+use Rattle.fc_values.specs.Lists.{insert_after}
 
 -- the fault of the first condition that holds
 abbrev pub first_fault : List (Bool × NetFault) → Option NetFault
 first_fault [] = None
 first_fault (c ∷ cs) = if c.0 then Some c.1 else first_fault cs
-
--- one element more, after those in front that pass a test
-abbrev pub insert_after : {X : Type 0} → (X → Bool) → X → List X → List X
-insert_after p x [] = x ∷ []
-insert_after p x (y ∷ ys) = if p y then y ∷ insert_after p x ys else x ∷ y ∷ ys
 
 -- ---- links: each pair of devices has one, the lesser device first
 

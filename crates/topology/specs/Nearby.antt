@@ -2,7 +2,7 @@
 use Rattle.std.specs.Prelude.{ℕ, ◌≡◌, ◌≤◌, ◌<◌, ◌*◌, not, List, map, length, filter, slice_index, nat_eq, nat_lt}
 use Rattle.arrayvec.specs.ArrayVec.{ArrayVec}
 use Rattle.topology.specs.Networks.{Network, Edge, IsNetwork, numbers, near_in}
-use Rattle.topology.specs.Changes.{insert_after}
+use Rattle.fc_values.specs.Lists.{insert_after}
 
 -- the neighbours of each device
 abbrev pub near_each : List ℕ → List Edge → List (List (ℕ × ℕ))

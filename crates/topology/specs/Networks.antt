@@ -2,7 +2,7 @@
 use Rattle.std.specs.Prelude.{ℕ, Bool, true, false, ◌≡◌, ◌<◌, ◌≤◌, ◌||◌, List, [], ◌∷◌, map, length, nat_eq, if◌then◌else◌}
 use Rattle.fc_values.specs.Types.{Declarations}
 use Rattle.fc_values.specs.Values.{LocalValue, local_of}
-use Rattle.fc_values.specs.Fields.{Rises}
+use Rattle.fc_values.specs.Fields.{Rises, is_in}
 use Rattle.fc_values.specs.Inputs.{InputsFit}
 use Rattle.topology.specs.declared.types.Device.{Device}
 use Rattle.topology.specs.declared.types.Link.{Link}
@@ -32,10 +32,6 @@ edge_of l = record { a = l.a; b = l.b; weight = l.weight }
 
 abbrev pub numbers : List NetDevice → List ℕ
 numbers ns = map (λ (n : NetDevice). n.id) ns
-
-abbrev pub is_in : ℕ → List ℕ → Bool
-is_in d [] = false
-is_in d (e ∷ es) = nat_eq d e || is_in d es
 
 -- whether a device is there
 abbrev pub lives : Network → ℕ → Bool

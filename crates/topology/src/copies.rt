@@ -7,18 +7,8 @@ ghost use Rattle.topology.specs.Nearby.{items_of};
 
 use crate::nearby::{Nearby, copy_near};
 use crate::types::{Device, Link};
-use fc_values::{Local, Memory, copy};
+use fc_values::{Memory, copy_locals};
 use std::alloc::Global;
-
-fn copy_locals(alloc: Global, values: &[Local]) -> Result<Vec<Local>, Memory>
-    ensures { IfOk result (λ v. map local_of v.items ≡ map local_of values.now) }
-{
-    let mut copies = Vec::new(alloc);
-    for value in values {
-        copies.push(copy(alloc, value)?)?;
-    }
-    Ok(copies)
-}
 
 /// A copy of a device.
 pub fn copy_device(alloc: Global, device: &Device) -> Result<Device, Memory>

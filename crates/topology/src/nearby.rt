@@ -2,7 +2,7 @@
 
 ghost use Rattle.std.specs.Prelude.{◌≡◌, ◌<◌, length, nat_lt};
 ghost use Rattle.std.specs.List.{prefix_len};
-ghost use Rattle.topology.specs.Networks.{is_in};
+ghost use Rattle.fc_values.specs.Fields.{is_in};
 ghost use Rattle.topology.specs.Nearby.{near_numbers, drop_near, insert_near};
 
 use arrayvec::ArrayVec;

@@ -3,8 +3,8 @@
 ghost use Rattle.std.specs.Prelude.{◌≡◌, ◌<◌, ◌≤◌, length, map, nat_lt, slice_index, IfSome, IfNone, true, false};
 ghost use Rattle.std.specs.List.{prefix_len};
 ghost use Rattle.fc_values.specs.Types.{Declarations};
-ghost use Rattle.fc_values.specs.Fields.{Rises};
-ghost use Rattle.topology.specs.Networks.{NetDevice, device_of, edge_of, numbers, is_in, LinksFit, IsRisingLinks};
+ghost use Rattle.fc_values.specs.Fields.{Rises, is_in};
+ghost use Rattle.topology.specs.Networks.{NetDevice, device_of, edge_of, numbers, LinksFit, IsRisingLinks};
 ghost use Rattle.topology.specs.Changes.{is_before};
 
 use crate::types::{Device, Link};

@@ -8,17 +8,18 @@ use Rattle.fc_values.specs.Types.{LocalType, ValueType, BoolType}
 use Rattle.fc_values.specs.Values.{LocalValue, IntValue, BoolValue, PairValue, Fits}
 use Rattle.fc_values.specs.BuiltinTypes.{inner}
 use Rattle.fc_values.specs.declared.exports.Slot.{Slot}
-use Rattle.fc_values.specs.Exports.{SlotValue, FlatExport, slot_of, slots_of}
+use Rattle.fc_values.specs.Exports.{SlotValue, FlatExport, slot_of, slots_of, slot_at}
 use Rattle.fc_nodes.specs.declared.nodes.Node.{Node}
-use Rattle.fc_nodes.specs.Terms.{Term, Terms, Plain, Apply, Nbr, Evolve, If, Let, NoMore, More, size, kept, kept_all, Sort, term_at, terms_by, HasNode, AllLaid, places, kept_type}
-use Rattle.fc_nodes.specs.Flat.{slot_at, tree_export, IsExport}
+use Rattle.fc_nodes.specs.Terms.{Term, Terms, Plain, Apply, Nbr, Evolve, If, Let, NoMore, More, size, kept, kept_all, Sort, term_at, terms_by, HasNode, AllLaid, places, kept_type, is_branching}
+use Rattle.fc_nodes.specs.Flat.{tree_export, IsExport}
 use Rattle.fc_nodes.specs.Program.{Unfolding}
 use Rattle.fc_nodes.proofs.Places.{AllAbove}
-use Rattle.fc_nodes.proofs.Kids.{kids_of, kids_are, laid_term}
-use Rattle.value_trees.specs.SlotFits.{ValueFits, SlotFits, SlotsFit, AllSlotsFit, OwnSlotFits, after_own, is_branching, truth_in}
-use Rattle.value_trees.specs.Walks.{StandsAt, StandAfter, FitsMain}
+use Rattle.fc_nodes.proofs.Kids.{kids_of, kids_are, laid_term, own_type, branches, own_is, branches_is, three}
+use Rattle.value_trees.specs.SlotFits.{ValueFits, SlotFits, SlotsFit, AllSlotsFit, OwnSlotFits, after_own, truth_in}
+use Rattle.value_trees.specs.Walks.{FitsMain}
+use Rattle.fc_nodes.specs.Places.{StandsAt, StandAfter}
 use Rattle.value_trees.specs.KeptLists.{if_kept, kept_only, kept_values}
-use Rattle.value_trees.proofs.WalkSteps.{own_type, branches, own_is, branches_is, kids_walked, three, term_is, if_walked}
+use Rattle.value_trees.proofs.WalkSteps.{kids_walked, term_is, if_walked}
 use Rattle.value_trees.specs.KeptReads.{Left, Rest, Off, and_left, has_type, own_left, left_by, left_by_all, surplus, misfit_of}
 use Rattle.value_trees.specs.declared.reading.KeptFault.{KeptFault}
 use Rattle.value_trees.specs.declared.reading.KeptFault.TheVariants as fault
@@ -263,7 +264,7 @@ module _ (ns : List Node) (ab : AllAbove ns) (p : ℕ) (st : StandsAt ns p) (s :
 
   kids_stand_at : (q0 ≡ suc p) × (q1 ≡ suc p + size (term_at ns q0)) × (q2 ≡ suc p + size (term_at ns q0) + size (term_at ns q1))
   kids_stand_at =
-      let th = three ns ab p st s t ks h branching g c (length xs) xs in
+      let th = three ns ab p st s t ks h branching in
       let i0 = th.first_is in
       let i1 = th.second_is in
       let i2 = th.third_is in

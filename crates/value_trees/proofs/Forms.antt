@@ -3,9 +3,9 @@ use Rattle.std.proofs.Common.{◌≡◌, ℕ, suc, ◌+◌, List, [], ◌∷◌,
 use Rattle.std.proofs.lemmas.List.{length-append}
 use Rattle.fc_values.specs.Types.{LocalType, IntType, BoolType, PairType}
 use Rattle.fc_values.specs.Values.{LocalValue, IntValue, BoolValue, PairValue, Fits, form_of}
-use Rattle.fc_values.specs.Exports.{SlotValue}
+use Rattle.fc_values.specs.Exports.{SlotValue, slot_at}
 use Rattle.fc_nodes.specs.Terms.{Term, kept, kept_types}
-use Rattle.fc_nodes.specs.Flat.{slot_at, HaveForms}
+use Rattle.fc_nodes.specs.Flat.{HaveForms}
 use Rattle.fc_nodes.proofs.Kept.{kept_long}
 
 -- a value that fits a type has its form

@@ -1,11 +1,11 @@
 -- The kept values of a tree are those of the slots that are kept.
 use Rattle.std.proofs.Common.{◌≡◌, ℕ, zero, suc, ◌+◌, List, [], ◌∷◌, ◌++◌, length, refl, sym, ◌∙◌, ap, arith, Bool, true, false, append-nil}
 use Rattle.fc_values.specs.Values.{LocalValue, IntValue, BoolValue, PairValue}
-use Rattle.fc_values.specs.Exports.{SlotValue, FlatExport}
+use Rattle.fc_values.specs.Exports.{SlotValue, FlatExport, slot_at}
 use Rattle.fc_values.specs.Trees.{Tree}
 use Rattle.fc_nodes.specs.Terms.{Term, Terms, Plain, Apply, Nbr, Evolve, If, Let, NoMore, More, kept, kept_all}
 use Rattle.fc_nodes.specs.Program.{Unfolding}
-use Rattle.fc_nodes.specs.Flat.{slot_at, by_truth, IfTruth, tree_at, trees_at, Clear, Marked, AllMarked, tree_export, IsExport}
+use Rattle.fc_nodes.specs.Flat.{by_truth, IfTruth, tree_at, trees_at, Clear, Marked, AllMarked, tree_export, IsExport}
 use Rattle.fc_nodes.proofs.Kept.{kept_long}
 use Rattle.value_trees.specs.KeptLists.{kept_in, kept_in_all, kept_values, if_kept, kept_only}
 use Rattle.value_trees.proofs.Forms.{have_long}

@@ -7,17 +7,7 @@ use Rattle.fc_values.specs.Exports.{SlotValue, FlatExport, slot_of, slots_of}
 use Rattle.fc_nodes.specs.Program.{Unfolding}
 use Rattle.fc_nodes.specs.Flat.{HaveForms}
 use Rattle.value_trees.specs.Shapes.{SameForms, HaveOneShape, IsShaped}
-
-same_form : (v w : LocalValue) → form_of v ≡ form_of w → SameForm v w
-same_form (IntValue m) (IntValue n) e = tt
-same_form (BoolValue a) (BoolValue b) e = tt
-same_form (PairValue a b) (PairValue c d) e = let f : form_of a ≡ form_of c = cc in let g : form_of b ≡ form_of d = cc in (same_form a c f, same_form b d g)
-same_form (IntValue m) (BoolValue b) e = absurd cc
-same_form (IntValue m) (PairValue c d) e = absurd cc
-same_form (BoolValue a) (IntValue n) e = absurd cc
-same_form (BoolValue a) (PairValue c d) e = absurd cc
-same_form (PairValue a b) (IntValue n) e = absurd cc
-same_form (PairValue a b) (BoolValue c) e = absurd cc
+use Rattle.fc_values.proofs.Forms.{same_form}
 
 same_forms : (ts : List LocalType) (xs ys : List SlotValue) → HaveForms ts xs → HaveForms ts ys → SameForms xs ys
 same_forms [] [] [] h k = tt

@@ -3,11 +3,11 @@ use Rattle.std.proofs.Common.{◌≡◌, ℕ, suc, ◌<◌, ◌≤◌, ◌+◌, 
 use Rattle.fc_values.specs.Types.{LocalType, BoolType}
 use Rattle.fc_values.specs.Values.{LocalValue, IntValue, BoolValue, PairValue, Fits, form_of}
 use Rattle.fc_values.specs.BuiltinTypes.{inner}
-use Rattle.fc_values.specs.Exports.{SlotValue, FlatExport}
+use Rattle.fc_values.specs.Exports.{SlotValue, FlatExport, slot_at}
 use Rattle.fc_values.specs.Trees.{Tree, Keep, Done, Then}
 use Rattle.fc_nodes.specs.Terms.{Term, Terms, Plain, Apply, Nbr, Evolve, If, Let, NoMore, More, type_of, kept, kept_all, kept_types, all_kept_types}
 use Rattle.fc_nodes.specs.Program.{Unfolding}
-use Rattle.fc_nodes.specs.Flat.{FitsTree, FitTrees, KeepsTruth, slot_at, by_truth, IfTruth, tree_at, trees_at, Clear, Marked, AllMarked, IsExport}
+use Rattle.fc_nodes.specs.Flat.{FitsTree, FitTrees, KeepsTruth, by_truth, IfTruth, tree_at, trees_at, Clear, Marked, AllMarked, IsExport}
 use Rattle.fc_nodes.proofs.Kept.{kept_long}
 use Rattle.value_trees.specs.SlotFits.{ValueFits, SlotFits, truth_in, SlotsFit, AllSlotsFit}
 use Rattle.value_trees.proofs.Forms.{FormsAt, fits_form, forms_first, forms_rest, forms_both, after_of, forms_two, two_forms, forms_three, three_forms, have_long, have_forms_at, forms_have}

@@ -6,16 +6,18 @@ use Rattle.fc_values.specs.declared.exports.Slot.{Slot}
 use Rattle.fc_values.specs.Types.{LocalType, ValueType, BoolType}
 use Rattle.fc_values.specs.Values.{LocalValue, Fits}
 use Rattle.fc_values.specs.BuiltinTypes.{inner}
-use Rattle.fc_values.specs.Exports.{SlotValue, FlatExport, slot_of, slots_of}
+use Rattle.fc_values.specs.Exports.{SlotValue, FlatExport, slot_of, slots_of, slot_at}
 use Rattle.fc_nodes.specs.declared.nodes.Node.{Node}
-use Rattle.fc_nodes.specs.Terms.{Term, Plain, Apply, Nbr, Evolve, If, Let, type_of, kept, kept_all, Sort, OfLeaf, OfApply, OfNbr, OfEvolve, OfIf, OfLet, kept_type, term_at, terms_by, HasNode, Laid}
-use Rattle.fc_nodes.specs.Flat.{slot_at, IsExport}
+use Rattle.fc_nodes.specs.Terms.{Term, Plain, Apply, Nbr, Evolve, If, Let, type_of, kept, kept_all, Sort, OfLeaf, OfApply, OfNbr, OfEvolve, OfIf, OfLet, kept_type, term_at, terms_by, HasNode, Laid, is_branching}
+use Rattle.fc_nodes.specs.Flat.{IsExport}
 use Rattle.fc_nodes.specs.Program.{Program, Unfolding, unfolding_of, IsProgram}
 use Rattle.fc_nodes.proofs.Places.{AllAbove, laid_within}
-use Rattle.fc_nodes.proofs.Kids.{ThreeKids, if_laid, kids_of, KidsAre, kids_are, AllStand}
-use Rattle.value_trees.specs.SlotFits.{ValueSlotFits, SlotFits, SlotsFit, AllSlotsFit, OwnSlotFits, after_own, is_branching, truth_in, WalkIs}
-use Rattle.value_trees.specs.Walks.{StandsAt, StandAfter, FitsMain, ends_at}
+use Rattle.fc_nodes.proofs.Kids.{ThreeKids, if_laid, kids_of, KidsAre, kids_are, own_type, branches, own_is, branches_is, three}
+use Rattle.value_trees.specs.SlotFits.{ValueSlotFits, SlotFits, SlotsFit, AllSlotsFit, OwnSlotFits, after_own, truth_in, WalkIs}
+use Rattle.value_trees.specs.Walks.{FitsMain, ends_at}
+use Rattle.fc_nodes.specs.Places.{StandsAt}
 use Rattle.value_trees.proofs.SlotTrees.{fit_export, export_fit}
+use Rattle.fc_values.proofs.SlotReads.{slot_read}
 
 pub walk_as : (P Q : Type 0) (m n : ℕ) (r : Option ℕ) → (P → Q) → (Q → P) → m ≡ n → WalkIs P m r → WalkIs Q n r
 walk_as P Q m n None f g e h = λ q. h (g q)
@@ -25,12 +27,6 @@ pub walk_none : (P Q : Type 0) (m n : ℕ) (r s : Option ℕ) → r ≡ None →
 walk_none P Q m n None None e f g h = λ q. h (g q)
 walk_none P Q m n (Some k) s e f g h = absurd cc
 walk_none P Q m n None (Some k) e f g h = absurd cc
-
-pub slot_read : (xs : List Slot) (k : ℕ) (s : Slot) → s ≡ get_or xs k s → k < length xs → slot_at k (slots_of xs) ≡ slot_of s
-unfolding slot_at
-slot_read [] k s e h = absurd (omega arith)
-slot_read (x ∷ xs) zero s e h = ap slot_of (sym e)
-slot_read (x ∷ xs) (suc k) s e h = slot_read xs k s e (omega arith)
 
 -- one slot
 module _ (g : Bool) (c : ℕ) (u : LocalType) (xs : List Slot) (k : ℕ) (s : Slot) (e : s ≡ get_or xs k s) (l : k < length xs) where
@@ -45,23 +41,6 @@ module _ (g : Bool) (c : ℕ) (u : LocalType) (xs : List Slot) (k : ℕ) (s : Sl
 
 pub no_slot : (g : Bool) (c : ℕ) (u : LocalType) (xs : List Slot) (k : ℕ) → length xs ≤ k → SlotFits g c u k (slots_of xs) → ⊥
 no_slot g c u xs k l h = let w = h.within in omega (arith, l, w, length-map xs slot_of)
-
--- what the node of a term keeps
-abbrev pub own_type : Term → Option LocalType
-own_type (Plain t l) = None
-own_type (Apply t o ts) = None
-own_type (Nbr t a) = Some (inner t)
-own_type (Evolve t e a b) = Some (inner t)
-own_type (If t x a b) = Some BoolType
-own_type (Let t a b) = None
-
-abbrev pub branches : Term → Bool
-branches (Plain t l) = false
-branches (Apply t o ts) = false
-branches (Nbr t a) = false
-branches (Evolve t e a b) = false
-branches (If t x a b) = true
-branches (Let t a b) = false
 
 module _ (g : Bool) (c : ℕ) (k : ℕ) (xs : List SlotValue) where
   own_of : (u : Term) → SlotsFit g c u k xs → OwnSlotFits g c (own_type u) k xs
@@ -96,23 +75,6 @@ module _ (g : Bool) (c : ℕ) (k : ℕ) (xs : List SlotValue) where
   kept_whole (If t x a b) = omega arith
   kept_whole (Let t a b) = omega arith
 
-module _ (ns : List Node) (s : Sort) (t : ValueType) (ks : List ℕ) where
-  pub own_is : (u : Term) (p : ℕ) → HasNode ns p s t ks → Laid ns p u → kept_type s t ≡ own_type u
-  own_is (Plain t' v) p h l = let e : s ≡ OfLeaf v = cc in rw e refl
-  own_is (Apply t' o ts) p h l = let l0 = l.0 in let e : s ≡ OfApply o = cc in rw e refl
-  own_is (Nbr t' a) p h l = let l0 = l.0 in let e : s ≡ OfNbr = cc in let f : t ≡ t' = cc in rw (e, f) refl
-  own_is (Evolve t' v a b) p h l = let l0 = l.0 in let e : s ≡ OfEvolve v = cc in let f : t ≡ t' = cc in rw (e, f) refl
-  own_is (If t' x a b) p h l = let l0 = l.0 in let e : s ≡ OfIf = cc in rw e refl
-  own_is (Let t' a b) p h l = let l0 = l.0 in let e : s ≡ OfLet = cc in rw e refl
-
-  pub branches_is : (u : Term) (p : ℕ) → HasNode ns p s t ks → Laid ns p u → is_branching s ≡ branches u
-  branches_is (Plain t' v) p h l = let e : s ≡ OfLeaf v = cc in rw e refl
-  branches_is (Apply t' o ts) p h l = let l0 = l.0 in let e : s ≡ OfApply o = cc in rw e refl
-  branches_is (Nbr t' a) p h l = let l0 = l.0 in let e : s ≡ OfNbr = cc in rw e refl
-  branches_is (Evolve t' v a b) p h l = let l0 = l.0 in let e : s ≡ OfEvolve v = cc in rw e refl
-  branches_is (If t' x a b) p h l = let l0 = l.0 in let e : s ≡ OfIf = cc in rw e refl
-  branches_is (Let t' a b) p h l = let l0 = l.0 in let e : s ≡ OfLet = cc in rw e refl
-
 type_is : (ns : List Node) (s : Sort) (t : ValueType) (ks : List ℕ) (u : Term) (p : ℕ) → HasNode ns p s t ks → Laid ns p u → type_of u ≡ t
 type_is ns s t ks (Plain t' v) p h l = let e : t' ≡ t = cc in e
 type_is ns s t ks (Apply t' o ts) p h l = let l0 = l.0 in let e : t' ≡ t = cc in e
@@ -120,18 +82,6 @@ type_is ns s t ks (Nbr t' a) p h l = let l0 = l.0 in let e : t' ≡ t = cc in e
 type_is ns s t ks (Evolve t' v a b) p h l = let l0 = l.0 in let e : t' ≡ t = cc in e
 type_is ns s t ks (If t' x a b) p h l = let l0 = l.0 in let e : t' ≡ t = cc in e
 type_is ns s t ks (Let t' a b) p h l = let l0 = l.0 in let e : t' ≡ t = cc in e
-
-pub if_sort : (s : Sort) → is_branching s ≡ true → s ≡ OfIf
-if_sort (OfLeaf l) e = absurd cc
-if_sort (OfApply o) e = absurd cc
-if_sort OfNbr e = absurd cc
-if_sort (OfEvolve v) e = absurd cc
-if_sort OfIf e = refl
-if_sort OfLet e = absurd cc
-
-stand_after : (ns : List Node) (p : ℕ) (ks : List ℕ) → AllStand ns p ks → StandAfter ns p ks
-stand_after ns p [] h = tt
-stand_after ns p (k ∷ ks) h = (h.0, record { within = h.1; laid = h.2 }, stand_after ns p ks h.3)
 
 -- a node at a place, and the walk past it
 module _ (ns : List Node) (ab : AllAbove ns) (p : ℕ) (st : StandsAt ns p) (s : Sort) (t : ValueType) (ks : List ℕ) (h : HasNode ns p s t ks) (g : Bool) (c : ℕ) (k : ℕ) (xs : List SlotValue) where
@@ -143,9 +93,6 @@ module _ (ns : List Node) (ab : AllAbove ns) (p : ℕ) (st : StandsAt ns p) (s :
 
   pub own_needed : SlotsFit g c (term_at ns p) k xs → OwnSlotFits g c (kept_type s t) k xs
   own_needed f = subst (λ o. OwnSlotFits g c o k xs) (sym own_same) (own_of g c k xs (term_at ns p) f)
-
-  pub kids_stand : StandAfter ns p ks
-  kids_stand = let i = kids in stand_after ns p ks i.stands
 
   pub kids_walked : is_branching s ≡ false → (from : ℕ) → OwnSlotFits g c (kept_type s t) k xs → from ≡ after_own (kept_type s t) k → (r : Option ℕ)
       → WalkIs (AllSlotsFit g c (terms_by (term_at ns) ks) from xs) (from + kept_all (terms_by (term_at ns) ks)) r → WalkIs (SlotsFit g c (term_at ns p) k xs) (k + kept (term_at ns p)) r
@@ -164,30 +111,10 @@ module _ (ns : List Node) (ab : AllAbove ns) (p : ℕ) (st : StandsAt ns p) (s :
 
 -- an `if` at a place
 module _ (ns : List Node) (ab : AllAbove ns) (p : ℕ) (st : StandsAt ns p) (s : Sort) (t : ValueType) (ks : List ℕ) (h : HasNode ns p s t ks) (branching : is_branching s ≡ true) (g : Bool) (c : ℕ) (k : ℕ) (xs : List SlotValue) where
-  pub three : ThreeKids ns p (If t) ks
-  three = if_laid ns ab p t ks (subst (λ q. HasNode ns p q t ks) (if_sort s branching) h) st.laid
-
-  pub kid_at : (i q : ℕ) → q ≡ get_or ks i q → i < 3 → q ≡ get_or ks i 0
-  kid_at i q e l = let th = three in let long = th.long in read ks i q e (omega (arith, long, l))
-    where
-      read : (ks : List ℕ) (i q : ℕ) → q ≡ get_or ks i q → i < length ks → q ≡ get_or ks i 0
-      read [] i q e l = absurd (omega arith)
-      read (y ∷ ys) zero q e l = e
-      read (y ∷ ys) (suc i) q e l = read ys i q e (omega arith)
-
-  pub kid_stands : (i q : ℕ) → q ≡ get_or ks i q → i < 3 → (p < q) × (q < length ns) × StandsAt ns q
-  kid_stands i q e l = by_index i (kid_at i q e l) l
-    where
-      by_index : (i : ℕ) → q ≡ get_or ks i 0 → i < 3 → (p < q) × (q < length ns) × StandsAt ns q
-      by_index zero e l = let th = three in let f = th.first_is in let w = laid_within ns (get_or ks 0 0) _ th.first in (omega (arith, e, f), omega (arith, e, w), subst (StandsAt ns) (sym e) (record { within = w; laid = th.first }))
-      by_index (suc zero) e l = let th = three in let f = th.second_is in let w = laid_within ns (get_or ks 1 0) _ th.second in (omega (arith, e, f), omega (arith, e, w), subst (StandsAt ns) (sym e) (record { within = w; laid = th.second }))
-      by_index (suc (suc zero)) e l = let th = three in let f = th.third_is in let w = laid_within ns (get_or ks 2 0) _ th.third in (omega (arith, e, f), omega (arith, e, w), subst (StandsAt ns) (sym e) (record { within = w; laid = th.third }))
-      by_index (suc (suc (suc i))) e l = absurd (omega arith)
-
   module _ (q0 q1 q2 : ℕ) (f0 : q0 ≡ get_or ks 0 0) (f1 : q1 ≡ get_or ks 1 0) (f2 : q2 ≡ get_or ks 2 0) where
     pub term_is : term_at ns p ≡ If t (term_at ns q0) (term_at ns q1) (term_at ns q2)
     term_is =
-        let th = three in
+        let th = three ns ab p st s t ks h branching in
         th.term ∙ ap (λ q. If t (term_at ns q) (term_at ns (get_or ks 1 0)) (term_at ns (get_or ks 2 0))) (sym f0)
         ∙ ap (λ q. If t (term_at ns q0) (term_at ns q) (term_at ns (get_or ks 2 0))) (sym f1)
         ∙ ap (λ q. If t (term_at ns q0) (term_at ns q1) (term_at ns q)) (sym f2)

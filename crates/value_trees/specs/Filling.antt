@@ -3,11 +3,11 @@ use Rattle.std.specs.Prelude.{ℕ, Bool, true, false, ◌≡◌, ◌<◌, ◌≤
 use Rattle.fc_values.specs.declared.exports.Export.{Export}
 use Rattle.fc_values.specs.Types.{LocalType}
 use Rattle.fc_values.specs.Values.{LocalValue}
-use Rattle.fc_values.specs.Exports.{SlotValue}
+use Rattle.fc_values.specs.Exports.{SlotValue, slot_at}
 use Rattle.fc_values.specs.Trees.{TreeExport}
 use Rattle.fc_nodes.specs.Terms.{Term}
 use Rattle.fc_nodes.specs.Program.{Unfolding}
-use Rattle.fc_nodes.specs.Flat.{slot_at, IsWellTyped}
+use Rattle.fc_nodes.specs.Flat.{IsWellTyped}
 use Rattle.value_trees.specs.declared.reading.KeptFault.{KeptFault}
 use Rattle.value_trees.specs.declared.reading.KeptFault.TheVariants as fault
 use Rattle.value_trees.specs.KeptLists.{kept_values, kept_only}

@@ -3,9 +3,8 @@ use Rattle.std.specs.Prelude.{ℕ, suc, Bool, true, false, not, ◌&&◌, ◌≡
 use Rattle.fc_values.specs.Types.{LocalType, BoolType}
 use Rattle.fc_values.specs.Values.{LocalValue, IntValue, BoolValue, PairValue, Fits, form_of}
 use Rattle.fc_values.specs.BuiltinTypes.{inner}
-use Rattle.fc_values.specs.Exports.{SlotValue}
-use Rattle.fc_nodes.specs.Terms.{Term, Terms, Plain, Apply, Nbr, Evolve, If, Let, NoMore, More, kept, Sort, OfLeaf, OfApply, OfNbr, OfEvolve, OfIf, OfLet}
-use Rattle.fc_nodes.specs.Flat.{slot_at}
+use Rattle.fc_values.specs.Exports.{SlotValue, slot_at}
+use Rattle.fc_nodes.specs.Terms.{Term, Terms, Plain, Apply, Nbr, Evolve, If, Let, NoMore, More, kept}
 
 -- a value that is kept fits, and any other one has the form of its place
 abbrev pub ValueFits : Bool → ℕ → LocalType → LocalValue → Type 0
@@ -50,15 +49,6 @@ OwnSlotFits g c (Some s) k xs = SlotFits g c s k xs
 abbrev pub after_own : Option LocalType → ℕ → ℕ
 after_own None k = k
 after_own (Some s) k = suc k
-
--- whether a node is an `if`
-abbrev pub is_branching : Sort → Bool
-is_branching (OfLeaf l) = false
-is_branching (OfApply o) = false
-is_branching OfNbr = false
-is_branching (OfEvolve e) = false
-is_branching OfIf = true
-is_branching OfLet = false
 
 -- what a walk over slots answers: the slot where it ends, or none where a fact fails
 abbrev pub WalkIs : Type 0 → ℕ → Option ℕ → Type 0

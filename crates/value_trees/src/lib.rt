@@ -11,4 +11,4 @@ pub use copies::{Near, Snap};
 pub use exports::{kept, one_shape, overwrite_export};
 pub use fitting::snap_fits;
 pub use reading::{KeptFault, from_kept};
-pub use walks::well_typed;
+pub use walks::{fits_main, well_typed};

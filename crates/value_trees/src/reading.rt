@@ -2,19 +2,19 @@
 
 ghost use Rattle.std.specs.Prelude.{◌≡◌, ◌+◌, MatchResult, IfOk, map, length, Some, true};
 ghost use Rattle.fc_values.specs.Types.{local_type_of, BoolType};
-ghost use Rattle.fc_values.specs.Values.{local_of, form_of};
-ghost use Rattle.fc_values.specs.Exports.{slots_of};
-ghost use Rattle.fc_nodes.specs.Terms.{view_at, view_of, sort_of, node_keeps, term_at, terms_by, kept as kept_by, kept_all};
-ghost use Rattle.fc_nodes.specs.Flat.{slot_at};
+ghost use Rattle.fc_values.specs.Values.{local_of};
+ghost use Rattle.fc_values.specs.Exports.{slots_of, slot_at};
+ghost use Rattle.fc_nodes.specs.Terms.{view_at, view_of, sort_of, node_keeps, term_at, terms_by, kept as kept_by, kept_all, is_branching};
 ghost use Rattle.fc_nodes.specs.Program.{unfolding_of, IsProgram};
-ghost use Rattle.value_trees.specs.SlotFits.{SlotFits, SlotsFit, AllSlotsFit, OwnSlotFits, after_own, is_branching};
-ghost use Rattle.value_trees.specs.Walks.{StandsAt, StandAfter, FitsMain};
+ghost use Rattle.value_trees.specs.SlotFits.{SlotFits, SlotsFit, AllSlotsFit, OwnSlotFits, after_own};
+ghost use Rattle.value_trees.specs.Walks.{FitsMain};
+ghost use Rattle.fc_nodes.specs.Places.{StandsAt, StandAfter};
 ghost use Rattle.value_trees.specs.Filling.{IsRead, IsFault, left_at, left_after, own_at, Fills, FaultIn, IsFirst};
 ghost use Rattle.value_trees.specs.declared.reading.KeptFault.TheVariants as kept_fault;
 
-use crate::walks::{both, inner, is_if, truth_at};
-use fc_nodes::{Node, Op, Unfolded};
-use fc_values::{Export, Local, LocalTy, Memory, Slot, Slots, copy, fits};
+use crate::walks::{both, truth_at};
+use fc_nodes::{Node, Op, Unfolded, is_if};
+use fc_values::{Export, Local, LocalTy, Memory, Slot, Slots, blank_of, copy, fits, inner};
 use std::alloc::{AllocError, AllocFailed, Global};
 
 /// Why a list isn't the kept list of an export: it is short or has a misfit at a place, first in preorder, or it has
@@ -210,19 +210,4 @@ fn fill_slot<'a>(
     let value = copy(alloc, first)?;
     slots.push(Slot { kept: true, value })?;
     Ok(rest)
-}
-
-/// A value of a type.
-fn blank_of(alloc: Global, ty: &LocalTy) -> Result<Local, Memory>
-    ensures { IfOk result (λ value. form_of (local_of value) ≡ local_type_of ty.now) }
-{
-    match ty {
-        LocalTy::Int => Ok(Local::Int(0)),
-        LocalTy::Bool => Ok(Local::Bool(false)),
-        LocalTy::Pair(a, b) => {
-            let first = Box::new(alloc, blank_of(alloc, a)?)?;
-            let second = Box::new(alloc, blank_of(alloc, b)?)?;
-            Ok(Local::Pair(first, second))
-        }
-    }
 }

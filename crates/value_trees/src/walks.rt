@@ -1,30 +1,29 @@
 //! Walks over the slots of an export, along the nodes of a program.
 
 ghost use Rattle.std.specs.Prelude.{◌≡◌, ◌↔◌, ◌+◌, ◌<◌, ◌&&◌, IsTrue, length, Some, true};
-ghost use Rattle.fc_values.specs.Types.{local_type_of, type_of, BoolType};
-ghost use Rattle.fc_values.specs.BuiltinTypes.{inner as inner_type};
+ghost use Rattle.fc_values.specs.Types.{local_type_of, BoolType};
 ghost use Rattle.fc_values.specs.Values.{local_of, form_of};
-ghost use Rattle.fc_values.specs.Exports.{slot_of, slots_of};
-ghost use Rattle.fc_nodes.specs.Terms.{view_at, view_of, sort_of, node_keeps, term_at, terms_by, kept as kept_by, kept_all};
-ghost use Rattle.fc_nodes.specs.Flat.{slot_at};
+ghost use Rattle.fc_values.specs.Exports.{slot_of, slots_of, slot_at};
+ghost use Rattle.fc_nodes.specs.Terms.{view_at, view_of, sort_of, node_keeps, term_at, terms_by, kept as kept_by, kept_all, is_branching};
 ghost use Rattle.fc_nodes.specs.Program.{unfolding_of, IsProgram};
 ghost use Rattle.value_trees.specs.Snaps.{IsExportOf};
-ghost use Rattle.value_trees.specs.SlotFits.{ValueFits, ValueSlotFits, SlotFits, SlotsFit, AllSlotsFit, OwnSlotFits, after_own, is_branching, truth_in, WalkIs};
-ghost use Rattle.value_trees.specs.Walks.{StandsAt, StandAfter, FitsMain, ends_at};
+ghost use Rattle.value_trees.specs.SlotFits.{ValueFits, ValueSlotFits, SlotFits, SlotsFit, AllSlotsFit, OwnSlotFits, after_own, truth_in, WalkIs};
+ghost use Rattle.value_trees.specs.Walks.{FitsMain, ends_at};
+ghost use Rattle.fc_nodes.specs.Places.{StandsAt, StandAfter};
 
-use fc_nodes::{Node, Op, Unfolded};
-use fc_values::{Export, Local, LocalTy, Slot, Ty, fits};
+use fc_nodes::{Node, Op, Unfolded, is_if};
+use fc_values::{Export, Local, LocalTy, Slot, fits, inner};
 
 /// Whether an export is a well-typed export of a program. It takes no memory.
 pub fn well_typed(program: &Unfolded, e: &Export) -> bool
     ensures { IsTrue result ↔ IsExportOf (unfolding_of program.now) e.now }
 {
     let slots = e.slots.list.as_slice();
-    value_fits(program, &e.value) && ends_with(walk(program, slots, 0, 0, true), slots.len())
+    fits_main(program, &e.value) && ends_with(walk(program, slots, 0, 0, true), slots.len())
 }
 
 /// Whether a value fits the type of `main`.
-fn value_fits(program: &Unfolded, value: &Local) -> bool
+pub fn fits_main(program: &Unfolded, value: &Local) -> bool
     ensures value { IsTrue result ↔ FitsMain (unfolding_of program.now) (local_of value.now) }
     ensures program { IsProgram program.now }
 {
@@ -161,26 +160,6 @@ fn has_form(ty: &LocalTy, value: &Local) -> bool
         (LocalTy::Int, Local::Int(_)) => true,
         (LocalTy::Bool, Local::Bool(_)) => true,
         (LocalTy::Pair(a, b), Local::Pair(x, y)) => has_form(a, x) && has_form(b, y),
-        _ => false,
-    }
-}
-
-/// The local type in a type.
-pub fn inner(ty: &Ty) -> &LocalTy
-    ensures { local_type_of result.now ≡ inner_type (type_of ty.now) }
-{
-    match ty {
-        Ty::Local(t) => t,
-        Ty::Field(t) => t,
-    }
-}
-
-/// Whether a node is an `if`.
-pub fn is_if(node: &Node) -> bool
-    ensures { result ≡ is_branching (sort_of node.now.op) }
-{
-    match &node.op {
-        Op::If => true,
         _ => false,
     }
 }

@@ -8,7 +8,7 @@ use Rattle.device_eval.specs.Evaluation.{pick}
 use Rattle.fc_nodes.proofs.Places.{formed_above}
 use Rattle.alignment.specs.References.{flat_of}
 use Rattle.device_eval.specs.Contexts.{situation_in, vars_of}
-use Rattle.device_eval.proofs.SlotLists.{slots_long}
+use Rattle.fc_values.proofs.SlotReads.{slots_long}
 use Rattle.device_eval.proofs.LeafAt.{lit_done, variable_bound, variable_done, sense_there, sense_done, uid_done, links_done}
 use Rattle.device_eval.proofs.LetAt.{let_kids, let_value, let_body, let_done}
 use Rattle.device_eval.proofs.EvolveAt.{evolve_kids, evolve_own, evolve_near, evolve_a, first_is_local, evolve_b, result_is_local, evolve_done}

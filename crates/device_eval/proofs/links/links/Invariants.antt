@@ -1,7 +1,6 @@
 use Rattle.std.proofs.Common.{◌≡◌, drop, ◌++◌, map, if◌then◌else◌}
 use Rattle.fc_values.specs.Values.{IntValue}
-use Rattle.fc_values.specs.Fields.{entry_of}
-use Rattle.share_op.specs.Hearing.{with_entry}
+use Rattle.fc_values.specs.Fields.{entry_of, with_entry}
 use Rattle.device_eval.specs.Neighbours.{weights}
 use Rattle.alignment.specs.References.{nears_of}
 use Rattle.device_eval.proofs.links.links.Given as goal

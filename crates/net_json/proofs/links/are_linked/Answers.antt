@@ -1,5 +1,6 @@
 use Rattle.std.proofs.Common.{◌∙◌, ap}
-use Rattle.topology.specs.Networks.{is_in, numbers}
+use Rattle.topology.specs.Networks.{numbers}
+use Rattle.fc_values.specs.Fields.{is_in}
 use Rattle.topology.specs.Nearby.{near_numbers}
 use Rattle.net_json.proofs.Linked.{near_linked}
 use Rattle.net_json.proofs.links.are_linked.Goals as goal

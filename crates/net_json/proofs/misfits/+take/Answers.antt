@@ -3,7 +3,7 @@ use Rattle.std.proofs.lemmas.Result.{err_from_is_err_and}
 use Rattle.fc_values.specs.Types.{Declarations}
 use Rattle.fc_values.specs.Values.{local_of}
 use Rattle.fc_nodes.proofs.Places.{formed_above}
-use Rattle.value_trees.proofs.WalkSteps.{kids_stand}
+use Rattle.fc_nodes.proofs.Kids.{kids_stand}
 use Rattle.net_json.specs.KeptCode.{kept_of}
 use Rattle.net_json.proofs.Takes.{own_misses, own_leaves, three_long, first_at, first_stands, branch_stands, truth_misses, first_misses, first_leaves}
 use Rattle.net_json.proofs.misfits.+take.Goals as goal
@@ -17,7 +17,7 @@ pub take-take_kids-requires : goal.take-take_kids-requires
 take-take_kids-requires t c =
     let d = c.decreases in
     let w = c.requires.within in
-    (omega (arith, d, w), rw c.as_slice-kids.ensures.value (kids_stand c.args.program.now.nodes (formed_above c.args.program.now.nodes c.node-node.ensures.program.formed) c.args.place c.requires _ _ _ c.node-node.ensures.node true 0 0 []))
+    (omega (arith, d, w), rw c.as_slice-kids.ensures.value (kids_stand c.args.program.now.nodes (formed_above c.args.program.now.nodes c.node-node.ensures.program.formed) c.args.place c.requires _ _ _ c.node-node.ensures.node))
 
 pub take-returns-in_err-left-2 : goal.take-returns-in_err-left-2
 take-returns-in_err-left-2 t c =

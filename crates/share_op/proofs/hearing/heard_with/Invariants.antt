@@ -1,7 +1,6 @@
 use Rattle.std.proofs.Common.{◌≡◌, drop, ◌++◌, map, if◌then◌else◌}
 use Rattle.fc_values.specs.Values.{local_of}
-use Rattle.fc_values.specs.Fields.{entry_of}
-use Rattle.share_op.specs.Hearing.{with_entry}
+use Rattle.fc_values.specs.Fields.{entry_of, with_entry}
 use Rattle.share_op.specs.Hearing.{slot_entries}
 use Rattle.alignment.specs.Slots.{NearHave}
 use Rattle.alignment.specs.References.{nears_of}

@@ -4,7 +4,8 @@ use Rattle.std.proofs.lemmas.List.{length-map}
 use Rattle.topology.specs.declared.types.Link.{Link}
 use Rattle.topology.specs.Networks.{edge_of, IsRisingLinks}
 use Rattle.topology.specs.Changes.{is_pair, is_before, drop_pair, put_edge, insert_edge}
-use Rattle.topology.proofs.Lists.{insert_length, insert_prefix, map_insert}
+use Rattle.topology.proofs.Lists.{map_insert}
+use Rattle.fc_values.proofs.Lists.{insert_prefix, insert_length}
 use Rattle.topology.proofs.Links.{filter_rising}
 use Rattle.topology.proofs.edits.put_link.Goals as goal
 

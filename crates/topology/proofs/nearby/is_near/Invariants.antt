@@ -1,5 +1,5 @@
 use Rattle.std.proofs.Common.{◌≡◌, drop}
-use Rattle.topology.specs.Networks.{is_in}
+use Rattle.fc_values.specs.Fields.{is_in}
 use Rattle.topology.specs.Nearby.{near_numbers}
 use Rattle.topology.proofs.nearby.is_near.Given as goal
 

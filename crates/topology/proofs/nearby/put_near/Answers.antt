@@ -1,7 +1,8 @@
 use Rattle.std.proofs.Common.{◌∙◌, ap, arith, nat_lt, length, ◌<◌}
 use Rattle.std.specs.List.{insert, prefix_len}
 use Rattle.topology.specs.Nearby.{insert_near}
-use Rattle.topology.proofs.Lists.{insert_prefix, prefix_within}
+use Rattle.topology.proofs.Lists.{prefix_within}
+use Rattle.fc_values.proofs.Lists.{insert_prefix}
 use Rattle.topology.proofs.nearby.put_near.Goals as goal
 
 pub insert-requires : goal.insert-requires

@@ -2,7 +2,7 @@ use Rattle.std.proofs.Common.{◌≡◌, ◌↔◌, ◌+◌, ◌-◌, ◌*◌, d
 use Rattle.fc_values.specs.Exports.{slots_of}
 use Rattle.fc_nodes.specs.Terms.{term_at, terms_by, kept_all}
 use Rattle.value_trees.specs.SlotFits.{AllSlotsFit}
-use Rattle.value_trees.specs.Walks.{StandAfter}
+use Rattle.fc_nodes.specs.Places.{StandAfter}
 use Rattle.value_trees.proofs.walks.+walk.Given as goal
 
 abbrev pub decreases-walk : goal.decreases-walk

@@ -4,7 +4,7 @@ use Rattle.fc_values.specs.declared.exports.Slot.{Slot}
 use Rattle.fc_values.specs.Values.{local_of}
 use Rattle.fc_values.specs.Exports.{SlotValue, slot_of}
 use Rattle.value_trees.specs.SlotFits.{truth_in}
-use Rattle.value_trees.proofs.WalkSteps.{slot_read}
+use Rattle.fc_values.proofs.SlotReads.{slot_read}
 use Rattle.value_trees.proofs.walks.truth_at.Goals as goal
 
 pub returns : goal.returns

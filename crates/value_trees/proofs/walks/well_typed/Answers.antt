@@ -6,13 +6,13 @@ use Rattle.value_trees.proofs.WalkSteps.{root_stands, walked_export, export_walk
 use Rattle.value_trees.proofs.walks.well_typed.Goals as goal
 
 pub walk-requires : goal.walk-requires
-walk-requires c = root_stands c.args.program.now c.value_fits.ensures.program
+walk-requires c = root_stands c.args.program.now c.fits_main.ensures.program
 
-pub returns-then-value_fits : goal.returns-then-value_fits
-returns-then-value_fits c =
+pub returns-then-fits_main : goal.returns-then-fits_main
+returns-then-fits_main c =
     let U = unfolding_of c.args.program.now in
     let x = export_of c.args.e.now in
-    let v = c.value_fits.ensures.value.0 c.if-value_fits.true in
+    let v = c.fits_main.ensures.value.0 c.if-fits_main.true in
     let n = ap (length {A = _}) c.as_slice-slots.ensures.value ∙ sym (length-map c.args.e.now.slots.list.items slot_of) in
     let w = rw c.as_slice-slots.ensures.value at c.walk.ensures in (
       λ b. walked_export U x v (length c.as_slice-slots.result.now) n c.walk.result w (sym c.ends_with.ensures ∙ b),

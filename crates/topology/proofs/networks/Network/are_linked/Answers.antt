@@ -1,5 +1,6 @@
 use Rattle.std.proofs.Common.{sym, ap, ◌∙◌}
-use Rattle.topology.specs.Networks.{numbers, is_in}
+use Rattle.topology.specs.Networks.{numbers}
+use Rattle.fc_values.specs.Fields.{is_in}
 use Rattle.topology.specs.Nearby.{near_numbers}
 use Rattle.topology.proofs.Neighbours.{near_linked, near_none}
 use Rattle.topology.proofs.networks.Network.are_linked.Goals as goal

@@ -1,6 +1,7 @@
 use Rattle.std.proofs.Common.{◌∙◌, sym, ap, subst, ℕ}
 use Rattle.arrayvec.specs.ArrayVec.{ArrayVec}
-use Rattle.topology.specs.Networks.{Network, numbers, is_in}
+use Rattle.topology.specs.Networks.{Network, numbers}
+use Rattle.fc_values.specs.Fields.{is_in}
 use Rattle.topology.specs.Changes.{are_linked}
 use Rattle.topology.specs.Nearby.{near_numbers, AtPlace}
 use Rattle.topology.proofs.Neighbours.{near_linked}

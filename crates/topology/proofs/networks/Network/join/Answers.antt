@@ -5,7 +5,8 @@ use Rattle.topology.specs.declared.types.Device.{Device}
 use Rattle.topology.specs.Networks.{NetDevice, device_of, edge_of}
 use Rattle.topology.specs.Changes.{insert_device, join_fault, joined}
 use Rattle.topology.specs.Nearby.{items_of, IsKept}
-use Rattle.topology.proofs.Lists.{insert_prefix, map_insert}
+use Rattle.topology.proofs.Lists.{map_insert}
+use Rattle.fc_values.proofs.Lists.{insert_prefix}
 use Rattle.topology.proofs.Kept.{lists_long, links_few, join_kept, rebuilt}
 use Rattle.topology.proofs.Making.{on_ok}
 use Rattle.topology.specs.contracts.networks.Network.{the_view}

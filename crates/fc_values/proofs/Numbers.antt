@@ -1,27 +1,15 @@
--- Rising numbers: one more in its place, and those that stay among others.
-use Rattle.std.proofs.Common.{◌≡◌, ℕ, ◌<◌, List, [], ◌∷◌, refl, sym, ◌∙◌, ap, arith, Bool, true, false, ◌||◌, nat_eq, nat_lt}
-use Rattle.std.specs.Prelude.{filter, if◌then◌else◌}
+-- Crates above cite this module: numbers of devices: one more in its place, and those that stay among others.
+use Rattle.std.proofs.Common.{◌≡◌, ℕ, ◌<◌, List, [], ◌∷◌, ◌++◌, refl, sym, ◌∙◌, ap, arith, Bool, true, false, ◌||◌, nat_eq, nat_lt}
+use Rattle.std.specs.Prelude.{filter}
 use Rattle.std.proofs.lemmas.Bool.{cond_both, ltb-true, lt-ltb}
 use Rattle.std.proofs.lemmas.Bool.Decides.{nat_tests}
-use Rattle.fc_values.specs.Fields.{Rises, rises}
-
-abbrev pub is_in : ℕ → List ℕ → Bool
-is_in d [] = false
-is_in d (n ∷ ns) = nat_eq n d || is_in d ns
-
--- one more, in its rising place
-abbrev pub with_number : ℕ → List ℕ → List ℕ
-with_number d [] = d ∷ []
-with_number d (n ∷ ns) = if nat_lt d n then (d ∷ n ∷ ns) else (n ∷ with_number d ns)
+use Rattle.fc_values.specs.Fields.{Rises, is_in, with_number}
+use Rattle.fc_values.proofs.Booleans.{or_true, or_no}
+use Rattle.fc_values.proofs.Rising.{rises_tail, AllAbove, above_less, all_above, rises_more}
 
 -- the number d, or one of these
 abbrev pub stays : ℕ → List ℕ → ℕ → Bool
 stays d ns e = nat_eq e d || is_in e ns
-
--- all numbers are above a
-abbrev pub AllAbove : ℕ → List ℕ → Type 0
-AllAbove a [] = Unit {0}
-AllAbove a (n ∷ ns) = (a < n) × AllAbove a ns
 
 -- the numbers ms are some of ns, in order
 pub data Part : List ℕ → List ℕ → Type 0 where
@@ -29,47 +17,18 @@ pub data Part : List ℕ → List ℕ → Type 0 where
   part_skip : {ms ns : List ℕ} (n : ℕ) → Part ms ns → Part ms (n ∷ ns)
   part_keep : {ms ns : List ℕ} (n : ℕ) → Part ms ns → Part (n ∷ ms) (n ∷ ns)
 
-above_less : (a b : ℕ) (ns : List ℕ) → a < b → AllAbove b ns → AllAbove a ns
-above_less a b [] l h = tt
-above_less a b (n ∷ ns) l h = (omega (arith, h.0), above_less a b ns l h.1)
-
-pub rises_rest : (n : ℕ) (ns : List ℕ) → Rises (n ∷ ns) → Rises ns
-rises_rest n [] h = tt
-rises_rest n (m ∷ ns) h = h.1
-
-pub all_above : (n : ℕ) (ns : List ℕ) → Rises (n ∷ ns) → AllAbove n ns
-all_above n [] h = tt
-all_above n (m ∷ ns) h = (h.0, above_less n m ns h.0 (all_above m ns h.1))
-
-rises_more : (n : ℕ) (ns : List ℕ) → AllAbove n ns → Rises ns → Rises (n ∷ ns)
-rises_more n [] a h = tt
-rises_more n (m ∷ ns) a h = (a.0, h)
-
-pub rises_test : (ns : List ℕ) → Rises ns → rises ns ≡ true
-rises_test [] h = refl
-rises_test (n ∷ []) h = refl
-rises_test (n ∷ m ∷ ns) h = let e = lt-ltb n m h.0 in let e' = rises_test (m ∷ ns) h.1 in rw (e, e') refl
-
 -- with one more, they still rise
 above_with : (a d : ℕ) (ns : List ℕ) → a < d → AllAbove a ns → AllAbove a (with_number d ns)
 above_with a d [] l h = (l, tt)
 above_with a d (n ∷ ns) l h = cond_both (nat_lt d n) (d ∷ n ∷ ns) (n ∷ with_number d ns) (AllAbove a) (λ e. (l, h)) (λ e. (h.0, above_with a d ns l h.1))
 
-or_first : (a b : Bool) → (a || b) ≡ false → a ≡ false
-or_first false b e = refl
-or_first true b e = absurd cc
-
-or_second : (a b : Bool) → (a || b) ≡ false → b ≡ false
-or_second false b e = e
-or_second true b e = absurd cc
-
 pub rises_with : (d : ℕ) (ns : List ℕ) → is_in d ns ≡ false → Rises ns → Rises (with_number d ns)
 rises_with d [] e h = tt
 rises_with d (n ∷ ns) e h =
     cond_both (nat_lt d n) (d ∷ n ∷ ns) (n ∷ with_number d ns) Rises (λ l. (ltb-true d n l, h)) (λ l.
-    let other : nat_eq n d ≡ false = or_first (nat_eq n d) (is_in d ns) e in
+    let other : nat_eq d n ≡ false = (or_no (nat_eq d n) (is_in d ns) e).0 in
     let below : n < d = grind (arith, nat_tests) in
-    rises_more n (with_number d ns) (above_with n d ns below (all_above n ns h)) (rises_with d ns (or_second (nat_eq n d) (is_in d ns) e) (rises_rest n ns h)))
+    rises_more n (with_number d ns) (above_with n d ns below (all_above n ns h)) (rises_with d ns (or_no (nat_eq d n) (is_in d ns) e).1 (rises_tail n ns h)))
 
 -- a part of rising numbers
 pub above_part : {ms ns : List ℕ} (a : ℕ) → Part ms ns → AllAbove a ns → AllAbove a ms
@@ -79,23 +38,23 @@ above_part a (part_keep n p) h = (h.0, above_part a p h.1)
 
 pub rises_part : {ms ns : List ℕ} → Part ms ns → Rises ns → Rises ms
 rises_part part_none h = tt
-rises_part (part_skip {ms} {ns} n p) h = rises_part p (rises_rest n ns h)
-rises_part (part_keep {ms} {ns} n p) h = rises_more n ms (above_part n p (all_above n ns h)) (rises_part p (rises_rest n ns h))
+rises_part (part_skip {ms} {ns} n p) h = rises_part p (rises_tail n ns h)
+rises_part (part_keep {ms} {ns} n p) h = rises_more n ms (above_part n p (all_above n ns h)) (rises_part p (rises_tail n ns h))
 
 -- what isn't among numbers isn't among a part of them
 pub not_in_part : {ms ns : List ℕ} (d : ℕ) → Part ms ns → is_in d ns ≡ false → is_in d ms ≡ false
 not_in_part d part_none e = refl
-not_in_part d (part_skip {ms} {ns} n p) e = not_in_part d p (or_second (nat_eq n d) (is_in d ns) e)
+not_in_part d (part_skip {ms} {ns} n p) e = not_in_part d p (or_no (nat_eq d n) (is_in d ns) e).1
 not_in_part d (part_keep {ms} {ns} n p) e =
-    let first = or_first (nat_eq n d) (is_in d ns) e in
-    let rest = not_in_part d p (or_second (nat_eq n d) (is_in d ns) e) in
+    let first = (or_no (nat_eq d n) (is_in d ns) e).0 in
+    let rest = not_in_part d p (or_no (nat_eq d n) (is_in d ns) e).1 in
     rw (first, rest) refl
 
 above_not_in : (a : ℕ) (ns : List ℕ) → AllAbove a ns → is_in a ns ≡ false
 above_not_in a [] h = refl
 above_not_in a (n ∷ ns) h =
     let above : a < n = h.0 in
-    let first : nat_eq n a ≡ false = grind (arith, nat_tests) in
+    let first : nat_eq a n ≡ false = grind (arith, nat_tests) in
     let rest = above_not_in a ns h.1 in
     rw (first, rest) refl
 
@@ -108,8 +67,8 @@ each_less : (q : ℕ → Bool) (n : ℕ) (ms ns : List ℕ) → AllAbove n ns �
 each_less q n ms [] a h = tt
 each_less q n ms (m ∷ ns) a h =
     let above : n < m = a.0 in
-    let other : nat_eq n m ≡ false = grind (arith, nat_tests) in
-    let first : q m ≡ (nat_eq n m || is_in m ms) = h.0 in
+    let other : nat_eq m n ≡ false = grind (arith, nat_tests) in
+    let first : q m ≡ (nat_eq m n || is_in m ms) = h.0 in
     (first ∙ ap (λ (b : Bool). b || is_in m ms) other, each_less q n ms ns a.1 h.1)
 
 -- a test that says which of the numbers are a part gives the part
@@ -117,18 +76,23 @@ filter_part : {ms ns : List ℕ} (q : ℕ → Bool) → Part ms ns → Rises ns 
 filter_part q part_none r h = refl
 filter_part q (part_skip {ms} {ns} n p) r h =
     let out : is_in n ms ≡ false = above_not_in n ms (above_part n p (all_above n ns r)) in
-    let rest = filter_part q p (rises_rest n ns r) h.1 in
+    let rest = filter_part q p (rises_tail n ns r) h.1 in
     let first = h.0 in
     rw (first, out) rest
 filter_part q (part_keep {ms} {ns} n p) r h =
     let same : nat_eq n n ≡ true = grind (arith, nat_tests) in
     let first = h.0 in
-    let rest = filter_part q p (rises_rest n ns r) (each_less q n ms ns (all_above n ns r) h.1) in
+    let rest = filter_part q p (rises_tail n ns r) (each_less q n ms ns (all_above n ns r) h.1) in
     rw (first, same) (ap (λ (xs : List ℕ). n ∷ xs) rest)
 
 each_stays : (d : ℕ) (ms ns : List ℕ) → is_in d ns ≡ false → EachOf (λ e. stays d ms e ≡ is_in e ms) ns
 each_stays d ms [] e = tt
-each_stays d ms (n ∷ ns) e = let first = or_first (nat_eq n d) (is_in d ns) e in (rw first refl, each_stays d ms ns (or_second (nat_eq n d) (is_in d ns) e))
+each_stays d ms (n ∷ ns) e =
+    let first : nat_eq n d ≡ false = flip (or_no (nat_eq d n) (is_in d ns) e).0 in
+    (rw first refl, each_stays d ms ns (or_no (nat_eq d n) (is_in d ns) e).1)
+  where
+    flip : nat_eq d n ≡ false → nat_eq n d ≡ false
+    flip f = grind (arith, nat_tests)
 
 -- a filter, and one more number that it lets through
 with_least : (d : ℕ) (ns : List ℕ) → AllAbove d ns → with_number d ns ≡ d ∷ ns
@@ -141,7 +105,7 @@ above_filter a q (n ∷ ns) h = cond_both (q n) (n ∷ filter q ns) (filter q ns
 
 filter_with : (q : ℕ → Bool) (d : ℕ) (ns : List ℕ) → q d ≡ true → Rises ns → filter q (with_number d ns) ≡ with_number d (filter q ns)
 filter_with q d [] e r = rw e refl
-filter_with q d (n ∷ ns) e r = by_tests (nat_lt d n) (q n) refl refl (filter_with q d ns e (rises_rest n ns r))
+filter_with q d (n ∷ ns) e r = by_tests (nat_lt d n) (q n) refl refl (filter_with q d ns e (rises_tail n ns r))
   where
     by_tests : (b c : Bool) → nat_lt d n ≡ b → q n ≡ c → filter q (with_number d ns) ≡ with_number d (filter q ns) → filter q (with_number d (n ∷ ns)) ≡ with_number d (filter q (n ∷ ns))
     by_tests true c t u h =
@@ -161,16 +125,12 @@ filter_twice q r f (d ∷ ds) = by_tests (q d) (r d) refl refl (filter_twice q r
     by_tests false true t u h = rw (t, u) (rw t h)
     by_tests false false t u h = rw (t, u) h
 
-or_from_second : (a b : Bool) → b ≡ true → (a || b) ≡ true
-or_from_second true b e = refl
-or_from_second false b e = e
-
 part_in : {ms ns : List ℕ} (e : ℕ) → Part ms ns → is_in e ms ≡ true → is_in e ns ≡ true
 part_in e part_none h = h
-part_in e (part_skip {ms} {ns} n p) h = or_from_second (nat_eq n e) (is_in e ns) (part_in e p h)
-part_in e (part_keep {ms} {ns} n p) h = by_test (nat_eq n e) refl h (part_in e p)
+part_in e (part_skip {ms} {ns} n p) h = or_true (nat_eq e n) (is_in e ns) (part_in e p h)
+part_in e (part_keep {ms} {ns} n p) h = by_test (nat_eq e n) refl h (part_in e p)
   where
-    by_test : (b : Bool) → nat_eq n e ≡ b → (nat_eq n e || is_in e ms) ≡ true → (is_in e ms ≡ true → is_in e ns ≡ true) → (nat_eq n e || is_in e ns) ≡ true
+    by_test : (b : Bool) → nat_eq e n ≡ b → (nat_eq e n || is_in e ms) ≡ true → (is_in e ms ≡ true → is_in e ns ≡ true) → (nat_eq e n || is_in e ns) ≡ true
     by_test true t h f = rw t refl
     by_test false t h f = rw t (f (rw t at h))
 
@@ -198,3 +158,11 @@ module _ (d : ℕ) {ms ns : List ℕ} (p : Part ms ns) (r : Rises ns) (other : i
 
 pub all_stay : (d : ℕ) (ns : List ℕ) → Rises ns → is_in d ns ≡ false → filter (stays d ns) (with_number d ns) ≡ with_number d ns
 all_stay d ns r other = part_stays d (part_all ns) r other
+
+pub in_append : (d : ℕ) (xs ys : List ℕ) → is_in d (xs ++ ys) ≡ (is_in d xs || is_in d ys)
+in_append d [] ys = refl
+in_append d (x ∷ xs) ys = by_test (nat_eq d x) (in_append d xs ys)
+  where
+    by_test : (q : Bool) → is_in d (xs ++ ys) ≡ (is_in d xs || is_in d ys) → (q || is_in d (xs ++ ys)) ≡ ((q || is_in d xs) || is_in d ys)
+    by_test true ih = refl
+    by_test false ih = ih
