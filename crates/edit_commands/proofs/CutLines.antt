@@ -1,8 +1,8 @@
 -- A text that is cut after its first line.
 use Rattle.std.proofs.Common.{ℕ, ◌≡◌, ◌+◌, ◌≤◌, ◌<◌, Bool, false, ◌==◌, List, ◌∷◌, length, take, drop, sym, ap, ◌∙◌, arith, length-drop}
 use Rattle.std.proofs.lemmas.Bool.Decides.{nat_tests}
-use Rattle.edit_commands.specs.Lines.{lines_of, line_size, line_text}
-use Rattle.edit_commands.proofs.FirstLine.{lines-first}
+use Rattle.fc_io.specs.Lines.{lines_of, line_size, line_text}
+use Rattle.fc_io.proofs.FirstLine.{lines-first}
 
 pub record IsCut (rest front back line : List ℕ) : Type 0 where
   pub first : lines_of rest ≡ front ∷ lines_of back

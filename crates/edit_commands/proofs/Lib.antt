@@ -1,4 +1,3 @@
-pub mod FirstLine
 pub mod Numbers
 pub mod Halves
 pub mod Marks

@@ -1,7 +1,7 @@
 -- A text, read line by line.
 use Rattle.std.proofs.Common.{ℕ, ◌≡◌, ◌+◌, ◌≤◌, Bool, true, false, ◌==◌, List, [], ◌∷◌, ◌++◌, length, refl, sym, ap, subst, ◌∙◌, arith, append_assoc, append-nil, if◌then◌else◌}
 use Rattle.std.proofs.lemmas.Bool.Decides.{nat_tests}
-use Rattle.edit_commands.specs.Lines.{lines_of}
+use Rattle.fc_io.specs.Lines.{lines_of}
 use Rattle.edit_commands.specs.LineByLine.{Judged, Accepted, Refused, WhereAccepted, Lines, AllLines, StopsAt, onto, and_lines, lines_from, Does, AreSaid, SaidBy}
 use Rattle.edit_commands.proofs.CutLines.{IsCut}
 

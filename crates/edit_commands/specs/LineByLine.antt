@@ -1,6 +1,6 @@
 -- Texts that are read line by line: each line is judged by what the lines before leave.
 use Rattle.std.specs.Prelude.{ℕ, ◌≡◌, ◌+◌, if◌then◌else◌, List, [], ◌∷◌, Option, Some, None}
-use Rattle.edit_commands.specs.Lines.{line_text, is_empty}
+use Rattle.fc_io.specs.Lines.{line_text, is_empty}
 
 -- what is accepted, or why it is refused
 pub data Judged (R A : Type 0) : Type 0 where

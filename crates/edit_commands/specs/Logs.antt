@@ -10,7 +10,8 @@ use Rattle.edit_commands.specs.declared.types.Fault.{Fault}
 use Rattle.edit_commands.specs.declared.types.Fault.TheVariants as fault
 use Rattle.edit_commands.specs.declared.types.ScriptFault.{ScriptFault}
 use Rattle.edit_commands.specs.declared.types.ScriptFault.TheVariants as script
-use Rattle.edit_commands.specs.Lines.{lines_of, words_of}
+use Rattle.fc_io.specs.Lines.{lines_of}
+use Rattle.edit_commands.specs.Lines.{words_of}
 use Rattle.fc_values.specs.Numbers.{number_of}
 use Rattle.edit_commands.specs.EditLines.{EditLine, edit_line}
 use Rattle.edit_commands.specs.LineByLine.{Judged, Refused, unless, Lines, StopsAt, lines_from, Does, SaidBy}

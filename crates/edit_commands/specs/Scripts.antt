@@ -16,7 +16,8 @@ use Rattle.edit_commands.specs.declared.types.ScriptFault.{ScriptFault}
 use Rattle.edit_commands.specs.declared.types.ScriptFault.TheVariants as script
 use Rattle.edit_commands.specs.declared.scripts.ScriptWord.{ScriptWord}
 use Rattle.edit_commands.specs.declared.scripts.ScriptWord.TheVariants as first
-use Rattle.edit_commands.specs.Lines.{lines_of, words_of}
+use Rattle.fc_io.specs.Lines.{lines_of}
+use Rattle.edit_commands.specs.Lines.{words_of}
 use Rattle.fc_values.specs.Numbers.{number_of}
 use Rattle.edit_commands.specs.EditLines.{EditLine, LinkLine, UnlinkLine, SetLine, PokeLine, JoinLine, LeaveLine, with_two, edit_line}
 use Rattle.edit_commands.specs.LineByLine.{Judged, Refused, unless, Lines, StopsAt, lines_from, Does, SaidBy}

@@ -12,7 +12,6 @@ mod values;
 mod words;
 
 pub use laws::{readings_agree, values_are_read};
-pub use lines::{first_line, line_text};
 pub use logs::read_log;
 pub use scripts::read_script;
 pub use types::{Command, Fault, Line, ScriptFault};

@@ -1,51 +1,20 @@
-//! The lines of a text, and the words of a line.
+//! The lines of a text, counted, and the words of a line.
 
-ghost use Rattle.std.specs.Prelude.{◌≡◌, ◌<◌, ◌≤◌, length, map, IfOk};
-ghost use Rattle.std.specs.Io.BufRead.{strip_last};
-ghost use Rattle.edit_commands.specs.Lines.{line_size, line_text, lines_of, words_of};
+ghost use Rattle.std.specs.Prelude.{◌≡◌, ◌≤◌, length, map, IfOk};
+ghost use Rattle.fc_io.specs.Lines.{lines_of};
+ghost use Rattle.edit_commands.specs.Lines.{words_of};
 
+use fc_io::first_line;
 use std::alloc::{AllocError, Global};
 
-/// How many bytes the first line of a text has, with its line feed.
-#[tactic(auto, using(crate::proofs::FirstLine::size_more, crate::proofs::FirstLine::size_here))]
-pub fn first_line(text: &[u8]) -> usize
-    ensures size { result ≡ line_size text.now }
-    ensures within { result ≤ length text.now }
-    ensures some { 0 < length text.now → 0 < result }
-{
-    for (i, b) in text.iter().enumerate() {
-        if *b == b'\n' {
-            return i + 1;
-        }
-    }
-    text.len()
-}
-
-/// A text without its last byte, where that is this one.
-fn without_last(text: &[u8], byte: u8) -> &[u8]
-    ensures { result.now ≡ strip_last byte text.now }
-{
-    match text {
-        [front @ .., last] if *last == byte => front,
-        _ => text,
-    }
-}
-
-/// A line without its line feed, and without one carriage return before its end.
-pub fn line_text(line: &[u8]) -> &[u8]
-    ensures { result.now ≡ line_text line.now }
-{
-    without_last(without_last(line, b'\n'), b'\r')
-}
-
-/// The words of a line.
+// The words of a line.
 pub(crate) fn words(alloc: Global, line: &[u8]) -> Result<Vec<&[u8]>, AllocError>
     ensures { IfOk result (λ ws. map (λ w. w.now) ws.items ≡ words_of line.now) }
 {
     line.split(|byte| *byte == b' ').collect(alloc)
 }
 
-/// How many lines a text has, the empty ones among them.
+// How many lines a text has, the empty ones among them.
 pub(crate) fn count_lines(text: &[u8]) -> usize
     ensures count { result ≡ length (lines_of text.now) }
     ensures within { result ≤ length text.now }

@@ -14,9 +14,10 @@ ghost use Rattle.edit_commands.specs.Code.{HasFault, HasFaultAt, texts};
 
 use crate::edits::edit_line;
 use crate::judging::judge;
-use crate::lines::{first_line, line_text, words};
+use crate::lines::words;
 use crate::types::{Fault, LineFault, ScriptFault};
 use crate::words::number;
+use fc_io::{first_line, line_text};
 use fc_nodes::Unfolded;
 use firing_core::{Edit, Entry};
 use std::alloc::Global;

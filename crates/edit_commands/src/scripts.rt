@@ -6,7 +6,8 @@ ghost use Rattle.fc_nodes.specs.Program.{Unfolding, unfolding_of};
 ghost use Rattle.firing_core.specs.Cores.{Core as CoreState, EditFits};
 ghost use Rattle.firing_core.specs.CoreViews.{core_of, IsCore};
 ghost use Rattle.firing_core.specs.Entries.{edit_of};
-ghost use Rattle.edit_commands.specs.Lines.{lines_of, words_of};
+ghost use Rattle.fc_io.specs.Lines.{lines_of};
+ghost use Rattle.edit_commands.specs.Lines.{words_of};
 ghost use Rattle.edit_commands.specs.EditLines.{edit_line};
 ghost use Rattle.edit_commands.specs.LineByLine.{WhereAccepted};
 ghost use Rattle.edit_commands.specs.Judging.{edit_fault, after_edit, IsEdit};
@@ -17,9 +18,10 @@ ghost use Rattle.edit_commands.specs.ScriptCode.{progress_of, IsWithin, HasRefus
 
 use crate::edits::{EditLine, edit_line};
 use crate::judging::judge;
-use crate::lines::{count_lines, first_line, line_text, words};
+use crate::lines::{count_lines, words};
 use crate::types::{Command, Fault, Line, LineFault, ScriptFault};
 use crate::words::number;
+use fc_io::{first_line, line_text};
 use fc_nodes::Unfolded;
 use fc_values::{InputDecl, Memory};
 use firing_core::{Core, Edit};

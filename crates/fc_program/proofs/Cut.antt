@@ -3,9 +3,9 @@ use Rattle.std.proofs.Common.{ℕ, ◌≡◌, ◌+◌, ◌-◌, ◌≤◌, ◌<�
 use Rattle.std.proofs.Math.Seq.{take-add}
 use Rattle.std.proofs.lemmas.List.{drop-drop, drop_all}
 use Rattle.std.proofs.lemmas.Grind.{common_steps}
-use Rattle.edit_commands.specs.Lines.{lines_of, line_size}
+use Rattle.fc_io.specs.Lines.{lines_of, line_size}
 use Rattle.fc_program.specs.Sections.{is_separator, onto_section, sections_from, sections_of}
-use Rattle.edit_commands.proofs.FirstLine.{lines-first}
+use Rattle.fc_io.proofs.FirstLine.{lines-first}
 use Rattle.fc_values.proofs.Lists.{whole}
 
 -- a first line that is a separator ends an empty section

@@ -2,7 +2,7 @@
 use Rattle.std.proofs.Common.{ℕ, ◌≡◌, ◌+◌, ◌≤◌, Bool, true, false, cond, List, [], ◌∷◌, length, refl, subst, sym, arith, length-append}
 use Rattle.std.specs.Prelude.{◌==◌}
 use Rattle.std.specs.List.{onto_first}
-use Rattle.edit_commands.specs.Lines.{lines_of}
+use Rattle.fc_io.specs.Lines.{lines_of}
 use Rattle.fc_program.specs.Sections.{AreWithin, is_separator, onto_section, sections_from, sections_of}
 
 abbrev total : List (List ℕ) → ℕ

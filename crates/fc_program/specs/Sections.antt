@@ -1,7 +1,7 @@
 -- An input is cut into sections by the lines that are exactly `%%`.
 use Rattle.std.specs.Prelude.{ℕ, ◌≤◌, Bool, cond, List, [], ◌∷◌, ◌++◌, length, codes}
 use Rattle.std.specs.Str.{bytes_eq}
-use Rattle.edit_commands.specs.Lines.{lines_of, line_text}
+use Rattle.fc_io.specs.Lines.{lines_of, line_text}
 
 -- a line that separates sections
 abbrev pub is_separator : List ℕ → Bool

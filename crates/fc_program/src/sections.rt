@@ -2,7 +2,7 @@
 ghost use Rattle.std.specs.Prelude.{◌≡◌, length, map, IfOk};
 ghost use Rattle.fc_program.specs.Sections.{AreWithin, is_separator, sections_of};
 
-use edit_commands::{first_line, line_text};
+use fc_io::{first_line, line_text};
 use fc_values::Memory;
 use std::alloc::Global;
 

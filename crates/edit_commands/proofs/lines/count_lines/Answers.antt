@@ -1,5 +1,5 @@
 use Rattle.std.proofs.Common.{refl}
-use Rattle.edit_commands.specs.Lines.{line_text}
+use Rattle.fc_io.specs.Lines.{line_text}
 use Rattle.edit_commands.proofs.CutLines.{cut_at, one_counted}
 use Rattle.edit_commands.proofs.lines.count_lines.Goals as goal
 

@@ -1,9 +1,9 @@
--- The first line of a text, and its size.
+-- Crates above cite this module: the first line of a text, and its size.
 use Rattle.std.proofs.Common.{ℕ, suc, ◌≡◌, ◌+◌, ◌<◌, Bool, true, false, cond, List, [], ◌∷◌, length, take, drop, get_or, refl, ap, ◌∙◌, sym, arith, add-one, nat_eq}
 use Rattle.std.specs.Prelude.{◌==◌}
 use Rattle.std.specs.List.{onto_first}
 use Rattle.std.proofs.Math.Seq.{drop-cons}
-use Rattle.edit_commands.specs.Lines.{lines_of, line_size}
+use Rattle.fc_io.specs.Lines.{lines_of, line_size}
 
 -- one more byte that is no line feed
 pub size_more : (xs : List ℕ) (i : ℕ) → i < length xs → nat_eq (get_or xs i 0) 10 ≡ false → line_size (drop i xs) ≡ line_size (drop (i + 1) xs) + 1
