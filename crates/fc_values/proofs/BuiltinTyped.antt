@@ -1,4 +1,4 @@
--- the typing rules of the builtins: where the arguments fit a rule there is a value, and it fits
+-- Crates above cite this module: where the arguments of a builtin fit a typing rule there is a value, and it fits.
 use Rattle.std.proofs.Common.{◌≡◌, Option, None, Some, option_map, ℕ, zero, suc, ◌<◌, ◌≤◌, ◌+◌, ◌-◌, ◌*◌, min, List, [], ◌∷◌, length, get_or, refl, ap, arith, Bool, true, false, nat_eq, ◌&&◌, ◌||◌, not, if◌then◌else◌}
 use Rattle.std.proofs.lemmas.Grind.{common_steps}
 use Rattle.std.proofs.lemmas.List.{length-map}
@@ -160,12 +160,12 @@ hood_typed _ ceiling device ds _ _ vs folds_all h =
     (λ es p. let s = all_typed ceiling (others device es) (others_fit ceiling device BoolType es p) in (BoolValue s.0, ap (option_map BoolValue) s.1, tt)) vs h)
 
 -- the arguments at a position
-nth_fits : (ceiling : ℕ) (t : LocalType) (es : Entries) (i : ℕ) → AllFit ceiling t es → i < length es → Fits ceiling t (get_or es i (0, IntValue 0)).1
+pub nth_fits : (ceiling : ℕ) (t : LocalType) (es : Entries) (i : ℕ) → AllFit ceiling t es → i < length es → Fits ceiling t (get_or es i (0, IntValue 0)).1
 nth_fits ceiling t [] i h r = absurd (omega arith)
 nth_fits ceiling t (e ∷ es) zero h r = h.0
 nth_fits ceiling t (e ∷ es) (suc i) h r = nth_fits ceiling t es i h.1 (omega arith)
 
-argument_fits : (ceiling : ℕ) (ds : List ℕ) (t : ValueType) (v : AnyValue) (i : ℕ) → FitsOver ceiling ds t v → i < length ds → Fits ceiling (inner t) (argument_nth i v)
+pub argument_fits : (ceiling : ℕ) (ds : List ℕ) (t : ValueType) (v : AnyValue) (i : ℕ) → FitsOver ceiling ds t v → i < length ds → Fits ceiling (inner t) (argument_nth i v)
 argument_fits ceiling ds (TypeLocal t) (ValueLocal v) i h r = h
 argument_fits ceiling ds (TypeLocal t) (ValueField es) i h r = absurd h
 argument_fits ceiling ds (TypeField t) (ValueLocal v) i h r = absurd h
@@ -174,7 +174,7 @@ argument_fits ceiling ds (TypeField t) (ValueField es) i h r =
     let long : i < length (devices es) = rw same r in
     nth_fits ceiling t es i h.1 (omega (arith, length-map es device_of))
 
-arguments_fit : (ceiling : ℕ) (ds : List ℕ) (ts : List ValueType) (vs : List AnyValue) (i : ℕ) → FitEachOver ceiling ds ts vs → i < length ds →
+pub arguments_fit : (ceiling : ℕ) (ds : List ℕ) (ts : List ValueType) (vs : List AnyValue) (i : ℕ) → FitEachOver ceiling ds ts vs → i < length ds →
     FitEach ceiling (inners ts) (arguments_nth i vs)
 arguments_fit ceiling ds [] [] i h r = tt
 arguments_fit ceiling ds (t ∷ ts) (v ∷ vs) i h r = (argument_fits ceiling ds t v i h.0 r, arguments_fit ceiling ds ts vs i h.1 r)
@@ -190,7 +190,7 @@ locals_fit ceiling ds (TypeLocal t ∷ ts) (ValueField es ∷ vs) e h = absurd h
 locals_fit ceiling ds [] (v ∷ vs) e h = absurd h
 locals_fit ceiling ds (TypeLocal t ∷ ts) [] e h = absurd h
 
-no_devices : (ceiling : ℕ) (ds : List ℕ) (ts : List ValueType) (vs : List AnyValue) → has_field ts ≡ false → FitEachOver ceiling ds ts vs → field_devices vs ≡ None
+pub no_devices : (ceiling : ℕ) (ds : List ℕ) (ts : List ValueType) (vs : List AnyValue) → has_field ts ≡ false → FitEachOver ceiling ds ts vs → field_devices vs ≡ None
 no_devices ceiling ds [] [] e h = refl
 no_devices ceiling ds (TypeLocal t ∷ ts) (ValueLocal v ∷ vs) e h = no_devices ceiling ds ts vs e h.1
 no_devices ceiling ds (TypeField t ∷ ts) vs e h = absurd cc
@@ -198,7 +198,7 @@ no_devices ceiling ds (TypeLocal t ∷ ts) (ValueField es ∷ vs) e h = absurd h
 no_devices ceiling ds [] (v ∷ vs) e h = absurd h
 no_devices ceiling ds (TypeLocal t ∷ ts) [] e h = absurd h
 
-some_devices : (ceiling : ℕ) (ds : List ℕ) (ts : List ValueType) (vs : List AnyValue) → has_field ts ≡ true → FitEachOver ceiling ds ts vs → field_devices vs ≡ Some ds
+pub some_devices : (ceiling : ℕ) (ds : List ℕ) (ts : List ValueType) (vs : List AnyValue) → has_field ts ≡ true → FitEachOver ceiling ds ts vs → field_devices vs ≡ Some ds
 some_devices ceiling ds [] vs e h = absurd cc
 some_devices ceiling ds (TypeLocal t ∷ ts) (ValueLocal v ∷ vs) e h = some_devices ceiling ds ts vs e h.1
 some_devices ceiling ds (TypeField t ∷ ts) (ValueField es ∷ vs) e h = ap Some h.0.0
@@ -210,7 +210,7 @@ same_devices_refl : (ds : List ℕ) → same_devices ds ds ≡ true
 same_devices_refl [] = refl
 same_devices_refl (d ∷ ds) = let ih = same_devices_refl ds in grind (arith, common_steps)
 
-fields_over : (ceiling : ℕ) (ds : List ℕ) (ts : List ValueType) (vs : List AnyValue) → FitEachOver ceiling ds ts vs → are_over ds vs ≡ true
+pub fields_over : (ceiling : ℕ) (ds : List ℕ) (ts : List ValueType) (vs : List AnyValue) → FitEachOver ceiling ds ts vs → are_over ds vs ≡ true
 fields_over ceiling ds ts [] h = refl
 fields_over ceiling ds (t ∷ ts) (ValueLocal v ∷ vs) h = fields_over ceiling ds ts vs h.1
 fields_over ceiling ds (TypeField t ∷ ts) (ValueField es ∷ vs) h = rw (h.0.0, same_devices_refl ds) (fields_over ceiling ds ts vs h.1)

@@ -4,6 +4,8 @@ pub mod Lists
 pub mod Numbers
 pub mod SlotReads
 pub mod Forms
+pub mod Orders
+pub mod Readings
 pub mod Inversions
 pub mod Folds
 pub mod ByPosition

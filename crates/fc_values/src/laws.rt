@@ -1,8 +1,27 @@
 //! Laws of the definitions.
 
-ghost use Rattle.fc_values.specs.Laws.{BuiltinHasValue};
+ghost use Rattle.fc_values.specs.Laws.{BuiltinHasValue, EqualSaysSame, GreatestIsGreatest, LeastIsLeast, ReadsLocal, ReadsPointwise, ReadsRestricted, ReadsWithEntry};
 
 /// Arguments that fit a typing rule of a builtin have a value, which fits the rule's type.
 pub fn builtin_has_value()
     ensures { BuiltinHasValue }
+{}
+
+/// The least of values of one form is one of them and at most each, and the greatest at least each.
+pub fn least_and_greatest()
+    ensures least { LeastIsLeast }
+    ensures greatest { GreatestIsGreatest }
+{}
+
+/// `==` of two values of one form says that they are equal.
+pub fn equal_says_same()
+    ensures { EqualSaysSame }
+{}
+
+/// What fields have at a device: one with one more entry, a restricted one, and one that an operator makes.
+pub fn fields_are_read()
+    ensures entry { ReadsWithEntry }
+    ensures restricted { ReadsRestricted }
+    ensures pointwise { ReadsPointwise }
+    ensures local { ReadsLocal }
 {}

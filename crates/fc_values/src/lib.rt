@@ -13,7 +13,7 @@ mod values;
 
 pub use builtins::{Builtin, apply};
 pub use exports::{Export, Slot, Slots, copy_export};
-pub use laws::builtin_has_value;
+pub use laws::{builtin_has_value, equal_says_same, fields_are_read, least_and_greatest};
 pub use memory::Memory;
 pub use types::{Declared, InputDecl, InputTy, LocalTy, Name, Ty, copy_declared, inner};
 pub use values::{FieldVal, Local, Value, blank_of, compare, copy, copy_locals, fits, overwrite};
