@@ -7,17 +7,17 @@ use Rattle.fc_values.specs.Builtins.{builtin_value}
 use Rattle.fc_values.specs.Trees.{Trees, Keep, nth_tree}
 use Rattle.fc_values.specs.Exports.{SlotValue}
 use Rattle.fc_nodes.specs.declared.nodes.Node.{Node}
-use Rattle.fc_nodes.specs.Terms.{Term, Terms, NoMore, More, Apply, OfApply, kept, kept_all, kept_before, size, AllLaid, places, term_at, terms_by, HasNode}
+use Rattle.fc_nodes.specs.Terms.{Term, Terms, NoMore, More, Apply, OfApply, kept, kept_all, kept_before, size, AllLaid, places, term_at, terms_by}
 use Rattle.fc_nodes.specs.Flat.{tree_at, trees_at, Marked, AllMarked}
-use Rattle.fc_nodes.proofs.Places.{AllAbove}
+use Rattle.fc_nodes.proofs.Places.{AllAbove, formed_above}
 use Rattle.fc_nodes.proofs.Kids.{laid_term, SomeKids, apply_laid}
 use Rattle.fc_nodes.proofs.Kept.{kept_step, kept_size, kept_none}
 use Rattle.device_eval.specs.Evaluation.{Situation, Vars, Outcome, Outcomes, eval_of, eval_all, after_all, on_some}
 use Rattle.flat_exports.specs.Layouts.{LayoutValue}
 use Rattle.alignment.specs.Slots.{FlatEnv}
 use Rattle.device_eval.specs.Environments.{env_at, EnvFits}
-use Rattle.device_eval.specs.Walks.{Room, SameOut, Can, Did, CanAt, DidAt, Stands}
-use Rattle.device_eval.specs.Rows.{outcomes_at, row_trees, row_kept, Row, FitEach, MarkedEach, first_of, CanEach, DidEach}
+use Rattle.device_eval.specs.Walks.{Room, SameOut, Can, Did, DidAt, ReadyAt}
+use Rattle.device_eval.specs.Rows.{outcomes_at, row_trees, row_kept, Row, FitEach, MarkedEach, first_of, CanEach, DidEach, ReadyEach}
 use Rattle.device_eval.proofs.Frames.{env_child, env_fits}
 use Rattle.device_eval.proofs.Steps.{some_on}
 use Rattle.device_eval.proofs.RowSteps.{rest_row}
@@ -87,12 +87,15 @@ some_all : (os : Outcomes) (f : List AnyValue → Trees → Outcome) → IsSome 
 some_all None f h = absurd cc
 some_all (Some r) f h = refl
 
-module _ (ns : List Node) (ab : AllAbove ns) (lay : LayoutValue) (p : ℕ) (st : Stands ns lay p) (t : ValueType) (o : Builtin) (ks : List ℕ) (h : HasNode ns p (OfApply o) t ks) (S : Situation) (vars : Vars) (env : FlatEnv) (xs : List SlotValue) (can : CanAt S ns p vars env xs) where
+module _ {S : Situation} {ns : List Node} {lay : LayoutValue} {p : ℕ} {o : Builtin} {t : ValueType} {ks : List ℕ} {vars : Vars} {env : FlatEnv} {xs : List SlotValue} (here : ReadyAt S ns lay p (OfApply o) t ks vars env xs) where
+  ab : AllAbove ns
+  ab = formed_above ns here.ready.stands.formed
+
   all : Terms
   all = terms_by (term_at ns) ks
 
   kids : SomeKids ns p (Apply t o) ks
-  kids = apply_laid ns ab p o t ks h st.laid
+  kids = apply_laid ns ab p o t ks here.node here.ready.stands.laid
 
   term_is : term_at ns p ≡ Apply t o all
   unfolding all
@@ -107,16 +110,16 @@ module _ (ns : List Node) (ab : AllAbove ns) (lay : LayoutValue) (p : ℕ) (st :
   kids_are = let i = kids in i.stand_at
 
   can_a : Can S p (Apply t o all) (kept_before ns p) vars env xs
-  can_a = subst (λ u. Can S p u (kept_before ns p) vars env xs) term_is can
+  can_a = subst (λ u. Can S p u (kept_before ns p) vars env xs) term_is here.ready.can
 
   slot_next : kept_before ns p ≡ kept_before ns (suc p)
-  slot_next = let k = kept_step ns p _ _ _ h in omega (arith, k)
+  slot_next = let k = kept_step ns p _ _ _ here.node in omega (arith, k)
 
   outcomes_are : eval_all S (suc p) 0 all vars (env_at (Apply t o all) (kept_before ns p) env) ≡ outcomes_at S ns ks vars env
   outcomes_are = all_is ns ab S t o all (kept_before ns p) vars env all (suc p) 0 (kept_before ns p) kids_laid slot_next (λ j zs. let e : 0 + j ≡ j = omega arith in ap (λ n. nth_tree n (trees_at all (kept_before ns p) zs)) e) ∙ ap (λ qs. outcomes_at S ns qs vars env) (sym kids_are)
 
-  pub apply_can : CanEach S ns ks vars env xs
-  apply_can =
+  can_each : CanEach S ns ks vars env xs
+  can_each =
       let can' = can_a in
       let runs : IsSome (outcomes_at S ns ks vars env) = rw (← outcomes_are) (some_all _ _ can'.runs) in
       subst (λ qs. CanEach S ns qs vars env xs) (sym kids_are) (record {
@@ -126,7 +129,10 @@ module _ (ns : List Node) (ab : AllAbove ns) (lay : LayoutValue) (p : ℕ) (st :
         runs = subst (λ qs. IsSome (outcomes_at S ns qs vars env)) kids_are runs;
       })
 
-  module _ (vs : List AnyValue) (ys : List SlotValue) (did : DidEach S ns ks vars env xs [] vs ys) where
+  pub apply_can : {qs : List ℕ} → qs ≡ ks → ReadyEach S ns lay qs vars env xs
+  apply_can {qs} e = record { can = subst (λ js. CanEach S ns js vars env xs) (sym e) can_each; layout = here.ready.stands.layout; formed = here.ready.stands.formed }
+
+  module _ {vs : List AnyValue} {ys : List SlotValue} (did : DidEach S ns ks vars env xs [] vs ys) where
     values_are : vs ≡ did.vs
     values_are = did.added
 
@@ -136,8 +142,8 @@ module _ (ns : List Node) (ab : AllAbove ns) (lay : LayoutValue) (p : ℕ) (st :
     pub apply_may : IsSome (builtin_value o S.ceiling S.device vs)
     apply_may = let can' = can_a in some_on _ _ (rw apply_gives at can'.runs)
 
-    pub apply_done : (v : AnyValue) → builtin_value o S.ceiling S.device vs ≡ Some v → DidAt S ns p vars env xs v ys
-    apply_done v e =
+    pub apply_done : {v : AnyValue} → builtin_value o S.ceiling S.device vs ≡ Some v → DidAt S ns p vars env xs v ys
+    apply_done {v} e =
         let tr : row_trees ns ks ys ≡ trees_at all (kept_before ns p) ys = ap (λ qs. row_trees ns qs ys) kids_are ∙ trees_row ns ab all (suc p) (kept_before ns p) ys kids_laid slot_next in
         let m : MarkedEach ns (places (suc p) all) ys = subst (λ qs. MarkedEach ns qs ys) kids_are did.marked in
         let u : SameOut (kept_before ns (first_of (places (suc p) all))) (row_kept ns (places (suc p) all)) xs ys = subst (λ qs. SameOut (kept_before ns (first_of qs)) (row_kept ns qs) xs ys) kids_are did.out in
@@ -150,11 +156,11 @@ module _ (ns : List Node) (ab : AllAbove ns) (lay : LayoutValue) (p : ℕ) (st :
         subst (λ w. Did S p w (kept_before ns p) vars env xs v ys) (sym term_is) d
 
   later_of : (xs : Terms) → p < get_or (places (suc p) xs) 0 (length ns)
-  later_of NoMore = st.within
+  later_of NoMore = here.ready.stands.within
   later_of (More x xs) = omega arith
 
-  pub apply_later : p < get_or ks 0 (length ns)
-  apply_later = subst (λ qs. p < get_or qs 0 (length ns)) (sym kids_are) (later_of all)
+  pub apply_later : {qs : List ℕ} → qs ≡ ks → p < get_or qs 0 (length ns)
+  apply_later e = subst (λ qs. p < get_or qs 0 (length ns)) (sym (e ∙ kids_are)) (later_of all)
 
-pub each_as : (S : Situation) (ns : List Node) (ks ks' : List ℕ) (vars : Vars) (env : FlatEnv) (xs : List SlotValue) (old old' new : List AnyValue) (ys : List SlotValue) → ks ≡ ks' → old ≡ old' → DidEach S ns ks vars env xs old new ys → DidEach S ns ks' vars env xs old' new ys
-each_as S ns ks ks' vars env xs old old' new ys e f d = subst (λ qs. DidEach S ns qs vars env xs old' new ys) e (subst (λ o. DidEach S ns ks vars env xs o new ys) f d)
+pub each_as : {S : Situation} {ns : List Node} {ks ks' : List ℕ} {vars : Vars} {env : FlatEnv} {xs : List SlotValue} {old old' new : List AnyValue} {ys : List SlotValue} → ks ≡ ks' → old ≡ old' → DidEach S ns ks vars env xs old new ys → DidEach S ns ks' vars env xs old' new ys
+each_as {S} {ns} {ks} {ks'} {vars} {env} {xs} {old} {old'} {new} {ys} e f d = subst (λ qs. DidEach S ns qs vars env xs old' new ys) e (subst (λ o. DidEach S ns ks vars env xs o new ys) f d)

@@ -8,9 +8,9 @@ use Rattle.fc_values.specs.Fields.{AnyValue, ValueLocal}
 use Rattle.fc_values.specs.Trees.{Tree, Keep, Done, Then}
 use Rattle.fc_values.specs.Exports.{SlotValue, slot_at}
 use Rattle.fc_nodes.specs.declared.nodes.Node.{Node}
-use Rattle.fc_nodes.specs.Terms.{Evolution, ByRep, ByShare, Term, Evolve, OfEvolve, kept, kept_before, size, term_at, HasNode}
+use Rattle.fc_nodes.specs.Terms.{Evolution, ByRep, ByShare, Term, Evolve, OfEvolve, kept, kept_before, size, term_at}
 use Rattle.fc_nodes.specs.Flat.{tree_at}
-use Rattle.fc_nodes.proofs.Places.{AllAbove}
+use Rattle.fc_nodes.proofs.Places.{formed_above}
 use Rattle.fc_nodes.proofs.Kids.{TwoKids, evolve_laid}
 use Rattle.fc_nodes.proofs.Kept.{one_more, kept_size}
 use Rattle.device_eval.specs.Neighbours.{kept_there}
@@ -20,7 +20,7 @@ use Rattle.alignment.specs.Slots.{FlatEnv, NearSlots, OwnHas, NearHave}
 use Rattle.device_eval.specs.Environments.{env_at, near_at}
 use Rattle.share_op.specs.Hearing.{slot_entries, own_slot_or}
 use Rattle.device_eval.specs.Starts.{started}
-use Rattle.device_eval.specs.Walks.{SameIn, Can, Did, CanAt, DidAt, Stands, IsLocal}
+use Rattle.device_eval.specs.Walks.{SameIn, Can, Did, DidAt, Stands, IsLocal, Ready, ReadyAt}
 use Rattle.fc_values.proofs.SlotReads.{slot_set_same, slot_set_other}
 use Rattle.device_eval.proofs.Frames.{tree_same, marked_same, env_child, env_fits, room_part, room_behind, still_then, still_set}
 use Rattle.device_eval.proofs.Steps.{after_some, local_is, can_all, did_all, kid_is, stands_kid, slot_is, own_has, near_have}
@@ -112,9 +112,9 @@ module _ (S : Situation) (p : ℕ) (t : ValueType) (v : Evolution) (a b : Term) 
           },
         )
 
-module _ (ns : List Node) (ab : AllAbove ns) (lay : LayoutValue) (p : ℕ) (st : Stands ns lay p) (v : Evolution) (t : ValueType) (ks : List ℕ) (h : HasNode ns p (OfEvolve v) t ks) (S : Situation) (vars : Vars) (env : FlatEnv) (xs : List SlotValue) (can : CanAt S ns p vars env xs) where
+module _ {S : Situation} {ns : List Node} {lay : LayoutValue} {p : ℕ} {v : Evolution} {t : ValueType} {ks : List ℕ} {vars : Vars} {env : FlatEnv} {xs : List SlotValue} (here : ReadyAt S ns lay p (OfEvolve v) t ks vars env xs) where
   pub evolve_kids : TwoKids ns p (Evolve t v) ks
-  evolve_kids = evolve_laid ns ab p v t ks h st.laid
+  evolve_kids = evolve_laid ns (formed_above ns here.ready.stands.formed) p v t ks here.node here.ready.stands.laid
 
   abbrev A : Term
   A = term_at ns (get_or ks 0 0)
@@ -126,10 +126,10 @@ module _ (ns : List Node) (ab : AllAbove ns) (lay : LayoutValue) (p : ℕ) (st :
   K = kept_before ns p
 
   can_e : Can S p (Evolve t v A B) K vars env xs
-  can_e = let o = evolve_kids in subst (λ u. Can S p u K vars env xs) o.term can
+  can_e = let o = evolve_kids in subst (λ u. Can S p u K vars env xs) o.term here.ready.can
 
   slot_0 : suc K ≡ kept_before ns (get_or ks 0 0)
-  slot_0 = let o = evolve_kids in let k = one_more ns p (get_or ks 0 0) _ _ _ h o.first_is in omega (arith, k)
+  slot_0 = let o = evolve_kids in let k = one_more ns p (get_or ks 0 0) _ _ _ here.node o.first_is in omega (arith, k)
 
   slot_1 : suc K + kept A ≡ kept_before ns (get_or ks 1 0)
   slot_1 =
@@ -141,29 +141,29 @@ module _ (ns : List Node) (ab : AllAbove ns) (lay : LayoutValue) (p : ℕ) (st :
       omega (arith, k, s)
 
   pub evolve_slot : number_in lay p ≡ Some K
-  evolve_slot = slot_is ns lay p st (OfEvolve v) t ks (inner t) h refl
+  evolve_slot = slot_is ns lay p here.ready.stands (OfEvolve v) t ks (inner t) here.node refl
 
   slot_as : (k : ℕ) → number_in lay p ≡ Some k → k ≡ K
   slot_as k e = let f = evolve_slot in cc
 
-  pub evolve_own : (k : ℕ) → number_in lay p ≡ Some k → OwnHas k env.own
-  evolve_own k e = let can' = can_e in subst (λ j. OwnHas j env.own) (sym (slot_as k e)) (own_has (Evolve t v A B) K env.own (omega arith) can'.fits.own)
+  pub evolve_own : {k : ℕ} → number_in lay p ≡ Some k → OwnHas k env.own
+  evolve_own {k} e = let can' = can_e in subst (λ j. OwnHas j env.own) (sym (slot_as k e)) (own_has (Evolve t v A B) K env.own (omega arith) can'.fits.own)
 
-  pub evolve_near : (k : ℕ) → number_in lay p ≡ Some k → NearHave k env.near
-  evolve_near k e = let can' = can_e in subst (λ j. NearHave j env.near) (sym (slot_as k e)) (near_have (Evolve t v A B) K env.near (omega arith) can'.fits.near)
+  pub evolve_near : {k : ℕ} → number_in lay p ≡ Some k → NearHave k env.near
+  evolve_near {k} e = let can' = can_e in subst (λ j. NearHave j env.near) (sym (slot_as k e)) (near_have (Evolve t v A B) K env.near (omega arith) can'.fits.near)
 
-  pub evolve_a : (q : ℕ) → q ≡ get_or ks 0 q → (p < q) × (q < length ns) × (CanAt S ns q vars env xs × Stands ns lay q)
-  evolve_a q e =
+  pub evolve_a : {q : ℕ} → q ≡ get_or ks 0 q → (p < q) × (q < length ns) × Ready S ns lay q vars env xs
+  evolve_a {q} e =
       let o = evolve_kids in
       let l = o.long in
       let e' = kid_is ks 0 q e (omega (arith, l)) in
       let i = o.first_is in
-      let s = stands_kid ns lay p (get_or ks 0 0) st o.first in
+      let s = stands_kid ns lay p (get_or ks 0 0) here.ready.stands o.first in
       let w = s.within in
       let d = can_all S _ _ _ _ _ _ vars env env xs (sym (e' ∙ i)) (ap (term_at ns) (sym e')) (slot_0 ∙ ap (kept_before ns) (sym e')) refl (evolve_first S p t v A B K vars env xs can_e) in
-      (omega (arith, e', i), omega (arith, e', w), (d, subst (λ r. Stands ns lay r) (sym e') s))
+      (omega (arith, e', i), omega (arith, e', w), record { can = d; stands = subst (λ r. Stands ns lay r) (sym e') s })
 
-  module _ (q : ℕ) (e : q ≡ get_or ks 0 q) (va : AnyValue) (ys : List SlotValue) (did : DidAt S ns q vars env xs va ys) where
+  module _ {q : ℕ} (e : q ≡ get_or ks 0 q) {va : AnyValue} {ys : List SlotValue} (did : DidAt S ns q vars env xs va ys) where
     did_a : Did S (suc p) A (suc K) vars env xs va ys
     did_a =
         let o = evolve_kids in
@@ -174,26 +174,26 @@ module _ (ns : List Node) (ab : AllAbove ns) (lay : LayoutValue) (p : ℕ) (st :
     pub first_is_local : IsLocal va
     first_is_local = evolve_local S p t v A B K vars env xs can_e va ys did_a
 
-    module _ (k : ℕ) (number : number_in lay p ≡ Some k) (first : LocalValue) (is : va ≡ ValueLocal first) (x : AnyValue) (from : x ≡ started v S.device env k first) where
+    module _ {k : ℕ} (number : number_in lay p ≡ Some k) {first : LocalValue} (is : va ≡ ValueLocal first) {x : AnyValue} (from : x ≡ started v S.device env k first) where
       did_f : Did S (suc p) A (suc K) vars env xs (ValueLocal first) ys
       did_f = subst (λ u. Did S (suc p) A (suc K) vars env xs u ys) is did_a
 
       from_k : x ≡ started v S.device env K first
       from_k = from ∙ ap (λ (j : ℕ). started v S.device env j first) (slot_as k number)
 
-      pub evolve_b : (q' : ℕ) → q' ≡ get_or ks 1 q' → (p < q') × (q' < length ns) × (CanAt S ns q' ((p, x) ∷ vars) env ys × Stands ns lay q')
-      evolve_b q' f =
+      pub evolve_b : {q' : ℕ} → q' ≡ get_or ks 1 q' → (p < q') × (q' < length ns) × Ready S ns lay q' ((p, x) ∷ vars) env ys
+      evolve_b {q'} f =
           let o = evolve_kids in
           let l = o.long in
           let f' = kid_is ks 1 q' f (omega (arith, l)) in
           let i = o.second_is in
-          let s = stands_kid ns lay p (get_or ks 1 0) st o.second in
+          let s = stands_kid ns lay p (get_or ks 1 0) here.ready.stands o.second in
           let w = s.within in
           let c : Can S (suc p + size A) B (suc K + kept A) ((p, x) ∷ vars) env ys = subst (λ u. Can S (suc p + size A) B (suc K + kept A) ((p, u) ∷ vars) env ys) (sym from_k) (evolve_second S p t v A B K vars env xs can_e first ys did_f) in
           let d = can_all S _ _ _ _ _ _ ((p, x) ∷ vars) env env ys (sym (f' ∙ i)) (ap (term_at ns) (sym f')) (slot_1 ∙ ap (kept_before ns) (sym f')) refl c in
-          (omega (arith, f', i), omega (arith, f', w), (d, subst (λ r. Stands ns lay r) (sym f') s))
+          (omega (arith, f', i), omega (arith, f', w), record { can = d; stands = subst (λ r. Stands ns lay r) (sym f') s })
 
-      module _ (q' : ℕ) (f : q' ≡ get_or ks 1 q') (vb : AnyValue) (zs : List SlotValue) (did' : DidAt S ns q' ((p, x) ∷ vars) env ys vb zs) where
+      module _ {q' : ℕ} (f : q' ≡ get_or ks 1 q') {vb : AnyValue} {zs : List SlotValue} (did' : DidAt S ns q' ((p, x) ∷ vars) env ys vb zs) where
         did_b : Did S (suc p + size A) B (suc K + kept A) ((p, started v S.device env K first) ∷ vars) env ys vb zs
         did_b =
             let o = evolve_kids in
@@ -205,8 +205,8 @@ module _ (ns : List Node) (ab : AllAbove ns) (lay : LayoutValue) (p : ℕ) (st :
         pub result_is_local : IsLocal vb
         result_is_local = evolve_result S p t v A B K vars env xs can_e first ys did_f vb zs did_b
 
-        pub evolve_done : (w : LocalValue) (final : List SlotValue) → vb ≡ ValueLocal w → final ≡ slice_set zs k (true, w) → (k < length zs) × DidAt S ns p vars env xs vb final
-        evolve_done w final g set =
+        pub evolve_done : {w : LocalValue} {final : List SlotValue} → vb ≡ ValueLocal w → final ≡ slice_set zs k (true, w) → (k < length zs) × DidAt S ns p vars env xs vb final
+        evolve_done {w} {final} g set =
             let o = evolve_kids in
             let s = slot_as k number in
             let d = evolve_did S p t v A B K vars env xs can_e first ys did_f w zs (subst (λ u. Did S (suc p + size A) B (suc K + kept A) ((p, started v S.device env K first) ∷ vars) env ys u zs) g did_b) in

@@ -7,9 +7,9 @@ use Rattle.fc_values.specs.Fields.{AnyValue, ValueLocal, ValueField}
 use Rattle.fc_values.specs.Trees.{Tree, Keep, Done, Then}
 use Rattle.fc_values.specs.Exports.{SlotValue, slot_at}
 use Rattle.fc_nodes.specs.declared.nodes.Node.{Node}
-use Rattle.fc_nodes.specs.Terms.{Term, If, OfIf, kept, kept_before, size, term_at, HasNode, Laid}
+use Rattle.fc_nodes.specs.Terms.{Term, If, OfIf, kept, kept_before, size, term_at, Laid}
 use Rattle.fc_nodes.specs.Flat.{by_truth, IfTruth, tree_at, Clear, Marked}
-use Rattle.fc_nodes.proofs.Places.{AllAbove}
+use Rattle.fc_nodes.proofs.Places.{formed_above}
 use Rattle.fc_nodes.proofs.Kids.{ThreeKids, if_laid}
 use Rattle.fc_nodes.proofs.Kept.{one_more, kept_size}
 use Rattle.alignment.specs.Environments.{Env, child_env, branch_env}
@@ -17,7 +17,7 @@ use Rattle.device_eval.specs.Evaluation.{Situation, Vars, Outcome, eval_of, afte
 use Rattle.flat_exports.specs.Layouts.{LayoutValue, number_in}
 use Rattle.alignment.specs.Slots.{FlatEnv, flat_branch, OwnHas, NearHave}
 use Rattle.device_eval.specs.Environments.{env_at}
-use Rattle.device_eval.specs.Walks.{SameIn, Can, Did, CanAt, DidAt, Stands, IsTruth}
+use Rattle.device_eval.specs.Walks.{SameIn, Can, Did, CanAt, DidAt, Stands, IsTruth, Ready, ReadyAt}
 use Rattle.fc_values.proofs.SlotReads.{slot_set_same, slot_set_other}
 use Rattle.device_eval.proofs.Frames.{tree_same, marked_same, env_child, env_fits, room_part, room_behind, still_then, still_set}
 use Rattle.device_eval.proofs.Steps.{after_some, can_all, did_all, kid_is, stands_kid, slot_is, own_has, near_have}
@@ -114,9 +114,9 @@ module _ (S : Situation) (p : ℕ) (t : ValueType) (x a b : Term) (k : ℕ) (var
           },
         )
 
-module _ (ns : List Node) (ab : AllAbove ns) (lay : LayoutValue) (p : ℕ) (st : Stands ns lay p) (t : ValueType) (ks : List ℕ) (h : HasNode ns p OfIf t ks) (S : Situation) (vars : Vars) (env : FlatEnv) (xs : List SlotValue) (can : CanAt S ns p vars env xs) where
+module _ {S : Situation} {ns : List Node} {lay : LayoutValue} {p : ℕ} {t : ValueType} {ks : List ℕ} {vars : Vars} {env : FlatEnv} {xs : List SlotValue} (here : ReadyAt S ns lay p OfIf t ks vars env xs) where
   pub if_kids : ThreeKids ns p (If t) ks
-  if_kids = if_laid ns ab p t ks h st.laid
+  if_kids = if_laid ns (formed_above ns here.ready.stands.formed) p t ks here.node here.ready.stands.laid
 
   abbrev X : Term
   X = term_at ns (get_or ks 0 0)
@@ -131,10 +131,10 @@ module _ (ns : List Node) (ab : AllAbove ns) (lay : LayoutValue) (p : ℕ) (st :
   K = kept_before ns p
 
   can_if : Can S p (If t X A B) K vars env xs
-  can_if = let o = if_kids in subst (λ u. Can S p u K vars env xs) o.term can
+  can_if = let o = if_kids in subst (λ u. Can S p u K vars env xs) o.term here.ready.can
 
   slot_0 : suc K ≡ kept_before ns (get_or ks 0 0)
-  slot_0 = let o = if_kids in let k = one_more ns p (get_or ks 0 0) _ _ _ h o.first_is in omega (arith, k)
+  slot_0 = let o = if_kids in let k = one_more ns p (get_or ks 0 0) _ _ _ here.node o.first_is in omega (arith, k)
 
   slot_1 : suc K + kept X ≡ kept_before ns (get_or ks 1 0)
   slot_1 =
@@ -155,34 +155,34 @@ module _ (ns : List Node) (ab : AllAbove ns) (lay : LayoutValue) (p : ℕ) (st :
       omega (arith, k, s)
 
   pub if_slot : number_in lay p ≡ Some K
-  if_slot = slot_is ns lay p st OfIf t ks BoolType h refl
+  if_slot = slot_is ns lay p here.ready.stands OfIf t ks BoolType here.node refl
 
   slot_as : (k : ℕ) → number_in lay p ≡ Some k → k ≡ K
   slot_as k e = let f = if_slot in cc
 
-  pub if_own : (k : ℕ) → number_in lay p ≡ Some k → OwnHas k env.own
-  if_own k e = let can' = can_if in subst (λ j. OwnHas j env.own) (sym (slot_as k e)) (own_has (If t X A B) K env.own (omega arith) can'.fits.own)
+  pub if_own : {k : ℕ} → number_in lay p ≡ Some k → OwnHas k env.own
+  if_own {k} e = let can' = can_if in subst (λ j. OwnHas j env.own) (sym (slot_as k e)) (own_has (If t X A B) K env.own (omega arith) can'.fits.own)
 
-  pub if_near : (k : ℕ) → number_in lay p ≡ Some k → NearHave k env.near
-  if_near k e = let can' = can_if in subst (λ j. NearHave j env.near) (sym (slot_as k e)) (near_have (If t X A B) K env.near (omega arith) can'.fits.near)
+  pub if_near : {k : ℕ} → number_in lay p ≡ Some k → NearHave k env.near
+  if_near {k} e = let can' = can_if in subst (λ j. NearHave j env.near) (sym (slot_as k e)) (near_have (If t X A B) K env.near (omega arith) can'.fits.near)
 
-  pub if_condition : (q : ℕ) → q ≡ get_or ks 0 q → (p < q) × (q < length ns) × (CanAt S ns q vars env xs × Stands ns lay q)
-  if_condition q e =
+  pub if_condition : {q : ℕ} → q ≡ get_or ks 0 q → (p < q) × (q < length ns) × Ready S ns lay q vars env xs
+  if_condition {q} e =
       let o = if_kids in
       let l = o.long in
       let e' = kid_is ks 0 q e (omega (arith, l)) in
       let i = o.first_is in
-      let s = stands_kid ns lay p (get_or ks 0 0) st o.first in
+      let s = stands_kid ns lay p (get_or ks 0 0) here.ready.stands o.first in
       let w = s.within in
       let d = can_all S _ _ _ _ _ _ vars env env xs (sym (e' ∙ i)) (ap (term_at ns) (sym e')) (slot_0 ∙ ap (kept_before ns) (sym e')) refl (if_first S p t X A B K vars env xs can_if) in
-      (omega (arith, e', i), omega (arith, e', w), (d, subst (λ r. Stands ns lay r) (sym e') s))
+      (omega (arith, e', i), omega (arith, e', w), record { can = d; stands = subst (λ r. Stands ns lay r) (sym e') s })
 
   -- the branch
   arm_at : (r : Bool) → (arm_place S p t X A B K vars env xs can_if r ≡ get_or ks (pick r 1 2) 0) × (arm_slot t X A B K r ≡ kept_before ns (get_or ks (pick r 1 2) 0)) × (arm t X A B K r ≡ term_at ns (get_or ks (pick r 1 2) 0)) × Laid ns (get_or ks (pick r 1 2) 0) (term_at ns (get_or ks (pick r 1 2) 0)) × (p < get_or ks (pick r 1 2) 0)
   arm_at true = let o = if_kids in let i = o.second_is in (sym o.second_is, slot_1, refl, o.second, omega (arith, i))
   arm_at false = let o = if_kids in let i = o.third_is in (sym o.third_is, slot_2, refl, o.third, omega (arith, i))
 
-  module _ (q : ℕ) (e : q ≡ get_or ks 0 q) (va : AnyValue) (ys : List SlotValue) (did : DidAt S ns q vars env xs va ys) where
+  module _ {q : ℕ} (e : q ≡ get_or ks 0 q) {va : AnyValue} {ys : List SlotValue} (did : DidAt S ns q vars env xs va ys) where
     did_x : Did S (suc p) X (suc K) vars env xs va ys
     did_x =
         let o = if_kids in
@@ -193,25 +193,25 @@ module _ (ns : List Node) (ab : AllAbove ns) (lay : LayoutValue) (p : ℕ) (st :
     pub condition_is_truth : IsTruth va
     condition_is_truth = if_truth S p t X A B K vars env xs can_if va ys did_x
 
-    module _ (k : ℕ) (number : number_in lay p ≡ Some k) (r : Bool) (is : va ≡ ValueLocal (BoolValue r)) (env' : FlatEnv) (from : env' ≡ flat_branch k r env) (q' : ℕ) (e' : q' ≡ get_or ks (pick r 1 2) 0) where
+    module _ {k : ℕ} (number : number_in lay p ≡ Some k) {r : Bool} (is : va ≡ ValueLocal (BoolValue r)) {env' : FlatEnv} (from : env' ≡ flat_branch k r env) {q' : ℕ} (e' : q' ≡ get_or ks (pick r 1 2) 0) where
       did_r : Did S (suc p) X (suc K) vars env xs (ValueLocal (BoolValue r)) ys
       did_r = subst (λ u. Did S (suc p) X (suc K) vars env xs u ys) is did_x
 
       branch_is : flat_branch K r env ≡ env'
       branch_is = sym (from ∙ ap (λ (j : ℕ). flat_branch j r env) (slot_as k number))
 
-      pub if_branch : (p < q') × (q' < length ns) × (CanAt S ns q' vars env' ys × Stands ns lay q')
+      pub if_branch : (p < q') × (q' < length ns) × Ready S ns lay q' vars env' ys
       if_branch =
           let m = arm_at r in
           let d : Can S (arm_place S p t X A B K vars env xs can_if r) (arm t X A B K r) (arm_slot t X A B K r) vars (flat_branch K r env) ys = if_second S p t X A B K vars env xs can_if r ys did_r in
           let d' : CanAt S ns (get_or ks (pick r 1 2) 0) vars env' ys = can_all S _ _ _ _ _ _ vars _ _ ys m.0 m.2 m.1 branch_is d in
-          let s = stands_kid ns lay p (get_or ks (pick r 1 2) 0) st m.3 in
+          let s = stands_kid ns lay p (get_or ks (pick r 1 2) 0) here.ready.stands m.3 in
           let w = s.within in
           let o = m.4 in
-          (rw e' o, rw e' w, (rw e' d', rw e' s))
+          (rw e' o, rw e' w, record { can = rw e' d'; stands = rw e' s })
 
-      pub if_done : (vb : AnyValue) (zs final : List SlotValue) → DidAt S ns q' vars env' ys vb zs → final ≡ slice_set zs k (true, BoolValue r) → (k < length zs) × DidAt S ns p vars env xs vb final
-      if_done vb zs final did' g =
+      pub if_done : {vb : AnyValue} {zs final : List SlotValue} → DidAt S ns q' vars env' ys vb zs → final ≡ slice_set zs k (true, BoolValue r) → (k < length zs) × DidAt S ns p vars env xs vb final
+      if_done {vb} {zs} {final} did' g =
           let m = arm_at r in
           let o = if_kids in
           let s = slot_as k number in

@@ -5,16 +5,16 @@ use Rattle.fc_values.specs.Fields.{AnyValue}
 use Rattle.fc_values.specs.Trees.{Keep, Done, Then}
 use Rattle.fc_values.specs.Exports.{SlotValue}
 use Rattle.fc_nodes.specs.declared.nodes.Node.{Node}
-use Rattle.fc_nodes.specs.Terms.{Term, Let, OfLet, kept, kept_before, size, term_at, HasNode}
+use Rattle.fc_nodes.specs.Terms.{Term, Let, OfLet, kept, kept_before, size, term_at}
 use Rattle.fc_nodes.specs.Flat.{tree_at}
-use Rattle.fc_nodes.proofs.Places.{AllAbove}
+use Rattle.fc_nodes.proofs.Places.{formed_above}
 use Rattle.fc_nodes.proofs.Kids.{TwoKids, let_laid}
 use Rattle.fc_nodes.proofs.Kept.{one_more, kept_size}
 use Rattle.device_eval.specs.Evaluation.{Situation, Vars, eval_of, after}
 use Rattle.flat_exports.specs.Layouts.{LayoutValue}
 use Rattle.alignment.specs.Slots.{FlatEnv}
 use Rattle.device_eval.specs.Environments.{env_at}
-use Rattle.device_eval.specs.Walks.{SameIn, Can, Did, CanAt, DidAt, Stands}
+use Rattle.device_eval.specs.Walks.{SameIn, Can, Did, DidAt, Stands, Ready, ReadyAt}
 use Rattle.device_eval.proofs.Frames.{tree_same, marked_same, env_child, env_fits, room_part, room_behind, still_then}
 use Rattle.device_eval.proofs.Steps.{after_some, can_all, did_all, kid_is, stands_kid}
 
@@ -53,9 +53,9 @@ module _ (S : Situation) (p : ℕ) (t : ValueType) (a b : Term) (k : ℕ) (vars 
           still = still_then xs ys zs did.still did'.still;
         }
 
-module _ (ns : List Node) (ab : AllAbove ns) (lay : LayoutValue) (p : ℕ) (st : Stands ns lay p) (t : ValueType) (ks : List ℕ) (h : HasNode ns p OfLet t ks) (S : Situation) (vars : Vars) (env : FlatEnv) (xs : List SlotValue) (can : CanAt S ns p vars env xs) where
+module _ {S : Situation} {ns : List Node} {lay : LayoutValue} {p : ℕ} {t : ValueType} {ks : List ℕ} {vars : Vars} {env : FlatEnv} {xs : List SlotValue} (here : ReadyAt S ns lay p OfLet t ks vars env xs) where
   pub let_kids : TwoKids ns p (Let t) ks
-  let_kids = let_laid ns ab p t ks h st.laid
+  let_kids = let_laid ns (formed_above ns here.ready.stands.formed) p t ks here.node here.ready.stands.laid
 
   abbrev A : Term
   A = term_at ns (get_or ks 0 0)
@@ -67,10 +67,10 @@ module _ (ns : List Node) (ab : AllAbove ns) (lay : LayoutValue) (p : ℕ) (st :
   K = kept_before ns p
 
   can_l : Can S p (Let t A B) K vars env xs
-  can_l = let o = let_kids in subst (λ u. Can S p u K vars env xs) o.term can
+  can_l = let o = let_kids in subst (λ u. Can S p u K vars env xs) o.term here.ready.can
 
   slot_0 : K ≡ kept_before ns (get_or ks 0 0)
-  slot_0 = let o = let_kids in let k = one_more ns p (get_or ks 0 0) _ _ _ h o.first_is in omega (arith, k)
+  slot_0 = let o = let_kids in let k = one_more ns p (get_or ks 0 0) _ _ _ here.node o.first_is in omega (arith, k)
 
   slot_1 : K + kept A ≡ kept_before ns (get_or ks 1 0)
   slot_1 =
@@ -81,18 +81,18 @@ module _ (ns : List Node) (ab : AllAbove ns) (lay : LayoutValue) (p : ℕ) (st :
       let s = kept_size ns A (get_or ks 0 0) (get_or ks 1 0) o.first (omega (arith, i, j)) in
       omega (arith, k, s)
 
-  pub let_value : (q : ℕ) → q ≡ get_or ks 0 q → (p < q) × (q < length ns) × (CanAt S ns q vars env xs × Stands ns lay q)
-  let_value q e =
+  pub let_value : {q : ℕ} → q ≡ get_or ks 0 q → (p < q) × (q < length ns) × Ready S ns lay q vars env xs
+  let_value {q} e =
       let o = let_kids in
       let l = o.long in
       let e' = kid_is ks 0 q e (omega (arith, l)) in
       let i = o.first_is in
-      let s = stands_kid ns lay p (get_or ks 0 0) st o.first in
+      let s = stands_kid ns lay p (get_or ks 0 0) here.ready.stands o.first in
       let w = s.within in
       let d = can_all S _ _ _ _ _ _ vars env env xs (sym (e' ∙ i)) (ap (term_at ns) (sym e')) (slot_0 ∙ ap (kept_before ns) (sym e')) refl (let_first S p t A B K vars env xs can_l) in
-      (omega (arith, e', i), omega (arith, e', w), (d, subst (λ r. Stands ns lay r) (sym e') s))
+      (omega (arith, e', i), omega (arith, e', w), record { can = d; stands = subst (λ r. Stands ns lay r) (sym e') s })
 
-  module _ (q : ℕ) (e : q ≡ get_or ks 0 q) (va : AnyValue) (ys : List SlotValue) (did : DidAt S ns q vars env xs va ys) where
+  module _ {q : ℕ} (e : q ≡ get_or ks 0 q) {va : AnyValue} {ys : List SlotValue} (did : DidAt S ns q vars env xs va ys) where
     did_a : Did S (suc p) A K vars env xs va ys
     did_a =
         let o = let_kids in
@@ -100,19 +100,19 @@ module _ (ns : List Node) (ab : AllAbove ns) (lay : LayoutValue) (p : ℕ) (st :
         let e' = kid_is ks 0 q e (omega (arith, l)) in
         did_all S _ _ _ _ _ _ vars env env xs ys va (e' ∙ o.first_is) (ap (term_at ns) e') (ap (kept_before ns) e' ∙ sym slot_0) refl did
 
-    pub let_body : (q' : ℕ) → q' ≡ get_or ks 1 q' → (p < q') × (q' < length ns) × (CanAt S ns q' ((p, va) ∷ vars) env ys × Stands ns lay q')
-    let_body q' f =
+    pub let_body : {q' : ℕ} → q' ≡ get_or ks 1 q' → (p < q') × (q' < length ns) × Ready S ns lay q' ((p, va) ∷ vars) env ys
+    let_body {q'} f =
         let o = let_kids in
         let l = o.long in
         let f' = kid_is ks 1 q' f (omega (arith, l)) in
         let i = o.second_is in
-        let s = stands_kid ns lay p (get_or ks 1 0) st o.second in
+        let s = stands_kid ns lay p (get_or ks 1 0) here.ready.stands o.second in
         let w = s.within in
         let d = can_all S _ _ _ _ _ _ ((p, va) ∷ vars) env env ys (sym (f' ∙ i)) (ap (term_at ns) (sym f')) (slot_1 ∙ ap (kept_before ns) (sym f')) refl (let_second S p t A B K vars env xs can_l va ys did_a) in
-        (omega (arith, f', i), omega (arith, f', w), (d, subst (λ r. Stands ns lay r) (sym f') s))
+        (omega (arith, f', i), omega (arith, f', w), record { can = d; stands = subst (λ r. Stands ns lay r) (sym f') s })
 
-    pub let_done : (q' : ℕ) → q' ≡ get_or ks 1 q' → (vb : AnyValue) (zs : List SlotValue) → DidAt S ns q' ((p, va) ∷ vars) env ys vb zs → DidAt S ns p vars env xs vb zs
-    let_done q' f vb zs did' =
+    pub let_done : {q' : ℕ} → q' ≡ get_or ks 1 q' → {vb : AnyValue} {zs : List SlotValue} → DidAt S ns q' ((p, va) ∷ vars) env ys vb zs → DidAt S ns p vars env xs vb zs
+    let_done {q'} f {vb} {zs} did' =
         let o = let_kids in
         let l = o.long in
         let f' = kid_is ks 1 q' f (omega (arith, l)) in

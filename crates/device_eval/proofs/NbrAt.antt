@@ -8,9 +8,9 @@ use Rattle.fc_values.specs.Fields.{AnyValue, ValueLocal, ValueField, Entries, wi
 use Rattle.fc_values.specs.Trees.{Keep, Done, Then}
 use Rattle.fc_values.specs.Exports.{SlotValue, slot_at}
 use Rattle.fc_nodes.specs.declared.nodes.Node.{Node}
-use Rattle.fc_nodes.specs.Terms.{Term, Nbr, OfNbr, kept, kept_before, term_at, HasNode}
+use Rattle.fc_nodes.specs.Terms.{Term, Nbr, OfNbr, kept, kept_before, term_at}
 use Rattle.fc_nodes.specs.Flat.{tree_at}
-use Rattle.fc_nodes.proofs.Places.{AllAbove}
+use Rattle.fc_nodes.proofs.Places.{formed_above}
 use Rattle.fc_nodes.proofs.Kids.{OneKid, nbr_laid}
 use Rattle.fc_nodes.proofs.Kept.{one_more}
 use Rattle.device_eval.specs.Neighbours.{kept_there}
@@ -19,7 +19,7 @@ use Rattle.flat_exports.specs.Layouts.{LayoutValue, number_in}
 use Rattle.alignment.specs.Slots.{FlatEnv, NearSlots, NearHave}
 use Rattle.device_eval.specs.Environments.{env_at, near_at}
 use Rattle.share_op.specs.Hearing.{slot_entries}
-use Rattle.device_eval.specs.Walks.{SameIn, Can, Did, CanAt, DidAt, Stands, IsLocal}
+use Rattle.device_eval.specs.Walks.{SameIn, Can, Did, DidAt, Stands, IsLocal, Ready, ReadyAt}
 use Rattle.fc_values.proofs.SlotReads.{slot_set_same, slot_set_other}
 use Rattle.device_eval.proofs.Frames.{tree_same, marked_same, env_child, env_fits, room_part, still_then, still_set}
 use Rattle.device_eval.proofs.Steps.{after_some, local_is, can_all, did_all, kid_is, stands_kid, slot_is, near_have}
@@ -66,37 +66,37 @@ module _ (S : Situation) (p : ℕ) (t : ValueType) (a : Term) (k : ℕ) (vars : 
         },
       )
 
-module _ (ns : List Node) (ab : AllAbove ns) (lay : LayoutValue) (p : ℕ) (st : Stands ns lay p) (t : ValueType) (ks : List ℕ) (h : HasNode ns p OfNbr t ks) (S : Situation) (vars : Vars) (env : FlatEnv) (xs : List SlotValue) (can : CanAt S ns p vars env xs) where
+module _ {S : Situation} {ns : List Node} {lay : LayoutValue} {p : ℕ} {t : ValueType} {ks : List ℕ} {vars : Vars} {env : FlatEnv} {xs : List SlotValue} (here : ReadyAt S ns lay p OfNbr t ks vars env xs) where
   pub one : OneKid ns p (Nbr t) ks
-  one = nbr_laid ns ab p t ks h st.laid
+  one = nbr_laid ns (formed_above ns here.ready.stands.formed) p t ks here.node here.ready.stands.laid
 
   can_n : Can S p (Nbr t (term_at ns (get_or ks 0 0))) (kept_before ns p) vars env xs
-  can_n = let o = one in subst (λ u. Can S p u (kept_before ns p) vars env xs) o.term can
+  can_n = let o = one in subst (λ u. Can S p u (kept_before ns p) vars env xs) o.term here.ready.can
 
   slot_next : suc (kept_before ns p) ≡ kept_before ns (get_or ks 0 0)
-  slot_next = let o = one in let k = one_more ns p (get_or ks 0 0) _ _ _ h o.first_is in omega (arith, k)
+  slot_next = let o = one in let k = one_more ns p (get_or ks 0 0) _ _ _ here.node o.first_is in omega (arith, k)
 
   pub nbr_slot : number_in lay p ≡ Some (kept_before ns p)
-  nbr_slot = slot_is ns lay p st OfNbr t ks (inner t) h refl
+  nbr_slot = slot_is ns lay p here.ready.stands OfNbr t ks (inner t) here.node refl
 
   slot_as : (k : ℕ) → number_in lay p ≡ Some k → k ≡ kept_before ns p
   slot_as k e = let f = nbr_slot in cc
 
-  pub nbr_near : (k : ℕ) → number_in lay p ≡ Some k → NearHave k env.near
-  nbr_near k e = let can' = can_n in subst (λ j. NearHave j env.near) (sym (slot_as k e)) (near_have (Nbr t (term_at ns (get_or ks 0 0))) (kept_before ns p) env.near (omega arith) can'.fits.near)
+  pub nbr_near : {k : ℕ} → number_in lay p ≡ Some k → NearHave k env.near
+  nbr_near {k} e = let can' = can_n in subst (λ j. NearHave j env.near) (sym (slot_as k e)) (near_have (Nbr t (term_at ns (get_or ks 0 0))) (kept_before ns p) env.near (omega arith) can'.fits.near)
 
-  pub nbr_kid : (q : ℕ) → q ≡ get_or ks 0 q → (p < q) × (q < length ns) × CanAt S ns q vars env xs × Stands ns lay q
-  nbr_kid q e =
+  pub nbr_kid : {q : ℕ} → q ≡ get_or ks 0 q → (p < q) × (q < length ns) × Ready S ns lay q vars env xs
+  nbr_kid {q} e =
       let o = one in
       let l = o.long in
       let e' = kid_is ks 0 q e (omega (arith, l)) in
       let i = o.first_is in
-      let s = stands_kid ns lay p (get_or ks 0 0) st o.first in
+      let s = stands_kid ns lay p (get_or ks 0 0) here.ready.stands o.first in
       let w = s.within in
       let d = can_all S _ _ _ _ _ _ vars env env xs (sym (e' ∙ i)) (ap (term_at ns) (sym e')) (slot_next ∙ ap (kept_before ns) (sym e')) refl (nbr_first S p t (term_at ns (get_or ks 0 0)) (kept_before ns p) vars env xs can_n) in
-      (omega (arith, e', i), omega (arith, e', w), d, subst (λ r. Stands ns lay r) (sym e') s)
+      (omega (arith, e', i), omega (arith, e', w), record { can = d; stands = subst (λ r. Stands ns lay r) (sym e') s })
 
-  module _ (q : ℕ) (e : q ≡ get_or ks 0 q) (va : AnyValue) (ys : List SlotValue) (did : DidAt S ns q vars env xs va ys) where
+  module _ {q : ℕ} (e : q ≡ get_or ks 0 q) {va : AnyValue} {ys : List SlotValue} (did : DidAt S ns q vars env xs va ys) where
     did_n : Did S (suc p) (term_at ns (get_or ks 0 0)) (suc (kept_before ns p)) vars env xs va ys
     did_n =
         let o = one in
@@ -107,8 +107,8 @@ module _ (ns : List Node) (ab : AllAbove ns) (lay : LayoutValue) (p : ℕ) (st :
     pub nbr_is_local : IsLocal va
     nbr_is_local = nbr_local S p t (term_at ns (get_or ks 0 0)) (kept_before ns p) vars env xs can_n va ys did_n
 
-    pub nbr_done : (k : ℕ) (w : LocalValue) (es : Entries) (final : List SlotValue) → number_in lay p ≡ Some k → va ≡ ValueLocal w → es ≡ with_entry S.device w (slot_entries k env.near) → final ≡ slice_set ys k (true, w) → (k < length ys) × DidAt S ns p vars env xs (ValueField es) final
-    nbr_done k w es final n v f g =
+    pub nbr_done : {k : ℕ} {w : LocalValue} {es : Entries} {final : List SlotValue} → number_in lay p ≡ Some k → va ≡ ValueLocal w → es ≡ with_entry S.device w (slot_entries k env.near) → final ≡ slice_set ys k (true, w) → (k < length ys) × DidAt S ns p vars env xs (ValueField es) final
+    nbr_done {k} {w} {es} {final} n v f g =
         let o = one in
         let d = nbr_did S p t (term_at ns (get_or ks 0 0)) (kept_before ns p) vars env xs can_n w ys (subst (λ u. Did S (suc p) (term_at ns (get_or ks 0 0)) (suc (kept_before ns p)) vars env xs u ys) v did_n) in
         let s = slot_as k n in

@@ -22,7 +22,7 @@ use Rattle.flat_exports.specs.Layouts.{LayoutValue, IsLayout, blank_slots}
 use Rattle.alignment.specs.Slots.{FlatEnv}
 use Rattle.device_eval.specs.Environments.{near_at, env_at, OwnFits, NearFit, EnvFits}
 use Rattle.device_eval.specs.References.{snap_near, snap_env}
-use Rattle.device_eval.specs.Walks.{Can, Did, CanAt, DidAt, Stands, IsLocal}
+use Rattle.device_eval.specs.Walks.{Can, Did, CanAt, DidAt, Stands, Ready, IsLocal}
 use Rattle.flat_exports.proofs.Blanks.{have_forms}
 use Rattle.device_eval.proofs.Finish.{main_runs, main_local, finished_evaluates, finished_export}
 use Rattle.value_trees.proofs.Forms.{have_long}
@@ -71,10 +71,10 @@ module _ (P : Program) (p : IsProgram P) (s : Snap) (fits : IsSnap (unfolding_of
       let seen : env_at (term_at P.nodes 0) 0 env ≡ env_of (snap_copy (unfolding_of P) s) = ap (env_at (term_at P.nodes 0) 0) same ∙ env_same (unfolding_of P) s in
       ap (eval_of S 0 (term_at P.nodes 0) []) seen ∙ ap (λ (T : Situation). eval_of T 0 (term_at P.nodes 0) [] (env_of (snap_copy (unfolding_of P) s))) here
 
-  pub root_stands : Stands P.nodes l 0
-  root_stands = record { layout = layout; laid = p.formed.laid; within = laid_within P.nodes 0 (term_at P.nodes 0) p.formed.laid }
+  root_stands : Stands P.nodes l 0
+  root_stands = record { layout = layout; formed = p.formed; laid = p.formed.laid; within = laid_within P.nodes 0 (term_at P.nodes 0) p.formed.laid }
 
-  pub root_can : CanAt S P.nodes 0 [] env xs
+  root_can : CanAt S P.nodes 0 [] env xs
   root_can =
       let can : Can S 0 (term_at P.nodes 0) 0 [] env xs = record {
         fits = subst (EnvFits (term_at P.nodes 0) 0) (sym same) (env_fit (unfolding_of P) s fits);
@@ -85,6 +85,9 @@ module _ (P : Program) (p : IsProgram P) (s : Snap) (fits : IsSnap (unfolding_of
         runs = subst (λ o. IsSome o) (sym outcome_is) (main_runs P (snap_copy (unfolding_of P) s) p fits.fits);
       } in
       can_all S 0 0 (term_at P.nodes 0) (term_at P.nodes 0) 0 (kept_before P.nodes 0) [] env env xs refl refl (sym (kept_none P.nodes)) refl can
+
+  pub root_ready : Ready S P.nodes l 0 [] env xs
+  root_ready = record { can = root_can; stands = root_stands }
 
   module _ (v : AnyValue) (ys : List SlotValue) (did : DidAt S P.nodes 0 [] env xs v ys) where
     did_0 : Did S 0 (term_at P.nodes 0) 0 [] env xs v ys

@@ -7,10 +7,10 @@ use Rattle.fc_nodes.specs.Terms.{Term, Plain, Apply, Nbr, Evolve, If, Let, kept,
 use Rattle.fc_nodes.proofs.Places.{laid_within}
 use Rattle.fc_nodes.proofs.Kept.{kept_size, kept_none}
 use Rattle.device_eval.specs.Evaluation.{Situation, Vars, Outcome, Outcomes, and_then}
-use Rattle.flat_exports.specs.Layouts.{LayoutValue, IsLayout}
+use Rattle.flat_exports.specs.Layouts.{LayoutValue}
 use Rattle.alignment.specs.Slots.{FlatEnv}
-use Rattle.device_eval.specs.Walks.{Room, SameIn, SameOut, CanAt, DidAt, Stands}
-use Rattle.device_eval.specs.Rows.{row_kept, Row, first_of, CanEach, DidEach}
+use Rattle.device_eval.specs.Walks.{Room, SameIn, SameOut, CanAt, DidAt, Ready}
+use Rattle.device_eval.specs.Rows.{row_kept, Row, first_of, CanEach, DidEach, ReadyEach}
 use Rattle.device_eval.proofs.Frames.{tree_same, marked_same, room_part, room_behind, still_same, still_then}
 
 both_first : (o : Outcome) (os : Outcomes) → IsSome (and_then o os) → IsSome o
@@ -81,8 +81,8 @@ module _ (S : Situation) (ns : List Node) (k : ℕ) (ks : List ℕ) (vars : Vars
         still = still_then xs ys zs did.still rest.still;
       }
 
-pub none_done : (S : Situation) (ns : List Node) (vars : Vars) (env : FlatEnv) (xs : List SlotValue) (old : List AnyValue) (ks : List ℕ) → length ks ≡ 0 → DidEach S ns ks vars env xs old old xs
-none_done S ns vars env xs old [] e = record {
+pub none_done : {S : Situation} {ns : List Node} {vars : Vars} {env : FlatEnv} {xs : List SlotValue} {old : List AnyValue} (ks : List ℕ) → length ks ≡ 0 → DidEach S ns ks vars env xs old old xs
+none_done {S} {ns} {vars} {env} {xs} {old} [] e = record {
   vs = [];
   added = sym (append-nil old);
   gives = refl;
@@ -90,7 +90,7 @@ none_done S ns vars env xs old [] e = record {
   out = record { long = refl; before = λ j l. refl; behind = λ j l. refl };
   still = still_same xs;
 }
-none_done S ns vars env xs old (k ∷ ks) e = absurd (omega (arith, e))
+none_done {S} {ns} {vars} {env} {xs} {old} (k ∷ ks) e = absurd (omega (arith, e))
 
 positive : (t : Term) → 0 < size t
 positive (Plain t l) = omega arith
@@ -101,26 +101,27 @@ positive (If t c a b) = omega arith
 positive (Let t a b) = omega arith
 
 -- a row with its first and the rest
-module _ (S : Situation) (ns : List Node) (lay : LayoutValue) (layout : IsLayout ns lay) (ks : List ℕ) (k : ℕ) (rest : List ℕ) (e : ks ≡ k ∷ rest) (vars : Vars) (env : FlatEnv) (xs : List SlotValue) (can : CanEach S ns ks vars env xs) where
+module _ {S : Situation} {ns : List Node} {lay : LayoutValue} {ks : List ℕ} {k : ℕ} {rest : List ℕ} (e : ks ≡ k ∷ rest) {vars : Vars} {env : FlatEnv} {xs : List SlotValue} (here : ReadyEach S ns lay ks vars env xs) where
   can_k : CanEach S ns (k ∷ rest) vars env xs
-  can_k = subst (λ qs. CanEach S ns qs vars env xs) e can
+  can_k = subst (λ qs. CanEach S ns qs vars env xs) e here.can
 
-  pub kid_can : (k < length ns) × (get_or ks 0 (length ns) ≡ k) × (CanAt S ns k vars env xs × Stands ns lay k)
-  kid_can =
+  pub kid_ready : (k < length ns) × (get_or ks 0 (length ns) ≡ k) × Ready S ns lay k vars env xs
+  kid_ready =
       let can' = can_k in
       let r = can'.row in
       let w = laid_within ns k (term_at ns k) r.1 in
-      (w, rw e refl, (first_can S ns k rest vars env xs can', record { layout = layout; laid = r.1; within = w }))
+      (w, rw e refl, record { can = first_can S ns k rest vars env xs can'; stands = record { layout = here.layout; formed = here.formed; laid = r.1; within = w } })
 
   rest_later : (qs : List ℕ) → Row ns (k + size (term_at ns k)) qs → k < length ns → k < get_or qs 0 (length ns)
   rest_later [] r w = w
   rest_later (q ∷ qs) r w = let p = positive (term_at ns k) in let f = r.0 in omega (arith, f, p)
 
-  pub rest_each : (v : AnyValue) (ys : List SlotValue) → DidAt S ns k vars env xs v ys → (k < get_or rest 0 (length ns)) × CanEach S ns rest vars env ys
-  rest_each v ys did =
-      let can' = can_k in
-      let r = can'.row in
-      (rest_later rest r.2 (laid_within ns k (term_at ns k) r.1), rest_can S ns k rest vars env xs can' v ys did)
+  module _ {v : AnyValue} {ys : List SlotValue} (did : DidAt S ns k vars env xs v ys) where
+    pub rest_ready : (k < get_or rest 0 (length ns)) × ReadyEach S ns lay rest vars env ys
+    rest_ready =
+        let can' = can_k in
+        let r = can'.row in
+        (rest_later rest r.2 (laid_within ns k (term_at ns k) r.1), record { can = rest_can S ns k rest vars env xs can' v ys did; layout = here.layout; formed = here.formed })
 
-  pub each_done : (v : AnyValue) (ys zs : List SlotValue) (old mid new : List AnyValue) → DidAt S ns k vars env xs v ys → mid ≡ old ++ v ∷ [] → DidEach S ns rest vars env ys mid new zs → DidEach S ns ks vars env xs old new zs
-  each_done v ys zs old mid new did m r = subst (λ qs. DidEach S ns qs vars env xs old new zs) (sym e) (row_done S ns k rest vars env xs can_k v ys zs old mid new did m r)
+    pub each_done : {zs : List SlotValue} {old mid new : List AnyValue} → mid ≡ old ++ v ∷ [] → DidEach S ns rest vars env ys mid new zs → DidEach S ns ks vars env xs old new zs
+    each_done {zs} {old} {mid} {new} m r = subst (λ qs. DidEach S ns qs vars env xs old new zs) (sym e) (row_done S ns k rest vars env xs can_k v ys zs old mid new did m r)

@@ -11,7 +11,7 @@ use Rattle.device_eval.specs.Evaluation.{Situation, Vars, Outcome, after, on_loc
 use Rattle.flat_exports.specs.Layouts.{LayoutValue, number_in, number_at}
 use Rattle.alignment.specs.Slots.{FlatEnv, NearSlots, OwnHas, NearHave}
 use Rattle.device_eval.specs.Environments.{OwnFits, NearFit}
-use Rattle.device_eval.specs.Walks.{Can, Did, Stands, IsLocal}
+use Rattle.device_eval.specs.Walks.{Can, Did, Stands, Ready, ReadyAt, IsLocal}
 
 pub after_some : (o : Outcome) (f : AnyValue → _ → Outcome) → IsSome (after o f) → IsSome o
 after_some None f h = absurd cc
@@ -40,7 +40,7 @@ kid_is (k ∷ ks) (suc i) x e h = kid_is ks i x e (omega arith)
 
 -- a kid stands too
 pub stands_kid : (ns : List Node) (l : LayoutValue) (p q : ℕ) → Stands ns l p → Laid ns q (term_at ns q) → Stands ns l q
-stands_kid ns l p q s h = record { layout = s.layout; laid = h; within = laid_within ns q (term_at ns q) h }
+stands_kid ns l p q s h = record { layout = s.layout; formed = s.formed; laid = h; within = laid_within ns q (term_at ns q) h }
 
 -- the slot of a kept place
 pub slot_is : (ns : List Node) (l : LayoutValue) (p : ℕ) → Stands ns l p → (s : Sort) (t : ValueType) (ks : List ℕ) (u : LocalType) → HasNode ns p s t ks → kept_type s t ≡ Some u → number_in l p ≡ Some (kept_before ns p)
@@ -57,3 +57,7 @@ own_has t k (Some xs) w h = omega (arith, h.1, w)
 pub near_have : (t : Term) (k : ℕ) (ns : List NearSlots) → 0 < kept t → NearFit t k ns → NearHave k ns
 near_have t k [] w h = tt
 near_have t k (n ∷ ns) w h = (omega (arith, h.1, w), near_have t k ns w h.2)
+
+-- the node at a place that is ready
+pub ready_at : {S : Situation} {ns : List Node} {l : LayoutValue} {p : ℕ} {s : Sort} {t : ValueType} {ks : List ℕ} {vars : Vars} {env : FlatEnv} {xs : List SlotValue} → Ready S ns l p vars env xs → HasNode ns p s t ks → ReadyAt S ns l p s t ks vars env xs
+ready_at r h = record { ready = r; node = h }

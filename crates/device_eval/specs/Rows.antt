@@ -4,7 +4,8 @@ use Rattle.fc_values.specs.Fields.{AnyValue}
 use Rattle.fc_values.specs.Trees.{Trees, Done, Then}
 use Rattle.fc_values.specs.Exports.{SlotValue}
 use Rattle.fc_nodes.specs.declared.nodes.Node.{Node}
-use Rattle.fc_nodes.specs.Terms.{size, kept, kept_before, term_at, Laid}
+use Rattle.fc_nodes.specs.Terms.{size, kept, kept_before, term_at, Laid, WellFormed}
+use Rattle.flat_exports.specs.Layouts.{LayoutValue, IsLayout}
 use Rattle.fc_nodes.specs.Flat.{tree_at, Marked}
 use Rattle.device_eval.specs.Evaluation.{Situation, Vars, Outcomes, and_then, eval_of}
 use Rattle.alignment.specs.Slots.{FlatEnv}
@@ -51,6 +52,12 @@ pub record CanEach (S : Situation) (ns : List Node) (ks : List ℕ) (vars : Vars
   pub fits : FitEach ns ks env
   pub room : Room (kept_before ns (first_of ks)) (row_kept ns ks) xs
   pub runs : IsSome (outcomes_at S ns ks vars env)
+
+-- places at which evaluation may begin, one after another
+pub record ReadyEach (S : Situation) (ns : List Node) (l : LayoutValue) (ks : List ℕ) (vars : Vars) (env : FlatEnv) (xs : List SlotValue) : Type 0 where
+  pub can : CanEach S ns ks vars env xs
+  pub layout : IsLayout ns l
+  pub formed : WellFormed ns
 
 -- what it gives: their values are added to others
 pub record DidEach (S : Situation) (ns : List Node) (ks : List ℕ) (vars : Vars) (env : FlatEnv) (xs : List SlotValue) (old new : List AnyValue) (ys : List SlotValue) : Type 0 where

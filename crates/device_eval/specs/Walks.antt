@@ -4,7 +4,8 @@ use Rattle.fc_values.specs.Values.{IntValue, BoolValue, PairValue}
 use Rattle.fc_values.specs.Fields.{AnyValue, ValueLocal, ValueField}
 use Rattle.fc_values.specs.Exports.{SlotValue, slot_at}
 use Rattle.fc_nodes.specs.declared.nodes.Node.{Node}
-use Rattle.fc_nodes.specs.Terms.{Term, kept, kept_before, term_at, Laid}
+use Rattle.fc_values.specs.Types.{ValueType}
+use Rattle.fc_nodes.specs.Terms.{Term, Sort, HasNode, kept, kept_before, term_at, Laid, WellFormed}
 use Rattle.fc_nodes.specs.Flat.{tree_at, Clear, Marked}
 use Rattle.device_eval.specs.Evaluation.{Situation, Vars, eval_of}
 use Rattle.flat_exports.specs.Layouts.{LayoutValue, IsLayout}
@@ -55,8 +56,19 @@ DidAt S ns p vars env xs v ys = Did S p (term_at ns p) (kept_before ns p) vars e
 -- a place of a program with its layout
 pub record Stands (ns : List Node) (l : LayoutValue) (p : ℕ) : Type 0 where
   pub layout : IsLayout ns l
+  pub formed : WellFormed ns
   pub laid : Laid ns p (term_at ns p)
   pub within : p < length ns
+
+-- a place at which evaluation may begin
+pub record Ready (S : Situation) (ns : List Node) (l : LayoutValue) (p : ℕ) (vars : Vars) (env : FlatEnv) (xs : List SlotValue) : Type 0 where
+  pub can : CanAt S ns p vars env xs
+  pub stands : Stands ns l p
+
+-- the same, and the node that stands there
+pub record ReadyAt (S : Situation) (ns : List Node) (l : LayoutValue) (p : ℕ) (s : Sort) (t : ValueType) (ks : List ℕ) (vars : Vars) (env : FlatEnv) (xs : List SlotValue) : Type 0 where
+  pub ready : Ready S ns l p vars env xs
+  pub node : HasNode ns p s t ks
 
 -- a local value
 abbrev pub IsLocal : AnyValue → Type 0

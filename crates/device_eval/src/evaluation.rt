@@ -2,18 +2,14 @@
 
 ghost use Rattle.std.specs.Prelude.{◌≡◌, ◌<◌, IfOk, OnOk, IsSome, Some, length, map, min, slice_get, slice_index};
 ghost use Rattle.fc_values.specs.Values.{local_of, BoolValue};
-ghost use Rattle.fc_values.specs.Types.{type_of};
-ghost use Rattle.fc_values.specs.Fields.{value_of, values_of, ValueLocal, restricted};
-ghost use Rattle.fc_values.specs.Exports.{slots_of};
-ghost use Rattle.fc_nodes.specs.Terms.{HasNode, OfApply, OfNbr, OfEvolve, ByRep, ByShare, OfIf, OfLet};
-ghost use Rattle.fc_nodes.specs.Program.{IsProgram};
-ghost use Rattle.device_eval.specs.Evaluation.{variable_at, pick};
-ghost use Rattle.flat_exports.specs.Layouts.{IsLayout, number_in};
+ghost use Rattle.fc_values.specs.Fields.{value_of, ValueLocal, restricted};
+ghost use Rattle.fc_nodes.specs.Terms.{OfApply, OfNbr, OfEvolve, ByRep, ByShare, OfIf, OfLet};
 ghost use Rattle.alignment.specs.Environments.{near_numbers};
+ghost use Rattle.device_eval.specs.Evaluation.{variable_at, pick};
+ghost use Rattle.flat_exports.specs.Layouts.{number_in};
 ghost use Rattle.alignment.specs.References.{flat_of};
-ghost use Rattle.device_eval.specs.Contexts.{situation_in, vars_of};
-ghost use Rattle.device_eval.specs.Walks.{CanAt, DidAt, Stands, IsLocal, IsTruth};
-ghost use Rattle.device_eval.specs.Rows.{CanEach, DidEach};
+ghost use Rattle.device_eval.specs.Contexts.{vars_of, ReadyIn, ReadyFor, Evaluated, ReadyKids, EvaluatedKids};
+ghost use Rattle.device_eval.specs.Walks.{IsLocal, IsTruth};
 
 use crate::links::links;
 use alignment::{Env, restrict, same_branch};
@@ -39,36 +35,44 @@ pub enum Scope<'a> {
     Bind(u32, &'a Value, &'a Scope<'a>),
 }
 
+/// What a node sees: the exports that are aligned there, and the binders in scope.
+#[derive(Clone, Copy)]
+pub struct Sight<'a, 'b> {
+    pub env: &'a Env<'b>,
+    pub vars: &'a Scope<'a>,
+}
+
 /// Evaluates a node: its value, and its slots in the draft.
 #[cycle(eval)]
 pub fn eval(
     alloc: Global,
     context: &Context<'_>,
     place: u32,
-    env: &Env<'_>,
-    vars: &Scope<'_>,
+    sight: &Sight<'_, '_>,
     draft: &mut Draft,
 ) -> Result<Value, Memory>
-    requires can { CanAt (situation_in context.now) context.now.program.now.nodes place (vars_of vars.now) (flat_of env.now) (slots_of draft.old) }
-    requires stands { Stands context.now.program.now.nodes context.now.layout.now place }
-    ensures { IfOk result (λ v. DidAt (situation_in context.now) context.now.program.now.nodes place (vars_of vars.now) (flat_of env.now) (slots_of draft.old) (value_of v) (slots_of draft.new)) }
+    requires { ReadyIn context.now place sight.now draft.old }
+    ensures { IfOk result (Evaluated context.now place sight.now draft.old draft.new) }
 {
     let node = context.program.node(place);
     match &node.op {
         Op::Lit(value) => Ok(Value::Local(copy(alloc, value)?)),
-        Op::Var(binder) => Ok(aligned(alloc, lookup(vars, *binder), context.device, env)?),
+        Op::Var(binder) => {
+            let value = lookup(sight.vars, *binder);
+            Ok(aligned(alloc, value, context.device, sight.env)?)
+        }
         Op::Sense(input) => Ok(Value::Local(copy(alloc, input_at(context.inputs, *input))?)),
         Op::Uid => Ok(Value::Local(Local::Int(uid(context.device, context.program)))),
         Op::NbrLink => {
             let least = least_weight(context.program);
-            Ok(Value::Field(links(alloc, env, context.device, least)?))
+            Ok(Value::Field(links(alloc, sight.env, context.device, least)?))
         }
-        Op::Apply(builtin) => eval_apply(alloc, context, place, node, *builtin, env, vars, draft),
-        Op::Nbr => eval_nbr(alloc, context, place, node, env, vars, draft),
-        Op::Rep => eval_rep(alloc, context, place, node, env, vars, draft),
-        Op::Share => eval_share(alloc, context, place, node, env, vars, draft),
-        Op::If => eval_if(alloc, context, place, node, env, vars, draft),
-        Op::Let => eval_let(alloc, context, place, node, env, vars, draft),
+        Op::Apply(builtin) => eval_apply(alloc, context, place, node, *builtin, sight, draft),
+        Op::Nbr => eval_nbr(alloc, context, place, node, sight, draft),
+        Op::Rep => eval_rep(alloc, context, place, node, sight, draft),
+        Op::Share => eval_share(alloc, context, place, node, sight, draft),
+        Op::If => eval_if(alloc, context, place, node, sight, draft),
+        Op::Let => eval_let(alloc, context, place, node, sight, draft),
     }
 }
 
@@ -79,46 +83,39 @@ fn eval_apply(
     place: u32,
     node: &Node,
     builtin: Builtin,
-    env: &Env<'_>,
-    vars: &Scope<'_>,
+    sight: &Sight<'_, '_>,
     draft: &mut Draft,
 ) -> Result<Value, Memory>
-    requires can { CanAt (situation_in context.now) context.now.program.now.nodes place (vars_of vars.now) (flat_of env.now) (slots_of draft.old) }
-    requires stands { Stands context.now.program.now.nodes context.now.layout.now place }
-    requires node { HasNode context.now.program.now.nodes place (OfApply builtin) (type_of node.now.ty) node.now.kids.items }
-    requires formed { IsProgram context.now.program.now }
-    ensures { IfOk result (λ v. DidAt (situation_in context.now) context.now.program.now.nodes place (vars_of vars.now) (flat_of env.now) (slots_of draft.old) (value_of v) (slots_of draft.new)) }
+    requires { ReadyFor context.now place sight.now node.now (OfApply builtin) draft.old }
+    ensures { IfOk result (Evaluated context.now place sight.now draft.old draft.new) }
 {
-    let mut args = Vec::new(alloc);
     let kids = node.kids.as_slice();
-    eval_kids(alloc, context, kids, env, vars, draft, &mut args)?;
+    let mut args = Vec::with_capacity(alloc, kids.len())?;
+    eval_kids(alloc, context, kids, sight, draft, &mut args)?;
     let ceiling = ceiling_of(context.program);
     let value = apply(alloc, builtin, args.as_slice(), context.device, ceiling)?;
     Ok(value)
 }
 
-/// Evaluates nodes one after another, and adds their values.
+// Evaluates nodes one after another, and adds their values.
 #[cycle(eval)]
 fn eval_kids(
     alloc: Global,
     context: &Context<'_>,
     kids: &[u32],
-    env: &Env<'_>,
-    vars: &Scope<'_>,
+    sight: &Sight<'_, '_>,
     draft: &mut Draft,
     args: &mut Vec<Value>,
 ) -> Result<(), Memory>
-    requires can { CanEach (situation_in context.now) context.now.program.now.nodes kids.now (vars_of vars.now) (flat_of env.now) (slots_of draft.old) }
-    requires layout { IsLayout context.now.program.now.nodes context.now.layout.now }
-    requires formed { IsProgram context.now.program.now }
-    ensures { OnOk result (DidEach (situation_in context.now) context.now.program.now.nodes kids.now (vars_of vars.now) (flat_of env.now) (slots_of draft.old) (values_of args.old.items) (values_of args.new.items) (slots_of draft.new)) }
+    requires { ReadyKids context.now kids.now sight.now draft.old }
+    ensures { OnOk result (EvaluatedKids context.now kids.now sight.now draft.old draft.new args.old.items args.new.items) }
 {
     let Some((first, rest)) = kids.split_first() else {
         return Ok(());
     };
-    let value = eval(alloc, context, *first, env, vars, draft)?;
+    let value = eval(alloc, context, *first, sight, draft)?;
     args.push(value)?;
-    eval_kids(alloc, context, rest, env, vars, draft, args)?;
+    eval_kids(alloc, context, rest, sight, draft, args)?;
     Ok(())
 }
 
@@ -128,20 +125,16 @@ fn eval_nbr(
     context: &Context<'_>,
     place: u32,
     node: &Node,
-    env: &Env<'_>,
-    vars: &Scope<'_>,
+    sight: &Sight<'_, '_>,
     draft: &mut Draft,
 ) -> Result<Value, Memory>
-    requires can { CanAt (situation_in context.now) context.now.program.now.nodes place (vars_of vars.now) (flat_of env.now) (slots_of draft.old) }
-    requires stands { Stands context.now.program.now.nodes context.now.layout.now place }
-    requires node { HasNode context.now.program.now.nodes place OfNbr (type_of node.now.ty) node.now.kids.items }
-    requires formed { IsProgram context.now.program.now }
-    ensures { IfOk result (λ v. DidAt (situation_in context.now) context.now.program.now.nodes place (vars_of vars.now) (flat_of env.now) (slots_of draft.old) (value_of v) (slots_of draft.new)) }
+    requires { ReadyFor context.now place sight.now node.now OfNbr draft.old }
+    ensures { IfOk result (Evaluated context.now place sight.now draft.old draft.new) }
 {
     let slot = slot_of(context.layout, place);
-    let value = eval(alloc, context, node.kids[0], env, vars, draft)?;
+    let value = eval(alloc, context, node.kids[0], sight, draft)?;
     let own = into_local(value);
-    let field = heard_with(alloc, env, slot, context.device, &own)?;
+    let field = heard_with(alloc, sight.env, slot, context.device, &own)?;
     draft.put(slot, own);
     Ok(Value::Field(field))
 }
@@ -152,22 +145,22 @@ fn eval_rep(
     context: &Context<'_>,
     place: u32,
     node: &Node,
-    env: &Env<'_>,
-    vars: &Scope<'_>,
+    sight: &Sight<'_, '_>,
     draft: &mut Draft,
 ) -> Result<Value, Memory>
-    requires can { CanAt (situation_in context.now) context.now.program.now.nodes place (vars_of vars.now) (flat_of env.now) (slots_of draft.old) }
-    requires stands { Stands context.now.program.now.nodes context.now.layout.now place }
-    requires node { HasNode context.now.program.now.nodes place (OfEvolve ByRep) (type_of node.now.ty) node.now.kids.items }
-    requires formed { IsProgram context.now.program.now }
-    ensures { IfOk result (λ v. DidAt (situation_in context.now) context.now.program.now.nodes place (vars_of vars.now) (flat_of env.now) (slots_of draft.old) (value_of v) (slots_of draft.new)) }
+    requires { ReadyFor context.now place sight.now node.now (OfEvolve ByRep) draft.old }
+    ensures { IfOk result (Evaluated context.now place sight.now draft.old draft.new) }
 {
     let slot = slot_of(context.layout, place);
-    let first = eval(alloc, context, node.kids[0], env, vars, draft)?;
+    let first = eval(alloc, context, node.kids[0], sight, draft)?;
     let fallback = into_local(first);
-    let start = Value::Local(copy(alloc, own_or(env, slot, &fallback))?);
-    let evolving = Scope::Bind(place, &start, &*vars);
-    let value = eval(alloc, context, node.kids[1], env, &evolving, draft)?;
+    let start = Value::Local(copy(alloc, own_or(sight.env, slot, &fallback))?);
+    let evolving = Scope::Bind(place, &start, sight.vars);
+    let body = Sight {
+        env: sight.env,
+        vars: &evolving,
+    };
+    let value = eval(alloc, context, node.kids[1], &body, draft)?;
     let kept = copy_local(alloc, &value)?;
     draft.put(slot, kept);
     Ok(value)
@@ -179,22 +172,22 @@ fn eval_share(
     context: &Context<'_>,
     place: u32,
     node: &Node,
-    env: &Env<'_>,
-    vars: &Scope<'_>,
+    sight: &Sight<'_, '_>,
     draft: &mut Draft,
 ) -> Result<Value, Memory>
-    requires can { CanAt (situation_in context.now) context.now.program.now.nodes place (vars_of vars.now) (flat_of env.now) (slots_of draft.old) }
-    requires stands { Stands context.now.program.now.nodes context.now.layout.now place }
-    requires node { HasNode context.now.program.now.nodes place (OfEvolve ByShare) (type_of node.now.ty) node.now.kids.items }
-    requires formed { IsProgram context.now.program.now }
-    ensures { IfOk result (λ v. DidAt (situation_in context.now) context.now.program.now.nodes place (vars_of vars.now) (flat_of env.now) (slots_of draft.old) (value_of v) (slots_of draft.new)) }
+    requires { ReadyFor context.now place sight.now node.now (OfEvolve ByShare) draft.old }
+    ensures { IfOk result (Evaluated context.now place sight.now draft.old draft.new) }
 {
     let slot = slot_of(context.layout, place);
-    let first = eval(alloc, context, node.kids[0], env, vars, draft)?;
+    let first = eval(alloc, context, node.kids[0], sight, draft)?;
     let fallback = into_local(first);
-    let start = Value::Field(heard(alloc, env, slot, context.device, &fallback)?);
-    let hearing = Scope::Bind(place, &start, &*vars);
-    let value = eval(alloc, context, node.kids[1], env, &hearing, draft)?;
+    let start = Value::Field(heard(alloc, sight.env, slot, context.device, &fallback)?);
+    let hearing = Scope::Bind(place, &start, sight.vars);
+    let body = Sight {
+        env: sight.env,
+        vars: &hearing,
+    };
+    let value = eval(alloc, context, node.kids[1], &body, draft)?;
     let kept = copy_local(alloc, &value)?;
     draft.put(slot, kept);
     Ok(value)
@@ -206,22 +199,22 @@ fn eval_if(
     context: &Context<'_>,
     place: u32,
     node: &Node,
-    env: &Env<'_>,
-    vars: &Scope<'_>,
+    sight: &Sight<'_, '_>,
     draft: &mut Draft,
 ) -> Result<Value, Memory>
-    requires can { CanAt (situation_in context.now) context.now.program.now.nodes place (vars_of vars.now) (flat_of env.now) (slots_of draft.old) }
-    requires stands { Stands context.now.program.now.nodes context.now.layout.now place }
-    requires node { HasNode context.now.program.now.nodes place OfIf (type_of node.now.ty) node.now.kids.items }
-    requires formed { IsProgram context.now.program.now }
-    ensures { IfOk result (λ v. DidAt (situation_in context.now) context.now.program.now.nodes place (vars_of vars.now) (flat_of env.now) (slots_of draft.old) (value_of v) (slots_of draft.new)) }
+    requires { ReadyFor context.now place sight.now node.now OfIf draft.old }
+    ensures { IfOk result (Evaluated context.now place sight.now draft.old draft.new) }
 {
     let slot = slot_of(context.layout, place);
-    let condition = eval(alloc, context, node.kids[0], env, vars, draft)?;
+    let condition = eval(alloc, context, node.kids[0], sight, draft)?;
     let truth = truth_of(&condition);
-    let branch = same_branch(alloc, env, slot, truth)?;
+    let branch = same_branch(alloc, sight.env, slot, truth)?;
     let kid = branch_of(&node.kids, truth);
-    let value = eval(alloc, context, kid, &branch, vars, draft)?;
+    let taken = Sight {
+        env: &branch,
+        vars: sight.vars,
+    };
+    let value = eval(alloc, context, kid, &taken, draft)?;
     draft.put(slot, Local::Bool(truth));
     Ok(value)
 }
@@ -232,23 +225,23 @@ fn eval_let(
     context: &Context<'_>,
     place: u32,
     node: &Node,
-    env: &Env<'_>,
-    vars: &Scope<'_>,
+    sight: &Sight<'_, '_>,
     draft: &mut Draft,
 ) -> Result<Value, Memory>
-    requires can { CanAt (situation_in context.now) context.now.program.now.nodes place (vars_of vars.now) (flat_of env.now) (slots_of draft.old) }
-    requires stands { Stands context.now.program.now.nodes context.now.layout.now place }
-    requires node { HasNode context.now.program.now.nodes place OfLet (type_of node.now.ty) node.now.kids.items }
-    requires formed { IsProgram context.now.program.now }
-    ensures { IfOk result (λ v. DidAt (situation_in context.now) context.now.program.now.nodes place (vars_of vars.now) (flat_of env.now) (slots_of draft.old) (value_of v) (slots_of draft.new)) }
+    requires { ReadyFor context.now place sight.now node.now OfLet draft.old }
+    ensures { IfOk result (Evaluated context.now place sight.now draft.old draft.new) }
 {
-    let bound = eval(alloc, context, node.kids[0], env, vars, draft)?;
-    let inner = Scope::Bind(place, &bound, &*vars);
-    let value = eval(alloc, context, node.kids[1], env, &inner, draft)?;
+    let bound = eval(alloc, context, node.kids[0], sight, draft)?;
+    let inner = Scope::Bind(place, &bound, sight.vars);
+    let body = Sight {
+        env: sight.env,
+        vars: &inner,
+    };
+    let value = eval(alloc, context, node.kids[1], &body, draft)?;
     Ok(value)
 }
 
-/// The value of a binder.
+// The value of a binder.
 fn lookup<'a>(vars: &Scope<'a>, binder: u32) -> &'a Value
     requires { IsSome (variable_at binder (vars_of vars.now)) }
     ensures { variable_at binder (vars_of vars.now) ≡ Some (value_of result.now) }
@@ -265,7 +258,7 @@ fn lookup<'a>(vars: &Scope<'a>, binder: u32) -> &'a Value
     }
 }
 
-/// What a variable's value is for the device and the aligned neighbours.
+// What a variable's value is for the device and the aligned neighbours.
 fn aligned(alloc: Global, value: &Value, device: u32, env: &Env<'_>) -> Result<Value, Memory>
     ensures { IfOk result (λ v. value_of v ≡ restricted device (near_numbers (flat_of env.now).near) (value_of value.now)) }
 {
@@ -275,7 +268,7 @@ fn aligned(alloc: Global, value: &Value, device: u32, env: &Env<'_>) -> Result<V
     }
 }
 
-/// An input of a copy.
+// An input of a copy.
 fn input_at(inputs: &[Local], index: u32) -> &Local
     requires { IsSome (slice_get (map local_of inputs.now) index) }
     ensures { slice_get (map local_of inputs.now) index ≡ Some (local_of result.now) }
@@ -283,14 +276,14 @@ fn input_at(inputs: &[Local], index: u32) -> &Local
     &inputs[index as usize]
 }
 
-/// A device's number, cut at the ceiling.
+// A device's number, cut at the ceiling.
 fn uid(device: u32, program: &Unfolded) -> u32
     ensures { result ≡ min device program.now.declared.ceiling }
 {
     device.min(ceiling_of(program))
 }
 
-/// The slot of a kept place.
+// The slot of a kept place.
 fn slot_of(layout: &Layout, place: u32) -> u32
     requires { IsSome (number_in layout.now place) }
     ensures { number_in layout.now place ≡ Some result }
@@ -301,14 +294,14 @@ fn slot_of(layout: &Layout, place: u32) -> u32
     }
 }
 
-/// The greatest integer of a program.
+// The greatest integer of a program.
 fn ceiling_of(program: &Unfolded) -> u32
     ensures { result ≡ program.now.declared.ceiling }
 {
     program.declared().ceiling
 }
 
-/// The least weight of a link.
+// The least weight of a link.
 fn least_weight(program: &Unfolded) -> u32
     ensures { result ≡ program.now.declared.least }
 {
@@ -326,7 +319,7 @@ pub fn into_local(value: Value) -> Local
     }
 }
 
-/// A copy of a local value.
+// A copy of a local value.
 fn copy_local(alloc: Global, value: &Value) -> Result<Local, Memory>
     requires { IsLocal (value_of value.now) }
     ensures { IfOk result (λ v. value_of value.now ≡ ValueLocal (local_of v)) }
@@ -337,7 +330,7 @@ fn copy_local(alloc: Global, value: &Value) -> Result<Local, Memory>
     }
 }
 
-/// The truth value that a condition has.
+// The truth value that a condition has.
 fn truth_of(value: &Value) -> bool
     requires { IsTruth (value_of value.now) }
     ensures { value_of value.now ≡ ValueLocal (BoolValue result) }
@@ -348,7 +341,7 @@ fn truth_of(value: &Value) -> bool
     }
 }
 
-/// The place of the branch that a truth value names.
+// The place of the branch that a truth value names.
 fn branch_of(kids: &[u32], truth: bool) -> u32
     requires { length kids.now ≡ 3 }
     ensures { result ≡ slice_index kids.now (pick truth 1 2) }

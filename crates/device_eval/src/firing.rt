@@ -6,7 +6,7 @@ ghost use Rattle.alignment.specs.References.{flat_of};
 ghost use Rattle.device_eval.specs.References.{snap_env};
 ghost use Rattle.device_eval.specs.Firing.{IsFired};
 
-use crate::evaluation::{Context, Scope, eval, into_local};
+use crate::evaluation::{Context, Scope, Sight, eval, into_local};
 use alignment::{Env, NearRef};
 use fc_nodes::Unfolded;
 use fc_values::{Export, Memory};
@@ -105,7 +105,7 @@ pub fn fire(alloc: Global, program: &Arc<Unfolded>, snap: Snap) -> Result<Fired,
     }
 }
 
-/// The export of a copy.
+// The export of a copy.
 fn evaluate(alloc: Global, program: &Unfolded, snap: &Snap) -> Result<Export, Memory>
     requires { IsSnap (unfolding_of program.now) snap.now }
     ensures { IfOk result (λ e. IsFired (record { program = program.now; snap = snap.now; export = e })) }
@@ -120,11 +120,15 @@ fn evaluate(alloc: Global, program: &Unfolded, snap: &Snap) -> Result<Export, Me
         device: snap.device,
         inputs,
     };
-    let value = eval(alloc, &context, 0, &env, &Scope::Empty, &mut draft)?;
+    let sight = Sight {
+        env: &env,
+        vars: &Scope::Empty,
+    };
+    let value = eval(alloc, &context, 0, &sight, &mut draft)?;
     Ok(draft.finish(into_local(value)))
 }
 
-/// What the root sees of a copy.
+// What the root sees of a copy.
 fn root_env<'a>(alloc: Global, snap: &'a Snap) -> Result<Env<'a>, Memory>
     ensures { IfOk result (λ env. flat_of env ≡ snap_env snap.now) }
 {

@@ -7,17 +7,12 @@ use Rattle.fc_nodes.specs.Flat.{IsExport, tree_export}
 use Rattle.device_eval.specs.Copies.{EvaluatesCopy}
 use Rattle.value_trees.specs.Snaps.{snap_copy}
 use Rattle.alignment.specs.References.{flat_of}
-use Rattle.device_eval.proofs.RootSteps.{root_stands, root_can, root_local, root_export, root_evaluates, situation_as}
+use Rattle.device_eval.proofs.RootSteps.{root_ready, root_local, root_export, root_evaluates, situation_as}
 use Rattle.device_eval.proofs.firing.evaluate.Goals as goal
 
-pub eval-requires-clause-can : goal.eval-requires-clause-can
-eval-requires-clause-can c =
-    root_can c.args.program.now c.new.ensures.program c.args.snap.now c.requires c.in_ok-layout.layout c.in_ok-layout.ensures.layout (flat_of c.in_ok-env.env) c.in_ok-env.ensures (slots_of c.in_ok-draft.draft) c.in_ok-draft.ensures
-    _ (situation_as c.args.program.now c.args.snap.now c.as_slice-inputs.result.now c.as_slice-inputs.ensures.value)
-
-pub eval-requires-clause-stands : goal.eval-requires-clause-stands
-eval-requires-clause-stands c =
-    root_stands c.args.program.now c.new.ensures.program c.args.snap.now c.requires c.in_ok-layout.layout c.in_ok-layout.ensures.layout (flat_of c.in_ok-env.env) c.in_ok-env.ensures (slots_of c.in_ok-draft.draft) c.in_ok-draft.ensures
+pub eval-requires : goal.eval-requires
+eval-requires c =
+    root_ready c.args.program.now c.new.ensures.program c.args.snap.now c.requires c.in_ok-layout.layout c.in_ok-layout.ensures.layout (flat_of c.in_ok-env.env) c.in_ok-env.ensures (slots_of c.in_ok-draft.draft) c.in_ok-draft.ensures
     _ (situation_as c.args.program.now c.args.snap.now c.as_slice-inputs.result.now c.as_slice-inputs.ensures.value)
 
 pub into_local-requires : goal.into_local-requires
