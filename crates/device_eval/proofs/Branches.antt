@@ -73,6 +73,34 @@ module _ (t : ValueType) (x a b : Term) (k : ℕ) (r : Bool) where
   unfolding NearAgree
   env_branch e f = let o = own_branch e.own f.own in let n = near_branch e.near f.near in rw (o, n) refl
 
+-- the exports that keep the truth of an `if`, at the `if` itself
+module _ (t : ValueType) (x a b : Term) (k : ℕ) (r : Bool) where
+  NearStay : List NearSlots → Type 0
+  NearStay ns = map (near_at (If t x a b) k) (filter (λ (n : NearSlots). slot_keeps k r n.2) ns) ≡ filter (λ (n : NearTree). keeps_truth r (kept_of n.2)) (map (near_at (If t x a b) k) ns)
+
+  stay_step : (n : NearSlots) (ns : List NearSlots) → (slot_at k n.2).0 ≡ true → NearStay ns → (q : Bool) → keeps_truth r (Some (slot_at k n.2).1) ≡ q → NearStay (n ∷ ns)
+  unfolding NearStay slot_at
+  stay_step n ns m ih true e = rw (m, e, ih) refl
+  stay_step n ns m ih false e = rw (m, e, ih) refl
+
+  near_stay : (ns : List NearSlots) → NearFit (If t x a b) k ns → NearStay ns
+  unfolding NearStay
+  near_stay [] h = refl
+  near_stay (n ∷ ns) h = stay_step n ns h.0.0 (near_stay ns h.2) (keeps_truth r (Some (slot_at k n.2).1)) refl
+
+  stay_own : (xs : List SlotValue) → (slot_at k xs).0 ≡ true → (q : Bool) → keeps_truth r (Some (slot_at k xs).1) ≡ q → option_map (tree_at (If t x a b) k) (own_where (slot_keeps k r) (Some xs)) ≡ own_where (λ u. keeps_truth r (kept_of u)) (Some (tree_at (If t x a b) k xs))
+  unfolding slot_at
+  stay_own xs m true e = rw (m, e) refl
+  stay_own xs m false e = rw (m, e) refl
+
+  own_stay : (o : Option (List SlotValue)) → OwnFits (If t x a b) k o → option_map (tree_at (If t x a b) k) (own_where (slot_keeps k r) o) ≡ own_where (λ u. keeps_truth r (kept_of u)) (option_map (tree_at (If t x a b) k) o)
+  own_stay None h = refl
+  own_stay (Some xs) h = stay_own xs h.0.0 (keeps_truth r (Some (slot_at k xs).1)) refl
+
+  pub branch_at : (e : FlatEnv) → EnvFits (If t x a b) k e → env_at (If t x a b) k (flat_branch k r e) ≡ branch_env r (env_at (If t x a b) k e)
+  unfolding NearStay
+  branch_at e f = let o = own_stay e.own f.own in let n = near_stay e.near f.near in rw (o, n) refl
+
 -- the exports of a branch fit it
 arm_marked : (t : ValueType) (x a b : Term) (k : ℕ) (r : Bool) (xs : List SlotValue) → Marked (If t x a b) k xs → keeps_truth r (Some (slot_at k xs).1) ≡ true → Marked (arm t x a b k r) (arm_slot t x a b k r) xs
 arm_marked t x a b k true xs m e = (truth_true (slot_at k xs).1 (Marked a (suc k + kept x) xs × Clear (suc k + kept x + kept a) (kept b) xs) (Clear (suc k + kept x) (kept a) xs × Marked b (suc k + kept x + kept a) xs) e m.2).0

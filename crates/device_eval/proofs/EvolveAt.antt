@@ -4,7 +4,7 @@ use Rattle.std.specs.Prelude.{slice_set, option_map}
 use Rattle.fc_values.specs.Types.{ValueType}
 use Rattle.fc_values.specs.BuiltinTypes.{inner}
 use Rattle.fc_values.specs.Values.{LocalValue}
-use Rattle.fc_values.specs.Fields.{AnyValue, ValueLocal}
+use Rattle.fc_values.specs.Fields.{AnyValue, ValueLocal, ValueField, with_entry}
 use Rattle.fc_values.specs.Trees.{Tree, Keep, Done, Then}
 use Rattle.fc_values.specs.Exports.{SlotValue, slot_at}
 use Rattle.fc_nodes.specs.declared.nodes.Node.{Node}
@@ -14,7 +14,7 @@ use Rattle.fc_nodes.proofs.Places.{formed_above}
 use Rattle.fc_nodes.proofs.Kids.{TwoKids, evolve_laid}
 use Rattle.fc_nodes.proofs.Kept.{one_more, kept_size}
 use Rattle.device_eval.specs.Neighbours.{kept_there}
-use Rattle.device_eval.specs.Evaluation.{Situation, Vars, Outcome, own_or, evolving, eval_of, after, on_local, on_some}
+use Rattle.device_eval.specs.Evaluation.{Situation, Vars, Outcome, own_or, heard, evolving, eval_of, after, on_local, on_some}
 use Rattle.flat_exports.specs.Layouts.{LayoutValue, number_in}
 use Rattle.alignment.specs.Slots.{FlatEnv, NearSlots, OwnHas, NearHave}
 use Rattle.device_eval.specs.Environments.{env_at, near_at}
@@ -27,7 +27,7 @@ use Rattle.device_eval.proofs.Steps.{after_some, local_is, can_all, did_all, kid
 
 -- what the variable starts from
 module _ (t : ValueType) (v : Evolution) (a b : Term) (k : ℕ) where
-  own_starts : (first : LocalValue) (o : Option (List SlotValue)) → own_or (option_map (tree_at (Evolve t v a b) k) o) first ≡ Some (own_slot_or k first o)
+  pub own_starts : (first : LocalValue) (o : Option (List SlotValue)) → own_or (option_map (tree_at (Evolve t v a b) k) o) first ≡ Some (own_slot_or k first o)
   unfolding slot_at
   own_starts first None = refl
   own_starts first (Some xs) = refl
@@ -40,6 +40,10 @@ module _ (t : ValueType) (v : Evolution) (a b : Term) (k : ℕ) where
   starts_by : (e : Evolution) (device : ℕ) (env : FlatEnv) (first : LocalValue) → evolving e device (env_at (Evolve t v a b) k env) first ≡ Some (started e device env k first)
   starts_by ByRep device env first = let o = own_starts first env.own in rw o refl
   starts_by ByShare device env first = let o = own_starts first env.own in let n = near_starts env.near in rw (o, n) refl
+
+-- the variable of a `share`, out of slots and out of trees
+pub share_heard : (t : ValueType) (a b : Term) (k : ℕ) (env : FlatEnv) (device : ℕ) (first : LocalValue) → heard device (own_or (env_at (Evolve t ByShare a b) k env).own first) (kept_there (env_at (Evolve t ByShare a b) k env).near) ≡ Some (ValueField (with_entry device (own_slot_or k first env.own) (slot_entries k env.near)))
+share_heard t a b k env device first = starts_by t ByShare a b k ByShare device env first
 
 module _ (S : Situation) (p : ℕ) (t : ValueType) (v : Evolution) (a b : Term) (k : ℕ) (vars : Vars) (env : FlatEnv) (xs : List SlotValue) (can : Can S p (Evolve t v a b) k vars env xs) where
   evolve_first : Can S (suc p) a (suc k) vars env xs

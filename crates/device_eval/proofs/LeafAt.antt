@@ -1,5 +1,5 @@
 -- A node without kids at a place of a program.
-use Rattle.std.proofs.Common.{◌≡◌, ℕ, List, [], ◌∷◌, map, filter, min, refl, sym, ap, subst, Bool, Option, Some, None, IsSome, nat_eq, ◌||◌}
+use Rattle.std.proofs.Common.{◌≡◌, ℕ, List, [], ◌∷◌, map, min, refl, sym, ap, subst, Option, Some, None, IsSome}
 use Rattle.std.specs.Prelude.{slice_get, option_map}
 use Rattle.fc_values.specs.Types.{ValueType}
 use Rattle.fc_values.specs.Values.{LocalValue, IntValue}

@@ -14,7 +14,7 @@ use Rattle.fc_nodes.proofs.Places.{formed_above}
 use Rattle.fc_nodes.proofs.Kids.{OneKid, nbr_laid}
 use Rattle.fc_nodes.proofs.Kept.{one_more}
 use Rattle.device_eval.specs.Neighbours.{kept_there}
-use Rattle.device_eval.specs.Evaluation.{Situation, Vars, eval_of, on_local}
+use Rattle.device_eval.specs.Evaluation.{Situation, Vars, eval_of, heard, on_local}
 use Rattle.flat_exports.specs.Layouts.{LayoutValue, number_in}
 use Rattle.alignment.specs.Slots.{FlatEnv, NearSlots, NearHave}
 use Rattle.device_eval.specs.Environments.{env_at, near_at}
@@ -28,6 +28,10 @@ kept_entries : (t : ValueType) (a : Term) (k : ℕ) (ns : List NearSlots) → ke
 unfolding slot_at
 kept_entries t a k [] = refl
 kept_entries t a k (n ∷ ns) = let ih = kept_entries t a k ns in rw ih refl
+
+-- the field of an `nbr`, out of slots and out of trees
+pub nbr_heard : (t : ValueType) (a : Term) (k : ℕ) (env : FlatEnv) (device : ℕ) (v : LocalValue) → heard device (Some v) (kept_there (env_at (Nbr t a) k env).near) ≡ Some (ValueField (with_entry device v (slot_entries k env.near)))
+nbr_heard t a k env device v = let e = kept_entries t a k env.near in rw e refl
 
 module _ (S : Situation) (p : ℕ) (t : ValueType) (a : Term) (k : ℕ) (vars : Vars) (env : FlatEnv) (xs : List SlotValue) (can : Can S p (Nbr t a) k vars env xs) where
   pub nbr_first : Can S (suc p) a (suc k) vars env xs

@@ -17,7 +17,7 @@ use Rattle.device_eval.specs.Evaluation.{eval_of}
 use Rattle.fc_values.specs.Inputs.{InputFits, InputsFit}
 use Rattle.value_trees.specs.Copies.{WhereSome, AllNearFit, near_devices, FitsCopy}
 use Rattle.device_eval.specs.Copies.{near_tree, env_of, situation_of, HasOneExport}
-use Rattle.device_eval.proofs.Sights.{FitsEnv, EachNear, AllLight, Suits}
+use Rattle.device_eval.specs.Conditions.{FitsEnv, EachNear, AllLight, Suits, NodeIn, MayEvaluate, HasOutcome, main_in}
 use Rattle.device_eval.proofs.Progress.{Gives, local_of_type, progress}
 use Rattle.device_eval.proofs.Agree.{gives_rule, one_outcome}
 use Rattle.alignment.specs.Environments.{near_numbers}
@@ -120,3 +120,16 @@ has_one_export U s t l ty root h = by_export (progress_copy U s t l ty root h)
 
 pub program_export : (P : Program) (s : Copy) → IsProgram P → FitsCopy (unfolding_of P) s → HasOneExport (unfolding_of P) s
 program_export P s p h = has_one_export (unfolding_of P) s p.root.0 p.lawful p.typed p.root.1 h
+
+-- a node under its conditions
+pub node_outcome : (n : NodeIn) → MayEvaluate n → HasOutcome n
+node_outcome n h =
+    let S = n.situation in
+    let g = progress n.declared S h.suits n.term n.scope n.place n.neighbours n.vars n.env h.typed h.vars h.env in
+    let rule = gives_rule S n.place n.term n.vars n.env g.value g.tree g.is in
+    record { value = g.value; tree = g.tree; evaluates = rule; fits = g.fits; formed = g.formed; only = λ v t e. one_outcome S n.place n.term n.vars n.env v g.value t g.tree e rule }
+
+pub main_may : (P : Program) (s : Copy) → IsProgram P → FitsCopy (unfolding_of P) s → MayEvaluate (main_in (unfolding_of P) s)
+main_may P s p h =
+    let U = unfolding_of P in
+    record { typed = p.typed; suits = copy_suits U.declared s p.lawful h.inputs; vars = tt; env = copy_env U s p.lawful h }

@@ -1,6 +1,5 @@
 -- A typed term is never stuck: in an environment that fits it has a value and a tree, and they fit.
-use Rattle.std.proofs.Common.{◌≡◌, ℕ, suc, ◌≤◌, ◌+◌, min, List, [], ◌∷◌, refl, sym, ◌∙◌, ap, subst, arith, Bool, true, false, Option, Some, None}
-use Rattle.std.specs.Prelude.{slice_get}
+use Rattle.std.proofs.Common.{◌≡◌, ℕ, suc, ◌+◌, min, List, [], ◌∷◌, refl, sym, ◌∙◌, ap, subst, arith, Bool, true, false, Option, Some, None}
 use Rattle.fc_values.specs.declared.builtins.Builtin.{Builtin}
 use Rattle.fc_values.specs.Types.{LocalType, IntType, BoolType, ValueType, TypeLocal, TypeField, Declarations}
 use Rattle.fc_values.specs.Values.{LocalValue, IntValue, BoolValue, PairValue, Fits}
@@ -9,15 +8,16 @@ use Rattle.fc_values.specs.BuiltinTypes.{inner}
 use Rattle.fc_values.proofs.BuiltinTyped.{builtin_typed}
 use Rattle.fc_values.specs.Trees.{Tree, Trees, Keep, Done, Then, leaf, child}
 use Rattle.fc_nodes.specs.Terms.{Leaf, Literal, Variable, Sense, Uid, NbrLink, Evolution, ByRep, ByShare, Term, Terms, Plain, Apply, Nbr, Evolve, If, Let, NoMore, More, type_of, size}
-use Rattle.fc_nodes.specs.Typing.{Scope, sense_type, LeafHasType, evolving_type, types_of, HasType, HaveTypes}
+use Rattle.fc_nodes.specs.Typing.{Scope, LeafHasType, evolving_type, types_of, HasType, HaveTypes}
 use Rattle.fc_nodes.specs.Flat.{HasKids, KeepsWith, OneKid, TwoKids, KeepsTruth, FitsTree, FitTrees}
 use Rattle.alignment.specs.Environments.{NearTree, Env, child_env, branch_env, near_numbers}
 use Rattle.device_eval.specs.Neighbours.{kept_there, weights}
 use Rattle.device_eval.specs.Evaluation.{Situation, Vars, own_or, heard, evolving, eval_of, eval_all, Outcome, Outcomes}
+use Rattle.device_eval.specs.Conditions.{Suits, FitsEnv, EachNear, VarsFit}
 use Rattle.value_trees.specs.Copies.{WhereSome}
 use Rattle.fc_values.proofs.Rising.{rises_test}
 use Rattle.fc_values.proofs.Numbers.{rises_with}
-use Rattle.device_eval.proofs.Sights.{InputThere, Suits, FitsEnv, EachNear, env_kid, env_as, near_as, InBranch, those_in, part_of, env_branch, kids_from, first_kid, rest_kids, devices_with, fit_with, devices_weights, fit_weights, Keeps, each_keeps, VarsFit, vars_part, bound_fits, Reads, variable_there, restricted_fits}
+use Rattle.device_eval.proofs.Sights.{env_kid, env_as, near_as, InBranch, those_in, part_of, env_branch, kids_from, first_kid, rest_kids, devices_with, fit_with, devices_weights, fit_weights, Keeps, each_keeps, vars_part, bound_fits, Reads, variable_there, restricted_fits}
 
 -- an outcome that is there and fits: the value over the device and its neighbours, and the tree
 pub record Gives (ceiling device : ℕ) (ds : List ℕ) (t : ValueType) (P : Tree → Type 0) (o : Outcome) : Type 0 where

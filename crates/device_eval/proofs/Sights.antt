@@ -1,36 +1,19 @@
 -- Crates above cite this module: environments and variables that fit, and what nodes read of them.
-use Rattle.std.proofs.Common.{◌≡◌, ℕ, zero, suc, ◌≤◌, List, [], ◌∷◌, map, refl, ◌∙◌, ap, subst, Bool, true, false, ◌||◌, Option, Some, None, option_map, nat_eq, nat_lt}
-use Rattle.std.specs.Prelude.{filter, slice_get}
+use Rattle.std.proofs.Common.{◌≡◌, ℕ, zero, suc, List, [], ◌∷◌, map, refl, ◌∙◌, ap, subst, Bool, true, false, Option, Some, None, option_map, nat_eq, nat_lt}
+use Rattle.std.specs.Prelude.{filter}
 use Rattle.std.proofs.lemmas.Bool.{cond_both}
-use Rattle.fc_values.specs.Types.{LocalType, IntType, ValueType, TypeLocal, TypeField, Declarations}
+use Rattle.fc_values.specs.Types.{LocalType, IntType, ValueType, TypeLocal, TypeField}
 use Rattle.fc_values.specs.Values.{LocalValue, Fits}
 use Rattle.fc_values.specs.Fields.{Entries, AnyValue, ValueLocal, ValueField, devices, Rises, AllFit, FitsOver, with_entry, restricted, is_in, with_number}
 use Rattle.fc_values.specs.Trees.{Tree, Trees, Keep, Done, Then, kept_of, nth_tree, child}
-use Rattle.fc_nodes.specs.Typing.{Scope, type_at, sense_type}
+use Rattle.fc_nodes.specs.Typing.{Scope, type_at}
 use Rattle.fc_nodes.specs.Flat.{OneMore}
 use Rattle.alignment.specs.Environments.{NearTree, Env, near_by, child_env, keeps_truth, own_where, branch_env, near_numbers}
 use Rattle.device_eval.specs.Neighbours.{kept_there, weights}
-use Rattle.device_eval.specs.Evaluation.{Situation, Vars, variable_at}
+use Rattle.device_eval.specs.Evaluation.{Vars, variable_at}
+use Rattle.device_eval.specs.Conditions.{EachNear, AllLight, FitsEnv, VariableFits, VarsFit}
 use Rattle.value_trees.specs.Copies.{WhereSome}
 use Rattle.fc_values.proofs.Numbers.{stays, Part, part_none, part_skip, part_keep, rises_part, not_in_part, still_stays, all_stay}
-
-abbrev pub EachNear : (Tree → Type 0) → List NearTree → Type 0
-EachNear P [] = Unit {0}
-EachNear P (n ∷ ns) = P n.2 × EachNear P ns
-
--- each weight is at most the ceiling
-abbrev pub AllLight : ℕ → List NearTree → Type 0
-AllLight ceiling [] = Unit {0}
-AllLight ceiling (n ∷ ns) = (n.1 ≤ ceiling) × AllLight ceiling ns
-
--- an environment of a device whose neighbours are ds, with trees of a kind
-pub record FitsEnv (ceiling device : ℕ) (ds : List ℕ) (P : Tree → Type 0) (env : Env) : Type 0 where
-  pub own : WhereSome P env.own
-  pub near : EachNear P env.near
-  pub light : AllLight ceiling env.near
-  pub numbers : near_numbers env.near ≡ ds
-  pub rising : Rises ds
-  pub other : is_in device ds ≡ false
 
 -- the trees are replaced by kids
 module _ (P Q : Tree → Type 0) (i : ℕ) (f : (t : Tree) → P t → Q (child i t)) where
@@ -194,17 +177,6 @@ each_keeps ceiling s (n ∷ ns) h =
       fit = (first.fits, rest.fit);
     }
 
--- A variable in scope: a field is over the device, the neighbours and maybe more devices.
-abbrev pub VariableFits : ℕ → ℕ → List ℕ → ValueType → AnyValue → Type 0
-VariableFits ceiling device ds (TypeLocal t) (ValueLocal v) = Fits ceiling t v
-VariableFits ceiling device ds (TypeField t) (ValueField es) = AllFit ceiling t es × (filter (stays device ds) (devices es) ≡ with_number device ds)
-VariableFits ceiling device ds _ _ = ⊥
-
-abbrev pub VarsFit : ℕ → ℕ → List ℕ → Scope → Vars → Type 0
-VarsFit ceiling device ds [] [] = Unit {0}
-VarsFit ceiling device ds (b ∷ bs) (v ∷ vs) = (b.0 ≡ v.0) × VariableFits ceiling device ds b.1 v.1 × VarsFit ceiling device ds bs vs
-VarsFit ceiling device ds _ _ = ⊥
-
 module _ (ceiling device : ℕ) {ms ds : List ℕ} (p : Part ms ds) (r : Rises ds) (other : is_in device ds ≡ false) where
   pub variable_part : (t : ValueType) (v : AnyValue) → VariableFits ceiling device ds t v → VariableFits ceiling device ms t v
   variable_part (TypeLocal t) (ValueLocal v) h = h
@@ -272,15 +244,3 @@ module _ (device : ℕ) (ns : List ℕ) where
   restricted_fits ceiling (TypeField t) (ValueField es) h = (devices_restricted es ∙ h.1, fit_restricted ceiling t es h.0)
   restricted_fits ceiling (TypeLocal t) (ValueField es) h = absurd h
   restricted_fits ceiling (TypeField t) (ValueLocal v) h = absurd h
-
--- an input of a type
-pub record InputThere (S : Situation) (i : ℕ) (s : LocalType) : Type 0 where
-  pub value : LocalValue
-  pub is : slice_get S.inputs i ≡ Some value
-  pub fits : Fits S.ceiling s value
-
--- a situation in which a program with these declarations may be evaluated
-pub record Suits (D : Declarations) (S : Situation) : Type 0 where
-  pub ceiling : D.ceiling ≡ S.ceiling
-  pub least : S.least ≤ S.ceiling
-  pub inputs : (i : ℕ) (s : LocalType) → sense_type D i ≡ Some s → InputThere S i s

@@ -9,3 +9,5 @@ pub mod References
 pub mod Walks
 pub mod Rows
 pub mod Contexts
+pub mod Conditions
+pub mod Laws

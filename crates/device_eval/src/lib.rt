@@ -7,4 +7,4 @@ mod laws;
 mod links;
 
 pub use firing::{Fired, fire};
-pub use laws::one_export;
+pub use laws::{nodes_have_outcomes, one_export, rules_agree, slots_stand_for_trees};
