@@ -50,7 +50,7 @@ pub fn same_branch<'a>(
     Ok(Env { own, near })
 }
 
-/// The neighbours that keep a truth value in a slot.
+// The neighbours that keep a truth value in a slot.
 fn near_branch<'a>(
     alloc: Global,
     all: &[NearRef<'a>],
@@ -60,7 +60,7 @@ fn near_branch<'a>(
     requires { NearHave slot (nears_of all.now) }
     ensures { IfOk result (λ v. nears_of v.items ≡ filter (λ (n : NearSlots). slot_keeps slot truth n.2) (nears_of all.now)) }
 {
-    let mut near = Vec::new(alloc);
+    let mut near = Vec::with_capacity(alloc, all.len())?;
     for n in all {
         if keeps(n.slots, slot, truth) {
             near.push(NearRef {
@@ -73,7 +73,7 @@ fn near_branch<'a>(
     Ok(near)
 }
 
-/// Whether a slot is kept, with this truth value.
+// Whether a slot is kept, with this truth value.
 fn keeps(slots: &Slots, slot: u32, truth: bool) -> bool
     requires { slot < length (slots_of slots.now.list.items) }
     ensures { result ≡ slot_keeps slot truth (slots_of slots.now.list.items) }
@@ -82,7 +82,7 @@ fn keeps(slots: &Slots, slot: u32, truth: bool) -> bool
     s.kept && is_truth(&s.value, truth)
 }
 
-/// Whether a value is this truth value.
+// Whether a value is this truth value.
 fn is_truth(value: &Local, truth: bool) -> bool
     ensures { result ≡ truth_is_kept truth (Some (local_of value.now)) }
 {

@@ -18,9 +18,9 @@ pub fn restrict(
 ) -> Result<FieldVal, Memory>
     ensures { IfOk result (λ f. ValueField (entries_of f) ≡ restricted device (near_numbers (flat_of env.now).near) (ValueField (entries_of field.now))) }
 {
-    let mut entries = Vec::new(alloc);
     let near = env.near.as_slice();
     let all = field.entries.as_slice();
+    let mut entries = Vec::with_capacity(alloc, all.len())?;
     for (d, value) in all {
         if *d == device || is_near(near, *d) {
             entries.push((*d, copy(alloc, value)?))?;
@@ -29,7 +29,7 @@ pub fn restrict(
     Ok(FieldVal { entries })
 }
 
-/// Whether a device is among the neighbours.
+// Whether a device is among the neighbours.
 fn is_near(near: &[NearRef<'_>], device: u32) -> bool
     ensures { result ≡ is_in device (near_numbers (nears_of near.now)) }
 {

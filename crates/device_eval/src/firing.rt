@@ -132,8 +132,8 @@ fn evaluate(alloc: Global, program: &Unfolded, snap: &Snap) -> Result<Export, Me
 fn root_env<'a>(alloc: Global, snap: &'a Snap) -> Result<Env<'a>, Memory>
     ensures { IfOk result (λ env. flat_of env ≡ snap_env snap.now) }
 {
-    let mut near = Vec::new(alloc);
     let all = snap.near.as_slice();
+    let mut near = Vec::with_capacity(alloc, all.len())?;
     for n in all {
         near.push(NearRef {
             device: n.device,

@@ -14,9 +14,9 @@ use std::alloc::Global;
 pub fn links(alloc: Global, env: &Env<'_>, device: u32, least: u32) -> Result<FieldVal, Memory>
     ensures { IfOk result (λ f. entries_of f ≡ with_entry device (IntValue least) (weights (flat_of env.now).near)) }
 {
-    let mut entries = Vec::new(alloc);
-    let mut own_placed = false;
     let near = env.near.as_slice();
+    let mut entries = Vec::with_capacity(alloc, near.len().saturating_add(1))?;
+    let mut own_placed = false;
     for n in near {
         if !own_placed && device < n.device {
             entries.push((device, Local::Int(least)))?;

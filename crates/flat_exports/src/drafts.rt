@@ -34,8 +34,8 @@ impl Draft {
     pub fn new(alloc: Global, layout: &Layout) -> Result<Draft, Memory>
         ensures { IfOk result (λ d. slots_of d ≡ blank_slots layout.now.blanks) }
     {
-        let mut list = Vec::new(alloc);
         let blanks = layout.blanks.as_slice();
+        let mut list = Vec::with_capacity(alloc, blanks.len())?;
         for blank in blanks {
             list.push(Slot {
                 kept: false,

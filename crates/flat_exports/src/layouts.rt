@@ -39,7 +39,7 @@ impl Layout {
         ensures layout { IfOk result (λ l. IsLayout program.now.nodes l) }
         ensures program { IsProgram program.now }
     {
-        let mut numbers = Vec::new(alloc);
+        let mut numbers = Vec::with_capacity(alloc, program.size() as usize)?;
         let mut blanks = Vec::new(alloc);
         for place in 0..program.size() {
             add(alloc, program.node(place), &mut numbers, &mut blanks)?;
@@ -65,7 +65,7 @@ impl Layout {
     }
 }
 
-/// Adds a node, and a slot for it if it keeps a value.
+// Adds a node, and a slot for it if it keeps a value.
 fn add(
     alloc: Global,
     node: &Node,
@@ -86,7 +86,7 @@ fn add(
     Ok(())
 }
 
-/// A value of the type that a node keeps, if it keeps one.
+// A value of the type that a node keeps, if it keeps one.
 fn blank(alloc: Global, node: &Node) -> Result<Option<Local>, Memory>
     ensures { IfOk result (λ o. option_map (λ v. form_of (local_of v)) o ≡ node_keeps node.now) }
 {

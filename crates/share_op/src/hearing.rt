@@ -52,9 +52,9 @@ pub fn heard_with(
     requires { NearHave slot (flat_of env.now).near }
     ensures { IfOk result (λ f. entries_of f ≡ with_entry device (local_of own.now) (slot_entries slot (flat_of env.now).near)) }
 {
-    let mut entries = Vec::new(alloc);
-    let mut placed = false;
     let near = env.near.as_slice();
+    let mut entries = Vec::with_capacity(alloc, near.len().saturating_add(1))?;
+    let mut placed = false;
     for n in near {
         if !placed && device < n.device {
             entries.push((device, copy(alloc, own)?))?;
@@ -68,7 +68,7 @@ pub fn heard_with(
     Ok(FieldVal { entries })
 }
 
-/// The value in a slot.
+// The value in a slot.
 fn slot_value(slots: &Slots, slot: u32) -> &Local
     requires { slot < length (slots_of slots.now.list.items) }
     ensures { local_of result.now ≡ (slot_at slot (slots_of slots.now.list.items)).1 }
