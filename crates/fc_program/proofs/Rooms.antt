@@ -6,9 +6,7 @@ use Rattle.fc_nodes.specs.Program.{Unfolding}
 use Rattle.firing_core.specs.Cores.{Map, Core, put, copy_of, Step}
 use Rattle.firing_core.specs.CoreViews.{mark}
 use Rattle.firing_core.specs.Entries.{BeginEntry}
-
-put_there : (f : Map Copy) (d : ℕ) (v : Option Copy) → put f d v d ≡ v
-put_there f d v = let t = eq-eqb d d refl in rw t refl
+use Rattle.firing_core.proofs.Maps.{put_same}
 
 some_same : (a b : Copy) → Some a ≡ Some b → a ≡ b
 some_same a b e = cc
@@ -16,7 +14,7 @@ some_same a b e = cc
 pub copy_in_flight : (U : Unfolding) (old new : Core) (d e : ℕ) (taken s : Copy) → Step U old (BeginEntry d) new → taken ≡ copy_of old.net old.exports d → e ≡ taken.device → new.flying e ≡ Some s → s ≡ taken
 copy_in_flight U old new d e taken s step same names h =
     let here : e ≡ d = names ∙ ap (λ (c : Copy). c.device) same in
-    some_same s taken (sym h ∙ ap new.flying here ∙ ap (λ (k : Core). k.flying d) step.2 ∙ put_there old.flying d (Some (copy_of old.net old.exports d)) ∙ ap Some (sym same))
+    some_same s taken (sym h ∙ ap new.flying here ∙ ap (λ (k : Core). k.flying d) step.2 ∙ put_same old.flying d (Some (copy_of old.net old.exports d)) ∙ ap Some (sym same))
 
 pub device_there : (old : Core) (d e : ℕ) (taken : Copy) → taken ≡ copy_of old.net old.exports d → e ≡ taken.device → e ≡ d
 device_there old d e taken same names = names ∙ ap (λ (c : Copy). c.device) same

@@ -23,11 +23,11 @@ use Rattle.fc_values.specs.Values.{LocalValue, IntValue, BoolValue, PairValue}
 use Rattle.fc_values.specs.Rows.{IsPairValue}
 use Rattle.topology.specs.Inputs.{input_fault}
 use Rattle.topology.specs.Changes.{insert_device, drop_device, joined, left, link_fault, linked, unlink_fault, unlinked, nth_fault, set_fault, with_input, leave_fault}
-use Rattle.topology.proofs.Changed.{no_fault, linked_network, unlinked_network, input_network, set_none}
-use Rattle.topology.proofs.Lists.{map_insert}
+use Rattle.topology.proofs.Lemmas.{no_fault, linked_network, unlinked_network, input_network, set_none}
+use Rattle.topology.proofs.Lemmas.{map_insert}
 use Rattle.fc_values.proofs.Lists.{insert_prefix, insert_length}
-use Rattle.topology.proofs.Devices.{drop_length, put_numbers}
-use Rattle.topology.proofs.NearEach.{map_remove, remove_device}
+use Rattle.topology.proofs.Lemmas.{drop_length, put_numbers}
+use Rattle.topology.proofs.Lemmas.{map_remove, remove_device}
 use Rattle.firing_core.specs.Entries.{EditValue, LinkEdit, UnlinkEdit, SetEdit, PokeEdit, JoinEdit, LeaveEdit}
 use Rattle.firing_core.specs.Cores.{Map, put, Core, on_net, Edits, edit_fault, edited}
 use Rattle.firing_core.specs.CoreViews.{CoreValue, core_of, program_of, slot_at, AllExports, AllFlights, rooms_of, IsCore}

@@ -198,6 +198,10 @@ module _ (v : CoreValue) (k : IsCore v) (p d : ℕ) (h : p < length v.net.device
       ap (λ f. let c : Core = record { net = v.net; exports = f; flying = slot_at (numbers v.net.devices) (map (option_map (snap_copy (program_of v))) (slice_set v.flying p None)) } in c) u
       ∙ ap (λ f. let c : Core = record { net = v.net; exports = put (core_of v).exports d (Some (tree_of (program_of v) x)); flying = f } in c) w
 
+  -- the table after an end
+  pub published : (made e : Export) → made ≡ e → (core_of (with_export made)).exports ≡ put (core_of v).exports d (Some (tree_of (program_of v) e))
+  published made e same = ap (λ (c : Core). c.exports) (ended_core made) ∙ ap (λ (x : Export). put (core_of v).exports d (Some (tree_of (program_of v) x))) same
+
   pub ended_kept : (x : Export) → IsExportOf (program_of v) x → IsCore (with_export x)
   ended_kept x w = record {
     declared = k.declared;

@@ -1,14 +1,15 @@
 -- A copy in flight is the one that was taken at its begin.
 use Rattle.std.proofs.Common.{◌≡◌, ℕ, inl, inr, List, [], ◌∷◌, ◌++◌, refl, sym, ◌∙◌, ap, subst, true, Option, Some, None}
-use Rattle.std.proofs.lemmas.Bool.{eq-eqb, ne_eqb}
 use Rattle.fc_values.specs.Trees.{Copy}
 use Rattle.fc_nodes.specs.Program.{Unfolding}
 use Rattle.topology.specs.Networks.{lives}
-use Rattle.topology.proofs.Changed.{can_join}
+use Rattle.topology.proofs.Lemmas.{can_join}
 use Rattle.firing_core.specs.Entries.{EditValue, LinkEdit, UnlinkEdit, SetEdit, PokeEdit, JoinEdit, LeaveEdit, EntryValue, BeginEntry, EndEntry, IdleEntry, EditEntry}
 use Rattle.firing_core.specs.Cores.{Map, put, Core, copy_of, edited, edit_fault, Step, Run, IsGood}
 use Rattle.firing_core.specs.Rounds.{HasEnd}
 use Rattle.firing_core.specs.Replays.{replay}
+use Rattle.firing_core.proofs.Maps.{put_same, put_other}
+use Rattle.firing_core.proofs.Cuts.{run_cut}
 use Rattle.firing_core.proofs.Steps.{FlyThere, good_fly, step_fly, run_rel}
 
 -- a log leads to one core
@@ -18,24 +19,9 @@ run_only U c a b log good r s =
     let q : replay U c log ≡ Some b = run_rel U c b log (good_fly U c good) s in
     cc
 
--- a log that is cut
-pub record Cut (U : Unfolding) (c last : Core) (front rest : List EntryValue) : Type 0 where
-  pub middle : Core
-  pub first : Run U c front middle
-  pub second : Run U middle rest last
-
-pub run_cut : (U : Unfolding) (c last : Core) (front rest : List EntryValue) → Run U c (front ++ rest) last → Cut U c last front rest
-run_cut U c last [] rest r = record { middle = c; first = refl; second = r }
-run_cut U c last (e ∷ es) rest r =
-    let k = run_cut U r.0 last es rest r.2 in
-    record { middle = k.middle; first = (r.0, r.1, k.first); second = k.second }
-
 run_fly : (U : Unfolding) (c last : Core) (log : List EntryValue) → FlyThere c → Run U c log last → FlyThere last
 run_fly U c last [] fly r = subst FlyThere (sym r) fly
 run_fly U c last (e ∷ es) fly r = run_fly U r.0 last es (step_fly U c r.0 e fly r.1) r.2
-
-put_other : {X : Type 0} (f : Map X) (d e : ℕ) (v : Option X) → (e ≡ d → ⊥) → put f d v e ≡ f e
-put_other f d e v u = rw (ne_eqb e d u) refl
 
 -- other entries leave a copy in flight
 edit_stays : (U : Unfolding) (c : Core) (e : EditValue) (d : ℕ) (s : Copy) → FlyThere c → edit_fault c e ≡ None → c.flying d ≡ Some s → (edited U c e).flying d ≡ Some s
@@ -72,6 +58,3 @@ flight_taken U c before last front rest d good r run u =
     let step = tail.1 in
     let taken : (tail.0).flying d ≡ Some (copy_of before.net before.exports d) = ap (λ (m : Core). m.flying d) step.2 ∙ put_same before.flying d (Some (copy_of before.net before.exports d)) in
     run_stays U tail.0 last rest d (copy_of before.net before.exports d) (step_fly U before tail.0 (BeginEntry d) (run_fly U c before front (good_fly U c good) r) step) u tail.2 taken
-  where
-    put_same : {X : Type 0} (f : Map X) (e : ℕ) (v : Option X) → put f e v e ≡ v
-    put_same f e v = rw (eq-eqb e e refl) refl

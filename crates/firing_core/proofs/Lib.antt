@@ -1,3 +1,5 @@
+pub mod Maps
+pub mod Cuts
 pub mod Slots
 pub mod Views
 pub mod RoomSlots

@@ -12,8 +12,9 @@ use Rattle.fc_values.specs.Fields.{is_in}
 use Rattle.firing_core.specs.declared.entries.Entry.TheVariants as entry
 use Rattle.firing_core.specs.Entries.{EntryValue, entry_of, entries_of}
 use Rattle.firing_core.specs.Cores.{Map, put, Core, Run}
-use Rattle.firing_core.specs.CoreViews.{CoreValue, core_of}
-use Rattle.firing_core.specs.Books.{BookValue, IsSameBook, fliers, in_flight, ends_of, EndsFlights, EndsSome}
+use Rattle.firing_core.specs.CoreViews.{CoreValue, core_of, rooms_of}
+use Rattle.firing_core.specs.Books.{BookValue, IsSameBook, fliers, in_flight, ends_of, rooms_after, rooms_along, EndsFlights, EndsSome}
+use Rattle.firing_core.proofs.Cuts.{run_join}
 use Rattle.firing_core.proofs.Slots.{Distinct, rises_distinct, slot_none}
 use Rattle.firing_core.proofs.Views.{many_numbers}
 
@@ -82,24 +83,29 @@ run_ends U c last (x ∷ xs) r =
         first true q t e = refl
         first false q t e = absurd cc
 
-run_join : (U : Unfolding) (a b c : Core) (xs ys : List EntryValue) → Run U a xs b → Run U b ys c → Run U a (xs ++ ys) c
-run_join U a b c [] ys r s = subst (λ (k : Core). Run U k ys c) r s
-run_join U a b c (x ∷ xs) ys r s = (r.0, r.1, run_join U r.0 b c xs ys r.2 s)
+rooms_join : (xs ys : List EntryValue) (set : ℕ → Bool) → rooms_along (xs ++ ys) set ≡ rooms_along ys (rooms_along xs set)
+rooms_join [] ys set = refl
+rooms_join (x ∷ xs) ys set = rooms_join xs ys (rooms_after x set)
 
 -- ---- books whose flights are ended
 
+entries_join : (xs ys : List ℕ) → entries_of (ends_of (xs ++ ys)) ≡ entries_of (ends_of xs) ++ entries_of (ends_of ys)
+entries_join xs ys = ap entries_of (map-append (λ d. entry.End d) xs ys) ∙ map-append entry_of (ends_of xs) (ends_of ys)
+
 -- none of no devices
 pub ends_none : (b : BookValue) → EndsFlights b b []
-ends_none b = record { program = refl; start = refl; log = sym (append-nil b.log); run = refl }
+ends_none b = record { program = refl; start = refl; log = sym (append-nil b.log); run = refl; rooms = refl }
 
 pub ends_more : (old mid new : BookValue) (xs ys : List ℕ) → EndsFlights old mid xs → EndsFlights mid new ys → EndsFlights old new (xs ++ ys)
 ends_more old mid new xs ys f g = record {
   program = g.program ∙ f.program;
   start = g.start ∙ f.start;
   log = g.log ∙ ap (λ l. l ++ ends_of ys) f.log ∙ append_assoc old.log (ends_of xs) (ends_of ys) ∙ ap (λ l. old.log ++ l) (sym (map-append (λ d. entry.End d) xs ys));
-  run = subst (λ (l : List EntryValue). Run (unfolding_of old.program) (core_of old.core) l (core_of new.core)) (sym (ap entries_of (map-append (λ d. entry.End d) xs ys) ∙ map-append entry_of (ends_of xs) (ends_of ys)))
+  run = subst (λ (l : List EntryValue). Run (unfolding_of old.program) (core_of old.core) l (core_of new.core)) (sym (entries_join xs ys))
       (run_join (unfolding_of old.program) (core_of old.core) (core_of mid.core) (core_of new.core) (entries_of (ends_of xs)) (entries_of (ends_of ys)) f.run
       (subst (λ (p : Program). Run (unfolding_of p) (core_of mid.core) (entries_of (ends_of ys)) (core_of new.core)) f.program g.run));
+  rooms = g.rooms ∙ ap (rooms_along (entries_of (ends_of ys))) f.rooms ∙ sym (rooms_join (entries_of (ends_of xs)) (entries_of (ends_of ys)) (rooms_of old.core))
+      ∙ ap (λ (l : List EntryValue). rooms_along l (rooms_of old.core)) (sym (entries_join xs ys));
 }
 
 -- nothing but the room in the log is another
@@ -109,6 +115,7 @@ ends_after old mid new xs f s = record {
   start = s.start ∙ f.start;
   log = s.log ∙ f.log;
   run = subst (λ (c : CoreValue). Run (unfolding_of old.program) (core_of old.core) (entries_of (ends_of xs)) (core_of c)) (sym s.core) f.run;
+  rooms = ap rooms_of s.core ∙ f.rooms;
 }
 
 -- ---- the flights of the devices of a core, place by place

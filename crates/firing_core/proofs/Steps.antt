@@ -1,6 +1,5 @@
 -- Steps as a relation and as a function, and what steps keep.
 use Rattle.std.proofs.Common.{◌≡◌, ℕ, List, [], ◌∷◌, ◌++◌, length, refl, sym, ◌∙◌, ap, subst, Bool, true, false, not, ◌||◌, Option, Some, None, is_some, nat_eq, nat_le, if◌then◌else◌}
-use Rattle.std.proofs.lemmas.Bool.{eqb-true}
 use Rattle.fc_values.specs.Fields.{ValueLocal, ValueField, is_in}
 use Rattle.fc_values.specs.Trees.{TreeExport, Copy}
 use Rattle.fc_nodes.specs.Program.{Unfolding}
@@ -11,22 +10,15 @@ use Rattle.topology.specs.declared.types.NetFault.{NetFault}
 use Rattle.topology.specs.declared.types.NetFault.TheVariants as net_fault
 use Rattle.topology.specs.Networks.{numbers}
 use Rattle.topology.specs.Changes.{insert_device, drop_device}
-use Rattle.topology.proofs.Devices.{put_numbers, insert_in, drop_in}
-use Rattle.topology.proofs.Changed.{no_fault}
+use Rattle.topology.proofs.Lemmas.{put_numbers, insert_in, drop_in}
+use Rattle.topology.proofs.Lemmas.{no_fault}
 use Rattle.firing_core.specs.Entries.{EditValue, LinkEdit, UnlinkEdit, SetEdit, PokeEdit, JoinEdit, LeaveEdit, EntryValue, BeginEntry, EndEntry, IdleEntry, EditEntry}
 use Rattle.firing_core.specs.declared.entries.StepFault.{StepFault}
 use Rattle.topology.specs.Networks.{lives, Lives}
 use Rattle.firing_core.specs.Cores.{Map, put, Core, begun, ended, Ends, Edits, edit_fault, edited, Step, Run, IsGood}
 use Rattle.firing_core.specs.Replays.{export_from, evaluated, begin_fault, end_fault, fault_of, net_fault_of, EntryFits, LogFits, flown, landed, unless, step_of, step, and_replay, replay, FailsAt}
 use Rattle.fc_values.proofs.Booleans.{or_true}
-
--- a look-up after one write
-pub put_case : {X : Type 0} (P : Option X → Type 0) (f : Map X) (d e : ℕ) (v : Option X) → (e ≡ d → P v) → P (f e) → P (put f d v e)
-put_case {X} P f d e v here there = by_test (nat_eq e d) refl
-  where
-    by_test : (b : Bool) → nat_eq e d ≡ b → P (if b then v else f e)
-    by_test true t = here (eqb-true e d t)
-    by_test false t = there
+use Rattle.firing_core.proofs.Maps.{put_case}
 
 -- only devices that are there fly
 pub record FlyThere (c : Core) : Type 0 where

@@ -54,6 +54,7 @@ module _ (U : Unfolding) where
 -- a core in code is a good core of its program
 pub good_of : (c : CoreValue) → IsCore c → IsGood (program_of c) (core_of c)
 good_of c k = record {
+  net = k.net;
   declared = k.declared;
   exports = λ d e q. let h = export_there (program_of c) (numbers c.net.devices) c.exports d e k.exports q in record { there = h.there; typed = h.typed };
   flying = λ d s q. let h = flight_there (program_of c) (numbers c.net.devices) c.flying d s k.flying q in record { there = h.there; names = h.names; fits = h.fits };

@@ -14,7 +14,7 @@ use Rattle.firing_core.specs.declared.entries.EditFault.TheVariants as edit_refu
 use Rattle.firing_core.specs.Entries.{EntryValue, BeginEntry, EndEntry, IdleEntry, EditEntry, entry_of, entries_of}
 use Rattle.firing_core.specs.Cores.{Map, Core, Step, Run, IsGood}
 use Rattle.firing_core.specs.Replays.{fault_of, net_fault_of, FailsAt, replay}
-use Rattle.firing_core.specs.CoreViews.{CoreValue, core_of, mark}
+use Rattle.firing_core.specs.CoreViews.{CoreValue, core_of, rooms_of, mark}
 
 -- what contracts see of a book: these four, and for how many entries the log has room
 pub record BookValue : Type 0 where
@@ -52,6 +52,11 @@ rooms_after (EndEntry d) set = mark set d false
 rooms_after IdleEntry set = set
 rooms_after (EditEntry e) set = set
 
+-- and after the entries of a log
+abbrev pub rooms_along : List EntryValue → (ℕ → Bool) → ℕ → Bool
+rooms_along [] set = set
+rooms_along (e ∷ es) set = rooms_along es (rooms_after e set)
+
 -- ---- flights that are ended
 
 -- the devices of a list that fly
@@ -66,12 +71,13 @@ in_flight c = fliers c.flying (numbers c.net.devices)
 abbrev pub ends_of : List ℕ → List Entry
 ends_of ds = map (λ d. entry.End d) ds
 
--- the flights of these devices are ended, one after another
+-- the flights of these devices are ended, one after another, and none of them has a room
 pub record EndsFlights (old new : BookValue) (ds : List ℕ) : Type 0 where
   pub program : new.program ≡ old.program
   pub start : new.start ≡ old.start
   pub log : new.log ≡ old.log ++ ends_of ds
   pub run : Run (unfolding_of old.program) (core_of old.core) (entries_of (ends_of ds)) (core_of new.core)
+  pub rooms : rooms_of new.core ≡ rooms_along (entries_of (ends_of ds)) (rooms_of old.core)
 
 -- some of the flights are ended, those of the smallest devices
 pub record EndsSome (old new : BookValue) : Type 0 where

@@ -7,7 +7,7 @@ use Rattle.value_trees.specs.Copies.{FitsCopy}
 use Rattle.device_eval.specs.Copies.{EvaluatesCopy}
 use Rattle.topology.specs.declared.types.NetFault.{NetFault}
 use Rattle.topology.specs.declared.types.NetFault.TheVariants as fault
-use Rattle.topology.specs.Networks.{Network, lives, Lives, inputs_in, near}
+use Rattle.topology.specs.Networks.{Network, IsNetwork, lives, Lives, inputs_in, near}
 use Rattle.topology.specs.Changes.{first_fault, link_fault, linked, unlink_fault, unlinked, set_fault, with_input, join_fault, joined, left}
 use Rattle.firing_core.specs.Entries.{EditValue, LinkEdit, UnlinkEdit, SetEdit, PokeEdit, JoinEdit, LeaveEdit, EntryValue, BeginEntry, EndEntry, IdleEntry, EditEntry}
 
@@ -123,9 +123,10 @@ pub record GoodFlight (U : Unfolding) (n : Network) (d : ℕ) (s : Copy) : Type 
   pub names : s.device ≡ d
   pub fits : FitsCopy U s
 
--- A core of a program: exports are well-typed and copies in flight fit. Exports may be missing, and a copy may hold
--- inputs, weights and neighbours that the network doesn't have.
+-- A core of a program: its network is one, with the program's declarations, exports are well-typed and copies in flight
+-- fit. Exports may be missing, and a copy may hold inputs, weights and neighbours that the network doesn't have.
 pub record IsGood (U : Unfolding) (c : Core) : Type 0 where
+  pub net : IsNetwork c.net
   pub declared : c.net.declared ≡ U.declared
   pub exports : (d : ℕ) (e : TreeExport) → c.exports d ≡ Some e → GoodExport U c.net d e
   pub flying : (d : ℕ) (s : Copy) → c.flying d ≡ Some s → GoodFlight U c.net d s

@@ -7,3 +7,4 @@ pub mod CoreViews
 pub mod Starts
 pub mod Books
 pub mod Rounds
+pub mod Laws

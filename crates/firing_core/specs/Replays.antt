@@ -1,4 +1,5 @@
--- Steps as a function, and why an entry has no step.
+-- Steps as a function, and why an entry has no step. The function is for entries that fit: of those it is the relation,
+-- as the law `steps_agree` says, and of others it says nothing.
 use Rattle.std.specs.Prelude.{ℕ, ◌≡◌, List, [], ◌∷◌, ◌++◌, length, Option, Some, None, Bool, true, false}
 use Rattle.fc_values.specs.Fields.{AnyValue, ValueLocal, ValueField}
 use Rattle.fc_values.specs.Trees.{Tree, TreeExport, Copy}

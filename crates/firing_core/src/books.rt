@@ -42,9 +42,9 @@ impl Book {
     ghost use Rattle.std.specs.Prelude.{◌≡◌, ◌↔◌, ◌≤◌, ◌+◌, ℕ, [], ◌∷◌, IfOk, OnOk, OnErr, IfErr, IsErrOf, Some, None, true, false};
     ghost use Rattle.fc_values.specs.Trees.{Copy};
     ghost use Rattle.fc_nodes.specs.Program.{unfolding_of};
-    ghost use Rattle.value_trees.specs.Snaps.{snap_copy, IsSnap};
+    ghost use Rattle.value_trees.specs.Snaps.{tree_of, snap_copy, IsSnap};
     ghost use Rattle.firing_core.specs.Entries.{BeginEntry, EndEntry, edit_of, entry_of};
-    ghost use Rattle.firing_core.specs.Cores.{EditFits, edit_fault, copy_of};
+    ghost use Rattle.firing_core.specs.Cores.{put, EditFits, edit_fault, copy_of};
     ghost use Rattle.firing_core.specs.Rooms.{IsRoom};
     ghost use Rattle.firing_core.specs.Replays.{fault_of, net_fault_of, EntryFits};
     ghost use Rattle.firing_core.specs.CoreViews.{core_of, rooms_of, mark};
@@ -109,7 +109,9 @@ impl Book {
     /// Takes memory for so many more entries.
     pub fn reserve(&mut self, entries: usize) -> Result<(), Memory>
         ensures ok { OnOk result (entries ≤ self.new.spare) }
+        ensures more { self.old.spare ≤ self.new.spare }
         ensures same { IsSameBook self.old self.new }
+        ensures err { OnErr result (self.new ≡ self.old) }
     {
         self.log.reserve(entries)?;
         Ok(())
@@ -157,6 +159,7 @@ impl Book {
         requires copy { (s : Copy) → (core_of self.old.core).flying fired.snap.device ≡ Some s → s ≡ snap_copy (unfolding_of self.old.program) fired.snap }
         requires room { (s : Copy) → (core_of self.old.core).flying fired.snap.device ≡ Some s → rooms_of self.old.core fired.snap.device ≡ true }
         ensures ok { OnOk result (AppendsEntry self.old self.new (entry.End fired.snap.device)) }
+        ensures publishes { OnOk result ((core_of self.new.core).exports ≡ put (core_of self.old.core).exports fired.snap.device (Some (tree_of (unfolding_of self.old.program) fired.export))) }
         ensures spare { OnOk result (self.new.spare + 1 ≡ self.old.spare) }
         ensures room { IfOk result (IsRoom (unfolding_of self.old.program)) }
         ensures rooms { OnOk result (rooms_of self.new.core ≡ mark (rooms_of self.old.core) fired.snap.device false) }
@@ -177,6 +180,7 @@ impl Book {
         requires program { fired.program ≡ self.old.program }
         requires copy { (s : Copy) → (core_of self.old.core).flying fired.snap.device ≡ Some s → s ≡ snap_copy (unfolding_of self.old.program) fired.snap }
         ensures ok { OnOk result (AppendsEntry self.old self.new (entry.End fired.snap.device)) }
+        ensures publishes { OnOk result ((core_of self.new.core).exports ≡ put (core_of self.old.core).exports fired.snap.device (Some (tree_of (unfolding_of self.old.program) fired.export))) }
         ensures room { OnOk result (self.new.spare + 1 ≡ self.old.spare) }
         ensures rooms { OnOk result (rooms_of self.new.core ≡ mark (rooms_of self.old.core) fired.snap.device false) }
         ensures refused { IfErr result (λ e. fault_of (core_of self.old.core) (EndEntry fired.snap.device) ≡ Some e.1) }

@@ -1,29 +1,39 @@
 //! Laws of the definitions.
 
-ghost use Rattle.std.specs.Prelude.{◌≡◌, ◌↔◌, ℕ, List, ◌∷◌, ◌++◌, Some};
-ghost use Rattle.fc_nodes.specs.Program.{Program, Unfolding, unfolding_of, IsProgram};
-ghost use Rattle.firing_core.specs.Entries.{EntryValue, BeginEntry};
-ghost use Rattle.firing_core.specs.Rounds.{HasEnd};
-ghost use Rattle.topology.specs.Networks.{IsNetwork};
-ghost use Rattle.firing_core.specs.Cores.{Core, copy_of, Step, Run, IsGood};
-ghost use Rattle.firing_core.specs.Replays.{EntryFits, LogFits, step as step_of, replay as replay_of};
+ghost use Rattle.firing_core.specs.Laws.{StepsKeepGood, RunsKeepGood, StepsKeepNetworks, PlainRunsKeepNet};
+ghost use Rattle.firing_core.specs.Laws.{FaultlessStep, StepsAgree, RunsAgree, CopiesFit};
+ghost use Rattle.firing_core.specs.Laws.{LogsLeadToOne, FlightsStay, RunsCut, RunsCutAtEdit};
 
-/// Steps keep a core good: its exports are well-typed, and its copies in flight fit; and its network a network.
+/// Steps keep a core good: its network is one, its exports are well-typed, and its copies in flight fit. Without an edit
+/// the network stays.
 pub fn steps_keep_good()
-    ensures step { (p : Program) (c next : Core) (e : EntryValue) → IsProgram p → IsNetwork c.net → IsGood (unfolding_of p) c → Step (unfolding_of p) c e next → IsGood (unfolding_of p) next }
-    ensures run { (p : Program) (c last : Core) (log : List EntryValue) → IsProgram p → IsNetwork c.net → IsGood (unfolding_of p) c → Run (unfolding_of p) c log last → IsGood (unfolding_of p) last }
-    ensures net { (U : Unfolding) (c next : Core) (e : EntryValue) → IsNetwork c.net → Step U c e next → IsNetwork next.net }
+    ensures step { StepsKeepGood }
+    ensures run { RunsKeepGood }
+    ensures net { StepsKeepNetworks }
+    ensures plain { PlainRunsKeepNet }
 {}
 
-/// From a good core, steps as a relation and as a function agree, and so do runs and replays.
+/// An entry that fits has a step from a good core exactly where it has no fault, and the copy that a begin takes fits.
+pub fn faultless_steps()
+    ensures step { FaultlessStep }
+    ensures copy { CopiesFit }
+{}
+
+/// From a good core, steps of entries that fit agree as a relation and as a function, and so do runs and replays.
 pub fn steps_agree()
-    ensures step { (U : Unfolding) (c next : Core) (e : EntryValue) → IsGood U c → EntryFits U e → (Step U c e next ↔ (step_of U c e ≡ Some next)) }
-    ensures run { (U : Unfolding) (c last : Core) (log : List EntryValue) → IsGood U c → LogFits U log → (Run U c log last ↔ (replay_of U c log ≡ Some last)) }
+    ensures step { StepsAgree }
+    ensures run { RunsAgree }
 {}
 
 /// A log leads from a good core to one core. Where a device begins at a place of a log and doesn't end after it, the
 /// copy with which it flies is the one that was taken at that place.
 pub fn logs_decide()
-    ensures one { (U : Unfolding) (c a b : Core) (log : List EntryValue) → IsGood U c → Run U c log a → Run U c log b → a ≡ b }
-    ensures flight { (U : Unfolding) (c before last : Core) (front rest : List EntryValue) (d : ℕ) → IsGood U c → Run U c front before → Run U c (front ++ BeginEntry d ∷ rest) last → (HasEnd d rest → ⊥) → last.flying d ≡ Some (copy_of before.net before.exports d) }
+    ensures one { LogsLeadToOne }
+    ensures flight { FlightsStay }
+{}
+
+/// Runs are cut and joined: anywhere, and after the last edit of their log.
+pub fn runs_cut()
+    ensures cut { RunsCut }
+    ensures edit { RunsCutAtEdit }
 {}

@@ -3,3 +3,4 @@ pub mod Rising
 pub mod Moves
 pub mod Wants
 pub mod Counts
+pub mod Growth

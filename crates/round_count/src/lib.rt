@@ -2,8 +2,10 @@
 #![tactic(auto)]
 
 mod counting;
+mod laws;
 
 pub use counting::rounds;
+pub use laws::rounds_grow;
 
 #[cfg(test)]
 mod tests;

@@ -1,15 +1,15 @@
 use Rattle.std.proofs.Common.{◌≡◌, ◌∙◌, sym, subst, ap, Some, None, false, arith}
 use Rattle.std.specs.Prelude.{slice_set}
 use Rattle.value_trees.specs.declared.copies.Snap.{Snap}
-use Rattle.value_trees.specs.Snaps.{snap_copy}
+use Rattle.value_trees.specs.Snaps.{tree_of, snap_copy}
 use Rattle.fc_values.specs.Trees.{Copy}
-use Rattle.firing_core.specs.Cores.{Ends}
+use Rattle.firing_core.specs.Cores.{put, Ends}
 use Rattle.firing_core.specs.Replays.{fault_of}
 use Rattle.firing_core.specs.CoreViews.{CoreValue, core_of, program_of, rooms_of, mark}
 use Rattle.firing_core.specs.contracts.cores.Core.{the_view}
 use Rattle.firing_core.specs.Entries.{EndEntry}
 use Rattle.firing_core.specs.declared.entries.StepFault.TheVariants as fault
-use Rattle.firing_core.proofs.CoreSteps.{flight_within, room_within, end_resting, flies, lives_at, fired_export, ends_with, ended_kept, ended_set, with_export}
+use Rattle.firing_core.proofs.CoreSteps.{flight_within, room_within, end_resting, flies, lives_at, fired_export, ends_with, ended_kept, ended_set, published, with_export}
 use Rattle.firing_core.proofs.cores.Core.end.Goals as goal
 
 pub index-requires : goal.index-requires
@@ -51,3 +51,10 @@ pub returns-clause-rooms : goal.returns-clause-rooms
 returns-clause-rooms c =
     subst (λ (v : CoreValue). rooms_of (with_export (the_view c.self.inside) c.self.invariant c.in-Some.place c.args.fired.snap.device c.in-Some.ensures.within (c.in-Some.ensures.there ∙ ap (λ (s : Snap). s.device) c.snap.ensures.value) c.into_parts-export.result.1) ≡ mark (rooms_of v) c.args.fired.snap.device false) c.self.view_is
     (ended_set (the_view c.self.inside) c.self.invariant c.in-Some.place c.args.fired.snap.device c.in-Some.ensures.within (c.in-Some.ensures.there ∙ ap (λ (s : Snap). s.device) c.snap.ensures.value) c.into_parts-export.result.1)
+
+pub returns-clause-publishes : goal.returns-clause-publishes
+returns-clause-publishes c =
+    let new : CoreValue = with_export (the_view c.self.inside) c.self.invariant c.in-Some.place c.args.fired.snap.device c.in-Some.ensures.within (c.in-Some.ensures.there ∙ ap (λ (s : Snap). s.device) c.snap.ensures.value) c.into_parts-export.result.1 in
+    subst (λ (v : CoreValue). (core_of new).exports ≡ put (core_of v).exports c.args.fired.snap.device (Some (tree_of (program_of v) c.args.fired.export))) c.self.view_is
+    (published (the_view c.self.inside) c.self.invariant c.in-Some.place c.args.fired.snap.device c.in-Some.ensures.within (c.in-Some.ensures.there ∙ ap (λ (s : Snap). s.device) c.snap.ensures.value) c.into_parts-export.result.1 c.args.fired.export
+    c.into_parts-export.ensures.export)

@@ -3,15 +3,15 @@ use Rattle.std.specs.Prelude.{slice_set}
 use Rattle.fc_values.specs.Trees.{Copy}
 use Rattle.fc_nodes.specs.Program.{Program, unfolding_of}
 use Rattle.value_trees.specs.declared.copies.Snap.{Snap}
-use Rattle.value_trees.specs.Snaps.{snap_copy, IsSnap}
-use Rattle.firing_core.specs.Cores.{Ends}
+use Rattle.value_trees.specs.Snaps.{tree_of, snap_copy, IsSnap}
+use Rattle.firing_core.specs.Cores.{put, Ends}
 use Rattle.firing_core.specs.Replays.{fault_of}
 use Rattle.firing_core.specs.Rooms.{IsRoom}
 use Rattle.firing_core.specs.CoreViews.{CoreValue, core_of, program_of, rooms_of, mark, IsCore}
 use Rattle.firing_core.specs.contracts.cores.Core.{the_view}
 use Rattle.firing_core.specs.Entries.{EndEntry}
 use Rattle.firing_core.specs.declared.entries.StepFault.TheVariants as fault
-use Rattle.firing_core.proofs.CoreSteps.{flight_within, room_within, room_at, same_at, end_resting, flies, lives_at, fired_export, ends_with, ended_kept, ended_set, with_export}
+use Rattle.firing_core.proofs.CoreSteps.{flight_within, room_within, room_at, same_at, end_resting, flies, lives_at, fired_export, ends_with, ended_kept, ended_set, published, with_export}
 use Rattle.firing_core.proofs.Landing.{Landed, landed}
 use Rattle.firing_core.proofs.CoreEdits.{core_parts, rebuilt_core}
 use Rattle.firing_core.proofs.cores.Core.end_with.Goals as goal
@@ -105,3 +105,11 @@ returns-clause-rooms c =
     ap rooms_of (cleared c)
     ∙ subst (λ (v : CoreValue). rooms_of (with_export (the_view c.self.inside) c.self.invariant c.in-Some.place c.args.fired.snap.device c.in-Some.ensures.within (c.in-Some.ensures.there ∙ ap (λ (s : Snap). s.device) c.snap.ensures.value) c.into_parts-snap.result.1) ≡ mark (rooms_of v) c.args.fired.snap.device false) c.self.view_is
     (ended_set (the_view c.self.inside) c.self.invariant c.in-Some.place c.args.fired.snap.device c.in-Some.ensures.within (c.in-Some.ensures.there ∙ ap (λ (s : Snap). s.device) c.snap.ensures.value) c.into_parts-snap.result.1)
+
+pub returns-clause-publishes : goal.returns-clause-publishes
+returns-clause-publishes c =
+    let new : CoreValue = with_export (the_view c.self.inside) c.self.invariant c.in-Some.place c.args.fired.snap.device c.in-Some.ensures.within (c.in-Some.ensures.there ∙ ap (λ (s : Snap). s.device) c.snap.ensures.value) c.into_parts-snap.result.1 in
+    ap (λ (w : CoreValue). (core_of w).exports) (cleared c)
+    ∙ subst (λ (v : CoreValue). (core_of new).exports ≡ put (core_of v).exports c.args.fired.snap.device (Some (tree_of (program_of v) c.args.fired.export))) c.self.view_is
+    (published (the_view c.self.inside) c.self.invariant c.in-Some.place c.args.fired.snap.device c.in-Some.ensures.within (c.in-Some.ensures.there ∙ ap (λ (s : Snap). s.device) c.snap.ensures.value) c.into_parts-snap.result.1 c.args.fired.export
+    c.into_parts-snap.ensures.export)

@@ -2,7 +2,7 @@ use Rattle.std.proofs.Common.{◌≡◌, ◌∙◌, sym, subst, ap, None, arith}
 use Rattle.std.specs.List.{insert}
 use Rattle.topology.specs.Networks.{device_of, numbers}
 use Rattle.topology.specs.Changes.{joined, join_fault}
-use Rattle.topology.proofs.Changed.{can_join, joined_network}
+use Rattle.topology.proofs.Lemmas.{can_join, joined_network}
 use Rattle.firing_core.specs.Entries.{JoinEdit}
 use Rattle.firing_core.specs.Cores.{Edits}
 use Rattle.firing_core.specs.CoreViews.{CoreValue, IsCore, core_of, program_of, rooms_of}

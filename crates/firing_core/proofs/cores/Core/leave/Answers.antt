@@ -1,6 +1,6 @@
 use Rattle.std.proofs.Common.{◌≡◌, ◌∙◌, sym, ap, subst, Some, arith}
 use Rattle.topology.specs.declared.types.NetFault.TheVariants as fault
-use Rattle.topology.proofs.Changed.{left_network}
+use Rattle.topology.proofs.Lemmas.{left_network}
 use Rattle.firing_core.specs.Entries.{LeaveEdit}
 use Rattle.firing_core.specs.Cores.{Edits, edit_fault}
 use Rattle.firing_core.specs.CoreViews.{CoreValue, IsCore, core_of, program_of, rooms_of}

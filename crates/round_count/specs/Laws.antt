@@ -1,0 +1,28 @@
+-- Laws of rounds: entries behind a log or in front of it take no round away.
+use Rattle.std.specs.Prelude.{ℕ, ◌≡◌, ◌≤◌, List, ◌++◌, false}
+use Rattle.firing_core.specs.Entries.{EntryValue}
+use Rattle.firing_core.specs.Rounds.{has_edit, after_edit, HasRounds}
+
+-- a log with more behind it, without an edit, has the rounds of its front
+abbrev pub RoundsStay : Type 0
+RoundsStay = (live : List ℕ) (log more : List EntryValue) (k : ℕ) → has_edit more ≡ false → HasRounds live log k
+    → HasRounds live (log ++ more) k
+
+-- a log without an edit that is put in front takes no round away
+abbrev pub RoundsFollow : Type 0
+RoundsFollow = (live : List ℕ) (front log : List EntryValue) (k : ℕ) → has_edit front ≡ false → HasRounds live log k
+    → HasRounds live (front ++ log) k
+
+-- the greatest number of rounds in the part of a log after its last edit
+pub record IsGreatest (live : List ℕ) (log : List EntryValue) (k : ℕ) : Type 0 where
+  pub has : HasRounds live (after_edit log) k
+  pub greatest : (j : ℕ) → HasRounds live (after_edit log) j → j ≤ k
+
+-- that number doesn't fall with entries behind, where none is an edit, nor with any in front
+abbrev pub GreatestStays : Type 0
+GreatestStays = (live : List ℕ) (log more : List EntryValue) (j k : ℕ) → has_edit more ≡ false → IsGreatest live log j
+    → IsGreatest live (log ++ more) k → j ≤ k
+
+abbrev pub GreatestFollows : Type 0
+GreatestFollows = (live : List ℕ) (front log : List EntryValue) (j k : ℕ) → IsGreatest live log j
+    → IsGreatest live (front ++ log) k → j ≤ k

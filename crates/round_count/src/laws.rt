@@ -1,0 +1,12 @@
+//! Laws of rounds.
+
+ghost use Rattle.round_count.specs.Laws.{RoundsStay, RoundsFollow, GreatestStays, GreatestFollows};
+
+/// Entries behind a log that are no edits, and entries in front of it, take no round away; nor does the greatest number
+/// of rounds in the part after the last edit fall.
+pub fn rounds_grow()
+    ensures behind { RoundsStay }
+    ensures front { RoundsFollow }
+    ensures greatest_behind { GreatestStays }
+    ensures greatest_front { GreatestFollows }
+{}
