@@ -122,8 +122,3 @@ pub record IsExport (U : Unfolding) (x : FlatExport) : Type 0 where
   pub typed : IsWellTyped U (tree_export U x)
   pub shaped : HaveForms (kept_types U.main) x.slots
   pub marked : Marked U.main 0 x.slots
-
--- it stands for this one, and for no other
-pub record Stands (U : Unfolding) (x : FlatExport) (e : TreeExport) : Type 0 where
-  pub export : IsExport U x
-  pub same : e ≡ tree_export U x

@@ -51,7 +51,7 @@ same_devices_are (d ∷ ds) (e ∷ es) h =
 
 pub have_position : (ds : List ℕ) (i : ℕ) (xs : List AnyValue) → are_over ds xs ≡ true → i < length ds → HavePosition i xs
 have_position ds i [] a h = tt
-have_position ds i (ValueLocal v ∷ xs) a h = have_position ds i xs a h
+have_position ds i (ValueLocal v ∷ xs) a h = (tt, have_position ds i xs a h)
 have_position ds i (ValueField es ∷ xs) a h =
     let same = same_devices_are (devices es) ds (both_first _ _ a) in
     let long : i < length (devices es) = rw same h in
@@ -108,7 +108,7 @@ device_nth (y ∷ xs) (suc i) x e h = device_nth xs i x e (omega arith)
 -- no field is among the arguments
 pub none_have_position : (xs : List AnyValue) → field_devices xs ≡ None → HavePosition 0 xs
 none_have_position [] e = tt
-none_have_position (ValueLocal v ∷ xs) e = none_have_position xs e
+none_have_position (ValueLocal v ∷ xs) e = (tt, none_have_position xs e)
 none_have_position (ValueField es ∷ xs) e = absurd cc
 
 pub none_arguments_at : (xs : List AnyValue) → field_devices xs ≡ None → arguments_at 0 xs ≡ Some (arguments_nth 0 xs)

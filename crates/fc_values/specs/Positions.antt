@@ -5,11 +5,14 @@ use Rattle.fc_values.specs.Values.{LocalValue, IntValue}
 use Rattle.fc_values.specs.Fields.{AnyValue, ValueLocal, ValueField}
 use Rattle.fc_values.specs.Builtins.{arguments_at, local_value}
 
--- each field has an entry at the position
+-- a field has an entry at the position
+abbrev pub HasPosition : ℕ → AnyValue → Type 0
+HasPosition i (ValueLocal v) = Unit {0}
+HasPosition i (ValueField es) = i < length es
+
 abbrev pub HavePosition : ℕ → List AnyValue → Type 0
 HavePosition i [] = Unit {0}
-HavePosition i (ValueLocal v ∷ xs) = HavePosition i xs
-HavePosition i (ValueField es ∷ xs) = (i < length es) × HavePosition i xs
+HavePosition i (x ∷ xs) = HasPosition i x × HavePosition i xs
 
 -- an argument at a position; a local value stands for itself
 abbrev pub argument_nth : ℕ → AnyValue → LocalValue

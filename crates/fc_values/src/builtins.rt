@@ -5,9 +5,8 @@ ghost use Rattle.fc_values.specs.Fields.{value_of, values_of};
 ghost use Rattle.fc_values.specs.Builtins.{builtin_value, is_hood as hood_of};
 
 use crate::Memory;
-use crate::fields::{apply_over, first_field, row};
+use crate::fields::{apply_at, apply_over, first_field};
 use crate::hoods::apply_hood;
-use crate::operators::apply_local;
 use crate::values::Value;
 use std::alloc::Global;
 
@@ -51,10 +50,7 @@ pub fn apply(
         return Ok(Value::Local(apply_hood(alloc, builtin, args, device, ceiling)?));
     }
     match first_field(args) {
-        None => {
-            let row = row(alloc, args, 0)?;
-            Ok(Value::Local(apply_local(alloc, builtin, row.as_slice(), ceiling)?))
-        }
+        None => Ok(Value::Local(apply_at(alloc, builtin, args, 0, ceiling)?)),
         Some(field) => Ok(Value::Field(apply_over(alloc, builtin, args, field, ceiling)?)),
     }
 }

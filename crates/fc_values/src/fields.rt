@@ -1,10 +1,9 @@
 //! Operators on fields, at each of their devices.
 
-ghost use Rattle.std.specs.Prelude.{◌≡◌, ◌∷◌, [], IfOk, IsSome, MatchOption, None, Some, true};
-ghost use Rattle.fc_values.specs.Builtins.{are_over, field_devices, field_over};
+ghost use Rattle.std.specs.Prelude.{◌≡◌, IfOk, IsSome, MatchOption, None, Some, true};
+ghost use Rattle.fc_values.specs.Builtins.{are_over, field_devices, field_over, local_value};
 ghost use Rattle.fc_values.specs.Fields.{devices, entries_of, rises, value_of, values_of};
-ghost use Rattle.fc_values.specs.Positions.{HavePosition, argument_nth, arguments_nth, value_over};
-ghost use Rattle.fc_values.specs.Rows.{locals_of};
+ghost use Rattle.fc_values.specs.Positions.{HasPosition, HavePosition, argument_nth, arguments_nth, value_over};
 ghost use Rattle.fc_values.specs.Values.{local_of};
 
 use crate::Memory;
@@ -25,9 +24,9 @@ pub fn first_field(args: &[Value]) -> Option<&FieldVal>
     None
 }
 
-/// An argument at a position of its entries.
+// An argument at a position of its entries.
 fn nth(arg: &Value, position: usize) -> &Local
-    requires { HavePosition position (value_of arg.now ∷ []) }
+    requires { HasPosition position (value_of arg.now) }
     ensures { local_of result.now ≡ argument_nth position (value_of arg.now) }
 {
     match arg {
@@ -36,16 +35,30 @@ fn nth(arg: &Value, position: usize) -> &Local
     }
 }
 
-/// The arguments at a position of their entries.
-pub fn row<'a>(alloc: Global, args: &'a [Value], position: usize) -> Result<Vec<&'a Local>, Memory>
-    requires { HavePosition position (values_of args.now) }
-    ensures { IfOk result (λ row. locals_of row.items ≡ arguments_nth position (values_of args.now)) }
+/// The value of an operator on the arguments at a position of their entries.
+pub fn apply_at(
+    alloc: Global,
+    builtin: Builtin,
+    args: &[Value],
+    position: usize,
+    ceiling: u32,
+) -> Result<Local, Memory>
+    requires have { HavePosition position (values_of args.now) }
+    requires has_value { IsSome (local_value builtin ceiling (arguments_nth position (values_of args.now))) }
+    ensures { IfOk result (λ v. local_value builtin ceiling (arguments_nth position (values_of args.now)) ≡ Some (local_of v)) }
 {
-    let mut row = Vec::with_capacity(alloc, args.len())?;
-    for arg in args {
-        row.push(nth(arg, position))?;
+    match args {
+        [a] => apply_local(alloc, builtin, &[nth(a, position)], ceiling),
+        [a, b] => {
+            let row = [nth(a, position), nth(b, position)];
+            apply_local(alloc, builtin, &row, ceiling)
+        }
+        [a, b, c] => {
+            let row = [nth(a, position), nth(b, position), nth(c, position)];
+            apply_local(alloc, builtin, &row, ceiling)
+        }
+        _ => unreachable!(),
     }
-    Ok(row)
 }
 
 /// An operator at each device of the fields among its arguments, of which one is given.
@@ -63,8 +76,7 @@ pub fn apply_over(
 {
     let mut entries = Vec::with_capacity(alloc, field.entries.len())?;
     for (position, entry) in field.entries.iter().enumerate() {
-        let row = row(alloc, args, position)?;
-        let value = apply_local(alloc, builtin, row.as_slice(), ceiling)?;
+        let value = apply_at(alloc, builtin, args, position, ceiling)?;
         entries.push((entry.0, value))?;
     }
     Ok(FieldVal { entries })

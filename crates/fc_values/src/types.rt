@@ -75,7 +75,7 @@ pub fn copy_declared(alloc: Global, declared: &Declared) -> Result<Declared, Mem
 fn copy_inputs(alloc: Global, inputs: &[InputDecl]) -> Result<Vec<InputDecl>, Memory>
     ensures { IfOk result (λ v. map input_of v.items ≡ map input_of inputs.now) }
 {
-    let mut copies = Vec::new(alloc);
+    let mut copies = Vec::with_capacity(alloc, inputs.len())?;
     for input in inputs {
         let text = Vec::from_slice(alloc, &input.name.text)?;
         let name = Name { text };

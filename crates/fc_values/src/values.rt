@@ -57,16 +57,27 @@ pub fn compare(a: &Local, b: &Local) -> Ordering
     }
 }
 
-/// A copy of a value.
+/// A copy of a value. An integer or a truth value takes no memory.
 pub fn copy(alloc: Global, value: &Local) -> Result<Local, Memory>
     ensures { IfOk result (λ v. local_of v ≡ local_of value.now) }
 {
     match value {
         Local::Int(n) => Ok(Local::Int(*n)),
         Local::Bool(b) => Ok(Local::Bool(*b)),
+        Local::Pair(_, _) => copy_deep(alloc, value),
+    }
+}
+
+// The same by recursion, so that `copy` itself may be inlined.
+fn copy_deep(alloc: Global, value: &Local) -> Result<Local, Memory>
+    ensures { IfOk result (λ v. local_of v ≡ local_of value.now) }
+{
+    match value {
+        Local::Int(n) => Ok(Local::Int(*n)),
+        Local::Bool(b) => Ok(Local::Bool(*b)),
         Local::Pair(a, b) => {
-            let first = Box::new(alloc, copy(alloc, a)?)?;
-            let second = Box::new(alloc, copy(alloc, b)?)?;
+            let first = Box::new(alloc, copy_deep(alloc, a)?)?;
+            let second = Box::new(alloc, copy_deep(alloc, b)?)?;
             Ok(Local::Pair(first, second))
         }
     }
@@ -106,9 +117,25 @@ pub fn overwrite(target: &mut Local, source: &Local)
     match (target, source) {
         (Local::Int(x), Local::Int(y)) => *x = *y,
         (Local::Bool(x), Local::Bool(y)) => *x = *y,
+        (Local::Pair(first, second), Local::Pair(a, b)) => {
+            overwrite_deep(first, a);
+            overwrite_deep(second, b);
+        }
+        _ => unreachable!(),
+    }
+}
+
+// The same by recursion, so that `overwrite` itself may be inlined.
+fn overwrite_deep(target: &mut Local, source: &Local)
+    requires { SameForm (local_of target.old) (local_of source.now) }
+    ensures { local_of target.new ≡ local_of source.now }
+{
+    match (target, source) {
+        (Local::Int(x), Local::Int(y)) => *x = *y,
+        (Local::Bool(x), Local::Bool(y)) => *x = *y,
         (Local::Pair(x, y), Local::Pair(z, w)) => {
-            overwrite(x, z);
-            overwrite(y, w);
+            overwrite_deep(x, z);
+            overwrite_deep(y, w);
         }
         _ => unreachable!(),
     }
