@@ -8,7 +8,9 @@ use crate::nodes::{Node, Op};
 use crate::program::Unfolded;
 use fc_values::{Builtin, Declared, Local, LocalTy, Memory, Ty};
 use std::alloc::Global;
+use std::sync::Arc;
 use std::test::Fail;
+use std::thread;
 
 /// Puts a node behind others.
 fn put(nodes: &mut Vec<Node>, op: Op, ty: Ty, kids: Vec<u32>) -> Result<(), Memory>
@@ -85,5 +87,13 @@ fn reads_a_program(rt: HostRuntime) -> Result<(), Fail> {
     let nbr = program.node(2);
     assert!(rt; matches!(nbr.op, Op::Nbr));
     assert_eq!(rt; nbr.kids.first().copied(), Some(3));
+    Ok(())
+}
+
+#[test]
+fn programs_cross_threads(rt: HostRuntime) -> Result<(), Fail> {
+    let sent: Option<Arc<Unfolded>> = None;
+    let (back, ()) = thread::join(&rt, move || sent, || ());
+    assert!(rt; back.is_none());
     Ok(())
 }

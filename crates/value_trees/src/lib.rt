@@ -5,6 +5,8 @@ mod copies;
 mod exports;
 mod fitting;
 mod reading;
+#[cfg(test)]
+mod tests;
 mod walks;
 
 pub use copies::{Near, Snap};

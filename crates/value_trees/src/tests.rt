@@ -1,0 +1,12 @@
+use crate::Snap;
+use std::sync::Arc;
+use std::test::Fail;
+use std::thread;
+
+#[test]
+fn copies_cross_threads(rt: HostRuntime) -> Result<(), Fail> {
+    let sent: Option<Arc<Snap>> = None;
+    let (back, ()) = thread::join(&rt, move || sent, || ());
+    assert!(rt; back.is_none());
+    Ok(())
+}
