@@ -1,5 +1,4 @@
 mod Apps
-mod Numbers
 mod Taken
 mod Spelled
 mod ReplayWords

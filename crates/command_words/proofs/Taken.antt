@@ -37,10 +37,6 @@ numbered read pushed option value word left words e n p =
     ∙ ap (λ m. option_map (λ more. read ++ more) (before (with_number (Some option) m) (settings_of words))) n
     ∙ ap (all_from read (Some option)) (sym e)
 
-pub unnumbered : (read : List Setting) (option : Numbered) (word : List ℕ) (left words : List (List ℕ)) → left ≡ word ∷ words → None ≡ number_of word → all_from read (Some option) left ≡ None
-unnumbered read option word left words e n =
-    ap (all_from read (Some option)) e ∙ ap (λ m. option_map (λ more. read ++ more) (before (with_number (Some option) m) (settings_of words))) (sym n)
-
 -- an option's name makes it wait
 pub waits : (read : List Setting) (option : Numbered) (word : List ℕ) (left words : List (List ℕ)) → left ≡ word ∷ words → Some option ≡ option_of word
     → all_from read (Some option) words ≡ all_from read None left

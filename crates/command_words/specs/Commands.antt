@@ -1,6 +1,7 @@
 -- The limits of a command's numbers.
 use Rattle.std.specs.Prelude.{ℕ, nat_lt, if◌then◌else◌, List, codes, Option, Some, None}
 use Rattle.std.specs.Option.{option_or}
+use Rattle.command_words.specs.declared.commands.TheConstants.{MOST_WORKERS, MOST_DEVICES}
 use Rattle.command_words.specs.declared.commands.Command.{Command}
 use Rattle.command_words.specs.declared.commands.Command.TheVariants.{Check, Stable, Run, Replay, Format, Gen, Trace, Mail}
 use Rattle.command_words.specs.declared.commands.Limit.{Limit}
@@ -11,13 +12,13 @@ abbrev pub limit_name : Limit → List ℕ
 limit_name Workers = codes "workers"
 limit_name Devices = codes "devices"
 
--- more than 16 workers pass the limit
+-- too many workers pass the limit
 abbrev pub workers_limit : ℕ → Option (Limit × ℕ)
-workers_limit n = if nat_lt 16 n then Some (Workers, n) else None
+workers_limit n = if nat_lt MOST_WORKERS n then Some (Workers, n) else None
 
--- more than 512 devices pass the limit
+-- too many devices pass the limit
 abbrev pub devices_limit : ℕ → Option (Limit × ℕ)
-devices_limit n = if nat_lt 512 n then Some (Devices, n) else None
+devices_limit n = if nat_lt MOST_DEVICES n then Some (Devices, n) else None
 
 -- the limit that a command's numbers pass, with the number: workers are looked at before devices
 abbrev pub limit_of : Command → Option (Limit × ℕ)

@@ -40,7 +40,16 @@ allows name setting = false
 
 -- nothing is set
 abbrev pub no_choices : Choices
-no_choices = record { facts = false; log = false; table = false; rounds = false; workers = None; devices = None; number = None; alone = None }
+no_choices = record {
+  facts = false;
+  log = false;
+  table = false;
+  rounds = false;
+  workers = None;
+  devices = None;
+  number = None;
+  alone = None;
+}
 
 -- what is set with one setting more, each at most once
 abbrev pub with_setting : Setting → Choices → Option Choices
@@ -79,8 +88,8 @@ asked (Some name) (Some settings) = command_from name settings
 asked (Some name) None = None
 asked None settings = None
 
--- the command that the words ask for: the first word is the program's name and is ignored, the second names the command,
--- and each further one sets something that this command takes. None where the words are outside
+-- the command that the words ask for: the first word is the program's name and is ignored, the second names the
+-- command, and each further one sets something that this command takes. None where the words are outside
 abbrev pub command_of : List (List ℕ) → Option Command
 command_of [] = None
 command_of (program ∷ []) = None

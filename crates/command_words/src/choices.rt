@@ -64,7 +64,7 @@ pub fn named(word: &str) -> Option<Name>
     None
 }
 
-/// Whether a command takes a setting.
+// Whether a command takes a setting.
 fn takes(name: Name, setting: Setting) -> bool
     ensures { result ≡ allows name setting }
 {
@@ -83,7 +83,7 @@ fn takes(name: Name, setting: Setting) -> bool
     }
 }
 
-/// The choices with one setting more, if it isn't there yet.
+// The choices with one setting more, if it isn't there yet.
 fn with(choices: Choices, setting: Setting) -> Option<Choices>
     ensures { result ≡ with_setting setting choices }
 {
@@ -124,7 +124,7 @@ fn with(choices: Choices, setting: Setting) -> Option<Choices>
     }
 }
 
-/// All the settings, if none of them stands twice.
+// All the settings, if none of them stands twice.
 fn collected(settings: &[Setting]) -> Option<Choices>
     ensures { result ≡ all_set no_choices settings.now }
 {
@@ -144,7 +144,7 @@ fn collected(settings: &[Setting]) -> Option<Choices>
     Some(choices)
 }
 
-/// The command with what is chosen, and the defaults for the rest.
+// The command with what is chosen, and the defaults for the rest.
 fn chosen(name: Name, choices: Choices) -> Option<Command>
     ensures { result ≡ command_with name choices }
 {
@@ -178,7 +178,7 @@ fn chosen(name: Name, choices: Choices) -> Option<Command>
     }
 }
 
-/// Whether a command takes each of the settings.
+// Whether a command takes each of the settings.
 fn takes_all(name: Name, settings: &[Setting]) -> bool
     ensures { result ≡ list_all (allows name) settings.now }
 {

@@ -39,12 +39,18 @@ pub enum Command {
     },
 }
 
+/// The most workers.
+pub const MOST_WORKERS: u32 = 16;
+
+/// The most devices of a scenario.
+pub const MOST_DEVICES: u32 = 512;
+
 /// What a number of the words may pass.
 #[derive(Clone, Copy, Debug, PartialEq, Eq)]
 pub enum Limit {
-    /// The workers, at most 16.
+    /// Too many workers.
     Workers,
-    /// The devices of `gen`, at most 512.
+    /// Too many devices of `gen`.
     Devices,
 }
 
@@ -68,9 +74,9 @@ pub fn passed_limit(command: Command) -> Option<(Limit, u32)>
     ensures { result ≡ limit_of command }
 {
     match command {
-        Command::Run { workers, .. } if 16 < workers => Some((Limit::Workers, workers)),
-        Command::Gen { workers, .. } if 16 < workers => Some((Limit::Workers, workers)),
-        Command::Gen { devices, .. } if 512 < devices => Some((Limit::Devices, devices)),
+        Command::Run { workers, .. } if MOST_WORKERS < workers => Some((Limit::Workers, workers)),
+        Command::Gen { workers, .. } if MOST_WORKERS < workers => Some((Limit::Workers, workers)),
+        Command::Gen { devices, .. } if MOST_DEVICES < devices => Some((Limit::Devices, devices)),
         _ => None,
     }
 }

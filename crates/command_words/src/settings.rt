@@ -1,12 +1,9 @@
 //! What the words after the command set.
 
 ghost use Rattle.std.specs.Prelude.{◌≡◌, IfOk, map, option_map, string_bytes};
-ghost use Rattle.std.specs.Char.{is_ascii_digit};
-ghost use Rattle.std.specs.List.{list_all};
-ghost use Rattle.fc_values.specs.Numbers.{is_number, number_of};
 ghost use Rattle.command_words.specs.Settings.{attached, flag_of, option_of, setting_of, settings_of};
 
-use fc_values::Memory;
+use fc_values::{Memory, number};
 use std::alloc::Global;
 
 /// An option that takes a number.
@@ -37,38 +34,7 @@ pub enum Setting {
     Alone(u32),
 }
 
-/// Whether all bytes are decimal digits.
-fn all_digits(word: &[u8]) -> bool
-    ensures { result ≡ list_all is_ascii_digit word.now }
-{
-    word.iter().all(|byte| byte.is_ascii_digit())
-}
-
-/// Whether a word is a number: 1 to 7 decimal digits.
-fn has_digits(word: &[u8]) -> bool
-    ensures { result ≡ is_number word.now }
-{
-    if word.len() < 1 {
-        return false;
-    }
-    if 7 < word.len() {
-        return false;
-    }
-    all_digits(word)
-}
-
-/// The number that a word writes, if it is one.
-fn number(word: &str) -> Option<u32>
-    ensures { result ≡ number_of word.now }
-{
-    if has_digits(word.as_bytes()) {
-        word.parse::<u32>().ok()
-    } else {
-        None
-    }
-}
-
-/// The flag that a word is.
+// The flag that a word is.
 fn flag(word: &str) -> Option<Setting>
     ensures { result ≡ flag_of word.now }
 {
@@ -87,7 +53,7 @@ fn flag(word: &str) -> Option<Setting>
     None
 }
 
-/// The option that a word names.
+// The option that a word names.
 fn option(word: &str) -> Option<Numbered>
     ensures { result ≡ option_of word.now }
 {
@@ -103,17 +69,17 @@ fn option(word: &str) -> Option<Numbered>
     None
 }
 
-/// The option and the number of a word such as `--workers=4`.
+// The option and the number of a word such as `--workers=4`.
 fn attached_option(word: &str) -> Option<Setting>
     ensures { result ≡ attached word.now }
 {
     let (name, digits) = word.split_once('=')?;
     let option = option(name)?;
-    let value = number(digits)?;
+    let value = number(digits.as_bytes())?;
     Some(Setting::Option(option, value))
 }
 
-/// What one word sets.
+// What one word sets.
 fn set_by(word: &str) -> Option<Setting>
     ensures { result ≡ setting_of word.now }
 {
@@ -123,7 +89,7 @@ fn set_by(word: &str) -> Option<Setting>
     if let Some(option) = attached_option(word) {
         return Some(option);
     }
-    match number(word) {
+    match number(word.as_bytes()) {
         Some(value) => Some(Setting::Alone(value)),
         None => None,
     }
@@ -137,7 +103,7 @@ pub fn settings(alloc: Global, words: &[String]) -> Result<Option<Vec<Setting>>,
     let mut waiting = None;
     'words: for word in words {
         if let Some(option) = waiting {
-            let Some(value) = number(word.as_str()) else {
+            let Some(value) = number(word.as_bytes()) else {
                 return Ok(None);
             };
             settings.push(Setting::Option(option, value))?;

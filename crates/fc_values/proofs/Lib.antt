@@ -10,3 +10,4 @@ pub mod Inversions
 pub mod Folds
 pub mod ByPosition
 pub mod BuiltinTyped
+pub mod NumberWords

@@ -2,6 +2,7 @@
 #![tactic(auto)]
 
 mod builtins;
+mod digits;
 mod exports;
 mod fields;
 mod hoods;
@@ -12,6 +13,7 @@ mod types;
 mod values;
 
 pub use builtins::{Builtin, apply};
+pub use digits::number;
 pub use exports::{Export, Slot, Slots, copy_export};
 pub use laws::{builtin_has_value, equal_says_same, fields_are_read, least_and_greatest};
 pub use memory::Memory;

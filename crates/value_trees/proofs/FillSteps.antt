@@ -166,7 +166,7 @@ pub and_same : (l : Left) (f g : List LocalValue → Left) → ((us : List Local
 and_same (Rest us) f g h = h us
 and_same (Off p) f g h = refl
 
-own_then : (c : ℕ) (s : LocalType) (p : ℕ) (vs : List LocalValue) (f : List LocalValue → Left) → own_left c s p vs (λ v us. f us) ≡ and_left (own_at true c (Some s) p vs) f
+pub own_then : (c : ℕ) (s : LocalType) (p : ℕ) (vs : List LocalValue) (f : List LocalValue → Left) → own_left c s p vs (λ v us. f us) ≡ and_left (own_at true c (Some s) p vs) f
 own_then c s p [] f = refl
 own_then c s p (v ∷ vs) f = by_test (has_type c s v)
   where
@@ -235,7 +235,7 @@ module _ (ns : List Node) (ab : AllAbove ns) (p : ℕ) (st : StandsAt ns p) (s :
           record { left = after_left ∙ f.left; extends = extends_both xs ys zs o.extends f.extends; fits = w.0; long = w.1; same = f.same ∙ o.same }
 
 -- an `if`
-if_off : (g : Bool) (c p : ℕ) (t : ValueType) (x a b : Term) (vs : List LocalValue) (q : ℕ) → own_at g c (Some BoolType) p vs ≡ Off q → left_at g c p (If t x a b) vs ≡ Off q
+pub if_off : (g : Bool) (c p : ℕ) (t : ValueType) (x a b : Term) (vs : List LocalValue) (q : ℕ) → own_at g c (Some BoolType) p vs ≡ Off q → left_at g c p (If t x a b) vs ≡ Off q
 if_off true c p t x a b [] q e = e
 if_off true c p t x a b (IntValue n ∷ vs) q e = e
 if_off true c p t x a b (BoolValue v ∷ vs) q e = absurd cc
@@ -251,7 +251,7 @@ if_true c p t x a b (BoolValue true) us false f e = absurd cc
 if_true c p t x a b (BoolValue false) us true f e = absurd cc
 if_true c p t x a b (BoolValue false) us false f e = refl
 
-if_left : (g : Bool) (c p : ℕ) (t : ValueType) (x a b : Term) (v : LocalValue) (vs us : List LocalValue) (truth : Bool) → truth ≡ truth_in v → IsFirst g v vs us → own_at g c (Some BoolType) p vs ≡ Rest us
+pub if_left : (g : Bool) (c p : ℕ) (t : ValueType) (x a b : Term) (v : LocalValue) (vs us : List LocalValue) (truth : Bool) → truth ≡ truth_in v → IsFirst g v vs us → own_at g c (Some BoolType) p vs ≡ Rest us
     → left_at g c p (If t x a b) vs ≡ and_left (left_at g c (suc p) x us) (λ ws. and_left (left_at (g && truth) c (suc p + size x) a ws) (λ rs. left_at (g && not truth) c (suc p + size x + size a) b rs))
 if_left true c p t x a b v vs us truth f i e =
     let e' : own_at true c (Some BoolType) p (v ∷ us) ≡ Rest us = subst (λ (ys : List LocalValue). own_at true c (Some BoolType) p ys ≡ Rest us) i e in

@@ -7,3 +7,4 @@ pub mod Fits
 pub mod ReadBack
 pub mod FillSteps
 pub mod ReadTrees
+pub mod FilledLists

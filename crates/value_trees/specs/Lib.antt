@@ -7,3 +7,4 @@ pub mod Walks
 pub mod Fitting
 pub mod KeptReads
 pub mod Filling
+pub mod KeptExports

@@ -4,6 +4,7 @@
 mod copies;
 mod exports;
 mod fitting;
+mod laws;
 mod reading;
 #[cfg(test)]
 mod tests;
@@ -12,5 +13,6 @@ mod walks;
 pub use copies::{Near, Snap};
 pub use exports::{kept, one_shape, overwrite_export};
 pub use fitting::snap_fits;
+pub use laws::lists_have_exports;
 pub use reading::{KeptFault, from_kept};
 pub use walks::{fits_main, well_typed};
