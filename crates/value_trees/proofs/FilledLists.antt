@@ -206,9 +206,9 @@ module _ (c : ℕ) where
                 subst (λ k. SlotsFit g c x k z.slots) (omega (arith, l)) (fits_stay c f.slots z.slots late g x (length o.slots) f.fills.fits),
                 (
                   subst (λ (v : SlotValue). SlotsFit (g && truth_in v.1) c a (suc (length xs) + kept x) z.slots) (sym there)
-                  (subst (λ k. SlotsFit g1 c a k z.slots) (omega (arith, l, m)) (fits_stay c d.slots z.slots z.fills.extends g1 a (length f.slots) d.fills.fits)),
+                      (subst (λ k. SlotsFit g1 c a k z.slots) (omega (arith, l, m)) (fits_stay c d.slots z.slots z.fills.extends g1 a (length f.slots) d.fills.fits)),
                   subst (λ (v : SlotValue). SlotsFit (g && not (truth_in v.1)) c b (suc (length xs) + kept x + kept a) z.slots) (sym there)
-                  (subst (λ k. SlotsFit g2 c b k z.slots) (omega (arith, l, m, n)) z.fills.fits),
+                      (subst (λ k. SlotsFit g2 c b k z.slots) (omega (arith, l, m, n)) z.fills.fits),
                 ),
               ),
             );
