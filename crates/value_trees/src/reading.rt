@@ -1,15 +1,13 @@
 //! Exports out of their kept values.
 
-ghost use Rattle.std.specs.Prelude.{◌≡◌, ◌+◌, MatchResult, IfOk, map, length, Some, true};
-ghost use Rattle.fc_values.specs.Types.{local_type_of, BoolType};
+ghost use Rattle.std.specs.Prelude.{◌≡◌, MatchResult, IfErr, IfOk, Some, true};
+ghost use Rattle.fc_values.specs.Types.{local_type_of};
 ghost use Rattle.fc_values.specs.Values.{local_of};
-ghost use Rattle.fc_values.specs.Exports.{slots_of, slot_at};
-ghost use Rattle.fc_nodes.specs.Terms.{view_at, view_of, sort_of, node_keeps, term_at, terms_by, kept as kept_by, kept_all, is_branching};
+ghost use Rattle.fc_nodes.specs.Terms.{is_branching, node_keeps, sort_of, view_at, view_of};
 ghost use Rattle.fc_nodes.specs.Program.{unfolding_of, IsProgram};
-ghost use Rattle.value_trees.specs.SlotFits.{SlotFits, SlotsFit, AllSlotsFit, OwnSlotFits, after_own};
 ghost use Rattle.value_trees.specs.Walks.{FitsMain};
 ghost use Rattle.fc_nodes.specs.Places.{StandsAt, StandAfter};
-ghost use Rattle.value_trees.specs.Filling.{IsRead, IsFault, left_at, left_after, own_at, Fills, FaultIn, IsFirst};
+ghost use Rattle.value_trees.specs.Filling.{FillsOwn, FillsSlot, FillsTerm, FillsTerms, IsFaultOf, IsReadFrom, IsTaken, OwnFault, TermFault, TermsFault};
 ghost use Rattle.value_trees.specs.declared.reading.KeptFault.TheVariants as kept_fault;
 
 use crate::walks::{both, truth_at};
@@ -49,6 +47,14 @@ impl<T: Drop> From<AllocFailed<T>> for KeptFault {
     }
 }
 
+/// A place of a program that is visited, and whether it is evaluated.
+#[derive(Clone, Copy)]
+pub struct Visit<'a> {
+    pub program: &'a Unfolded,
+    pub place: u32,
+    pub taken: bool,
+}
+
 /// The export with a value and these kept values in preorder.
 pub fn from_kept(
     alloc: Global,
@@ -57,11 +63,16 @@ pub fn from_kept(
     list: Vec<Local>,
 ) -> Result<Export, KeptFault>
     requires { FitsMain (unfolding_of program.now) (local_of value) }
-    ensures { MatchResult result (λ e. IsRead (unfolding_of program.now) (local_of value) (map local_of list.items) e) (λ fault. IsFault (unfolding_of program.now) (map local_of list.items) fault) }
+    ensures { MatchResult result (IsReadFrom program.now value list.items) (IsFaultOf program.now list.items) }
 {
     let size = program.size();
     let mut slots = Vec::new(alloc);
-    let rest = fill(alloc, program, list.as_slice(), 0, true, &mut slots)?;
+    let root = Visit {
+        program,
+        place: 0,
+        taken: true,
+    };
+    let rest = fill(alloc, &root, list.as_slice(), &mut slots)?;
     if !rest.is_empty() {
         return Err(KeptFault::At(size));
     }
@@ -71,143 +82,147 @@ pub fn from_kept(
     })
 }
 
-/// Fills the slots of the term at a place: the values that it leaves.
+// Fills the slots of the term at a place: the values that it leaves.
 #[cycle(fill)]
 fn fill<'a>(
     alloc: Global,
-    program: &Unfolded,
+    visit: &Visit<'_>,
     list: &'a [Local],
-    place: u32,
-    taken: bool,
     slots: &mut Vec<Slot>,
 ) -> Result<&'a [Local], KeptFault>
-    requires { StandsAt program.now.nodes place }
-    ensures { MatchResult result (λ rest. Fills (SlotsFit taken program.now.declared.ceiling (term_at program.now.nodes place) (length (slots_of slots.old.items))) (length (slots_of slots.old.items) + kept_by (term_at program.now.nodes place)) (left_at taken program.now.declared.ceiling place (term_at program.now.nodes place) (map local_of list.now)) (map local_of list.now) (map local_of rest.now) (slots_of slots.old.items) (slots_of slots.new.items)) (λ fault. FaultIn (left_at taken program.now.declared.ceiling place (term_at program.now.nodes place) (map local_of list.now)) fault) }
+    requires { StandsAt visit.now.program.now.nodes visit.now.place }
+    ensures { MatchResult result (FillsTerm visit.now list.now slots.old.items slots.new.items) (TermFault visit.now list.now) }
 {
-    let node = program.node(place);
+    let node = visit.program.node(visit.place);
     if is_if(node) {
-        let filled = fill_if(alloc, program, node, list, place, taken, slots)?;
+        let filled = fill_if(alloc, visit, node, list, slots)?;
         return Ok(filled);
     }
-    let left = fill_own(alloc, program, node, list, place, taken, slots)?;
+    let left = fill_own(alloc, visit, node, list, slots)?;
     let kids = node.kids.as_slice();
-    let filled = fill_kids(alloc, program, kids, left, place, taken, slots)?;
+    let filled = fill_kids(alloc, visit, kids, left, slots)?;
     Ok(filled)
 }
 
-/// Fills the slots of an `if`: blank ones in the branch that its truth doesn't name.
+// Fills the slots of an `if`: blank ones in the branch that its truth doesn't name.
 #[cycle(fill)]
 fn fill_if<'a>(
     alloc: Global,
-    program: &Unfolded,
+    visit: &Visit<'_>,
     node: &Node,
     list: &'a [Local],
-    place: u32,
-    taken: bool,
     slots: &mut Vec<Slot>,
 ) -> Result<&'a [Local], KeptFault>
-    requires formed { IsProgram program.now }
-    requires stands { StandsAt program.now.nodes place }
-    requires node { view_at program.now.nodes place ≡ Some (view_of node.now) }
+    requires formed { IsProgram visit.now.program.now }
+    requires stands { StandsAt visit.now.program.now.nodes visit.now.place }
+    requires node { view_at visit.now.program.now.nodes visit.now.place ≡ Some (view_of node.now) }
     requires branching { is_branching (sort_of node.now.op) ≡ true }
-    ensures { MatchResult result (λ rest. Fills (SlotsFit taken program.now.declared.ceiling (term_at program.now.nodes place) (length (slots_of slots.old.items))) (length (slots_of slots.old.items) + kept_by (term_at program.now.nodes place)) (left_at taken program.now.declared.ceiling place (term_at program.now.nodes place) (map local_of list.now)) (map local_of list.now) (map local_of rest.now) (slots_of slots.old.items) (slots_of slots.new.items)) (λ fault. FaultIn (left_at taken program.now.declared.ceiling place (term_at program.now.nodes place) (map local_of list.now)) fault) }
+    ensures { MatchResult result (FillsTerm visit.now list.now slots.old.items slots.new.items) (TermFault visit.now list.now) }
 {
     let at = slots.len();
-    let ceiling = program.declared().ceiling;
-    let own = fill_slot(alloc, &LocalTy::Bool, list, place, taken, ceiling, slots)?;
+    let own = fill_slot(alloc, visit, &LocalTy::Bool, list, slots)?;
     let truth = truth_at(slots.as_slice(), at);
-    let first = fill(alloc, program, own, node.kids[0], taken, slots)?;
-    let second = fill(
-        alloc,
-        program,
-        first,
-        node.kids[1],
-        both(taken, truth),
-        slots,
-    )?;
-    let third = fill(
-        alloc,
-        program,
-        second,
-        node.kids[2],
-        both(taken, !truth),
-        slots,
-    )?;
+    let condition = Visit {
+        program: visit.program,
+        place: node.kids[0],
+        taken: visit.taken,
+    };
+    let first = fill(alloc, &condition, own, slots)?;
+    let chosen = Visit {
+        program: visit.program,
+        place: node.kids[1],
+        taken: both(visit.taken, truth),
+    };
+    let second = fill(alloc, &chosen, first, slots)?;
+    let other = Visit {
+        program: visit.program,
+        place: node.kids[2],
+        taken: both(visit.taken, !truth),
+    };
+    let third = fill(alloc, &other, second, slots)?;
     Ok(third)
 }
 
-/// Fills the slots of nodes one after another, all of them kids of the node at a place.
+// Fills the slots of nodes one after another, all of them kids of the node at a place.
 #[cycle(fill)]
 fn fill_kids<'a>(
     alloc: Global,
-    program: &Unfolded,
+    visit: &Visit<'_>,
     kids: &[u32],
     list: &'a [Local],
-    place: u32,
-    taken: bool,
     slots: &mut Vec<Slot>,
 ) -> Result<&'a [Local], KeptFault>
-    requires { StandAfter program.now.nodes place kids.now }
-    ensures { MatchResult result (λ rest. Fills (AllSlotsFit taken program.now.declared.ceiling (terms_by (term_at program.now.nodes) kids.now) (length (slots_of slots.old.items))) (length (slots_of slots.old.items) + kept_all (terms_by (term_at program.now.nodes) kids.now)) (left_after taken program.now.declared.ceiling (term_at program.now.nodes) kids.now (map local_of list.now)) (map local_of list.now) (map local_of rest.now) (slots_of slots.old.items) (slots_of slots.new.items)) (λ fault. FaultIn (left_after taken program.now.declared.ceiling (term_at program.now.nodes) kids.now (map local_of list.now)) fault) }
+    requires { StandAfter visit.now.program.now.nodes visit.now.place kids.now }
+    ensures { MatchResult result (FillsTerms visit.now kids.now list.now slots.old.items slots.new.items) (TermsFault visit.now kids.now list.now) }
 {
     let mut left = list;
     for kid in kids {
-        left = fill(alloc, program, left, *kid, taken, slots)?;
+        let next = Visit {
+            program: visit.program,
+            place: *kid,
+            taken: visit.taken,
+        };
+        left = fill(alloc, &next, left, slots)?;
     }
     Ok(left)
 }
 
-/// Fills the slot of a node itself, if it keeps something.
+// Fills the slot of a node itself, if it keeps something.
 fn fill_own<'a>(
     alloc: Global,
-    program: &Unfolded,
+    visit: &Visit<'_>,
     node: &Node,
     list: &'a [Local],
-    place: u32,
-    taken: bool,
     slots: &mut Vec<Slot>,
 ) -> Result<&'a [Local], KeptFault>
-    ensures { MatchResult result (λ rest. Fills (OwnSlotFits taken program.now.declared.ceiling (node_keeps node.now) (length (slots_of slots.old.items))) (after_own (node_keeps node.now) (length (slots_of slots.old.items))) (own_at taken program.now.declared.ceiling (node_keeps node.now) place (map local_of list.now)) (map local_of list.now) (map local_of rest.now) (slots_of slots.old.items) (slots_of slots.new.items)) (λ fault. FaultIn (own_at taken program.now.declared.ceiling (node_keeps node.now) place (map local_of list.now)) fault) }
+    ensures filled { IfOk result (FillsOwn visit.now (node_keeps node.now) list.now slots.old.items slots.new.items) }
+    ensures fault { IfErr result (OwnFault visit.now (node_keeps node.now) list.now) }
 {
-    let ceiling = program.declared().ceiling;
     match &node.op {
         Op::Nbr | Op::Rep | Op::Share => {
-            let rest = fill_slot(alloc, inner(&node.ty), list, place, taken, ceiling, slots)?;
+            let rest = fill_slot(alloc, visit, inner(&node.ty), list, slots)?;
             Ok(rest)
         }
         Op::If => {
-            let rest = fill_slot(alloc, &LocalTy::Bool, list, place, taken, ceiling, slots)?;
+            let rest = fill_slot(alloc, visit, &LocalTy::Bool, list, slots)?;
             Ok(rest)
         }
         _ => Ok(list),
     }
 }
 
-/// Fills a slot with the first value, or with a blank one in a branch that isn't taken.
+// Fills a slot with the first value, or with a blank one in a branch that isn't taken.
 fn fill_slot<'a>(
     alloc: Global,
+    visit: &Visit<'_>,
     ty: &LocalTy,
     list: &'a [Local],
-    place: u32,
-    taken: bool,
-    ceiling: u32,
     slots: &mut Vec<Slot>,
 ) -> Result<&'a [Local], KeptFault>
-    ensures fills { MatchResult result (λ rest. Fills (SlotFits taken ceiling (local_type_of ty.now) (length (slots_of slots.old.items))) (length (slots_of slots.old.items) + 1) (own_at taken ceiling (Some (local_type_of ty.now)) place (map local_of list.now)) (map local_of list.now) (map local_of rest.now) (slots_of slots.old.items) (slots_of slots.new.items)) (λ fault. FaultIn (own_at taken ceiling (Some (local_type_of ty.now)) place (map local_of list.now)) fault) }
-    ensures first { IfOk result (λ rest. IsFirst taken (slot_at (length (slots_of slots.old.items)) (slots_of slots.new.items)).1 (map local_of list.now) (map local_of rest.now)) }
+    ensures filled { IfOk result (FillsSlot visit.now (local_type_of ty.now) list.now slots.old.items slots.new.items) }
+    ensures fault { IfErr result (OwnFault visit.now (Some (local_type_of ty.now)) list.now) }
+    ensures first { IfOk result (IsTaken visit.now list.now slots.old.items slots.new.items) }
 {
-    if !taken {
+    if !visit.taken {
         let value = blank_of(alloc, ty)?;
         slots.push(Slot { kept: false, value })?;
         return Ok(list);
     }
     let Some((first, rest)) = list.split_first() else {
-        return Err(KeptFault::At(place));
+        return Err(KeptFault::At(visit.place));
     };
+    let ceiling = ceiling_of(visit.program);
     if !fits(ty, first, ceiling) {
-        return Err(KeptFault::At(place));
+        return Err(KeptFault::At(visit.place));
     }
     let value = copy(alloc, first)?;
     slots.push(Slot { kept: true, value })?;
     Ok(rest)
+}
+
+// The greatest integer of a program.
+fn ceiling_of(program: &Unfolded) -> u32
+    ensures { result ≡ program.now.declared.ceiling }
+{
+    program.declared().ceiling
 }
