@@ -1,4 +1,4 @@
--- The nodes that keep a value, counted along the list and along the term.
+-- Crates above cite this module: the nodes that keep a value, counted along the list and along the term.
 use Rattle.std.proofs.Common.{◌≡◌, ℕ, zero, suc, ◌<◌, ◌+◌, List, [], ◌∷◌, ◌++◌, length, refl, sym, ◌∙◌, ap, arith, Option, Some, None, take, drop}
 use Rattle.std.specs.Prelude.{is_some, option_to_list, slice_get}
 use Rattle.std.proofs.lemmas.Option.{slice_get_within}
@@ -192,9 +192,3 @@ kept_slot (n ∷ ns) (suc p) s t ks x h k = later (node_keeps n) (kept_slot ns p
 -- the same among what the term keeps
 pub slot_type : (ns : List Node) → WellFormed ns → (p : ℕ) (s : Sort) (t : ValueType) (ks : List ℕ) (x : LocalType) → HasNode ns p s t ks → kept_type s t ≡ Some x → slice_get (kept_types (term_at ns 0)) (kept_before ns p) ≡ Some x
 slot_type ns w p s t ks x h k = let e : slice_get (nodes_kept_types ns) (kept_before ns p) ≡ Some x = kept_slot ns p s t ks x h k in rw (← types_whole ns w) e
-
-pub slot_within : (ns : List Node) → WellFormed ns → (p : ℕ) (s : Sort) (t : ValueType) (ks : List ℕ) (x : LocalType) → HasNode ns p s t ks → kept_type s t ≡ Some x → kept_before ns p < kept (term_at ns 0)
-slot_within ns w p s t ks x h k =
-    let l = slice_get_within (kept_types (term_at ns 0)) (kept_before ns p) x (slot_type ns w p s t ks x h k) in
-    let e = kept_long (term_at ns 0) in
-    omega (arith, l, e)

@@ -1,4 +1,4 @@
--- No type of a program has more than eight leaves.
+-- Crates above cite this module: no type of a program has more than eight leaves.
 use Rattle.std.proofs.Common.{ℕ, suc, ◌≡◌, ◌+◌, ◌≤◌, Bool, true, false, List, [], ◌∷◌, refl, sym, ap, subst, ◌∙◌, Some, None, Option, nat_eq, if◌then◌else◌, arith}
 use Rattle.std.specs.Prelude.{option_map, slice_get}
 use Rattle.fc_values.specs.declared.builtins.Builtin.{Builtin}

@@ -1,4 +1,4 @@
--- The term at a place, and the terms of its kids.
+-- Crates above cite this module: the term at a place, and the terms of its kids.
 use Rattle.std.proofs.Common.{◌≡◌, ℕ, zero, suc, ◌<◌, ◌≤◌, ◌+◌, ◌-◌, List, [], ◌∷◌, length, refl, ◌∙◌, ap, subst, arith, Option, Some, None}
 use Rattle.std.specs.Prelude.{slice_get, option_map}
 use Rattle.std.proofs.lemmas.Option.{slice_get_past, slice_get_within}

@@ -101,10 +101,6 @@ pub and_rest : (l : Left) → and_left l (λ us. Rest us) ≡ l
 and_rest (Rest us) = refl
 and_rest (Off p) = refl
 
-pub and_both : (l : Left) (f g : List LocalValue → Left) → and_left (and_left l f) g ≡ and_left l (λ us. and_left (f us) g)
-and_both (Rest us) f g = refl
-and_both (Off p) f g = refl
-
 pub and_rest_is : (l : Left) (us : List LocalValue) (f : List LocalValue → Left) → l ≡ Rest us → and_left l f ≡ f us
 and_rest_is (Rest vs) us f e = let s : vs ≡ us = cc in ap f s
 and_rest_is (Off p) us f e = absurd cc

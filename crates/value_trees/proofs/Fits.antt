@@ -1,4 +1,4 @@
--- A copy that fits, part by part.
+-- Crates above cite this module: a copy that fits, part by part.
 use Rattle.std.proofs.Common.{ℕ, ◌≤◌, List, [], ◌∷◌, map, length, Option, Some, None, option_map, arith}
 use Rattle.std.proofs.lemmas.List.{length-map}
 use Rattle.fc_values.specs.declared.exports.Export.{Export}

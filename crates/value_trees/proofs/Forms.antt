@@ -1,4 +1,4 @@
--- The forms of what slots have, term by term.
+-- Crates above cite this module: the forms of what slots have, term by term.
 use Rattle.std.proofs.Common.{◌≡◌, ℕ, suc, ◌+◌, List, [], ◌∷◌, ◌++◌, length, refl, subst, arith}
 use Rattle.std.proofs.lemmas.List.{length-append}
 use Rattle.fc_values.specs.Types.{LocalType, IntType, BoolType, PairType}

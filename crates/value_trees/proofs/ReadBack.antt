@@ -1,4 +1,4 @@
--- The kept values of a tree that fits are read along its term with nothing left.
+-- Crates above cite this module: the kept values of a tree that fits are read along its term with nothing left.
 use Rattle.std.proofs.Common.{◌≡◌, ℕ, suc, ◌+◌, List, [], ◌++◌, refl, sym, ◌∙◌, ap, Bool, true, false, ◌&&◌, Some, None, arith, append_assoc, append-nil}
 use Rattle.std.proofs.lemmas.Bool.Decides.{nat_tests}
 use Rattle.fc_values.specs.Types.{LocalType, IntType, BoolType, PairType}

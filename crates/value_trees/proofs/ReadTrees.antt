@@ -1,4 +1,4 @@
--- The kept values of a tree that fits a term determine it.
+-- Crates above cite this module: the kept values of a tree that fits a term determine it.
 use Rattle.std.proofs.Common.{◌≡◌, ℕ, List, [], ◌∷◌, ◌++◌, refl, sym, ◌∙◌, ap, true, false, Some, None, append_assoc, append-nil}
 use Rattle.fc_values.specs.Values.{LocalValue, IntValue, BoolValue, PairValue}
 use Rattle.fc_values.specs.Trees.{Tree, Trees, Keep, Done, Then, leaf, TreeExport}

@@ -1,4 +1,4 @@
--- The steps of a walk over slots.
+-- Crates above cite this module: the steps of a walk over slots.
 use Rattle.std.proofs.Common.{◌≡◌, ℕ, zero, suc, ◌<◌, ◌≤◌, ◌+◌, List, [], ◌∷◌, length, refl, sym, ◌∙◌, ap, subst, arith, Bool, true, false, not, ◌&&◌, Option, Some, None, get_or}
 use Rattle.std.proofs.lemmas.List.{length-map}
 use Rattle.std.proofs.lemmas.Bool.Decides.{nat_tests}
@@ -38,9 +38,6 @@ module _ (g : Bool) (c : ℕ) (u : LocalType) (xs : List Slot) (k : ℕ) (s : Sl
 
   pub here_slot : SlotFits g c u k (slots_of xs) → ValueSlotFits g c u (slot_of s)
   here_slot h = subst (ValueSlotFits g c u) read (h.kept, h.value)
-
-pub no_slot : (g : Bool) (c : ℕ) (u : LocalType) (xs : List Slot) (k : ℕ) → length xs ≤ k → SlotFits g c u k (slots_of xs) → ⊥
-no_slot g c u xs k l h = let w = h.within in omega (arith, l, w, length-map xs slot_of)
 
 module _ (g : Bool) (c : ℕ) (k : ℕ) (xs : List SlotValue) where
   own_of : (u : Term) → SlotsFit g c u k xs → OwnSlotFits g c (own_type u) k xs

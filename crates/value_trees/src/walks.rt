@@ -4,11 +4,11 @@ ghost use Rattle.std.specs.Prelude.{◌≡◌, ◌↔◌, ◌+◌, ◌<◌, ◌&
 ghost use Rattle.fc_values.specs.Types.{local_type_of, BoolType};
 ghost use Rattle.fc_values.specs.Values.{local_of, form_of};
 ghost use Rattle.fc_values.specs.Exports.{slot_of, slots_of, slot_at};
-ghost use Rattle.fc_nodes.specs.Terms.{view_at, view_of, sort_of, node_keeps, term_at, terms_by, kept as kept_by, kept_all, is_branching};
+ghost use Rattle.fc_nodes.specs.Terms.{is_branching, node_keeps, sort_of, view_at, view_of};
 ghost use Rattle.fc_nodes.specs.Program.{unfolding_of, IsProgram};
 ghost use Rattle.value_trees.specs.Snaps.{IsExportOf};
-ghost use Rattle.value_trees.specs.SlotFits.{ValueFits, ValueSlotFits, SlotFits, SlotsFit, AllSlotsFit, OwnSlotFits, after_own, truth_in, WalkIs};
-ghost use Rattle.value_trees.specs.Walks.{FitsMain, ends_at};
+ghost use Rattle.value_trees.specs.SlotFits.{SlotFits, ValueFits, ValueSlotFits, WalkIs, truth_in};
+ghost use Rattle.value_trees.specs.Walks.{FitsMain, WalksOwn, WalksTerm, WalksTerms, ends_at};
 ghost use Rattle.fc_nodes.specs.Places.{StandsAt, StandAfter};
 
 use fc_nodes::{Node, Op, Unfolded, is_if};
@@ -46,7 +46,7 @@ fn ends_with(end: Option<usize>, slot: usize) -> bool
 #[cycle(walk)]
 fn walk(program: &Unfolded, slots: &[Slot], place: u32, at: usize, taken: bool) -> Option<usize>
     requires { StandsAt program.now.nodes place }
-    ensures { WalkIs (SlotsFit taken program.now.declared.ceiling (term_at program.now.nodes place) at (slots_of slots.now)) (at + kept_by (term_at program.now.nodes place)) result }
+    ensures { WalksTerm program.now place taken slots.now at result }
 {
     let node = program.node(place);
     let from = own_slot(program, node, slots, at, taken)?;
@@ -73,7 +73,7 @@ fn walk_if(
     requires node { view_at program.now.nodes place ≡ Some (view_of node.now) }
     requires branching { is_branching (sort_of node.now.op) ≡ true }
     requires own { SlotFits taken program.now.declared.ceiling BoolType at (slots_of slots.now) }
-    ensures { WalkIs (SlotsFit taken program.now.declared.ceiling (term_at program.now.nodes place) at (slots_of slots.now)) (at + kept_by (term_at program.now.nodes place)) result }
+    ensures { WalksTerm program.now place taken slots.now at result }
 {
     let truth = truth_at(slots, at);
     let first = walk(program, slots, node.kids[0], at + 1, taken)?;
@@ -93,7 +93,7 @@ fn walk_kids(
     taken: bool,
 ) -> Option<usize>
     requires { StandAfter program.now.nodes place kids.now }
-    ensures { WalkIs (AllSlotsFit taken program.now.declared.ceiling (terms_by (term_at program.now.nodes) kids.now) at (slots_of slots.now)) (at + kept_all (terms_by (term_at program.now.nodes) kids.now)) result }
+    ensures { WalksTerms program.now kids.now taken slots.now at result }
 {
     let mut next = at;
     for kid in kids {
@@ -110,7 +110,7 @@ fn own_slot(
     at: usize,
     taken: bool,
 ) -> Option<usize>
-    ensures { WalkIs (OwnSlotFits taken program.now.declared.ceiling (node_keeps node.now) at (slots_of slots.now)) (after_own (node_keeps node.now) at) result }
+    ensures { WalksOwn program.now (node_keeps node.now) taken slots.now at result }
 {
     let ceiling = program.declared().ceiling;
     match &node.op {
