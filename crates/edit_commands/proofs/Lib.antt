@@ -5,7 +5,6 @@ pub mod Narrowed
 pub mod Behind
 pub mod Texts
 pub mod Prefixes
-pub mod Names
 pub mod Pokes
 pub mod Wide
 pub mod WideEdits

@@ -8,7 +8,8 @@ use Rattle.topology.specs.Networks.{NetDevice}
 use Rattle.edit_commands.specs.declared.edits.EditWord.{EditWord}
 use Rattle.edit_commands.specs.declared.edits.EditWord.TheVariants as first
 use Rattle.fc_values.specs.Numbers.{number_of}
-use Rattle.edit_commands.specs.Words.{device_of as device_number, is_name}
+use Rattle.fc_values.specs.Names.{is_name}
+use Rattle.edit_commands.specs.Words.{device_of as device_number}
 use Rattle.edit_commands.specs.Values.{value_of}
 
 -- an edit as a line says it: a poke has the value and the kept values of an export

@@ -9,8 +9,8 @@ ghost use Rattle.edit_commands.specs.Narrow.{narrow_line};
 ghost use Rattle.edit_commands.specs.Code.{line_of, texts, LineFits};
 
 use crate::values::{read_value, read_values};
-use crate::words::{device_number, is_name, number};
-use fc_values::{InputDecl, Local, Memory};
+use crate::words::{device_number, number};
+use fc_values::{InputDecl, Local, Memory, is_name};
 use std::alloc::Global;
 use topology::Device;
 
@@ -82,7 +82,7 @@ fn set(alloc: Global, inputs: &[InputDecl], words: &[&[u8]]) -> Result<Option<Ed
     let [device, name, value] = words else {
         return Ok(None);
     };
-    if !is_name(alloc, name)? {
+    if !is_name(name) {
         return Ok(None);
     }
     let Some(device) = number(device) else {

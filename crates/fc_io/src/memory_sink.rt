@@ -37,7 +37,8 @@ impl MemSink {
     /// numbers in `fails`, from 1, fail.
     pub fn new(alloc: Global, room: usize, most: usize, fails: Vec<u64>) -> Result<Self, Memory>
         requires most { 0 < most }
-        ensures fresh { IfOk result (λ s. s ≡ record { taken = []; room = room; most = most; fails = fails.items; calls = 0; faults = 0 }) }
+        ensures fresh { IfOk result (λ s. s
+            ≡ record { taken = []; room = room; most = most; fails = fails.items; calls = 0; faults = 0 }) }
     {
         let taken = Vec::with_capacity(alloc, room)?;
         Ok(MemSink {
@@ -74,11 +75,13 @@ impl Sink for MemSink {
         ensures progress { 0 < length bytes.now → IfOk result (λ count. 0 < count) }
         ensures cause { HasCause self.old.faults self.new.faults result }
         // As many as `most`, the bytes and the room left allow.
-        ensures count { IfOk result (λ n. n ≡ min (min self.old.most (length bytes.now)) (self.old.room - length self.old.taken)) }
+        ensures count { IfOk result (λ n. n
+            ≡ min (min self.old.most (length bytes.now)) (self.old.room - length self.old.taken)) }
         // It fails exactly at the named calls, and at those with bytes that find the room full.
         ensures named { OnOk result (Contains self.old.fails (counted self.old.calls) → ⊥) }
         ensures full { OnOk result (0 < length bytes.now → length self.old.taken < self.old.room) }
-        ensures others { OnErr result ((Contains self.old.fails (counted self.old.calls) → ⊥) → (0 < length bytes.now) × (length self.old.taken ≡ self.old.room)) }
+        ensures others { OnErr result ((Contains self.old.fails (counted self.old.calls) → ⊥) → (0 < length bytes.now)
+            × (length self.old.taken ≡ self.old.room)) }
         // The call is counted, and so is its fault; nothing else changes.
         ensures calls { self.new.calls ≡ counted self.old.calls }
         ensures faults { OnErr result (self.new.faults ≡ counted self.old.faults) }
@@ -114,7 +117,8 @@ impl Model for CalmSink {
 
     ghost view = { λ s. record { taken = s.taken.items; room = s.room; faults = s.faults } };
 
-    ghost invariant = { λ s. (vec_len s.taken ≤ s.room) × (s.room ≤ vec_capacity s.taken) × (0 < s.faults → vec_len s.taken ≡ s.room) };
+    ghost invariant = { λ s. (vec_len s.taken ≤ s.room) × (s.room ≤ vec_capacity s.taken)
+        × (0 < s.faults → vec_len s.taken ≡ s.room) };
 }
 
 impl CalmSink {

@@ -46,7 +46,8 @@ impl MemSource {
     /// `most` is how many bytes a call gives at most; the calls of the numbers in `fails`, from 1, fail.
     pub fn new(bytes: Vec<u8>, most: usize, fails: Vec<u64>) -> Self
         requires most { 0 < most }
-        ensures fresh { result ≡ record { left = bytes.items; most = most; fails = fails.items; calls = 0; faults = 0 } }
+        ensures fresh { result
+            ≡ record { left = bytes.items; most = most; fails = fails.items; calls = 0; faults = 0 } }
     {
         MemSource {
             bytes,

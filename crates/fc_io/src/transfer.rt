@@ -42,15 +42,18 @@ pub fn read_all<S: Source>(alloc: Global, src: &mut S, limit: usize) -> Result<V
     ensures end { OnOk result (IsAtEnd (S.left src.new)) }
     ensures within { IfOk result (λ v. length v.items ≤ limit) }
     // TooLong: `limit + 1` bytes were read. Each other answer but want of memory comes before that.
-    ensures too_long { IsErrOf result ReadAll.TooLong → (bytes : List ℕ) × (Consumes (S.left src.old) (S.left src.new) bytes) × (length bytes ≡ limit + 1) }
-    ensures short { IsErrOf result ReadAll.ReadFault → (bytes : List ℕ) × (Consumes (S.left src.old) (S.left src.new) bytes) × (length bytes ≤ limit) }
+    ensures too_long { IsErrOf result ReadAll.TooLong → (bytes : List ℕ)
+        × (Consumes (S.left src.old) (S.left src.new) bytes) × (length bytes ≡ limit + 1) }
+    ensures short { IsErrOf result ReadAll.ReadFault → (bytes : List ℕ)
+        × (Consumes (S.left src.old) (S.left src.new) bytes) × (length bytes ≤ limit) }
     ensures long { IfSome (S.left src.old) (λ bytes. limit < length bytes → OnOk result ⊥) }
     // ReadFault: the count rose. No other answer has met a fault.
     ensures fault { IsErrOf result ReadAll.ReadFault → Rose (S.faults src.old) (S.faults src.new) }
     ensures quiet { (IsErrOf result ReadAll.ReadFault → ⊥) → S.faults src.new ≡ S.faults src.old }
     ensures later { S.faults src.old ≤ S.faults src.new }
     // Whatever the answer, no byte beyond these was read.
-    ensures beyond { (bytes : List ℕ) × (Consumes (S.left src.old) (S.left src.new) bytes) × (length bytes ≤ limit + 1) }
+    ensures beyond { (bytes : List ℕ) × (Consumes (S.left src.old) (S.left src.new) bytes)
+        × (length bytes ≤ limit + 1) }
 {
     let mut bytes = Vec::new(alloc);
     let mut buf = [0u8; CHUNK];
@@ -74,7 +77,8 @@ pub fn write_all<K: Sink>(out: &mut K, bytes: &[u8]) -> Result<(), WriteFault>
     ensures quiet { OnOk result (K.faults out.new ≡ K.faults out.old) }
     // WriteFault: the count rose, and only a part of the bytes, from their front, was taken.
     ensures fault { OnErr result (Rose (K.faults out.old) (K.faults out.new)) }
-    ensures part { OnErr result ((count : ℕ) × (count < length bytes.now) × Appends (K.taken out.old) (K.taken out.new) (take count bytes.now)) }
+    ensures part { OnErr result ((count : ℕ) × (count < length bytes.now)
+        × Appends (K.taken out.old) (K.taken out.new) (take count bytes.now)) }
     ensures later { K.faults out.old ≤ K.faults out.new }
     ensures room { K.room out.new ≡ K.room out.old }
 {

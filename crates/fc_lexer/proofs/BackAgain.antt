@@ -6,7 +6,8 @@ use Rattle.std.proofs.Math.Seq.{take-append_seam, drop-append_seam}
 use Rattle.std.proofs.lemmas.List.{map-append}
 use Rattle.fc_lexer.specs.declared.bytes.Class.{Class}
 use Rattle.fc_lexer.specs.declared.bytes.Class.TheVariants.{Space, Digit, Letter, Slash, Dot, Equals, Single, Other}
-use Rattle.fc_lexer.specs.Bytes.{is_space, is_digit, is_name_byte, is_in_line, is_rest, is_piece, begins}
+use Rattle.fc_values.specs.Names.{is_digit, is_name_byte}
+use Rattle.fc_lexer.specs.Bytes.{is_space, is_in_line, is_rest, is_piece, begins}
 use Rattle.fc_lexer.specs.Kinds.{TokenKind, TokenView, token_kind}
 use Rattle.fc_lexer.specs.Lexes.{IsLongest, Cut, line_at, token_as, tokens_from}
 use Rattle.fc_lexer.specs.Apart.{Breaks, Piece, ReadsBack, StandApart, kind_as, kinds_of, sizes_of, text_of, view_kind}

@@ -5,4 +5,5 @@ pub mod Turns
 pub mod Numbers
 pub mod Spans
 pub mod Digits
+pub mod Letters
 pub mod Few

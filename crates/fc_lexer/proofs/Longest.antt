@@ -5,7 +5,8 @@ use Rattle.std.specs.List.{list_all, prefix_len}
 use Rattle.std.proofs.lemmas.List.Sums.{prefix_len-le-length}
 use Rattle.fc_lexer.specs.declared.bytes.Class.{Class}
 use Rattle.fc_lexer.specs.declared.bytes.Class.TheVariants.{Space, Digit, Letter, Slash, Dot, Equals, Single, Other}
-use Rattle.fc_lexer.specs.Bytes.{is_space, is_digit, is_name_byte, is_in_line, is_rest, is_piece, begins}
+use Rattle.fc_values.specs.Names.{is_digit, is_name_byte}
+use Rattle.fc_lexer.specs.Bytes.{is_space, is_in_line, is_rest, is_piece, begins}
 use Rattle.fc_lexer.specs.Sizes.{size_as, size_of}
 use Rattle.fc_lexer.specs.Lexes.{IsLongest, IsStuck}
 

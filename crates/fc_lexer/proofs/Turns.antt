@@ -57,12 +57,7 @@ line_more text at n =
     ap (count_by is_line_feed) (take-add at n text) ∙ sum_by-append (λ x. cond (is_line_feed x) 1 0) (take at text) (take n (drop at text)) in
     omega arith
 
-pub line_within : (text : List ℕ) (at : ℕ) → line_at text at ≤ 1 + length text
-line_within text at =
-    let e : count_by is_line_feed (take at text) ≤ length (take at text) = count_by-le-length is_line_feed (take at text) in
-    let f : length (take at text) ≤ length text = grind (arith, common_steps) in
-    omega arith
-
+-- the code's slices
 part : (xs : List ℕ) (at n : ℕ) → take (at + n - at) (drop at xs) ≡ take n (drop at xs)
 part xs at n = let e : at + n - at ≡ n = omega arith in ap (λ k. take k (drop at xs)) e
 

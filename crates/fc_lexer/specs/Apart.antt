@@ -2,7 +2,8 @@
 use Rattle.std.specs.Prelude.{ℕ, suc, ◌≡◌, ◌==◌, true, false, List, [], ◌∷◌, ◌++◌, length, map, Option, Some, None}
 use Rattle.fc_lexer.specs.declared.bytes.Class.{Class}
 use Rattle.fc_lexer.specs.declared.bytes.Class.TheVariants.{Space, Digit, Letter, Slash, Dot, Equals, Single, Other}
-use Rattle.fc_lexer.specs.Bytes.{is_space, is_digit, is_name_byte, is_in_line, is_rest, begins}
+use Rattle.fc_values.specs.Names.{is_digit, is_name_byte}
+use Rattle.fc_lexer.specs.Bytes.{is_space, is_in_line, is_rest, begins}
 use Rattle.fc_lexer.specs.Kinds.{TokenKind, TokenView, token_kind}
 use Rattle.fc_lexer.specs.Lexes.{Lexes}
 
@@ -48,8 +49,11 @@ view_kind t = t.kind
 -- each is a piece, and what follows it doesn't go on with it
 abbrev pub StandApart : List Piece → Type 0
 StandApart [] = Unit {0}
-StandApart (p ∷ ps) = (is_rest (begins p.first) p.others ≡ true) × Breaks (begins p.first) p.others (text_of ps) × StandApart ps
+StandApart (p ∷ ps) =
+    (is_rest (begins p.first) p.others ≡ true) × Breaks (begins p.first) p.others (text_of ps) × StandApart ps
 
 -- the text of pieces that stand apart has tokens of their kinds
 abbrev pub ReadsBack : Type 0
-ReadsBack = (ps : List Piece) → StandApart ps → (tokens : List TokenView) × Lexes (text_of ps) tokens × (map view_kind tokens ≡ kinds_of ps)
+ReadsBack =
+    (ps : List Piece) → StandApart ps → (tokens : List TokenView) × Lexes (text_of ps) tokens
+    × (map view_kind tokens ≡ kinds_of ps)

@@ -1,29 +1,14 @@
 -- Pieces of a text: tokens, runs of spaces, and comments.
-use Rattle.std.specs.Prelude.{ℕ, Bool, true, false, not, ◌&&◌, ◌||◌, ◌==◌, nat_le, if◌then◌else◌, List, [], ◌∷◌}
+use Rattle.std.specs.Prelude.{ℕ, Bool, true, false, not, ◌&&◌, ◌||◌, ◌==◌, if◌then◌else◌, List, [], ◌∷◌}
 use Rattle.std.specs.List.{list_all}
+use Rattle.fc_values.specs.Names.{is_digit, is_letter, is_name_byte}
 use Rattle.fc_lexer.specs.declared.tokens.Mark.TheVariants as mark
 use Rattle.fc_lexer.specs.declared.bytes.Class.{Class}
 use Rattle.fc_lexer.specs.declared.bytes.Class.TheVariants.{Space, Digit, Letter, Slash, Dot, Equals, Single, Other}
 
--- a byte lies from the first to the second, both included
-abbrev pub is_between : ℕ → ℕ → ℕ → Bool
-is_between least greatest b = nat_le least b && nat_le b greatest
-
 -- the space, the tab, the line feed and the carriage return
 abbrev pub is_space : ℕ → Bool
 is_space b = (b == 32) || (b == 9) || (b == 10) || (b == 13)
-
--- `0` to `9`
-abbrev pub is_digit : ℕ → Bool
-is_digit b = is_between 48 57 b
-
--- `a` to `z` and `A` to `Z`
-abbrev pub is_letter : ℕ → Bool
-is_letter b = is_between 97 122 b || is_between 65 90 b
-
--- what follows the first letter of a name: letters, digits and `_`
-abbrev pub is_name_byte : ℕ → Bool
-is_name_byte b = is_letter b || is_digit b || (b == 95)
 
 abbrev pub is_line_feed : ℕ → Bool
 is_line_feed b = b == 10

@@ -3,14 +3,14 @@ use Rattle.std.specs.Prelude.{ℕ, ◌+◌, ◌-◌, ◌*◌, ◌^◌, min, List
 use Rattle.std.specs.Option.{option_map_or}
 use Rattle.fc_lexer.specs.declared.tokens.Mark.{Mark}
 use Rattle.fc_lexer.specs.declared.tokens.Mark.TheVariants as mark
-use Rattle.fc_lexer.specs.declared.tokens.Word.{Word}
+use Rattle.fc_values.specs.declared.names.Word.{Word}
 use Rattle.fc_lexer.specs.declared.tokens.Kind.{Kind}
 use Rattle.fc_lexer.specs.declared.tokens.Kind.TheVariants as kind
 use Rattle.fc_lexer.specs.declared.tokens.Token.{Token}
 use Rattle.fc_lexer.specs.declared.bytes.Class.{Class}
 use Rattle.fc_lexer.specs.declared.bytes.Class.TheVariants.{Space, Digit, Letter, Slash, Dot, Equals, Single, Other}
 use Rattle.fc_lexer.specs.Bytes.{begins}
-use Rattle.fc_lexer.specs.Words.{word_of}
+use Rattle.fc_values.specs.Names.{word_of}
 
 -- a number, a word, a name by its bytes, or a mark
 pub data TokenKind : Type 0 where

@@ -1,7 +1,8 @@
 -- Laws of the tokens of a text.
 use Rattle.std.specs.Prelude.{ℕ, ◌≡◌, ◌-◌, ◌<◌, ◌≤◌, ◌⊎◌, true, List, [], ◌∷◌, ◌++◌, length, take, drop, Some, None}
 use Rattle.fc_lexer.specs.Bytes.{is_piece}
-use Rattle.fc_lexer.specs.Kinds.{TokenView, token_kind}
+use Rattle.fc_values.specs.Names.{IsName}
+use Rattle.fc_lexer.specs.Kinds.{NameOf, TokenView, token_kind}
 use Rattle.fc_lexer.specs.Lexes.{Lexes, StopsAt, line_at}
 
 -- a text has at most one list of tokens
@@ -33,8 +34,20 @@ between text least most = take (most - least) (drop least text)
 abbrev pub StandFrom : List ℕ → ℕ → List TokenView → Type 0
 StandFrom text least [] = (least ≤ length text) × Blank (between text least (length text))
 StandFrom text least (t ∷ ts) =
-    (least ≤ t.start) × Blank (between text least t.start) × (t.start < t.end) × (token_kind (between text t.start t.end) ≡ Some t.kind) × (t.line ≡ line_at text t.start) × StandFrom text t.end ts
+    (least ≤ t.start) × Blank (between text least t.start) × (t.start < t.end)
+        × (token_kind (between text t.start t.end) ≡ Some t.kind) × (t.line ≡ line_at text t.start)
+        × StandFrom text t.end ts
 
 -- so stand the tokens of a text
 abbrev pub SpansRise : Type 0
 SpansRise = (text : List ℕ) (ts : List TokenView) → Lexes text ts → StandFrom text 0 ts
+
+-- the bytes of a name are one piece, which is the token of this name
+abbrev pub NamesAreTokens : Type 0
+NamesAreTokens = (word : List ℕ) → IsName word → (is_piece word ≡ true) × (token_kind word ≡ Some (NameOf word))
+
+-- a piece that is the token of a name is this name
+abbrev pub TokensAreNames : Type 0
+TokensAreNames =
+    (piece name : List ℕ) → is_piece piece ≡ true → token_kind piece ≡ Some (NameOf name) → (name ≡ piece)
+    × IsName name

@@ -1,5 +1,4 @@
 pub mod Bytes
-pub mod Words
 pub mod Kinds
 pub mod Sizes
 pub mod Lexes

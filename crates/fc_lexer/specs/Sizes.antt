@@ -3,7 +3,8 @@ use Rattle.std.specs.Prelude.{ℕ, ◌+◌, ◌==◌, if◌then◌else◌, List,
 use Rattle.std.specs.List.{prefix_len}
 use Rattle.fc_lexer.specs.declared.bytes.Class.{Class}
 use Rattle.fc_lexer.specs.declared.bytes.Class.TheVariants.{Space, Digit, Letter, Slash, Dot, Equals, Single, Other}
-use Rattle.fc_lexer.specs.Bytes.{is_space, is_digit, is_name_byte, is_in_line, begins}
+use Rattle.fc_values.specs.Names.{is_digit, is_name_byte}
+use Rattle.fc_lexer.specs.Bytes.{is_space, is_in_line, begins}
 
 -- of `/` and these bytes
 abbrev pub comment_size : List ℕ → ℕ

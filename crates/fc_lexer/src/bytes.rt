@@ -2,9 +2,11 @@
 
 ghost use Rattle.std.specs.Prelude.{◌≡◌, ◌≤◌, length};
 ghost use Rattle.std.specs.List.{prefix_len};
-ghost use Rattle.fc_lexer.specs.Bytes.{begins, is_digit as digit_test, is_in_line, is_letter as letter_test, is_name_byte as name_byte_test, is_space as space_test, mark_of};
+ghost use Rattle.fc_values.specs.Names.{is_digit as digit_test, is_name_byte as name_byte_test};
+ghost use Rattle.fc_lexer.specs.Bytes.{begins, is_in_line, is_space as space_test, mark_of};
 
 use crate::tokens::Mark;
+use fc_values::{is_digit, is_letter, is_name_byte};
 
 /// What a byte begins.
 #[derive(Clone, Copy, Debug, PartialEq, Eq)]
@@ -25,25 +27,7 @@ fn is_space(byte: u8) -> bool
     byte == b' ' || byte == b'\t' || byte == b'\n' || byte == b'\r'
 }
 
-fn is_digit(byte: u8) -> bool
-    ensures { result ≡ digit_test byte }
-{
-    b'0' <= byte && byte <= b'9'
-}
-
-fn is_letter(byte: u8) -> bool
-    ensures { result ≡ letter_test byte }
-{
-    (b'a' <= byte && byte <= b'z') || (b'A' <= byte && byte <= b'Z')
-}
-
-fn is_name_byte(byte: u8) -> bool
-    ensures { result ≡ name_byte_test byte }
-{
-    is_letter(byte) || is_digit(byte) || byte == b'_'
-}
-
-/// What a byte begins that is no space, digit, letter, slash, dot or equals sign.
+// What a byte begins that is no space, digit, letter, slash, dot or equals sign.
 #[tactic(auto, unfolding(crate::specs::Bytes::mark_of))]
 fn single(byte: u8) -> Class
     ensures { result ≡ mark_of byte }

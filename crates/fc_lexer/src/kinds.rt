@@ -2,19 +2,19 @@
 
 ghost use Rattle.std.specs.Prelude.{◌≡◌, IfOk, option_map, true};
 ghost use Rattle.std.specs.List.{list_all};
-ghost use Rattle.fc_lexer.specs.Bytes.{is_digit, is_piece};
+ghost use Rattle.fc_values.specs.Names.{is_digit};
+ghost use Rattle.fc_lexer.specs.Bytes.{is_piece};
 ghost use Rattle.fc_lexer.specs.Kinds.{kind_view, number_of, token_kind, word_or_name_of};
 
 use crate::bytes::{Class, class_of};
 use crate::tokens::{Kind, Mark};
-use crate::words::find_word;
-use fc_values::{Memory, Name};
+use fc_values::{Memory, Name, find_word};
 use std::alloc::Global;
 
-/// The greatest value of a number token, which stands for every greater number.
+// The greatest value of a number token, which stands for every greater number.
 const GREATEST: u32 = 1_000_001;
 
-/// The lesser of the written number and 1,000,001.
+// The lesser of the written number and 1,000,001.
 fn number(digits: &[u8]) -> u32
     requires { list_all is_digit digits.now ≡ true }
     ensures { result ≡ number_of digits.now }
@@ -26,7 +26,7 @@ fn number(digits: &[u8]) -> u32
     value
 }
 
-/// The word of this spelling, or the name.
+// The word of this spelling, or the name.
 fn word_or_name(alloc: Global, text: &[u8]) -> Result<Kind, Memory>
     ensures { IfOk result (λ kind. kind_view kind ≡ word_or_name_of text.now) }
 {

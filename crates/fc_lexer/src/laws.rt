@@ -1,7 +1,7 @@
 //! Laws of the definitions.
 
 ghost use Rattle.fc_lexer.specs.Apart.{ReadsBack};
-ghost use Rattle.fc_lexer.specs.Laws.{AlwaysOne, NeverBoth, OneList, OneStop, SpansRise};
+ghost use Rattle.fc_lexer.specs.Laws.{AlwaysOne, NamesAreTokens, NeverBoth, OneList, OneStop, SpansRise, TokensAreNames};
 
 /// A text has one list of tokens, or one byte at which nothing begins, and not both.
 pub fn one_reading()
@@ -19,4 +19,10 @@ pub fn spans_rise()
 /// The text of pieces that stand apart is read as these pieces.
 pub fn reads_back()
     ensures { ReadsBack }
+{}
+
+/// Names are the tokens that are read as names, and no others.
+pub fn names_are_read()
+    ensures read { NamesAreTokens }
+    ensures only { TokensAreNames }
 {}

@@ -7,11 +7,11 @@ mod laws;
 mod lexing;
 mod pieces;
 mod tokens;
-mod words;
 
-pub use laws::{one_reading, reads_back, spans_rise};
+pub use fc_values::Word;
+pub use laws::{names_are_read, one_reading, reads_back, spans_rise};
 pub use lexing::lex;
-pub use tokens::{Kind, LexFault, Mark, Token, Word};
+pub use tokens::{Kind, LexFault, Mark, Token};
 
 #[cfg(test)]
 mod tests;

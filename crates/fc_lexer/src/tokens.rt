@@ -3,7 +3,7 @@
 ghost use Rattle.std.specs.Prelude.{◌≡◌};
 ghost use Rattle.fc_lexer.specs.declared.tokens.LexFault.TheVariants as lex_fault;
 
-use fc_values::{Memory, Name};
+use fc_values::{Memory, Name, Word};
 use std::alloc::{AllocError, AllocFailed};
 
 /// A mark: `(` `)` `{` `}` `,` `;` `:` `..` `=` `=>` `+` `-` `*` `<`, in this order.
@@ -23,45 +23,6 @@ pub enum Mark {
     Minus,
     Star,
     Less,
-}
-
-/// A word, which is never a name. Each is spelled as its variant with a small first letter.
-#[derive(Clone, Copy, Debug, PartialEq, Eq)]
-pub enum Word {
-    Ceiling,
-    Input,
-    Metric,
-    Def,
-    Main,
-    Let,
-    In,
-    If,
-    Nbr,
-    Rep,
-    Sense,
-    Uid,
-    NbrLink,
-    Not,
-    And,
-    Or,
-    True,
-    False,
-    Int,
-    Bool,
-    Field,
-    Min,
-    Max,
-    Mux,
-    Fst,
-    Snd,
-    MinHoodLoc,
-    MaxHoodLoc,
-    SumHood,
-    AnyHood,
-    AllHood,
-    Share,
-    Rise,
-    Language,
 }
 
 /// What a token is. A number's value is the lesser of the written number and 1,000,001.

@@ -33,9 +33,6 @@ IsCut n ts = pieces (tokens_of ts) ≡ tokens_of (take n ts) ∷ pieces (tokens_
 abbrev pieces_if : Bool → TokenView → List (List TokenView) → List (List TokenView)
 pieces_if b t more = cond b ((t ∷ []) ∷ more) (onto_piece t more)
 
-pieces_step : (t : Token) (ts : List Token) → pieces (tokens_of (t ∷ ts)) ≡ pieces_if (ends t) (token_view t) (pieces (tokens_of ts))
-pieces_step t ts = refl
-
 cut_last : (b : Bool) (t : Token) → pieces_if b (token_view t) [] ≡ tokens_of (take (size_if b 0) (t ∷ [])) ∷ pieces (tokens_of (drop (size_if b 0) (t ∷ [])))
 cut_last true t = refl
 cut_last false t = refl

@@ -4,8 +4,8 @@ use Rattle.std.proofs.lemmas.Bool.{eqb-true}
 use Rattle.fc_values.specs.declared.types.InputTy.{InputTy}
 use Rattle.fc_values.specs.declared.types.InputTy.TheVariants as input
 use Rattle.fc_lexer.specs.declared.tokens.Mark.TheVariants as mark
-use Rattle.fc_lexer.specs.declared.tokens.Word.{Word}
-use Rattle.fc_lexer.specs.declared.tokens.Word.TheVariants as word
+use Rattle.fc_values.specs.declared.names.Word.{Word}
+use Rattle.fc_values.specs.declared.names.Word.TheVariants as word
 use Rattle.fc_lexer.specs.Kinds.{TokenKind, NumberOf, WordOf, NameOf, MarkOf}
 use Rattle.fc_syntax.specs.Printable.{IsNumber}
 use Rattle.fc_syntax.specs.Terms.{Term, Declaration, LanguageIs, CeilingIs, InputIs, MetricIs, DefIs, MainIs}

@@ -7,7 +7,7 @@ use Rattle.std.specs.Borrow.{Bor}
 use Rattle.fc_values.specs.declared.builtins.Builtin.{Builtin}
 use Rattle.fc_values.specs.declared.types.Name.{Name}
 use Rattle.fc_lexer.specs.declared.tokens.Mark.TheVariants as mark
-use Rattle.fc_lexer.specs.declared.tokens.Word.TheVariants as word
+use Rattle.fc_values.specs.declared.names.Word.TheVariants as word
 use Rattle.fc_lexer.specs.declared.tokens.Token.{Token}
 use Rattle.fc_lexer.specs.Kinds.{TokenKind, WordOf}
 use Rattle.std.specs.declared.vec.Vec.{Vec}
@@ -66,10 +66,6 @@ rebound ps qs p f g e is = ap (nested ps) is ∙ sym (nested-snoc ps p f) ∙ ap
 -- a body's reading, behind bindings
 abbrev pub behind : List (Name × Expr) → Read Term → Read Term
 behind ps x = x >>= λ f r. Got (nested ps f) r
-
-pub behind-none : (x : Read Term) → behind [] x ≡ x
-behind-none (Got f r) = refl
-behind-none Not = refl
 
 -- arguments, and those after them
 abbrev pub onto : List Term → Terms → Terms

@@ -4,8 +4,8 @@ use Rattle.std.proofs.lemmas.Bool.Decides.{nat_tests}
 use Rattle.fc_values.specs.declared.builtins.Builtin.{Builtin}
 use Rattle.fc_values.specs.declared.builtins.Builtin.TheVariants as b
 use Rattle.fc_lexer.specs.declared.tokens.Mark.TheVariants as mark
-use Rattle.fc_lexer.specs.declared.tokens.Word.{Word}
-use Rattle.fc_lexer.specs.declared.tokens.Word.TheVariants as word
+use Rattle.fc_values.specs.declared.names.Word.{Word}
+use Rattle.fc_values.specs.declared.names.Word.TheVariants as word
 use Rattle.fc_lexer.specs.Kinds.{TokenKind, MarkOf, WordOf}
 use Rattle.fc_syntax.specs.Terms.{Term, ApplyTerm, Terms, NoTerms, MoreTerms}
 use Rattle.fc_syntax.specs.Text.{text, written, all_written, placed, builtin_strength, builtin_word, left_asks, apply_text, call_text, between_text, with_commas}

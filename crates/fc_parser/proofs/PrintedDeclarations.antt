@@ -4,11 +4,12 @@ use Rattle.fc_values.specs.Types.{ValueType}
 use Rattle.fc_values.specs.declared.types.InputTy.{InputTy}
 use Rattle.fc_values.specs.declared.types.InputTy.TheVariants as input
 use Rattle.fc_lexer.specs.declared.tokens.Mark.TheVariants as mark
-use Rattle.fc_lexer.specs.declared.tokens.Word.TheVariants as word
+use Rattle.fc_values.specs.declared.names.Word.TheVariants as word
 use Rattle.fc_lexer.specs.Kinds.{TokenKind, NumberOf, WordOf, NameOf, MarkOf}
 use Rattle.fc_syntax.specs.Terms.{Term, Parameter, Declaration, LanguageIs, CeilingIs, InputIs, MetricIs, DefIs, MainIs}
 use Rattle.fc_syntax.specs.Text.{text, with_commas, type_text, input_type_text, parameter_text, declaration_text}
-use Rattle.fc_syntax.specs.Printable.{IsNumber, IsName, IsInputType, HaveNames, IsExpression, IsInner}
+use Rattle.fc_values.specs.Names.{IsName}
+use Rattle.fc_syntax.specs.Printable.{IsNumber, IsInputType, HaveNames, IsExpression, IsInner}
 use Rattle.fc_parser.specs.Grammar.{DeclarationIs}
 use Rattle.fc_parser.proofs.PrintedRuns.{InWord, InSpace, Meets, Inner, join, as_is, meets_more}
 use Rattle.fc_parser.proofs.PrintedSeams.{seam_three, seam_closed}

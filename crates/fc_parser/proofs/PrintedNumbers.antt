@@ -1,28 +1,17 @@
 -- The pieces that are numbers.
 use Rattle.std.proofs.Common.{ℕ, suc, ◌≡◌, ◌+◌, ◌-◌, ◌*◌, ◌^◌, ◌/◌, ◌%◌, ◌<◌, ◌≤◌, Bool, true, false, ◌&&◌, ◌||◌, ◌==◌, List, [], ◌∷◌, ◌++◌, length, min, refl, ap, ◌∙◌, sym, subst, arith, length-append, decimal, if◌then◌else◌}
 use Rattle.std.specs.List.{list_all}
-use Rattle.std.proofs.Math.Nat.{pow-suc}
 use Rattle.std.proofs.lemmas.Fmt.{decimal_by_steps}
 use Rattle.std.proofs.lemmas.List.Folds.{list_all-append}
 use Rattle.std.proofs.lemmas.Bool.Decides.{nat_tests}
-use Rattle.fc_lexer.specs.declared.bytes.Class.{Class}
-use Rattle.fc_lexer.specs.declared.bytes.Class.TheVariants.{Space, Digit}
-use Rattle.fc_lexer.specs.Bytes.{begins, is_rest, is_space, is_digit, is_letter}
+use Rattle.fc_lexer.specs.declared.bytes.Class.TheVariants.{Digit}
+use Rattle.fc_values.specs.Names.{is_digit, is_letter}
+use Rattle.fc_lexer.specs.Bytes.{begins, is_rest, is_space}
 use Rattle.fc_lexer.specs.Kinds.{NumberOf, token_kind_as, written}
 use Rattle.fc_lexer.specs.Apart.{Breaks, kind_as}
+use Rattle.fc_lexer.proofs.Digits.{digit_begins, digit_no_space, written_more}
 use Rattle.fc_syntax.specs.Printable.{IsNumber}
 use Rattle.fc_parser.proofs.PrintedRuns.{InWord, InSpace, Follows, Meets, Inner, one_piece}
-
-power_more : (ds : List ℕ) (d : ℕ) → 10 ^ length (ds ++ d ∷ []) ≡ 10 ^ length ds * 10
-power_more ds d = let e : length (ds ++ d ∷ []) ≡ suc (length ds) = omega (arith, length-append ds (d ∷ [])) in ap (λ k. 10 ^ k) e ∙ pow-suc 10 (length ds)
-
-place_more : (x p q w d : ℕ) → q ≡ p * 10 → x * q + (w * 10 + d) ≡ (x * p + w) * 10 + d
-place_more x p q w d e = let f : x * q ≡ x * (p * 10) = ap (λ t. x * t) e in omega arith
-
-written_more : (ds : List ℕ) (d : ℕ) → written (ds ++ d ∷ []) ≡ written ds * 10 + (d - 48)
-written_more [] d = omega arith
-written_more (x ∷ ds) d =
-    ap (λ w. (x - 48) * 10 ^ length (ds ++ d ∷ []) + w) (written_more ds d) ∙ place_more (x - 48) (10 ^ length ds) (10 ^ length (ds ++ d ∷ [])) (written ds) (d - 48) (power_more ds d)
 
 -- digits, one at least, that write a number
 record Writes (n : ℕ) (ds : List ℕ) : Type 0 where
@@ -49,19 +38,6 @@ writes_more n ds h w =
 
 writes_decimal : (n : ℕ) → IsNumber n → Writes n (decimal n)
 writes_decimal n h = decimal_by_steps Writes writes_one writes_more n (omega arith)
-
--- a digit is no space
-digit_no_space : (b : ℕ) → is_digit b ≡ true → is_space b ≡ false
-digit_no_space b h = grind (arith, nat_tests)
-
-second_of : (s d : Bool) (rest : Class) → s ≡ false → d ≡ true → (if s then Space else if d then Digit else rest) ≡ Digit
-second_of false true rest a b = refl
-second_of false false rest a b = cc
-second_of true d rest a b = cc
-
-digit_begins : (b : ℕ) → is_digit b ≡ true → begins b ≡ Digit
-unfolding begins
-digit_begins b h = second_of (is_space b) (is_digit b) _ (digit_no_space b h) h
 
 not_middle : (a b c : Bool) → (a || b || c) ≡ false → b ≡ false
 not_middle a false c h = refl

@@ -2,7 +2,8 @@
 use Rattle.std.proofs.Common.{ℕ, ◌≡◌, true, false, ◌||◌, ◌==◌, List, [], ◌∷◌, ◌++◌, refl, ap, ◌∙◌, sym, subst, append_assoc, append-nil}
 use Rattle.std.specs.List.{list_any}
 use Rattle.std.proofs.lemmas.List.Folds.{list_any-append}
-use Rattle.fc_lexer.specs.Bytes.{is_space, is_name_byte, is_rest, begins}
+use Rattle.fc_values.specs.Names.{is_name_byte}
+use Rattle.fc_lexer.specs.Bytes.{is_space, is_rest, begins}
 use Rattle.fc_lexer.specs.Kinds.{TokenKind, token_kind}
 use Rattle.fc_lexer.specs.Apart.{Breaks, Piece, StandApart, kind_as, kinds_of, text_of}
 use Rattle.fc_parser.specs.Programs.{is_semi}

@@ -10,9 +10,6 @@ seam_five a b c d e = simp append_assoc
 pub seam_six : {A : Type 0} (a b c d e f : List A) → a ++ (b ++ (c ++ (d ++ (e ++ f)))) ≡ a ++ b ++ c ++ d ++ e ++ f
 seam_six a b c d e f = simp append_assoc
 
-pub seam_seven : {A : Type 0} (a b c d e f g : List A) → a ++ (b ++ (c ++ (d ++ (e ++ (f ++ g))))) ≡ a ++ b ++ c ++ d ++ e ++ f ++ g
-seam_seven a b c d e f g = simp append_assoc
-
 -- with a mark and the space behind it in one
 pub seam_between : {A : Type 0} (a b c d e : List A) → a ++ (b ++ ((c ++ d) ++ e)) ≡ a ++ b ++ c ++ d ++ e
 seam_between a b c d e = simp append_assoc

@@ -1,11 +1,12 @@
 -- Each expression of the grammar, as it is printed.
 use Rattle.std.proofs.Common.{ℕ, ◌≡◌, Bool, true, false, List, [], ◌∷◌, ◌++◌, codes, refl, ap}
 use Rattle.fc_lexer.specs.declared.tokens.Mark.TheVariants as mark
-use Rattle.fc_lexer.specs.declared.tokens.Word.TheVariants as word
+use Rattle.fc_values.specs.declared.names.Word.TheVariants as word
 use Rattle.fc_lexer.specs.Kinds.{NumberOf, WordOf, NameOf, MarkOf}
 use Rattle.fc_syntax.specs.Terms.{Term, IntTerm, TruthTerm, VarTerm, UidTerm, NbrLinkTerm, SenseTerm, ApplyTerm, NbrTerm, RepTerm, ShareTerm, IfTerm, LetTerm, CallTerm, Terms, NoTerms, MoreTerms}
 use Rattle.fc_syntax.specs.Text.{text, with_commas}
-use Rattle.fc_syntax.specs.Printable.{IsName, IsExpression, AreExpressions}
+use Rattle.fc_values.specs.Names.{IsName}
+use Rattle.fc_syntax.specs.Printable.{IsExpression, AreExpressions}
 use Rattle.fc_parser.specs.Grammar.{Atom, atom, binding}
 use Rattle.fc_parser.proofs.PrintedRuns.{InSpace, join, loose, as_is, meets_more}
 use Rattle.fc_parser.proofs.PrintedSeams.{seam_four, seam_five, seam_six}

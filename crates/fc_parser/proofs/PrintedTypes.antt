@@ -2,11 +2,12 @@
 use Rattle.std.proofs.Common.{List, [], ◌∷◌, ◌++◌, map, codes, refl, ap, sym, append_assoc}
 use Rattle.fc_values.specs.Types.{LocalType, IntType, BoolType, PairType, ValueType, TypeLocal, TypeField}
 use Rattle.fc_lexer.specs.declared.tokens.Mark.TheVariants as mark
-use Rattle.fc_lexer.specs.declared.tokens.Word.TheVariants as word
+use Rattle.fc_values.specs.declared.names.Word.TheVariants as word
 use Rattle.fc_lexer.specs.Kinds.{TokenKind, WordOf, NameOf, MarkOf}
 use Rattle.fc_syntax.specs.Terms.{Parameter}
 use Rattle.fc_syntax.specs.Text.{behind_commas, with_commas, local_type_text, type_text, parameter_text}
-use Rattle.fc_syntax.specs.Printable.{IsName, HaveNames}
+use Rattle.fc_values.specs.Names.{IsName}
+use Rattle.fc_syntax.specs.Printable.{HaveNames}
 use Rattle.fc_parser.specs.Grammar.{LocalIs, int_type, bool_type, pair_type, TypeIs, local_type, field_type, ParameterIs, parameter, MoreParametersAre, ParametersAre}
 use Rattle.fc_parser.proofs.PrintedRuns.{InWord, InSpace, Free, Meets, Inner, join, loose, as_is, meets_more}
 use Rattle.fc_parser.proofs.PrintedSeams.{seam_three, seam_four}

@@ -1,12 +1,13 @@
 -- The pieces that are words.
 use Rattle.std.proofs.Common.{ℕ, ◌≡◌, true, List, [], ◌∷◌, refl, ap, ◌∙◌, sym, subst}
 use Rattle.std.specs.List.{list_all}
-use Rattle.fc_lexer.specs.declared.tokens.Word.{Word}
-use Rattle.fc_lexer.specs.declared.tokens.Word.TheVariants as word
+use Rattle.fc_values.specs.declared.names.Word.{Word}
+use Rattle.fc_values.specs.declared.names.Word.TheVariants as word
 use Rattle.fc_lexer.specs.declared.bytes.Class.TheVariants.{Letter}
-use Rattle.fc_lexer.specs.Bytes.{begins, is_rest, is_name_byte}
+use Rattle.fc_values.specs.Names.{is_name_byte}
+use Rattle.fc_lexer.specs.Bytes.{begins, is_rest}
 use Rattle.fc_lexer.specs.Kinds.{TokenKind, WordOf, token_kind_as, word_or_name_of}
-use Rattle.fc_lexer.specs.Words.{spelling, word_of}
+use Rattle.fc_values.specs.Names.{spelling, word_of}
 use Rattle.fc_lexer.specs.Apart.{Breaks, kind_as}
 use Rattle.fc_parser.proofs.PrintedRuns.{InWord, Follows, Run, Inner, one_piece}
 

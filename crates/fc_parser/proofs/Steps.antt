@@ -124,10 +124,6 @@ pub number_there : (n : ℕ) (r : List TokenKind) → IsNumber n → number_read
 unfolding number_read
 number_there n r h = ap (λ b. if b then Got n r else Not) (le-leb n 1000000 h)
 
-pub name_there : (x : List ℕ) (r : List TokenKind) → name_read (NameOf x ∷ r) ≡ Got x r
-unfolding name_read
-name_there x r = refl
-
 pub finish_there : finish_read (MarkOf mark.Semi ∷ []) ≡ Got tt []
 unfolding finish_read mark_read
 finish_there = refl

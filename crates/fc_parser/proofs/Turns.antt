@@ -20,28 +20,12 @@ pub record LimitsAlike (tokens rest : List Token) (number : ℕ) : Type 0 where
   pub few : number + length rest ≤ length tokens + 1
   pub same : first_passed number (pieces (tokens_of rest)) ≡ limit_passed (tokens_of tokens)
 
-pub within_limits : (tokens rest piece after : List Token) (number : ℕ) → LimitsAlike tokens rest number → pieces (tokens_of rest) ≡ tokens_of piece ∷ pieces (tokens_of after) → length piece + length after ≡ length rest → 0 < length piece
-    → passed_by number (tokens_of piece) ≡ None → LimitsAlike tokens after (number + 1)
-within_limits tokens rest piece after number l cut sizes some none = record {
-  counted = omega (arith, l.counted);
-  few = omega (arith, l.few, sizes, some);
-  same = sym (ap (first_passed number) cut ∙ ap (λ o. or_else o (first_passed (number + 1) (pieces (tokens_of after)))) none) ∙ l.same;
-}
-
-pub passes_limit : (tokens rest piece after : List Token) (number : ℕ) (passed : Passed) → LimitsAlike tokens rest number → pieces (tokens_of rest) ≡ tokens_of piece ∷ pieces (tokens_of after)
-    → passed_by number (tokens_of piece) ≡ Some passed → limit_passed (tokens_of tokens) ≡ Some passed
-passes_limit tokens rest piece after number passed l cut some =
-    sym l.same ∙ ap (first_passed number) cut ∙ ap (λ o. or_else o (first_passed (number + 1) (pieces (tokens_of after)))) some
-
 -- what follows from the rest on, behind the declarations so far, is what follows from the whole
 pub record DerivesAlike (tokens rest : List Token) (ds : List Declaration) (place : Place) (number line : ℕ) : Type 0 where
   pub counted : 1 ≤ number
   pub few : number + number + length rest ≤ length tokens + 2
   pub follows : (es : List Declaration) → Follow place (pieces (tokens_of rest)) es → Follow First (pieces (tokens_of tokens)) (ds ++ es)
   pub faults : (n l : ℕ) → FaultFrom place number line (pieces (tokens_of rest)) n l → FaultFrom First 1 1 (pieces (tokens_of tokens)) n l
-
-pub derives_start : (tokens : List Token) → DerivesAlike tokens tokens [] First 1 1
-derives_start tokens = record { counted = omega arith; few = omega arith; follows = λ es f. f; faults = λ n l f. f }
 
 pub derives_next : (tokens rest piece after : List Token) (ds : List Declaration) (d : Declaration) (place next : Place) (number line : ℕ) → DerivesAlike tokens rest ds place number line
     → pieces (tokens_of rest) ≡ tokens_of piece ∷ pieces (tokens_of after) → length piece + length after ≡ length rest → 2 ≤ length piece

@@ -2,7 +2,7 @@
 use Rattle.std.proofs.Common.{ℕ, zero, suc, ◌≡◌, ◌≤◌, List, [], ◌∷◌, ◌++◌, length, refl, ap, ◌∙◌, sym, subst, append_assoc, append-nil, arith, length-append}
 use Rattle.fc_values.specs.Types.{LocalType, IntType, BoolType, PairType, ValueType, TypeLocal, TypeField}
 use Rattle.fc_lexer.specs.declared.tokens.Mark.TheVariants as mark
-use Rattle.fc_lexer.specs.declared.tokens.Word.TheVariants as word
+use Rattle.fc_values.specs.declared.names.Word.TheVariants as word
 use Rattle.fc_lexer.specs.Kinds.{TokenKind, WordOf, NameOf, MarkOf}
 use Rattle.fc_syntax.specs.Terms.{Parameter}
 use Rattle.fc_parser.specs.Grammar.{LocalIs, int_type, bool_type, pair_type, TypeIs, local_type, field_type, ParameterIs, parameter, MoreParametersAre, no_more, more, ParametersAre, none, some}

@@ -3,8 +3,8 @@ use Rattle.std.specs.Prelude.{ℕ, ◌==◌, if◌then◌else◌, Bool, [], ◌�
 use Rattle.fc_values.specs.declared.types.InputTy.{InputTy}
 use Rattle.fc_values.specs.declared.types.InputTy.TheVariants as input
 use Rattle.fc_lexer.specs.declared.tokens.Mark.TheVariants as mark
-use Rattle.fc_lexer.specs.declared.tokens.Word.{Word}
-use Rattle.fc_lexer.specs.declared.tokens.Word.TheVariants as word
+use Rattle.fc_values.specs.declared.names.Word.{Word}
+use Rattle.fc_values.specs.declared.names.Word.TheVariants as word
 use Rattle.fc_lexer.specs.Kinds.{NumberOf, WordOf, NameOf, MarkOf}
 use Rattle.fc_syntax.specs.Terms.{Term, Declaration, LanguageIs, CeilingIs, InputIs, MetricIs, DefIs, MainIs}
 use Rattle.fc_parser.specs.Reading.{Got, Not, Reader, ◌>>=◌}
@@ -19,7 +19,8 @@ pub record Range : Type 0 where
 
 -- NUMBER .. NUMBER
 unfoldable pub range_read : Reader Range
-range_read ts = number_read ts >>= λ m a. mark_read mark.Dots a >>= λ _ b. number_read b >>= λ n rest. Got (record { least = m; greatest = n }) rest
+range_read ts =
+    number_read ts >>= λ m a. mark_read mark.Dots a >>= λ _ b. number_read b >>= λ n rest. Got (record { least = m; greatest = n }) rest
 
 -- bool, or int NUMBER .. NUMBER
 unfoldable pub input_type_read : Reader InputTy
@@ -29,7 +30,8 @@ input_type_read _ = Not
 
 -- = expr ;
 unfoldable pub body_read : Bool → Reader Term
-body_read second ts = mark_read mark.Is ts >>= λ _ a. expression_read second a >>= λ e b. finish_read b >>= λ _ rest. Got e rest
+body_read second ts =
+    mark_read mark.Is ts >>= λ _ a. expression_read second a >>= λ e b. finish_read b >>= λ _ rest. Got e rest
 
 -- what follows each word that begins a declaration
 unfoldable pub language_read : Reader Declaration
@@ -39,7 +41,8 @@ unfoldable pub ceiling_read : Reader Declaration
 ceiling_read ts = number_read ts >>= λ n a. finish_read a >>= λ _ rest. Got (CeilingIs n) rest
 
 unfoldable pub input_read : Reader Declaration
-input_read ts = name_read ts >>= λ x a. mark_read mark.Colon a >>= λ _ b. input_type_read b >>= λ t c. finish_read c >>= λ _ rest. Got (InputIs x t) rest
+input_read ts =
+    name_read ts >>= λ x a. mark_read mark.Colon a >>= λ _ b. input_type_read b >>= λ t c. finish_read c >>= λ _ rest. Got (InputIs x t) rest
 
 unfoldable pub metric_read : Reader Declaration
 metric_read ts = range_read ts >>= λ r a. finish_read a >>= λ _ rest. Got (MetricIs r.least r.greatest) rest

@@ -8,8 +8,8 @@ use Rattle.fc_values.specs.declared.builtins.Builtin.TheVariants as b
 use Rattle.fc_values.specs.declared.types.Name.{Name}
 use Rattle.fc_lexer.specs.declared.tokens.Mark.{Mark}
 use Rattle.fc_lexer.specs.declared.tokens.Mark.TheVariants as mark
-use Rattle.fc_lexer.specs.declared.tokens.Word.{Word}
-use Rattle.fc_lexer.specs.declared.tokens.Word.TheVariants as word
+use Rattle.fc_values.specs.declared.names.Word.{Word}
+use Rattle.fc_values.specs.declared.names.Word.TheVariants as word
 use Rattle.fc_lexer.specs.declared.tokens.Token.{Token}
 use Rattle.fc_lexer.specs.Kinds.{TokenKind, NumberOf, WordOf, NameOf, MarkOf, tokens_of}
 use Rattle.fc_syntax.specs.declared.tree.Expr.{Expr}
@@ -88,12 +88,14 @@ binder_read ts =
 
 -- an expression between two marks
 unfoldable pub enclosed_with : Mark → Mark → Reader Term → Reader Term
-enclosed_with opening closing inner ts = mark_read opening ts >>= λ _ a. inner a >>= λ e b. mark_read closing b >>= λ _ c. Got e c
+enclosed_with opening closing inner ts =
+    mark_read opening ts >>= λ _ a. inner a >>= λ e b. mark_read closing b >>= λ _ c. Got e c
 
 -- { , expr }
 unfoldable pub more_with : Reader Term → ℕ → Reader Terms
 more_with inner zero ts = Got NoTerms ts
-more_with inner (suc k) ts = if_got (mark_read mark.Comma ts) (λ _ a. inner a >>= λ e b. more_with inner k b >>= λ es c. Got (MoreTerms e es) c) (Got NoTerms ts)
+more_with inner (suc k) ts =
+    if_got (mark_read mark.Comma ts) (λ _ a. inner a >>= λ e b. more_with inner k b >>= λ es c. Got (MoreTerms e es) c) (Got NoTerms ts)
 
 -- [ expr { , expr } ] )
 unfoldable pub arguments_with : Reader Term → Reader Terms
@@ -102,7 +104,8 @@ arguments_with inner ts =
 
 -- a name, which is a variable or called
 unfoldable pub named_with : Reader Term → List ℕ → Reader Term
-named_with inner x ts = if_got (mark_read mark.OpenRound ts) (λ _ a. arguments_with inner a >>= λ es b. Got (CallTerm x es) b) (Got (VarTerm x) ts)
+named_with inner x ts =
+    if_got (mark_read mark.OpenRound ts) (λ _ a. arguments_with inner a >>= λ es b. Got (CallTerm x es) b) (Got (VarTerm x) ts)
 
 -- whether a language has a builtin
 abbrev pub has_builtin : Bool → Builtin → Bool
@@ -116,7 +119,8 @@ applied o es ts = if count es == arity o then Got (ApplyTerm o es) ts else Not
 -- a builtin's arguments
 unfoldable pub builtin_with : Bool → Reader Term → Option Builtin → Reader Term
 builtin_with second inner None ts = Not
-builtin_with second inner (Some o) ts = if has_builtin second o then (mark_read mark.OpenRound ts >>= λ _ a. arguments_with inner a >>= applied o) else Not
+builtin_with second inner (Some o) ts =
+    if has_builtin second o then (mark_read mark.OpenRound ts >>= λ _ a. arguments_with inner a >>= applied o) else Not
 
 abbrev pub fold_term : Bool → Term → List ℕ → Term → Term
 fold_term true e x f = ShareTerm e x f
@@ -179,7 +183,8 @@ unary_with atom ts = atom (after_nots ts) >>= λ e a. Got (negated (count_nots t
 -- at most so many operators of a strength, each with its right operand, after what stands left of them
 unfoldable pub chain_with : ℕ → Reader Term → ℕ → Term → Reader Term
 chain_with n below zero e ts = Got e ts
-chain_with n below (suc k) e ts = if_got (operator_read n ts) (λ o a. below a >>= λ f c. chain_with n below k (ApplyTerm o (two e f)) c) (Got e ts)
+chain_with n below (suc k) e ts =
+    if_got (operator_read n ts) (λ o a. below a >>= λ f c. chain_with n below k (ApplyTerm o (two e f)) c) (Got e ts)
 
 -- how many operators of a strength may stand in a row before these tokens: a comparison stands alone
 abbrev pub turns : ℕ → ℕ → ℕ
@@ -201,7 +206,8 @@ operations_with atom n = operations_left atom (7 - n)
 
 -- NAME = expr in
 unfoldable pub binding_with : Reader Term → Reader (List ℕ × Term)
-binding_with inner ts = name_read ts >>= λ x a. mark_read mark.Is a >>= λ _ b. inner b >>= λ e c. in_read c >>= λ _ d. Got (x, e) d
+binding_with inner ts =
+    name_read ts >>= λ x a. mark_read mark.Is a >>= λ _ b. inner b >>= λ e c. in_read c >>= λ _ d. Got (x, e) d
 
 -- a body behind these bindings
 abbrev pub nested : List (Name × Expr) → Term → Term

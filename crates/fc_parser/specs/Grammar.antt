@@ -17,8 +17,8 @@ use Rattle.fc_values.specs.declared.builtins.Builtin.TheVariants as b
 use Rattle.fc_values.specs.declared.types.InputTy.TheVariants as input
 use Rattle.fc_values.specs.Types.{LocalType, IntType, BoolType, PairType, ValueType, TypeLocal, TypeField}
 use Rattle.fc_lexer.specs.declared.tokens.Mark.TheVariants as mark
-use Rattle.fc_lexer.specs.declared.tokens.Word.{Word}
-use Rattle.fc_lexer.specs.declared.tokens.Word.TheVariants as word
+use Rattle.fc_values.specs.declared.names.Word.{Word}
+use Rattle.fc_values.specs.declared.names.Word.TheVariants as word
 use Rattle.fc_lexer.specs.Kinds.{TokenKind, NumberOf, WordOf, NameOf, MarkOf}
 use Rattle.fc_syntax.specs.Terms.{Term, IntTerm, TruthTerm, VarTerm, UidTerm, NbrLinkTerm, SenseTerm, ApplyTerm, NbrTerm, RepTerm, ShareTerm, IfTerm, LetTerm, CallTerm, Terms, NoTerms, MoreTerms, Parameter, Declaration, LanguageIs, CeilingIs, InputIs, MetricIs, DefIs, MainIs}
 use Rattle.fc_syntax.specs.Text.{builtin_strength, left_asks}
@@ -62,15 +62,19 @@ mutual
   -- expr
   pub data Expression (second : Bool) : List TokenKind → Term → Type 0 where
     binding : (x : List ℕ) (ts us : List TokenKind) (e f : Term) → Expression second ts e → Expression second us f
-        → Expression second (WordOf word.Let ∷ NameOf x ∷ MarkOf mark.Is ∷ (ts ++ (WordOf word.In ∷ us))) (LetTerm x e f)
+        → Expression second (WordOf word.Let ∷ NameOf x ∷ MarkOf mark.Is
+            ∷ (ts ++ (WordOf word.In ∷ us))) (LetTerm x e f)
     operation : (ts : List TokenKind) (e : Term) → Operation second 1 ts e → Expression second ts e
 
   -- An expression at a place that asks this strength: disj 1, conj 2, comp 3, sum 4, prod 5, unary 6, atom 7. What stands
   -- left of an operator may be of the operator's own strength, but at a comparison it is stronger.
   pub data Operation (second : Bool) : ℕ → List TokenKind → Term → Type 0 where
-    between : (n : ℕ) (k : TokenKind) (o : Builtin) (ts us : List TokenKind) (e f : Term) → operator k ≡ Some o → builtin_strength o ≡ n
-        → Operation second (left_asks n) ts e → Operation second (suc n) us f → Operation second n (ts ++ (k ∷ us)) (ApplyTerm o (two e f))
-    negation : (n : ℕ) (ts : List TokenKind) (e : Term) → n ≡ 6 → Operation second n ts e → Operation second n (WordOf word.Not ∷ ts) (ApplyTerm b.Not (one e))
+    between : (n : ℕ) (k : TokenKind) (o : Builtin) (ts us : List TokenKind) (e f : Term) → operator k ≡ Some o
+        → builtin_strength o ≡ n
+        → Operation second (left_asks n) ts e → Operation second (suc n) us f
+            → Operation second n (ts ++ (k ∷ us)) (ApplyTerm o (two e f))
+    negation : (n : ℕ) (ts : List TokenKind) (e : Term) → n ≡ 6 → Operation second n ts e
+        → Operation second n (WordOf word.Not ∷ ts) (ApplyTerm b.Not (one e))
     stronger : (n : ℕ) (ts : List TokenKind) (e : Term) → Operation second (suc n) ts e → Operation second n ts e
     atom : (n : ℕ) (ts : List TokenKind) (e : Term) → n ≡ 7 → Atom second ts e → Operation second n ts e
 
@@ -86,29 +90,43 @@ mutual
     call : (f : List ℕ) (ts : List TokenKind) (es : Terms) → Arguments second ts es
         → Atom second (NameOf f ∷ MarkOf mark.OpenRound ∷ (ts ++ (MarkOf mark.CloseRound ∷ []))) (CallTerm f es)
     -- a builtin's word, and as many arguments as it has
-    builtin : (w : Word) (o : Builtin) (ts : List TokenKind) (es : Terms) → named w ≡ Some o → IsOfLanguage second o → count es ≡ arity o → Arguments second ts es
+    builtin : (w : Word) (o : Builtin) (ts : List TokenKind) (es : Terms) → named w ≡ Some o → IsOfLanguage second o
+        → count es ≡ arity o → Arguments second ts es
         → Atom second (WordOf w ∷ MarkOf mark.OpenRound ∷ (ts ++ (MarkOf mark.CloseRound ∷ []))) (ApplyTerm o es)
     -- nbr { expr }
-    nbr : (ts : List TokenKind) (e : Term) → Expression second ts e → Atom second (WordOf word.Nbr ∷ MarkOf mark.OpenCurly ∷ (ts ++ (MarkOf mark.CloseCurly ∷ []))) (NbrTerm e)
+    nbr : (ts : List TokenKind) (e : Term) → Expression second ts e
+        → Atom second (WordOf word.Nbr ∷ MarkOf mark.OpenCurly ∷ (ts ++ (MarkOf mark.CloseCurly ∷ []))) (NbrTerm e)
     -- rep ( expr ) { ( NAME ) => expr }
     rep : (x : List ℕ) (ts us : List TokenKind) (e f : Term) → Expression second ts e → Expression second us f
-        → Atom second (WordOf word.Rep ∷ MarkOf mark.OpenRound ∷ (ts ++ (MarkOf mark.CloseRound ∷ MarkOf mark.OpenCurly ∷ MarkOf mark.OpenRound ∷ NameOf x ∷ MarkOf mark.CloseRound ∷ MarkOf mark.Arrow ∷ (us ++ (MarkOf mark.CloseCurly ∷ []))))) (RepTerm e x f)
+        → Atom second (WordOf word.Rep ∷ MarkOf mark.OpenRound
+            ∷ (ts ++ (MarkOf mark.CloseRound ∷ MarkOf mark.OpenCurly ∷ MarkOf mark.OpenRound ∷ NameOf x
+            ∷ MarkOf mark.CloseRound ∷ MarkOf mark.Arrow ∷ (us ++ (MarkOf mark.CloseCurly ∷ []))))) (RepTerm e x f)
     -- share ( expr ) { ( NAME ) => expr }
-    share : (x : List ℕ) (ts us : List TokenKind) (e f : Term) → second ≡ true → Expression second ts e → Expression second us f
-        → Atom second (WordOf word.Share ∷ MarkOf mark.OpenRound ∷ (ts ++ (MarkOf mark.CloseRound ∷ MarkOf mark.OpenCurly ∷ MarkOf mark.OpenRound ∷ NameOf x ∷ MarkOf mark.CloseRound ∷ MarkOf mark.Arrow ∷ (us ++ (MarkOf mark.CloseCurly ∷ []))))) (ShareTerm e x f)
+    share : (x : List ℕ) (ts us : List TokenKind) (e f : Term) → second ≡ true → Expression second ts e
+        → Expression second us f
+        → Atom second (WordOf word.Share ∷ MarkOf mark.OpenRound
+            ∷ (ts ++ (MarkOf mark.CloseRound ∷ MarkOf mark.OpenCurly ∷ MarkOf mark.OpenRound ∷ NameOf x
+            ∷ MarkOf mark.CloseRound ∷ MarkOf mark.Arrow ∷ (us ++ (MarkOf mark.CloseCurly ∷ []))))) (ShareTerm e x f)
     -- if ( expr ) { expr } { expr }
-    choice : (ts us vs : List TokenKind) (c e f : Term) → Expression second ts c → Expression second us e → Expression second vs f
-        → Atom second (WordOf word.If ∷ MarkOf mark.OpenRound ∷ (ts ++ (MarkOf mark.CloseRound ∷ MarkOf mark.OpenCurly ∷ (us ++ (MarkOf mark.CloseCurly ∷ MarkOf mark.OpenCurly ∷ (vs ++ (MarkOf mark.CloseCurly ∷ []))))))) (IfTerm c e f)
+    choice : (ts us vs : List TokenKind) (c e f : Term) → Expression second ts c → Expression second us e
+        → Expression second vs f
+        → Atom second (WordOf word.If ∷ MarkOf mark.OpenRound
+            ∷ (ts ++ (MarkOf mark.CloseRound ∷ MarkOf mark.OpenCurly
+            ∷ (us ++ (MarkOf mark.CloseCurly ∷ MarkOf mark.OpenCurly
+            ∷ (vs ++ (MarkOf mark.CloseCurly ∷ []))))))) (IfTerm c e f)
     -- ( expr ), which leaves no trace
-    bracket : (ts : List TokenKind) (e : Term) → Expression second ts e → Atom second (MarkOf mark.OpenRound ∷ (ts ++ (MarkOf mark.CloseRound ∷ []))) e
+    bracket : (ts : List TokenKind) (e : Term) → Expression second ts e
+        → Atom second (MarkOf mark.OpenRound ∷ (ts ++ (MarkOf mark.CloseRound ∷ []))) e
     -- ( expr , expr )
     pair : (ts us : List TokenKind) (e f : Term) → Expression second ts e → Expression second us f
-        → Atom second (MarkOf mark.OpenRound ∷ (ts ++ (MarkOf mark.Comma ∷ (us ++ (MarkOf mark.CloseRound ∷ []))))) (ApplyTerm b.Pair (two e f))
+        → Atom second (MarkOf mark.OpenRound
+            ∷ (ts ++ (MarkOf mark.Comma ∷ (us ++ (MarkOf mark.CloseRound ∷ []))))) (ApplyTerm b.Pair (two e f))
 
   -- [ expr { , expr } ]
   pub data Arguments (second : Bool) : List TokenKind → Terms → Type 0 where
     none : Arguments second [] NoTerms
-    some : (ts us : List TokenKind) (e : Term) (es : Terms) → Expression second ts e → MoreArguments second us es → Arguments second (ts ++ us) (MoreTerms e es)
+    some : (ts us : List TokenKind) (e : Term) (es : Terms) → Expression second ts e → MoreArguments second us es
+        → Arguments second (ts ++ us) (MoreTerms e es)
 
   -- { , expr }
   pub data MoreArguments (second : Bool) : List TokenKind → Terms → Type 0 where
@@ -121,7 +139,8 @@ pub data LocalIs : List TokenKind → LocalType → Type 0 where
   int_type : LocalIs (WordOf word.Int ∷ []) IntType
   bool_type : LocalIs (WordOf word.Bool ∷ []) BoolType
   pair_type : (ts us : List TokenKind) (s t : LocalType) → LocalIs ts s → LocalIs us t
-      → LocalIs (MarkOf mark.OpenRound ∷ (ts ++ (MarkOf mark.Comma ∷ (us ++ (MarkOf mark.CloseRound ∷ []))))) (PairType s t)
+      → LocalIs (MarkOf mark.OpenRound
+          ∷ (ts ++ (MarkOf mark.Comma ∷ (us ++ (MarkOf mark.CloseRound ∷ []))))) (PairType s t)
 
 -- type
 pub data TypeIs : List TokenKind → ValueType → Type 0 where
@@ -130,7 +149,8 @@ pub data TypeIs : List TokenKind → ValueType → Type 0 where
 
 -- NAME : type
 pub data ParameterIs : List TokenKind → Parameter → Type 0 where
-  parameter : (x : List ℕ) (ts : List TokenKind) (t : ValueType) → TypeIs ts t → ParameterIs (NameOf x ∷ MarkOf mark.Colon ∷ ts) (record { name = x; type = t })
+  parameter : (x : List ℕ) (ts : List TokenKind) (t : ValueType) → TypeIs ts t
+      → ParameterIs (NameOf x ∷ MarkOf mark.Colon ∷ ts) (record { name = x; type = t })
 
 -- { , NAME : type }
 pub data MoreParametersAre : List TokenKind → List Parameter → Type 0 where
@@ -141,24 +161,34 @@ pub data MoreParametersAre : List TokenKind → List Parameter → Type 0 where
 -- [ NAME : type { , NAME : type } ]
 pub data ParametersAre : List TokenKind → List Parameter → Type 0 where
   none : ParametersAre [] []
-  some : (ts us : List TokenKind) (p : Parameter) (ps : List Parameter) → ParameterIs ts p → MoreParametersAre us ps → ParametersAre (ts ++ us) (p ∷ ps)
+  some : (ts us : List TokenKind) (p : Parameter) (ps : List Parameter) → ParameterIs ts p → MoreParametersAre us ps
+      → ParametersAre (ts ++ us) (p ∷ ps)
 
 -- a declaration with its `;`
 pub data DeclarationIs (second : Bool) : List TokenKind → Declaration → Type 0 where
   -- language 2 ;
   language : DeclarationIs second (WordOf word.Language ∷ NumberOf 2 ∷ MarkOf mark.Semi ∷ []) (LanguageIs 2)
   -- ceiling NUMBER ;
-  ceiling : (n : ℕ) → IsNumber n → DeclarationIs second (WordOf word.Ceiling ∷ NumberOf n ∷ MarkOf mark.Semi ∷ []) (CeilingIs n)
+  ceiling : (n : ℕ) → IsNumber n
+      → DeclarationIs second (WordOf word.Ceiling ∷ NumberOf n ∷ MarkOf mark.Semi ∷ []) (CeilingIs n)
   -- input NAME : bool ;
-  truth_input : (x : List ℕ) → DeclarationIs second (WordOf word.Input ∷ NameOf x ∷ MarkOf mark.Colon ∷ WordOf word.Bool ∷ MarkOf mark.Semi ∷ []) (InputIs x input.Truth)
+  truth_input : (x : List ℕ)
+      → DeclarationIs second (WordOf word.Input ∷ NameOf x ∷ MarkOf mark.Colon ∷ WordOf word.Bool ∷ MarkOf mark.Semi
+      ∷ []) (InputIs x input.Truth)
   -- input NAME : int NUMBER .. NUMBER ;
   whole_input : (x : List ℕ) (least greatest : ℕ) → IsNumber least → IsNumber greatest
-      → DeclarationIs second (WordOf word.Input ∷ NameOf x ∷ MarkOf mark.Colon ∷ WordOf word.Int ∷ NumberOf least ∷ MarkOf mark.Dots ∷ NumberOf greatest ∷ MarkOf mark.Semi ∷ []) (InputIs x (input.Whole least greatest))
+      → DeclarationIs second (WordOf word.Input ∷ NameOf x ∷ MarkOf mark.Colon ∷ WordOf word.Int ∷ NumberOf least
+          ∷ MarkOf mark.Dots ∷ NumberOf greatest ∷ MarkOf mark.Semi ∷ []) (InputIs x (input.Whole least greatest))
   -- metric NUMBER .. NUMBER ;
   metric : (least greatest : ℕ) → IsNumber least → IsNumber greatest
-      → DeclarationIs second (WordOf word.Metric ∷ NumberOf least ∷ MarkOf mark.Dots ∷ NumberOf greatest ∷ MarkOf mark.Semi ∷ []) (MetricIs least greatest)
+      → DeclarationIs second (WordOf word.Metric ∷ NumberOf least ∷ MarkOf mark.Dots ∷ NumberOf greatest
+          ∷ MarkOf mark.Semi ∷ []) (MetricIs least greatest)
   -- def NAME ( parameters ) : type = expr ;
-  definition : (f : List ℕ) (ts us vs : List TokenKind) (ps : List Parameter) (t : ValueType) (e : Term) → ParametersAre ts ps → TypeIs us t → Expression second vs e
-      → DeclarationIs second (WordOf word.Def ∷ NameOf f ∷ MarkOf mark.OpenRound ∷ (ts ++ (MarkOf mark.CloseRound ∷ MarkOf mark.Colon ∷ (us ++ (MarkOf mark.Is ∷ (vs ++ (MarkOf mark.Semi ∷ []))))))) (DefIs f ps t e)
+  definition : (f : List ℕ) (ts us vs : List TokenKind) (ps : List Parameter) (t : ValueType) (e : Term)
+      → ParametersAre ts ps → TypeIs us t → Expression second vs e
+      → DeclarationIs second (WordOf word.Def ∷ NameOf f ∷ MarkOf mark.OpenRound
+          ∷ (ts ++ (MarkOf mark.CloseRound ∷ MarkOf mark.Colon
+          ∷ (us ++ (MarkOf mark.Is ∷ (vs ++ (MarkOf mark.Semi ∷ []))))))) (DefIs f ps t e)
   -- main = expr ;
-  main : (ts : List TokenKind) (e : Term) → Expression second ts e → DeclarationIs second (WordOf word.Main ∷ MarkOf mark.Is ∷ (ts ++ (MarkOf mark.Semi ∷ []))) (MainIs e)
+  main : (ts : List TokenKind) (e : Term) → Expression second ts e
+      → DeclarationIs second (WordOf word.Main ∷ MarkOf mark.Is ∷ (ts ++ (MarkOf mark.Semi ∷ []))) (MainIs e)

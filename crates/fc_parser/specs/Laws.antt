@@ -13,19 +13,27 @@ OneProgram = (tokens : List TokenView) (ds es : List Declaration) → Derives to
 
 -- tokens have at most one first fault
 abbrev pub OneFault : Type 0
-OneFault = (tokens : List TokenView) (number line other at : ℕ) → FaultAt tokens number line → FaultAt tokens other at → (number ≡ other) × (line ≡ at)
+OneFault =
+    (tokens : List TokenView) (number line other at : ℕ) → FaultAt tokens number line → FaultAt tokens other at
+    → (number ≡ other) × (line ≡ at)
 
 -- tokens that derive a program have no fault
 abbrev pub NeverBoth : Type 0
-NeverBoth = (tokens : List TokenView) (ds : List Declaration) (number line : ℕ) → Derives tokens ds → FaultAt tokens number line → ⊥
+NeverBoth =
+    (tokens : List TokenView) (ds : List Declaration) (number line : ℕ) → Derives tokens ds
+    → FaultAt tokens number line → ⊥
 
 -- tokens derive a program or have a first fault
 abbrev pub AlwaysOne : Type 0
-AlwaysOne = (tokens : List TokenView) → ((ds : List Declaration) × Derives tokens ds) ⊎ ((number : ℕ) × (line : ℕ) × FaultAt tokens number line)
+AlwaysOne =
+    (tokens : List TokenView) → ((ds : List Declaration) × Derives tokens ds)
+    ⊎ ((number : ℕ) × (line : ℕ) × FaultAt tokens number line)
 
 -- what a text's tokens derive can be printed
 abbrev pub DerivedIsPrintable : Type 0
-DerivedIsPrintable = (text : List ℕ) (tokens : List TokenView) (ds : List Declaration) → Lexes text tokens → Derives tokens ds → IsPrintable ds
+DerivedIsPrintable =
+    (text : List ℕ) (tokens : List TokenView) (ds : List Declaration) → Lexes text tokens → Derives tokens ds
+    → IsPrintable ds
 
 -- a program has at most as many declarations as tokens
 abbrev pub FewDeclarations : Type 0

@@ -13,11 +13,15 @@ use Rattle.fc_parser.specs.Faults.{Parses, Refuses}
 
 -- the canonical text of a program of the grammar, of either language, has tokens, and they derive this program
 abbrev pub RoundTrip : Type 0
-RoundTrip = (ds : List Declaration) → IsPrintable ds → (tokens : List TokenView) × Lexes (program_text ds) tokens × Derives tokens ds
+RoundTrip =
+    (ds : List Declaration) → IsPrintable ds → (tokens : List TokenView) × Lexes (program_text ds) tokens
+    × Derives tokens ds
 
 -- whatever its tokens are said to be, they derive this program
 abbrev pub EachReading : Type 0
-EachReading = (ds : List Declaration) (tokens : List TokenView) → IsPrintable ds → Lexes (program_text ds) tokens → Derives tokens ds
+EachReading =
+    (ds : List Declaration) (tokens : List TokenView) → IsPrintable ds → Lexes (program_text ds) tokens
+    → Derives tokens ds
 
 -- reading it stops at no byte
 abbrev pub NeverStops : Type 0
@@ -25,9 +29,12 @@ NeverStops = (ds : List Declaration) (i : ℕ) → IsPrintable ds → StopsAt (p
 
 -- the program that is answered for its tokens is this one
 abbrev pub SameProgram : Type 0
-SameProgram = (ds others : List Declaration) (tokens : List TokenView) → IsPrintable ds → Lexes (program_text ds) tokens → Parses tokens others → others ≡ ds
+SameProgram =
+    (ds others : List Declaration) (tokens : List TokenView) → IsPrintable ds → Lexes (program_text ds) tokens
+    → Parses tokens others → others ≡ ds
 
 -- where they pass no limit, nothing but want of memory refuses them
 abbrev pub RefusesNothing : Type 0
 RefusesNothing =
-    (ds : List Declaration) (tokens : List TokenView) (f : ParseFault) → IsPrintable ds → Lexes (program_text ds) tokens → limit_passed tokens ≡ None → Refuses tokens f → f ≡ fault.Memory
+    (ds : List Declaration) (tokens : List TokenView) (f : ParseFault) → IsPrintable ds
+        → Lexes (program_text ds) tokens → limit_passed tokens ≡ None → Refuses tokens f → f ≡ fault.Memory

@@ -4,7 +4,7 @@ use Rattle.std.specs.declared.alloc.Global.{Global}
 use Rattle.std.specs.declared.vec.Vec.{Vec}
 use Rattle.fc_values.specs.Types.{LocalType, IntType, BoolType, PairType, ValueType, TypeLocal, TypeField}
 use Rattle.fc_lexer.specs.declared.tokens.Mark.TheVariants as mark
-use Rattle.fc_lexer.specs.declared.tokens.Word.TheVariants as word
+use Rattle.fc_values.specs.declared.names.Word.TheVariants as word
 use Rattle.fc_lexer.specs.Kinds.{TokenKind, WordOf, MarkOf}
 use Rattle.fc_syntax.specs.declared.tree.Param.{Param}
 use Rattle.fc_syntax.specs.Terms.{Parameter, parameter_of}
@@ -13,7 +13,8 @@ use Rattle.fc_parser.specs.Expressions.{if_got, mark_read, name_read}
 
 -- two types and the brackets' end, after `(`
 abbrev pub pair_with : Reader LocalType → Reader LocalType
-pair_with inner ts = inner ts >>= λ s a. mark_read mark.Comma a >>= λ _ b. inner b >>= λ t c. mark_read mark.CloseRound c >>= λ _ rest. Got (PairType s t) rest
+pair_with inner ts =
+    inner ts >>= λ s a. mark_read mark.Comma a >>= λ _ b. inner b >>= λ t c. mark_read mark.CloseRound c >>= λ _ rest. Got (PairType s t) rest
 
 -- a local type, where the types in its brackets are read by this
 abbrev pub local_with : Reader LocalType → Reader LocalType
@@ -47,16 +48,20 @@ type_read = type_as field_read plain_read
 
 -- a parameter
 unfoldable pub parameter_read : Reader Parameter
-parameter_read ts = name_read ts >>= λ x a. mark_read mark.Colon a >>= λ _ b. type_read b >>= λ t rest. Got (record { name = x; type = t }) rest
+parameter_read ts =
+    name_read ts >>= λ x a. mark_read mark.Colon a >>= λ _ b. type_read b >>= λ t rest. Got (record { name = x; type = t }) rest
 
 -- at most so many parameters, each behind a comma, after these
 unfoldable pub more_at : ℕ → List Parameter → Reader (List Parameter)
 more_at zero ps ts = Got ps ts
-more_at (suc n) ps ts = if_got (mark_read mark.Comma ts) (λ _ a. parameter_read a >>= λ p after. more_at n (ps ++ p ∷ []) after) (Got ps ts)
+more_at (suc n) ps ts =
+    if_got (mark_read mark.Comma ts) (λ _ a. parameter_read a >>= λ p after. more_at n (ps ++ p
+    ∷ []) after) (Got ps ts)
 
 -- parameters with commas between them, or none
 unfoldable pub parameters_read : Reader (List Parameter)
-parameters_read ts = if_got (name_read ts) (λ _ _. parameter_read ts >>= λ p after. more_at (length after) (p ∷ []) after) (Got [] ts)
+parameters_read ts =
+    if_got (name_read ts) (λ _ _. parameter_read ts >>= λ p after. more_at (length after) (p ∷ []) after) (Got [] ts)
 
 -- the parameters that a list is
 abbrev pub parameters_of : Vec Param Global → List Parameter

@@ -15,7 +15,7 @@ use fc_syntax::{Decl, Expr};
 use fc_values::InputTy;
 use std::alloc::Global;
 
-/// The greatest number of a program.
+// The greatest number of a program.
 const GREATEST: u32 = 1_000_000;
 
 /// The declaration that the tokens of a piece are, in language 2 or 1.
@@ -41,7 +41,7 @@ pub fn declaration(alloc: Global, second: bool, tokens: &[Token]) -> Result<Decl
     }
 }
 
-/// What follows `language`.
+// What follows `language`.
 #[tactic(auto, unfolding(crate::specs::Declarations::language_read))]
 fn language(tokens: &[Token]) -> Result<Decl, Refused>
     ensures { GivesWhole declaration_of result (language_read (kinds_of tokens.now)) }
@@ -55,7 +55,7 @@ fn language(tokens: &[Token]) -> Result<Decl, Refused>
     }
 }
 
-/// What follows `ceiling`.
+// What follows `ceiling`.
 #[tactic(auto, unfolding(crate::specs::Declarations::ceiling_read))]
 fn ceiling(tokens: &[Token]) -> Result<Decl, Refused>
     ensures { GivesWhole declaration_of result (ceiling_read (kinds_of tokens.now)) }
@@ -65,7 +65,7 @@ fn ceiling(tokens: &[Token]) -> Result<Decl, Refused>
     Ok(Decl::Ceiling(ceiling))
 }
 
-/// What follows `input`.
+// What follows `input`.
 #[tactic(auto, unfolding(crate::specs::Declarations::input_read))]
 fn input(alloc: Global, tokens: &[Token]) -> Result<Decl, Refused>
     ensures { GivesWhole declaration_of result (input_read (kinds_of tokens.now)) }
@@ -77,7 +77,7 @@ fn input(alloc: Global, tokens: &[Token]) -> Result<Decl, Refused>
     Ok(Decl::Input(copy_name(alloc, name)?, ty))
 }
 
-/// The type of an input, and the tokens after it.
+// The type of an input, and the tokens after it.
 #[tactic(auto, unfolding(crate::specs::Declarations::input_type_read))]
 fn input_type(tokens: &[Token]) -> Result<(InputTy, &[Token]), Refused>
     ensures { Gives (λ t. t) result (input_type_read (kinds_of tokens.now)) }
@@ -95,7 +95,7 @@ fn input_type(tokens: &[Token]) -> Result<(InputTy, &[Token]), Refused>
     }
 }
 
-/// What follows `metric`.
+// What follows `metric`.
 #[tactic(auto, unfolding(crate::specs::Declarations::metric_read))]
 fn metric(tokens: &[Token]) -> Result<Decl, Refused>
     ensures { GivesWhole declaration_of result (metric_read (kinds_of tokens.now)) }
@@ -105,7 +105,7 @@ fn metric(tokens: &[Token]) -> Result<Decl, Refused>
     Ok(Decl::Metric(least, greatest))
 }
 
-/// What follows `def`.
+// What follows `def`.
 #[tactic(auto, unfolding(crate::specs::Declarations::definition_read))]
 fn definition(alloc: Global, second: bool, tokens: &[Token]) -> Result<Decl, Refused>
     requires { length tokens.now < 2 ^ 32 }
@@ -127,7 +127,7 @@ fn definition(alloc: Global, second: bool, tokens: &[Token]) -> Result<Decl, Ref
     })
 }
 
-/// The expression behind `=`, which `;` ends.
+// The expression behind `=`, which `;` ends.
 #[tactic(auto, unfolding(crate::specs::Declarations::body_read))]
 fn body(alloc: Global, second: bool, tokens: &[Token]) -> Result<Expr, Refused>
     requires { length tokens.now < 2 ^ 32 }
@@ -139,7 +139,7 @@ fn body(alloc: Global, second: bool, tokens: &[Token]) -> Result<Expr, Refused>
     Ok(expr)
 }
 
-/// The least and the greatest number of a range, and the tokens after it.
+// The least and the greatest number of a range, and the tokens after it.
 #[tactic(auto, unfolding(crate::specs::Declarations::range_read))]
 fn range(tokens: &[Token]) -> Result<((u32, u32), &[Token]), Refused>
     ensures { Gives range_of result (range_read (kinds_of tokens.now)) }
@@ -150,7 +150,7 @@ fn range(tokens: &[Token]) -> Result<((u32, u32), &[Token]), Refused>
     Ok(((least, greatest), rest))
 }
 
-/// The number that stands in front, and the tokens after it.
+// The number that stands in front, and the tokens after it.
 #[tactic(auto, unfolding(crate::specs::Heads::number_read))]
 fn number(tokens: &[Token]) -> Result<(u32, &[Token]), Refused>
     ensures { Gives (λ n. n) result (number_read (kinds_of tokens.now)) }
@@ -164,7 +164,7 @@ fn number(tokens: &[Token]) -> Result<(u32, &[Token]), Refused>
     }
 }
 
-/// The `;` stands here, and nothing after it.
+// The `;` stands here, and nothing after it.
 #[tactic(auto, unfolding(crate::specs::Heads::finish_read))]
 fn finish(tokens: &[Token]) -> Result<(), Refused>
     ensures { GivesWhole (λ u. tt) result (finish_read (kinds_of tokens.now)) }

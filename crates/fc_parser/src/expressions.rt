@@ -16,13 +16,13 @@ use fc_syntax::Expr;
 use fc_values::{Builtin, Memory, Name};
 use std::alloc::Global;
 
-/// The greatest number of a program.
+// The greatest number of a program.
 const GREATEST: u32 = 1_000_000;
 
-/// The strength of a comparison.
+// The strength of a comparison.
 const COMPARISON: u32 = 3;
 
-/// The strength of `not`.
+// The strength of `not`.
 const NOT: u32 = 6;
 
 /// The expression that stands in front, of language 2 or 1, and the tokens after it.
@@ -37,8 +37,8 @@ pub fn expression<'a>(
     expression_within(alloc, second, tokens.len() + 1, tokens)
 }
 
-/// An expression, in which fewer expressions than the budget stand within one another. What `let` binds and its body
-/// stand within it.
+// An expression, in which fewer expressions than the budget stand within one another. What `let` binds and its body
+// stand within it.
 #[cycle(expressions)]
 fn expression_within<'a>(
     alloc: Global,
@@ -64,7 +64,7 @@ fn expression_within<'a>(
     Err(Refused::Outside)
 }
 
-/// `NAME = expr in`
+// `NAME = expr in`
 #[cycle(expressions)]
 #[tactic(auto, unfolding(crate::specs::Expressions::binding_with))]
 fn binding<'a>(
@@ -82,7 +82,7 @@ fn binding<'a>(
     Ok(((copy_name(alloc, name)?, bound), rest))
 }
 
-/// A body behind these bindings.
+// A body behind these bindings.
 fn bind_all(alloc: Global, mut bindings: Vec<(Name, Expr)>, body: Expr) -> Result<Expr, Memory>
     ensures { IfOk result (λ e. term_of e ≡ nested bindings.items (term_of body)) }
 {
@@ -93,7 +93,7 @@ fn bind_all(alloc: Global, mut bindings: Vec<(Name, Expr)>, body: Expr) -> Resul
     Ok(whole)
 }
 
-/// An expression at a place that asks this strength. A comparison stands alone, and other operators follow one another.
+// An expression at a place that asks this strength. A comparison stands alone, and other operators follow one another.
 #[cycle(expressions)]
 fn operations<'a>(
     alloc: Global,
@@ -126,7 +126,7 @@ fn operations<'a>(
     Ok((left, rest))
 }
 
-/// `{ not } atom`
+// `{ not } atom`
 #[cycle(expressions)]
 #[tactic(auto, unfolding(crate::specs::Expressions::unary_with))]
 fn unary<'a>(
@@ -142,7 +142,7 @@ fn unary<'a>(
     Ok((negate(alloc, operand, many)?, rest))
 }
 
-/// An atom.
+// An atom.
 #[cycle(expressions)]
 #[tactic(auto, unfolding(crate::specs::Expressions::atom_with, crate::specs::Expressions::named_with))]
 fn atom<'a>(
@@ -171,7 +171,7 @@ fn atom<'a>(
     }
 }
 
-/// The form that begins with this word.
+// The form that begins with this word.
 #[cycle(expressions)]
 #[tactic(auto, unfolding(crate::specs::Expressions::word_with))]
 fn word_form<'a>(
@@ -210,7 +210,7 @@ fn word_form<'a>(
     }
 }
 
-/// A builtin, where the word names one, and its arguments.
+// A builtin, where the word names one, and its arguments.
 #[cycle(expressions)]
 #[tactic(auto, unfolding(crate::specs::Expressions::builtin_with))]
 fn builtin<'a>(
@@ -237,7 +237,7 @@ fn builtin<'a>(
     }
 }
 
-/// `[ expr { , expr } ] )`
+// `[ expr { , expr } ] )`
 #[cycle(expressions)]
 fn arguments<'a>(
     alloc: Global,
@@ -267,7 +267,7 @@ fn arguments<'a>(
     Ok((args, rest))
 }
 
-/// `( expr ) { ( NAME ) => expr }`, of `share` or `rep`.
+// `( expr ) { ( NAME ) => expr }`, of `share` or `rep`.
 #[cycle(expressions)]
 #[tactic(auto, unfolding(crate::specs::Expressions::fold_with))]
 fn fold<'a>(
@@ -300,7 +300,7 @@ fn fold<'a>(
     Ok((whole, rest))
 }
 
-/// `( expr ) { expr } { expr }`
+// `( expr ) { expr } { expr }`
 #[cycle(expressions)]
 #[tactic(auto, unfolding(crate::specs::Expressions::choice_with))]
 fn choice<'a>(
@@ -338,7 +338,7 @@ fn choice<'a>(
     Ok((Expr::If(condition, then, other), rest))
 }
 
-/// `expr )` or `expr , expr )`
+// `expr )` or `expr , expr )`
 #[cycle(expressions)]
 #[tactic(auto, unfolding(crate::specs::Expressions::bracketed_with))]
 fn bracketed<'a>(
@@ -360,7 +360,7 @@ fn bracketed<'a>(
     }
 }
 
-/// An expression between two marks.
+// An expression between two marks.
 #[cycle(expressions)]
 #[tactic(auto, unfolding(crate::specs::Expressions::enclosed_with))]
 fn enclosed<'a>(

@@ -4,13 +4,12 @@ ghost use Rattle.std.specs.Prelude.{◌≡◌, IfOk, true, ◌+◌, ◌≤◌, l
 ghost use Rattle.fc_lexer.specs.Kinds.{kind_view};
 ghost use Rattle.fc_syntax.specs.Printable.{arity as arity_of};
 ghost use Rattle.fc_syntax.specs.Terms.{ApplyTerm, term_of};
-ghost use Rattle.fc_syntax.specs.Text.{builtin_strength};
 ghost use Rattle.fc_parser.specs.Expressions.{GivesAfter, GivesName, GivesOperator, GivesRest, after_nots, binder_read, count_nots, has_builtin as has, in_read, kinds_of, let_read, mark_read, name_read, negated, not_read, operator_read};
 ghost use Rattle.fc_parser.specs.Grammar.{named, one, operator as operator_of_kind, two};
 
 use crate::refused::Refused;
 use fc_lexer::{Kind, Mark, Token, Word};
-use fc_syntax::Expr;
+use fc_syntax::{Expr, builtin_strength};
 use fc_values::{Builtin, Memory, Name};
 use std::alloc::Global;
 
@@ -76,7 +75,7 @@ pub fn expect_in(tokens: &[Token]) -> Result<&[Token], Refused>
     }
 }
 
-/// What follows `not`, if it stands in front.
+// What follows `not`, if it stands in front.
 #[tactic(auto, unfolding(crate::specs::Expressions::not_read))]
 fn after_not(tokens: &[Token]) -> Option<&[Token]>
     ensures { GivesAfter result (not_read (kinds_of tokens.now)) }
@@ -137,7 +136,7 @@ pub fn nots(tokens: &[Token]) -> (usize, &[Token])
     (many, rest)
 }
 
-/// The builtin that stands between two operands.
+// The builtin that stands between two operands.
 fn builtin_between(kind: &Kind) -> Option<Builtin>
     ensures { result ≡ operator_of_kind (kind_view kind.now) }
 {
@@ -153,20 +152,6 @@ fn builtin_between(kind: &Kind) -> Option<Builtin>
     }
 }
 
-fn strength(builtin: Builtin) -> u32
-    ensures { result ≡ builtin_strength builtin }
-{
-    match builtin {
-        Builtin::Or => 1,
-        Builtin::And => 2,
-        Builtin::Less | Builtin::Equal => 3,
-        Builtin::Add | Builtin::Sub => 4,
-        Builtin::Mul => 5,
-        Builtin::Not => 6,
-        _ => 7,
-    }
-}
-
 /// The operator of this strength that stands in front, if one does, and what follows it.
 #[tactic(auto, unfolding(crate::specs::Expressions::operator_read))]
 pub fn operator(tokens: &[Token], wanted: u32) -> Option<(Builtin, &[Token])>
@@ -176,7 +161,7 @@ pub fn operator(tokens: &[Token], wanted: u32) -> Option<(Builtin, &[Token])>
         return None;
     };
     match builtin_between(&first.kind) {
-        Some(builtin) if strength(builtin) == wanted => Some((builtin, after)),
+        Some(builtin) if builtin_strength(builtin) == wanted => Some((builtin, after)),
         _ => None,
     }
 }

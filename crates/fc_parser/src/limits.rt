@@ -10,10 +10,10 @@ use crate::ParseFault;
 use crate::pieces::first_piece;
 use fc_lexer::{Kind, Mark, Token};
 
-/// The most tokens of a declaration.
+// The most tokens of a declaration.
 const MOST_TOKENS: usize = 4096;
 
-/// The most brackets that are open at one place of a declaration.
+// The most brackets that are open at one place of a declaration.
 const MOST_BRACKETS: usize = 200;
 
 /// Each declaration keeps the limits, or this is the first one that passes one.
@@ -43,7 +43,7 @@ pub fn judge_limits(tokens: &[Token]) -> Result<(), ParseFault>
     Ok(())
 }
 
-/// Whether more brackets than the limit are open at one place.
+// Whether more brackets than the limit are open at one place.
 fn is_deep(tokens: &[Token]) -> bool
     ensures { IsTrue result ↔ (200 < deepest 0 (kinds_of tokens.now)) }
 {
@@ -57,7 +57,7 @@ fn is_deep(tokens: &[Token]) -> bool
     false
 }
 
-/// The open brackets after a token, of those before it.
+// The open brackets after a token, of those before it.
 fn open_after(before: usize, kind: &Kind) -> usize
     requires { before ≤ 200 }
     ensures { result ≡ brackets_after before (kind_view kind.now) }

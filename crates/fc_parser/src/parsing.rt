@@ -26,7 +26,7 @@ pub fn parse(alloc: Global, tokens: &[Token]) -> Result<Program, ParseFault>
     derive(alloc, tokens)
 }
 
-/// The program that the tokens derive, or the first declaration that is at fault.
+// The program that the tokens derive, or the first declaration that is at fault.
 fn derive(alloc: Global, tokens: &[Token]) -> Result<Program, ParseFault>
     requires { length tokens.now < 2 ^ 32 }
     ensures derives { IfOk result (λ p. Derives (tokens_of tokens.now) (program_of p)) }

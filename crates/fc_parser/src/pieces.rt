@@ -18,7 +18,7 @@ fn is_semi(token: &Token) -> bool
     }
 }
 
-/// How many tokens stand before the first `;`.
+// How many tokens stand before the first `;`.
 fn before_semi(tokens: &[Token]) -> usize
     ensures size { result ≡ prefix_len goes_on tokens.now }
     ensures within { result ≤ length tokens.now }

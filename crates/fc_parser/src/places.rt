@@ -33,7 +33,7 @@ fn is_second(position: Position) -> bool
     }
 }
 
-/// The position after a declaration, where it may stand at its position.
+// The position after a declaration, where it may stand at its position.
 fn next(position: Position, decl: &Decl) -> Option<Position>
     ensures { option_map place_at result ≡ next_place (place_at position) (declaration_of decl.now) }
 {

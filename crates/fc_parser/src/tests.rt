@@ -7,7 +7,7 @@ use fc_values::Memory;
 use std::alloc::Global;
 use std::test::Fail;
 
-/// The answer for the tokens of a text, where the text has tokens.
+// The answer for the tokens of a text, where the text has tokens.
 fn answer(alloc: Global, text: &[u8]) -> Option<Result<Program, ParseFault>> {
     if text.len() > 1_048_576 {
         return None;
@@ -35,12 +35,12 @@ fn has_fault(alloc: Global, text: &[u8], fault: ParseFault) -> bool {
     }
 }
 
-/// Whether a declaration is outside the grammar.
+// Whether a declaration is outside the grammar.
 fn is_outside(alloc: Global, text: &[u8], declaration: u32, line: u32) -> bool {
     has_fault(alloc, text, ParseFault::Syntax { declaration, line })
 }
 
-/// Whether this is the canonical text of a text's program.
+// Whether this is the canonical text of a text's program.
 fn is_printed_as(alloc: Global, text: &[u8], printed: &[u8]) -> bool {
     if text.len() > 1_048_576 {
         return false;
@@ -61,7 +61,7 @@ fn is_printed_as(alloc: Global, text: &[u8], printed: &[u8]) -> bool {
     }
 }
 
-/// A text with a part of it so many times.
+// A text with a part of it so many times.
 fn repeated(
     alloc: Global,
     before: &[u8],

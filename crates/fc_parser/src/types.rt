@@ -14,7 +14,7 @@ use fc_syntax::Param;
 use fc_values::{LocalTy, Ty};
 use std::alloc::Global;
 
-/// The local type that stands in front, and the tokens after it.
+// The local type that stands in front, and the tokens after it.
 #[cycle(types)]
 fn local(alloc: Global, tokens: &[Token]) -> Result<(LocalTy, &[Token]), Refused>
     ensures { Gives local_type_of result (local_read (kinds_of tokens.now)) }
@@ -30,7 +30,7 @@ fn local(alloc: Global, tokens: &[Token]) -> Result<(LocalTy, &[Token]), Refused
     }
 }
 
-/// The pair of types behind a `(`, and the tokens after its `)`.
+// The pair of types behind a `(`, and the tokens after its `)`.
 #[cycle(types)]
 fn pair(alloc: Global, tokens: &[Token]) -> Result<(LocalTy, &[Token]), Refused>
     ensures { Gives local_type_of result (pair_with local_read (kinds_of tokens.now)) }
@@ -67,7 +67,7 @@ pub fn value_type(alloc: Global, tokens: &[Token]) -> Result<(Ty, &[Token]), Ref
     }
 }
 
-/// The parameter that stands in front, and the tokens after it.
+// The parameter that stands in front, and the tokens after it.
 #[tactic(auto, unfolding(crate::specs::Types::parameter_read))]
 fn parameter(alloc: Global, tokens: &[Token]) -> Result<(Param, &[Token]), Refused>
     ensures { Gives parameter_of result (parameter_read (kinds_of tokens.now)) }

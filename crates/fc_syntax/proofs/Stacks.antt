@@ -18,9 +18,6 @@ where_false false x y eq = refl
 pub popped : (xs : List Piece) (p : Piece) (ys : List Piece) → ys ≡ xs ++ p ∷ [] → stack_text ys ≡ piece_text p ++ stack_text xs
 popped xs p ys eq = ap stack_text eq ∙ ap pieces_text (reverse-append xs (p ∷ []))
 
-pub popped_weight : (xs : List Piece) (p : Piece) (ys : List Piece) → ys ≡ xs ++ p ∷ [] → pieces_weight ys ≡ pieces_weight xs + piece_weight p
-popped_weight xs p ys eq = ap pieces_weight eq ∙ sum_by_push piece_weight xs p
-
 -- a builtin whose number of arguments is not that of its operator's form is written as a call
 pub as_call : (b : Builtin) (es : List Expr) → (length es ≡ 1 → builtin_strength b ≡ 6 → ⊥) → (length es ≡ 2 → 6 ≤ builtin_strength b)
     → apply_text b (all_written (terms (map term_of es))) ≡ call_text (builtin_word b) (all_written (terms (map term_of es)))

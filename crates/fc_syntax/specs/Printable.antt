@@ -1,6 +1,6 @@
 -- The programs that can be printed: those of the grammar's forms.
-use Rattle.std.specs.Prelude.{ℕ, ◌+◌, ◌≤◌, nat_le, ◌==◌, ◌≡◌, Bool, true, false, not, ◌&&◌, ◌||◌, List, [], ◌∷◌, codes, bytes_eq}
-use Rattle.std.specs.List.{list_any, list_all}
+use Rattle.std.specs.Prelude.{ℕ, ◌+◌, ◌≤◌, ◌≡◌, Bool, true, false, List, [], ◌∷◌}
+use Rattle.fc_values.specs.Names.{IsName}
 use Rattle.fc_values.specs.declared.builtins.Builtin.{Builtin}
 use Rattle.fc_values.specs.declared.builtins.Builtin.TheVariants as b
 use Rattle.fc_values.specs.declared.types.InputTy.{InputTy}
@@ -10,33 +10,6 @@ use Rattle.fc_syntax.specs.Terms.{Term, IntTerm, TruthTerm, VarTerm, UidTerm, Nb
 -- a number that a program may have
 abbrev pub IsNumber : ℕ → Type 0
 IsNumber n = n ≤ 1000000
-
-abbrev pub between : ℕ → ℕ → ℕ → Bool
-between low high byte = nat_le low byte && nat_le byte high
-
--- `a` to `z`, or `A` to `Z`
-abbrev pub is_letter : ℕ → Bool
-is_letter byte = between 97 122 byte || between 65 90 byte
-
--- a letter, a digit or `_`
-abbrev pub is_in_name : ℕ → Bool
-is_in_name byte = is_letter byte || between 48 57 byte || byte == 95
-
--- the words, which are no names
-abbrev pub words : List (List ℕ)
-words =
-    codes "ceiling" ∷ codes "input" ∷ codes "metric" ∷ codes "def" ∷ codes "main" ∷ codes "let" ∷ codes "in" ∷ codes "if" ∷ codes "nbr" ∷ codes "rep"
-    ∷ codes "sense" ∷ codes "uid" ∷ codes "nbrLink" ∷ codes "not" ∷ codes "and" ∷ codes "or" ∷ codes "true" ∷ codes "false" ∷ codes "int" ∷ codes "bool"
-    ∷ codes "field" ∷ codes "min" ∷ codes "max" ∷ codes "mux" ∷ codes "fst" ∷ codes "snd" ∷ codes "minHoodLoc" ∷ codes "maxHoodLoc" ∷ codes "sumHood"
-    ∷ codes "anyHood" ∷ codes "allHood" ∷ codes "share" ∷ codes "rise" ∷ codes "language" ∷ []
-
--- a letter, then letters, digits and `_`, and no word
-abbrev pub is_name : List ℕ → Bool
-is_name [] = false
-is_name (byte ∷ bytes) = is_letter byte && list_all is_in_name bytes && not (list_any (bytes_eq (byte ∷ bytes)) words)
-
-abbrev pub IsName : List ℕ → Type 0
-IsName x = is_name x ≡ true
 
 -- how many arguments the grammar gives a builtin
 abbrev pub arity : Builtin → ℕ

@@ -77,7 +77,8 @@ declaration_of (decl.Language n) = LanguageIs n
 declaration_of (decl.Ceiling n) = CeilingIs n
 declaration_of (decl.Input x t) = InputIs x.text.items t
 declaration_of (decl.Metric least greatest) = MetricIs least greatest
-declaration_of (decl.Def name params result body) = DefIs name.text.items (map parameter_of params.items) (type_of result) (term_of body)
+declaration_of (decl.Def name params result body) =
+    DefIs name.text.items (map parameter_of params.items) (type_of result) (term_of body)
 declaration_of (decl.Main e) = MainIs (term_of e)
 
 -- the declarations of a program, in order

@@ -77,14 +77,17 @@ call_text word args = word ++ codes "(" ++ with_commas (map (λ w. w.text) args)
 -- an operator between its operands
 abbrev pub between_text : Builtin → Written → Written → List ℕ
 between_text b left right =
-    placed (left_asks (builtin_strength b)) left ++ codes " " ++ builtin_word b ++ codes " " ++ placed (builtin_strength b + 1) right
+    placed (left_asks (builtin_strength b)) left ++ codes " " ++ builtin_word b ++ codes " "
+        ++ placed (builtin_strength b + 1) right
 
 -- A builtin and its arguments. An operator that has another number of operands than the grammar gives it, which no
 -- program of the grammar holds, is written as `min` is.
 abbrev pub apply_text : Builtin → List Written → List ℕ
 apply_text b [] = call_text (builtin_word b) []
-apply_text b (x ∷ []) = if builtin_strength b == 6 then builtin_word b ++ codes " " ++ placed 6 x else call_text (builtin_word b) (x ∷ [])
-apply_text b (x ∷ y ∷ []) = if nat_lt (builtin_strength b) 6 then between_text b x y else call_text (builtin_word b) (x ∷ y ∷ [])
+apply_text b (x ∷ []) =
+    if builtin_strength b == 6 then builtin_word b ++ codes " " ++ placed 6 x else call_text (builtin_word b) (x ∷ [])
+apply_text b (x ∷ y ∷ []) =
+    if nat_lt (builtin_strength b) 6 then between_text b x y else call_text (builtin_word b) (x ∷ y ∷ [])
 apply_text b (x ∷ y ∷ z ∷ rest) = call_text (builtin_word b) (x ∷ y ∷ z ∷ rest)
 
 abbrev pub truth_text : Bool → List ℕ

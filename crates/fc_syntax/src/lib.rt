@@ -8,6 +8,7 @@ mod words;
 
 pub use printer::print;
 pub use tree::{Decl, Expr, Param, Program};
+pub use words::builtin_strength;
 
 #[cfg(test)]
 mod tests;

@@ -21,8 +21,10 @@ pub enum Piece<'a> {
 
 /// Puts pieces on the stack, the first of them on top.
 pub fn push<'a>(stack: &mut Vec<Piece<'a>>, pieces: &[Piece<'a>]) -> Result<(), Memory>
-    ensures text { IfOk result (λ _. stack_text stack.new.items ≡ pieces_text pieces.now ++ stack_text stack.old.items) }
-    ensures weight { IfOk result (λ _. pieces_weight stack.new.items ≡ pieces_weight pieces.now + pieces_weight stack.old.items) }
+    ensures text { IfOk result (λ _. stack_text stack.new.items ≡ pieces_text pieces.now
+        ++ stack_text stack.old.items) }
+    ensures weight { IfOk result (λ _. pieces_weight stack.new.items
+        ≡ pieces_weight pieces.now + pieces_weight stack.old.items) }
 {
     for at in (0..pieces.len()).rev() {
         stack.push(pieces[at])?;
@@ -32,8 +34,10 @@ pub fn push<'a>(stack: &mut Vec<Piece<'a>>, pieces: &[Piece<'a>]) -> Result<(), 
 
 /// Puts the pieces of an expression on the stack.
 pub fn push_expression<'a>(stack: &mut Vec<Piece<'a>>, expr: &'a Expr) -> Result<(), Memory>
-    ensures text { IfOk result (λ _. stack_text stack.new.items ≡ text (term_of expr.now) ++ stack_text stack.old.items) }
-    ensures weight { IfOk result (λ _. pieces_weight stack.new.items < weight (term_of expr.now) + pieces_weight stack.old.items) }
+    ensures text { IfOk result (λ _. stack_text stack.new.items ≡ text (term_of expr.now)
+        ++ stack_text stack.old.items) }
+    ensures weight { IfOk result (λ _. pieces_weight stack.new.items
+        < weight (term_of expr.now) + pieces_weight stack.old.items) }
 {
     match expr {
         Expr::Int(n) => push(stack, &[Piece::Number(*n)]),
@@ -101,8 +105,10 @@ pub fn push_expression<'a>(stack: &mut Vec<Piece<'a>>, expr: &'a Expr) -> Result
 
 /// Puts the pieces of an operand on the stack, in brackets where its place asks more than its strength.
 pub fn push_operand<'a>(stack: &mut Vec<Piece<'a>>, expr: &'a Expr, asks: u32) -> Result<(), Memory>
-    ensures text { IfOk result (λ _. stack_text stack.new.items ≡ placed asks (written (term_of expr.now)) ++ stack_text stack.old.items) }
-    ensures weight { IfOk result (λ _. pieces_weight stack.new.items < 3 + weight (term_of expr.now) + pieces_weight stack.old.items) }
+    ensures text { IfOk result (λ _. stack_text stack.new.items ≡ placed asks (written (term_of expr.now))
+        ++ stack_text stack.old.items) }
+    ensures weight { IfOk result (λ _. pieces_weight stack.new.items
+        < 3 + weight (term_of expr.now) + pieces_weight stack.old.items) }
 {
     if strength(expr) < asks {
         push(
@@ -116,8 +122,11 @@ pub fn push_operand<'a>(stack: &mut Vec<Piece<'a>>, expr: &'a Expr, asks: u32) -
 
 /// Puts the pieces of arguments on the stack that stand behind others.
 pub fn push_rest<'a>(stack: &mut Vec<Piece<'a>>, args: &'a [Expr]) -> Result<(), Memory>
-    ensures text { IfOk result (λ _. stack_text stack.new.items ≡ behind_commas (map (λ w. w.text) (all_written (terms (map term_of args.now)))) ++ stack_text stack.old.items) }
-    ensures weight { IfOk result (λ _. pieces_weight stack.new.items < 1 + weights (terms (map term_of args.now)) + pieces_weight stack.old.items) }
+    ensures text { IfOk result (λ _. stack_text stack.new.items
+        ≡ behind_commas (map (λ w. w.text) (all_written (terms (map term_of args.now))))
+        ++ stack_text stack.old.items) }
+    ensures weight { IfOk result (λ _. pieces_weight stack.new.items
+        < 1 + weights (terms (map term_of args.now)) + pieces_weight stack.old.items) }
 {
     match args {
         [] => Ok(()),
@@ -133,8 +142,10 @@ fn push_apply<'a>(
     builtin: Builtin,
     args: &'a [Expr],
 ) -> Result<(), Memory>
-    ensures text { IfOk result (λ _. stack_text stack.new.items ≡ apply_text builtin (all_written (terms (map term_of args.now))) ++ stack_text stack.old.items) }
-    ensures weight { IfOk result (λ _. pieces_weight stack.new.items < 10 + weights (terms (map term_of args.now)) + pieces_weight stack.old.items) }
+    ensures text { IfOk result (λ _. stack_text stack.new.items
+        ≡ apply_text builtin (all_written (terms (map term_of args.now))) ++ stack_text stack.old.items) }
+    ensures weight { IfOk result (λ _. pieces_weight stack.new.items
+        < 10 + weights (terms (map term_of args.now)) + pieces_weight stack.old.items) }
 {
     let own = builtin_strength(builtin);
     let word = builtin_word(builtin);
@@ -162,8 +173,10 @@ fn push_apply<'a>(
 }
 
 fn push_call<'a>(stack: &mut Vec<Piece<'a>>, word: &'a [u8], args: &'a [Expr]) -> Result<(), Memory>
-    ensures text { IfOk result (λ _. stack_text stack.new.items ≡ call_text word.now (all_written (terms (map term_of args.now))) ++ stack_text stack.old.items) }
-    ensures weight { IfOk result (λ _. pieces_weight stack.new.items < 10 + weights (terms (map term_of args.now)) + pieces_weight stack.old.items) }
+    ensures text { IfOk result (λ _. stack_text stack.new.items
+        ≡ call_text word.now (all_written (terms (map term_of args.now))) ++ stack_text stack.old.items) }
+    ensures weight { IfOk result (λ _. pieces_weight stack.new.items
+        < 10 + weights (terms (map term_of args.now)) + pieces_weight stack.old.items) }
 {
     match args {
         [] => push(stack, &[Piece::Text(word), Piece::Text(b"()")]),

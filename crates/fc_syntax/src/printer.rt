@@ -99,7 +99,8 @@ fn print_input_type(alloc: Global, out: &mut Vec<u8>, ty: InputTy) -> Result<(),
 }
 
 fn print_parameters(out: &mut Vec<u8>, params: &[Param]) -> Result<(), Memory>
-    ensures { IfOk result (λ _. out.new.items ≡ out.old.items ++ with_commas (map parameter_text (map parameter_of params.now))) }
+    ensures { IfOk result (λ _. out.new.items ≡ out.old.items
+        ++ with_commas (map parameter_text (map parameter_of params.now))) }
 {
     let [first, rest @ ..] = params else {
         return Ok(());

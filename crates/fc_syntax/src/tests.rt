@@ -67,7 +67,7 @@ fn binding(alloc: Global, text: &[u8], bound: Expr, body: Expr) -> Result<Expr, 
     Ok(Expr::Let(name(alloc, text)?, bound, body))
 }
 
-/// The text of a program with an expression as its `main`.
+// The text of a program with an expression as its `main`.
 fn printed(alloc: Global, expr: Expr) -> Result<Vec<u8>, Memory>
     requires { IsExpression true (term_of expr) }
 {

@@ -25,10 +25,14 @@ nothing = record { ceiling = 0; inputs = []; metric = None; functions = [] }
 abbrev pub and_then : Before → Declaration → Before
 and_then B (LanguageIs n) = B
 and_then B (CeilingIs n) = record { ceiling = n; inputs = B.inputs; metric = B.metric; functions = B.functions }
-and_then B (InputIs x t) = record { ceiling = B.ceiling; inputs = B.inputs ++ record { name = x; type = t } ∷ []; metric = B.metric; functions = B.functions }
-and_then B (MetricIs least greatest) = record { ceiling = B.ceiling; inputs = B.inputs; metric = Some (least, greatest); functions = B.functions }
+and_then B (InputIs x t) =
+    record { ceiling = B.ceiling; inputs = B.inputs ++ record { name = x; type = t }
+    ∷ []; metric = B.metric; functions = B.functions }
+and_then B (MetricIs least greatest) =
+    record { ceiling = B.ceiling; inputs = B.inputs; metric = Some (least, greatest); functions = B.functions }
 and_then B (DefIs f params result body) =
-    record { ceiling = B.ceiling; inputs = B.inputs; metric = B.metric; functions = B.functions ++ record { name = f; params = params; result = result; body = body } ∷ [] }
+    record { ceiling = B.ceiling; inputs = B.inputs; metric = B.metric; functions = B.functions
+        ++ record { name = f; params = params; result = result; body = body } ∷ [] }
 and_then B (MainIs e) = B
 
 abbrev pub and_all : Before → List Declaration → Before
@@ -45,7 +49,8 @@ greatest_of None = 1
 greatest_of (Some m) = m.1
 
 abbrev pub declared_before : Before → Declarations
-declared_before B = record { ceiling = B.ceiling; inputs = B.inputs; least = least_of B.metric; greatest = greatest_of B.metric }
+declared_before B =
+    record { ceiling = B.ceiling; inputs = B.inputs; least = least_of B.metric; greatest = greatest_of B.metric }
 
 abbrev pub declared_by : List Declaration → Declarations
 declared_by ds = declared_before (and_all nothing ds)

@@ -168,16 +168,19 @@ where_same true k j = j
 where_same false k j = FaultIs k
 
 abbrev pub judge_evolving : Option ValueType → ValueType → ValueType → Judgement
-judge_evolving bound (TypeLocal s) (TypeLocal t) = where_same (same_local s t) kind.Mismatch (unless_bound bound (TypeLocal s))
+judge_evolving bound (TypeLocal s) (TypeLocal t) =
+    where_same (same_local s t) kind.Mismatch (unless_bound bound (TypeLocal s))
 judge_evolving bound _ _ = FaultIs kind.NotLocal
 
 abbrev pub judge_if : ValueType → ValueType → ValueType → Judgement
-judge_if (TypeLocal r) (TypeLocal s) (TypeLocal t) = where_same (same_local r BoolType && same_local s t) kind.Mismatch (TypeIs (TypeLocal s))
+judge_if (TypeLocal r) (TypeLocal s) (TypeLocal t) =
+    where_same (same_local r BoolType && same_local s t) kind.Mismatch (TypeIs (TypeLocal s))
 judge_if _ _ _ = FaultIs kind.NotLocal
 
 abbrev pub judge_call : Option Function → List ValueType → Judgement
 judge_call None ts = FaultIs kind.Unknown
-judge_call (Some g) ts = where_same (length ts == length g.params) kind.Count (where_same (same_types ts (parameter_types g)) kind.Mismatch (TypeIs g.result))
+judge_call (Some g) ts =
+    where_same (length ts == length g.params) kind.Count (where_same (same_types ts (parameter_types g)) kind.Mismatch (TypeIs g.result))
 
 abbrev mutual
   pub judge : Before → Scope → Term → Judgement
@@ -189,10 +192,14 @@ abbrev mutual
   judge B scope (SenseTerm x) = judge_sense (input_named x B.inputs)
   judge B scope (ApplyTerm b es) = go_on_with (judge_all B scope es) (judge_builtin b)
   judge B scope (NbrTerm e) = go_on (judge B scope e) judge_nbr
-  judge B scope (RepTerm e x b) = go_on (judge B scope e) (λ s. go_on (judge B (bind x s scope) b) (judge_evolving (type_in x scope) s))
-  judge B scope (ShareTerm e x b) = go_on (judge B scope e) (λ s. go_on (judge B (bind x (shared_type s) scope) b) (judge_evolving (type_in x scope) s))
-  judge B scope (IfTerm c a b) = go_on (judge B scope c) (λ r. go_on (judge B scope a) (λ s. go_on (judge B scope b) (judge_if r s)))
-  judge B scope (LetTerm x a b) = go_on (judge B scope a) (λ s. go_on (judge B (bind x s scope) b) (unless_bound (type_in x scope)))
+  judge B scope (RepTerm e x b) =
+      go_on (judge B scope e) (λ s. go_on (judge B (bind x s scope) b) (judge_evolving (type_in x scope) s))
+  judge B scope (ShareTerm e x b) =
+      go_on (judge B scope e) (λ s. go_on (judge B (bind x (shared_type s) scope) b) (judge_evolving (type_in x scope) s))
+  judge B scope (IfTerm c a b) =
+      go_on (judge B scope c) (λ r. go_on (judge B scope a) (λ s. go_on (judge B scope b) (judge_if r s)))
+  judge B scope (LetTerm x a b) =
+      go_on (judge B scope a) (λ s. go_on (judge B (bind x s scope) b) (unless_bound (type_in x scope)))
   judge B scope (CallTerm f es) = go_on_with (judge_all B scope es) (judge_call (function_named f B.functions))
 
   pub judge_all : Before → Scope → Terms → Judgements
@@ -218,7 +225,8 @@ or_fault None o = o
 or_fault (Some k) o = Some k
 
 abbrev pub range_fault : ℕ → ℕ → ℕ → Option TypeKind
-range_fault ceiling least greatest = fault_where (nat_lt greatest least) kind.Range (fault_where (nat_lt ceiling greatest) kind.Range None)
+range_fault ceiling least greatest =
+    fault_where (nat_lt greatest least) kind.Range (fault_where (nat_lt ceiling greatest) kind.Range None)
 
 abbrev pub input_fault : ℕ → InputTy → Option TypeKind
 input_fault ceiling input.Truth = None
@@ -229,7 +237,9 @@ width_fault t = fault_where (nat_lt 8 (leaves (inner t))) kind.Wide None
 
 abbrev pub parameter_fault : Scope → List Parameter → Option TypeKind
 parameter_fault before [] = None
-parameter_fault before (p ∷ ps) = fault_if (type_in p.name before) kind.Twice (or_fault (width_fault p.type) (parameter_fault (before ++ p ∷ []) ps))
+parameter_fault before (p ∷ ps) =
+    fault_if (type_in p.name before) kind.Twice (or_fault (width_fault p.type) (parameter_fault (before ++ p
+    ∷ []) ps))
 
 abbrev pub body_fault : ValueType → Judgement → Option TypeKind
 body_fault r (TypeIs t) = fault_unless (same_type t r) kind.Result
@@ -245,5 +255,6 @@ declaration_fault B (LanguageIs n) = None
 declaration_fault B (CeilingIs n) = fault_where (n == 0) kind.Range None
 declaration_fault B (InputIs x t) = fault_if (input_named x B.inputs) kind.Twice (input_fault B.ceiling t)
 declaration_fault B (MetricIs least greatest) = fault_if B.metric kind.Twice (range_fault B.ceiling least greatest)
-declaration_fault B (DefIs f ps r e) = fault_if (function_named f B.functions) kind.Twice (or_fault (parameter_fault [] ps) (or_fault (width_fault r) (body_fault r (judge B ps e))))
+declaration_fault B (DefIs f ps r e) =
+    fault_if (function_named f B.functions) kind.Twice (or_fault (parameter_fault [] ps) (or_fault (width_fault r) (body_fault r (judge B ps e))))
 declaration_fault B (MainIs e) = main_fault (judge B [] e)

@@ -12,13 +12,19 @@ abbrev pub OneType : Type 0
 OneType = (B : Before) (scope : Scope) (e : Term) (s t : ValueType) → HasType B scope e s → HasType B scope e t → s ≡ t
 
 abbrev pub OneFaultIn : Type 0
-OneFaultIn = (B : Before) (scope : Scope) (e : Term) (k l : TypeKind) → FirstFaultIn B scope e k → FirstFaultIn B scope e l → k ≡ l
+OneFaultIn =
+    (B : Before) (scope : Scope) (e : Term) (k l : TypeKind) → FirstFaultIn B scope e k → FirstFaultIn B scope e l → k
+    ≡ l
 
 abbrev pub TypeOrFault : Type 0
-TypeOrFault = (B : Before) (scope : Scope) (e : Term) → ((t : ValueType) × HasType B scope e t) ⊎ ((k : TypeKind) × FirstFaultIn B scope e k)
+TypeOrFault =
+    (B : Before) (scope : Scope) (e : Term) → ((t : ValueType) × HasType B scope e t)
+    ⊎ ((k : TypeKind) × FirstFaultIn B scope e k)
 
 abbrev pub NoTypeWithFault : Type 0
-NoTypeWithFault = (B : Before) (scope : Scope) (e : Term) (t : ValueType) (k : TypeKind) → HasType B scope e t → FirstFaultIn B scope e k → ⊥
+NoTypeWithFault =
+    (B : Before) (scope : Scope) (e : Term) (t : ValueType) (k : TypeKind) → HasType B scope e t
+    → FirstFaultIn B scope e k → ⊥
 
 -- a program is typed exactly where it has no first fault, and it has one first fault at most
 abbrev pub TypedOrAtFault : Type 0
@@ -28,4 +34,5 @@ abbrev pub NotTypedAtFault : Type 0
 NotTypedAtFault = (ds : List Declaration) (n : ℕ) (k : TypeKind) → IsTyped ds → FirstFault ds n k → ⊥
 
 abbrev pub OneFirstFault : Type 0
-OneFirstFault = (ds : List Declaration) (n m : ℕ) (k l : TypeKind) → FirstFault ds n k → FirstFault ds m l → (n ≡ m) × (k ≡ l)
+OneFirstFault =
+    (ds : List Declaration) (n m : ℕ) (k l : TypeKind) → FirstFault ds n k → FirstFault ds m l → (n ≡ m) × (k ≡ l)

@@ -20,7 +20,8 @@ use Rattle.fc_types.specs.Before.{Function, Before, Scope, bind}
 use Rattle.fc_types.specs.Judging.{Judgement, TypeIs, FaultIs, Judgements, TypesAre, FaultAmong}
 
 abbrev pub function_of : List ℕ → AFunction → Function
-function_of name f = record { name = name; params = map parameter_of f.params.now; result = type_of f.result.now; body = term_of f.body.now }
+function_of name f =
+    record { name = name; params = map parameter_of f.params.now; result = type_of f.result.now; body = term_of f.body.now }
 
 abbrev pub input_entry : Bor (List ℕ) × InputTy → Input
 input_entry e = record { name = e.0.now; type = e.1 }
@@ -29,7 +30,8 @@ abbrev pub function_entry : Bor (List ℕ) × AFunction → Function
 function_entry e = function_of e.0.now e.1
 
 abbrev pub known_of : Known → Before
-known_of k = record { ceiling = k.ceiling; inputs = map input_entry k.inputs.entries; metric = k.metric; functions = map function_entry k.functions.entries }
+known_of k =
+    record { ceiling = k.ceiling; inputs = map input_entry k.inputs.entries; metric = k.metric; functions = map function_entry k.functions.entries }
 
 abbrev pub scope_of : AScope → Scope
 scope_of (scope.Params params) = map parameter_of params.now
@@ -45,7 +47,8 @@ abbrev pub Gives : Result Ty Refusal → Judgement → Type 0
 Gives result j = MatchResult result (λ t. j ≡ TypeIs (type_of t)) (λ r. IfKind r (λ k. j ≡ FaultIs k))
 
 abbrev pub GivesAll : Result (Vec Ty Global) Refusal → Judgements → Type 0
-GivesAll result js = MatchResult result (λ ts. js ≡ TypesAre (map type_of ts.items)) (λ r. IfKind r (λ k. js ≡ FaultAmong k))
+GivesAll result js =
+    MatchResult result (λ ts. js ≡ TypesAre (map type_of ts.items)) (λ r. IfKind r (λ k. js ≡ FaultAmong k))
 
 -- a check is passed where there is no fault
 abbrev pub Passes : {T : Type 0} → Result T Refusal → Option TypeKind → Type 0

@@ -59,7 +59,7 @@ fn has_field(args: &[Ty]) -> bool
     }
 }
 
-/// What an operator gives: a field where one of its arguments is a field.
+// What an operator gives: a field where one of its arguments is a field.
 fn lift(args: &[Ty], ty: LocalTy) -> Ty
     ensures { type_of result ≡ lifted (any_field (map type_of args.now)) (local_type_of ty) }
 {
@@ -79,7 +79,7 @@ fn each_is(args: &[Ty], ty: &LocalTy) -> bool
     }
 }
 
-/// So many arguments, each of one type.
+// So many arguments, each of one type.
 fn all_of(args: &[Ty], each: &LocalTy, count: usize, ty: LocalTy) -> Result<Ty, Refusal>
     ensures { Gives result (type_or kind.Mismatch (any_field (map type_of args.now)) (all_type (local_type_of each.now) count (local_type_of ty) (inners (map type_of args.now)))) }
 {
@@ -93,7 +93,7 @@ fn all_of(args: &[Ty], each: &LocalTy, count: usize, ty: LocalTy) -> Result<Ty, 
     }
 }
 
-/// Two arguments of one type, which is given.
+// Two arguments of one type, which is given.
 fn alike(alloc: Global, args: &[Ty]) -> Result<Ty, Refusal>
     ensures { Gives result (type_or kind.Mismatch (any_field (map type_of args.now)) (of_alike (λ t. t) (inners (map type_of args.now)))) }
 {
@@ -109,7 +109,7 @@ fn alike(alloc: Global, args: &[Ty]) -> Result<Ty, Refusal>
     }
 }
 
-/// Two arguments of one type give a truth value.
+// Two arguments of one type give a truth value.
 fn compared(args: &[Ty]) -> Result<Ty, Refusal>
     ensures { Gives result (type_or kind.Mismatch (any_field (map type_of args.now)) (of_alike (λ t. BoolType) (inners (map type_of args.now)))) }
 {
@@ -124,7 +124,7 @@ fn compared(args: &[Ty]) -> Result<Ty, Refusal>
     }
 }
 
-/// A truth value and two arguments of one type, which is given.
+// A truth value and two arguments of one type, which is given.
 fn chosen(alloc: Global, args: &[Ty]) -> Result<Ty, Refusal>
     ensures { Gives result (type_or kind.Mismatch (any_field (map type_of args.now)) (of_choice (inners (map type_of args.now)))) }
 {
@@ -143,7 +143,7 @@ fn chosen(alloc: Global, args: &[Ty]) -> Result<Ty, Refusal>
     }
 }
 
-/// A pair of at most 8 leaves.
+// A pair of at most 8 leaves.
 fn pair(alloc: Global, args: &[Ty]) -> Result<Ty, Refusal>
     ensures { Gives result (judge_builtin Builtin.Pair (map type_of args.now)) }
 {
@@ -190,7 +190,7 @@ fn second_part(alloc: Global, args: &[Ty]) -> Result<Ty, Refusal>
     }
 }
 
-/// A field and a local value of one type, which is given.
+// A field and a local value of one type, which is given.
 fn field_and_local(alloc: Global, args: &[Ty]) -> Result<Ty, Refusal>
     ensures { Gives result (type_or kind.Mismatch false (of_field_and_local (map type_of args.now))) }
 {
@@ -205,7 +205,7 @@ fn field_and_local(alloc: Global, args: &[Ty]) -> Result<Ty, Refusal>
     }
 }
 
-/// A field of a type, which is given.
+// A field of a type, which is given.
 fn field(args: &[Ty], ty: LocalTy) -> Result<Ty, Refusal>
     ensures { Gives result (type_or kind.Mismatch false (of_field (local_type_of ty) (map type_of args.now))) }
 {

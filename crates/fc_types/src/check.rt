@@ -31,13 +31,14 @@ pub fn check_types(alloc: Global, program: Program) -> Result<Typed, TypeFault>
     ensures typed { IfOk result (λ _. IsTyped (program_of program)) }
     ensures fault { IfErr result (λ e. IfFault e (FirstFault (program_of program))) }
     ensures always { IsTyped (program_of program) → IfErr result IsMemory }
-    ensures never { (n : ℕ) (k : AKind) → FirstFault (program_of program) n k → IsErrAnd result (λ e. IsFaultOrMemory n k e) }
+    ensures never { (n : ℕ) (k : AKind) → FirstFault (program_of program) n k
+        → IsErrAnd result (λ e. IsFaultOrMemory n k e) }
 {
     let declared = check_program(alloc, &program)?;
     Ok(Typed::new(program, declared))
 }
 
-/// What a program declares, or its first fault.
+// What a program declares, or its first fault.
 fn check_program(alloc: Global, program: &Program) -> Result<Declared, TypeFault>
     requires { length program.now.decls.items < 2 ^ 32 }
     ensures declared { IfOk result (λ d. declarations_of d ≡ declared_by (program_of program.now)) }
@@ -58,7 +59,7 @@ fn check_program(alloc: Global, program: &Program) -> Result<Declared, TypeFault
     Ok(known.declared(alloc)?)
 }
 
-/// Whether a declaration is typed, under those before it.
+// Whether a declaration is typed, under those before it.
 fn check_declaration(alloc: Global, known: &Known<'_>, decl: &Decl) -> Result<(), Refusal>
     ensures { Passes result (declaration_fault (known_of known.now) (declaration_of decl.now)) }
 {
@@ -128,7 +129,7 @@ fn check_width(ty: &Ty) -> Result<(), Refusal>
     }
 }
 
-/// Whether parameters have distinct names, and types of at most 8 leaves.
+// Whether parameters have distinct names, and types of at most 8 leaves.
 fn check_parameters(params: &[Param]) -> Result<(), Refusal>
     ensures { Passes result (parameter_fault [] (map parameter_of params.now)) }
 {

@@ -127,7 +127,7 @@ fn judge_let<'a>(
     let_type(scope, name, ty)
 }
 
-/// The types of expressions in a row, or their first fault.
+// The types of expressions in a row, or their first fault.
 #[cycle(judge)]
 fn judge_all(
     alloc: Global,
@@ -198,7 +198,7 @@ fn is_bound(scope: &Scope<'_>, name: &Name) -> bool
     lookup(scope, name).is_some()
 }
 
-/// The type of a `rep` or `share`, from those of its first expression and its body.
+// The type of a `rep` or `share`, from those of its first expression and its body.
 fn evolving_type(scope: &Scope<'_>, name: &Name, start: Ty, end: Ty) -> Result<Ty, Refusal>
     ensures { Gives result (judge_evolving (type_in name.now.text.items (scope_of scope.now)) (type_of start) (type_of end)) }
 {
@@ -213,7 +213,7 @@ fn evolving_type(scope: &Scope<'_>, name: &Name, start: Ty, end: Ty) -> Result<T
     }
 }
 
-/// The type of a binder, whose name may not be bound already.
+// The type of a binder, whose name may not be bound already.
 fn let_type(scope: &Scope<'_>, name: &Name, ty: Ty) -> Result<Ty, Refusal>
     ensures { Gives result (unless_bound (type_in name.now.text.items (scope_of scope.now)) (type_of ty)) }
 {
@@ -254,7 +254,7 @@ fn call_type(alloc: Global, known: &Known<'_>, name: &Name, types: &[Ty]) -> Res
     Ok(copy_type(alloc, function.result)?)
 }
 
-/// Whether arguments have the types of parameters.
+// Whether arguments have the types of parameters.
 fn are_given(types: &[Ty], params: &[Param]) -> bool
     ensures { result ≡ same_rows (map type_of types.now) (map (λ p. p.type) (map parameter_of params.now)) }
 {

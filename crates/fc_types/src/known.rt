@@ -52,7 +52,8 @@ impl<'a> Known<'a> {
 
     /// The function of a name.
     pub fn function(&self, name: &[u8]) -> Option<Function<'a>>
-        ensures { option_map (λ f. function_of name.now f) result ≡ function_named name.now (known_of self.now).functions }
+        ensures { option_map (λ f. function_of name.now f) result
+            ≡ function_named name.now (known_of self.now).functions }
     {
         self.functions.get(&name).copied()
     }

@@ -51,7 +51,7 @@ fn two(alloc: Global, builtin: Builtin, a: Expr, b: Expr) -> Result<Expr, Memory
     Ok(Expr::Apply(builtin, args))
 }
 
-/// `let x = bound in x`.
+// `let x = bound in x`.
 fn bound_once(alloc: Global, bound: Expr) -> Result<Expr, Memory>
     requires { IsExpression false (term_of bound) }
     ensures { IfOk result (λ e. IsExpression false (term_of e)) }
@@ -61,7 +61,7 @@ fn bound_once(alloc: Global, bound: Expr) -> Result<Expr, Memory>
     Ok(Expr::Let(name(alloc, b"x")?, bound, body))
 }
 
-/// The fault of `ceiling 10; input s: bool; main = E;`, or how many inputs it declares.
+// The fault of `ceiling 10; input s: bool; main = E;`, or how many inputs it declares.
 fn answer(alloc: Global, main: Expr) -> Result<Result<usize, TypeFault>, Memory>
     requires { IsExpression false (term_of main) }
 {

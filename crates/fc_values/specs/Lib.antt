@@ -2,6 +2,7 @@ pub mod Lists
 pub mod Types
 pub mod Values
 pub mod Inputs
+pub mod Names
 pub mod Numbers
 pub mod Fields
 pub mod Builtins

@@ -140,9 +140,6 @@ bare_same B v n j f x y r h =
     let c : count (counted B j) r.0.body ≡ 0 + size_of y (counted B j) = ap (count (counted B j)) r.3 in
     record { term = λ S p. h.term S p ∙ bare_term B n j x y r.0 r.1 r.2 r.3 S p; size = omega (arith, z, s, c) }
 
-pub same_call : (B : Before) (n : ℕ) (f : List ℕ) → SameCall B n f n f
-same_call B n f = record { term = λ S p. refl; size = refl }
-
 pub same_written : (B : Before) (n : ℕ) (f : List ℕ) (m : ℕ) (g : List ℕ) (N0 N1 : List Node) (t : Ty) → SameCall B n f m g →
     IsWritten N0 N1 t (call_in B m [] g [] (length N0) NoTerms) → IsWritten N0 N1 t (call_in B n [] f [] (length N0) NoTerms)
 same_written B n f m g N0 N1 t h w = let P : Term → Type 0 = (λ u. IsWritten N0 N1 t u) in subst P (sym (h.term [] (length N0))) w

@@ -90,9 +90,6 @@ module _ (N0 N1 : List Node) (v : View) (s : Sort) (place : ℕ) (p : place ≡ 
 pub size_is : (B : Before) (n : ℕ) (S : Scope) (p : ℕ) (e : Expression) → size (unfolded_in B n S p e) ≡ count (counted B n) e
 size_is B n S p e = unfolded_size B.inputs (first_meanings B n) (counted B n) (counts_are B.inputs [] [] (take n B.functions) tt) e S p
 
-pub sizes_are : (B : Before) (n : ℕ) (S : Scope) (p : ℕ) (es : Expressions) → sizes (all_unfolded_in B n S p es) ≡ count_all (counted B n) es
-sizes_are B n S p es = unfolded_all_size B.inputs (first_meanings B n) (counted B n) (counts_are B.inputs [] [] (take n B.functions) tt) es S p
-
 module _ (B : Before) (n : ℕ) (S : Scope) (N0 N1 : List Node) (v : View) (place : ℕ) (p : place ≡ length N0) (more : length N1 ≡ length N0 + 1) (begun : map view_of N1 ≡ map view_of N0 ++ v ∷ []) where
   after : length N1 ≡ suc (length N0)
   after = omega (arith, more)

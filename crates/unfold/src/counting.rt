@@ -38,7 +38,7 @@ pub fn table(alloc: Global, program: &Program) -> Result<Known<'_>, Memory>
     Ok(known)
 }
 
-/// The number of nodes of the body of each function.
+// The number of nodes of the body of each function.
 fn body_counts(alloc: Global, known: &Known<'_>) -> Result<Vec<u32>, Memory>
     ensures long { IfOk result (λ counts. length counts.items ≡ length (known_of known.now).functions) }
     ensures capped { IfOk result (λ counts. AreCapped (known_of known.now) counts.items) }

@@ -1,9 +1,25 @@
--- The words of the language.
-use Rattle.std.specs.Prelude.{ℕ, Bool, List, [], ◌∷◌, Option, codes}
-use Rattle.std.specs.List.{find}
+-- The words of the language, and what a name is.
+use Rattle.std.specs.Prelude.{ℕ, Bool, true, false, ◌≡◌, ◌&&◌, ◌||◌, ◌==◌, nat_le, is_none, List, [], ◌∷◌, Option, codes}
+use Rattle.std.specs.List.{find, list_all}
 use Rattle.std.specs.Str.{bytes_eq}
-use Rattle.fc_lexer.specs.declared.tokens.Word.{Word}
-use Rattle.fc_lexer.specs.declared.tokens.Word.TheVariants as word
+use Rattle.fc_values.specs.declared.names.Word.{Word}
+use Rattle.fc_values.specs.declared.names.Word.TheVariants as word
+
+-- a byte lies from the first to the second, both included
+abbrev pub is_between : ℕ → ℕ → ℕ → Bool
+is_between least greatest b = nat_le least b && nat_le b greatest
+
+-- `0` to `9`
+abbrev pub is_digit : ℕ → Bool
+is_digit b = is_between 48 57 b
+
+-- `a` to `z` and `A` to `Z`
+abbrev pub is_letter : ℕ → Bool
+is_letter b = is_between 97 122 b || is_between 65 90 b
+
+-- what follows the first letter of a name: letters, digits and `_`
+abbrev pub is_name_byte : ℕ → Bool
+is_name_byte b = is_letter b || is_digit b || (b == 95)
 
 -- how a word is written
 abbrev pub spelling : Word → List ℕ
@@ -59,3 +75,11 @@ is_spelled name w = bytes_eq (spelling w) name
 -- the word of this spelling, if there is one
 unfoldable pub word_of : List ℕ → Option Word
 word_of name = find (is_spelled name) words
+
+-- a letter, then letters, digits and `_`, and no word
+abbrev pub is_name : List ℕ → Bool
+is_name [] = false
+is_name (b ∷ bs) = is_letter b && list_all is_name_byte bs && is_none (word_of (b ∷ bs))
+
+abbrev pub IsName : List ℕ → Type 0
+IsName x = is_name x ≡ true
