@@ -1,9 +1,13 @@
 -- What is left to print of an expression: a stack of pieces, the first of them on top.
-use Rattle.std.specs.Prelude.{ℕ, ◌+◌, List, map, flat_map, reverse, sum_by, decimal}
+use Rattle.std.specs.Prelude.{ℕ, ◌+◌, List, ◌++◌, codes, map, flat_map, reverse, sum_by, decimal}
 use Rattle.fc_syntax.specs.Terms.{Term, IntTerm, TruthTerm, VarTerm, UidTerm, NbrLinkTerm, SenseTerm, ApplyTerm, NbrTerm, RepTerm, ShareTerm, IfTerm, LetTerm, CallTerm, Terms, NoTerms, MoreTerms, terms, term_of}
 use Rattle.fc_syntax.specs.Text.{text, placed, written, all_written, behind_commas}
 use Rattle.fc_syntax.specs.declared.pieces.Piece.{Piece}
 use Rattle.fc_syntax.specs.declared.pieces.Piece.TheVariants as piece
+
+-- the text of a value that evolves, by the word and bracket that it begins with
+abbrev pub evolution_text : List ℕ → Term → List ℕ → Term → List ℕ
+evolution_text word e x b = word ++ text e ++ codes "){(" ++ x ++ codes ") => " ++ text b ++ codes "}"
 
 -- the text of a piece
 abbrev pub piece_text : Piece → List ℕ

@@ -1,13 +1,13 @@
 //! The stack of pieces that are left to print. So no chain of operators or of `let` needs a recursion.
 
 ghost use Rattle.std.specs.Prelude.{◌≡◌, ◌+◌, ◌≤◌, ◌<◌, ◌∷◌, ◌++◌, IfOk, map};
-ghost use Rattle.fc_syntax.specs.Terms.{term_of, terms};
+ghost use Rattle.fc_syntax.specs.Terms.{IfTerm, LetTerm, term_of, terms};
 ghost use Rattle.fc_syntax.specs.Text.{apply_text, behind_commas, call_text, placed, all_written, text, written};
-ghost use Rattle.fc_syntax.specs.Pieces.{pieces_text, pieces_weight, stack_text, weight, weights};
+ghost use Rattle.fc_syntax.specs.Pieces.{evolution_text, pieces_text, pieces_weight, stack_text, weight, weights};
 
 use crate::tree::Expr;
 use crate::words::{builtin_strength, builtin_word, strength};
-use fc_values::{Builtin, Memory};
+use fc_values::{Builtin, Memory, Name};
 
 /// A piece of a text: bytes, a number, an expression, an operand with what its place asks, or arguments behind others.
 #[derive(Clone, Copy)]
@@ -52,55 +52,90 @@ pub fn push_expression<'a>(stack: &mut Vec<Piece<'a>>, expr: &'a Expr) -> Result
             stack,
             &[Piece::Text(b"nbr{"), Piece::Whole(inner), Piece::Text(b"}")],
         ),
-        Expr::Rep(first, name, body) => push(
-            stack,
-            &[
-                Piece::Text(b"rep("),
-                Piece::Whole(first),
-                Piece::Text(b"){("),
-                Piece::Text(&name.text),
-                Piece::Text(b") => "),
-                Piece::Whole(body),
-                Piece::Text(b"}"),
-            ],
-        ),
-        Expr::Share(first, name, body) => push(
-            stack,
-            &[
-                Piece::Text(b"share("),
-                Piece::Whole(first),
-                Piece::Text(b"){("),
-                Piece::Text(&name.text),
-                Piece::Text(b") => "),
-                Piece::Whole(body),
-                Piece::Text(b"}"),
-            ],
-        ),
-        Expr::If(condition, then, other) => push(
-            stack,
-            &[
-                Piece::Text(b"if ("),
-                Piece::Whole(condition),
-                Piece::Text(b") {"),
-                Piece::Whole(then),
-                Piece::Text(b"} {"),
-                Piece::Whole(other),
-                Piece::Text(b"}"),
-            ],
-        ),
-        Expr::Let(name, bound, body) => push(
-            stack,
-            &[
-                Piece::Text(b"let "),
-                Piece::Text(&name.text),
-                Piece::Text(b" = "),
-                Piece::Whole(bound),
-                Piece::Text(b" in "),
-                Piece::Whole(body),
-            ],
-        ),
+        Expr::Rep(first, name, body) => push_evolution(stack, b"rep(", first, name, body),
+        Expr::Share(first, name, body) => push_evolution(stack, b"share(", first, name, body),
+        Expr::If(condition, then, other) => push_branching(stack, condition, then, other),
+        Expr::Let(name, bound, body) => push_binding(stack, name, bound, body),
         Expr::Call(name, args) => push_call(stack, &name.text, args),
     }
+}
+
+// Puts the pieces of a value that evolves on the stack, by the word and bracket that it begins with.
+fn push_evolution<'a>(
+    stack: &mut Vec<Piece<'a>>,
+    word: &'a [u8],
+    first: &'a Expr,
+    name: &'a Name,
+    body: &'a Expr,
+) -> Result<(), Memory>
+    ensures text { IfOk result (λ _. stack_text stack.new.items
+        ≡ evolution_text word.now (term_of first.now) name.now.text.items (term_of body.now) ++ stack_text stack.old.items) }
+    ensures weight { IfOk result (λ _. pieces_weight stack.new.items
+        < 6 + weight (term_of first.now) + weight (term_of body.now) + pieces_weight stack.old.items) }
+{
+    push(
+        stack,
+        &[
+            Piece::Text(word),
+            Piece::Whole(first),
+            Piece::Text(b"){("),
+            Piece::Text(&name.text),
+            Piece::Text(b") => "),
+            Piece::Whole(body),
+            Piece::Text(b"}"),
+        ],
+    )
+}
+
+// Puts the pieces of a branching on the stack.
+fn push_branching<'a>(
+    stack: &mut Vec<Piece<'a>>,
+    condition: &'a Expr,
+    then: &'a Expr,
+    other: &'a Expr,
+) -> Result<(), Memory>
+    ensures text { IfOk result (λ _. stack_text stack.new.items
+        ≡ text (IfTerm (term_of condition.now) (term_of then.now) (term_of other.now)) ++ stack_text stack.old.items) }
+    ensures weight { IfOk result (λ _. pieces_weight stack.new.items
+        < weight (IfTerm (term_of condition.now) (term_of then.now) (term_of other.now)) + pieces_weight stack.old.items) }
+{
+    push(
+        stack,
+        &[
+            Piece::Text(b"if ("),
+            Piece::Whole(condition),
+            Piece::Text(b") {"),
+            Piece::Whole(then),
+            Piece::Text(b"} {"),
+            Piece::Whole(other),
+            Piece::Text(b"}"),
+        ],
+    )
+}
+
+// Puts the pieces of a bound value and its body on the stack.
+fn push_binding<'a>(
+    stack: &mut Vec<Piece<'a>>,
+    name: &'a Name,
+    bound: &'a Expr,
+    body: &'a Expr,
+) -> Result<(), Memory>
+    ensures text { IfOk result (λ _. stack_text stack.new.items
+        ≡ text (LetTerm name.now.text.items (term_of bound.now) (term_of body.now)) ++ stack_text stack.old.items) }
+    ensures weight { IfOk result (λ _. pieces_weight stack.new.items
+        < weight (LetTerm name.now.text.items (term_of bound.now) (term_of body.now)) + pieces_weight stack.old.items) }
+{
+    push(
+        stack,
+        &[
+            Piece::Text(b"let "),
+            Piece::Text(&name.text),
+            Piece::Text(b" = "),
+            Piece::Whole(bound),
+            Piece::Text(b" in "),
+            Piece::Whole(body),
+        ],
+    )
 }
 
 /// Puts the pieces of an operand on the stack, in brackets where its place asks more than its strength.

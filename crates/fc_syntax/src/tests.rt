@@ -2,7 +2,8 @@
 
 ghost use Rattle.std.specs.Prelude.{◌≡◌, IfOk, false, true};
 ghost use Rattle.fc_syntax.specs.Terms.{declaration_of, term_of};
-ghost use Rattle.fc_syntax.specs.Printable.{IsExpression, IsInner, IsName, IsNumber, IsOfLanguage, arity};
+ghost use Rattle.fc_values.specs.Names.{IsName};
+ghost use Rattle.fc_syntax.specs.Printable.{IsExpression, IsInner, IsNumber, IsOfLanguage, arity};
 
 use crate::{Decl, Expr, Param, Program, print};
 use fc_values::{Builtin, InputTy, LocalTy, Memory, Name, Ty};

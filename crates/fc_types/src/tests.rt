@@ -1,7 +1,8 @@
 //! Programs that are built by hand, and deep ones.
 
 ghost use Rattle.std.specs.Prelude.{◌≡◌, IfOk, false};
-ghost use Rattle.fc_syntax.specs.Printable.{IsExpression, IsName, IsNumber, IsOfLanguage, arity};
+ghost use Rattle.fc_values.specs.Names.{IsName};
+ghost use Rattle.fc_syntax.specs.Printable.{IsExpression, IsNumber, IsOfLanguage, arity};
 ghost use Rattle.fc_syntax.specs.Terms.{term_of};
 
 use crate::check::check_types;

@@ -26,6 +26,7 @@ pub enum Scope<'a> {
 }
 
 /// What an expression is read in: what the program declares, how many of its functions are seen, and the names in scope.
+#[derive(Clone, Copy)]
 pub struct Sight<'a, 'k> {
     pub known: &'a Known<'k>,
     pub visible: usize,
@@ -35,7 +36,8 @@ pub struct Sight<'a, 'k> {
 impl<'a, 'k> Sight<'a, 'k> {
     /// The same with other names in scope.
     pub fn within<'b>(&'b self, scope: &'b Scope<'b>) -> Sight<'b, 'k>
-        ensures { sight_of result ≡ record { known = known_of self.now.known.now; visible = self.now.visible; scope = scope_of scope.now } }
+        ensures { sight_of result
+            ≡ record { known = known_of self.now.known.now; visible = self.now.visible; scope = scope_of scope.now } }
     {
         Sight {
             known: &*self.known,

@@ -4,7 +4,6 @@ ghost use Rattle.std.specs.Prelude.{IfOk, false};
 ghost use Rattle.fc_syntax.specs.Printable.{IsExpression};
 ghost use Rattle.fc_syntax.specs.Terms.{term_of};
 
-use crate::counting::count_nodes;
 use crate::faults::UnfoldFault;
 use crate::unfolding::unfold;
 use fc_nodes::Op;
@@ -52,7 +51,6 @@ fn unfolds_a_sum(rt: HostRuntime) -> Result<(), Fail> {
     let alloc = rt.alloc();
     match typed(alloc, sum(alloc)?)? {
         Ok(typed) => {
-            assert_eq!(rt; count_nodes(alloc, &typed)?, 3);
             assert_eq!(rt; unfolded(alloc, &typed), Ok((3, Some(2))));
         }
         Err(fault) => assert_eq!(rt; fault, TypeFault::Memory),

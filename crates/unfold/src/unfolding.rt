@@ -36,12 +36,12 @@ pub fn unfold(alloc: Global, typed: &Typed) -> Result<Unfolded, UnfoldFault>
     ensures size { IfErr result (λ fault. IfTooLarge fault (λ size. size
         ≡ min 1000000 (length (Nodes (program_of typed.now.program))))) }
 {
-    let size = count_nodes(alloc, typed)?;
+    let program = typed.program();
+    let known = table(alloc, program)?;
+    let size = count_nodes(alloc, typed, &known)?;
     if size > MOST_NODES {
         return Err(UnfoldFault::TooLarge { size });
     }
-    let program = typed.program();
-    let known = table(alloc, program)?;
     let nodes = nodes_of(alloc, &known, program)?;
     let declared = known.declared(alloc)?;
     Ok(Unfolded::new(declared, nodes))
