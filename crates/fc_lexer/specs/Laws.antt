@@ -35,8 +35,8 @@ abbrev pub StandFrom : List ℕ → ℕ → List TokenView → Type 0
 StandFrom text least [] = (least ≤ length text) × Blank (between text least (length text))
 StandFrom text least (t ∷ ts) =
     (least ≤ t.start) × Blank (between text least t.start) × (t.start < t.end)
-        × (token_kind (between text t.start t.end) ≡ Some t.kind) × (t.line ≡ line_at text t.start)
-        × StandFrom text t.end ts
+    × (token_kind (between text t.start t.end) ≡ Some t.kind) × (t.line ≡ line_at text t.start)
+    × StandFrom text t.end ts
 
 -- so stand the tokens of a text
 abbrev pub SpansRise : Type 0

@@ -20,7 +20,8 @@ pub record Range : Type 0 where
 -- NUMBER .. NUMBER
 unfoldable pub range_read : Reader Range
 range_read ts =
-    number_read ts >>= λ m a. mark_read mark.Dots a >>= λ _ b. number_read b >>= λ n rest. Got (record { least = m; greatest = n }) rest
+    number_read ts >>= λ m a. mark_read mark.Dots a >>= λ _ b. number_read b >>= λ n rest. Got
+    (record { least = m; greatest = n }) rest
 
 -- bool, or int NUMBER .. NUMBER
 unfoldable pub input_type_read : Reader InputTy
@@ -50,7 +51,8 @@ metric_read ts = range_read ts >>= λ r a. finish_read a >>= λ _ rest. Got (Met
 unfoldable pub definition_read : Bool → Reader Declaration
 definition_read second ts =
     name_read ts >>= λ f a. mark_read mark.OpenRound a >>= λ _ b. parameters_read b >>= λ ps c. mark_read mark.CloseRound c >>= λ _ d.
-    mark_read mark.Colon d >>= λ _ e. type_read e >>= λ t g. body_read second g >>= λ body rest. Got (DefIs f ps t body) rest
+    mark_read mark.Colon d >>= λ _ e. type_read e >>= λ t g. body_read second g >>= λ body rest. Got
+    (DefIs f ps t body) rest
 
 unfoldable pub main_read : Bool → Reader Declaration
 main_read second ts = body_read second ts >>= λ e rest. Got (MainIs e) rest

@@ -95,17 +95,21 @@ enclosed_with opening closing inner ts =
 unfoldable pub more_with : Reader Term → ℕ → Reader Terms
 more_with inner zero ts = Got NoTerms ts
 more_with inner (suc k) ts =
-    if_got (mark_read mark.Comma ts) (λ _ a. inner a >>= λ e b. more_with inner k b >>= λ es c. Got (MoreTerms e es) c) (Got NoTerms ts)
+    if_got (mark_read mark.Comma ts)
+    (λ _ a. inner a >>= λ e b. more_with inner k b >>= λ es c. Got (MoreTerms e es) c) (Got NoTerms ts)
 
 -- [ expr { , expr } ] )
 unfoldable pub arguments_with : Reader Term → Reader Terms
 arguments_with inner ts =
-    if_got (mark_read mark.CloseRound ts) (λ _ a. Got NoTerms a) (inner ts >>= λ e a. more_with inner (length a) a >>= λ es b. mark_read mark.CloseRound b >>= λ _ c. Got (MoreTerms e es) c)
+    if_got (mark_read mark.CloseRound ts) (λ _ a. Got NoTerms a)
+    (inner ts >>= λ e a. more_with inner (length a) a >>= λ es b. mark_read mark.CloseRound b
+    >>= λ _ c. Got (MoreTerms e es) c)
 
 -- a name, which is a variable or called
 unfoldable pub named_with : Reader Term → List ℕ → Reader Term
 named_with inner x ts =
-    if_got (mark_read mark.OpenRound ts) (λ _ a. arguments_with inner a >>= λ es b. Got (CallTerm x es) b) (Got (VarTerm x) ts)
+    if_got (mark_read mark.OpenRound ts) (λ _ a. arguments_with inner a >>= λ es b. Got (CallTerm x es) b)
+    (Got (VarTerm x) ts)
 
 -- whether a language has a builtin
 abbrev pub has_builtin : Bool → Builtin → Bool
@@ -139,7 +143,9 @@ choice_with inner ts =
 -- expr ) or expr , expr )
 unfoldable pub bracketed_with : Reader Term → Reader Term
 bracketed_with inner ts =
-    inner ts >>= λ e a. if_got (mark_read mark.Comma a) (λ _ c. inner c >>= λ f d. mark_read mark.CloseRound d >>= λ _ r. Got (ApplyTerm b.Pair (two e f)) r) (mark_read mark.CloseRound a >>= λ _ r. Got e r)
+    inner ts >>= λ e a. if_got (mark_read mark.Comma a)
+    (λ _ c. inner c >>= λ f d. mark_read mark.CloseRound d >>= λ _ r. Got (ApplyTerm b.Pair (two e f)) r)
+    (mark_read mark.CloseRound a >>= λ _ r. Got e r)
 
 -- what follows a word
 unfoldable pub word_with : Bool → Reader Term → Word → Reader Term
@@ -217,7 +223,8 @@ nested (p ∷ ps) f = LetTerm p.0.text.items (term_of p.1) (nested ps f)
 -- expr, where the parts are read by another reader
 unfoldable pub expression_with : Bool → Reader Term → Reader Term
 expression_with second inner ts =
-    if_got (let_read ts) (λ _ a. binding_with inner a >>= λ p c. inner c >>= λ f r. Got (LetTerm p.0 p.1 f) r) (operations_with (atom_with second inner) 1 ts)
+    if_got (let_read ts) (λ _ a. binding_with inner a >>= λ p c. inner c >>= λ f r. Got (LetTerm p.0 p.1 f) r)
+    (operations_with (atom_with second inner) 1 ts)
 
 -- expr, with a budget of expressions within one another; the flag says whether it is of language 2
 unfoldable pub expression_at : Bool → ℕ → Reader Term

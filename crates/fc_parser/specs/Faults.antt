@@ -28,10 +28,11 @@ IsOpen _ = Unit {0}
 pub data FaultFrom : Place → ℕ → ℕ → List (List TokenView) → ℕ → ℕ → Type 0 where
   here : (place : Place) (number line : ℕ) (piece : List TokenView) (more : List (List TokenView))
       → ((d : Declaration) (after : Place) → Stands place piece d after → ⊥)
-          → FaultFrom place number line (piece ∷ more) number (line_of piece)
-  later : (place after : Place) (number line : ℕ) (piece : List TokenView) (more : List (List TokenView)) (d : Declaration) (n l : ℕ)
+      → FaultFrom place number line (piece ∷ more) number (line_of piece)
+  later : (place after : Place) (number line : ℕ) (piece : List TokenView) (more : List (List TokenView))
+      (d : Declaration) (n l : ℕ)
       → Stands place piece d after → FaultFrom after (number + 1) (last_line line piece) more n l
-          → FaultFrom place number line (piece ∷ more) n l
+      → FaultFrom place number line (piece ∷ more) n l
   missing : (place : Place) (number line : ℕ) → IsOpen place → FaultFrom place number line [] number line
 
 -- the first declaration at fault, by its number from 1, and its line

@@ -63,7 +63,7 @@ mutual
   pub data Expression (second : Bool) : List TokenKind → Term → Type 0 where
     binding : (x : List ℕ) (ts us : List TokenKind) (e f : Term) → Expression second ts e → Expression second us f
         → Expression second (WordOf word.Let ∷ NameOf x ∷ MarkOf mark.Is
-            ∷ (ts ++ (WordOf word.In ∷ us))) (LetTerm x e f)
+        ∷ (ts ++ (WordOf word.In ∷ us))) (LetTerm x e f)
     operation : (ts : List TokenKind) (e : Term) → Operation second 1 ts e → Expression second ts e
 
   -- An expression at a place that asks this strength: disj 1, conj 2, comp 3, sum 4, prod 5, unary 6, atom 7. What stands
@@ -72,7 +72,7 @@ mutual
     between : (n : ℕ) (k : TokenKind) (o : Builtin) (ts us : List TokenKind) (e f : Term) → operator k ≡ Some o
         → builtin_strength o ≡ n
         → Operation second (left_asks n) ts e → Operation second (suc n) us f
-            → Operation second n (ts ++ (k ∷ us)) (ApplyTerm o (two e f))
+        → Operation second n (ts ++ (k ∷ us)) (ApplyTerm o (two e f))
     negation : (n : ℕ) (ts : List TokenKind) (e : Term) → n ≡ 6 → Operation second n ts e
         → Operation second n (WordOf word.Not ∷ ts) (ApplyTerm b.Not (one e))
     stronger : (n : ℕ) (ts : List TokenKind) (e : Term) → Operation second (suc n) ts e → Operation second n ts e
@@ -99,28 +99,28 @@ mutual
     -- rep ( expr ) { ( NAME ) => expr }
     rep : (x : List ℕ) (ts us : List TokenKind) (e f : Term) → Expression second ts e → Expression second us f
         → Atom second (WordOf word.Rep ∷ MarkOf mark.OpenRound
-            ∷ (ts ++ (MarkOf mark.CloseRound ∷ MarkOf mark.OpenCurly ∷ MarkOf mark.OpenRound ∷ NameOf x
-            ∷ MarkOf mark.CloseRound ∷ MarkOf mark.Arrow ∷ (us ++ (MarkOf mark.CloseCurly ∷ []))))) (RepTerm e x f)
+        ∷ (ts ++ (MarkOf mark.CloseRound ∷ MarkOf mark.OpenCurly ∷ MarkOf mark.OpenRound ∷ NameOf x
+        ∷ MarkOf mark.CloseRound ∷ MarkOf mark.Arrow ∷ (us ++ (MarkOf mark.CloseCurly ∷ []))))) (RepTerm e x f)
     -- share ( expr ) { ( NAME ) => expr }
     share : (x : List ℕ) (ts us : List TokenKind) (e f : Term) → second ≡ true → Expression second ts e
         → Expression second us f
         → Atom second (WordOf word.Share ∷ MarkOf mark.OpenRound
-            ∷ (ts ++ (MarkOf mark.CloseRound ∷ MarkOf mark.OpenCurly ∷ MarkOf mark.OpenRound ∷ NameOf x
-            ∷ MarkOf mark.CloseRound ∷ MarkOf mark.Arrow ∷ (us ++ (MarkOf mark.CloseCurly ∷ []))))) (ShareTerm e x f)
+        ∷ (ts ++ (MarkOf mark.CloseRound ∷ MarkOf mark.OpenCurly ∷ MarkOf mark.OpenRound ∷ NameOf x
+        ∷ MarkOf mark.CloseRound ∷ MarkOf mark.Arrow ∷ (us ++ (MarkOf mark.CloseCurly ∷ []))))) (ShareTerm e x f)
     -- if ( expr ) { expr } { expr }
     choice : (ts us vs : List TokenKind) (c e f : Term) → Expression second ts c → Expression second us e
         → Expression second vs f
         → Atom second (WordOf word.If ∷ MarkOf mark.OpenRound
-            ∷ (ts ++ (MarkOf mark.CloseRound ∷ MarkOf mark.OpenCurly
-            ∷ (us ++ (MarkOf mark.CloseCurly ∷ MarkOf mark.OpenCurly
-            ∷ (vs ++ (MarkOf mark.CloseCurly ∷ []))))))) (IfTerm c e f)
+        ∷ (ts ++ (MarkOf mark.CloseRound ∷ MarkOf mark.OpenCurly
+        ∷ (us ++ (MarkOf mark.CloseCurly ∷ MarkOf mark.OpenCurly
+        ∷ (vs ++ (MarkOf mark.CloseCurly ∷ []))))))) (IfTerm c e f)
     -- ( expr ), which leaves no trace
     bracket : (ts : List TokenKind) (e : Term) → Expression second ts e
         → Atom second (MarkOf mark.OpenRound ∷ (ts ++ (MarkOf mark.CloseRound ∷ []))) e
     -- ( expr , expr )
     pair : (ts us : List TokenKind) (e f : Term) → Expression second ts e → Expression second us f
         → Atom second (MarkOf mark.OpenRound
-            ∷ (ts ++ (MarkOf mark.Comma ∷ (us ++ (MarkOf mark.CloseRound ∷ []))))) (ApplyTerm b.Pair (two e f))
+        ∷ (ts ++ (MarkOf mark.Comma ∷ (us ++ (MarkOf mark.CloseRound ∷ []))))) (ApplyTerm b.Pair (two e f))
 
   -- [ expr { , expr } ]
   pub data Arguments (second : Bool) : List TokenKind → Terms → Type 0 where
@@ -140,7 +140,7 @@ pub data LocalIs : List TokenKind → LocalType → Type 0 where
   bool_type : LocalIs (WordOf word.Bool ∷ []) BoolType
   pair_type : (ts us : List TokenKind) (s t : LocalType) → LocalIs ts s → LocalIs us t
       → LocalIs (MarkOf mark.OpenRound
-          ∷ (ts ++ (MarkOf mark.Comma ∷ (us ++ (MarkOf mark.CloseRound ∷ []))))) (PairType s t)
+      ∷ (ts ++ (MarkOf mark.Comma ∷ (us ++ (MarkOf mark.CloseRound ∷ []))))) (PairType s t)
 
 -- type
 pub data TypeIs : List TokenKind → ValueType → Type 0 where
@@ -178,17 +178,17 @@ pub data DeclarationIs (second : Bool) : List TokenKind → Declaration → Type
   -- input NAME : int NUMBER .. NUMBER ;
   whole_input : (x : List ℕ) (least greatest : ℕ) → IsNumber least → IsNumber greatest
       → DeclarationIs second (WordOf word.Input ∷ NameOf x ∷ MarkOf mark.Colon ∷ WordOf word.Int ∷ NumberOf least
-          ∷ MarkOf mark.Dots ∷ NumberOf greatest ∷ MarkOf mark.Semi ∷ []) (InputIs x (input.Whole least greatest))
+      ∷ MarkOf mark.Dots ∷ NumberOf greatest ∷ MarkOf mark.Semi ∷ []) (InputIs x (input.Whole least greatest))
   -- metric NUMBER .. NUMBER ;
   metric : (least greatest : ℕ) → IsNumber least → IsNumber greatest
       → DeclarationIs second (WordOf word.Metric ∷ NumberOf least ∷ MarkOf mark.Dots ∷ NumberOf greatest
-          ∷ MarkOf mark.Semi ∷ []) (MetricIs least greatest)
+      ∷ MarkOf mark.Semi ∷ []) (MetricIs least greatest)
   -- def NAME ( parameters ) : type = expr ;
   definition : (f : List ℕ) (ts us vs : List TokenKind) (ps : List Parameter) (t : ValueType) (e : Term)
       → ParametersAre ts ps → TypeIs us t → Expression second vs e
       → DeclarationIs second (WordOf word.Def ∷ NameOf f ∷ MarkOf mark.OpenRound
-          ∷ (ts ++ (MarkOf mark.CloseRound ∷ MarkOf mark.Colon
-          ∷ (us ++ (MarkOf mark.Is ∷ (vs ++ (MarkOf mark.Semi ∷ []))))))) (DefIs f ps t e)
+      ∷ (ts ++ (MarkOf mark.CloseRound ∷ MarkOf mark.Colon
+      ∷ (us ++ (MarkOf mark.Is ∷ (vs ++ (MarkOf mark.Semi ∷ []))))))) (DefIs f ps t e)
   -- main = expr ;
   main : (ts : List TokenKind) (e : Term) → Expression second ts e
       → DeclarationIs second (WordOf word.Main ∷ MarkOf mark.Is ∷ (ts ++ (MarkOf mark.Semi ∷ []))) (MainIs e)

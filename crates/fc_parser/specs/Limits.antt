@@ -25,7 +25,8 @@ pub data Passed : Type 0 where
 -- the limit that a declaration passes: tokens before brackets
 abbrev pub passed_by : ℕ → List TokenView → Option Passed
 passed_by number piece =
-    if nat_lt 4096 (length piece) then Some (TooMany number (length piece)) else (if nat_lt 200 (deepest 0 (kinds piece)) then Some (TooDeep number) else None)
+    if nat_lt 4096 (length piece) then Some (TooMany number (length piece)) else
+    (if nat_lt 200 (deepest 0 (kinds piece)) then Some (TooDeep number) else None)
 
 -- the first of two, if there is one
 abbrev pub or_else : Option Passed → Option Passed → Option Passed

@@ -58,7 +58,8 @@ pub record Stands (place : Place) (piece : List TokenView) (d : Declaration) (af
 -- from this place on, the pieces spell these declarations, and `main` ends them
 pub data Follow : Place → List (List TokenView) → List Declaration → Type 0 where
   ended : (second : Bool) → Follow (AfterMain second) [] []
-  then : (place after : Place) (piece : List TokenView) (more : List (List TokenView)) (d : Declaration) (ds : List Declaration)
+  then : (place after : Place) (piece : List TokenView) (more : List (List TokenView)) (d : Declaration)
+      (ds : List Declaration)
       → Stands place piece d after → Follow after more ds → Follow place (piece ∷ more) (d ∷ ds)
 
 -- the tokens derive this program

@@ -37,4 +37,4 @@ SameProgram =
 abbrev pub RefusesNothing : Type 0
 RefusesNothing =
     (ds : List Declaration) (tokens : List TokenView) (f : ParseFault) → IsPrintable ds
-        → Lexes (program_text ds) tokens → limit_passed tokens ≡ None → Refuses tokens f → f ≡ fault.Memory
+    → Lexes (program_text ds) tokens → limit_passed tokens ≡ None → Refuses tokens f → f ≡ fault.Memory

@@ -49,7 +49,8 @@ type_read = type_as field_read plain_read
 -- a parameter
 unfoldable pub parameter_read : Reader Parameter
 parameter_read ts =
-    name_read ts >>= λ x a. mark_read mark.Colon a >>= λ _ b. type_read b >>= λ t rest. Got (record { name = x; type = t }) rest
+    name_read ts >>= λ x a. mark_read mark.Colon a >>= λ _ b. type_read b >>= λ t rest. Got
+    (record { name = x; type = t }) rest
 
 -- at most so many parameters, each behind a comma, after these
 unfoldable pub more_at : ℕ → List Parameter → Reader (List Parameter)

@@ -103,7 +103,8 @@ fn operations<'a>(
     tokens: &'a [Token],
 ) -> Result<(Expr, &'a [Token]), Refused>
     requires { strength ≤ 6 }
-    ensures { GivesExpression result (operations_with (atom_with second (expression_at second budget)) strength (kinds_of tokens.now)) }
+    ensures { GivesExpression result
+        (operations_with (atom_with second (expression_at second budget)) strength (kinds_of tokens.now)) }
 {
     if strength == NOT {
         return unary(alloc, second, budget, tokens);
@@ -135,7 +136,8 @@ fn unary<'a>(
     budget: usize,
     tokens: &'a [Token],
 ) -> Result<(Expr, &'a [Token]), Refused>
-    ensures { GivesExpression result (unary_with (atom_with second (expression_at second budget)) (kinds_of tokens.now)) }
+    ensures { GivesExpression result
+        (unary_with (atom_with second (expression_at second budget)) (kinds_of tokens.now)) }
 {
     let (many, rest) = nots(tokens);
     let (operand, rest) = atom(alloc, second, budget, rest)?;
@@ -370,7 +372,8 @@ fn enclosed<'a>(
     marks: (Mark, Mark),
     tokens: &'a [Token],
 ) -> Result<(Expr, &'a [Token]), Refused>
-    ensures { GivesExpression result (enclosed_with marks.0 marks.1 (expression_at second budget) (kinds_of tokens.now)) }
+    ensures { GivesExpression result
+        (enclosed_with marks.0 marks.1 (expression_at second budget) (kinds_of tokens.now)) }
 {
     let rest = expect(tokens, marks.0)?;
     let (inner, rest) = expression_within(alloc, second, budget, rest)?;

@@ -78,7 +78,7 @@ call_text word args = word ++ codes "(" ++ with_commas (map (λ w. w.text) args)
 abbrev pub between_text : Builtin → Written → Written → List ℕ
 between_text b left right =
     placed (left_asks (builtin_strength b)) left ++ codes " " ++ builtin_word b ++ codes " "
-        ++ placed (builtin_strength b + 1) right
+    ++ placed (builtin_strength b + 1) right
 
 -- A builtin and its arguments. An operator that has another number of operands than the grammar gives it, which no
 -- program of the grammar holds, is written as `min` is.

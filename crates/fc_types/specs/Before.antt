@@ -26,13 +26,23 @@ abbrev pub and_then : Before → Declaration → Before
 and_then B (LanguageIs n) = B
 and_then B (CeilingIs n) = record { ceiling = n; inputs = B.inputs; metric = B.metric; functions = B.functions }
 and_then B (InputIs x t) =
-    record { ceiling = B.ceiling; inputs = B.inputs ++ record { name = x; type = t }
-    ∷ []; metric = B.metric; functions = B.functions }
+    record {
+      ceiling = B.ceiling;
+      inputs = B.inputs ++ record { name = x; type = t }
+          ∷ [];
+      metric = B.metric;
+      functions = B.functions;
+    }
 and_then B (MetricIs least greatest) =
     record { ceiling = B.ceiling; inputs = B.inputs; metric = Some (least, greatest); functions = B.functions }
 and_then B (DefIs f params result body) =
-    record { ceiling = B.ceiling; inputs = B.inputs; metric = B.metric; functions = B.functions
-        ++ record { name = f; params = params; result = result; body = body } ∷ [] }
+    record {
+      ceiling = B.ceiling;
+      inputs = B.inputs;
+      metric = B.metric;
+      functions = B.functions
+          ++ record { name = f; params = params; result = result; body = body } ∷ [];
+    }
 and_then B (MainIs e) = B
 
 abbrev pub and_all : Before → List Declaration → Before

@@ -54,20 +54,20 @@ mutual
         → FirstFaultIn B scope (CallTerm f es) k
     call_unknown : {B : Before} {scope : Scope} {f : List ℕ} {es : Terms} {ts : List ValueType} →
         HaveTypes B scope es ts → function_named f B.functions ≡ None
-            → FirstFaultIn B scope (CallTerm f es) kind.Unknown
+        → FirstFaultIn B scope (CallTerm f es) kind.Unknown
     call_count : {B : Before} {scope : Scope} {f : List ℕ} {es : Terms} {ts : List ValueType} {g : Function} →
         HaveTypes B scope es ts → function_named f B.functions ≡ Some g → (length ts ≡ length g.params → ⊥)
-            → FirstFaultIn B scope (CallTerm f es) kind.Count
+        → FirstFaultIn B scope (CallTerm f es) kind.Count
     call_mismatch : {B : Before} {scope : Scope} {f : List ℕ} {es : Terms} {ts : List ValueType} {g : Function} →
         HaveTypes B scope es ts → function_named f B.functions ≡ Some g → length ts ≡ length g.params
-            → (ts ≡ parameter_types g → ⊥) →
+        → (ts ≡ parameter_types g → ⊥) →
         FirstFaultIn B scope (CallTerm f es) kind.Mismatch
     -- builtin, `rise` among them
     in_operand : {B : Before} {scope : Scope} {b : Builtin} {es : Terms} {k : TypeKind} → FirstFaultAmong B scope es k
         → FirstFaultIn B scope (ApplyTerm b es) k
     builtin_mismatch : {B : Before} {scope : Scope} {b : Builtin} {es : Terms} {ts : List ValueType} →
         HaveTypes B scope es ts → HasNoRule b ts → (IsWidePair b ts → ⊥)
-            → FirstFaultIn B scope (ApplyTerm b es) kind.Mismatch
+        → FirstFaultIn B scope (ApplyTerm b es) kind.Mismatch
     builtin_wide : {B : Before} {scope : Scope} {b : Builtin} {es : Terms} {ts : List ValueType} →
         HaveTypes B scope es ts → IsWidePair b ts → FirstFaultIn B scope (ApplyTerm b es) kind.Wide
     -- `nbr`
@@ -82,28 +82,28 @@ mutual
         HasType B scope e s → FirstFaultIn B (bind x s scope) b k → FirstFaultIn B scope (RepTerm e x b) k
     rep_not_local : {B : Before} {scope : Scope} {e : Term} {x : List ℕ} {b : Term} {s t : ValueType} →
         HasType B scope e s → HasType B (bind x s scope) b t → IsField s ⊎ IsField t
-            → FirstFaultIn B scope (RepTerm e x b) kind.NotLocal
+        → FirstFaultIn B scope (RepTerm e x b) kind.NotLocal
     rep_mismatch : {B : Before} {scope : Scope} {e : Term} {x : List ℕ} {b : Term} {s t : LocalType} →
         HasType B scope e (TypeLocal s) → HasType B (bind x (TypeLocal s) scope) b (TypeLocal t) → (s ≡ t → ⊥)
-            → FirstFaultIn B scope (RepTerm e x b) kind.Mismatch
+        → FirstFaultIn B scope (RepTerm e x b) kind.Mismatch
     rep_twice : {B : Before} {scope : Scope} {e : Term} {x : List ℕ} {b : Term} {t : LocalType} →
         HasType B scope e (TypeLocal t) → HasType B (bind x (TypeLocal t) scope) b (TypeLocal t) → IsBound x scope
-            → FirstFaultIn B scope (RepTerm e x b) kind.Twice
+        → FirstFaultIn B scope (RepTerm e x b) kind.Twice
     -- `share`
     in_share_first : {B : Before} {scope : Scope} {e : Term} {x : List ℕ} {b : Term} {k : TypeKind}
         → FirstFaultIn B scope e k → FirstFaultIn B scope (ShareTerm e x b) k
     in_share_body : {B : Before} {scope : Scope} {e : Term} {x : List ℕ} {b : Term} {k : TypeKind} {s : ValueType} →
         HasType B scope e s → FirstFaultIn B (bind x (shared_type s) scope) b k
-            → FirstFaultIn B scope (ShareTerm e x b) k
+        → FirstFaultIn B scope (ShareTerm e x b) k
     share_not_local : {B : Before} {scope : Scope} {e : Term} {x : List ℕ} {b : Term} {s t : ValueType} →
         HasType B scope e s → HasType B (bind x (shared_type s) scope) b t → IsField s ⊎ IsField t
-            → FirstFaultIn B scope (ShareTerm e x b) kind.NotLocal
+        → FirstFaultIn B scope (ShareTerm e x b) kind.NotLocal
     share_mismatch : {B : Before} {scope : Scope} {e : Term} {x : List ℕ} {b : Term} {s t : LocalType} →
         HasType B scope e (TypeLocal s) → HasType B (bind x (TypeField s) scope) b (TypeLocal t) → (s ≡ t → ⊥)
-            → FirstFaultIn B scope (ShareTerm e x b) kind.Mismatch
+        → FirstFaultIn B scope (ShareTerm e x b) kind.Mismatch
     share_twice : {B : Before} {scope : Scope} {e : Term} {x : List ℕ} {b : Term} {t : LocalType} →
         HasType B scope e (TypeLocal t) → HasType B (bind x (TypeField t) scope) b (TypeLocal t) → IsBound x scope
-            → FirstFaultIn B scope (ShareTerm e x b) kind.Twice
+        → FirstFaultIn B scope (ShareTerm e x b) kind.Twice
     -- `if`
     in_condition : {B : Before} {scope : Scope} {c a b : Term} {k : TypeKind} → FirstFaultIn B scope c k
         → FirstFaultIn B scope (IfTerm c a b) k
@@ -113,10 +113,10 @@ mutual
         HasType B scope c r → HasType B scope a s → FirstFaultIn B scope b k → FirstFaultIn B scope (IfTerm c a b) k
     if_not_local : {B : Before} {scope : Scope} {c a b : Term} {r s t : ValueType} →
         HasType B scope c r → HasType B scope a s → HasType B scope b t → IsField r ⊎ IsField s ⊎ IsField t
-            → FirstFaultIn B scope (IfTerm c a b) kind.NotLocal
+        → FirstFaultIn B scope (IfTerm c a b) kind.NotLocal
     if_mismatch : {B : Before} {scope : Scope} {c a b : Term} {r s t : LocalType} →
         HasType B scope c (TypeLocal r) → HasType B scope a (TypeLocal s) → HasType B scope b (TypeLocal t)
-            → ((r ≡ BoolType) × (s ≡ t) → ⊥) →
+        → ((r ≡ BoolType) × (s ≡ t) → ⊥) →
         FirstFaultIn B scope (IfTerm c a b) kind.Mismatch
     -- `let`
     in_bound : {B : Before} {scope : Scope} {x : List ℕ} {a b : Term} {k : TypeKind} → FirstFaultIn B scope a k
@@ -125,7 +125,7 @@ mutual
         HasType B scope a s → FirstFaultIn B (bind x s scope) b k → FirstFaultIn B scope (LetTerm x a b) k
     let_twice : {B : Before} {scope : Scope} {x : List ℕ} {a b : Term} {s t : ValueType} →
         HasType B scope a s → HasType B (bind x s scope) b t → IsBound x scope
-            → FirstFaultIn B scope (LetTerm x a b) kind.Twice
+        → FirstFaultIn B scope (LetTerm x a b) kind.Twice
 
   -- the first fault among expressions in a row
   pub data FirstFaultAmong : Before → Scope → Terms → TypeKind → Type 0 where
@@ -162,7 +162,7 @@ pub data DeclarationFault : Before → Declaration → TypeKind → Type 0 where
       → DeclarationFault B (InputIs x t) kind.Twice
   input_range : {B : Before} {x : List ℕ} {least greatest : ℕ} →
       input_named x B.inputs ≡ None → IsNoRange B.ceiling least greatest
-          → DeclarationFault B (InputIs x (input.Whole least greatest)) kind.Range
+      → DeclarationFault B (InputIs x (input.Whole least greatest)) kind.Range
   -- `metric`
   metric_twice : {B : Before} {least greatest : ℕ} {m : ℕ × ℕ} → B.metric ≡ Some m
       → DeclarationFault B (MetricIs least greatest) kind.Twice
@@ -179,7 +179,7 @@ pub data DeclarationFault : Before → Declaration → TypeKind → Type 0 where
       IsNew f B → AreParameters [] ps → IsNarrow r → FirstFaultIn B ps e k → DeclarationFault B (DefIs f ps r e) k
   def_result : {B : Before} {f : List ℕ} {ps : List Parameter} {r t : ValueType} {e : Term} →
       IsNew f B → AreParameters [] ps → IsNarrow r → HasType B ps e t → (t ≡ r → ⊥)
-          → DeclarationFault B (DefIs f ps r e) kind.Result
+      → DeclarationFault B (DefIs f ps r e) kind.Result
   -- `main`
   main_expression : {B : Before} {e : Term} {k : TypeKind} → FirstFaultIn B [] e k → DeclarationFault B (MainIs e) k
   main_not_local : {B : Before} {e : Term} {t : LocalType} → HasType B [] e (TypeField t)

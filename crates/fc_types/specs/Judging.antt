@@ -180,7 +180,8 @@ judge_if _ _ _ = FaultIs kind.NotLocal
 abbrev pub judge_call : Option Function → List ValueType → Judgement
 judge_call None ts = FaultIs kind.Unknown
 judge_call (Some g) ts =
-    where_same (length ts == length g.params) kind.Count (where_same (same_types ts (parameter_types g)) kind.Mismatch (TypeIs g.result))
+    where_same (length ts == length g.params) kind.Count
+    (where_same (same_types ts (parameter_types g)) kind.Mismatch (TypeIs g.result))
 
 abbrev mutual
   pub judge : Before → Scope → Term → Judgement
@@ -195,7 +196,8 @@ abbrev mutual
   judge B scope (RepTerm e x b) =
       go_on (judge B scope e) (λ s. go_on (judge B (bind x s scope) b) (judge_evolving (type_in x scope) s))
   judge B scope (ShareTerm e x b) =
-      go_on (judge B scope e) (λ s. go_on (judge B (bind x (shared_type s) scope) b) (judge_evolving (type_in x scope) s))
+      go_on (judge B scope e) (λ s. go_on (judge B (bind x (shared_type s) scope) b)
+      (judge_evolving (type_in x scope) s))
   judge B scope (IfTerm c a b) =
       go_on (judge B scope c) (λ r. go_on (judge B scope a) (λ s. go_on (judge B scope b) (judge_if r s)))
   judge B scope (LetTerm x a b) =
@@ -256,5 +258,6 @@ declaration_fault B (CeilingIs n) = fault_where (n == 0) kind.Range None
 declaration_fault B (InputIs x t) = fault_if (input_named x B.inputs) kind.Twice (input_fault B.ceiling t)
 declaration_fault B (MetricIs least greatest) = fault_if B.metric kind.Twice (range_fault B.ceiling least greatest)
 declaration_fault B (DefIs f ps r e) =
-    fault_if (function_named f B.functions) kind.Twice (or_fault (parameter_fault [] ps) (or_fault (width_fault r) (body_fault r (judge B ps e))))
+    fault_if (function_named f B.functions) kind.Twice
+    (or_fault (parameter_fault [] ps) (or_fault (width_fault r) (body_fault r (judge B ps e))))
 declaration_fault B (MainIs e) = main_fault (judge B [] e)

@@ -33,18 +33,18 @@ mutual
         → HasType B scope (NbrTerm e) (TypeField t)
     rep_type : {B : Before} {scope : Scope} {e : Term} {x : List ℕ} {b : Term} {t : LocalType} →
         HasType B scope e (TypeLocal t) → HasType B (bind x (TypeLocal t) scope) b (TypeLocal t) → IsFree x scope
-            → HasType B scope (RepTerm e x b) (TypeLocal t)
+        → HasType B scope (RepTerm e x b) (TypeLocal t)
     share_type : {B : Before} {scope : Scope} {e : Term} {x : List ℕ} {b : Term} {t : LocalType} →
         HasType B scope e (TypeLocal t) → HasType B (bind x (TypeField t) scope) b (TypeLocal t) → IsFree x scope
-            → HasType B scope (ShareTerm e x b) (TypeLocal t)
+        → HasType B scope (ShareTerm e x b) (TypeLocal t)
     if_type : {B : Before} {scope : Scope} {c a b : Term} {t : LocalType} →
         HasType B scope c (TypeLocal BoolType) → HasType B scope a (TypeLocal t) → HasType B scope b (TypeLocal t)
-            → HasType B scope (IfTerm c a b) (TypeLocal t)
+        → HasType B scope (IfTerm c a b) (TypeLocal t)
     let_type : {B : Before} {scope : Scope} {x : List ℕ} {a b : Term} {s t : ValueType} →
         HasType B scope a s → HasType B (bind x s scope) b t → IsFree x scope → HasType B scope (LetTerm x a b) t
     call_type : {B : Before} {scope : Scope} {f : List ℕ} {es : Terms} {g : Function} →
         function_named f B.functions ≡ Some g → HaveTypes B scope es (parameter_types g)
-            → HasType B scope (CallTerm f es) g.result
+        → HasType B scope (CallTerm f es) g.result
 
   pub data HaveTypes : Before → Scope → Terms → List ValueType → Type 0 where
     no_types : {B : Before} {scope : Scope} → HaveTypes B scope NoTerms []

@@ -81,7 +81,8 @@ fn each_is(args: &[Ty], ty: &LocalTy) -> bool
 
 // So many arguments, each of one type.
 fn all_of(args: &[Ty], each: &LocalTy, count: usize, ty: LocalTy) -> Result<Ty, Refusal>
-    ensures { Gives result (type_or kind.Mismatch (any_field (map type_of args.now)) (all_type (local_type_of each.now) count (local_type_of ty) (inners (map type_of args.now)))) }
+    ensures { Gives result (type_or kind.Mismatch (any_field (map type_of args.now))
+        (all_type (local_type_of each.now) count (local_type_of ty) (inners (map type_of args.now)))) }
 {
     if args.len() != count {
         return Err(Refusal::Kind(TypeKind::Mismatch));
@@ -95,7 +96,8 @@ fn all_of(args: &[Ty], each: &LocalTy, count: usize, ty: LocalTy) -> Result<Ty, 
 
 // Two arguments of one type, which is given.
 fn alike(alloc: Global, args: &[Ty]) -> Result<Ty, Refusal>
-    ensures { Gives result (type_or kind.Mismatch (any_field (map type_of args.now)) (of_alike (λ t. t) (inners (map type_of args.now)))) }
+    ensures { Gives result (type_or kind.Mismatch (any_field (map type_of args.now))
+        (of_alike (λ t. t) (inners (map type_of args.now)))) }
 {
     match args {
         [first, second] => {
@@ -111,7 +113,8 @@ fn alike(alloc: Global, args: &[Ty]) -> Result<Ty, Refusal>
 
 // Two arguments of one type give a truth value.
 fn compared(args: &[Ty]) -> Result<Ty, Refusal>
-    ensures { Gives result (type_or kind.Mismatch (any_field (map type_of args.now)) (of_alike (λ t. BoolType) (inners (map type_of args.now)))) }
+    ensures { Gives result (type_or kind.Mismatch (any_field (map type_of args.now))
+        (of_alike (λ t. BoolType) (inners (map type_of args.now)))) }
 {
     match args {
         [first, second] => {
@@ -126,7 +129,8 @@ fn compared(args: &[Ty]) -> Result<Ty, Refusal>
 
 // A truth value and two arguments of one type, which is given.
 fn chosen(alloc: Global, args: &[Ty]) -> Result<Ty, Refusal>
-    ensures { Gives result (type_or kind.Mismatch (any_field (map type_of args.now)) (of_choice (inners (map type_of args.now)))) }
+    ensures { Gives result (type_or kind.Mismatch (any_field (map type_of args.now))
+        (of_choice (inners (map type_of args.now)))) }
 {
     match args {
         [condition, first, second] => {
@@ -161,7 +165,8 @@ fn pair(alloc: Global, args: &[Ty]) -> Result<Ty, Refusal>
 }
 
 fn first_part(alloc: Global, args: &[Ty]) -> Result<Ty, Refusal>
-    ensures { Gives result (type_or kind.Mismatch (any_field (map type_of args.now)) (of_part (λ s t. s) (inners (map type_of args.now)))) }
+    ensures { Gives result (type_or kind.Mismatch (any_field (map type_of args.now))
+        (of_part (λ s t. s) (inners (map type_of args.now)))) }
 {
     match args {
         [only] => match inner(only) {
@@ -176,7 +181,8 @@ fn first_part(alloc: Global, args: &[Ty]) -> Result<Ty, Refusal>
 }
 
 fn second_part(alloc: Global, args: &[Ty]) -> Result<Ty, Refusal>
-    ensures { Gives result (type_or kind.Mismatch (any_field (map type_of args.now)) (of_part (λ s t. t) (inners (map type_of args.now)))) }
+    ensures { Gives result (type_or kind.Mismatch (any_field (map type_of args.now))
+        (of_part (λ s t. t) (inners (map type_of args.now)))) }
 {
     match args {
         [only] => match inner(only) {

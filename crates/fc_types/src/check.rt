@@ -149,7 +149,8 @@ fn check_body(
     declared: &Ty,
     body: &Expr,
 ) -> Result<(), Refusal>
-    ensures { Passes result (body_fault (type_of declared.now) (judgement (known_of known.now) (map parameter_of params.now) (term_of body.now))) }
+    ensures { Passes result (body_fault (type_of declared.now)
+        (judgement (known_of known.now) (map parameter_of params.now) (term_of body.now))) }
 {
     let ty = judge(alloc, known, &Scope::Params(params), body)?;
     if same_types(&ty, declared) {

@@ -64,7 +64,8 @@ fn judge_rep<'a>(
     name: &'a Name,
     body: &Expr,
 ) -> Result<Ty, Refusal>
-    ensures { Gives result (judgement (known_of known.now) (scope_of scope.now) (RepTerm (term_of first.now) name.now.text.items (term_of body.now))) }
+    ensures { Gives result (judgement (known_of known.now) (scope_of scope.now)
+        (RepTerm (term_of first.now) name.now.text.items (term_of body.now))) }
 {
     let start = judge(alloc, known, scope, first)?;
     let inner = Scope::Bind(&*name, &start, &*scope);
@@ -82,7 +83,8 @@ fn judge_share<'a>(
     name: &'a Name,
     body: &Expr,
 ) -> Result<Ty, Refusal>
-    ensures { Gives result (judgement (known_of known.now) (scope_of scope.now) (ShareTerm (term_of first.now) name.now.text.items (term_of body.now))) }
+    ensures { Gives result (judgement (known_of known.now) (scope_of scope.now)
+        (ShareTerm (term_of first.now) name.now.text.items (term_of body.now))) }
 {
     let start = judge(alloc, known, scope, first)?;
     let shared = shared_type(alloc, &start)?;
@@ -101,7 +103,8 @@ fn judge_branches(
     then: &Expr,
     other: &Expr,
 ) -> Result<Ty, Refusal>
-    ensures { Gives result (judgement (known_of known.now) (scope_of scope.now) (IfTerm (term_of condition.now) (term_of then.now) (term_of other.now))) }
+    ensures { Gives result (judgement (known_of known.now) (scope_of scope.now)
+        (IfTerm (term_of condition.now) (term_of then.now) (term_of other.now))) }
 {
     let condition = judge(alloc, known, scope, condition)?;
     let then = judge(alloc, known, scope, then)?;
@@ -119,7 +122,8 @@ fn judge_let<'a>(
     bound: &Expr,
     body: &Expr,
 ) -> Result<Ty, Refusal>
-    ensures { Gives result (judgement (known_of known.now) (scope_of scope.now) (LetTerm name.now.text.items (term_of bound.now) (term_of body.now))) }
+    ensures { Gives result (judgement (known_of known.now) (scope_of scope.now)
+        (LetTerm name.now.text.items (term_of bound.now) (term_of body.now))) }
 {
     let bound = judge(alloc, known, scope, bound)?;
     let inner = Scope::Bind(&*name, &bound, &*scope);
@@ -200,7 +204,8 @@ fn is_bound(scope: &Scope<'_>, name: &Name) -> bool
 
 // The type of a `rep` or `share`, from those of its first expression and its body.
 fn evolving_type(scope: &Scope<'_>, name: &Name, start: Ty, end: Ty) -> Result<Ty, Refusal>
-    ensures { Gives result (judge_evolving (type_in name.now.text.items (scope_of scope.now)) (type_of start) (type_of end)) }
+    ensures { Gives result (judge_evolving (type_in name.now.text.items (scope_of scope.now)) (type_of start)
+        (type_of end)) }
 {
     match (start, end) {
         (Ty::Local(start), Ty::Local(end)) => {
@@ -240,7 +245,8 @@ fn if_type(condition: Ty, then: Ty, other: Ty) -> Result<Ty, Refusal>
 }
 
 fn call_type(alloc: Global, known: &Known<'_>, name: &Name, types: &[Ty]) -> Result<Ty, Refusal>
-    ensures { Gives result (judge_call (function_named name.now.text.items (known_of known.now).functions) (map type_of types.now)) }
+    ensures { Gives result (judge_call (function_named name.now.text.items (known_of known.now).functions)
+        (map type_of types.now)) }
 {
     let Some(function) = known.function(&name.text) else {
         return Err(Refusal::Kind(TypeKind::Unknown));
