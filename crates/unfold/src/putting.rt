@@ -21,8 +21,7 @@ pub fn begin_node(alloc: Global, nodes: &mut Vec<Node>) -> Result<u32, Memory>
     requires room { length nodes.old.items < 2048 }
     ensures place { IfOk result (λ place. place ≡ length nodes.old.items) }
     ensures long { IfOk result (λ place. length nodes.new.items ≡ length nodes.old.items + 1) }
-    ensures behind { IfOk result (λ place. map view_of nodes.new.items ≡ map view_of nodes.old.items
-        ++ Has (sort_of Op.Let) (type_of (Ty.Local LocalTy.Int)) [] ∷ []) }
+    ensures behind { IfOk result (λ place. map view_of nodes.new.items ≡ map view_of nodes.old.items ++ Has (sort_of Op.Let) (type_of (Ty.Local LocalTy.Int)) [] ∷ []) }
 {
     let place = nodes.len() as u32;
     nodes.push(Node {
@@ -37,8 +36,7 @@ pub fn begin_node(alloc: Global, nodes: &mut Vec<Node>) -> Result<u32, Memory>
 pub fn end_node(nodes: &mut Vec<Node>, place: u32, op: Op, ty: Ty, kids: Vec<u32>)
     requires { place < length nodes.old.items }
     ensures long { length nodes.new.items ≡ length nodes.old.items }
-    ensures set { map view_of nodes.new.items
-        ≡ slice_set (map view_of nodes.old.items) place (Has (sort_of op) (type_of ty) kids.items) }
+    ensures set { map view_of nodes.new.items ≡ slice_set (map view_of nodes.old.items) place (Has (sort_of op) (type_of ty) kids.items) }
 {
     nodes[place as usize] = Node { op, ty, kids };
 }
@@ -46,8 +44,7 @@ pub fn end_node(nodes: &mut Vec<Node>, place: u32, op: Op, ty: Ty, kids: Vec<u32
 /// Puts a node without kids behind others, and gives its type.
 pub fn put_leaf(alloc: Global, nodes: &mut Vec<Node>, op: Op, ty: Ty) -> Result<Ty, Memory>
     ensures long { IfOk result (λ t. length nodes.new.items ≡ length nodes.old.items + 1) }
-    ensures behind { IfOk result (λ t. map view_of nodes.new.items ≡ map view_of nodes.old.items
-        ++ Has (sort_of op) (type_of ty) [] ∷ []) }
+    ensures behind { IfOk result (λ t. map view_of nodes.new.items ≡ map view_of nodes.old.items ++ Has (sort_of op) (type_of ty) [] ∷ []) }
     ensures same { IfOk result (λ t. type_of t ≡ type_of ty) }
 {
     nodes.push(Node {

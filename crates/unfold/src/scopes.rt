@@ -3,11 +3,9 @@
 ghost use Rattle.std.specs.Prelude.{◌≡◌, map};
 ghost use Rattle.fc_syntax.specs.Terms.{parameter_of};
 ghost use Rattle.unfold.specs.Unfolding.{binder_of, variable_term};
-ghost use Rattle.fc_types.specs.Views.{known_of};
-ghost use Rattle.unfold.specs.Writing.{argument_of, arguments, found_term, scope_of, sight_of};
+ghost use Rattle.unfold.specs.Writing.{argument_of, arguments, found_term, scope_of};
 
 use fc_syntax::Param;
-use fc_types::Known;
 use fc_values::{Name, Ty};
 
 /// An argument of a call: the place of the `let` that binds it, and its type.
@@ -23,28 +21,6 @@ pub struct Argument {
 pub enum Scope<'a> {
     Arguments(&'a [Param], &'a [Argument]),
     Bind(&'a Name, u32, &'a Ty, &'a Scope<'a>),
-}
-
-/// What an expression is read in: what the program declares, how many of its functions are seen, and the names in scope.
-#[derive(Clone, Copy)]
-pub struct Sight<'a, 'k> {
-    pub known: &'a Known<'k>,
-    pub visible: usize,
-    pub scope: &'a Scope<'a>,
-}
-
-impl<'a, 'k> Sight<'a, 'k> {
-    /// The same with other names in scope.
-    pub fn within<'b>(&'b self, scope: &'b Scope<'b>) -> Sight<'b, 'k>
-        ensures { sight_of result
-            ≡ record { known = known_of self.now.known.now; visible = self.now.visible; scope = scope_of scope.now } }
-    {
-        Sight {
-            known: &*self.known,
-            visible: self.visible,
-            scope: &*scope,
-        }
-    }
 }
 
 /// The place and the type of the nearest that has a name.
@@ -63,7 +39,7 @@ pub fn lookup<'a>(scope: &Scope<'a>, name: &Name) -> Option<(u32, &'a Ty)>
     }
 }
 
-// The place and the type of an argument, by the name of its parameter.
+/// The place and the type of an argument, by the name of its parameter.
 fn lookup_argument<'a>(
     params: &[Param],
     given: &'a [Argument],
