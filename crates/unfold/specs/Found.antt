@@ -6,7 +6,8 @@ use Rattle.fc_types.specs.Before.{Function}
 -- the first function of a name has this number
 pub data FirstAt : List ℕ → List Function → ℕ → Function → Type 0 where
   first_here : {x : List ℕ} {f : Function} {fs : List Function} → bytes_eq x f.name ≡ true → FirstAt x (f ∷ fs) 0 f
-  first_later : {x : List ℕ} {f g : Function} {fs : List Function} {j : ℕ} → bytes_eq x f.name ≡ false → FirstAt x fs j g → FirstAt x (f ∷ fs) (suc j) g
+  first_later : {x : List ℕ} {f g : Function} {fs : List Function} {j : ℕ} → bytes_eq x f.name ≡ false
+      → FirstAt x fs j g → FirstAt x (f ∷ fs) (suc j) g
 
 -- none of the first so many has the name
 abbrev pub NoneAmong : List ℕ → List Function → ℕ → Type 0

@@ -14,7 +14,8 @@ use Rattle.unfold.specs.Counting.{main_count}
 -- Nodes that are those of a typed program, at most 2,048 of them, are a program of nodes under its declarations.
 abbrev pub UnfoldingIsProgram : Type 0
 UnfoldingIsProgram =
-    (ds : List Declaration) (ns : List Node) → IsPrintable ds → IsTyped ds → length ds < 2 ^ 32 → map view_of ns ≡ Nodes ds → length ns ≤ 2048 →
+    (ds : List Declaration) (ns : List Node) → IsPrintable ds → IsTyped ds → length ds < 2 ^ 32 → map view_of ns
+    ≡ Nodes ds → length ns ≤ 2048 →
     IsProgram (record { declared = declared_by ds; nodes = ns })
 
 -- The term of these nodes is `main`, unfolded.

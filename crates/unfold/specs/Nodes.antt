@@ -10,9 +10,11 @@ abbrev mutual
   listed p (Plain t l) = Has (OfLeaf l) t [] ∷ []
   listed p (Apply t b xs) = Has (OfApply b) t (places (suc p) xs) ∷ all_listed (suc p) xs
   listed p (Nbr t a) = Has OfNbr t (suc p ∷ []) ∷ listed (suc p) a
-  listed p (Evolve t v a b) = Has (OfEvolve v) t (suc p ∷ (suc p + size a) ∷ []) ∷ (listed (suc p) a ++ listed (suc p + size a) b)
+  listed p (Evolve t v a b) =
+      Has (OfEvolve v) t (suc p ∷ (suc p + size a) ∷ []) ∷ (listed (suc p) a ++ listed (suc p + size a) b)
   listed p (If t c a b) =
-      Has OfIf t (suc p ∷ (suc p + size c) ∷ (suc p + size c + size a) ∷ []) ∷ (listed (suc p) c ++ listed (suc p + size c) a ++ listed (suc p + size c + size a) b)
+      Has OfIf t (suc p ∷ (suc p + size c) ∷ (suc p + size c + size a) ∷ [])
+      ∷ (listed (suc p) c ++ listed (suc p + size c) a ++ listed (suc p + size c + size a) b)
   listed p (Let t a b) = Has OfLet t (suc p ∷ (suc p + size a) ∷ []) ∷ (listed (suc p) a ++ listed (suc p + size a) b)
 
   pub all_listed : ℕ → Terms → List View

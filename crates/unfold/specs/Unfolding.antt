@@ -78,7 +78,8 @@ bind x p t scope = record { name = x; place = p; type = t } ∷ scope
 -- Nodes at a place from what their kids are. The first kid stands behind the node, and each further one behind the last
 -- node of the one before.
 abbrev pub evolve_term : Evolution → List ℕ → Scope → ℕ → Term → (Scope → ℕ → Term) → Term
-evolve_term v x scope p a body = Evolve (type_of a) v a (body (bind x p (variable_type v (type_of a)) scope) (suc p + size a))
+evolve_term v x scope p a body =
+    Evolve (type_of a) v a (body (bind x p (variable_type v (type_of a)) scope) (suc p + size a))
 
 abbrev pub branches : ℕ → Term → Term → (ℕ → Term) → Term
 branches p c a other = If (type_of a) c a (other (suc p + size c + size a))
@@ -127,20 +128,27 @@ abbrev mutual
   unfolded is ms scope p (SenseTerm x) = sense_by is (input_number x is)
   unfolded is ms scope p (ApplyTerm b es) = apply_term b (unfolded_all is ms scope (suc p) es)
   unfolded is ms scope p (NbrTerm e) = nbr_term (unfolded is ms scope (suc p) e)
-  unfolded is ms scope p (RepTerm e x b) = evolve_term ByRep x scope p (unfolded is ms scope (suc p) e) (λ inner q. unfolded is ms inner q b)
-  unfolded is ms scope p (ShareTerm e x b) = evolve_term ByShare x scope p (unfolded is ms scope (suc p) e) (λ inner q. unfolded is ms inner q b)
-  unfolded is ms scope p (IfTerm c a b) = if_term p (unfolded is ms scope (suc p) c) (λ q. unfolded is ms scope q a) (λ q. unfolded is ms scope q b)
-  unfolded is ms scope p (LetTerm x a b) = let_term x scope p (unfolded is ms scope (suc p) a) (λ inner q. unfolded is ms inner q b)
-  unfolded is ms scope p (CallTerm f es) = unfolded_call is ms scope (params_of (meaning_of f ms)) [] p (body_of (meaning_of f ms)) es
+  unfolded is ms scope p (RepTerm e x b) =
+      evolve_term ByRep x scope p (unfolded is ms scope (suc p) e) (λ inner q. unfolded is ms inner q b)
+  unfolded is ms scope p (ShareTerm e x b) =
+      evolve_term ByShare x scope p (unfolded is ms scope (suc p) e) (λ inner q. unfolded is ms inner q b)
+  unfolded is ms scope p (IfTerm c a b) =
+      if_term p (unfolded is ms scope (suc p) c) (λ q. unfolded is ms scope q a) (λ q. unfolded is ms scope q b)
+  unfolded is ms scope p (LetTerm x a b) =
+      let_term x scope p (unfolded is ms scope (suc p) a) (λ inner q. unfolded is ms inner q b)
+  unfolded is ms scope p (CallTerm f es) =
+      unfolded_call is ms scope (params_of (meaning_of f ms)) [] p (body_of (meaning_of f ms)) es
 
-  pub unfolded_call : List Input → List Meaning → Scope → List Parameter → Scope → ℕ → (Scope → ℕ → Term) → Expressions → Term
+  pub unfolded_call : List Input → List Meaning → Scope → List Parameter → Scope → ℕ → (Scope → ℕ → Term)
+      → Expressions → Term
   unfolded_call is ms scope params given p body NoTerms = body given p
   unfolded_call is ms scope params given p body (MoreTerms e es) =
       argument_term params given p (unfolded is ms scope (suc p) e) (λ more q. unfolded_call is ms scope (behind_first params) more q body es)
 
   pub unfolded_all : List Input → List Meaning → Scope → ℕ → Expressions → Terms
   unfolded_all is ms scope p NoTerms = NoMore
-  unfolded_all is ms scope p (MoreTerms e es) = more_terms p (unfolded is ms scope p e) (λ q. unfolded_all is ms scope q es)
+  unfolded_all is ms scope p (MoreTerms e es) =
+      more_terms p (unfolded is ms scope p e) (λ q. unfolded_all is ms scope q es)
 
 -- what functions are, each with those before it
 abbrev pub meaning : List Input → List Meaning → Function → Meaning

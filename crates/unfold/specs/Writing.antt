@@ -1,5 +1,5 @@
 -- What the code that writes nodes has in hand.
-use Rattle.std.specs.Prelude.{ℕ, List, [], ◌∷◌, ◌++◌, map, take, drop, length, ◌<◌, Option, Some, None, ◌≡◌}
+use Rattle.std.specs.Prelude.{ℕ, List, [], ◌∷◌, ◌++◌, map, take, drop, length, ◌+◌, ◌<◌, ◌≤◌, Option, Some, None, ◌≡◌}
 use Rattle.std.specs.Borrow.{Bor}
 use Rattle.fc_values.specs.declared.types.InputTy.{InputTy}
 use Rattle.fc_values.specs.declared.types.Name.{Name}
@@ -7,6 +7,7 @@ use Rattle.fc_values.specs.declared.types.Ty.{Ty}
 use Rattle.fc_values.specs.Types.{ValueType, TypeLocal, input_type, type_of}
 use Rattle.fc_syntax.specs.Terms.{Term as Expression, Terms as Expressions, CallTerm, NoTerms, Parameter, parameter_of}
 use Rattle.fc_types.specs.Before.{Before, Function}
+use Rattle.fc_types.specs.Views.{known_of}
 use Rattle.fc_nodes.specs.declared.nodes.Node.{Node}
 use Rattle.fc_nodes.specs.Terms.{Variable, Sense, Term, Terms, Plain, view_of, type_of as term_type}
 use Rattle.unfold.specs.declared.faults.UnfoldFault.{UnfoldFault}
@@ -14,7 +15,8 @@ use Rattle.unfold.specs.declared.faults.UnfoldFault.TheVariants as fault
 use Rattle.unfold.specs.declared.scopes.Argument.{Argument}
 use Rattle.unfold.specs.declared.scopes.Scope.{Scope as AScope}
 use Rattle.unfold.specs.declared.scopes.Scope.TheVariants as scope
-use Rattle.unfold.specs.Counting.{size_of}
+use Rattle.unfold.specs.declared.scopes.Sight.{Sight as ASight}
+use Rattle.unfold.specs.Counting.{count, count_all, count_arguments, size_of}
 use Rattle.unfold.specs.Found.{FirstAt}
 use Rattle.unfold.specs.Nodes.{listed}
 use Rattle.unfold.specs.Unfolding.{Scope, bind, Meaning, meaning_of, meanings, params_of, body_of, untyped, unfolded, unfolded_call, unfolded_all}
@@ -55,12 +57,51 @@ abbrev pub all_unfolded_in : Before → ℕ → Scope → ℕ → Expressions �
 all_unfolded_in B n scope p es = unfolded_all B.inputs (first_meanings B n) scope p es
 
 -- what is left of a call, behind the arguments that are given
-abbrev pub call_by : List Meaning → Before → Scope → List Parameter → (Scope → ℕ → Term) → List (ℕ × ValueType) → ℕ → Expressions → Term
-call_by ms B scope params body given p es = unfolded_call B.inputs ms scope (drop (length given) params) (arguments given params) p body es
+abbrev pub call_by : List Meaning → Before → Scope → List Parameter → (Scope → ℕ → Term) → List (ℕ × ValueType) → ℕ
+    → Expressions → Term
+call_by ms B scope params body given p es =
+    unfolded_call B.inputs ms scope (drop (length given) params) (arguments given params) p body es
 
 abbrev pub call_in : Before → ℕ → Scope → List ℕ → List (ℕ × ValueType) → ℕ → Expressions → Term
 call_in B n scope f given p es =
     call_by (first_meanings B n) B scope (params_of (meaning_of f (first_meanings B n))) (body_of (meaning_of f (first_meanings B n))) given p es
+
+-- what an expression is read in: what the program declares, how many of its functions are seen, and the names in scope
+pub record Sight : Type 0 where
+  pub known : Before
+  pub visible : ℕ
+  pub scope : Scope
+
+abbrev pub sight_of : ASight → Sight
+sight_of s = record { known = known_of s.known.now; visible = s.visible; scope = scope_of s.scope.now }
+
+-- how many nodes an expression has, and expressions in a row, and a call
+abbrev pub nodes_in : Sight → Expression → ℕ
+nodes_in s e = count (counted s.known s.visible) e
+
+abbrev pub all_nodes_in : Sight → Expressions → ℕ
+all_nodes_in s es = count_all (counted s.known s.visible) es
+
+abbrev pub call_nodes_in : Sight → List ℕ → Expressions → ℕ
+call_nodes_in s f es = count_arguments (counted s.known s.visible) es + size_of f (counted s.known s.visible)
+
+-- what they are at a place
+abbrev pub unfolded_by : Sight → ℕ → Expression → Term
+unfolded_by s p e = unfolded_in s.known s.visible s.scope p e
+
+abbrev pub all_unfolded_by : Sight → ℕ → Expressions → Terms
+all_unfolded_by s p es = all_unfolded_in s.known s.visible s.scope p es
+
+abbrev pub call_by_sight : Sight → List ℕ → List (ℕ × ValueType) → ℕ → Expressions → Term
+call_by_sight s f given p es = call_in s.known s.visible s.scope f given p es
+
+-- so many more nodes are within the limit
+abbrev pub HasRoom : List Node → ℕ → Type 0
+HasRoom before n = length before + n ≤ 2048
+
+-- there are so many more nodes
+abbrev pub IsLonger : List Node → List Node → ℕ → Type 0
+IsLonger before after n = length after ≡ length before + n
 
 -- the nodes of a term are put behind others, and this is its type
 pub record IsWritten (before after : List Node) (t : Ty) (u : Term) : Type 0 where
@@ -70,11 +111,13 @@ pub record IsWritten (before after : List Node) (t : Ty) (u : Term) : Type 0 whe
 -- the body of a function is a call of another one, without arguments
 abbrev pub IsBareCall : Before → ℕ → List ℕ → Option (ℕ × Bor Name) → Type 0
 IsBareCall B visible x None = Unit {0}
-IsBareCall B visible x (Some r) = (f : Function) × FirstAt x B.functions r.0 f × (r.0 < visible) × (f.body ≡ CallTerm r.1.now.text.items NoTerms)
+IsBareCall B visible x (Some r) =
+    (f : Function) × FirstAt x B.functions r.0 f × (r.0 < visible) × (f.body ≡ CallTerm r.1.now.text.items NoTerms)
 
 -- two calls without arguments come to the same nodes
 pub record SameCall (B : Before) (n : ℕ) (f : List ℕ) (m : ℕ) (g : List ℕ) : Type 0 where
-  pub term : (scope : Scope) (p : ℕ) → unfolded_in B n scope p (CallTerm f NoTerms) ≡ unfolded_in B m scope p (CallTerm g NoTerms)
+  pub term : (scope : Scope) (p : ℕ) → unfolded_in B n scope p (CallTerm f NoTerms)
+      ≡ unfolded_in B m scope p (CallTerm g NoTerms)
   pub size : size_of f (counted B n) ≡ size_of g (counted B m)
 
 -- what is said of the size of a program that is too large

@@ -14,7 +14,7 @@ use fc_values::Name;
 /// The greatest number of nodes that is told apart.
 pub const MOST: u32 = 1_000_000;
 
-/// A sum, or the greatest number where it is greater.
+// A sum, or the greatest number where it is greater.
 fn add(a: u32, b: u32) -> u32
     requires first { a ≤ 1000000 }
     requires second { b ≤ 1000000 }
@@ -53,12 +53,13 @@ pub fn count(known: &Known<'_>, counts: &[u32], expr: &Expr) -> u32
     }
 }
 
-/// A node over two expressions.
+// A node over two expressions.
 #[cycle(count)]
 fn count_two(known: &Known<'_>, counts: &[u32], first: &Expr, second: &Expr) -> u32
     requires visible { length counts.now ≤ length (known_of known.now).functions }
     requires capped { AreCapped (known_of known.now) counts.now }
-    ensures { result ≡ min 1000000 (suc (count_of (counted (known_of known.now) (length counts.now)) (term_of first.now) + count_of (counted (known_of known.now) (length counts.now)) (term_of second.now))) }
+    ensures { result
+        ≡ min 1000000 (suc (count_of (counted (known_of known.now) (length counts.now)) (term_of first.now) + count_of (counted (known_of known.now) (length counts.now)) (term_of second.now))) }
 {
     add(
         add(1, count(known, counts, first)),
@@ -66,12 +67,13 @@ fn count_two(known: &Known<'_>, counts: &[u32], first: &Expr, second: &Expr) -> 
     )
 }
 
-/// The nodes of expressions in a row.
+// The nodes of expressions in a row.
 #[cycle(count)]
 fn count_all(known: &Known<'_>, counts: &[u32], args: &[Expr]) -> u32
     requires visible { length counts.now ≤ length (known_of known.now).functions }
     requires capped { AreCapped (known_of known.now) counts.now }
-    ensures { result ≡ min 1000000 (all_counted (counted (known_of known.now) (length counts.now)) (terms (map term_of args.now))) }
+    ensures { result
+        ≡ min 1000000 (all_counted (counted (known_of known.now) (length counts.now)) (terms (map term_of args.now))) }
 {
     match args {
         [] => 0,
@@ -79,12 +81,13 @@ fn count_all(known: &Known<'_>, counts: &[u32], args: &[Expr]) -> u32
     }
 }
 
-/// The nodes of the arguments of a call, each with its `let`.
+// The nodes of the arguments of a call, each with its `let`.
 #[cycle(count)]
 fn count_arguments(known: &Known<'_>, counts: &[u32], args: &[Expr]) -> u32
     requires visible { length counts.now ≤ length (known_of known.now).functions }
     requires capped { AreCapped (known_of known.now) counts.now }
-    ensures { result ≡ min 1000000 (arguments_counted (counted (known_of known.now) (length counts.now)) (terms (map term_of args.now))) }
+    ensures { result
+        ≡ min 1000000 (arguments_counted (counted (known_of known.now) (length counts.now)) (terms (map term_of args.now))) }
 {
     match args {
         [] => 0,
@@ -95,7 +98,7 @@ fn count_arguments(known: &Known<'_>, counts: &[u32], args: &[Expr]) -> u32
     }
 }
 
-/// The nodes of a function's body.
+// The nodes of a function's body.
 fn count_named(known: &Known<'_>, counts: &[u32], name: &Name) -> u32
     requires visible { length counts.now ≤ length (known_of known.now).functions }
     requires capped { AreCapped (known_of known.now) counts.now }

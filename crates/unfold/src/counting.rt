@@ -16,14 +16,15 @@ use fc_types::{Known, Typed};
 use fc_values::Memory;
 use std::alloc::Global;
 
-/// The number of nodes of a typed program, or 1,000,000 where it is greater. None is made.
-pub fn count_nodes(alloc: Global, typed: &Typed) -> Result<u32, Memory>
+/// The number of nodes of a typed program, from the table of what it declares, or 1,000,000 where it is greater. None is
+/// made.
+pub fn count_nodes(alloc: Global, typed: &Typed, known: &Known<'_>) -> Result<u32, Memory>
+    requires { known_of known.now ≡ and_all nothing (program_of typed.now.program) }
     ensures { IfOk result (λ n. n ≡ min 1000000 (length (Nodes (program_of typed.now.program)))) }
 {
     let program = typed.program();
-    let known = table(alloc, program)?;
-    let counts = body_counts(alloc, &known)?;
-    Ok(count(&known, &counts, main_of(program)))
+    let counts = body_counts(alloc, known)?;
+    Ok(count(known, &counts, main_of(program)))
 }
 
 /// What a program declares.
@@ -38,7 +39,7 @@ pub fn table(alloc: Global, program: &Program) -> Result<Known<'_>, Memory>
     Ok(known)
 }
 
-/// The number of nodes of the body of each function.
+// The number of nodes of the body of each function.
 fn body_counts(alloc: Global, known: &Known<'_>) -> Result<Vec<u32>, Memory>
     ensures long { IfOk result (λ counts. length counts.items ≡ length (known_of known.now).functions) }
     ensures capped { IfOk result (λ counts. AreCapped (known_of known.now) counts.items) }

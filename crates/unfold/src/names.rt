@@ -27,7 +27,7 @@ pub fn find<'k>(known: &Known<'k>, visible: usize, name: &Name) -> Option<(usize
     }
 }
 
-/// The call without arguments that a function's body is, and how many functions it sees.
+// The call without arguments that a function's body is, and how many functions it sees.
 fn bare_call<'k>(known: &Known<'k>, visible: usize, name: &Name) -> Option<(usize, &'k Name)>
     ensures { IsBareCall (known_of known.now) visible name.now.text.items result }
 {
@@ -56,7 +56,8 @@ pub fn last_call<'a>(known: &'a Known<'_>, visible: usize, name: &'a Name) -> (u
 /// The number of an input, in declared order, and its type.
 pub fn find_input(known: &Known<'_>, name: &Name) -> Option<(u32, InputTy)>
     requires { length (known_of known.now).inputs < 2 ^ 32 }
-    ensures { sense_by (known_of known.now).inputs (input_number name.now.text.items (known_of known.now).inputs) ≡ input_term result }
+    ensures { sense_by (known_of known.now).inputs (input_number name.now.text.items (known_of known.now).inputs)
+        ≡ input_term result }
 {
     match known.inputs.get_full(&name.text.as_slice()) {
         Some((number, _, ty)) => Some((number as u32, *ty)),

@@ -21,7 +21,8 @@ pub fn begin_node(alloc: Global, nodes: &mut Vec<Node>) -> Result<u32, Memory>
     requires room { length nodes.old.items < 2048 }
     ensures place { IfOk result (λ place. place ≡ length nodes.old.items) }
     ensures long { IfOk result (λ place. length nodes.new.items ≡ length nodes.old.items + 1) }
-    ensures behind { IfOk result (λ place. map view_of nodes.new.items ≡ map view_of nodes.old.items ++ Has (sort_of Op.Let) (type_of (Ty.Local LocalTy.Int)) [] ∷ []) }
+    ensures behind { IfOk result (λ place. map view_of nodes.new.items ≡ map view_of nodes.old.items
+        ++ Has (sort_of Op.Let) (type_of (Ty.Local LocalTy.Int)) [] ∷ []) }
 {
     let place = nodes.len() as u32;
     nodes.push(Node {
@@ -36,7 +37,8 @@ pub fn begin_node(alloc: Global, nodes: &mut Vec<Node>) -> Result<u32, Memory>
 pub fn end_node(nodes: &mut Vec<Node>, place: u32, op: Op, ty: Ty, kids: Vec<u32>)
     requires { place < length nodes.old.items }
     ensures long { length nodes.new.items ≡ length nodes.old.items }
-    ensures set { map view_of nodes.new.items ≡ slice_set (map view_of nodes.old.items) place (Has (sort_of op) (type_of ty) kids.items) }
+    ensures set { map view_of nodes.new.items
+        ≡ slice_set (map view_of nodes.old.items) place (Has (sort_of op) (type_of ty) kids.items) }
 {
     nodes[place as usize] = Node { op, ty, kids };
 }
@@ -44,7 +46,8 @@ pub fn end_node(nodes: &mut Vec<Node>, place: u32, op: Op, ty: Ty, kids: Vec<u32
 /// Puts a node without kids behind others, and gives its type.
 pub fn put_leaf(alloc: Global, nodes: &mut Vec<Node>, op: Op, ty: Ty) -> Result<Ty, Memory>
     ensures long { IfOk result (λ t. length nodes.new.items ≡ length nodes.old.items + 1) }
-    ensures behind { IfOk result (λ t. map view_of nodes.new.items ≡ map view_of nodes.old.items ++ Has (sort_of op) (type_of ty) [] ∷ []) }
+    ensures behind { IfOk result (λ t. map view_of nodes.new.items ≡ map view_of nodes.old.items
+        ++ Has (sort_of op) (type_of ty) [] ∷ []) }
     ensures same { IfOk result (λ t. type_of t ≡ type_of ty) }
 {
     nodes.push(Node {
@@ -71,7 +74,8 @@ pub fn put_variable(
     nodes: &mut Vec<Node>,
 ) -> Result<Ty, Memory>
     ensures long { IfOk result (λ t. length nodes.new.items ≡ length nodes.old.items + 1) }
-    ensures written { IfOk result (λ t. IsWritten nodes.old.items nodes.new.items t (variable_term (binder_of name.now.text.items (scope_of scope.now)))) }
+    ensures written { IfOk result (λ t. IsWritten nodes.old.items nodes.new.items t
+        (variable_term (binder_of name.now.text.items (scope_of scope.now)))) }
 {
     match lookup(scope, name) {
         Some((place, ty)) => put_leaf(alloc, nodes, Op::Var(place), copy_type(alloc, ty)?),
@@ -88,7 +92,8 @@ pub fn put_input(
 ) -> Result<Ty, Memory>
     requires { length (known_of known.now).inputs < 2 ^ 32 }
     ensures long { IfOk result (λ t. length nodes.new.items ≡ length nodes.old.items + 1) }
-    ensures written { IfOk result (λ t. IsWritten nodes.old.items nodes.new.items t (sense_by (known_of known.now).inputs (input_number name.now.text.items (known_of known.now).inputs))) }
+    ensures written { IfOk result (λ t. IsWritten nodes.old.items nodes.new.items t
+        (sense_by (known_of known.now).inputs (input_number name.now.text.items (known_of known.now).inputs))) }
 {
     match find_input(known, name) {
         Some((number, InputTy::Truth)) => {

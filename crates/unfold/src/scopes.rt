@@ -6,6 +6,7 @@ ghost use Rattle.unfold.specs.Unfolding.{binder_of, variable_term};
 ghost use Rattle.unfold.specs.Writing.{argument_of, arguments, found_term, scope_of};
 
 use fc_syntax::Param;
+use fc_types::Known;
 use fc_values::{Name, Ty};
 
 /// An argument of a call: the place of the `let` that binds it, and its type.
@@ -21,6 +22,14 @@ pub struct Argument {
 pub enum Scope<'a> {
     Arguments(&'a [Param], &'a [Argument]),
     Bind(&'a Name, u32, &'a Ty, &'a Scope<'a>),
+}
+
+/// What an expression is read in: what the program declares, how many of its functions are seen, and the names in scope.
+#[derive(Clone, Copy)]
+pub struct Sight<'a, 'k> {
+    pub known: &'a Known<'k>,
+    pub visible: usize,
+    pub scope: &'a Scope<'a>,
 }
 
 /// The place and the type of the nearest that has a name.
@@ -39,13 +48,14 @@ pub fn lookup<'a>(scope: &Scope<'a>, name: &Name) -> Option<(u32, &'a Ty)>
     }
 }
 
-/// The place and the type of an argument, by the name of its parameter.
+// The place and the type of an argument, by the name of its parameter.
 fn lookup_argument<'a>(
     params: &[Param],
     given: &'a [Argument],
     name: &Name,
 ) -> Option<(u32, &'a Ty)>
-    ensures { variable_term (binder_of name.now.text.items (arguments (map argument_of given.now) (map parameter_of params.now))) ≡ found_term result }
+    ensures { variable_term (binder_of name.now.text.items
+        (arguments (map argument_of given.now) (map parameter_of params.now))) ≡ found_term result }
 {
     match given {
         [] => None,

@@ -4,7 +4,6 @@ ghost use Rattle.std.specs.Prelude.{IfOk, false};
 ghost use Rattle.fc_syntax.specs.Printable.{IsExpression};
 ghost use Rattle.fc_syntax.specs.Terms.{term_of};
 
-use crate::counting::count_nodes;
 use crate::faults::UnfoldFault;
 use crate::unfolding::unfold;
 use fc_nodes::Op;
@@ -14,7 +13,7 @@ use fc_values::{Builtin, Local, Memory};
 use std::alloc::Global;
 use std::test::Fail;
 
-/// `1 + 2`.
+// `1 + 2`.
 fn sum(alloc: Global) -> Result<Expr, Memory>
     ensures { IfOk result (λ e. IsExpression false (term_of e)) }
 {
@@ -24,7 +23,7 @@ fn sum(alloc: Global) -> Result<Expr, Memory>
     Ok(Expr::Apply(Builtin::Add, args))
 }
 
-/// `ceiling 10; main = E;`, typed, or its fault.
+// `ceiling 10; main = E;`, typed, or its fault.
 fn typed(alloc: Global, main: Expr) -> Result<Result<Typed, TypeFault>, Memory>
     requires { IsExpression false (term_of main) }
 {
@@ -34,7 +33,7 @@ fn typed(alloc: Global, main: Expr) -> Result<Result<Typed, TypeFault>, Memory>
     Ok(check_types(alloc, Program { decls }))
 }
 
-/// The number of nodes, and the number in the last of three.
+// The number of nodes, and the number in the last of three.
 fn unfolded(alloc: Global, typed: &Typed) -> Result<(u32, Option<u32>), UnfoldFault> {
     let program = unfold(alloc, typed)?;
     let size = program.size();
@@ -52,7 +51,6 @@ fn unfolds_a_sum(rt: HostRuntime) -> Result<(), Fail> {
     let alloc = rt.alloc();
     match typed(alloc, sum(alloc)?)? {
         Ok(typed) => {
-            assert_eq!(rt; count_nodes(alloc, &typed)?, 3);
             assert_eq!(rt; unfolded(alloc, &typed), Ok((3, Some(2))));
         }
         Err(fault) => assert_eq!(rt; fault, TypeFault::Memory),

@@ -13,7 +13,7 @@ ghost use Rattle.unfold.specs.Writing.{IfTooLarge};
 
 use crate::counting::{count_nodes, main_of, table};
 use crate::faults::UnfoldFault;
-use crate::scopes::Scope;
+use crate::scopes::{Scope, Sight};
 use crate::writing::write;
 use fc_nodes::{Node, Unfolded};
 use fc_syntax::Program;
@@ -21,30 +21,33 @@ use fc_types::{Known, Typed};
 use fc_values::Memory;
 use std::alloc::Global;
 
-/// The greatest number of nodes of a program.
+// The greatest number of nodes of a program.
 const MOST_NODES: u32 = 2_048;
 
 /// The nodes of a typed program: `main`, with each call replaced by one `let` per argument around the function's body. A
 /// program with more than 2,048 nodes is refused before one is made.
 pub fn unfold(alloc: Global, typed: &Typed) -> Result<Unfolded, UnfoldFault>
-    ensures unfolding { IfOk result (λ u. unfolding_of u ≡ record { declared = declared_by (program_of typed.now.program); main = main_term (program_of typed.now.program) }) }
+    ensures unfolding { IfOk result (λ u. unfolding_of u
+        ≡ record { declared = declared_by (program_of typed.now.program); main = main_term (program_of typed.now.program) }) }
     ensures nodes { IfOk result (λ u. map view_of u.nodes ≡ Nodes (program_of typed.now.program)) }
     ensures small { IfOk result (λ u. length (Nodes (program_of typed.now.program)) ≤ 2048) }
-    ensures large { IfErr result (λ fault. IfTooLarge fault (λ size. 2048 < length (Nodes (program_of typed.now.program)))) }
-    ensures size { IfErr result (λ fault. IfTooLarge fault (λ size. size ≡ min 1000000 (length (Nodes (program_of typed.now.program))))) }
+    ensures large { IfErr result (λ fault. IfTooLarge fault (λ size. 2048
+        < length (Nodes (program_of typed.now.program)))) }
+    ensures size { IfErr result (λ fault. IfTooLarge fault (λ size. size
+        ≡ min 1000000 (length (Nodes (program_of typed.now.program))))) }
 {
-    let size = count_nodes(alloc, typed)?;
+    let program = typed.program();
+    let known = table(alloc, program)?;
+    let size = count_nodes(alloc, typed, &known)?;
     if size > MOST_NODES {
         return Err(UnfoldFault::TooLarge { size });
     }
-    let program = typed.program();
-    let known = table(alloc, program)?;
     let nodes = nodes_of(alloc, &known, program)?;
     let declared = known.declared(alloc)?;
     Ok(Unfolded::new(declared, nodes))
 }
 
-/// The nodes of `main`.
+// The nodes of `main`.
 fn nodes_of(alloc: Global, known: &Known<'_>, program: &Program) -> Result<Vec<Node>, Memory>
     requires printable { IsPrintable (program_of program.now) }
     requires known { known_of known.now ≡ and_all nothing (program_of program.now) }
@@ -54,14 +57,11 @@ fn nodes_of(alloc: Global, known: &Known<'_>, program: &Program) -> Result<Vec<N
 {
     let mut nodes = Vec::new(alloc);
     let functions = known.functions.len();
-    let scope = Scope::Arguments(&[], &[]);
-    write(
-        alloc,
-        known,
-        functions,
-        &scope,
-        main_of(program),
-        &mut nodes,
-    )?;
+    let sight = Sight {
+        known: &*known,
+        visible: functions,
+        scope: &Scope::Arguments(&[], &[]),
+    };
+    write(alloc, &sight, main_of(program), &mut nodes)?;
     Ok(nodes)
 }

@@ -6,37 +6,37 @@ ghost use Rattle.fc_values.specs.Types.{type_of};
 ghost use Rattle.fc_nodes.specs.Terms.{places as places_of, view_of};
 ghost use Rattle.fc_nodes.specs.Typing.{types_of};
 ghost use Rattle.fc_types.specs.Views.{known_of};
-ghost use Rattle.unfold.specs.Counting.{count, count_all, count_arguments, size_of};
+ghost use Rattle.unfold.specs.Counting.{size_of};
 ghost use Rattle.unfold.specs.Nodes.{all_listed};
 ghost use Rattle.unfold.specs.Views.{counted};
-ghost use Rattle.unfold.specs.Writing.{IsWritten, all_unfolded_in, argument_of, call_in, scope_of, unfolded_in};
+ghost use Rattle.unfold.specs.Writing.{HasRoom, IsLonger, IsWritten, all_nodes_in, all_unfolded_by, argument_of, call_by_sight, call_in, call_nodes_in, nodes_in, sight_of, unfolded_by};
 
 use crate::names::{find, last_call};
 use crate::putting::{
     begin_node, end_node, field_type, given_type, put_input, put_leaf, put_untyped, put_variable,
 };
-use crate::scopes::{Argument, Scope};
+use crate::scopes::{Argument, Scope, Sight};
 use fc_nodes::{Node, Op};
 use fc_syntax::Expr;
 use fc_types::{Known, copy_type, shared_type};
 use fc_values::{Builtin, Local, LocalTy, Memory, Name, Ty};
 use std::alloc::Global;
 
-/// The nodes of an expression behind others, with its type. It sees the first so many functions. Expressions may be
-/// thousands of levels deep, so each form has a function of its own, and a level takes little of the stack.
+/// The nodes of an expression behind others, with its type. Expressions may be thousands of levels deep, so each form has
+/// a function of its own, and a level takes little of the stack.
 #[cycle(write)]
 pub fn write(
     alloc: Global,
-    known: &Known<'_>,
-    visible: usize,
-    scope: &Scope<'_>,
+    sight: &Sight<'_, '_>,
     expr: &Expr,
     nodes: &mut Vec<Node>,
 ) -> Result<Ty, Memory>
-    requires inputs { length (known_of known.now).inputs < 2 ^ 32 }
-    requires room { length nodes.old.items + count (counted (known_of known.now) visible) (term_of expr.now) ≤ 2048 }
-    ensures long { IfOk result (λ ty. length nodes.new.items ≡ length nodes.old.items + count (counted (known_of known.now) visible) (term_of expr.now)) }
-    ensures written { IfOk result (λ ty. IsWritten nodes.old.items nodes.new.items ty (unfolded_in (known_of known.now) visible (scope_of scope.now) (length nodes.old.items) (term_of expr.now))) }
+    requires inputs { length (known_of sight.now.known.now).inputs < 2 ^ 32 }
+    requires room { HasRoom nodes.old.items (nodes_in (sight_of sight.now) (term_of expr.now)) }
+    ensures long { IfOk result (λ _. IsLonger nodes.old.items nodes.new.items
+        (nodes_in (sight_of sight.now) (term_of expr.now))) }
+    ensures written { IfOk result (λ ty. IsWritten nodes.old.items nodes.new.items ty
+        (unfolded_by (sight_of sight.now) (length nodes.old.items) (term_of expr.now))) }
 {
     match expr {
         Expr::Int(n) => put_leaf(
@@ -51,66 +51,48 @@ pub fn write(
             Op::Lit(Local::Bool(*b)),
             Ty::Local(LocalTy::Bool),
         ),
-        Expr::Var(name) => put_variable(alloc, scope, name, nodes),
+        Expr::Var(name) => put_variable(alloc, sight.scope, name, nodes),
         Expr::Uid => put_leaf(alloc, nodes, Op::Uid, Ty::Local(LocalTy::Int)),
         Expr::NbrLink => put_leaf(alloc, nodes, Op::NbrLink, Ty::Field(LocalTy::Int)),
-        Expr::Sense(name) => put_input(alloc, known, name, nodes),
-        Expr::Apply(builtin, args) => {
-            write_apply(alloc, known, visible, scope, *builtin, args, nodes)
-        }
-        Expr::Nbr(inner) => write_nbr(alloc, known, visible, scope, inner, nodes),
-        Expr::Rep(first, name, body) => {
-            write_rep(alloc, known, visible, &*scope, first, name, body, nodes)
-        }
-        Expr::Share(first, name, body) => {
-            write_share(alloc, known, visible, &*scope, first, name, body, nodes)
-        }
-        Expr::If(condition, then, other) => write_if(
-            alloc, known, visible, scope, condition, then, other, nodes,
-        ),
-        Expr::Let(name, bound, body) => {
-            write_let(alloc, known, visible, &*scope, name, bound, body, nodes)
-        }
+        Expr::Sense(name) => put_input(alloc, sight.known, name, nodes),
+        Expr::Apply(builtin, args) => write_apply(alloc, sight, *builtin, args, nodes),
+        Expr::Nbr(inner) => write_nbr(alloc, sight, inner, nodes),
+        Expr::Rep(first, name, body) => write_rep(alloc, sight, first, name, body, nodes),
+        Expr::Share(first, name, body) => write_share(alloc, sight, first, name, body, nodes),
+        Expr::If(condition, then, other) => write_if(alloc, sight, condition, then, other, nodes),
+        Expr::Let(name, bound, body) => write_let(alloc, sight, name, bound, body, nodes),
         Expr::Call(name, args) if args.is_empty() => {
-            write_bare_call(alloc, known, visible, name, nodes)
+            write_bare_call(alloc, sight.known, sight.visible, name, nodes)
         }
         Expr::Call(name, args) => {
             let given = Vec::new(alloc);
-            write_call(alloc, known, visible, scope, name, given, args, nodes)
+            write_call(alloc, sight, name, given, args, nodes)
         }
     }
 }
 
-/// A builtin.
+// A builtin.
 #[cycle(write)]
 #[inline(never)]
 fn write_apply(
     alloc: Global,
-    known: &Known<'_>,
-    visible: usize,
-    scope: &Scope<'_>,
+    sight: &Sight<'_, '_>,
     builtin: Builtin,
     args: &[Expr],
     nodes: &mut Vec<Node>,
 ) -> Result<Ty, Memory>
-    requires inputs { length (known_of known.now).inputs < 2 ^ 32 }
-    requires room { length nodes.old.items + count (counted (known_of known.now) visible) (ApplyTerm builtin (terms (map term_of args.now))) ≤ 2048 }
-    ensures long { IfOk result (λ ty. length nodes.new.items ≡ length nodes.old.items + count (counted (known_of known.now) visible) (ApplyTerm builtin (terms (map term_of args.now)))) }
-    ensures written { IfOk result (λ ty. IsWritten nodes.old.items nodes.new.items ty (unfolded_in (known_of known.now) visible (scope_of scope.now) (length nodes.old.items) (ApplyTerm builtin (terms (map term_of args.now))))) }
+    requires inputs { length (known_of sight.now.known.now).inputs < 2 ^ 32 }
+    requires room { HasRoom nodes.old.items
+        (nodes_in (sight_of sight.now) (ApplyTerm builtin (terms (map term_of args.now)))) }
+    ensures long { IfOk result (λ _. IsLonger nodes.old.items nodes.new.items
+        (nodes_in (sight_of sight.now) (ApplyTerm builtin (terms (map term_of args.now))))) }
+    ensures written { IfOk result (λ ty. IsWritten nodes.old.items nodes.new.items ty
+        (unfolded_by (sight_of sight.now) (length nodes.old.items) (ApplyTerm builtin (terms (map term_of args.now))))) }
 {
     let place = begin_node(alloc, nodes)?;
     let mut places = Vec::with_capacity(alloc, args.len())?;
     let mut types = Vec::with_capacity(alloc, args.len())?;
-    write_all(
-        alloc,
-        known,
-        visible,
-        scope,
-        args,
-        nodes,
-        &mut places,
-        &mut types,
-    )?;
+    write_all(alloc, sight, args, nodes, &mut places, &mut types)?;
     let ty = given_type(alloc, builtin, &types)?;
     end_node(
         nodes,
@@ -122,205 +104,228 @@ fn write_apply(
     Ok(ty)
 }
 
-/// The nodes of expressions in a row, with their places and types behind others.
+// The nodes of expressions in a row, with their places and types behind others.
 #[cycle(write)]
 #[inline(never)]
 fn write_all(
     alloc: Global,
-    known: &Known<'_>,
-    visible: usize,
-    scope: &Scope<'_>,
+    sight: &Sight<'_, '_>,
     args: &[Expr],
     nodes: &mut Vec<Node>,
     places: &mut Vec<u32>,
     types: &mut Vec<Ty>,
 ) -> Result<(), Memory>
-    requires inputs { length (known_of known.now).inputs < 2 ^ 32 }
-    requires room { length nodes.old.items + count_all (counted (known_of known.now) visible) (terms (map term_of args.now)) ≤ 2048 }
-    ensures long { IfOk result (λ _. length nodes.new.items ≡ length nodes.old.items + count_all (counted (known_of known.now) visible) (terms (map term_of args.now))) }
-    ensures nodes { IfOk result (λ _. map view_of nodes.new.items ≡ map view_of nodes.old.items ++ all_listed (length nodes.old.items) (all_unfolded_in (known_of known.now) visible (scope_of scope.now) (length nodes.old.items) (terms (map term_of args.now)))) }
-    ensures places { IfOk result (λ _. places.new.items ≡ places.old.items ++ places_of (length nodes.old.items) (all_unfolded_in (known_of known.now) visible (scope_of scope.now) (length nodes.old.items) (terms (map term_of args.now)))) }
-    ensures types { IfOk result (λ _. map type_of types.new.items ≡ map type_of types.old.items ++ types_of (all_unfolded_in (known_of known.now) visible (scope_of scope.now) (length nodes.old.items) (terms (map term_of args.now)))) }
+    requires inputs { length (known_of sight.now.known.now).inputs < 2 ^ 32 }
+    requires room { HasRoom nodes.old.items (all_nodes_in (sight_of sight.now) (terms (map term_of args.now))) }
+    ensures long { IfOk result (λ _. IsLonger nodes.old.items nodes.new.items
+        (all_nodes_in (sight_of sight.now) (terms (map term_of args.now)))) }
+    ensures nodes { IfOk result (λ _. map view_of nodes.new.items ≡ map view_of nodes.old.items
+        ++ all_listed (length nodes.old.items) (all_unfolded_by (sight_of sight.now) (length nodes.old.items) (terms (map term_of args.now)))) }
+    ensures places { IfOk result (λ _. places.new.items ≡ places.old.items
+        ++ places_of (length nodes.old.items) (all_unfolded_by (sight_of sight.now) (length nodes.old.items) (terms (map term_of args.now)))) }
+    ensures types { IfOk result (λ _. map type_of types.new.items ≡ map type_of types.old.items
+        ++ types_of (all_unfolded_by (sight_of sight.now) (length nodes.old.items) (terms (map term_of args.now)))) }
 {
     let [arg, rest @ ..] = args else {
         return Ok(());
     };
     places.push(nodes.len() as u32)?;
-    types.push(write(alloc, known, visible, scope, arg, nodes)?)?;
-    write_all(alloc, known, visible, scope, rest, nodes, places, types)?;
+    types.push(write(alloc, sight, arg, nodes)?)?;
+    write_all(alloc, sight, rest, nodes, places, types)?;
     Ok(())
 }
 
-/// A sharing of a value with the neighbours.
+// A sharing of a value with the neighbours.
 #[cycle(write)]
 #[inline(never)]
 fn write_nbr(
     alloc: Global,
-    known: &Known<'_>,
-    visible: usize,
-    scope: &Scope<'_>,
+    sight: &Sight<'_, '_>,
     inner: &Expr,
     nodes: &mut Vec<Node>,
 ) -> Result<Ty, Memory>
-    requires inputs { length (known_of known.now).inputs < 2 ^ 32 }
-    requires room { length nodes.old.items + count (counted (known_of known.now) visible) (NbrTerm (term_of inner.now)) ≤ 2048 }
-    ensures long { IfOk result (λ ty. length nodes.new.items ≡ length nodes.old.items + count (counted (known_of known.now) visible) (NbrTerm (term_of inner.now))) }
-    ensures written { IfOk result (λ ty. IsWritten nodes.old.items nodes.new.items ty (unfolded_in (known_of known.now) visible (scope_of scope.now) (length nodes.old.items) (NbrTerm (term_of inner.now)))) }
+    requires inputs { length (known_of sight.now.known.now).inputs < 2 ^ 32 }
+    requires room { HasRoom nodes.old.items (nodes_in (sight_of sight.now) (NbrTerm (term_of inner.now))) }
+    ensures long { IfOk result (λ _. IsLonger nodes.old.items nodes.new.items
+        (nodes_in (sight_of sight.now) (NbrTerm (term_of inner.now)))) }
+    ensures written { IfOk result (λ ty. IsWritten nodes.old.items nodes.new.items ty
+        (unfolded_by (sight_of sight.now) (length nodes.old.items) (NbrTerm (term_of inner.now)))) }
 {
     let place = begin_node(alloc, nodes)?;
-    let ty = field_type(write(alloc, known, visible, scope, inner, nodes)?);
+    let ty = field_type(write(alloc, sight, inner, nodes)?);
     let kids = vec![in alloc; place + 1]?;
     end_node(nodes, place, Op::Nbr, copy_type(alloc, &ty)?, kids);
     Ok(ty)
 }
 
-/// A value that evolves by `rep`.
+// A value that evolves by `rep`.
 #[cycle(write)]
 #[inline(never)]
-fn write_rep<'a>(
+fn write_rep(
     alloc: Global,
-    known: &Known<'_>,
-    visible: usize,
-    scope: &'a Scope<'a>,
+    sight: &Sight<'_, '_>,
     first: &Expr,
-    name: &'a Name,
+    name: &Name,
     body: &Expr,
     nodes: &mut Vec<Node>,
 ) -> Result<Ty, Memory>
-    requires inputs { length (known_of known.now).inputs < 2 ^ 32 }
-    requires room { length nodes.old.items + count (counted (known_of known.now) visible) (RepTerm (term_of first.now) name.now.text.items (term_of body.now)) ≤ 2048 }
-    ensures long { IfOk result (λ ty. length nodes.new.items ≡ length nodes.old.items + count (counted (known_of known.now) visible) (RepTerm (term_of first.now) name.now.text.items (term_of body.now))) }
-    ensures written { IfOk result (λ ty. IsWritten nodes.old.items nodes.new.items ty (unfolded_in (known_of known.now) visible (scope_of scope.now) (length nodes.old.items) (RepTerm (term_of first.now) name.now.text.items (term_of body.now)))) }
+    requires inputs { length (known_of sight.now.known.now).inputs < 2 ^ 32 }
+    requires room { HasRoom nodes.old.items
+        (nodes_in (sight_of sight.now) (RepTerm (term_of first.now) name.now.text.items (term_of body.now))) }
+    ensures long { IfOk result (λ _. IsLonger nodes.old.items nodes.new.items
+        (nodes_in (sight_of sight.now) (RepTerm (term_of first.now) name.now.text.items (term_of body.now)))) }
+    ensures written { IfOk result (λ ty. IsWritten nodes.old.items nodes.new.items ty
+        (unfolded_by (sight_of sight.now) (length nodes.old.items) (RepTerm (term_of first.now) name.now.text.items (term_of body.now)))) }
 {
     let place = begin_node(alloc, nodes)?;
-    let ty = write(alloc, known, visible, scope, first, nodes)?;
+    let ty = write(alloc, sight, first, nodes)?;
     let second = nodes.len() as u32;
-    let inner = Scope::Bind(&*name, place, &ty, &*scope);
-    write(alloc, known, visible, &inner, body, nodes)?;
+    let scope = Scope::Bind(&*name, place, &ty, &*sight.scope);
+    let inner = Sight {
+        known: &*sight.known,
+        visible: sight.visible,
+        scope: &scope,
+    };
+    write(alloc, &inner, body, nodes)?;
     let kids = vec![in alloc; place + 1, second]?;
     end_node(nodes, place, Op::Rep, copy_type(alloc, &ty)?, kids);
     Ok(ty)
 }
 
-/// A value that evolves by `share`.
+// A value that evolves by `share`.
 #[cycle(write)]
 #[inline(never)]
-fn write_share<'a>(
+fn write_share(
     alloc: Global,
-    known: &Known<'_>,
-    visible: usize,
-    scope: &'a Scope<'a>,
+    sight: &Sight<'_, '_>,
     first: &Expr,
-    name: &'a Name,
+    name: &Name,
     body: &Expr,
     nodes: &mut Vec<Node>,
 ) -> Result<Ty, Memory>
-    requires inputs { length (known_of known.now).inputs < 2 ^ 32 }
-    requires room { length nodes.old.items + count (counted (known_of known.now) visible) (ShareTerm (term_of first.now) name.now.text.items (term_of body.now)) ≤ 2048 }
-    ensures long { IfOk result (λ ty. length nodes.new.items ≡ length nodes.old.items + count (counted (known_of known.now) visible) (ShareTerm (term_of first.now) name.now.text.items (term_of body.now))) }
-    ensures written { IfOk result (λ ty. IsWritten nodes.old.items nodes.new.items ty (unfolded_in (known_of known.now) visible (scope_of scope.now) (length nodes.old.items) (ShareTerm (term_of first.now) name.now.text.items (term_of body.now)))) }
+    requires inputs { length (known_of sight.now.known.now).inputs < 2 ^ 32 }
+    requires room { HasRoom nodes.old.items
+        (nodes_in (sight_of sight.now) (ShareTerm (term_of first.now) name.now.text.items (term_of body.now))) }
+    ensures long { IfOk result (λ _. IsLonger nodes.old.items nodes.new.items
+        (nodes_in (sight_of sight.now) (ShareTerm (term_of first.now) name.now.text.items (term_of body.now)))) }
+    ensures written { IfOk result (λ ty. IsWritten nodes.old.items nodes.new.items ty
+        (unfolded_by (sight_of sight.now) (length nodes.old.items) (ShareTerm (term_of first.now) name.now.text.items (term_of body.now)))) }
 {
     let place = begin_node(alloc, nodes)?;
-    let ty = write(alloc, known, visible, scope, first, nodes)?;
+    let ty = write(alloc, sight, first, nodes)?;
     let shared = shared_type(alloc, &ty)?;
     let second = nodes.len() as u32;
-    let inner = Scope::Bind(&*name, place, &shared, &*scope);
-    write(alloc, known, visible, &inner, body, nodes)?;
+    let scope = Scope::Bind(&*name, place, &shared, &*sight.scope);
+    let inner = Sight {
+        known: &*sight.known,
+        visible: sight.visible,
+        scope: &scope,
+    };
+    write(alloc, &inner, body, nodes)?;
     let kids = vec![in alloc; place + 1, second]?;
     end_node(nodes, place, Op::Share, copy_type(alloc, &ty)?, kids);
     Ok(ty)
 }
 
-/// A branching.
+// A branching.
 #[cycle(write)]
 #[inline(never)]
 fn write_if(
     alloc: Global,
-    known: &Known<'_>,
-    visible: usize,
-    scope: &Scope<'_>,
+    sight: &Sight<'_, '_>,
     condition: &Expr,
     then: &Expr,
     other: &Expr,
     nodes: &mut Vec<Node>,
 ) -> Result<Ty, Memory>
-    requires inputs { length (known_of known.now).inputs < 2 ^ 32 }
-    requires room { length nodes.old.items + count (counted (known_of known.now) visible) (IfTerm (term_of condition.now) (term_of then.now) (term_of other.now)) ≤ 2048 }
-    ensures long { IfOk result (λ ty. length nodes.new.items ≡ length nodes.old.items + count (counted (known_of known.now) visible) (IfTerm (term_of condition.now) (term_of then.now) (term_of other.now))) }
-    ensures written { IfOk result (λ ty. IsWritten nodes.old.items nodes.new.items ty (unfolded_in (known_of known.now) visible (scope_of scope.now) (length nodes.old.items) (IfTerm (term_of condition.now) (term_of then.now) (term_of other.now)))) }
+    requires inputs { length (known_of sight.now.known.now).inputs < 2 ^ 32 }
+    requires room { HasRoom nodes.old.items
+        (nodes_in (sight_of sight.now) (IfTerm (term_of condition.now) (term_of then.now) (term_of other.now))) }
+    ensures long { IfOk result (λ _. IsLonger nodes.old.items nodes.new.items
+        (nodes_in (sight_of sight.now) (IfTerm (term_of condition.now) (term_of then.now) (term_of other.now)))) }
+    ensures written { IfOk result (λ ty. IsWritten nodes.old.items nodes.new.items ty
+        (unfolded_by (sight_of sight.now) (length nodes.old.items) (IfTerm (term_of condition.now) (term_of then.now) (term_of other.now)))) }
 {
     let place = begin_node(alloc, nodes)?;
-    write(alloc, known, visible, scope, condition, nodes)?;
+    write(alloc, sight, condition, nodes)?;
     let second = nodes.len() as u32;
-    let ty = write(alloc, known, visible, scope, then, nodes)?;
+    let ty = write(alloc, sight, then, nodes)?;
     let third = nodes.len() as u32;
-    write(alloc, known, visible, scope, other, nodes)?;
+    write(alloc, sight, other, nodes)?;
     let kids = vec![in alloc; place + 1, second, third]?;
     end_node(nodes, place, Op::If, copy_type(alloc, &ty)?, kids);
     Ok(ty)
 }
 
-/// A bound value.
+// A bound value.
 #[cycle(write)]
 #[inline(never)]
-fn write_let<'a>(
+fn write_let(
     alloc: Global,
-    known: &Known<'_>,
-    visible: usize,
-    scope: &'a Scope<'a>,
-    name: &'a Name,
+    sight: &Sight<'_, '_>,
+    name: &Name,
     bound: &Expr,
     body: &Expr,
     nodes: &mut Vec<Node>,
 ) -> Result<Ty, Memory>
-    requires inputs { length (known_of known.now).inputs < 2 ^ 32 }
-    requires room { length nodes.old.items + count (counted (known_of known.now) visible) (LetTerm name.now.text.items (term_of bound.now) (term_of body.now)) ≤ 2048 }
-    ensures long { IfOk result (λ ty. length nodes.new.items ≡ length nodes.old.items + count (counted (known_of known.now) visible) (LetTerm name.now.text.items (term_of bound.now) (term_of body.now))) }
-    ensures written { IfOk result (λ ty. IsWritten nodes.old.items nodes.new.items ty (unfolded_in (known_of known.now) visible (scope_of scope.now) (length nodes.old.items) (LetTerm name.now.text.items (term_of bound.now) (term_of body.now)))) }
+    requires inputs { length (known_of sight.now.known.now).inputs < 2 ^ 32 }
+    requires room { HasRoom nodes.old.items
+        (nodes_in (sight_of sight.now) (LetTerm name.now.text.items (term_of bound.now) (term_of body.now))) }
+    ensures long { IfOk result (λ _. IsLonger nodes.old.items nodes.new.items
+        (nodes_in (sight_of sight.now) (LetTerm name.now.text.items (term_of bound.now) (term_of body.now)))) }
+    ensures written { IfOk result (λ ty. IsWritten nodes.old.items nodes.new.items ty
+        (unfolded_by (sight_of sight.now) (length nodes.old.items) (LetTerm name.now.text.items (term_of bound.now) (term_of body.now)))) }
 {
     let place = begin_node(alloc, nodes)?;
-    let bound = write(alloc, known, visible, scope, bound, nodes)?;
+    let bound = write(alloc, sight, bound, nodes)?;
     let second = nodes.len() as u32;
-    let inner = Scope::Bind(&*name, place, &bound, &*scope);
-    let ty = write(alloc, known, visible, &inner, body, nodes)?;
+    let scope = Scope::Bind(&*name, place, &bound, &*sight.scope);
+    let inner = Sight {
+        known: &*sight.known,
+        visible: sight.visible,
+        scope: &scope,
+    };
+    let ty = write(alloc, &inner, body, nodes)?;
     let kids = vec![in alloc; place + 1, second]?;
     end_node(nodes, place, Op::Let, copy_type(alloc, &ty)?, kids);
     Ok(ty)
 }
 
-/// What is left of a call, behind the arguments that are given: a `let` for each further one, around the body.
+// What is left of a call, behind the arguments that are given: a `let` for each further one, around the body.
 #[cycle(write)]
 #[inline(never)]
 fn write_call(
     alloc: Global,
-    known: &Known<'_>,
-    visible: usize,
-    scope: &Scope<'_>,
+    sight: &Sight<'_, '_>,
     name: &Name,
     given: Vec<Argument>,
     args: &[Expr],
     nodes: &mut Vec<Node>,
 ) -> Result<Ty, Memory>
-    requires inputs { length (known_of known.now).inputs < 2 ^ 32 }
-    requires room { length nodes.old.items + (count_arguments (counted (known_of known.now) visible) (terms (map term_of args.now)) + size_of name.now.text.items (counted (known_of known.now) visible)) ≤ 2048 }
-    ensures long { IfOk result (λ ty. length nodes.new.items ≡ length nodes.old.items + (count_arguments (counted (known_of known.now) visible) (terms (map term_of args.now)) + size_of name.now.text.items (counted (known_of known.now) visible))) }
-    ensures written { IfOk result (λ ty. IsWritten nodes.old.items nodes.new.items ty (call_in (known_of known.now) visible (scope_of scope.now) name.now.text.items (map argument_of given.items) (length nodes.old.items) (terms (map term_of args.now)))) }
+    requires inputs { length (known_of sight.now.known.now).inputs < 2 ^ 32 }
+    requires room { HasRoom nodes.old.items
+        (call_nodes_in (sight_of sight.now) name.now.text.items (terms (map term_of args.now))) }
+    ensures long { IfOk result (λ _. IsLonger nodes.old.items nodes.new.items
+        (call_nodes_in (sight_of sight.now) name.now.text.items (terms (map term_of args.now)))) }
+    ensures written { IfOk result (λ ty. IsWritten nodes.old.items nodes.new.items ty
+        (call_by_sight (sight_of sight.now) name.now.text.items (map argument_of given.items) (length nodes.old.items)
+        (terms (map term_of args.now)))) }
 {
     let [arg, rest @ ..] = args else {
-        return write_body(alloc, known, visible, name, &given, nodes);
+        return write_body(alloc, sight.known, sight.visible, name, &given, nodes);
     };
     let place = begin_node(alloc, nodes)?;
-    let ty = write(alloc, known, visible, scope, arg, nodes)?;
+    let ty = write(alloc, sight, arg, nodes)?;
     let second = nodes.len() as u32;
     let mut given = given;
     given.push(Argument { place, ty })?;
-    let ty = write_call(alloc, known, visible, scope, name, given, rest, nodes)?;
+    let ty = write_call(alloc, sight, name, given, rest, nodes)?;
     let kids = vec![in alloc; place + 1, second]?;
     end_node(nodes, place, Op::Let, copy_type(alloc, &ty)?, kids);
     Ok(ty)
 }
 
-/// A function's body, with its arguments.
+// A function's body, with its arguments.
 #[cycle(write)]
 #[inline(never)]
 fn write_body(
@@ -332,14 +337,20 @@ fn write_body(
     nodes: &mut Vec<Node>,
 ) -> Result<Ty, Memory>
     requires inputs { length (known_of known.now).inputs < 2 ^ 32 }
-    requires room { length nodes.old.items + size_of name.now.text.items (counted (known_of known.now) visible) ≤ 2048 }
-    ensures long { IfOk result (λ ty. length nodes.new.items ≡ length nodes.old.items + size_of name.now.text.items (counted (known_of known.now) visible)) }
-    ensures written { IfOk result (λ ty. IsWritten nodes.old.items nodes.new.items ty (call_in (known_of known.now) visible [] name.now.text.items (map argument_of given.now) (length nodes.old.items) NoTerms)) }
+    requires room { HasRoom nodes.old.items (size_of name.now.text.items (counted (known_of known.now) visible)) }
+    ensures long { IfOk result (λ _. IsLonger nodes.old.items nodes.new.items
+        (size_of name.now.text.items (counted (known_of known.now) visible))) }
+    ensures written { IfOk result (λ ty. IsWritten nodes.old.items nodes.new.items ty
+        (call_in (known_of known.now) visible [] name.now.text.items (map argument_of given.now) (length nodes.old.items) NoTerms)) }
 {
     match find(known, visible, name) {
         Some((number, function)) => {
-            let scope = Scope::Arguments(function.params, given);
-            let ty = write(alloc, known, number, &scope, function.body, nodes)?;
+            let sight = Sight {
+                known: &*known,
+                visible: number,
+                scope: &Scope::Arguments(function.params, given),
+            };
+            let ty = write(alloc, &sight, function.body, nodes)?;
             Ok(ty)
         }
         None => {
@@ -349,7 +360,7 @@ fn write_body(
     }
 }
 
-/// A call without arguments.
+// A call without arguments.
 #[cycle(write)]
 #[inline(never)]
 fn write_bare_call(
@@ -360,9 +371,11 @@ fn write_bare_call(
     nodes: &mut Vec<Node>,
 ) -> Result<Ty, Memory>
     requires inputs { length (known_of known.now).inputs < 2 ^ 32 }
-    requires room { length nodes.old.items + size_of name.now.text.items (counted (known_of known.now) visible) ≤ 2048 }
-    ensures long { IfOk result (λ ty. length nodes.new.items ≡ length nodes.old.items + size_of name.now.text.items (counted (known_of known.now) visible)) }
-    ensures written { IfOk result (λ ty. IsWritten nodes.old.items nodes.new.items ty (call_in (known_of known.now) visible [] name.now.text.items [] (length nodes.old.items) NoTerms)) }
+    requires room { HasRoom nodes.old.items (size_of name.now.text.items (counted (known_of known.now) visible)) }
+    ensures long { IfOk result (λ _. IsLonger nodes.old.items nodes.new.items
+        (size_of name.now.text.items (counted (known_of known.now) visible))) }
+    ensures written { IfOk result (λ ty. IsWritten nodes.old.items nodes.new.items ty
+        (call_in (known_of known.now) visible [] name.now.text.items [] (length nodes.old.items) NoTerms)) }
 {
     let (seen, last) = last_call(&*known, visible, &*name);
     let ty = write_body(alloc, known, seen, last, &[], nodes)?;
