@@ -188,7 +188,3 @@ kept_slot (n ∷ ns) (suc p) s t ks x h k = later (node_keeps n) (kept_slot ns p
     later : (o : Option LocalType) → slice_get (nodes_kept_types ns) (kept_before ns p) ≡ Some x → slice_get (cons_option o (nodes_kept_types ns)) (one_if (is_some o) + kept_before ns p) ≡ Some x
     later None e = let z : 0 + kept_before ns p ≡ kept_before ns p = omega arith in rw z e
     later (Some y) e = let z : 1 + kept_before ns p ≡ suc (kept_before ns p) = omega arith in rw z e
-
--- the same among what the term keeps
-pub slot_type : (ns : List Node) → WellFormed ns → (p : ℕ) (s : Sort) (t : ValueType) (ks : List ℕ) (x : LocalType) → HasNode ns p s t ks → kept_type s t ≡ Some x → slice_get (kept_types (term_at ns 0)) (kept_before ns p) ≡ Some x
-slot_type ns w p s t ks x h k = let e : slice_get (nodes_kept_types ns) (kept_before ns p) ≡ Some x = kept_slot ns p s t ks x h k in rw (← types_whole ns w) e
