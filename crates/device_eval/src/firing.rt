@@ -105,8 +105,8 @@ pub fn fire(alloc: Global, program: &Arc<Unfolded>, snap: Snap) -> Result<Fired,
     }
 }
 
-// The export of a copy.
-fn evaluate(alloc: Global, program: &Unfolded, snap: &Snap) -> Result<Export, Memory>
+/// The export of a copy, which stays where it lies.
+pub fn evaluate(alloc: Global, program: &Unfolded, snap: &Snap) -> Result<Export, Memory>
     requires { IsSnap (unfolding_of program.now) snap.now }
     ensures { IfOk result (λ e. IsFired (record { program = program.now; snap = snap.now; export = e })) }
 {

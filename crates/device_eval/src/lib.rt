@@ -8,5 +8,5 @@ mod links;
 #[cfg(test)]
 mod tests;
 
-pub use firing::{Fired, fire};
+pub use firing::{Fired, evaluate, fire};
 pub use laws::{nodes_have_outcomes, one_export, rules_agree, slots_stand_for_trees};

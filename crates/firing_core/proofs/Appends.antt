@@ -17,7 +17,7 @@ use Rattle.std.proofs.lemmas.List.{map-append}
 use Rattle.firing_core.specs.Entries.{EditValue, EntryValue, EditEntry, entry_of, entries_of}
 use Rattle.firing_core.specs.Cores.{Core, Step, Run, IsGood}
 use Rattle.firing_core.specs.CoreViews.{CoreValue, IsCore, core_of, program_of}
-use Rattle.firing_core.specs.Books.{BookValue, IsBook, IsSameBook, AppendsEntry, HasFault, RefusesEntry, AtIndex, EditAtIndex}
+use Rattle.firing_core.specs.Books.{BookValue, IsBook, IsSameBook, AppendsEntry, HasFault, RefusesAt, RefusesEntry, AtIndex, EditAtIndex}
 use Rattle.firing_core.proofs.Views.{good_of}
 use Rattle.firing_core.proofs.Steps.{run_snoc}
 
@@ -57,20 +57,6 @@ flight_of {b} {old} d x k same h s q =
     let h' : s ≡ snap_copy (unfolding_of b.program) x = subst (λ (o : BookValue). (core_of o.core).flying d ≡ Some s → s ≡ snap_copy (unfolding_of o.program) x) (sym same) (h s) q in
     subst (λ (p : Program). s ≡ snap_copy (unfolding_of p) x) (sym k.held) h'
 
--- a copy of the copy in flight names the device
-pub names_device : {v : CoreValue} (d : ℕ) (x s : Snap) → IsCore v → Some (snap_copy (program_of v) x) ≡ (core_of v).flying d → s.device ≡ x.device → s.device ≡ d
-names_device {v} d x s k there same = same ∙ ((good_of v k).flying d (snap_copy (program_of v) x) (sym there)).names
-
--- the copy that was evaluated is the one in flight
-pub own_flight : {b old : BookValue} (d e : ℕ) (x : Snap) → IsBook b → b ≡ old → e ≡ d → (core_of b.core).flying d ≡ Some (snap_copy (program_of b.core) x) → (s : Copy) → (core_of old.core).flying e ≡ Some s
-    → s ≡ snap_copy (unfolding_of old.program) x
-own_flight {b} {old} d e x k same there h =
-    let P : BookValue → Type 0 = λ o. (s : Copy) → (core_of o.core).flying e ≡ Some s → s ≡ snap_copy (unfolding_of o.program) x in
-    subst P same (λ s q. here s (subst (λ (f : ℕ). (core_of b.core).flying f ≡ Some s) there q))
-  where
-    here : (s : Copy) → (core_of b.core).flying d ≡ Some s → s ≡ snap_copy (unfolding_of b.program) x
-    here s q = let h' : s ≡ snap_copy (program_of b.core) x = cc in subst (λ (r : Program). s ≡ snap_copy (unfolding_of r) x) k.held h'
-
 -- an entry after more room was taken
 pub appends_after : {old book new : BookValue} (e : Entry) → IsSameBook old book → AppendsEntry book new e → AppendsEntry old new e
 appends_after {old} {book} {new} e s a = record {
@@ -99,16 +85,16 @@ begin_refused o r fault.NotFlying a b n q u = absurd (n q)
 begin_refused o r fault.Memory a b n q u = absurd (u refl)
 
 -- the answer at an index refuses the entry
-pub at_index_refuses : (b : BookValue) (e : EntryValue) (i : ℕ) (r : Result (Unit {0}) StepFault) (f : ReplayFault) → i ≡ length b.log → ((why : StepFault) → r ≡ Err why → (why ≡ fault.Memory → ⊥) → fault_of (core_of b.core) e ≡ Some why)
-    → AtIndex i r f → RefusesEntry b e f
-at_index_refuses b e i r (replay_fault.At index why) p k w = (w.0 ∙ p, k why w.1 w.2)
-at_index_refuses b e i r (replay_fault.EditAt index why) p k w = absurd w
-at_index_refuses b e i r replay_fault.Memory p k w = tt
+pub at_index_refuses : (c : Core) (e : EntryValue) (i : ℕ) (r : Result (Unit {0}) StepFault) (f : ReplayFault) → ((why : StepFault) → r ≡ Err why → (why ≡ fault.Memory → ⊥) → fault_of c e ≡ Some why)
+    → AtIndex i r f → RefusesAt i c e f
+at_index_refuses c e i r (replay_fault.At index why) k w = (w.0, k why w.1 w.2)
+at_index_refuses c e i r (replay_fault.EditAt index why) k w = absurd w
+at_index_refuses c e i r replay_fault.Memory k w = tt
 
-pub edit_index_refuses : (b : BookValue) (e : EditValue) (i : ℕ) (r : Result (Unit {0}) EditFault) (f : ReplayFault) → i ≡ length b.log → IfErr r (RefusesEdit (core_of b.core) e) → EditAtIndex i r f → RefusesEntry b (EditEntry e) f
-edit_index_refuses b e i r (replay_fault.At index why) p k w = absurd w
-edit_index_refuses b e i r (replay_fault.EditAt index why) p k w = (w.0 ∙ p, rw w.1 at k)
-edit_index_refuses b e i r replay_fault.Memory p k w = tt
+pub edit_index_refuses : (c : Core) (e : EditValue) (i : ℕ) (r : Result (Unit {0}) EditFault) (f : ReplayFault) → IfErr r (RefusesEdit c e) → EditAtIndex i r f → RefusesAt i c (EditEntry e) f
+edit_index_refuses c e i r (replay_fault.At index why) k w = absurd w
+edit_index_refuses c e i r (replay_fault.EditAt index why) k w = (w.0, rw w.1 at k)
+edit_index_refuses c e i r replay_fault.Memory k w = tt
 
 pub refuses_after : (old mid : BookValue) (e : EntryValue) (f : ReplayFault) → IsSameBook old mid → RefusesEntry mid e f → RefusesEntry old e f
 refuses_after old mid e (replay_fault.At index why) s w = (w.0 ∙ ap length s.log, subst (λ (c : CoreValue). fault_of (core_of c) e ≡ Some why) s.core w.1)

@@ -1,5 +1,5 @@
 -- What an optional reference points to.
-use Rattle.std.proofs.Common.{◌≡◌, Option, Some, None, sym, ap, subst, Bor}
+use Rattle.std.proofs.Common.{◌≡◌, ◌∙◌, Option, Some, None, is_some, false, sym, ap, subst, Bor}
 use Rattle.std.specs.Prelude.{option_map}
 use Rattle.std.specs.Option.{option_copied}
 use Rattle.std.specs.Prelude.{IfSome}
@@ -16,3 +16,9 @@ pub where_read : {A : Type 0} (P : A → Type 0) (r : Option (Bor A)) (x : Optio
 where_read P None x e w = tt
 where_read P (Some r) None e w = absurd (cc)
 where_read P (Some r) (Some x) e w = let h : r.now ≡ x = cc in subst P (sym h) w
+
+pub none_read : {A : Type 0} (r : Option (Bor A)) (x : Option A) → option_copied r ≡ x → r ≡ None → is_some x ≡ false
+none_read r x e n = ap is_some (sym e ∙ ap option_copied n)
+
+pub some_read : {A : Type 0} (r : Option (Bor A)) (y : Bor A) (x : Option A) → option_copied r ≡ x → r ≡ Some y → x ≡ Some y.now
+some_read r y x e n = sym e ∙ ap option_copied n

@@ -233,6 +233,17 @@ module _ (v : CoreValue) (k : IsCore v) (p d : ℕ) (h : p < length v.net.device
       → ((s : Copy) → (core_of v).flying d ≡ Some s → s ≡ snap_copy (program_of v) f.snap) → Ends (program_of v) (core_of v) d (core_of (with_export made))
   ends_with x f made m q l s fired same own = subst (λ (y : Export). Ends (program_of v) (core_of v) d (core_of (with_export y))) (sym m) (ends x f q l s fired same own)
 
+  -- an end of the copy in flight where it lies
+  pub flight_ends : (x : Option Snap) (s : Snap) (made : Export) (r : Program) → x ≡ get_or v.flying p x → x ≡ Some s → lives v.net d ≡ true → r ≡ v.program → IsFired (record { program = r; snap = s; export = made })
+      → Ends (program_of v) (core_of v) d (core_of (with_export made))
+  flight_ends x s made r q i l same fired =
+      let f : (core_of v).flying d ≡ Some (snap_copy (program_of v) s) = flight_at x q ∙ ap (option_map (snap_copy (program_of v))) i in
+      ends x (record { program = r; snap = s; export = made }) q l (ap is_some i) fired same (λ t u. cc)
+
+  pub flight_fits : (x : Option Snap) (s : Snap) → x ≡ get_or v.flying p x → x ≡ Some s → IsSnap (program_of v) s
+  flight_fits x s q i =
+      subst (WhereSome (IsSnap (program_of v))) i (flight_kept (program_of v) (numbers v.net.devices) v.flying p x k.flying flight_within q)
+
 pub lives_at : (n : Network) (s t : Snap) → s ≡ t → lives n s.device ≡ true → lives n t.device ≡ true
 lives_at n s t e l = subst (λ (x : Snap). lives n x.device ≡ true) e l
 

@@ -1,8 +1,8 @@
 -- Runs that are cut and joined.
-use Rattle.std.proofs.Common.{◌≡◌, ◌↔◌, inl, inr, List, [], ◌∷◌, ◌++◌, refl, sym, ◌∙◌, ap, subst, Bool, true, false, ◌||◌, if◌then◌else◌}
+use Rattle.std.proofs.Common.{◌≡◌, ◌↔◌, inl, inr, List, [], ◌∷◌, ◌++◌, refl, sym, ◌∙◌, ap, subst, Bool, true, false}
 use Rattle.fc_values.proofs.Booleans.{or_no}
 use Rattle.fc_nodes.specs.Program.{Unfolding}
-use Rattle.firing_core.specs.Entries.{EditValue, EntryValue, BeginEntry, EndEntry, IdleEntry, EditEntry}
+use Rattle.firing_core.specs.Entries.{EntryValue, BeginEntry, EndEntry, IdleEntry, EditEntry}
 use Rattle.firing_core.specs.Cores.{Core, Step, Run}
 use Rattle.firing_core.specs.Rounds.{is_edit, has_edit, after_edit}
 use Rattle.firing_core.specs.Laws.{EndsInEdit, CutAtEdit}

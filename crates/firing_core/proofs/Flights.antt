@@ -1,11 +1,11 @@
 -- A copy in flight is the one that was taken at its begin.
-use Rattle.std.proofs.Common.{◌≡◌, ℕ, inl, inr, List, [], ◌∷◌, ◌++◌, refl, sym, ◌∙◌, ap, subst, true, Option, Some, None}
+use Rattle.std.proofs.Common.{◌≡◌, ℕ, inl, inr, List, [], ◌∷◌, ◌++◌, sym, ◌∙◌, ap, subst, true, Some, None}
 use Rattle.fc_values.specs.Trees.{Copy}
 use Rattle.fc_nodes.specs.Program.{Unfolding}
 use Rattle.topology.specs.Networks.{lives}
 use Rattle.topology.proofs.Lemmas.{can_join}
 use Rattle.firing_core.specs.Entries.{EditValue, LinkEdit, UnlinkEdit, SetEdit, PokeEdit, JoinEdit, LeaveEdit, EntryValue, BeginEntry, EndEntry, IdleEntry, EditEntry}
-use Rattle.firing_core.specs.Cores.{Map, put, Core, copy_of, edited, edit_fault, Step, Run, IsGood}
+use Rattle.firing_core.specs.Cores.{Core, copy_of, edited, edit_fault, Step, Run, IsGood}
 use Rattle.firing_core.specs.Rounds.{HasEnd}
 use Rattle.firing_core.specs.Replays.{replay}
 use Rattle.firing_core.proofs.Maps.{put_same, put_other}

@@ -1,86 +1,104 @@
 -- A log, replayed entry by entry.
-use Rattle.std.proofs.Common.{◌≡◌, ℕ, List, [], ◌∷◌, ◌++◌, length, refl, sym, ◌∙◌, ap, subst, append_assoc, append-nil, arith, Some}
-use Rattle.std.proofs.lemmas.List.{map-append, length-map}
-use Rattle.fc_nodes.specs.Program.{Program, unfolding_of}
+use Rattle.std.proofs.Common.{◌≡◌, ℕ, zero, suc, ◌<◌, List, [], ◌∷◌, ◌++◌, length, take, drop, get_or, sym, ◌∙◌, ap, subst, arith, Some}
+use Rattle.std.proofs.lemmas.List.{map-append, length-map, length-take-le, take-append-drop}
+use Rattle.std.proofs.Math.Seq.{take-suc, drop-cons}
+use Rattle.fc_nodes.specs.Program.{Program, Unfolding, unfolding_of}
 use Rattle.firing_core.specs.declared.entries.Entry.{Entry}
 use Rattle.firing_core.specs.declared.entries.ReplayFault.{ReplayFault}
 use Rattle.firing_core.specs.declared.entries.ReplayFault.TheVariants as replay_fault
 use Rattle.firing_core.specs.Entries.{EntryValue, entry_of, entries_of}
 use Rattle.firing_core.specs.Cores.{Core, Step, Run, IsGood}
-use Rattle.firing_core.specs.CoreViews.{core_of}
+use Rattle.firing_core.specs.CoreViews.{CoreValue, core_of, program_of, rooms_of, IsCore}
 use Rattle.firing_core.specs.Replays.{EntryFits, LogFits, FailsAt, fault_of, net_fault_of, replay}
-use Rattle.firing_core.specs.Books.{BookValue, AppendsEntry, RefusesEntry, FailsReplay, IsStuckReplay}
+use Rattle.firing_core.specs.Books.{IsBook, RefusesAt, FailsReplay, IsStuckReplay, rooms_after, rooms_along}
+use Rattle.firing_core.proofs.Views.{good_of}
+use Rattle.firing_core.proofs.Settling.{rooms_join, take_whole}
 use Rattle.firing_core.proofs.Steps.{good_fly, run_snoc, run_rel, fails_none, fault_stuck, net_fault_stuck}
 
--- the book of a good start and of the entries of a log so far, and those that are left
-pub record Replayed (p : Program) (start : Core) (log taken left : List Entry) (b : BookValue) : Type 0 where
-  pub whole : taken ++ left ≡ log
-  pub program : b.program ≡ p
-  pub started : core_of b.start ≡ start
-  pub read : b.log ≡ taken
-  pub runs : Run (unfolding_of p) start (entries_of taken) (core_of b.core)
-  pub good : IsGood (unfolding_of p) start
-  pub fits : LogFits (unfolding_of p) (entries_of left)
+-- the core to which the first entries of a log lead
+pub record ReplayedTo (p : Program) (start : CoreValue) (log : List Entry) (i : ℕ) (c : CoreValue) : Type 0 where
+  pub program : c.program ≡ p
+  pub runs : Run (unfolding_of p) (core_of start) (entries_of (take i log)) (core_of c)
+  pub rooms : rooms_of c ≡ rooms_along (entries_of (take i log)) (rooms_of start)
 
-module _ {p : Program} {start : Core} {log taken left : List Entry} {b : BookValue} (e : Entry) (rest : List Entry) (next_is : left ≡ e ∷ rest) (r : Replayed p start log taken left b) where
-  pub entry_fits : EntryFits (unfolding_of p) (entry_of e)
-  entry_fits = let f : LogFits (unfolding_of p) (entries_of (e ∷ rest)) = subst (λ (l : List Entry). LogFits (unfolding_of p) (entries_of l)) next_is r.fits in f.0
+pub fits_at : (U : Unfolding) (log : List Entry) (i : ℕ) (e : Entry) → LogFits U (entries_of log) → i < length log → e ≡ get_or log i e → EntryFits U (entry_of e)
+fits_at U [] i e f h q = absurd (omega arith)
+fits_at U (x ∷ xs) zero e f h q = subst (λ (y : Entry). EntryFits U (entry_of y)) (sym q) f.0
+fits_at U (x ∷ xs) (suc i) e f h q = fits_at U xs i e f.1 (omega arith) q
 
-  rest_fits : LogFits (unfolding_of p) (entries_of rest)
-  rest_fits = let f : LogFits (unfolding_of p) (entries_of (e ∷ rest)) = subst (λ (l : List Entry). LogFits (unfolding_of p) (entries_of l)) next_is r.fits in f.1
+module _ {p : Program} {start : CoreValue} {log : List Entry} {i : ℕ} {c : CoreValue} (e : Entry) (h : i < length log) (is : e ≡ get_or log i e) (r : ReplayedTo p start log i c) where
+  longer : entries_of (take (suc i) log) ≡ entries_of (take i log) ++ entry_of e ∷ []
+  longer = ap entries_of (take-suc log i e h ∙ ap (λ (x : Entry). take i log ++ x ∷ []) (sym is)) ∙ map-append entry_of (take i log) (e ∷ [])
 
-  cut_here : log ≡ taken ++ e ∷ rest
-  cut_here = sym r.whole ∙ ap (λ (l : List Entry). taken ++ l) next_is
+  pub replayed_more : (j : ℕ) (next : CoreValue) → j ≡ suc i → next.program ≡ c.program → Step (program_of c) (core_of c) (entry_of e) (core_of next) → rooms_of next ≡ rooms_after (entry_of e) (rooms_of c) → ReplayedTo p start log j next
+  replayed_more j next q same step rooms = subst (λ (k : ℕ). ReplayedTo p start log k next) (sym q) (record {
+    program = same ∙ r.program;
+    runs = subst (λ (l : List EntryValue). Run (unfolding_of p) (core_of start) l (core_of next)) (sym longer)
+        (run_snoc (unfolding_of p) (core_of start) (core_of c) (core_of next) (entries_of (take i log)) (entry_of e) r.runs
+        (subst (λ (s : Program). Step (unfolding_of s) (core_of c) (entry_of e) (core_of next)) r.program step));
+    rooms = rooms ∙ ap (rooms_after (entry_of e)) r.rooms ∙ sym (rooms_join (entries_of (take i log)) (entry_of e ∷ []) (rooms_of start))
+        ∙ ap (λ (l : List EntryValue). rooms_along l (rooms_of start)) (sym longer);
+  })
 
-  pub replayed_more : {next : BookValue} → AppendsEntry b next e → Replayed p start log (taken ++ e ∷ []) rest next
-  replayed_more {next} a =
-      let step : Step (unfolding_of p) (core_of b.core) (entry_of e) (core_of next.core) = subst (λ (s : Program). Step (unfolding_of s) (core_of b.core) (entry_of e) (core_of next.core)) r.program a.step in
-      record {
-        whole = append_assoc taken (e ∷ []) rest ∙ sym cut_here;
-        program = a.program ∙ r.program;
-        started = ap core_of a.start ∙ r.started;
-        read = a.log ∙ ap (λ (l : List Entry). l ++ e ∷ []) r.read;
-        runs = subst (λ (l : List EntryValue). Run (unfolding_of p) start l (core_of next.core)) (sym (map-append entry_of taken (e ∷ [])))
-            (run_snoc (unfolding_of p) start (core_of b.core) (core_of next.core) (entries_of taken) (entry_of e) r.runs step);
-        good = r.good;
-        fits = rest_fits;
-      }
+  cut_here : entries_of log ≡ entries_of (take i log) ++ entry_of e ∷ entries_of (drop (suc i) log)
+  cut_here =
+      ap entries_of (sym (take-append-drop i log) ∙ ap (λ (l : List Entry). take i log ++ l) (drop-cons log i e h ∙ ap (λ (x : Entry). x ∷ drop (suc i) log) (sym is)))
+      ∙ map-append entry_of (take i log) (e ∷ drop (suc i) log)
 
-  fails : (k : ℕ) (refused : Core → EntryValue → Type 0) → k ≡ length b.log → refused (core_of b.core) (entry_of e) → FailsAt (unfolding_of p) start (entries_of log) k refused
+  long : length (entries_of (take i log)) ≡ i
+  long = length-map (take i log) entry_of ∙ length-take-le i log (omega arith)
+
+  fails : (k : ℕ) (refused : Core → EntryValue → Type 0) → k ≡ i → refused (core_of c) (entry_of e) → FailsAt (unfolding_of p) (core_of start) (entries_of log) k refused
   fails k refused place w = record {
-    front = entries_of taken;
+    front = entries_of (take i log);
     entry = entry_of e;
-    rest = entries_of rest;
-    cut = ap entries_of cut_here ∙ map-append entry_of taken (e ∷ rest);
-    place = place ∙ ap length r.read ∙ sym (length-map taken entry_of);
-    before = core_of b.core;
+    rest = entries_of (drop (suc i) log);
+    cut = cut_here;
+    place = place ∙ sym long;
+    before = core_of c;
     runs = r.runs;
     refuses = w;
   }
 
-  -- the entry that the book refuses is the first that has no step
-  pub replay_fails : (f : ReplayFault) → RefusesEntry b (entry_of e) f → FailsReplay (unfolding_of p) start (entries_of log) f
+  -- the entry that is refused is the first that has no step
+  pub replay_fails : (f : ReplayFault) → RefusesAt i (core_of c) (entry_of e) f → FailsReplay (unfolding_of p) (core_of start) (entries_of log) f
   replay_fails replay_fault.Memory w = tt
   replay_fails (replay_fault.At k why) w = fails k (λ k e. fault_of k e ≡ Some why) w.0 w.1
   replay_fails (replay_fault.EditAt k why) w = fails k (λ k e. net_fault_of k e ≡ Some why) w.0 w.1
 
   -- so the log leads to no core
-  pub replay_stuck : (f : ReplayFault) → RefusesEntry b (entry_of e) f → IsStuckReplay (unfolding_of p) start (entries_of log) f
-  replay_stuck replay_fault.Memory w = tt
-  replay_stuck (replay_fault.At k why) w =
-      fails_none (unfolding_of p) start (entries_of log) k (λ k e. fault_of k e ≡ Some why) (λ c e q. fault_stuck (unfolding_of p) c e why q) (good_fly (unfolding_of p) start r.good) (replay_fails (replay_fault.At k why) w)
-  replay_stuck (replay_fault.EditAt k why) w =
-      fails_none (unfolding_of p) start (entries_of log) k (λ k e. net_fault_of k e ≡ Some why) (λ c e q. net_fault_stuck (unfolding_of p) c e why q) (good_fly (unfolding_of p) start r.good) (replay_fails (replay_fault.EditAt k why) w)
+  pub replay_stuck : IsGood (unfolding_of p) (core_of start) → (f : ReplayFault) → RefusesAt i (core_of c) (entry_of e) f → IsStuckReplay (unfolding_of p) (core_of start) (entries_of log) f
+  replay_stuck good replay_fault.Memory w = tt
+  replay_stuck good (replay_fault.At k why) w =
+      fails_none (unfolding_of p) (core_of start) (entries_of log) k (λ k e. fault_of k e ≡ Some why) (λ c e q. fault_stuck (unfolding_of p) c e why q) (good_fly (unfolding_of p) (core_of start) good) (replay_fails (replay_fault.At k why) w)
+  replay_stuck good (replay_fault.EditAt k why) w =
+      fails_none (unfolding_of p) (core_of start) (entries_of log) k (λ k e. net_fault_of k e ≡ Some why) (λ c e q. net_fault_stuck (unfolding_of p) c e why q) (good_fly (unfolding_of p) (core_of start) good) (replay_fails (replay_fault.EditAt k why) w)
 
--- where the whole log is read, it leads to the book's core
-pub replayed_all : {p : Program} {start : Core} {log taken left : List Entry} {b : BookValue} → left ≡ [] → Replayed p start log taken left b → taken ≡ log
-replayed_all {taken = taken} e r = sym (append-nil taken) ∙ ap (λ (l : List Entry). taken ++ l) (sym e) ∙ r.whole
+-- ---- where the whole log is read
 
-pub replays : {p : Program} {start : Core} {log taken left : List Entry} {b : BookValue} → left ≡ [] → Replayed p start log taken left b → replay (unfolding_of p) start (entries_of log) ≡ Some (core_of b.core)
-replays {p} {start} {log} {taken} {left} {b} e r =
-    run_rel (unfolding_of p) start (core_of b.core) (entries_of log) (good_fly (unfolding_of p) start r.good)
-    (subst (λ (l : List Entry). Run (unfolding_of p) start (entries_of l) (core_of b.core)) (replayed_all e r) r.runs)
+module _ {p : Program} {start : CoreValue} {log : List Entry} {i : ℕ} {c : CoreValue} (whole : i ≡ length log) (r : ReplayedTo p start log i c) where
+  all_read : entries_of (take i log) ≡ entries_of log
+  all_read = ap entries_of (take_whole i log whole)
 
-pub nothing_left : {X : Type 0} (l : List X) → length l ≡ 0 → l ≡ []
-nothing_left [] h = refl
-nothing_left (x ∷ xs) h = absurd (omega arith)
+  runs_all : Run (unfolding_of p) (core_of start) (entries_of log) (core_of c)
+  runs_all = subst (λ (l : List EntryValue). Run (unfolding_of p) (core_of start) l (core_of c)) all_read r.runs
+
+  pub replays : IsGood (unfolding_of p) (core_of start) → replay (unfolding_of p) (core_of start) (entries_of log) ≡ Some (core_of c)
+  replays good = run_rel (unfolding_of p) (core_of start) (core_of c) (entries_of log) (good_fly (unfolding_of p) (core_of start) good) runs_all
+
+  pub replayed_rooms : rooms_of c ≡ rooms_along (entries_of log) (rooms_of start)
+  replayed_rooms = r.rooms ∙ ap (λ (l : List EntryValue). rooms_along l (rooms_of start)) all_read
+
+  -- the book of a copy of the start
+  pub replayed_book : (q : Program) (copied : CoreValue) (spare : ℕ) → q ≡ p → copied.program ≡ p → IsCore copied → core_of copied ≡ core_of start → IsBook (record { program = q; start = copied; log = log; core = c; spare = spare })
+  replayed_book q copied spare is same kept copy = subst (λ (s : Program). IsBook (record { program = s; start = copied; log = log; core = c; spare = spare })) (sym is) (record {
+    started = same;
+    held = r.program;
+    good = subst (λ (s : Program). IsGood (unfolding_of s) (core_of copied)) same (good_of copied kept);
+    runs = subst (λ (k : Core). Run (unfolding_of p) k (entries_of log) (core_of c)) (sym copy) runs_all;
+  })
+
+-- a copy of the start is good, and so is the start
+pub start_good : (p : Program) (start copied : CoreValue) → copied.program ≡ p → IsCore copied → core_of copied ≡ core_of start → IsGood (unfolding_of p) (core_of start)
+start_good p start copied same kept copy =
+    subst (λ (k : Core). IsGood (unfolding_of p) k) copy (subst (λ (s : Program). IsGood (unfolding_of s) (core_of copied)) same (good_of copied kept))

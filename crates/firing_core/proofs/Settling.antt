@@ -83,7 +83,7 @@ run_ends U c last (x ∷ xs) r =
         first true q t e = refl
         first false q t e = absurd cc
 
-rooms_join : (xs ys : List EntryValue) (set : ℕ → Bool) → rooms_along (xs ++ ys) set ≡ rooms_along ys (rooms_along xs set)
+pub rooms_join : (xs ys : List EntryValue) (set : ℕ → Bool) → rooms_along (xs ++ ys) set ≡ rooms_along ys (rooms_along xs set)
 rooms_join [] ys set = refl
 rooms_join (x ∷ xs) ys set = rooms_join xs ys (rooms_after x set)
 
@@ -179,7 +179,7 @@ settled_more old now new place next x ds es a b l q s one =
           (ends_more old now new _ _ s.ends (subst (EndsFlights now new) last one));
     }
 
-take_whole : (k : ℕ) (xs : List ℕ) → k ≡ length xs → take k xs ≡ xs
+pub take_whole : {X : Type 0} (k : ℕ) (xs : List X) → k ≡ length xs → take k xs ≡ xs
 take_whole zero [] e = refl
 take_whole zero (x ∷ xs) e = absurd (omega arith)
 take_whole (suc k) [] e = absurd (omega arith)

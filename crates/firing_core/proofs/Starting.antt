@@ -180,3 +180,7 @@ module _ (P : Program) (net : Network) (table : List (ℕ × Export)) (pending :
 -- without rooms
 pub none_roomed : (is : List ℕ) (n : ℕ) (rs : List (Option SpareValue)) (d : ℕ) → rs ≡ replicate n None → is_some (slot_at is rs d) ≡ false
 none_roomed is n rs d e = ap (λ (f : Map SpareValue). is_some (f d)) (nothing_at is n rs e)
+
+pub nothing_left : {X : Type 0} (l : List X) → length l ≡ 0 → l ≡ []
+nothing_left [] h = refl
+nothing_left (x ∷ xs) h = absurd (omega arith)

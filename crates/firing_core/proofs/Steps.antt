@@ -1,5 +1,5 @@
 -- Steps as a relation and as a function, and what steps keep.
-use Rattle.std.proofs.Common.{◌≡◌, ℕ, List, [], ◌∷◌, ◌++◌, length, refl, sym, ◌∙◌, ap, subst, Bool, true, false, not, ◌||◌, Option, Some, None, is_some, nat_eq, nat_le, if◌then◌else◌}
+use Rattle.std.proofs.Common.{◌≡◌, ℕ, List, [], ◌∷◌, ◌++◌, length, refl, sym, ◌∙◌, ap, subst, Bool, true, false, not, Option, Some, None, is_some, nat_eq, nat_le}
 use Rattle.fc_values.specs.Fields.{ValueLocal, ValueField, is_in}
 use Rattle.fc_values.specs.Trees.{TreeExport, Copy}
 use Rattle.fc_nodes.specs.Program.{Unfolding}
@@ -15,7 +15,7 @@ use Rattle.topology.proofs.Lemmas.{no_fault}
 use Rattle.firing_core.specs.Entries.{EditValue, LinkEdit, UnlinkEdit, SetEdit, PokeEdit, JoinEdit, LeaveEdit, EntryValue, BeginEntry, EndEntry, IdleEntry, EditEntry}
 use Rattle.firing_core.specs.declared.entries.StepFault.{StepFault}
 use Rattle.topology.specs.Networks.{lives, Lives}
-use Rattle.firing_core.specs.Cores.{Map, put, Core, begun, ended, Ends, Edits, edit_fault, edited, Step, Run, IsGood}
+use Rattle.firing_core.specs.Cores.{Map, Core, begun, ended, Ends, Edits, edit_fault, edited, Step, Run, IsGood}
 use Rattle.firing_core.specs.Replays.{export_from, evaluated, begin_fault, end_fault, fault_of, net_fault_of, EntryFits, LogFits, flown, landed, unless, step_of, step, and_replay, replay, FailsAt}
 use Rattle.fc_values.proofs.Booleans.{or_true}
 use Rattle.firing_core.proofs.Maps.{put_case}

@@ -1,5 +1,5 @@
 -- Steps keep a core good.
-use Rattle.std.proofs.Common.{◌≡◌, ◌↔◌, ℕ, List, [], ◌∷◌, refl, sym, ◌∙◌, ap, subst, Bool, true, false, not, ◌||◌, if◌then◌else◌, nat_eq, Option, Some, None}
+use Rattle.std.proofs.Common.{◌≡◌, ◌↔◌, ℕ, List, [], ◌∷◌, refl, sym, ◌∙◌, ap, subst, Bool, true, false, not, if◌then◌else◌, nat_eq, Option, Some, None}
 use Rattle.std.proofs.lemmas.Bool.{eqb-false}
 use Rattle.topology.specs.declared.types.NetFault.TheVariants as net_fault
 use Rattle.fc_values.specs.Trees.{TreeExport, Copy}
@@ -17,7 +17,6 @@ use Rattle.firing_core.specs.Entries.{EditValue, LinkEdit, UnlinkEdit, SetEdit, 
 use Rattle.firing_core.specs.Cores.{Core, copy_of, begun, ended, Ends, EditFits, edit_fault, edited, Step, Run, GoodExport, GoodFlight, IsGood}
 use Rattle.firing_core.proofs.Neighbours.{copy_fits}
 use Rattle.fc_values.proofs.Booleans.{or_true}
-use Rattle.firing_core.specs.declared.entries.StepFault.{StepFault}
 use Rattle.firing_core.specs.Replays.{begin_fault, end_fault, fault_of, net_fault_of, EntryFits}
 use Rattle.firing_core.proofs.Maps.{put_case}
 use Rattle.firing_core.proofs.Steps.{good_fly, step_faultless, may_leave, stays}

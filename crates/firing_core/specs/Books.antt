@@ -95,11 +95,15 @@ HasFault c e fault.Flying = fault_of c e ≡ Some fault.Flying
 HasFault c e fault.NotFlying = fault_of c e ≡ Some fault.NotFlying
 HasFault c e fault.Memory = Unit {0}
 
--- the book refuses an entry: it has no step from the book's core, and its index is that after the log. Want of memory is free
+-- the entry at an index of a log is refused: it has no step from a core, for this reason. Want of memory is free
+abbrev pub RefusesAt : ℕ → Core → EntryValue → ReplayFault → Type 0
+RefusesAt i c e (replay_fault.At index why) = (index ≡ i) × (fault_of c e ≡ Some why)
+RefusesAt i c e (replay_fault.EditAt index why) = (index ≡ i) × (net_fault_of c e ≡ Some why)
+RefusesAt i c e replay_fault.Memory = Unit {0}
+
+-- the book refuses an entry: it has no step from the book's core, and its index is that after the log
 abbrev pub RefusesEntry : BookValue → EntryValue → ReplayFault → Type 0
-RefusesEntry b e (replay_fault.At index why) = (index ≡ length b.log) × (fault_of (core_of b.core) e ≡ Some why)
-RefusesEntry b e (replay_fault.EditAt index why) = (index ≡ length b.log) × (net_fault_of (core_of b.core) e ≡ Some why)
-RefusesEntry b e replay_fault.Memory = Unit {0}
+RefusesEntry b e f = RefusesAt (length b.log) (core_of b.core) e f
 
 -- the entry at that index is the first of the log that has no step, for this reason
 abbrev pub FailsReplay : Unfolding → Core → List EntryValue → ReplayFault → Type 0

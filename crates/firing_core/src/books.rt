@@ -3,8 +3,7 @@
 use crate::cores::Core;
 use crate::entries::{Edit, EditFault, Entry, ReplayFault, StepFault};
 use crate::rooms::Room;
-use crate::snaps::copy_snap;
-use device_eval::{Fired, fire};
+use device_eval::Fired;
 use fc_nodes::Unfolded;
 use fc_values::Memory;
 use std::alloc::Global;
@@ -277,109 +276,18 @@ impl Book {
         ensures err { OnErr result (self.new ≡ self.old) }
     {
         let index = self.log.len();
-        match entry {
-            Entry::Begin(device) => at_index(index, self.begin(alloc, device)),
-            Entry::End(device) => at_index(index, self.finish(alloc, device)),
-            Entry::Idle => {
-                self.idle();
-                Ok(())
-            }
-            Entry::Edit(edit) => edit_at_index(index, self.edit(alloc, edit)),
-        }
-    }
-
-    // Evaluates the copy with which a device flies, and ends that firing.
-    fn finish(&mut self, alloc: Global, device: u32) -> Result<(), StepFault>
-        requires { 1 ≤ self.old.spare }
-        ensures ok { OnOk result (AppendsEntry self.old self.new (entry.End device)) }
-        ensures rooms { OnOk result (rooms_of self.new.core ≡ mark (rooms_of self.old.core) device false) }
-        ensures refused { IfErr result (HasFault (core_of self.old.core) (EndEntry device)) }
-        ensures accepted { OnOk result (fault_of (core_of self.old.core) (EndEntry device) ≡ None) }
-        ensures err { OnErr result (self.new ≡ self.old) }
-    {
-        let fired = evaluate(alloc, &self.core, device)?;
-        match self.end(fired) {
-            Ok(()) => Ok(()),
-            Err((_, fault)) => Err(fault),
-        }
+        self.core.apply(alloc, index, &entry)?;
+        self.log.push_reserved(entry);
+        Ok(())
     }
 }
 
-ghost use Rattle.std.specs.Prelude.{◌≡◌, ◌↔◌, IfOk, IfErr, IsOk, Some, None};
-ghost use Rattle.value_trees.specs.Snaps.{snap_copy, IsSnap};
-ghost use Rattle.firing_core.specs.CoreViews.{core_of, program_of};
-ghost use Rattle.firing_core.specs.Books.{HasFault, FailsReplay, IsStuckReplay};
-ghost use Rattle.firing_core.specs.Entries.{EndEntry};
-
-// The copy with which a device flies, evaluated.
-fn evaluate(alloc: Global, core: &Core, device: u32) -> Result<Fired, StepFault>
-    ensures program { IfOk result (λ f. f.program ≡ core.now.program) }
-    ensures device { IfOk result (λ f. f.snap.device ≡ device) }
-    ensures copy { IfOk result (λ f. (core_of core.now).flying device ≡ Some (snap_copy (program_of core.now) f.snap)) }
-    ensures refused { IfErr result (HasFault (core_of core.now) (EndEntry device)) }
-{
-    let snap = flight(alloc, core, device)?;
-    match fire(alloc, core.program(), snap) {
-        Ok(fired) => Ok(fired),
-        Err(_) => Err(StepFault::Memory),
-    }
-}
-
-// A copy of the copy with which a device flies.
-fn flight(alloc: Global, core: &Core, device: u32) -> Result<Snap, StepFault>
-    ensures snap { IfOk result (λ s. IsSnap (program_of core.now) s) }
-    ensures device { IfOk result (λ s. s.device ≡ device) }
-    ensures copy { IfOk result (λ s. (core_of core.now).flying device ≡ Some (snap_copy (program_of core.now) s)) }
-    ensures refused { IfErr result (HasFault (core_of core.now) (EndEntry device)) }
-{
-    let Some(snap) = core.flying(device) else {
-        return Err(missing(core, device));
-    };
-    match copy_snap(alloc, core.program(), snap) {
-        Ok(copy) => Ok(copy),
-        Err(_) => Err(StepFault::Memory),
-    }
-}
-
-// Why a device that doesn't fly can't end a firing.
-fn missing(core: &Core, device: u32) -> StepFault
-    requires { (core_of core.now).flying device ≡ None }
-    ensures { HasFault (core_of core.now) (EndEntry device) result }
-{
-    match core.net().place(device) {
-        Some(_) => StepFault::NotFlying,
-        None => StepFault::NoDevice,
-    }
-}
-
+ghost use Rattle.std.specs.Prelude.{◌≡◌, IfOk, IfErr, Some};
 ghost use Rattle.fc_nodes.specs.Program.{unfolding_of};
 ghost use Rattle.firing_core.specs.Entries.{entries_of};
+ghost use Rattle.firing_core.specs.CoreViews.{core_of, rooms_of};
 ghost use Rattle.firing_core.specs.Replays.{LogFits, replay as replay_of};
-ghost use Rattle.firing_core.specs.Books.{AtIndex, EditAtIndex};
-
-// The answer to a begin or an end that is the entry at an index.
-fn at_index(index: usize, answer: Result<(), StepFault>) -> Result<(), ReplayFault>
-    ensures ok { IsOk result ↔ IsOk answer }
-    ensures refused { IfErr result (AtIndex index answer) }
-{
-    match answer {
-        Ok(()) => Ok(()),
-        Err(StepFault::Memory) => Err(ReplayFault::Memory),
-        Err(fault) => Err(ReplayFault::At { index, fault }),
-    }
-}
-
-// The answer to an edit that is the entry at an index.
-fn edit_at_index(index: usize, answer: Result<(), EditFault>) -> Result<(), ReplayFault>
-    ensures ok { IsOk result ↔ IsOk answer }
-    ensures refused { IfErr result (EditAtIndex index answer) }
-{
-    match answer {
-        Ok(()) => Ok(()),
-        Err(EditFault::Memory) => Err(ReplayFault::Memory),
-        Err(EditFault::Net(fault)) => Err(ReplayFault::EditAt { index, fault }),
-    }
-}
+ghost use Rattle.firing_core.specs.Books.{FailsReplay, IsStuckReplay, rooms_along};
 
 /// The book of a start and a log, or the first entry that has no step.
 pub fn replay(
@@ -393,6 +301,7 @@ pub fn replay(
     ensures program { IfOk result (λ b. b.program ≡ program.now.value) }
     ensures start { IfOk result (λ b. core_of b.start ≡ core_of start) }
     ensures log { IfOk result (λ b. b.log ≡ log.items) }
+    ensures rooms { IfOk result (λ b. rooms_of b.core ≡ rooms_along (entries_of log.items) (rooms_of start)) }
     ensures core { IfOk result (λ b. replay_of (unfolding_of program.now.value) (core_of start) (entries_of log.items) ≡ Some (core_of b.core)) }
     ensures refused { IfErr result (FailsReplay (unfolding_of program.now.value) (core_of start) (entries_of log.items)) }
     ensures stuck { IfErr result (IsStuckReplay (unfolding_of program.now.value) (core_of start) (entries_of log.items)) }
@@ -400,11 +309,17 @@ pub fn replay(
     let Ok(program) = program.clone() else {
         return Err(ReplayFault::Memory);
     };
-    let Ok(mut book) = Book::new(alloc, program, start) else {
+    let mut core = start;
+    let Ok(start) = core.copy(alloc) else {
         return Err(ReplayFault::Memory);
     };
-    for entry in log {
-        book.step(alloc, entry)?;
+    for index in 0..log.len() {
+        core.apply(alloc, index, &log[index])?;
     }
-    Ok(book)
+    Ok(Book {
+        program,
+        start,
+        log,
+        core,
+    })
 }

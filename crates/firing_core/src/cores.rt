@@ -14,6 +14,7 @@ use std::sync::Arc;
 use topology::{Device, JoinFault, NetFault, Network};
 use value_trees::{Near, Snap};
 
+mod applied;
 mod roomed;
 
 /// A network of devices that run a program, with the export and the copy in flight of each.

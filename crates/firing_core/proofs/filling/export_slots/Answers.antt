@@ -4,7 +4,7 @@ use Rattle.std.specs.Vec.Iter.{into_iter_items}
 use Rattle.fc_values.specs.declared.exports.Export.{Export}
 use Rattle.topology.specs.Networks.{device_of}
 use Rattle.std.proofs.lemmas.List.{length-map}
-use Rattle.firing_core.proofs.Replaying.{nothing_left}
+use Rattle.firing_core.proofs.Starting.{nothing_left}
 use Rattle.firing_core.proofs.Starting.{filled_none, filled_more, filled_all}
 use Rattle.firing_core.proofs.filling.export_slots.Goals as goal
 

@@ -1,26 +1,19 @@
-use Rattle.std.proofs.Common.{◌≡◌, ◌∙◌, sym, ap, subst, length, Some}
-use Rattle.firing_core.specs.declared.entries.Entry.{Entry}
-use Rattle.firing_core.specs.Entries.{BeginEntry, EndEntry, entry_of}
-use Rattle.firing_core.specs.Replays.{fault_of}
+use Rattle.std.proofs.Common.{ℕ, ◌∙◌, refl, subst}
+use Rattle.std.proofs.lemmas.Result.{err_from_is_err_and}
+use Rattle.firing_core.specs.Entries.{entry_of}
 use Rattle.firing_core.specs.CoreViews.{core_of}
-use Rattle.firing_core.specs.Books.{BookValue, AtIndex, RefusesEntry}
-use Rattle.firing_core.proofs.Appends.{err_map, at_index_refuses, begin_refused, end_refused}
+use Rattle.firing_core.specs.Books.{RefusesAt}
+use Rattle.firing_core.proofs.Appends.{still_book, appends}
 use Rattle.firing_core.proofs.books.Book.apply.Goals as goal
 
-pub returns-in-Begin-clause-refused : goal.returns-in-Begin-clause-refused
-returns-in-Begin-clause-refused c =
-    let long = c.len-index.ensures ∙ c.self.inside.log.ok.0 ∙ ap (λ (b : BookValue). length b.log) c.self.view_is in
-    err_map {P = AtIndex c.len-index.result c.begin.result} {Q = RefusesEntry c.args.self.now (entry_of c.args.entry)} c.at_index.result
-    (λ f w. at_index_refuses c.args.self.now (entry_of c.args.entry) c.len-index.result c.begin.result f long
-    (λ why q u. subst (λ (x : Entry). fault_of (core_of c.args.self.now.core) (entry_of x) ≡ Some why) (sym c.in-Begin.is)
-    (begin_refused (fault_of (core_of c.args.self.now.core) (BeginEntry c.in-Begin.device)) c.begin.result why c.begin.ensures.no_device c.begin.ensures.flying c.begin.ensures.never q u)) w)
-    c.at_index.ensures.refused
+pub returns-in_err-apply-clause-refused : goal.returns-in_err-apply-clause-refused
+returns-in_err-apply-clause-refused c =
+    let p = err_from_is_err_and c.from_residual.result c.from_residual.ensures.1 in
+    rw (p.1, p.2, ← c.self.view_is)
+    (subst (λ (i : ℕ). RefusesAt i (core_of c.self.inside.core) (entry_of c.args.entry) c.in_err-apply.field-0.0) (c.len-index.ensures ∙ c.self.inside.log.ok.0) c.in_err-apply.ensures.refused)
 
-pub returns-in-End-clause-refused : goal.returns-in-End-clause-refused
-returns-in-End-clause-refused c =
-    let long = c.len-index.ensures ∙ c.self.inside.log.ok.0 ∙ ap (λ (b : BookValue). length b.log) c.self.view_is in
-    err_map {P = AtIndex c.len-index.result c.finish.result} {Q = RefusesEntry c.args.self.now (entry_of c.args.entry)} c.at_index-in-End.result
-    (λ f w. at_index_refuses c.args.self.now (entry_of c.args.entry) c.len-index.result c.finish.result f long
-    (λ why q u. subst (λ (x : Entry). fault_of (core_of c.args.self.now.core) (entry_of x) ≡ Some why) (sym c.in-End.is)
-    (end_refused (core_of c.args.self.now.core) (EndEntry c.in-End.device) c.finish.result why c.finish.ensures.refused q u)) w)
-    c.at_index-in-End.ensures.refused
+pub invariant_of-self-2 : goal.invariant_of-self-2
+invariant_of-self-2 c = still_book _ _ _ _ c.args.entry c.self.invariant c.in_ok-apply.ensures.program c.in_ok-apply.ensures.ok c.push_reserved.ensures.items
+
+pub returns-clause-ok : goal.returns-clause-ok
+returns-clause-ok c = appends c.args.entry c.self.invariant c.self.view_is refl refl c.push_reserved.ensures.items c.in_ok-apply.ensures.ok
