@@ -2,10 +2,8 @@
 use Rattle.std.proofs.Common.{◌≡◌, ◌↔◌, ℕ, List, [], ◌∷◌, ◌++◌, length, refl, sym, ◌∙◌, ap, subst, Result, Ok, Err, IfErr, OnOk, IsErrOf, Option}
 use Rattle.firing_core.specs.declared.entries.StepFault.{StepFault}
 use Rattle.firing_core.specs.declared.entries.StepFault.TheVariants as fault
-use Rattle.firing_core.specs.declared.entries.EditFault.{EditFault}
 use Rattle.firing_core.specs.declared.entries.ReplayFault.{ReplayFault}
 use Rattle.firing_core.specs.declared.entries.ReplayFault.TheVariants as replay_fault
-use Rattle.firing_core.specs.Refusals.{RefusesEdit}
 use Rattle.firing_core.specs.Replays.{fault_of, net_fault_of}
 use Rattle.std.specs.Prelude.{Some}
 use Rattle.fc_values.specs.Trees.{Copy}
@@ -14,10 +12,10 @@ use Rattle.value_trees.specs.declared.copies.Snap.{Snap}
 use Rattle.value_trees.specs.Snaps.{snap_copy}
 use Rattle.firing_core.specs.declared.entries.Entry.{Entry}
 use Rattle.std.proofs.lemmas.List.{map-append}
-use Rattle.firing_core.specs.Entries.{EditValue, EntryValue, EditEntry, entry_of, entries_of}
+use Rattle.firing_core.specs.Entries.{EntryValue, entry_of, entries_of}
 use Rattle.firing_core.specs.Cores.{Core, Step, Run, IsGood}
 use Rattle.firing_core.specs.CoreViews.{CoreValue, IsCore, core_of, program_of}
-use Rattle.firing_core.specs.Books.{BookValue, IsBook, IsSameBook, AppendsEntry, HasFault, RefusesAt, RefusesEntry, AtIndex, EditAtIndex}
+use Rattle.firing_core.specs.Books.{BookValue, IsBook, IsSameBook, AppendsEntry, HasFault, RefusesAt, RefusesEntry, AtIndex}
 use Rattle.firing_core.proofs.Views.{good_of}
 use Rattle.firing_core.proofs.Steps.{run_snoc}
 
@@ -90,11 +88,6 @@ pub at_index_refuses : (c : Core) (e : EntryValue) (i : ℕ) (r : Result (Unit {
 at_index_refuses c e i r (replay_fault.At index why) k w = (w.0, k why w.1 w.2)
 at_index_refuses c e i r (replay_fault.EditAt index why) k w = absurd w
 at_index_refuses c e i r replay_fault.Memory k w = tt
-
-pub edit_index_refuses : (c : Core) (e : EditValue) (i : ℕ) (r : Result (Unit {0}) EditFault) (f : ReplayFault) → IfErr r (RefusesEdit c e) → EditAtIndex i r f → RefusesAt i c (EditEntry e) f
-edit_index_refuses c e i r (replay_fault.At index why) k w = absurd w
-edit_index_refuses c e i r (replay_fault.EditAt index why) k w = (w.0, rw w.1 at k)
-edit_index_refuses c e i r replay_fault.Memory k w = tt
 
 pub refuses_after : (old mid : BookValue) (e : EntryValue) (f : ReplayFault) → IsSameBook old mid → RefusesEntry mid e f → RefusesEntry old e f
 refuses_after old mid e (replay_fault.At index why) s w = (w.0 ∙ ap length s.log, subst (λ (c : CoreValue). fault_of (core_of c) e ≡ Some why) s.core w.1)

@@ -151,9 +151,6 @@ many_devices v ds r = sym (length-map ds device_of) ∙ ap length r.devices ∙ 
 pub record SettledTo (old now : BookValue) (place : ℕ) : Type 0 where
   pub ends : EndsFlights old now (fliers (core_of old.core).flying (take place (numbers old.core.net.devices)))
 
-pub settled_none : (b : BookValue) → SettledTo b b 0
-settled_none b = record { ends = ends_none b }
-
 pub settled_net : (old now : BookValue) (place : ℕ) → SettledTo old now place → now.core.net ≡ old.core.net
 settled_net old now place s = (run_ends (unfolding_of old.program) (core_of old.core) (core_of now.core) _ s.ends.run).net
 

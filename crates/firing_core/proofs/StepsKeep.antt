@@ -8,7 +8,7 @@ use Rattle.fc_nodes.specs.Flat.{IsWellTyped, tree_export}
 use Rattle.value_trees.specs.Copies.{FitsCopy}
 use Rattle.device_eval.specs.Copies.{HasOneExport}
 use Rattle.device_eval.proofs.OneExport.{program_export}
-use Rattle.topology.specs.Networks.{Network, numbers, lives, Lives, IsNetwork}
+use Rattle.topology.specs.Networks.{numbers, lives, Lives, IsNetwork}
 use Rattle.fc_values.specs.Fields.{is_in}
 use Rattle.topology.specs.Changes.{insert_device}
 use Rattle.topology.proofs.Lemmas.{put_numbers, insert_in}
@@ -61,12 +61,6 @@ ended_good P c next d program good s = record {
 }
 
 -- ---- edits
-
-there_export : (U : Unfolding) (n m : Network) (d : ℕ) (x : TreeExport) → Lives m d → GoodExport U n d x → GoodExport U m d x
-there_export U n m d x h g = record { there = h; typed = g.typed }
-
-there_flight : (U : Unfolding) (n m : Network) (d : ℕ) (s : Copy) → Lives m d → GoodFlight U n d s → GoodFlight U m d s
-there_flight U n m d s h g = record { there = h; names = g.names; fits = g.fits }
 
 edited_net : (U : Unfolding) (c : Core) (e : EditValue) → IsNetwork c.net → EditFits U e → edit_fault c e ≡ None → IsNetwork (edited U c e).net
 edited_net U c (LinkEdit a b w) net fits q = linked_network c.net a b w net q

@@ -1,14 +1,16 @@
 -- What contracts see of a core in code: one slot for each device, in the order of the network.
-use Rattle.std.specs.Prelude.{ℕ, Bool, ◌≡◌, List, [], ◌∷◌, map, length, nat_eq, if◌then◌else◌, Option, Some, None, is_some, option_map}
+use Rattle.std.specs.Prelude.{ℕ, Bool, true, ◌≡◌, List, [], ◌∷◌, map, length, nat_eq, if◌then◌else◌, Option, Some, None, is_some, option_map}
 use Rattle.fc_values.specs.declared.exports.Export.{Export}
 use Rattle.fc_nodes.specs.Program.{Program, Unfolding, unfolding_of}
 use Rattle.fc_values.specs.Exports.{FlatExport, export_of}
+use Rattle.fc_values.specs.Trees.{Copy}
 use Rattle.value_trees.specs.declared.copies.Near.{Near}
 use Rattle.value_trees.specs.declared.copies.Snap.{Snap}
 use Rattle.value_trees.specs.Copies.{WhereSome}
 use Rattle.value_trees.specs.Snaps.{tree_of, snap_copy, IsExportOf, IsSnap}
 use Rattle.topology.specs.Networks.{Network, IsNetwork, numbers}
-use Rattle.firing_core.specs.Cores.{Map, Core}
+use Rattle.device_eval.specs.Firing.{FiredValue}
+use Rattle.firing_core.specs.Cores.{Map, put, Core}
 use Rattle.firing_core.specs.Rooms.{SpareValue, IsRest}
 
 pub record CoreValue : Type 0 where
@@ -91,3 +93,17 @@ pub record IsCore (c : CoreValue) : Type 0 where
 pub record IsSameCore (old new : CoreValue) : Type 0 where
   pub program : new.program ≡ old.program
   pub net : new.net ≡ old.net
+
+-- ---- ends of firings
+
+-- what was evaluated is the copy with which its device flies, if it flies
+abbrev pub FiresFlight : Unfolding → Core → FiredValue → Type 0
+FiresFlight U c f = (s : Copy) → c.flying f.snap.device ≡ Some s → s ≡ snap_copy U f.snap
+
+-- its flight has a room, if it flies
+abbrev pub FliesInRoom : CoreValue → FiredValue → Type 0
+FliesInRoom c f = (s : Copy) → (core_of c).flying f.snap.device ≡ Some s → rooms_of c f.snap.device ≡ true
+
+-- the export that was evaluated is put in the table, and no other is another
+abbrev pub Publishes : Unfolding → Core → FiredValue → Core → Type 0
+Publishes U c f next = next.exports ≡ put c.exports f.snap.device (Some (tree_of U f.export))

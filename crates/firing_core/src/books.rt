@@ -39,14 +39,13 @@ impl Model for Book {
 
 impl Book {
     ghost use Rattle.std.specs.Prelude.{◌≡◌, ◌↔◌, ◌≤◌, ◌+◌, ℕ, [], ◌∷◌, IfOk, OnOk, OnErr, IfErr, IsErrOf, Some, None, true, false};
-    ghost use Rattle.fc_values.specs.Trees.{Copy};
     ghost use Rattle.fc_nodes.specs.Program.{unfolding_of};
-    ghost use Rattle.value_trees.specs.Snaps.{tree_of, snap_copy, IsSnap};
+    ghost use Rattle.value_trees.specs.Snaps.{snap_copy, IsSnap};
     ghost use Rattle.firing_core.specs.Entries.{BeginEntry, EndEntry, edit_of, entry_of};
-    ghost use Rattle.firing_core.specs.Cores.{put, EditFits, edit_fault, copy_of};
+    ghost use Rattle.firing_core.specs.Cores.{EditFits, edit_fault, copy_of};
     ghost use Rattle.firing_core.specs.Rooms.{IsRoom};
     ghost use Rattle.firing_core.specs.Replays.{fault_of, net_fault_of, EntryFits};
-    ghost use Rattle.firing_core.specs.CoreViews.{core_of, rooms_of, mark};
+    ghost use Rattle.firing_core.specs.CoreViews.{core_of, rooms_of, mark, FiresFlight, FliesInRoom, Publishes};
     ghost use Rattle.firing_core.specs.Books.{IsBook, IsSameBook, AppendsEntry, HasFault, RefusesEntry, EndsFlights, EndsSome, fliers, in_flight, rooms_after};
     ghost use Rattle.firing_core.specs.Refusals.{RefusesEdit};
     ghost use Rattle.firing_core.specs.declared.entries.Entry.TheVariants as entry;
@@ -155,10 +154,10 @@ impl Book {
     pub fn end_with(&mut self, fired: Fired) -> Result<Room, (Fired, StepFault)>
         requires spare { 1 ≤ self.old.spare }
         requires program { fired.program ≡ self.old.program }
-        requires copy { (s : Copy) → (core_of self.old.core).flying fired.snap.device ≡ Some s → s ≡ snap_copy (unfolding_of self.old.program) fired.snap }
-        requires room { (s : Copy) → (core_of self.old.core).flying fired.snap.device ≡ Some s → rooms_of self.old.core fired.snap.device ≡ true }
+        requires copy { FiresFlight (unfolding_of self.old.program) (core_of self.old.core) fired }
+        requires room { FliesInRoom self.old.core fired }
         ensures ok { OnOk result (AppendsEntry self.old self.new (entry.End fired.snap.device)) }
-        ensures publishes { OnOk result ((core_of self.new.core).exports ≡ put (core_of self.old.core).exports fired.snap.device (Some (tree_of (unfolding_of self.old.program) fired.export))) }
+        ensures publishes { OnOk result (Publishes (unfolding_of self.old.program) (core_of self.old.core) fired (core_of self.new.core)) }
         ensures spare { OnOk result (self.new.spare + 1 ≡ self.old.spare) }
         ensures room { IfOk result (IsRoom (unfolding_of self.old.program)) }
         ensures rooms { OnOk result (rooms_of self.new.core ≡ mark (rooms_of self.old.core) fired.snap.device false) }
@@ -177,9 +176,9 @@ impl Book {
     pub fn end(&mut self, fired: Fired) -> Result<(), (Fired, StepFault)>
         requires spare { 1 ≤ self.old.spare }
         requires program { fired.program ≡ self.old.program }
-        requires copy { (s : Copy) → (core_of self.old.core).flying fired.snap.device ≡ Some s → s ≡ snap_copy (unfolding_of self.old.program) fired.snap }
+        requires copy { FiresFlight (unfolding_of self.old.program) (core_of self.old.core) fired }
         ensures ok { OnOk result (AppendsEntry self.old self.new (entry.End fired.snap.device)) }
-        ensures publishes { OnOk result ((core_of self.new.core).exports ≡ put (core_of self.old.core).exports fired.snap.device (Some (tree_of (unfolding_of self.old.program) fired.export))) }
+        ensures publishes { OnOk result (Publishes (unfolding_of self.old.program) (core_of self.old.core) fired (core_of self.new.core)) }
         ensures room { OnOk result (self.new.spare + 1 ≡ self.old.spare) }
         ensures rooms { OnOk result (rooms_of self.new.core ≡ mark (rooms_of self.old.core) fired.snap.device false) }
         ensures refused { IfErr result (λ e. fault_of (core_of self.old.core) (EndEntry fired.snap.device) ≡ Some e.1) }

@@ -46,13 +46,12 @@ impl Model for Core {
 
 impl Core {
     ghost use Rattle.std.specs.Prelude.{◌≡◌, ◌↔◌, ◌<◌, ℕ, IfOk, OnOk, OnErr, IfErr, IfSome, IfNone, IsErrOf, IsSome, Some, None, true, false, option_copied, option_map, length, slice_index, map, ◌≤◌};
-    ghost use Rattle.fc_values.specs.Trees.{Copy};
     ghost use Rattle.fc_nodes.specs.Program.{unfolding_of};
     ghost use Rattle.value_trees.specs.Snaps.{snap_copy, tree_of, near_copy, NearAreExports, IsSnap, IsExportOf};
     ghost use Rattle.topology.specs.Networks.{lives, numbers, device_of, near as near_of};
-    ghost use Rattle.firing_core.specs.Cores.{put, Step, IsGood, Edits, EditFits, edit_fault, copy_of, near_copies};
+    ghost use Rattle.firing_core.specs.Cores.{Step, IsGood, Edits, EditFits, edit_fault, copy_of, near_copies};
     ghost use Rattle.firing_core.specs.Replays.{fault_of};
-    ghost use Rattle.firing_core.specs.CoreViews.{core_of, program_of, IsCore, IsSameCore, rooms_of, mark};
+    ghost use Rattle.firing_core.specs.CoreViews.{core_of, program_of, IsCore, IsSameCore, rooms_of, mark, FiresFlight, Publishes};
     ghost use Rattle.firing_core.specs.Starts.{started, IsTable, IsPending};
     ghost use Rattle.firing_core.specs.Entries.{BeginEntry, EndEntry, LinkEdit, UnlinkEdit, SetEdit, PokeEdit, JoinEdit, LeaveEdit, edit_of};
     ghost use Rattle.firing_core.specs.Refusals.{RefusesEdit};
@@ -217,9 +216,9 @@ impl Core {
     /// comes back with a refusal.
     pub fn end(&mut self, fired: Fired) -> Result<(), (Fired, StepFault)>
         requires program { fired.program ≡ self.old.program }
-        requires copy { (s : Copy) → (core_of self.old).flying fired.snap.device ≡ Some s → s ≡ snap_copy (program_of self.old) fired.snap }
+        requires copy { FiresFlight (program_of self.old) (core_of self.old) fired }
         ensures ok { OnOk result (Step (program_of self.old) (core_of self.old) (EndEntry fired.snap.device) (core_of self.new)) }
-        ensures publishes { OnOk result ((core_of self.new).exports ≡ put (core_of self.old).exports fired.snap.device (Some (tree_of (program_of self.old) fired.export))) }
+        ensures publishes { OnOk result (Publishes (program_of self.old) (core_of self.old) fired (core_of self.new)) }
         ensures refused { IfErr result (λ e. fault_of (core_of self.old) (EndEntry fired.snap.device) ≡ Some e.1) }
         ensures accepted { OnOk result (fault_of (core_of self.old) (EndEntry fired.snap.device) ≡ None) }
         ensures back { IfErr result (λ e. e.0 ≡ fired) }

@@ -10,14 +10,13 @@ use value_trees::{Near, Snap};
 
 impl Core {
     ghost use Rattle.std.specs.Prelude.{◌≡◌, ◌<◌, ◌≤◌, ◌+◌, [], IfOk, OnOk, OnErr, IfErr, Some, None, true, false, length, slice_index, map};
-    ghost use Rattle.fc_values.specs.Trees.{Copy};
-    ghost use Rattle.value_trees.specs.Snaps.{snap_copy, tree_of, near_copy, NearAreExports, IsSnap};
+    ghost use Rattle.value_trees.specs.Snaps.{snap_copy, near_copy, NearAreExports, IsSnap};
     ghost use Rattle.topology.specs.Networks.{numbers, near as near_of};
     ghost use Rattle.firing_core.specs.Entries.{BeginEntry, EndEntry};
-    ghost use Rattle.firing_core.specs.Cores.{put, Step, copy_of, near_copies};
+    ghost use Rattle.firing_core.specs.Cores.{Step, copy_of, near_copies};
     ghost use Rattle.firing_core.specs.Replays.{fault_of};
     ghost use Rattle.firing_core.specs.Rooms.{IsSpare, IsBlank, IsRoom, exports_in};
-    ghost use Rattle.firing_core.specs.CoreViews.{core_of, program_of, IsSameCore, rooms_of, mark};
+    ghost use Rattle.firing_core.specs.CoreViews.{core_of, program_of, IsSameCore, rooms_of, mark, FiresFlight, FliesInRoom, Publishes};
 
     /// Does what `begin` does, in a room, and answers an equal copy. It takes no memory. The room comes back with a
     /// refusal.
@@ -103,10 +102,10 @@ impl Core {
     /// fired comes back with a refusal.
     pub fn end_with(&mut self, fired: Fired) -> Result<Room, (Fired, StepFault)>
         requires program { fired.program ≡ self.old.program }
-        requires copy { (s : Copy) → (core_of self.old).flying fired.snap.device ≡ Some s → s ≡ snap_copy (program_of self.old) fired.snap }
-        requires room { (s : Copy) → (core_of self.old).flying fired.snap.device ≡ Some s → rooms_of self.old fired.snap.device ≡ true }
+        requires copy { FiresFlight (program_of self.old) (core_of self.old) fired }
+        requires room { FliesInRoom self.old fired }
         ensures ok { OnOk result (Step (program_of self.old) (core_of self.old) (EndEntry fired.snap.device) (core_of self.new)) }
-        ensures publishes { OnOk result ((core_of self.new).exports ≡ put (core_of self.old).exports fired.snap.device (Some (tree_of (program_of self.old) fired.export))) }
+        ensures publishes { OnOk result (Publishes (program_of self.old) (core_of self.old) fired (core_of self.new)) }
         ensures room { IfOk result (IsRoom (program_of self.old)) }
         ensures rooms { OnOk result (rooms_of self.new ≡ mark (rooms_of self.old) fired.snap.device false) }
         ensures refused { IfErr result (λ e. fault_of (core_of self.old) (EndEntry fired.snap.device) ≡ Some e.1) }
