@@ -1,4 +1,4 @@
--- The rules and the function of evaluation agree, so a term has at most one outcome.
+-- Crates above cite this module: the rules and the function of evaluation agree, so a term has at most one outcome.
 use Rattle.std.proofs.Common.{◌≡◌, ℕ, suc, ◌+◌, List, ◌∷◌, refl, ap, subst, Bool, true, false, Option, Some, None}
 use Rattle.std.specs.Prelude.{option_map, slice_get}
 use Rattle.fc_values.specs.Types.{ValueType}

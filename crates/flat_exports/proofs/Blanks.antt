@@ -1,4 +1,4 @@
--- A slot for each kept place, node after node.
+-- Crates above cite this module: a slot for each kept place, node after node.
 use Rattle.std.proofs.Common.{◌≡◌, ℕ, zero, suc, ◌<◌, ◌≤◌, ◌⊎◌, inl, inr, List, [], ◌∷◌, ◌++◌, length, take, get_or, refl, sym, ◌∙◌, ap, arith, Option, Some, None}
 use Rattle.std.specs.Prelude.{option_map, option_and_then, option_to_list, is_some}
 use Rattle.std.proofs.Math.Seq.{take-length, get_or-append_seam}
