@@ -1,11 +1,18 @@
 -- What references in code stand for.
-use Rattle.std.specs.Prelude.{List, map, option_map}
+use Rattle.std.specs.Prelude.{ℕ, Bool, List, map, filter, option_map}
 use Rattle.std.specs.Borrow.{Bor}
 use Rattle.fc_values.specs.declared.exports.Slots.{Slots}
+use Rattle.fc_values.specs.declared.values.FieldVal.{FieldVal}
+use Rattle.fc_values.specs.Fields.{AnyValue, ValueField, entries_of}
 use Rattle.fc_values.specs.Exports.{SlotValue, slots_of}
 use Rattle.alignment.specs.declared.environments.NearRef.{NearRef}
 use Rattle.alignment.specs.declared.environments.Env.{Env}
-use Rattle.alignment.specs.Slots.{FlatEnv, NearSlots}
+use Rattle.alignment.specs.Slots.{FlatEnv, NearSlots, slot_keeps}
+use Rattle.alignment.specs.Environments.{near_numbers}
+
+-- the value that a field in code is
+abbrev pub field_of : FieldVal → AnyValue
+field_of f = ValueField (entries_of f)
 
 -- the slots behind a reference
 abbrev pub borrowed_slots : Bor Slots → List SlotValue
@@ -22,3 +29,11 @@ nears_of ns = map near_of ns
 -- the environment that an environment in code stands for
 abbrev pub flat_of : Env → FlatEnv
 flat_of env = record { own = option_map borrowed_slots env.own; near = nears_of env.near.items }
+
+-- the numbers of the aligned neighbours
+abbrev pub numbers_in : Env → List ℕ
+numbers_in env = near_numbers (flat_of env).near
+
+-- those of some slots that keep a truth value
+abbrev pub that_keep : ℕ → Bool → List NearSlots → List NearSlots
+that_keep slot truth ns = filter (λ (n : NearSlots). slot_keeps slot truth n.2) ns

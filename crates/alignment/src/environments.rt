@@ -1,11 +1,11 @@
 //! The exports that a node sees, and those that took the same branch.
 
-ghost use Rattle.std.specs.Prelude.{◌≡◌, ◌<◌, IfOk, length, filter, Some};
+ghost use Rattle.std.specs.Prelude.{◌≡◌, ◌<◌, IfOk, length, Some};
 ghost use Rattle.fc_values.specs.Values.{local_of};
 ghost use Rattle.fc_values.specs.Exports.{slots_of};
 ghost use Rattle.alignment.specs.Environments.{keeps_truth as truth_is_kept};
-ghost use Rattle.alignment.specs.Slots.{OwnHas, NearHave, NearSlots, slot_keeps, flat_branch};
-ghost use Rattle.alignment.specs.References.{flat_of, nears_of};
+ghost use Rattle.alignment.specs.Slots.{OwnHas, NearHave, slot_keeps, flat_branch};
+ghost use Rattle.alignment.specs.References.{flat_of, nears_of, that_keep};
 
 use fc_values::{Local, Memory, Slots};
 use std::alloc::Global;
@@ -58,7 +58,7 @@ fn near_branch<'a>(
     truth: bool,
 ) -> Result<Vec<NearRef<'a>>, Memory>
     requires { NearHave slot (nears_of all.now) }
-    ensures { IfOk result (λ v. nears_of v.items ≡ filter (λ (n : NearSlots). slot_keeps slot truth n.2) (nears_of all.now)) }
+    ensures { IfOk result (λ v. nears_of v.items ≡ that_keep slot truth (nears_of all.now)) }
 {
     let mut near = Vec::with_capacity(alloc, all.len())?;
     for n in all {

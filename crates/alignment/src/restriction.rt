@@ -1,9 +1,9 @@
 //! Fields cut down to the aligned neighbours.
 
 ghost use Rattle.std.specs.Prelude.{◌≡◌, IfOk};
-ghost use Rattle.fc_values.specs.Fields.{entries_of, is_in, restricted, ValueField};
+ghost use Rattle.fc_values.specs.Fields.{is_in, restricted};
 ghost use Rattle.alignment.specs.Environments.{near_numbers};
-ghost use Rattle.alignment.specs.References.{flat_of, nears_of};
+ghost use Rattle.alignment.specs.References.{field_of, numbers_in, nears_of};
 
 use crate::environments::{Env, NearRef};
 use fc_values::{FieldVal, Memory, copy};
@@ -16,7 +16,7 @@ pub fn restrict(
     device: u32,
     env: &Env<'_>,
 ) -> Result<FieldVal, Memory>
-    ensures { IfOk result (λ f. ValueField (entries_of f) ≡ restricted device (near_numbers (flat_of env.now).near) (ValueField (entries_of field.now))) }
+    ensures { IfOk result (λ f. field_of f ≡ restricted device (numbers_in env.now) (field_of field.now)) }
 {
     let near = env.near.as_slice();
     let all = field.entries.as_slice();

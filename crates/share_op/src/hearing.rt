@@ -2,11 +2,11 @@
 
 ghost use Rattle.std.specs.Prelude.{◌≡◌, ◌<◌, IfOk, length};
 ghost use Rattle.fc_values.specs.Values.{local_of};
-ghost use Rattle.fc_values.specs.Fields.{entries_of, with_entry};
+ghost use Rattle.fc_values.specs.Fields.{entries_of};
 ghost use Rattle.fc_values.specs.Exports.{slots_of, slot_at};
 ghost use Rattle.alignment.specs.Slots.{OwnHas, NearHave};
 ghost use Rattle.alignment.specs.References.{flat_of};
-ghost use Rattle.share_op.specs.Hearing.{slot_entries, own_slot_or};
+ghost use Rattle.share_op.specs.Hearing.{field_with, heard_field, own_slot_or};
 
 use alignment::Env;
 use fc_values::{FieldVal, Local, Memory, Slots, copy};
@@ -23,7 +23,7 @@ pub fn heard(
 ) -> Result<FieldVal, Memory>
     requires own { OwnHas slot (flat_of env.now).own }
     requires near { NearHave slot (flat_of env.now).near }
-    ensures { IfOk result (λ f. entries_of f ≡ with_entry device (own_slot_or slot (local_of fallback.now) (flat_of env.now).own) (slot_entries slot (flat_of env.now).near)) }
+    ensures { IfOk result (λ f. entries_of f ≡ heard_field slot device (local_of fallback.now) (flat_of env.now)) }
 {
     let own = own_or(env, slot, fallback);
     let field = heard_with(alloc, env, slot, device, own)?;
@@ -50,7 +50,7 @@ pub fn heard_with(
     own: &Local,
 ) -> Result<FieldVal, Memory>
     requires { NearHave slot (flat_of env.now).near }
-    ensures { IfOk result (λ f. entries_of f ≡ with_entry device (local_of own.now) (slot_entries slot (flat_of env.now).near)) }
+    ensures { IfOk result (λ f. entries_of f ≡ field_with slot device (local_of own.now) (flat_of env.now)) }
 {
     let near = env.near.as_slice();
     let mut entries = Vec::with_capacity(alloc, near.len().saturating_add(1))?;
