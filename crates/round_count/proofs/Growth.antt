@@ -70,7 +70,7 @@ part_front live front log k h = by_test (has_edit log) refl
         (rounds_after live k (after_edit front) log (after_plain front) (subst (λ (l : List EntryValue). HasRounds live l k) (after_whole log p) h))
 
 pub greatest_behind : (live : List ℕ) (log more : List EntryValue) (j k : ℕ) → has_edit more ≡ false → IsGreatest live log j → IsGreatest live (log ++ more) k → j ≤ k
-greatest_behind live log more j k p g h = h.most j (part_behind live log more j p g.has)
+greatest_behind live log more j k p g h = h.greatest j (part_behind live log more j p g.has)
 
 pub greatest_front : (live : List ℕ) (front log : List EntryValue) (j k : ℕ) → IsGreatest live log j → IsGreatest live (front ++ log) k → j ≤ k
-greatest_front live front log j k g h = h.most j (part_front live front log j g.has)
+greatest_front live front log j k g h = h.greatest j (part_front live front log j g.has)

@@ -16,7 +16,7 @@ RoundsFollow = (live : List ℕ) (front log : List EntryValue) (k : ℕ) → has
 -- the greatest number of rounds in the part of a log after its last edit
 pub record IsGreatest (live : List ℕ) (log : List EntryValue) (k : ℕ) : Type 0 where
   pub has : HasRounds live (after_edit log) k
-  pub most : (j : ℕ) → HasRounds live (after_edit log) j → j ≤ k
+  pub greatest : (j : ℕ) → HasRounds live (after_edit log) j → j ≤ k
 
 -- that number doesn't fall with entries behind, where none is an edit, nor with any in front
 abbrev pub GreatestStays : Type 0
