@@ -11,7 +11,7 @@ use Rattle.fc_values.specs.Inputs.{InputFits, InputsFit}
 use Rattle.topology.specs.Inputs.{input_fault, inputs_fault, or_fault}
 use Rattle.topology.specs.Networks.{NetDevice, numbers, DevicesFit}
 use Rattle.topology.specs.Changes.{insert_device, drop_device, put_input, nth_fault}
-use Rattle.fc_values.proofs.Rising.{rises_tail, later_above, rises_weaker}
+use Rattle.fc_values.proofs.Rising.{rises_tail, rises_weaker}
 use Rattle.fc_values.proofs.Booleans.{or_no}
 
 -- ---- inputs

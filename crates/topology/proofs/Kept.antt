@@ -1,30 +1,26 @@
 -- What a network keeps beside its links, after each change.
-use Rattle.std.proofs.Common.{◌≡◌, ◌≢◌, ℕ, ◌+◌, ◌*◌, ◌<◌, ◌≤◌, List, [], length, map, get_or, set, sym, ◌∙◌, ap, arith, nat_lt, None}
+use Rattle.std.proofs.Common.{◌≡◌, ◌≢◌, ℕ, ◌*◌, ◌<◌, ◌≤◌, List, [], length, map, get_or, set, sym, ◌∙◌, ap, arith, nat_lt, None}
 use Rattle.std.specs.List.{insert, remove}
 use Rattle.std.proofs.lemmas.List.{length-map, get_or-map, map-set, get_or-set_other}
 use Rattle.arrayvec.specs.ArrayVec.{ArrayVec}
-use Rattle.fc_values.specs.Types.{Declarations}
 use Rattle.fc_values.specs.Values.{LocalValue}
-use Rattle.topology.specs.Networks.{NetDevice, Edge, Network, numbers, near_in, near}
-use Rattle.topology.specs.Changes.{put_edge, pair_edge, drop_links, insert_device, link_fault, linked, unlinked, nth_fault, with_input, join_fault, joined, leave_fault, left}
-use Rattle.topology.specs.Nearby.{near_each, items_of, drop_near, insert_near, AtPlace, AtEnds, IsKept}
+use Rattle.topology.specs.Networks.{NetDevice, Network, IsNetwork, numbers, near_in, near}
+use Rattle.topology.specs.Changes.{drop_links, insert_device, link_fault, linked, unlinked, nth_fault, with_input, join_fault, joined, leave_fault, left}
+use Rattle.topology.specs.Nearby.{near_each, items_of, drop_near, insert_near, AtPlace, AtEnds, IsDrawn}
 use Rattle.topology.proofs.Lists.{map_insert}
-use Rattle.fc_values.proofs.Lists.{insert_length}
 use Rattle.topology.proofs.Rooms.{few_links}
-use Rattle.topology.proofs.Devices.{put_numbers, put_length, drop_length}
+use Rattle.topology.proofs.Devices.{put_numbers}
 use Rattle.topology.proofs.Changed.{can_link, link_fits, linked_network, unlinked_network, input_network, can_join, joined_network, can_leave, left_network}
 use Rattle.topology.proofs.NearEach.{each_put, each_drop, each_leave, each_join, near_put, map_remove, remove_device}
+use Rattle.fc_values.proofs.Lists.{insert_length}
 
 pub numbers_long : (ns : List NetDevice) → length (numbers ns) ≡ length ns
 numbers_long ns = length-map ns (λ (n : NetDevice). n.id)
 
-abbrev pub record_of : Declarations → List NetDevice → List Edge → Network
-record_of D ds ls = record { declared = D; devices = ds; links = ls }
-
 abbrev Nearby : Type 0
 Nearby = ArrayVec (ℕ × ℕ)
 
-module _ (n : Network) (near_lists : List Nearby) (capacity : ℕ) (k : IsKept n (map items_of near_lists) capacity) where
+module _ (n : Network) (near_lists : List Nearby) (k : IsDrawn n (map items_of near_lists)) where
   pub lists_long : length near_lists ≡ length n.devices
   lists_long = sym (length-map near_lists items_of) ∙ ap length k.near ∙ length-map (numbers n.devices) (λ d. near_in d n.links) ∙ numbers_long n.devices
 
@@ -59,15 +55,6 @@ module _ (n : Network) (near_lists : List Nearby) (capacity : ℕ) (k : IsKept n
 
   -- ---- links
 
-  pub links_few : length n.links ≤ 32 * length n.devices
-  links_few = omega (arith, few_links n.declared (numbers n.devices) n.links k.network.links k.network.degree, numbers_long n.devices)
-
-  pub room_left : (a b w : ℕ) → link_fault n a b w ≡ None → length (put_edge (pair_edge a b w) n.links) ≤ capacity
-  room_left a b w e =
-      let m = linked_network n a b w k.network e in
-      let r = k.room in
-      omega (arith, few_links n.declared (numbers n.devices) (put_edge (pair_edge a b w) n.links) m.links m.degree, numbers_long n.devices)
-
   pub near_room : (a b w : ℕ) → link_fault n a b w ≡ None → (length (drop_near b (near n a)) < 32) × (length (drop_near a (near n b)) < 32)
   near_room a b w e =
       let m = linked_network n a b w k.network e in
@@ -77,40 +64,37 @@ module _ (n : Network) (near_lists : List Nearby) (capacity : ℕ) (k : IsKept n
       let y = m.degree b in
       (omega (arith, ap length t.0, insert_length (λ m. nat_lt m.0 b) (b, w) (drop_near b (near n a))), omega (arith, ap length t.1, insert_length (λ m. nat_lt m.0 a) (a, w) (drop_near a (near n b))))
 
-  pub put_kept : (a b w : ℕ) (at : ℕ × ℕ) (r s : Nearby) (more : ℕ) → AtEnds n a b at → link_fault n a b w ≡ None
-      → r.items ≡ insert_near b w (drop_near b (near n a)) → s.items ≡ insert_near a w (drop_near a (near n b)) → capacity ≤ more
-      → IsKept (linked n a b w) (map items_of (set (set near_lists at.0 r) at.1 s)) more
-  put_kept a b w at r s more p e f g h =
+  pub put_kept : (a b w : ℕ) (at : ℕ × ℕ) (r s : Nearby) → AtEnds n a b at → link_fault n a b w ≡ None
+      → r.items ≡ insert_near b w (drop_near b (near n a)) → s.items ≡ insert_near a w (drop_near a (near n b))
+      → IsDrawn (linked n a b w) (map items_of (set (set near_lists at.0 r) at.1 s))
+  put_kept a b w at r s p e f g =
       let c = can_link n a b w e in
       record {
         network = linked_network n a b w k.network e;
         near = two_set at.0 at.1 r s _ _ f g ∙ each_put n.declared (numbers n.devices) n.links k.network.links k.network.rising at.0 at.1 a b (place_within a at.0 p.first) (place_within b at.1 p.second) p.first.is p.second.is w (link_fits n a b w c);
-        room = let x = k.room in omega arith;
       }
 
-  pub drop_kept : (a b : ℕ) (at : ℕ × ℕ) (r s : Nearby) (same : ℕ) → AtEnds n a b at → a ≢ b
-      → r.items ≡ drop_near b (near n a) → s.items ≡ drop_near a (near n b) → same ≡ capacity
-      → IsKept (unlinked n a b) (map items_of (set (set near_lists at.0 r) at.1 s)) same
-  drop_kept a b at r s same p u f g h =
+  pub drop_kept : (a b : ℕ) (at : ℕ × ℕ) (r s : Nearby) → AtEnds n a b at → a ≢ b
+      → r.items ≡ drop_near b (near n a) → s.items ≡ drop_near a (near n b)
+      → IsDrawn (unlinked n a b) (map items_of (set (set near_lists at.0 r) at.1 s))
+  drop_kept a b at r s p u f g =
       record {
         network = unlinked_network n a b k.network;
         near = two_set at.0 at.1 r s _ _ f g ∙ each_drop n.declared (numbers n.devices) n.links k.network.links k.network.rising at.0 at.1 a b (place_within a at.0 p.first) (place_within b at.1 p.second) p.first.is p.second.is u;
-        room = let x = k.room in omega arith;
       }
 
   -- ---- devices
 
-  pub input_kept : (d i : ℕ) (v : LocalValue) → nth_fault n.declared.inputs i v ≡ None → IsKept (with_input n d i v) (map items_of near_lists) capacity
+  pub input_kept : (d i : ℕ) (v : LocalValue) → nth_fault n.declared.inputs i v ≡ None → IsDrawn (with_input n d i v) (map items_of near_lists)
   input_kept d i v e = record {
     network = input_network n d i v k.network e;
     near = k.near ∙ ap (λ ds. near_each ds n.links) (sym (put_numbers d i v n.devices));
-    room = let x = k.room in omega (arith, put_length d i v n.devices);
   }
 
-  pub join_kept : (x : NetDevice) (at : ℕ) (new : List Nearby) (empty : Nearby) (more : ℕ) → x.id ≤ 65535 → join_fault n x ≡ None
-      → insert n.devices at x ≡ insert_device x n.devices → new ≡ insert near_lists at empty → empty.items ≡ [] → 32 * (length n.devices + 1) ≤ more
-      → IsKept (joined n x) (map items_of new) more
-  join_kept x at new empty more small e p q f h =
+  pub join_kept : (x : NetDevice) (at : ℕ) (new : List Nearby) (empty : Nearby) → x.id ≤ 65535 → join_fault n x ≡ None
+      → insert n.devices at x ≡ insert_device x n.devices → new ≡ insert near_lists at empty → empty.items ≡ []
+      → IsDrawn (joined n x) (map items_of new)
+  join_kept x at new empty small e p q f =
       let c = can_join n x e in
       record {
         network = joined_network n x k.network small e;
@@ -119,13 +103,12 @@ module _ (n : Network) (near_lists : List Nearby) (capacity : ℕ) (k : IsKept n
             ∙ ap (λ ns. insert (map items_of near_lists) at ns) f ∙ ap (λ xs. insert xs at []) k.near
             ∙ each_join n.declared (numbers n.devices) n.links k.network.links x.id at c.new
             ∙ ap (λ ds. near_each ds n.links) (sym (map_insert (λ (d : NetDevice). d.id) n.devices at x) ∙ ap numbers p);
-        room = omega (arith, insert_length (λ (d : NetDevice). nat_lt d.id x.id) x n.devices);
       }
 
-  pub leave_kept : (d at : ℕ) (new : List Nearby) (same : ℕ) → AtPlace n d at → leave_fault n d ≡ None
-      → map items_of new ≡ map (λ ns. drop_near d ns) (map items_of (remove near_lists at)) → same ≡ capacity
-      → IsKept (left n d) (map items_of new) same
-  leave_kept d at new same p e q h =
+  pub leave_kept : (d at : ℕ) (new : List Nearby) → AtPlace n d at → leave_fault n d ≡ None
+      → map items_of new ≡ map (λ ns. drop_near d ns) (map items_of (remove near_lists at))
+      → IsDrawn (left n d) (map items_of new)
+  leave_kept d at new p e q =
       let c = can_leave n d e in
       record {
         network = left_network n d k.network e;
@@ -133,9 +116,8 @@ module _ (n : Network) (near_lists : List Nearby) (capacity : ℕ) (k : IsKept n
             q ∙ ap (map (λ ns. drop_near d ns)) (map_remove items_of near_lists at ∙ ap (λ xs. remove xs at) k.near)
             ∙ each_leave n.declared (numbers n.devices) n.links k.network.links k.network.rising at d (place_within d at p) p.is
             ∙ ap (λ ds. near_each ds (drop_links d n.links)) (sym (map_remove (λ (x : NetDevice). x.id) n.devices at) ∙ ap numbers (remove_device d at n.devices k.network.rising (place_within d at p) p.is));
-        room = let x = k.room in omega (arith, drop_length d n.devices k.network.rising c.there);
       }
 
--- a network of the same devices and links
-pub rebuilt : (D : Declarations) (ds es : List NetDevice) (ls ms : List Edge) → ds ≡ es → ls ≡ ms → record_of D ds ls ≡ record_of D es ms
-rebuilt D ds es ls ms e f = ap (λ xs. record_of D xs ls) e ∙ ap (record_of D es) f
+-- a network has at most 32 links for each device
+pub links_few : (n : Network) → IsNetwork n → length n.links ≤ 32 * length n.devices
+links_few n net = omega (arith, few_links n.declared (numbers n.devices) n.links net.links net.degree, numbers_long n.devices)

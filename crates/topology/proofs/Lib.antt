@@ -8,6 +8,9 @@ pub mod Changed
 pub mod Orders
 pub mod Sorting
 pub mod NearEach
+pub mod Drawing
+pub mod Replaced
+pub mod NextLink
 pub mod Kept
 pub mod Making
 pub mod Lemmas

@@ -1,5 +1,5 @@
 -- A network that is made, and one with another input or device.
-use Rattle.std.proofs.Common.{◌≡◌, ℕ, zero, suc, ◌+◌, ◌*◌, ◌<◌, ◌≤◌, List, [], ◌∷◌, ◌++◌, length, map, get_or, set, refl, sym, ◌∙◌, ap, arith, Bool, true, false, nat_eq, nat_lt, if◌then◌else◌, ◌||◌, Option, Some, None, is_ok, Result, Ok, Err}
+use Rattle.std.proofs.Common.{◌≡◌, ℕ, zero, suc, ◌+◌, ◌<◌, ◌≤◌, List, [], ◌∷◌, ◌++◌, length, map, get_or, set, refl, sym, ◌∙◌, ap, arith, Bool, true, false, nat_eq, nat_lt, if◌then◌else◌, ◌||◌, Option, Some, None, is_ok, Result, Ok, Err}
 use Rattle.std.specs.Prelude.{replicate, OnOk, slice_set}
 use Rattle.std.proofs.lemmas.Bool.{eqb-true, eqb-false, eq-eqb, ne_eqb, ltb-true, ltb-false}
 use Rattle.std.proofs.lemmas.List.{length-map, get_or-map, map-set}
@@ -13,12 +13,11 @@ use Rattle.topology.specs.declared.types.NetFault.{NetFault}
 use Rattle.topology.specs.declared.types.NetFault.TheVariants as fault
 use Rattle.topology.specs.Inputs.{inputs_fault, or_fault}
 use Rattle.topology.specs.Networks.{NetDevice, device_of, numbers, DevicesFit, IsNetwork}
-use Rattle.topology.specs.Changes.{in_order, put_input, nth_fault, twice_fault, devices_fault, at_index, make_fault, made, RefusesMake, HaveNumbers, HaveInputs}
-use Rattle.topology.specs.Nearby.{near_each, IsKept}
+use Rattle.topology.specs.Changes.{put_input, nth_fault, twice_fault, devices_fault, at_index, make_fault, made, RefusesMake, HaveNumbers, HaveInputs}
+use Rattle.topology.specs.Nearby.{near_each}
 use Rattle.topology.proofs.Devices.{or_none, inputs_length}
-use Rattle.fc_values.proofs.Rising.{rises_tail, later_above}
 use Rattle.topology.proofs.Sorting.{fresh_none, order_rises, order_length, order_fits}
-use Rattle.topology.proofs.Kept.{numbers_long}
+use Rattle.fc_values.proofs.Rising.{later_above, rises_tail}
 
 pub on_ok : {A E : Type 0} {P : Type 0} (r : Result A E) → is_ok r ≡ true → OnOk r P → P
 on_ok (Ok x) e p = p
@@ -44,7 +43,7 @@ can_make D ns e = by_tests (nat_eq (length ns) 0) (nat_lt 1024 (length ns)) refl
         let x = eqb-false (length ns) 0 s in
         record { some = omega (arith, x); few = ltb-false 1024 (length ns) t; once = o.0; fit = o.1 }
 
-no_near : (ds : List ℕ) → replicate (length ds) [] ≡ near_each ds []
+pub no_near : (ds : List ℕ) → replicate (length ds) [] ≡ near_each ds []
 no_near [] = refl
 no_near (d ∷ ds) = ap (λ xs. [] ∷ xs) (no_near ds)
 
@@ -59,14 +58,6 @@ made_network D ns h k e =
       links = tt;
       degree = λ d. omega arith;
     }
-
-pub made_kept : (D : Declarations) (ns : List NetDevice) (lists : List (List (ℕ × ℕ))) (count capacity : ℕ) → HaveNumbers ns → HaveInputs (length D.inputs) ns → make_fault D ns ≡ None
-    → count ≡ length ns → lists ≡ replicate count [] → capacity ≡ 32 * count → IsKept (made D ns) lists capacity
-made_kept D ns lists count capacity h k e p q r = record {
-  network = made_network D ns h k e;
-  near = q ∙ ap (λ m. replicate m []) (p ∙ sym (order_length ns) ∙ sym (numbers_long (in_order ns))) ∙ no_near (numbers (in_order ns));
-  room = omega (arith, order_length ns);
-}
 
 twice_never : (i : ℕ) (before ds : List ℕ) → twice_fault i before ds ≡ Some make.Memory → ⊥
 twice_never i before [] e = cc

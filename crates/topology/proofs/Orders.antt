@@ -1,13 +1,14 @@
 -- Where a device stands among rising devices, and a link among rising links.
-use Rattle.std.proofs.Common.{◌≡◌, ℕ, zero, suc, ◌+◌, ◌<◌, inl, inr, List, [], ◌∷◌, length, map, get_or, refl, sym, ◌∙◌, ap, subst, arith, Bool, true, false, cond, nat_eq, nat_lt, ◌||◌}
+use Rattle.std.proofs.Common.{◌≡◌, ℕ, zero, suc, ◌+◌, ◌<◌, inl, inr, List, [], ◌∷◌, length, map, get_or, refl, sym, ◌∙◌, ap, subst, arith, Bool, true, false, cond, nat_eq, nat_lt, ◌||◌, ◌&&◌}
 use Rattle.std.specs.List.{prefix_len}
 use Rattle.std.specs.List.Sorted.{IsPartitionedBy}
-use Rattle.std.proofs.lemmas.Bool.{eqb-true, eqb-false, ltb-true, ltb-false, lt-ltb, ne_eqb}
+use Rattle.std.proofs.lemmas.Bool.{eqb-true, eqb-false, eq-eqb, ltb-true, ltb-false, lt-ltb, ne_eqb}
 use Rattle.fc_values.specs.Fields.{Rises, is_in}
 use Rattle.topology.specs.declared.types.Device.{Device}
 use Rattle.topology.specs.declared.types.Link.{Link}
 use Rattle.topology.specs.Networks.{NetDevice, Edge, device_of, edge_of, numbers, Before, BeforeAll, IsRisingLinks}
-use Rattle.topology.specs.Changes.{is_before}
+use Rattle.topology.specs.Changes.{is_before, is_pair}
+use Rattle.topology.proofs.Replaced.{Later, Arranged}
 use Rattle.topology.proofs.NearChanges.{before_ends}
 use Rattle.topology.proofs.Devices.{rises_apart}
 use Rattle.fc_values.proofs.Rising.{rises_tail, rises_at}
@@ -81,3 +82,44 @@ links_parted a b (m ∷ ms) r zero zero d h l t = t
 links_parted a b (m ∷ ms) r zero (suc j) d h l t = before_closed a b (edge_of m) (edge_of (get_or ms j d)) (before_get (edge_of m) ms j d r.0 (omega arith)) t
 links_parted a b (m ∷ ms) r (suc i) zero d h l t = absurd (omega arith)
 links_parted a b (m ∷ ms) r (suc i) (suc j) d h l t = links_parted a b ms r.1 i j d (omega arith) (omega arith) t
+
+-- ---- links are arranged round any pair
+
+before_pair : (a b : ℕ) (l m : Edge) → Before l m → m.a ≡ a → m.b ≡ b → is_before a b l ≡ true
+before_pair a b l m p e f = by_test (nat_lt l.a a) refl
+  where
+    by_test : (q : Bool) → nat_lt l.a a ≡ q → (q || (nat_eq l.a a && nat_lt l.b b)) ≡ true
+    by_test true t = refl
+    by_test false t =
+        let u = ltb-false l.a a t in
+        let v = p.first in
+        let x : l.a ≡ m.a = omega arith in
+        let y = p.second x in
+        rw (eq-eqb l.a a (x ∙ e), lt-ltb l.b b (omega arith)) refl
+
+links_later : (a b : ℕ) (l : Edge) (ms : List Edge) → is_before a b l ≡ false → BeforeAll l ms → Later (is_before a b) (is_pair a b) ms
+links_later a b l [] t p = tt
+links_later a b l (m ∷ ms) t p = (none (is_before a b m) refl, other (nat_eq m.a a) (nat_eq m.b b) refl refl, links_later a b l ms t p.1)
+  where
+    none : (q : Bool) → is_before a b m ≡ q → q ≡ false
+    none true e = let f = before_closed a b l m p.0 e in absurd cc
+    none false e = refl
+
+    other : (q r : Bool) → nat_eq m.a a ≡ q → nat_eq m.b b ≡ r → (q && r) ≡ false
+    other true true e f = let g = before_pair a b l m p.0 (eqb-true m.a a e) (eqb-true m.b b f) in absurd cc
+    other true false e f = refl
+    other false r e f = refl
+
+pub links_arranged : (a b : ℕ) (ls : List Edge) → IsRisingLinks ls → Arranged (is_before a b) (is_pair a b) ls
+links_arranged a b [] r = tt
+links_arranged a b (l ∷ ls) r = (apart, λ t. links_later a b l ls t r.0, links_arranged a b ls r.1)
+  where
+    apart : is_before a b l ≡ true → is_pair a b l ≡ false
+    apart t = elim (before_ends a b l t) [
+      | inl h ↦ rw (ne_eqb l.a a (λ e. absurd (omega arith))) refl
+      | inr h ↦ let k = h.1 in rw (ne_eqb l.b b (λ e. absurd (omega arith))) (never (nat_eq l.a a))
+    ]
+      where
+        never : (q : Bool) → (q && false) ≡ false
+        never true = refl
+        never false = refl

@@ -1,7 +1,8 @@
 -- The lists of neighbours that a network keeps beside its links.
-use Rattle.std.specs.Prelude.{ℕ, ◌≡◌, ◌≤◌, ◌<◌, ◌*◌, not, List, map, length, filter, slice_index, nat_eq, nat_lt}
+use Rattle.std.specs.Prelude.{ℕ, ◌≡◌, ◌≤◌, ◌<◌, ◌*◌, not, List, [], ◌∷◌, ◌++◌, map, length, filter, slice_index, nat_eq, nat_lt, if◌then◌else◌}
 use Rattle.arrayvec.specs.ArrayVec.{ArrayVec}
-use Rattle.topology.specs.Networks.{Network, Edge, IsNetwork, numbers, near_in}
+use Rattle.fc_values.specs.Types.{Declarations}
+use Rattle.topology.specs.Networks.{Network, NetDevice, Edge, IsNetwork, numbers, near_in}
 use Rattle.fc_values.specs.Lists.{insert_after}
 
 -- the neighbours of each device
@@ -23,11 +24,29 @@ insert_near d w ns = insert_after (λ n. nat_lt n.0 d) (d, w) ns
 abbrev pub items_of : ArrayVec (ℕ × ℕ) → List (ℕ × ℕ)
 items_of v = v.items
 
--- what a network keeps: it is one, beside its links it has the neighbours of each device, and there is room for as many
--- links as its devices can have
-pub record IsKept (n : Network) (lists : List (List (ℕ × ℕ))) (capacity : ℕ) : Type 0 where
+-- the links that the neighbours of a device tell of, of which it is the lesser end
+abbrev pub links_from : ℕ → List (ℕ × ℕ) → List Edge
+links_from d [] = []
+links_from d (n ∷ ns) = if nat_lt d n.0 then record { a = d; b = n.0; weight = n.1 } ∷ links_from d ns else links_from d ns
+
+-- the links that the neighbours of devices tell of
+abbrev pub links_in : List ℕ → List (List (ℕ × ℕ)) → List Edge
+links_in [] lists = []
+links_in (d ∷ ds) [] = []
+links_in (d ∷ ds) (ns ∷ lists) = links_from d ns ++ links_in ds lists
+
+-- a network as its draft has it: declarations, devices, and the neighbours of each, which tell of the links
+abbrev pub drawn : Declarations → List NetDevice → List (List (ℕ × ℕ)) → Network
+drawn D ns lists = record { declared = D; devices = ns; links = links_in (numbers ns) lists }
+
+-- these are the neighbours of each device of a network
+pub record IsDrawn (n : Network) (lists : List (List (ℕ × ℕ))) : Type 0 where
   pub network : IsNetwork n
   pub near : lists ≡ near_each (numbers n.devices) n.links
+
+-- these are the links of a network, and there is room for as many as its devices can have
+pub record IsWritten (n : Network) (ls : List Edge) (capacity : ℕ) : Type 0 where
+  pub links : ls ≡ n.links
   pub room : 32 * length n.devices ≤ capacity
 
 -- a place is that of a device

@@ -1,5 +1,5 @@
 -- Networks: devices with their inputs, and links between them.
-use Rattle.std.specs.Prelude.{ℕ, Bool, true, false, ◌≡◌, ◌<◌, ◌≤◌, ◌||◌, List, [], ◌∷◌, map, length, nat_eq, if◌then◌else◌}
+use Rattle.std.specs.Prelude.{ℕ, Bool, true, ◌≡◌, ◌<◌, ◌≤◌, List, [], ◌∷◌, map, length, nat_eq, if◌then◌else◌}
 use Rattle.fc_values.specs.Types.{Declarations}
 use Rattle.fc_values.specs.Values.{LocalValue, local_of}
 use Rattle.fc_values.specs.Fields.{Rises, is_in}
@@ -23,6 +23,9 @@ pub record Network : Type 0 where
   pub declared : Declarations
   pub devices : List NetDevice
   pub links : List Edge
+
+abbrev pub network_of : Declarations → List NetDevice → List Edge → Network
+network_of D ns ls = record { declared = D; devices = ns; links = ls }
 
 abbrev pub device_of : Device → NetDevice
 device_of d = record { id = d.id; inputs = map local_of d.inputs.items }

@@ -1,10 +1,11 @@
 //! Copies of the parts of a network.
 
-ghost use Rattle.std.specs.Prelude.{◌≡◌, ◌≤◌, length, map, vec_capacity, IfOk, replicate, []};
+ghost use Rattle.std.specs.Prelude.{◌≡◌, ◌≤◌, ◌*◌, ◌++◌, length, map, vec_capacity, IfOk, OnOk, replicate, []};
 ghost use Rattle.fc_values.specs.Values.{local_of};
-ghost use Rattle.topology.specs.Networks.{device_of, edge_of};
-ghost use Rattle.topology.specs.Nearby.{items_of};
+ghost use Rattle.topology.specs.Networks.{device_of, edge_of, numbers};
+ghost use Rattle.topology.specs.Nearby.{items_of, links_from, links_in};
 
+use crate::edits::make_room;
 use crate::nearby::{Nearby, copy_near};
 use crate::types::{Device, Link};
 use fc_values::{Memory, copy_locals};
@@ -50,6 +51,43 @@ pub(crate) fn copy_nearby(alloc: Global, near: &[Nearby]) -> Result<Vec<Nearby>,
         copies.push(copy_near(one))?;
     }
     Ok(copies)
+}
+
+/// The links that the neighbours of devices tell of, in a list with room for 32 of each device.
+pub(crate) fn links_of(
+    alloc: Global,
+    devices: &[Device],
+    near: &[Nearby],
+) -> Result<Vec<Link>, Memory>
+    requires long { length near.now ≡ length devices.now }
+    requires few { length (links_in (numbers (map device_of devices.now)) (map items_of near.now)) ≤ 32 * length devices.now }
+    requires most { length devices.now ≤ 1024 }
+    ensures links { IfOk result (λ v. map edge_of v.items ≡ links_in (numbers (map device_of devices.now)) (map items_of near.now)) }
+    ensures room { IfOk result (λ v. 32 * length devices.now ≤ vec_capacity v) }
+{
+    let room = 32 * devices.len();
+    let mut links = Vec::with_capacity(alloc, room)?;
+    for (i, device) in devices.iter().enumerate() {
+        push_links(&mut links, device.id, &near[i])?;
+    }
+    make_room(&mut links, room)?;
+    Ok(links)
+}
+
+// Puts the links that the neighbours of a device tell of behind others.
+fn push_links(links: &mut Vec<Link>, device: u32, near: &Nearby) -> Result<(), Memory>
+    ensures { OnOk result (map edge_of links.new.items ≡ map edge_of links.old.items ++ links_from device near.now.items) }
+{
+    for one in near.as_slice() {
+        if device < one.0 {
+            links.push(Link {
+                a: device,
+                b: one.0,
+                weight: one.1,
+            })?;
+        }
+    }
+    Ok(())
 }
 
 /// So many lists without a neighbour.

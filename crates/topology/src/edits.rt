@@ -3,7 +3,7 @@
 ghost use Rattle.std.specs.Prelude.{◌≡◌, ◌<◌, ◌≤◌, length, map, vec_capacity, slice_set, OnOk};
 ghost use Rattle.fc_values.specs.Values.{local_of};
 ghost use Rattle.topology.specs.Networks.{device_of, edge_of, IsRisingLinks};
-ghost use Rattle.topology.specs.Changes.{put_edge, drop_pair, drop_links};
+ghost use Rattle.topology.specs.Changes.{is_pair, put_edge, drop_pair, drop_links};
 ghost use Rattle.topology.specs.Nearby.{drop_near, items_of};
 
 use crate::nearby::{Nearby, drop_near};
@@ -27,6 +27,13 @@ pub(crate) fn drop_links(links: &mut Vec<Link>, device: u32)
     links.retain(|link| !(link.a == device || link.b == device));
 }
 
+// Whether a link is that of a pair.
+fn is_of_pair(link: &Link, a: u32, b: u32) -> bool
+    ensures { result ≡ is_pair a b (edge_of link.now) }
+{
+    link.a == a && link.b == b
+}
+
 /// Puts a link in the place of that of its pair, or as one more. There is room for it.
 pub(crate) fn put_link(links: &mut Vec<Link>, link: Link)
     requires rising { IsRisingLinks (map edge_of links.old.items) }
@@ -34,9 +41,12 @@ pub(crate) fn put_link(links: &mut Vec<Link>, link: Link)
     ensures links { map edge_of links.new.items ≡ put_edge (edge_of link) (map edge_of links.old.items) }
     ensures room { vec_capacity links.old ≤ vec_capacity links.new }
 {
-    drop_link(links, link.a, link.b);
     let at = room_for_link(links, link.a, link.b);
-    let _ = links.insert(at, link);
+    if at < links.len() && is_of_pair(&links[at], link.a, link.b) {
+        links[at] = link;
+    } else {
+        let _ = links.insert(at, link);
+    }
 }
 
 /// Puts a value in the place of an input.

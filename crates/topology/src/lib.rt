@@ -2,6 +2,7 @@
 #![tactic(auto)]
 
 mod copies;
+mod drafts;
 mod edits;
 mod inputs;
 mod laws;
@@ -12,6 +13,7 @@ mod places;
 mod types;
 
 pub use copies::copy_device;
+pub use drafts::Draft;
 pub use inputs::input_fault;
 pub use laws::{changes_keep_networks, neighbours_are_mutual, order_keeps_devices};
 pub use networks::Network;

@@ -1,53 +1,48 @@
 //! Networks, and their changes.
 
-use crate::copies::{copy_devices, copy_links, copy_nearby, no_nearby};
-use crate::edits::{drop_from_each, drop_link, drop_links, make_room, put_input, put_link};
-use crate::inputs::{in_metric, inputs_fault, nth_fault};
+use crate::copies::copy_links;
+use crate::drafts::Draft;
+use crate::edits::{drop_link, drop_links, make_room, put_link};
 use crate::makes::{first_misfit, first_twice, in_order};
-use crate::nearby::{Nearby, copy_near, drop_near, is_near, put_near};
-use crate::places::{place, room_for_device};
+use crate::places::room_for_device;
 use crate::types::{Device, JoinFault, Link, MakeFault, NetFault};
 use arrayvec::ArrayVec;
-use fc_values::{Declared, Local, Memory, copy_declared};
+use fc_values::{Declared, Local, Memory};
 use std::alloc::Global;
 use std::marker::Model;
 
 /// A network of at most 1,024 devices, by rising number, with at most 32 links each, by rising pairs.
 #[derive(Drop)]
 pub struct Network {
-    declared: Declared,
-    devices: Vec<Device>,
-    links: Vec<Link>,
-    // the neighbours of each device, in the order of the devices
-    near: Vec<Nearby>,
+    pub(crate) draft: Draft,
+    pub(crate) links: Vec<Link>,
 }
 
 impl Model for Network {
     ghost use Rattle.std.specs.Prelude.{map, vec_capacity};
     ghost use Rattle.std.specs.Coded.{codes};
     ghost use Rattle.fc_values.specs.Codes.{local_value_code};
-    ghost use Rattle.fc_values.specs.Types.{declarations_of};
-    ghost use Rattle.topology.specs.Networks.{Network as NetworkValue, device_of, edge_of};
-    ghost use Rattle.topology.specs.Nearby.{IsKept, items_of};
+    ghost use Rattle.topology.specs.Networks.{Network as NetworkValue, edge_of};
+    ghost use Rattle.topology.specs.Nearby.{IsWritten};
 
     ghost Value = { NetworkValue };
 
     ghost coded = { Prim.hlevel (codes, local_value_code) };
 
-    ghost view = { λ n. record { declared = declarations_of n.declared; devices = map device_of n.devices.items; links = map edge_of n.links.items } };
+    ghost view = { λ n. n.draft };
 
-    ghost invariant = { λ n. IsKept (record { declared = declarations_of n.declared; devices = map device_of n.devices.items; links = map edge_of n.links.items }) (map items_of n.near.items) (vec_capacity n.links) };
+    ghost invariant = { λ n. IsWritten n.draft (map edge_of n.links.items) (vec_capacity n.links) };
 }
 
 impl Network {
-    ghost use Rattle.std.specs.Prelude.{◌≡◌, ◌<◌, ◌≤◌, length, map, IfOk, OnOk, OnErr, IfErr, IfSome, IfNone, slice_index, nat_lt, Some, None, true, false, [], ◌&&◌};
+    ghost use Rattle.std.specs.Prelude.{◌≡◌, ◌<◌, ◌≤◌, length, map, IfOk, OnOk, OnErr, IfErr, IfSome, IfNone, slice_index, nat_lt, Some, None, true, false, []};
     ghost use Rattle.std.specs.List.{prefix_len};
     ghost use Rattle.fc_values.specs.Types.{declarations_of};
     ghost use Rattle.fc_values.specs.Values.{local_of};
     ghost use Rattle.fc_values.specs.Fields.{Rises};
-    ghost use Rattle.topology.specs.Networks.{NetDevice, IsNetwork, device_of, edge_of, near as near_of, lives, numbers};
-    ghost use Rattle.topology.specs.Changes.{HaveNumbers, HaveInputs, RefusesMake, make_fault, made, are_linked, is_full, link_fault, linked, unlink_fault, unlinked, set_fault, with_input, RefusesJoin, join_fault, joined, leave_fault, left};
-    ghost use Rattle.topology.specs.Nearby.{AtPlace, AtEnds, near_numbers};
+    ghost use Rattle.topology.specs.Networks.{NetDevice, IsNetwork, device_of, edge_of, near as near_of, lives, numbers, network_of};
+    ghost use Rattle.topology.specs.Changes.{HaveNumbers, HaveInputs, RefusesMake, make_fault, made, are_linked, link_fault, linked, unlink_fault, unlinked, set_fault, with_input, RefusesJoin, join_fault, joined, leave_fault, left};
+    ghost use Rattle.topology.specs.Nearby.{near_numbers};
 
     /// The network of these declarations and devices, without links.
     pub fn new(alloc: Global, declared: Declared, devices: Vec<Device>) -> Result<Self, MakeFault>
@@ -80,16 +75,27 @@ impl Network {
         requires fault { make_fault (declarations_of declared) (map device_of devices.items) ≡ None }
         ensures { IfOk result (λ n. n ≡ made (declarations_of declared) (map device_of devices.items)) }
     {
-        let count = devices.len();
-        let links = Vec::with_capacity(alloc, 32 * count)?;
-        let near = no_nearby(alloc, count)?;
         let devices = in_order(alloc, devices)?;
-        Ok(Network {
-            declared,
-            devices,
-            links,
-            near,
-        })
+        Self::from_rising(alloc, declared, devices, Vec::new(alloc))
+    }
+
+    /// The network of devices by rising numbers, and of links by rising pairs, that make one.
+    pub fn from_rising(
+        alloc: Global,
+        declared: Declared,
+        devices: Vec<Device>,
+        links: Vec<Link>,
+    ) -> Result<Self, Memory>
+        requires { IsNetwork (network_of (declarations_of declared) (map device_of devices.items) (map edge_of links.items)) }
+        ensures { IfOk result (λ n. n ≡ network_of (declarations_of declared) (map device_of devices.items) (map edge_of links.items)) }
+    {
+        let mut links = links;
+        make_room(&mut links, 32 * devices.len())?;
+        let mut draft = Draft::new(alloc, declared, devices)?;
+        for link in &links {
+            let _ = draft.link(link.a, link.b, link.weight);
+        }
+        Ok(Network { draft, links })
     }
 
     /// What its program declares.
@@ -97,7 +103,7 @@ impl Network {
         ensures value { declarations_of result.now ≡ self.now.declared }
         ensures network { IsNetwork self.now }
     {
-        &self.declared
+        self.draft.declared()
     }
 
     /// The devices, by rising number.
@@ -105,7 +111,7 @@ impl Network {
         ensures value { map device_of result.now ≡ self.now.devices }
         ensures network { IsNetwork self.now }
     {
-        &self.devices
+        self.draft.devices()
     }
 
     /// The links, by rising pairs.
@@ -113,6 +119,7 @@ impl Network {
         ensures value { map edge_of result.now ≡ self.now.links }
         ensures network { IsNetwork self.now }
     {
+        let _ = self.draft.devices();
         &self.links
     }
 
@@ -124,7 +131,7 @@ impl Network {
         ensures none { IfNone result (lives self.now device ≡ false) }
         ensures network { IsNetwork self.now }
     {
-        place(&self.devices, device)
+        self.draft.place(device)
     }
 
     /// The numbers of the devices that are linked to a device, rising, with the weights of the links.
@@ -134,38 +141,16 @@ impl Network {
         ensures none { lives self.now device ≡ false → result.items ≡ [] }
         ensures network { IsNetwork self.now }
     {
-        match self.place(device) {
-            Some(at) => copy_near(&self.near[at]),
-            None => ArrayVec::new(),
-        }
+        self.draft.neighbours(device)
     }
 
     /// A copy of the network.
     pub fn copy(&self, alloc: Global) -> Result<Self, Memory>
         ensures { IfOk result (λ n. n ≡ self.now) }
     {
-        let declared = copy_declared(alloc, &self.declared)?;
-        let devices = copy_devices(alloc, &self.devices)?;
-        let links = copy_links(alloc, &self.links, 32 * self.devices.len())?;
-        let near = copy_nearby(alloc, &self.near)?;
-        Ok(Network {
-            declared,
-            devices,
-            links,
-            near,
-        })
-    }
-
-    // The places of two devices.
-    fn ends(&self, a: u32, b: u32) -> Option<(usize, usize)>
-        ensures places { IfSome result (AtEnds self.now a b) }
-        ensures from { IfSome result (λ at. lives self.now a ≡ true) }
-        ensures to { IfSome result (λ at. lives self.now b ≡ true) }
-        ensures none { IfNone result ((lives self.now a && lives self.now b) ≡ false) }
-    {
-        let first = self.place(a)?;
-        let second = self.place(b)?;
-        Some((first, second))
+        let links = copy_links(alloc, &self.links, 32 * self.devices().len())?;
+        let draft = self.draft.copy(alloc)?;
+        Ok(Network { draft, links })
     }
 
     /// Whether two devices are linked.
@@ -173,26 +158,7 @@ impl Network {
         ensures linked { result ≡ are_linked self.now a b }
         ensures network { IsNetwork self.now }
     {
-        match self.place(a) {
-            Some(at) => self.has_near(at, a, b),
-            None => false,
-        }
-    }
-
-    // Whether a device, which has this place, is linked to another.
-    fn has_near(&self, at: usize, a: u32, b: u32) -> bool
-        requires { AtPlace self.now a at }
-        ensures { result ≡ are_linked self.now a b }
-    {
-        is_near(&self.near[at], b)
-    }
-
-    // Whether a device, which has this place, has as many links as it can have.
-    fn is_full(&self, at: usize, device: u32) -> bool
-        requires { AtPlace self.now device at }
-        ensures { result ≡ is_full self.now device }
-    {
-        self.near[at].len() >= 32
+        self.draft.are_linked(a, b)
     }
 
     /// Links two devices, or changes the weight of their link. It takes no memory.
@@ -202,46 +168,14 @@ impl Network {
         ensures refused { IfErr result (λ f. link_fault self.old a b weight ≡ Some f) }
         ensures err { OnErr result (self.new ≡ self.old) }
     {
-        let at = self.room_for_link(a, b, weight)?;
-        self.put_link(at, a, b, weight);
-        Ok(())
-    }
-
-    // The places of two devices that may have a link of a weight.
-    fn room_for_link(&self, a: u32, b: u32, weight: u32) -> Result<(usize, usize), NetFault>
-        ensures places { IfOk result (AtEnds self.now a b) }
-        ensures accepted { OnOk result (link_fault self.now a b weight ≡ None) }
-        ensures refused { IfErr result (λ f. link_fault self.now a b weight ≡ Some f) }
-    {
-        let Some(at) = self.ends(a, b) else {
-            return Err(NetFault::NoDevice);
-        };
-        if a == b {
-            return Err(NetFault::SelfLink);
-        }
-        if !in_metric(self.declared(), weight) {
-            return Err(NetFault::Weight);
-        }
-        if !self.has_near(at.0, a, b) && (self.is_full(at.0, a) || self.is_full(at.1, b)) {
-            return Err(NetFault::Degree);
-        }
-        Ok(at)
-    }
-
-    // Puts the link of two devices that may have it.
-    fn put_link(&mut self, at: (usize, usize), a: u32, b: u32, weight: u32)
-        requires places { AtEnds self.old a b at }
-        requires fault { link_fault self.old a b weight ≡ None }
-        ensures { self.new ≡ linked self.old a b weight }
-    {
+        self.draft.link(a, b, weight)?;
         let link = Link {
             a: a.min(b),
             b: a.max(b),
             weight,
         };
         put_link(&mut self.links, link);
-        self.near[at.0] = put_near(&self.near[at.0], b, weight);
-        self.near[at.1] = put_near(&self.near[at.1], a, weight);
+        Ok(())
     }
 
     /// Takes the link of two devices away. It takes no memory.
@@ -251,35 +185,9 @@ impl Network {
         ensures refused { IfErr result (λ f. unlink_fault self.old a b ≡ Some f) }
         ensures err { OnErr result (self.new ≡ self.old) }
     {
-        let at = self.linked_ends(a, b)?;
-        self.drop_link(at, a, b);
-        Ok(())
-    }
-
-    // The places of two linked devices.
-    fn linked_ends(&self, a: u32, b: u32) -> Result<(usize, usize), NetFault>
-        ensures places { IfOk result (AtEnds self.now a b) }
-        ensures accepted { OnOk result (unlink_fault self.now a b ≡ None) }
-        ensures refused { IfErr result (λ f. unlink_fault self.now a b ≡ Some f) }
-    {
-        let Some(at) = self.ends(a, b) else {
-            return Err(NetFault::NoDevice);
-        };
-        if !self.has_near(at.0, a, b) {
-            return Err(NetFault::NoLink);
-        }
-        Ok(at)
-    }
-
-    // Takes the link of two linked devices away.
-    fn drop_link(&mut self, at: (usize, usize), a: u32, b: u32)
-        requires places { AtEnds self.old a b at }
-        requires fault { unlink_fault self.old a b ≡ None }
-        ensures { self.new ≡ unlinked self.old a b }
-    {
+        self.draft.unlink(a, b)?;
         drop_link(&mut self.links, a.min(b), a.max(b));
-        self.near[at.0] = drop_near(&self.near[at.0], b);
-        self.near[at.1] = drop_near(&self.near[at.1], a);
+        Ok(())
     }
 
     /// The place that a device of a number has, or would have, among the devices.
@@ -287,17 +195,14 @@ impl Network {
         ensures value { result ≡ prefix_len (λ (n : NetDevice). nat_lt n.id device) self.now.devices }
         ensures within { result ≤ length self.now.devices }
     {
-        room_for_device(&self.devices, device)
+        room_for_device(self.devices(), device)
     }
 
     /// Why a value can't be put in the place of a device's input.
     pub fn set_fault(&self, device: u32, input: u32, value: &Local) -> Option<NetFault>
         ensures { result ≡ set_fault self.now device input (local_of value.now) }
     {
-        if self.place(device).is_none() {
-            return Some(NetFault::NoDevice);
-        }
-        nth_fault(&self.declared.inputs, input, value)
+        self.draft.set_fault(device, input, value)
     }
 
     /// Puts a value in the place of a device's input. It takes no memory.
@@ -307,13 +212,7 @@ impl Network {
         ensures refused { IfErr result (λ f. set_fault self.old device input (local_of value) ≡ Some f) }
         ensures err { OnErr result (self.new ≡ self.old) }
     {
-        let Some(at) = self.place(device) else {
-            return Err(NetFault::NoDevice);
-        };
-        if let Some(fault) = nth_fault(&self.declared.inputs, input, &value) {
-            return Err(fault);
-        }
-        put_input(&mut self.devices[at], input as usize, value);
+        self.draft.set_input(device, input, value)?;
         Ok(())
     }
 
@@ -325,35 +224,14 @@ impl Network {
         ensures refused { IfErr result (RefusesJoin self.old (device_of device)) }
         ensures err { OnErr result (self.new ≡ self.old) }
     {
-        if let Some(fault) = self.join_fault(&device) {
+        if let Some(fault) = self.draft.join_fault(&device) {
             return Err(JoinFault::Net(fault));
         }
-        let room = 32 * (self.devices.len() + 1);
-        if make_room(&mut self.links, room).is_err() || self.near.reserve(1).is_err() {
+        let room = 32 * (self.devices().len() + 1);
+        if make_room(&mut self.links, room).is_err() || self.draft.add(device).is_err() {
             return Err(JoinFault::Memory);
         }
-        let at = room_for_device(&self.devices, device.id);
-        if self.devices.insert(at, device).is_err() {
-            return Err(JoinFault::Memory);
-        }
-        let _ = self.near.insert(at, ArrayVec::new());
         Ok(())
-    }
-
-    // Why a device can't join.
-    fn join_fault(&self, device: &Device) -> Option<NetFault>
-        ensures { result ≡ join_fault self.now (device_of device.now) }
-    {
-        if self.place(device.id).is_some() {
-            return Some(NetFault::Twice);
-        }
-        if self.devices.len() >= 1024 {
-            return Some(NetFault::Devices);
-        }
-        if device.inputs.len() != self.declared.inputs.len() {
-            return Some(NetFault::NoInput);
-        }
-        inputs_fault(&self.declared.inputs, &device.inputs)
     }
 
     /// Takes a device and its links away. It takes no memory.
@@ -363,25 +241,8 @@ impl Network {
         ensures refused { IfErr result (λ f. leave_fault self.old device ≡ Some f) }
         ensures err { OnErr result (self.new ≡ self.old) }
     {
-        let Some(at) = self.place(device) else {
-            return Err(NetFault::NoDevice);
-        };
-        if self.devices.len() <= 1 {
-            return Err(NetFault::Last);
-        }
-        self.drop_device(at, device);
-        Ok(())
-    }
-
-    // Takes a device away that isn't the last.
-    fn drop_device(&mut self, at: usize, device: u32)
-        requires place { AtPlace self.old device at }
-        requires fault { leave_fault self.old device ≡ None }
-        ensures { self.new ≡ left self.old device }
-    {
+        self.draft.leave(device)?;
         drop_links(&mut self.links, device);
-        self.devices.remove(at);
-        self.near.remove(at);
-        drop_from_each(&mut self.near, device);
+        Ok(())
     }
 }

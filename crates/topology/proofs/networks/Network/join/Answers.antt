@@ -1,56 +1,32 @@
-use Rattle.std.proofs.Common.{◌≡◌, ◌∙◌, sym, ap, subst, List, map, None, length, nat_lt, ◌≤◌, ◌+◌, ◌*◌, arith, vec_capacity, vec_len, is_ok, true}
-use Rattle.std.specs.List.{insert, prefix_len}
+use Rattle.std.proofs.Common.{◌≡◌, ◌∙◌, sym, ap, subst, length, map, arith, nat_lt, ◌≤◌, ◌*◌, ◌+◌, vec_capacity}
 use Rattle.std.proofs.lemmas.List.{length-map}
-use Rattle.topology.specs.declared.types.Device.{Device}
-use Rattle.topology.specs.Networks.{NetDevice, device_of, edge_of}
-use Rattle.topology.specs.Changes.{insert_device, join_fault, joined}
-use Rattle.topology.specs.Nearby.{items_of, IsKept}
-use Rattle.topology.proofs.Lists.{map_insert}
-use Rattle.fc_values.proofs.Lists.{insert_prefix}
-use Rattle.topology.proofs.Kept.{lists_long, links_few, join_kept, rebuilt}
+use Rattle.topology.specs.Networks.{NetDevice, Network, IsNetwork, device_of, edge_of}
+use Rattle.topology.specs.Changes.{joined, insert_device}
+use Rattle.topology.proofs.Kept.{links_few}
 use Rattle.topology.proofs.Making.{on_ok}
-use Rattle.topology.specs.contracts.networks.Network.{the_view}
+use Rattle.fc_values.proofs.Lists.{insert_length}
 use Rattle.topology.proofs.networks.Network.join.Goals as goal
 
 pub make_room-requires : goal.make_room-requires
 make_room-requires c =
-    let few = links_few (the_view c.self.inside) c.self.inside.near.items _ c.self.invariant in
-    omega (arith, few, length-map c.self.inside.links.items edge_of, length-map c.self.inside.devices.items device_of, c.len.ensures, c.self.inside.devices.ok.0)
+    let n = c.self.inside.draft in
+    let few = links_few n (subst IsNetwork (sym c.self.view_is) c.devices.ensures.network) in
+    omega (
+      arith,
+      few,
+      ap length c.devices.ensures.value,
+      ap (λ (m : Network). length m.devices) c.self.view_is,
+      length-map c.devices.result.now device_of,
+      length-map c.self.inside.links.items edge_of,
+      ap length c.self.invariant.links,
+    )
 
-pub insert-requires-2 : goal.insert-requires-2
-insert-requires-2 c =
-    let long = lists_long (the_view c.self.inside) c.self.inside.near.items _ c.self.invariant in
-    omega (arith, long, length-map c.self.inside.devices.items device_of, c.room_for_device-at.ensures.within, ap length c.deref.ensures.value, c.reserve.ensures.len, c.self.inside.near.ok.0)
-
-pub invariant_of-self-2 : goal.invariant_of-self-2
-invariant_of-self-2 c =
-    let n = the_view c.self.inside in
-    let p = λ (n : NetDevice). nat_lt n.id c.args.device.id in
-    let put : c.insert.new.self.items ≡ insert c.self.inside.devices.items c.room_for_device-at.result c.args.device = rw c.if-is_err-3.ensures.negation at c.insert.ensures.items in
-    let place : c.room_for_device-at.result ≡ prefix_len p (map device_of c.self.inside.devices.items) = c.room_for_device-at.ensures.value ∙ ap (λ (xs : List Device). prefix_len p (map device_of xs)) c.deref.ensures.value in
-    let order : insert (map device_of c.self.inside.devices.items) c.room_for_device-at.result (device_of c.args.device) ≡ insert_device (device_of c.args.device) (map device_of c.self.inside.devices.items) =
-    ap (λ k. insert (map device_of c.self.inside.devices.items) k (device_of c.args.device)) place
-    ∙ insert_prefix p (device_of c.args.device) (map device_of c.self.inside.devices.items) in
-    let devices : map device_of c.insert.new.self.items ≡ insert_device (device_of c.args.device) (map device_of c.self.inside.devices.items) =
-    ap (map device_of) put ∙ map_insert device_of c.self.inside.devices.items c.room_for_device-at.result c.args.device ∙ order in
-    let free : vec_len c.reserve.new.self + 1 ≤ vec_capacity c.reserve.new.self = on_ok c.reserve.result c.if-is_err-2.ensures.negation c.reserve.ensures.ok in
-    let ok : is_ok c.insert-2.result ≡ true = c.insert-2.ensures.succeeds (omega (arith, free)) in
-    let near : c.insert-2.new.self.items ≡ insert c.self.inside.near.items c.room_for_device-at.result c.new.result =
-    (rw ok at c.insert-2.ensures.items) ∙ ap (λ xs. insert xs c.room_for_device-at.result c.new.result) c.reserve.ensures.items in
-    let none : join_fault (the_view c.self.inside) (device_of c.args.device) ≡ None = subst (λ v. join_fault v (device_of c.args.device) ≡ None) (sym c.self.view_is) (sym c.join_fault.ensures ∙ c.in_default.is) in
-    let room : 32 * (c.len.result + 1) ≤ vec_capacity c.make_room.new.links = on_ok c.make_room.result c.if-is_err.ensures.negation c.make_room.ensures.room in
-    subst (λ v. IsKept v (map items_of c.insert-2.new.self.items) (vec_capacity c.make_room.new.links)) (sym (rebuilt n.declared _ _ _ _ devices (ap (map edge_of) c.make_room.ensures.links)))
-    (join_kept (the_view c.self.inside) c.self.inside.near.items _ c.self.invariant (device_of c.args.device) c.room_for_device-at.result c.insert-2.new.self.items c.new.result _ c.requires none order near c.new.ensures
-    (omega (arith, room, c.len.ensures, c.self.inside.devices.ok.0, length-map c.self.inside.devices.items device_of)))
-
-pub returns-clause-ok : goal.returns-clause-ok
-returns-clause-ok c =
-    let n = the_view c.self.inside in
-    let p = λ (n : NetDevice). nat_lt n.id c.args.device.id in
-    let put : c.insert.new.self.items ≡ insert c.self.inside.devices.items c.room_for_device-at.result c.args.device = rw c.if-is_err-3.ensures.negation at c.insert.ensures.items in
-    let place : c.room_for_device-at.result ≡ prefix_len p (map device_of c.self.inside.devices.items) = c.room_for_device-at.ensures.value ∙ ap (λ (xs : List Device). prefix_len p (map device_of xs)) c.deref.ensures.value in
-    let devices : map device_of c.insert.new.self.items ≡ insert_device (device_of c.args.device) (map device_of c.self.inside.devices.items) =
-    ap (map device_of) put ∙ map_insert device_of c.self.inside.devices.items c.room_for_device-at.result c.args.device
-    ∙ ap (λ k. insert (map device_of c.self.inside.devices.items) k (device_of c.args.device)) place
-    ∙ insert_prefix p (device_of c.args.device) (map device_of c.self.inside.devices.items) in
-    rebuilt n.declared _ _ _ _ devices (ap (map edge_of) c.make_room.ensures.links) ∙ ap (λ v. joined v (device_of c.args.device)) c.self.view_is
+pub invariant_of-self-else-is_err-2 : goal.invariant_of-self-else-is_err-2
+invariant_of-self-else-is_err-2 c =
+    let n = c.self.inside.draft in
+    let put : c.add.new.self ≡ joined n (device_of c.args.device) = on_ok c.add.result c.if-is_err-2.ensures.negation c.add.ensures.ok in
+    let room : 32 * (length c.devices.result.now + 1) ≤ vec_capacity c.make_room.new.links = on_ok c.make_room.result c.if-is_err.ensures.negation c.make_room.ensures.room in
+    let more = insert_length (λ (d : NetDevice). nat_lt d.id c.args.device.id) (device_of c.args.device) n.devices in
+    let long : length c.devices.result.now ≡ length n.devices = sym (length-map c.devices.result.now device_of) ∙ ap length c.devices.ensures.value ∙ sym (ap (λ (m : Network). length m.devices) c.self.view_is) in
+    let enough : 32 * length (insert_device (device_of c.args.device) n.devices) ≤ vec_capacity c.make_room.new.links = omega (arith, room, more, long) in
+    rw put (record { links = ap (map edge_of) c.make_room.ensures.links ∙ c.self.invariant.links; room = enough })

@@ -1,50 +1,13 @@
-use Rattle.std.proofs.Common.{◌≡◌, ◌∙◌, sym, ap, subst, length, map, set, arith, List, None, vec_capacity}
-use Rattle.std.proofs.lemmas.List.{length-map}
-use Rattle.fc_values.specs.declared.types.InputDecl.{InputDecl}
-use Rattle.fc_values.specs.Types.{input_of}
+use Rattle.std.proofs.Common.{sym, subst, map, arith, vec_capacity}
 use Rattle.fc_values.specs.Values.{local_of}
-use Rattle.topology.specs.declared.types.Device.{Device}
-use Rattle.topology.specs.Networks.{NetDevice, Network, device_of}
-use Rattle.topology.specs.Changes.{put_input, nth_fault, with_input}
-use Rattle.topology.specs.Nearby.{items_of, AtPlace, IsKept}
-use Rattle.topology.proofs.Kept.{input_kept}
-use Rattle.topology.proofs.Making.{nth_within, inputs_long, device_put}
-use Rattle.topology.specs.contracts.networks.Network.{the_view}
+use Rattle.topology.specs.Networks.{edge_of}
+use Rattle.topology.specs.Nearby.{IsWritten}
+use Rattle.topology.proofs.Devices.{put_length}
 use Rattle.topology.proofs.networks.Network.set_input.Goals as goal
 
-pub put_input-requires : goal.put_input-requires
-put_input-requires c =
-    let n = the_view c.self.inside in
-    let place : AtPlace (the_view c.self.inside) c.args.device c.in-Some.at = subst (λ v. AtPlace v c.args.device c.in-Some.at) (sym c.self.view_is) (record { within = c.in-Some.ensures.within; is = c.in-Some.ensures.there }) in
-    let w = place.within in
-    let fault : nth_fault (the_view c.self.inside).declared.inputs c.args.input (local_of c.args.value) ≡ None =
-    ap (λ (is : List InputDecl). nth_fault (map input_of is) c.args.input (local_of c.args.value)) (sym c.deref.ensures.value) ∙ sym c.nth_fault.ensures ∙ c.in_default-nth_fault.is in
-    omega (
-      arith,
-      nth_within (the_view c.self.inside).declared.inputs c.args.input (local_of c.args.value) fault,
-      ap (λ (d : Device). length d.inputs.items) c.index_mut.ensures.value,
-      inputs_long n.declared c.self.inside.devices.items c.in-Some.at c.index_mut.result.now c.self.invariant.network.devices (omega (arith, w, length-map c.self.inside.devices.items device_of)),
-    )
-
-pub invariant_of-self : goal.invariant_of-self
-invariant_of-self c =
-    let n = the_view c.self.inside in
-    let place : AtPlace (the_view c.self.inside) c.args.device c.in-Some.at = subst (λ v. AtPlace v c.args.device c.in-Some.at) (sym c.self.view_is) (record { within = c.in-Some.ensures.within; is = c.in-Some.ensures.there }) in
-    let w = place.within in
-    let fault : nth_fault (the_view c.self.inside).declared.inputs c.args.input (local_of c.args.value) ≡ None =
-    ap (λ (is : List InputDecl). nth_fault (map input_of is) c.args.input (local_of c.args.value)) (sym c.deref.ensures.value) ∙ sym c.nth_fault.ensures ∙ c.in_default-nth_fault.is in
-    let devices : map device_of (set c.self.inside.devices.items c.in-Some.at c.put_input.new.device) ≡ put_input c.args.device c.args.input (local_of c.args.value) (map device_of c.self.inside.devices.items) =
-    device_put c.self.inside.devices.items c.in-Some.at c.args.device c.args.input (local_of c.args.value) c.index_mut.result.now c.put_input.new.device c.self.invariant.network.rising
-    (omega (arith, w, length-map c.self.inside.devices.items device_of)) place.is c.index_mut.ensures.value c.put_input.ensures.id c.put_input.ensures.inputs in
-    subst (λ v. IsKept v (map items_of c.self.inside.near.items) (vec_capacity c.self.inside.links)) (ap (λ (ds : List NetDevice). record (the_view c.self.inside) { devices = ds }) (sym devices))
-    (input_kept (the_view c.self.inside) c.self.inside.near.items _ c.self.invariant c.args.device c.args.input (local_of c.args.value) fault)
-
-pub returns-clause-ok : goal.returns-clause-ok
-returns-clause-ok c =
-    let n = the_view c.self.inside in
-    let place : AtPlace (the_view c.self.inside) c.args.device c.in-Some.at = subst (λ v. AtPlace v c.args.device c.in-Some.at) (sym c.self.view_is) (record { within = c.in-Some.ensures.within; is = c.in-Some.ensures.there }) in
-    let w = place.within in
-    let devices : map device_of (set c.self.inside.devices.items c.in-Some.at c.put_input.new.device) ≡ put_input c.args.device c.args.input (local_of c.args.value) (map device_of c.self.inside.devices.items) =
-    device_put c.self.inside.devices.items c.in-Some.at c.args.device c.args.input (local_of c.args.value) c.index_mut.result.now c.put_input.new.device c.self.invariant.network.rising
-    (omega (arith, w, length-map c.self.inside.devices.items device_of)) place.is c.index_mut.ensures.value c.put_input.ensures.id c.put_input.ensures.inputs in
-    ap (λ (ds : List NetDevice). record (the_view c.self.inside) { devices = ds }) devices ∙ ap (λ (v : Network). with_input v c.args.device c.args.input (local_of c.args.value)) c.self.view_is
+pub invariant_of-self-2 : goal.invariant_of-self-2
+invariant_of-self-2 c =
+    let n = c.self.inside.draft in
+    let k = c.self.invariant.room in
+    subst (λ v. IsWritten v (map edge_of c.self.inside.links.items) (vec_capacity c.self.inside.links)) (sym c.in_ok-set_input.ensures.ok)
+    (record { links = c.self.invariant.links; room = omega (arith, put_length c.args.device c.args.input (local_of c.args.value) n.devices) })

@@ -5,8 +5,8 @@ use Rattle.topology.specs.Networks.{Network, numbers, lives, near}
 use Rattle.topology.specs.Nearby.{AtPlace, near_numbers}
 use Rattle.topology.proofs.Neighbours.{near_none, near_rises}
 use Rattle.topology.proofs.Kept.{list_at}
-use Rattle.topology.specs.contracts.networks.Network.{the_view}
-use Rattle.topology.proofs.networks.Network.neighbours.Goals as goal
+use Rattle.topology.specs.contracts.drafts.Draft.{the_view}
+use Rattle.topology.proofs.drafts.Draft.neighbours.Goals as goal
 
 pub returns-in-Some-clause-value : goal.returns-in-Some-clause-value
 returns-in-Some-clause-value c =
@@ -14,7 +14,7 @@ returns-in-Some-clause-value c =
     subst (λ v. AtPlace v c.args.device c.in-Some.at) (sym c.self.view_is) (record { within = c.in-Some.ensures.within; is = c.in-Some.ensures.there }) in
     c.copy_near.ensures
     ∙ ap (λ (v : ArrayVec (ℕ × ℕ)). v.items) c.index.ensures
-    ∙ list_at (the_view c.self.inside) c.self.inside.near.items _ c.self.invariant c.args.device c.in-Some.at c.index.result.now place
+    ∙ list_at (the_view c.self.inside) c.self.inside.near.items c.self.invariant c.args.device c.in-Some.at c.index.result.now place
     ∙ ap (λ (v : Network). near v c.args.device) c.self.view_is
 
 pub returns-in-Some-clause-rising : goal.returns-in-Some-clause-rising
@@ -23,7 +23,7 @@ returns-in-Some-clause-rising c =
     let place : AtPlace (the_view c.self.inside) c.args.device c.in-Some.at =
     subst (λ v. AtPlace v c.args.device c.in-Some.at) (sym c.self.view_is) (record { within = c.in-Some.ensures.within; is = c.in-Some.ensures.there }) in
     subst (λ ns. Rises (near_numbers ns))
-    (sym (c.copy_near.ensures ∙ ap (λ (v : ArrayVec (ℕ × ℕ)). v.items) c.index.ensures ∙ list_at (the_view c.self.inside) c.self.inside.near.items _ c.self.invariant c.args.device c.in-Some.at c.index.result.now place))
+    (sym (c.copy_near.ensures ∙ ap (λ (v : ArrayVec (ℕ × ℕ)). v.items) c.index.ensures ∙ list_at (the_view c.self.inside) c.self.inside.near.items c.self.invariant c.args.device c.in-Some.at c.index.result.now place))
     (near_rises n.declared (numbers n.devices) c.args.device n.links c.self.invariant.network.links)
 
 pub returns-in-None-clause-value : goal.returns-in-None-clause-value

@@ -3,7 +3,7 @@ use Rattle.topology.specs.Networks.{numbers}
 use Rattle.fc_values.specs.Fields.{is_in}
 use Rattle.topology.specs.Nearby.{near_numbers}
 use Rattle.topology.proofs.Neighbours.{near_linked, near_none}
-use Rattle.topology.proofs.networks.Network.are_linked.Goals as goal
+use Rattle.topology.proofs.drafts.Draft.are_linked.Goals as goal
 
 pub returns-in-None-clause-linked : goal.returns-in-None-clause-linked
 returns-in-None-clause-linked c =
