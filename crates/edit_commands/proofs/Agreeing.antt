@@ -15,7 +15,8 @@ use Rattle.firing_core.specs.Rounds.{is_edit, has_edit, after_edit}
 use Rattle.edit_commands.specs.declared.types.Fault.{Fault}
 use Rattle.edit_commands.specs.EditLines.{EditLine, LinkLine, UnlinkLine, SetLine, PokeLine, JoinLine, LeaveLine}
 use Rattle.edit_commands.specs.LineByLine.{Lines, AllLines, StopsAt, AreSaid, SaidBy}
-use Rattle.edit_commands.specs.Judging.{Keeps, PokesWith, IsEdit}
+use Rattle.value_trees.specs.KeptExports.{Keeps}
+use Rattle.edit_commands.specs.Judging.{PokesWith, IsEdit}
 use Rattle.edit_commands.specs.Logs.{LogLine, BeginLine, EndLine, IdleLine, OfEdit, log_of, IsEntry}
 use Rattle.edit_commands.specs.Agreement.{SameExport, SameEdit, SameEntry, SameEntries, number_in, value_in, ReadingsAgree, StepsAgree, ReplaysAgree, FaultsAgree, PartsAgree}
 

@@ -28,9 +28,6 @@ pub record AreCounted (text : List ℕ) (count : ℕ) (rest : List ℕ) : Type 0
   pub counted : length (lines_of text) ≡ count + length (lines_of rest)
   pub short : count + length rest ≤ length text
 
-pub none_counted : (text : List ℕ) → AreCounted text 0 text
-none_counted text = record { counted = omega arith; short = omega arith }
-
 pub one_counted : (text rest front back line : List ℕ) (count : ℕ) → AreCounted text count rest → IsCut rest front back line → AreCounted text (count + 1) back
 one_counted text rest front back line count r c =
     record { counted = r.counted ∙ ap (λ ls. count + length ls) c.first ∙ omega arith; short = omega (arith, r.short, c.less) }

@@ -1,4 +1,3 @@
-pub mod Numbers
 pub mod Halves
 pub mod Marks
 pub mod Narrowed
@@ -18,3 +17,5 @@ pub mod ScriptEdits
 pub mod ScriptWords
 pub mod ReadScripts
 pub mod Agreeing
+pub mod ScriptsJudged
+pub mod EntriesOfLogs

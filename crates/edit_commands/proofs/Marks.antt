@@ -28,19 +28,6 @@ opened text os now s start i is order there e =
     ∙ ap (λ ps. Some (reading ps (Bytes []))) e
     ∙ sym (ap (λ t. opens os (since_of text i t)) is ∙ ap (λ k. opens os (Bytes (slice_range text k i))) same ∙ ap (λ bs. opens os (Bytes bs)) (nothing_since text i))
 
-some_since : (text : List ℕ) (start i : ℕ) → start < i → i ≤ length text → (b : ℕ) × (bs : List ℕ) × (slice_range text start i ≡ b ∷ bs)
-some_since text start i order within = by_list (slice_range text start i) refl
-  where
-    by_list : (l : List ℕ) → slice_range text start i ≡ l → (b : ℕ) × (bs : List ℕ) × (slice_range text start i ≡ b ∷ bs)
-    by_list (b ∷ bs) e = (b, bs, e)
-    by_list [] e = absurd (omega (arith, ap length e, length-take (i - start) (drop start text), length-drop start text))
-
--- and not behind bytes
-pub not_opened : (text : List ℕ) (os : List (Option PartValue)) (s : Since) (start i : ℕ) → s ≡ since.Bytes start → start < i → i ≤ length text → None ≡ opens os (since_of text i s)
-not_opened text os s start i is order within =
-    let t = some_since text start i order within in
-    sym (ap (λ t. opens os (since_of text i t)) is ∙ ap (λ bs. opens os (Bytes bs)) t.2)
-
 pub gone_on : (text : List ℕ) (os : List (Option PartValue)) (s : Since) (start i : ℕ) → s ≡ since.Bytes start → start ≤ i → i < length text
     → Some (reading os (Bytes (slice_range text start (i + 1)))) ≡ goes_on os (since_of text i s) (get_or text i 0)
 gone_on text os s start i is order within =

@@ -11,10 +11,10 @@ use Rattle.edit_commands.specs.declared.types.Fault.{Fault}
 use Rattle.edit_commands.specs.declared.types.ScriptFault.{ScriptFault}
 use Rattle.edit_commands.specs.declared.types.ScriptFault.TheVariants as script
 use Rattle.edit_commands.specs.EditLines.{EditLine, with_two, edit_line}
-use Rattle.edit_commands.specs.LineByLine.{Accepted, Refused, unless, WhereAccepted}
+use Rattle.edit_commands.specs.LineByLine.{Accepted, Faulty, unless, WhereAccepted}
 use Rattle.edit_commands.specs.Judging.{edit_fault, IsEdit}
-use Rattle.edit_commands.specs.Scripts.{DoLine, MixLine, Progress, flies, Refusal, OfLine, OfFirings, firings_refusal, with_firings, with_edit, line_judged, EditCommand, MixCommand, DoesCommand, if_mixed, rounds_of, mix_line}
-use Rattle.edit_commands.specs.ScriptCode.{IsFaultAt, HasRefusalAt}
+use Rattle.edit_commands.specs.Scripts.{DoLine, MixLine, Progress, flies, LineFault, OfLine, OfFirings, firings_fault, with_firings, with_edit, line_judged, EditCommand, MixCommand, DoesCommand, if_mixed, rounds_of, mix_line}
+use Rattle.edit_commands.specs.ScriptCode.{IsFaultAt, HasLineFaultAt, IsWithin}
 use Rattle.edit_commands.proofs.WideEdits.{program_narrow, fault_narrow, allowed_same}
 use Rattle.edit_commands.proofs.ReadEdits.{IsRead}
 
@@ -40,7 +40,7 @@ module _ (p : Program) (h : IsProgram p) (start : Core) (s : Progress) (o : Opti
       ap (λ q. line_judged (unfolding_of p) start s (option_map DoLine q)) r.says ∙ ap (λ f. unless (option_map OfLine f) (DoLine r.line)) (fault_same s.net (flies start s.quiet) ∙ allowed) in
       subst (WhereAccepted (DoesCommand (unfolding_of p) s after (EditCommand e))) (sym judged) done
 
-  pub do_refused : (number : ℕ) (f : ScriptFault) → IsFaultAt number (edit_fault (unfolding_of p) s.net (flies start s.quiet) read) f → HasRefusalAt number (line_judged (unfolding_of p) start s (option_map DoLine o)) f
+  pub do_refused : (number : ℕ) (f : ScriptFault) → IsFaultAt number (edit_fault (unfolding_of p) s.net (flies start s.quiet) read) f → HasLineFaultAt number (line_judged (unfolding_of p) start s (option_map DoLine o)) f
   do_refused number (script.At k f) e =
       (e.0, ap (λ q. line_judged (unfolding_of p) start s (option_map DoLine q)) r.says ∙ ap (λ g. unless (option_map OfLine g) (DoLine r.line)) (fault_same s.net (flies start s.quiet) ∙ e.1))
   do_refused number (script.Lines count) e = absurd e
@@ -50,17 +50,17 @@ module _ (p : Program) (h : IsProgram p) (start : Core) (s : Progress) (o : Opti
 
   module _ (rounds : ℕ) where
     -- the line with its rounds
-    judged : (f : Option Refusal) (g : Option Fault) → firings_refusal s (rounds + 1) ≡ f → edit_fault (unfolding_of p) s.net (λ d. false) read ≡ g
+    judged : (f : Option LineFault) (g : Option Fault) → firings_fault s (rounds + 1) ≡ f → edit_fault (unfolding_of p) s.net (λ d. false) read ≡ g
         → line_judged (unfolding_of p) start s (option_map (MixLine rounds) o) ≡ unless (option_or f (option_map OfLine g)) (MixLine rounds r.line)
     judged f g e k =
         ap (λ q. line_judged (unfolding_of p) start s (option_map (MixLine rounds) q)) r.says
         ∙ ap (λ x. unless (option_or x (option_map OfLine (edit_fault (unfolding_of p) s.net (λ d. false) r.line))) (MixLine rounds r.line)) e
         ∙ ap (λ x. unless (option_or f (option_map OfLine x)) (MixLine rounds r.line)) (fault_same s.net (λ d. false) ∙ k)
 
-    pub mix_past : (count : ℕ) → firings_refusal s (rounds + 1) ≡ Some (OfFirings count) → line_judged (unfolding_of p) start s (option_map (MixLine rounds) o) ≡ Refused (OfFirings count)
+    pub mix_past : (count : ℕ) → firings_fault s (rounds + 1) ≡ Some (OfFirings count) → line_judged (unfolding_of p) start s (option_map (MixLine rounds) o) ≡ Faulty (OfFirings count)
     mix_past count e = judged (Some (OfFirings count)) (edit_fault (unfolding_of p) s.net (λ d. false) read) e refl
 
-    pub mix_ok : (e : EditValue) (counted after : Progress) → firings_refusal s (rounds + 1) ≡ None → counted ≡ with_firings s (rounds + 1) → IsEdit (unfolding_of p) read e → EditFits (unfolding_of p) e
+    pub mix_ok : (e : EditValue) (counted after : Progress) → firings_fault s (rounds + 1) ≡ None → counted ≡ with_firings s (rounds + 1) → IsEdit (unfolding_of p) read e → EditFits (unfolding_of p) e
         → edit_fault (unfolding_of p) counted.net (flies start counted.quiet) read ≡ None → after ≡ with_edit counted read
         → WhereAccepted (DoesCommand (unfolding_of p) s after (MixCommand rounds e)) (line_judged (unfolding_of p) start s (option_map (MixLine rounds) o))
     mix_ok e counted after none c says fits allowed then =
@@ -73,8 +73,8 @@ module _ (p : Program) (h : IsProgram p) (start : Core) (s : Progress) (o : Opti
         } in
         subst (WhereAccepted (DoesCommand (unfolding_of p) s after (MixCommand rounds e))) (sym (judged None None none free)) done
 
-    pub mix_refused : (number : ℕ) (counted : Progress) (f : ScriptFault) → firings_refusal s (rounds + 1) ≡ None → counted ≡ with_firings s (rounds + 1)
-        → IsFaultAt number (edit_fault (unfolding_of p) counted.net (flies start counted.quiet) read) f → HasRefusalAt number (line_judged (unfolding_of p) start s (option_map (MixLine rounds) o)) f
+    pub mix_refused : (number : ℕ) (counted : Progress) (f : ScriptFault) → firings_fault s (rounds + 1) ≡ None → counted ≡ with_firings s (rounds + 1)
+        → IsFaultAt number (edit_fault (unfolding_of p) counted.net (flies start counted.quiet) read) f → HasLineFaultAt number (line_judged (unfolding_of p) start s (option_map (MixLine rounds) o)) f
     mix_refused number counted (script.At k f) none c e =
         let g : edit_fault (unfolding_of p) s.net (λ d. false) read ≡ Some f = subst (λ (q : Progress). edit_fault (unfolding_of p) q.net (flies start q.quiet) read ≡ Some f) c e.1 in
         (e.0, judged None (Some f) none g)
@@ -83,7 +83,6 @@ module _ (p : Program) (h : IsProgram p) (start : Core) (s : Progress) (o : Opti
     mix_refused number counted (script.Firings count) none c e = absurd e
     mix_refused number counted script.Memory none c e = tt
 
--- the words of a `mix` with so many rounds
-pub mix_words : (is : List Input) (ws : List (List ℕ)) (word : List ℕ) (words : List (List ℕ)) (rounds : ℕ) → ws ≡ word ∷ words → Some rounds ≡ rounds_of word
-    → mix_line is ws ≡ option_map (MixLine rounds) (option_and_then if_mixed (edit_line is words))
-mix_words is ws word words rounds e f = ap (mix_line is) e ∙ ap (λ o. with_two MixLine o (option_and_then if_mixed (edit_line is words))) (sym f)
+-- an edit passes no limit
+pub edit_within : (p after : Progress) (l : EditLine) → IsWithin p → after ≡ with_edit p l → IsWithin after
+edit_within p after l w e = subst IsWithin (sym e) (record { scrambles = w.scrambles; firings = w.firings })

@@ -1,4 +1,5 @@
--- Readings of one log: they may differ in what an export holds at the places of a branch that isn't taken, and in nothing else.
+-- Readings of one log: they may differ in what an export holds at the places of a branch that isn't taken, and in
+-- nothing else.
 use Rattle.std.specs.Prelude.{ℕ, ◌≡◌, List, [], ◌∷◌, map}
 use Rattle.fc_values.specs.Exports.{FlatExport}
 use Rattle.fc_nodes.specs.Program.{Unfolding}
@@ -60,20 +61,26 @@ value_in e = e.1
 -- two readings of a log have the same lines, and the same entries
 abbrev pub ReadingsAgree : Type 0
 ReadingsAgree =
-    (U : Unfolding) (n : Network) (text : List ℕ) (es fs : List (ℕ × EntryValue)) → IsLog U n text es → IsLog U n text fs
+    (U : Unfolding) (n : Network) (text : List ℕ) (es fs : List (ℕ × EntryValue))
+    → IsLog U n text es → IsLog U n text fs
     → (map number_in es ≡ map number_in fs) × SameEntries U (map value_in es) (map value_in fs)
 
 -- an entry and the same one are refused alike, and lead to the same core
 abbrev pub StepsAgree : Type 0
-StepsAgree = (U : Unfolding) (e f : EntryValue) → SameEntry U e f → (c : Core) → (fault_of c e ≡ fault_of c f) × (net_fault_of c e ≡ net_fault_of c f) × (step_of U c e ≡ step_of U c f)
+StepsAgree =
+    (U : Unfolding) (e f : EntryValue) → SameEntry U e f → (c : Core)
+    → (fault_of c e ≡ fault_of c f) × (net_fault_of c e ≡ net_fault_of c f) × (step_of U c e ≡ step_of U c f)
 
 -- the same entries lead to the same core
 abbrev pub ReplaysAgree : Type 0
-ReplaysAgree = (U : Unfolding) (es fs : List EntryValue) → SameEntries U es fs → (c : Core) → replay U c es ≡ replay U c fs
+ReplaysAgree =
+    (U : Unfolding) (es fs : List EntryValue) → SameEntries U es fs → (c : Core) → replay U c es ≡ replay U c fs
 
 -- or they are refused at the same entry, for the same reason
 abbrev pub FaultsAgree : Type 0
-FaultsAgree = (U : Unfolding) (es fs : List EntryValue) → SameEntries U es fs → (c : Core) (fault : ReplayFault) → FailsReplay U c es fault → FailsReplay U c fs fault
+FaultsAgree =
+    (U : Unfolding) (es fs : List EntryValue) → SameEntries U es fs → (c : Core) (fault : ReplayFault)
+    → FailsReplay U c es fault → FailsReplay U c fs fault
 
 -- after their last edit they are equal
 abbrev pub PartsAgree : Type 0

@@ -1,5 +1,5 @@
 -- What contracts see of the code's words and lines.
-use Rattle.std.specs.Prelude.{ℕ, Bool, false, ◌≡◌, ◌≤◌, List, map, Option, None, Some, is_some}
+use Rattle.std.specs.Prelude.{ℕ, Bool, false, ◌≡◌, ◌≤◌, List, map, Option, None, Some, is_some, option_map, IfSome}
 use Rattle.std.specs.Borrow.{Bor}
 use Rattle.fc_values.specs.Values.{local_of}
 use Rattle.topology.specs.Networks.{device_of}
@@ -12,7 +12,8 @@ use Rattle.edit_commands.specs.declared.types.LineFault.TheVariants as line_faul
 use Rattle.edit_commands.specs.declared.types.ScriptFault.{ScriptFault}
 use Rattle.edit_commands.specs.declared.types.ScriptFault.TheVariants as script
 use Rattle.edit_commands.specs.EditLines.{EditLine, LinkLine, UnlinkLine, SetLine, PokeLine, JoinLine, LeaveLine}
-use Rattle.edit_commands.specs.LineByLine.{Judged, Refused}
+use Rattle.edit_commands.specs.Narrow.{narrow_line}
+use Rattle.edit_commands.specs.LineByLine.{Judged, Faulty}
 
 -- words of a text
 abbrev pub texts : List (Bor (List ℕ)) → List (List ℕ)
@@ -26,6 +27,10 @@ line_of (line.Poke d v ks) = PokeLine d (local_of v) (map local_of ks.items)
 line_of (line.Join x) = JoinLine (device_of x)
 line_of (line.Leave d) = LeaveLine d
 
+-- what was read is a line, but for values that are too wide for every type
+abbrev pub ReadsLine : Option EditLine → Option Line → Type 0
+ReadsLine line read = option_map line_of read ≡ option_map narrow_line line
+
 -- a device that joins has a number of at most 65,535
 abbrev pub LineFits : EditLine → Type 0
 LineFits (LinkLine a b w) = Unit {0}
@@ -34,6 +39,9 @@ LineFits (SetLine d i v) = Unit {0}
 LineFits (PokeLine d v ks) = Unit {0}
 LineFits (JoinLine x) = x.id ≤ 65535
 LineFits (LeaveLine d) = Unit {0}
+
+abbrev pub ReadFits : Option Line → Type 0
+ReadFits read = IfSome read (λ l. LineFits (line_of l))
 
 -- which devices are known to fly: those of a core, if there is one
 abbrev pub flies_in : Option (Bor CoreValue) → ℕ → Bool
@@ -46,12 +54,12 @@ IsFaultOf fault (line_fault.Bad f) = fault ≡ Some f
 IsFaultOf fault line_fault.Memory = Unit {0}
 
 abbrev pub HasFault : {A : Type 0} → Judged Fault A → LineFault → Type 0
-HasFault judged (line_fault.Bad f) = judged ≡ Refused f
+HasFault judged (line_fault.Bad f) = judged ≡ Faulty f
 HasFault judged line_fault.Memory = Unit {0}
 
 -- the same, of the line of a number
 abbrev pub HasFaultAt : {A : Type 0} → ℕ → Judged Fault A → ScriptFault → Type 0
-HasFaultAt number judged (script.At k f) = (k ≡ number) × (judged ≡ Refused f)
+HasFaultAt number judged (script.At k f) = (k ≡ number) × (judged ≡ Faulty f)
 HasFaultAt number judged (script.Lines count) = ⊥
 HasFaultAt number judged (script.Scrambles count) = ⊥
 HasFaultAt number judged (script.Firings count) = ⊥

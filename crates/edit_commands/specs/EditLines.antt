@@ -50,7 +50,8 @@ unlink_line (a ∷ b ∷ []) = with_two UnlinkLine (number_of a) (number_of b)
 unlink_line words = None
 
 abbrev pub set_line : List Input → List (List ℕ) → Option EditLine
-set_line is (d ∷ name ∷ v ∷ []) = if is_name name then with_two (λ n w. SetLine n (input_number is name) w) (number_of d) (value_of v) else None
+set_line is (d ∷ name ∷ v ∷ []) =
+    if is_name name then with_two (λ n w. SetLine n (input_number is name) w) (number_of d) (value_of v) else None
 set_line is words = None
 
 abbrev pub poke_line : List (List ℕ) → Option EditLine

@@ -2,11 +2,9 @@
 use Rattle.std.specs.Prelude.{ℕ, Bool, ◌≡◌, not, ◌&&◌, is_none, nat_le, if◌then◌else◌, List, [], ◌∷◌, length, Option, Some, None, option_map}
 use Rattle.fc_values.specs.Values.{LocalValue}
 use Rattle.fc_values.specs.BuiltinTypes.{inner}
-use Rattle.fc_values.specs.Exports.{FlatExport}
 use Rattle.fc_nodes.specs.Terms.{type_of}
 use Rattle.fc_nodes.specs.Program.{Unfolding}
-use Rattle.fc_nodes.specs.Flat.{IsExport, tree_export}
-use Rattle.value_trees.specs.KeptLists.{kept_values}
+use Rattle.value_trees.specs.KeptExports.{Keeps}
 use Rattle.value_trees.specs.KeptReads.{has_type, misfit_of}
 use Rattle.topology.specs.declared.types.NetFault.{NetFault}
 use Rattle.topology.specs.declared.types.NetFault.TheVariants as net
@@ -16,7 +14,7 @@ use Rattle.firing_core.specs.Entries.{EditValue, LinkEdit, UnlinkEdit, SetEdit, 
 use Rattle.firing_core.specs.Cores.{EditFits}
 use Rattle.edit_commands.specs.declared.types.Fault.{Fault}
 use Rattle.edit_commands.specs.declared.types.Fault.TheVariants as fault
-use Rattle.edit_commands.specs.LineByLine.{Judged, Refused, unless, Does}
+use Rattle.edit_commands.specs.LineByLine.{Judged, Faulty, unless, Does}
 use Rattle.edit_commands.specs.EditLines.{EditLine, LinkLine, UnlinkLine, SetLine, PokeLine, JoinLine, LeaveLine}
 
 -- a value and a list that are those of an export of a program
@@ -25,7 +23,8 @@ fits_kept U v ks = has_type U.declared.ceiling (inner (type_of U.main)) v && is_
 
 -- why a device can't be poked, and why one can't leave where some devices are known to fly
 abbrev pub poke_fault : Unfolding → Network → ℕ → LocalValue → List LocalValue → Option Fault
-poke_fault U n d v ks = if lives n d then (if fits_kept U v ks then None else Some fault.Kept) else Some (fault.Net net.NoDevice)
+poke_fault U n d v ks =
+    if lives n d then (if fits_kept U v ks then None else Some fault.Kept) else Some (fault.Net net.NoDevice)
 
 abbrev pub leave_fault : Network → (ℕ → Bool) → ℕ → Option NetFault
 leave_fault n flies d = first_fault (
@@ -34,14 +33,18 @@ leave_fault n flies d = first_fault (
     ∷ (nat_le (length n.devices) 1, net.Last)
     ∷ [])
 
+-- a fault of the network
+abbrev pub net_fault : Option NetFault → Option Fault
+net_fault f = option_map fault.Net f
+
 -- the first fault of an edit
 abbrev pub edit_fault : Unfolding → Network → (ℕ → Bool) → EditLine → Option Fault
-edit_fault U n flies (LinkLine a b w) = option_map fault.Net (link_fault n a b w)
-edit_fault U n flies (UnlinkLine a b) = option_map fault.Net (unlink_fault n a b)
-edit_fault U n flies (SetLine d i v) = option_map fault.Net (set_fault n d i v)
+edit_fault U n flies (LinkLine a b w) = net_fault (link_fault n a b w)
+edit_fault U n flies (UnlinkLine a b) = net_fault (unlink_fault n a b)
+edit_fault U n flies (SetLine d i v) = net_fault (set_fault n d i v)
 edit_fault U n flies (PokeLine d v ks) = poke_fault U n d v ks
-edit_fault U n flies (JoinLine x) = option_map fault.Net (join_fault n x)
-edit_fault U n flies (LeaveLine d) = option_map fault.Net (leave_fault n flies d)
+edit_fault U n flies (JoinLine x) = net_fault (join_fault n x)
+edit_fault U n flies (LeaveLine d) = net_fault (leave_fault n flies d)
 
 -- the network after an edit
 abbrev pub after_edit : Network → EditLine → Network
@@ -52,13 +55,7 @@ after_edit n (PokeLine d v ks) = n
 after_edit n (JoinLine x) = joined n x
 after_edit n (LeaveLine d) = left n d
 
--- an export of a program with this value and these kept values
-pub record Keeps (U : Unfolding) (v : LocalValue) (ks : List LocalValue) (x : FlatExport) : Type 0 where
-  pub export : IsExport U x
-  pub value : (tree_export U x).value ≡ v
-  pub list : kept_values (tree_export U x) ≡ ks
-
--- a poke of a device with such an export
+-- a poke of a device with an export that has a value and kept values
 abbrev pub PokesWith : Unfolding → ℕ → LocalValue → List LocalValue → EditValue → Type 0
 PokesWith U d v ks (LinkEdit a b w) = ⊥
 PokesWith U d v ks (UnlinkEdit a b) = ⊥
@@ -78,7 +75,7 @@ IsEdit U (LeaveLine d) e = e ≡ LeaveEdit d
 
 -- the edit that words say, judged
 abbrev pub words_judged : Unfolding → Network → (ℕ → Bool) → Option EditLine → Judged Fault EditLine
-words_judged U n flies None = Refused fault.Form
+words_judged U n flies None = Faulty fault.Form
 words_judged U n flies (Some l) = unless (edit_fault U n flies l) l
 
 -- an edit that a line says, with the network after it

@@ -2,20 +2,20 @@
 use Rattle.std.specs.Prelude.{ℕ, ◌≡◌, ◌+◌, if◌then◌else◌, List, [], ◌∷◌, Option, Some, None}
 use Rattle.fc_io.specs.Lines.{line_text, is_empty}
 
--- what is accepted, or why it is refused
+-- what is accepted, or its fault
 pub data Judged (R A : Type 0) : Type 0 where
   Accepted : A → Judged R A
-  Refused : R → Judged R A
+  Faulty : R → Judged R A
 
 abbrev pub unless : {R A : Type 0} → Option R → A → Judged R A
 unless None x = Accepted x
-unless (Some r) x = Refused r
+unless (Some r) x = Faulty r
 
 abbrev pub WhereAccepted : {R A : Type 0} → (A → Type 0) → Judged R A → Type 0
 WhereAccepted P (Accepted x) = P x
-WhereAccepted P (Refused r) = ⊥
+WhereAccepted P (Faulty r) = ⊥
 
--- lines with their numbers, or the number of the first line that is refused, and why
+-- lines with their numbers, or the number of the first line that has a fault, and its fault
 pub data Lines (R A : Type 0) : Type 0 where
   AllLines : List (ℕ × A) → Lines R A
   StopsAt : ℕ → R → Lines R A
@@ -27,7 +27,7 @@ onto x (StopsAt k r) = StopsAt k r
 -- a judged line of a number, and then the lines after it
 abbrev pub and_lines : {R A : Type 0} → ℕ → Judged R A → (A → Lines R A) → Lines R A
 and_lines k (Accepted l) rest = onto (k, l) (rest l)
-and_lines k (Refused r) rest = StopsAt k r
+and_lines k (Faulty r) rest = StopsAt k r
 
 -- the lines from a number on, of which the empty ones are skipped and counted; each leads from one state to the next
 abbrev pub lines_from : {S R A : Type 0} → (S → List ℕ → Judged R A) → (S → A → S) → S → ℕ → List (List ℕ) → Lines R A
@@ -37,7 +37,9 @@ lines_from judge next s k (line ∷ lines) =
     else and_lines k (judge s (line_text line)) (λ l. lines_from judge next (next s l) (k + 1) lines)
 
 -- a thing that a line says and that fits, with the state after the line
-pub record Does {S A B : Type 0} (next : S → A → S) (Says : A → B → Type 0) (Fits : B → Type 0) (now after : S) (x : B) (l : A) : Type 0 where
+pub record Does
+    {S A B : Type 0} (next : S → A → S) (Says : A → B → Type 0) (Fits : B → Type 0)
+    (now after : S) (x : B) (l : A) : Type 0 where
   pub says : Says l x
   pub fits : Fits x
   pub after_is : after ≡ next now l
@@ -48,7 +50,7 @@ AreSaid Says [] [] = Unit {0}
 AreSaid Says (l ∷ ls) (x ∷ xs) = (x.0 ≡ l.0) × Says l.1 x.1 × AreSaid Says ls xs
 AreSaid Says _ _ = ⊥
 
--- those of a text in which no line is refused
+-- those of a text in which no line has a fault
 abbrev pub SaidBy : {R A B : Type 0} → (A → B → Type 0) → List (ℕ × B) → Lines R A → Type 0
 SaidBy Says xs (AllLines ls) = AreSaid Says ls xs
 SaidBy Says xs (StopsAt k r) = ⊥

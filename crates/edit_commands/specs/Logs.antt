@@ -14,8 +14,8 @@ use Rattle.fc_io.specs.Lines.{lines_of}
 use Rattle.edit_commands.specs.Lines.{words_of}
 use Rattle.fc_values.specs.Numbers.{number_of}
 use Rattle.edit_commands.specs.EditLines.{EditLine, edit_line}
-use Rattle.edit_commands.specs.LineByLine.{Judged, Refused, unless, Lines, StopsAt, lines_from, Does, SaidBy}
-use Rattle.edit_commands.specs.Judging.{edit_fault, after_edit, IsEdit}
+use Rattle.edit_commands.specs.LineByLine.{Judged, Faulty, unless, Lines, StopsAt, lines_from, Does, SaidBy}
+use Rattle.edit_commands.specs.Judging.{edit_fault, after_edit, IsEdit, words_judged}
 
 -- a line of a log
 pub data LogLine : Type 0 where
@@ -28,13 +28,17 @@ abbrev pub idle_line : List ℕ → Option LogLine
 idle_line [] = Some IdleLine
 idle_line (b ∷ bs) = None
 
+-- the edit in a text
+abbrev pub edit_in : List Input → List ℕ → Option LogLine
+edit_in is text = option_map OfEdit (edit_line is (words_of text))
+
 -- what the text of a line says: `B` or `E` and a number, `I`, or an edit
 abbrev pub log_line : List Input → List ℕ → Option LogLine
 log_line is [] = None
 log_line is (b ∷ bs) =
     if b == 66 then option_map BeginLine (number_of bs) else
     if b == 69 then option_map EndLine (number_of bs) else
-    if b == 73 then idle_line bs else option_map OfEdit (edit_line is (words_of (b ∷ bs)))
+    if b == 73 then idle_line bs else edit_in is (b ∷ bs)
 
 -- The first fault of a line. That no device that leaves flies is found when the log is replayed.
 abbrev pub line_fault : Unfolding → Network → LogLine → Option Fault
@@ -51,11 +55,18 @@ after_line n (OfEdit l) = after_edit n l
 
 -- the text of a line, judged
 abbrev pub text_judged : Unfolding → Network → Option LogLine → Judged Fault LogLine
-text_judged U n None = Refused fault.Form
+text_judged U n None = Faulty fault.Form
 text_judged U n (Some l) = unless (line_fault U n l) l
 
 abbrev pub line_judged : Unfolding → Network → List ℕ → Judged Fault LogLine
 line_judged U n text = text_judged U n (log_line n.declared.inputs text)
+
+-- the edit that words say, judged, and that of a text. That no device that leaves flies isn't judged
+abbrev pub edit_judged : Unfolding → Network → List (List ℕ) → Judged Fault EditLine
+edit_judged U n words = words_judged U n (λ d. false) (edit_line n.declared.inputs words)
+
+abbrev pub edit_text_judged : Unfolding → Network → List ℕ → Judged Fault LogLine
+edit_text_judged U n text = text_judged U n (edit_in n.declared.inputs text)
 
 -- the lines of a log
 unfoldable pub log_of : Unfolding → Network → List ℕ → Lines Fault LogLine
@@ -87,7 +98,7 @@ numbered e = (e.0, entry_of e.1)
 abbrev pub entry_in : ℕ × Entry → Entry
 entry_in e = e.1
 
--- why a log is refused: its first line that has a fault. Want of memory is free
+-- the fault of a log: its first line that has one. Want of memory is free
 abbrev pub RefusesLog : Unfolding → Network → List ℕ → ScriptFault → Type 0
 RefusesLog U n text (script.At k f) = log_of U n text ≡ StopsAt k f
 RefusesLog U n text (script.Lines count) = ⊥

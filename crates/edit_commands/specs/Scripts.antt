@@ -1,4 +1,4 @@
--- Scripts: each line is judged against the network that the lines before leave, and the firings and scrambles are counted.
+-- Scripts: each line is judged against the network that the lines before leave, and firings and scrambles are counted.
 use Rattle.std.specs.Prelude.{ℕ, Bool, true, false, ◌≡◌, ◌+◌, ◌*◌, nat_le, nat_lt, if◌then◌else◌, is_some, List, [], ◌∷◌, length, Option, Some, None, option_map, option_and_then, codes}
 use Rattle.std.specs.Option.{option_or}
 use Rattle.std.specs.Str.{bytes_eq}
@@ -14,13 +14,14 @@ use Rattle.edit_commands.specs.declared.types.Fault.{Fault}
 use Rattle.edit_commands.specs.declared.types.Fault.TheVariants as fault
 use Rattle.edit_commands.specs.declared.types.ScriptFault.{ScriptFault}
 use Rattle.edit_commands.specs.declared.types.ScriptFault.TheVariants as script
+use Rattle.edit_commands.specs.declared.scripts.TheConstants.{MOST_LINES, MOST_SCRAMBLES, MOST_FIRINGS}
 use Rattle.edit_commands.specs.declared.scripts.ScriptWord.{ScriptWord}
 use Rattle.edit_commands.specs.declared.scripts.ScriptWord.TheVariants as first
 use Rattle.fc_io.specs.Lines.{lines_of}
 use Rattle.edit_commands.specs.Lines.{words_of}
 use Rattle.fc_values.specs.Numbers.{number_of}
 use Rattle.edit_commands.specs.EditLines.{EditLine, LinkLine, UnlinkLine, SetLine, PokeLine, JoinLine, LeaveLine, with_two, edit_line}
-use Rattle.edit_commands.specs.LineByLine.{Judged, Refused, unless, Lines, StopsAt, lines_from, Does, SaidBy}
+use Rattle.edit_commands.specs.LineByLine.{Judged, Faulty, unless, Lines, StopsAt, lines_from, Does, SaidBy}
 use Rattle.edit_commands.specs.Judging.{edit_fault, after_edit, IsEdit}
 
 -- a line of a script: rounds, an edit, the rubbish of a number, the values, or an edit among firings and then rounds
@@ -49,6 +50,17 @@ if_mixed (PokeLine d v ks) = Some (PokeLine d v ks)
 if_mixed (JoinLine x) = None
 if_mixed (LeaveLine d) = None
 
+-- the words of an edit
+abbrev pub do_line : List Input → List (List ℕ) → Option ScriptLine
+do_line is words = option_map DoLine (edit_line is words)
+
+-- those of an edit among firings, and with the rounds after it
+abbrev pub mixed_edit : List Input → List (List ℕ) → Option EditLine
+mixed_edit is words = option_and_then if_mixed (edit_line is words)
+
+abbrev pub mixed_line : ℕ → List Input → List (List ℕ) → Option ScriptLine
+mixed_line rounds is words = option_map (MixLine rounds) (mixed_edit is words)
+
 -- the words after the first one
 abbrev pub run_line : List (List ℕ) → Option ScriptLine
 run_line (r ∷ []) = option_map RunLine (rounds_of r)
@@ -64,7 +76,7 @@ show_line (word ∷ words) = None
 
 abbrev pub mix_line : List Input → List (List ℕ) → Option ScriptLine
 mix_line is [] = None
-mix_line is (r ∷ words) = with_two MixLine (rounds_of r) (option_and_then if_mixed (edit_line is words))
+mix_line is (r ∷ words) = with_two MixLine (rounds_of r) (mixed_edit is words)
 
 -- what the first word says that isn't that of an edit
 abbrev pub script_word : List ℕ → Option ScriptWord
@@ -75,7 +87,7 @@ script_word word =
     if bytes_eq word (codes "show") then Some first.Show else None
 
 abbrev pub line_by : List Input → Option ScriptWord → List ℕ → List (List ℕ) → Option ScriptLine
-line_by is None word words = option_map DoLine (edit_line is (word ∷ words))
+line_by is None word words = do_line is (word ∷ words)
 line_by is (Some first.Run) word words = run_line words
 line_by is (Some first.Mix) word words = mix_line is words
 line_by is (Some first.Scramble) word words = scramble_line words
@@ -88,7 +100,7 @@ script_line is (word ∷ words) = line_by is (script_word word) word words
 
 -- ---- judging
 
--- what the lines before leave: the network, whether a `run` or a `mix` has ended all flights, the scrambles, the firings
+-- what the lines before leave: the network, whether a `run` or a `mix` has ended all flights, scrambles and firings
 pub record Progress : Type 0 where
   pub net : Network
   pub quiet : Bool
@@ -107,22 +119,25 @@ flies start false d = is_some (start.flying d)
 abbrev pub firings_after : Progress → ℕ → ℕ
 firings_after p rounds = p.firings + rounds * length p.net.devices
 
--- why a line is refused: it has a fault, or it passes a limit, with the count that is reached
-pub data Refusal : Type 0 where
-  OfLine : Fault → Refusal
-  OfScrambles : ℕ → Refusal
-  OfFirings : ℕ → Refusal
+-- the fault of a line: one of its own, or that it passes a limit, with the count that is reached
+pub data LineFault : Type 0 where
+  OfLine : Fault → LineFault
+  OfScrambles : ℕ → LineFault
+  OfFirings : ℕ → LineFault
 
-abbrev pub firings_refusal : Progress → ℕ → Option Refusal
-firings_refusal p rounds = if nat_lt 1000000 (firings_after p rounds) then Some (OfFirings (firings_after p rounds)) else None
+abbrev pub firings_fault : Progress → ℕ → Option LineFault
+firings_fault p rounds =
+    if nat_lt MOST_FIRINGS (firings_after p rounds) then Some (OfFirings (firings_after p rounds)) else None
 
--- The first refusal of a line. In a `mix` the firings are counted before its edit is judged, which is no `leave`.
-abbrev pub line_refusal : Unfolding → Core → Progress → ScriptLine → Option Refusal
-line_refusal U start p (RunLine r) = firings_refusal p r
-line_refusal U start p (DoLine l) = option_map OfLine (edit_fault U p.net (flies start p.quiet) l)
-line_refusal U start p (ScrambleLine n) = if nat_le 4 p.scrambles then Some (OfScrambles (p.scrambles + 1)) else None
-line_refusal U start p ShowLine = None
-line_refusal U start p (MixLine r l) = option_or (firings_refusal p (r + 1)) (option_map OfLine (edit_fault U p.net (λ d. false) l))
+-- The first fault of a line. In a `mix` the firings are counted before its edit is judged, which is no `leave`.
+abbrev pub line_fault : Unfolding → Core → Progress → ScriptLine → Option LineFault
+line_fault U start p (RunLine r) = firings_fault p r
+line_fault U start p (DoLine l) = option_map OfLine (edit_fault U p.net (flies start p.quiet) l)
+line_fault U start p (ScrambleLine n) =
+    if nat_le MOST_SCRAMBLES p.scrambles then Some (OfScrambles (p.scrambles + 1)) else None
+line_fault U start p ShowLine = None
+line_fault U start p (MixLine r l) =
+    option_or (firings_fault p (r + 1)) (option_map OfLine (edit_fault U p.net (λ d. false) l))
 
 abbrev pub with_firings : Progress → ℕ → Progress
 with_firings p rounds = record p { quiet = true; firings = firings_after p rounds }
@@ -138,23 +153,26 @@ after_line p ShowLine = p
 after_line p (MixLine r l) = with_edit (with_firings p (r + 1)) l
 
 -- the words of a line, judged
-abbrev pub line_judged : Unfolding → Core → Progress → Option ScriptLine → Judged Refusal ScriptLine
-line_judged U start p None = Refused (OfLine fault.Form)
-line_judged U start p (Some l) = unless (line_refusal U start p l) l
+abbrev pub line_judged : Unfolding → Core → Progress → Option ScriptLine → Judged LineFault ScriptLine
+line_judged U start p None = Faulty (OfLine fault.Form)
+line_judged U start p (Some l) = unless (line_fault U start p l) l
 
-abbrev pub text_judged : Unfolding → Core → Progress → List ℕ → Judged Refusal ScriptLine
+abbrev pub text_judged : Unfolding → Core → Progress → List ℕ → Judged LineFault ScriptLine
 text_judged U start p text = line_judged U start p (script_line p.net.declared.inputs (words_of text))
 
--- a script: too many lines, or its lines up to the first that is refused
+-- a script: too many lines, or its lines up to the first that has a fault
 pub data Script : Type 0 where
   TooManyLines : ℕ → Script
-  Within : Lines Refusal ScriptLine → Script
+  Within : Lines LineFault ScriptLine → Script
 
-unfoldable pub lines_in : Unfolding → Core → List ℕ → Lines Refusal ScriptLine
+unfoldable pub lines_in : Unfolding → Core → List ℕ → Lines LineFault ScriptLine
 lines_in U start text = lines_from (text_judged U start) after_line (at_start start.net) 1 (lines_of text)
 
 abbrev pub script_of : Unfolding → Core → List ℕ → Script
-script_of U start text = if nat_lt 4096 (length (lines_of text)) then TooManyLines (length (lines_of text)) else Within (lines_in U start text)
+script_of U start text =
+    if nat_lt MOST_LINES (length (lines_of text))
+    then TooManyLines (length (lines_of text))
+    else Within (lines_in U start text)
 
 -- ---- commands
 
@@ -212,7 +230,7 @@ AllCommandsFit U (c ∷ cs) = CommandFits U c.1 × AllCommandsFit U cs
 abbrev pub DoesCommand : Unfolding → Progress → Progress → CommandValue → ScriptLine → Type 0
 DoesCommand U p after c l = Does after_line (IsCommand U) (CommandFits U) p after c l
 
--- the commands of a script in which no line is refused, with the numbers of their lines
+-- the commands of a script in which no line has a fault, with the numbers of their lines
 abbrev pub AreCommands : Unfolding → Core → List ℕ → List (ℕ × CommandValue) → Type 0
 AreCommands U start text cs = SaidBy (IsCommand U) cs (lines_in U start text)
 
@@ -226,7 +244,7 @@ IsScript U start text cs = SaidByScript U cs (script_of U start text)
 abbrev pub numbered : Line → ℕ × CommandValue
 numbered l = (l.number, command_of l.command)
 
--- why the lines of a script are refused. Want of memory is free
+-- the fault of the lines of a script. Want of memory is free
 abbrev pub RefusesLines : Unfolding → Core → List ℕ → ScriptFault → Type 0
 RefusesLines U start text (script.At k f) = lines_in U start text ≡ StopsAt k (OfLine f)
 RefusesLines U start text (script.Lines count) = ⊥
@@ -234,10 +252,12 @@ RefusesLines U start text (script.Scrambles count) = (k : ℕ) × (lines_in U st
 RefusesLines U start text (script.Firings count) = (k : ℕ) × (lines_in U start text ≡ StopsAt k (OfFirings count))
 RefusesLines U start text script.Memory = Unit {0}
 
--- why a script is refused
+-- the fault of a script
 abbrev pub RefusesScript : Unfolding → Core → List ℕ → ScriptFault → Type 0
 RefusesScript U start text (script.At k f) = script_of U start text ≡ Within (StopsAt k (OfLine f))
 RefusesScript U start text (script.Lines count) = script_of U start text ≡ TooManyLines count
-RefusesScript U start text (script.Scrambles count) = (k : ℕ) × (script_of U start text ≡ Within (StopsAt k (OfScrambles count)))
-RefusesScript U start text (script.Firings count) = (k : ℕ) × (script_of U start text ≡ Within (StopsAt k (OfFirings count)))
+RefusesScript U start text (script.Scrambles count) =
+    (k : ℕ) × (script_of U start text ≡ Within (StopsAt k (OfScrambles count)))
+RefusesScript U start text (script.Firings count) =
+    (k : ℕ) × (script_of U start text ≡ Within (StopsAt k (OfFirings count)))
 RefusesScript U start text script.Memory = Unit {0}

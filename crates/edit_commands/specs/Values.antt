@@ -13,7 +13,8 @@ atom_of text =
 -- the text of a value: a number, a truth value, or `(v,w)` with the texts of two values
 pub data IsValueText : List ℕ → LocalValue → Type 0 where
   AtomText : (text : List ℕ) (v : LocalValue) → atom_of text ≡ Some v → IsValueText text v
-  PairText : (s t : List ℕ) (v w : LocalValue) → IsValueText s v → IsValueText t w → IsValueText (40 ∷ (s ++ 44 ∷ (t ++ 41 ∷ []))) (PairValue v w)
+  PairText : (s t : List ℕ) (v w : LocalValue) → IsValueText s v → IsValueText t w
+      → IsValueText (40 ∷ (s ++ 44 ∷ (t ++ 41 ∷ []))) (PairValue v w)
 
 -- Reading goes from the front, byte by byte, with what an atom gives and what two parts of a pair give. It keeps the
 -- brackets that are open, the innermost first, each with its first part where its comma has come, and what stands since

@@ -1,20 +1,20 @@
 //! The lines that are edits.
 
-ghost use Rattle.std.specs.Prelude.{◌≡◌, ◌<◌, ◌≤◌, ◌^◌, not, length, IfOk, IfSome, map, option_map};
+ghost use Rattle.std.specs.Prelude.{◌≡◌, ◌<◌, ◌≤◌, ◌^◌, not, length, IfOk, map, option_map};
 ghost use Rattle.std.specs.List.{prefix_len};
 ghost use Rattle.std.specs.Str.{bytes_eq};
 ghost use Rattle.fc_values.specs.Types.{input_of};
 ghost use Rattle.edit_commands.specs.EditLines.{edit_line, edit_word, link_line, unlink_line, set_line, poke_line, join_line, leave_line, input_number};
-ghost use Rattle.edit_commands.specs.Narrow.{narrow_line};
-ghost use Rattle.edit_commands.specs.Code.{line_of, texts, LineFits};
+ghost use Rattle.edit_commands.specs.Code.{line_of, texts, ReadsLine, ReadFits};
 
 use crate::values::{read_value, read_values};
-use crate::words::{device_number, number};
-use fc_values::{InputDecl, Local, Memory, is_name};
+use crate::words::device_number;
+use fc_values::{InputDecl, Local, Memory, is_name, number};
 use std::alloc::Global;
 use topology::Device;
 
-/// An edit as a line says it. An input is named by its number, and a poke has the value and the kept values of an export.
+/// An edit as a line says it. An input is named by its number, and a poke has the value and the kept values of an
+/// export.
 #[derive(Drop)]
 pub(crate) enum EditLine {
     Link(u32, u32, u32),
@@ -27,7 +27,7 @@ pub(crate) enum EditLine {
 
 fn link(words: &[&[u8]]) -> Option<EditLine>
     ensures says { option_map line_of result ≡ link_line (texts words.now) }
-    ensures fits { IfSome result (λ l. LineFits (line_of l)) }
+    ensures fits { ReadFits result }
 {
     let [a, b, weight] = words else {
         return None;
@@ -38,7 +38,7 @@ fn link(words: &[&[u8]]) -> Option<EditLine>
 
 fn unlink(words: &[&[u8]]) -> Option<EditLine>
     ensures says { option_map line_of result ≡ unlink_line (texts words.now) }
-    ensures fits { IfSome result (λ l. LineFits (line_of l)) }
+    ensures fits { ReadFits result }
 {
     let [a, b] = words else {
         return None;
@@ -47,14 +47,14 @@ fn unlink(words: &[&[u8]]) -> Option<EditLine>
     Some(EditLine::Unlink(a, b))
 }
 
-/// Whether an input has a name.
+// Whether an input has a name.
 fn is_named(input: &InputDecl, name: &[u8]) -> bool
     ensures { result ≡ bytes_eq (input_of input.now).name name.now }
 {
     input.name.text.as_slice() == name
 }
 
-/// How many inputs come before the first of a name.
+// How many inputs come before the first of a name.
 fn before_name(inputs: &[InputDecl], name: &[u8]) -> usize
     ensures value { result ≡ prefix_len (λ i. not (bytes_eq (input_of i).name name.now)) inputs.now }
     ensures within { result ≤ length inputs.now }
@@ -65,7 +65,7 @@ fn before_name(inputs: &[InputDecl], name: &[u8]) -> usize
         .count()
 }
 
-/// The number of the first input of a name, or the number after the last where no input has it.
+// The number of the first input of a name, or the number after the last where no input has it.
 #[tactic(auto, using(crate::proofs::Prefixes::prefix_len_mapped))]
 fn input_number(inputs: &[InputDecl], name: &[u8]) -> u32
     requires { length inputs.now < 2 ^ 32 }
@@ -76,8 +76,8 @@ fn input_number(inputs: &[InputDecl], name: &[u8]) -> u32
 
 fn set(alloc: Global, inputs: &[InputDecl], words: &[&[u8]]) -> Result<Option<EditLine>, Memory>
     requires { length inputs.now < 2 ^ 32 }
-    ensures says { IfOk result (λ o. option_map line_of o ≡ option_map narrow_line (set_line (map input_of inputs.now) (texts words.now))) }
-    ensures fits { IfOk result (λ o. IfSome o (λ l. LineFits (line_of l))) }
+    ensures says { IfOk result (ReadsLine (set_line (map input_of inputs.now) (texts words.now))) }
+    ensures fits { IfOk result ReadFits }
 {
     let [device, name, value] = words else {
         return Ok(None);
@@ -96,8 +96,8 @@ fn set(alloc: Global, inputs: &[InputDecl], words: &[&[u8]]) -> Result<Option<Ed
 }
 
 fn poke(alloc: Global, words: &[&[u8]]) -> Result<Option<EditLine>, Memory>
-    ensures says { IfOk result (λ o. option_map line_of o ≡ option_map narrow_line (poke_line (texts words.now))) }
-    ensures fits { IfOk result (λ o. IfSome o (λ l. LineFits (line_of l))) }
+    ensures says { IfOk result (ReadsLine (poke_line (texts words.now))) }
+    ensures fits { IfOk result ReadFits }
 {
     let [device, value, kept @ ..] = words else {
         return Ok(None);
@@ -115,8 +115,8 @@ fn poke(alloc: Global, words: &[&[u8]]) -> Result<Option<EditLine>, Memory>
 }
 
 fn join(alloc: Global, words: &[&[u8]]) -> Result<Option<EditLine>, Memory>
-    ensures says { IfOk result (λ o. option_map line_of o ≡ option_map narrow_line (join_line (texts words.now))) }
-    ensures fits { IfOk result (λ o. IfSome o (λ l. LineFits (line_of l))) }
+    ensures says { IfOk result (ReadsLine (join_line (texts words.now))) }
+    ensures fits { IfOk result ReadFits }
 {
     let [device, inputs @ ..] = words else {
         return Ok(None);
@@ -132,7 +132,7 @@ fn join(alloc: Global, words: &[&[u8]]) -> Result<Option<EditLine>, Memory>
 
 fn leave(words: &[&[u8]]) -> Option<EditLine>
     ensures says { option_map line_of result ≡ leave_line (texts words.now) }
-    ensures fits { IfSome result (λ l. LineFits (line_of l)) }
+    ensures fits { ReadFits result }
 {
     let [device] = words else {
         return None;
@@ -152,7 +152,7 @@ pub(crate) enum EditWord {
     Leave,
 }
 
-/// The first word of an edit.
+// The first word of an edit.
 fn edit_word(word: &[u8]) -> Option<EditWord>
     ensures { result ≡ edit_word word.now }
 {
@@ -184,8 +184,8 @@ pub(crate) fn edit_line(
     words: &[&[u8]],
 ) -> Result<Option<EditLine>, Memory>
     requires { length inputs.now < 2 ^ 32 }
-    ensures says { IfOk result (λ o. option_map line_of o ≡ option_map narrow_line (edit_line (map input_of inputs.now) (texts words.now))) }
-    ensures fits { IfOk result (λ o. IfSome o (λ l. LineFits (line_of l))) }
+    ensures says { IfOk result (ReadsLine (edit_line (map input_of inputs.now) (texts words.now))) }
+    ensures fits { IfOk result ReadFits }
 {
     let [word, rest @ ..] = words else {
         return Ok(None);

@@ -1,37 +1,25 @@
 //! Edits against the network that the lines before leave.
 
-ghost use Rattle.std.specs.Prelude.{◌≡◌, ◌≤◌, ◌↔◌, IsTrue, map, IfOk, IfErr, OnOk, None, option_map};
+ghost use Rattle.std.specs.Prelude.{◌≡◌, ◌≤◌, map, IfOk, IfErr, OnOk, None};
 ghost use Rattle.fc_values.specs.Values.{local_of};
 ghost use Rattle.fc_nodes.specs.Program.{unfolding_of};
 ghost use Rattle.topology.specs.Networks.{device_of, lives};
 ghost use Rattle.topology.specs.Changes.{set_fault, with_input, join_fault, joined, left};
 ghost use Rattle.firing_core.specs.Entries.{edit_of, SetEdit, JoinEdit, LeaveEdit};
 ghost use Rattle.firing_core.specs.Cores.{EditFits};
-ghost use Rattle.edit_commands.specs.declared.types.Fault.TheVariants as fault;
-ghost use Rattle.edit_commands.specs.Judging.{edit_fault, after_edit, IsEdit, PokesWith, poke_fault, leave_fault};
+ghost use Rattle.edit_commands.specs.Judging.{net_fault, edit_fault, after_edit, IsEdit, PokesWith, poke_fault, leave_fault};
 ghost use Rattle.edit_commands.specs.Code.{line_of, LineFits, IsFaultOf, flies_in};
 
 use crate::edits::EditLine;
 use crate::types::{Fault, LineFault};
 use fc_nodes::Unfolded;
-use fc_values::{Local, Memory, copy, copy_locals};
+use fc_values::{Local, copy};
 use firing_core::{Core, Edit};
 use std::alloc::Global;
-use topology::{Device, JoinFault, NetFault, Network};
+use topology::{Device, JoinFault, NetFault, Network, copy_device};
 use value_trees::{KeptFault, fits_main, from_kept};
 
-/// A copy of a device.
-fn copy_device(alloc: Global, device: &Device) -> Result<Device, Memory>
-    ensures { IfOk result (λ d. device_of d ≡ device_of device.now) }
-{
-    let inputs = copy_locals(alloc, &device.inputs)?;
-    Ok(Device {
-        id: device.id,
-        inputs,
-    })
-}
-
-/// Whether a device is known to fly.
+// Whether a device is known to fly.
 fn flies(start: Option<&Core>, device: u32) -> bool
     ensures { result ≡ flies_in start.entry device }
 {
@@ -41,14 +29,14 @@ fn flies(start: Option<&Core>, device: u32) -> bool
     }
 }
 
-/// Whether a device is there.
+// Whether a device is there.
 fn is_there(net: &Network, device: u32) -> bool
     ensures { result ≡ lives net.now device }
 {
     net.place(device).is_some()
 }
 
-/// The poke of a device with the export that has a value and kept values.
+// The poke of a device with the export that has a value and kept values.
 fn poke(
     alloc: Global,
     program: &Unfolded,
@@ -57,9 +45,12 @@ fn poke(
     value: Local,
     kept: Vec<Local>,
 ) -> Result<Edit, LineFault>
-    ensures says { IfOk result (λ e. PokesWith (unfolding_of program.now) device (local_of value) (map local_of kept.items) (edit_of e)) }
-    ensures allowed { OnOk result (poke_fault (unfolding_of program.now) net.now device (local_of value) (map local_of kept.items) ≡ None) }
-    ensures refused { IfErr result (IsFaultOf (poke_fault (unfolding_of program.now) net.now device (local_of value) (map local_of kept.items))) }
+    ensures says { IfOk result (λ e.
+        PokesWith (unfolding_of program.now) device (local_of value) (map local_of kept.items) (edit_of e)) }
+    ensures allowed { OnOk result (
+        poke_fault (unfolding_of program.now) net.now device (local_of value) (map local_of kept.items) ≡ None) }
+    ensures refused { IfErr result (IsFaultOf
+        (poke_fault (unfolding_of program.now) net.now device (local_of value) (map local_of kept.items))) }
 {
     if !is_there(net, device) {
         return Err(LineFault::Bad(Fault::Net(NetFault::NoDevice)));
@@ -74,6 +65,7 @@ fn poke(
     }
 }
 
+// The change of an input.
 fn set(
     alloc: Global,
     net: &mut Network,
@@ -84,19 +76,20 @@ fn set(
     ensures says { IfOk result (λ e. edit_of e ≡ SetEdit device input (local_of value)) }
     ensures allowed { OnOk result (set_fault net.old device input (local_of value) ≡ None) }
     ensures after { OnOk result (net.new ≡ with_input net.old device input (local_of value)) }
-    ensures refused { IfErr result (IsFaultOf (option_map fault.Net (set_fault net.old device input (local_of value)))) }
+    ensures refused { IfErr result (IsFaultOf (net_fault (set_fault net.old device input (local_of value)))) }
 {
     let kept = copy(alloc, &value)?;
     net.set_input(device, input, value)?;
     Ok(Edit::Set(device, input, kept))
 }
 
+// The device that joins.
 fn join(alloc: Global, net: &mut Network, device: Device) -> Result<Edit, LineFault>
     requires { device.id ≤ 65535 }
     ensures says { IfOk result (λ e. edit_of e ≡ JoinEdit (device_of device)) }
     ensures allowed { OnOk result (join_fault net.old (device_of device) ≡ None) }
     ensures after { OnOk result (net.new ≡ joined net.old (device_of device)) }
-    ensures refused { IfErr result (IsFaultOf (option_map fault.Net (join_fault net.old (device_of device)))) }
+    ensures refused { IfErr result (IsFaultOf (net_fault (join_fault net.old (device_of device)))) }
 {
     let kept = copy_device(alloc, &device)?;
     match net.join(device) {
@@ -106,11 +99,12 @@ fn join(alloc: Global, net: &mut Network, device: Device) -> Result<Edit, LineFa
     }
 }
 
+// The device that leaves, if it doesn't fly.
 fn leave(net: &mut Network, start: Option<&Core>, device: u32) -> Result<Edit, LineFault>
     ensures says { IfOk result (λ e. edit_of e ≡ LeaveEdit device) }
     ensures allowed { OnOk result (leave_fault net.old (flies_in start.entry) device ≡ None) }
     ensures after { OnOk result (net.new ≡ left net.old device) }
-    ensures refused { IfErr result (IsFaultOf (option_map fault.Net (leave_fault net.old (flies_in start.entry) device))) }
+    ensures refused { IfErr result (IsFaultOf (net_fault (leave_fault net.old (flies_in start.entry) device))) }
 {
     if is_there(net, device) && flies(start, device) {
         return Err(LineFault::Bad(Fault::Net(NetFault::InFlight)));
@@ -130,9 +124,11 @@ pub(crate) fn judge(
     requires { LineFits (line_of line) }
     ensures says { IfOk result (λ e. IsEdit (unfolding_of program.now) (line_of line) (edit_of e)) }
     ensures fits { IfOk result (λ e. EditFits (unfolding_of program.now) (edit_of e)) }
-    ensures allowed { OnOk result (edit_fault (unfolding_of program.now) net.old (flies_in start.entry) (line_of line) ≡ None) }
+    ensures allowed { OnOk result (
+        edit_fault (unfolding_of program.now) net.old (flies_in start.entry) (line_of line) ≡ None) }
     ensures after { OnOk result (net.new ≡ after_edit net.old (line_of line)) }
-    ensures refused { IfErr result (IsFaultOf (edit_fault (unfolding_of program.now) net.old (flies_in start.entry) (line_of line))) }
+    ensures refused { IfErr result (IsFaultOf
+        (edit_fault (unfolding_of program.now) net.old (flies_in start.entry) (line_of line))) }
 {
     match line {
         EditLine::Link(a, b, weight) => {

@@ -1,7 +1,11 @@
 //! Laws of the definitions.
 
 ghost use Rattle.edit_commands.specs.Agreement.{FaultsAgree, PartsAgree, ReadingsAgree, ReplaysAgree, StepsAgree};
+ghost use Rattle.edit_commands.specs.JudgedCommands.{ScriptsAreJudged};
+ghost use Rattle.edit_commands.specs.LogEntries.{LogsHaveEntries};
 ghost use Rattle.edit_commands.specs.Values.{ValuesAreRead};
+
+use value_trees::lists_have_exports;
 
 /// A value is read from exactly its texts: numbers, `true`, `false`, and `(v,w)` of any nesting.
 pub fn values_are_read()
@@ -17,3 +21,16 @@ pub fn readings_agree()
     ensures faults { FaultsAgree }
     ensures parts { PartsAgree }
 {}
+
+/// The commands of a script may be given to the cores to which those before them lead: edits are allowed, a device that
+/// leaves doesn't fly, rounds are at least one, and the firings stay within their limit.
+pub fn scripts_are_judged()
+    ensures { ScriptsAreJudged }
+{}
+
+/// A log in which no line has a fault has entries, and they may be replayed.
+pub fn logs_have_entries()
+    ensures { LogsHaveEntries }
+{
+    lists_have_exports();
+}

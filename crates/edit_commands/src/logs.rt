@@ -1,29 +1,26 @@
 //! Logs.
 
-ghost use Rattle.std.specs.Prelude.{◌≡◌, ◌<◌, ◌^◌, length, map, IfOk, IfErr, Some, None, false, option_map};
-ghost use Rattle.fc_nodes.specs.Program.{unfolding_of};
-ghost use Rattle.firing_core.specs.Entries.{entry_of, entries_of, edit_of};
-ghost use Rattle.firing_core.specs.Replays.{EntryFits, LogFits};
-ghost use Rattle.edit_commands.specs.Logs.{line_judged, text_judged, OfEdit, DoesEntry, IsLog, RefusesLog, numbered, entry_in};
-ghost use Rattle.edit_commands.specs.Lines.{words_of};
+ghost use Rattle.std.specs.Prelude.{◌≡◌, ◌<◌, ◌^◌, length, map, IfOk, IfErr, Some, None};
 ghost use Rattle.fc_values.specs.Numbers.{number_of};
-ghost use Rattle.edit_commands.specs.LineByLine.{WhereAccepted};
-ghost use Rattle.edit_commands.specs.Judging.{DoesEdit, words_judged};
-ghost use Rattle.edit_commands.specs.EditLines.{edit_line};
-ghost use Rattle.edit_commands.specs.Code.{HasFault, HasFaultAt, texts};
+ghost use Rattle.fc_nodes.specs.Program.{unfolding_of};
+ghost use Rattle.firing_core.specs.Entries.{entries_of};
+ghost use Rattle.firing_core.specs.Replays.{LogFits};
+ghost use Rattle.edit_commands.specs.Logs.{IsLog, RefusesLog, numbered, entry_in};
+ghost use Rattle.edit_commands.specs.LogCode.{IsEditOf, IsEditFault, IsEntryOf, line_in, edit_text_in};
+ghost use Rattle.edit_commands.specs.Code.{HasFault, HasFaultAt};
 
 use crate::edits::edit_line;
 use crate::judging::judge;
 use crate::lines::words;
 use crate::types::{Fault, LineFault, ScriptFault};
-use crate::words::number;
 use fc_io::{first_line, line_text};
 use fc_nodes::Unfolded;
+use fc_values::number;
 use firing_core::{Edit, Entry};
 use std::alloc::Global;
 use topology::Network;
 
-/// The edit that words say, which is done to the network.
+// The edit that words say, which is done to the network.
 fn read_edit(
     alloc: Global,
     program: &Unfolded,
@@ -31,8 +28,8 @@ fn read_edit(
     words: &[&[u8]],
 ) -> Result<Edit, LineFault>
     requires { net.old.declared ≡ program.now.declared }
-    ensures ok { IfOk result (λ e. WhereAccepted (DoesEdit (unfolding_of program.now) net.old net.new (edit_of e)) (words_judged (unfolding_of program.now) net.old (λ d. false) (edit_line net.old.declared.inputs (texts words.now)))) }
-    ensures refused { IfErr result (HasFault (words_judged (unfolding_of program.now) net.old (λ d. false) (edit_line net.old.declared.inputs (texts words.now)))) }
+    ensures ok { IfOk result (IsEditOf program.now net.old net.new words.now) }
+    ensures refused { IfErr result (IsEditFault program.now net.old words.now) }
 {
     let inputs = &program.declared().inputs;
     let Some(line) = edit_line(alloc, inputs, words)? else {
@@ -44,7 +41,7 @@ fn read_edit(
     }
 }
 
-/// The entry that the text of a line says. An edit is done to the network.
+// The entry that the text of a line says. An edit is done to the network.
 fn read_entry(
     alloc: Global,
     program: &Unfolded,
@@ -52,8 +49,8 @@ fn read_entry(
     text: &[u8],
 ) -> Result<Entry, LineFault>
     requires { net.old.declared ≡ program.now.declared }
-    ensures ok { IfOk result (λ e. WhereAccepted (DoesEntry (unfolding_of program.now) net.old net.new (entry_of e)) (line_judged (unfolding_of program.now) net.old text.now)) }
-    ensures refused { IfErr result (HasFault (line_judged (unfolding_of program.now) net.old text.now)) }
+    ensures ok { IfOk result (IsEntryOf program.now net.old net.new (line_in program.now net.old text.now)) }
+    ensures refused { IfErr result (HasFault (line_in program.now net.old text.now)) }
 {
     match text {
         [b'B', digits @ ..] => Ok(Entry::Begin(device(digits)?)),
@@ -63,7 +60,7 @@ fn read_entry(
     }
 }
 
-/// The number of a device that begins or ends.
+// The number of a device that begins or ends.
 fn device(digits: &[u8]) -> Result<u32, LineFault>
     ensures ok { IfOk result (λ d. number_of digits.now ≡ Some d) }
     ensures refused { IfErr result (λ f. (number_of digits.now ≡ None) × (f ≡ LineFault.Bad Fault.Form)) }
@@ -74,7 +71,7 @@ fn device(digits: &[u8]) -> Result<u32, LineFault>
     }
 }
 
-/// The edit that the text of a line says, as an entry.
+// The edit that the text of a line says, as an entry.
 fn read_edit_entry(
     alloc: Global,
     program: &Unfolded,
@@ -82,8 +79,8 @@ fn read_edit_entry(
     text: &[u8],
 ) -> Result<Entry, LineFault>
     requires { net.old.declared ≡ program.now.declared }
-    ensures ok { IfOk result (λ e. WhereAccepted (DoesEntry (unfolding_of program.now) net.old net.new (entry_of e)) (text_judged (unfolding_of program.now) net.old (option_map OfEdit (edit_line net.old.declared.inputs (words_of text.now))))) }
-    ensures refused { IfErr result (HasFault (text_judged (unfolding_of program.now) net.old (option_map OfEdit (edit_line net.old.declared.inputs (words_of text.now))))) }
+    ensures ok { IfOk result (IsEntryOf program.now net.old net.new (edit_text_in program.now net.old text.now)) }
+    ensures refused { IfErr result (HasFault (edit_text_in program.now net.old text.now)) }
 {
     let words = words(alloc, text)?;
     match read_edit(alloc, program, net, &words) {
@@ -126,7 +123,7 @@ pub fn read_log(
     Ok(entries)
 }
 
-/// The entry that the text of the line of a number says. An edit is done to the network.
+// The entry that the text of the line of a number says. An edit is done to the network.
 fn read_numbered(
     alloc: Global,
     program: &Unfolded,
@@ -135,8 +132,8 @@ fn read_numbered(
     text: &[u8],
 ) -> Result<Entry, ScriptFault>
     requires { net.old.declared ≡ program.now.declared }
-    ensures ok { IfOk result (λ e. WhereAccepted (DoesEntry (unfolding_of program.now) net.old net.new (entry_of e)) (line_judged (unfolding_of program.now) net.old text.now)) }
-    ensures refused { IfErr result (HasFaultAt number (line_judged (unfolding_of program.now) net.old text.now)) }
+    ensures ok { IfOk result (IsEntryOf program.now net.old net.new (line_in program.now net.old text.now)) }
+    ensures refused { IfErr result (HasFaultAt number (line_in program.now net.old text.now)) }
 {
     match read_entry(alloc, program, net, text) {
         Ok(entry) => Ok(entry),

@@ -1,32 +1,36 @@
 //! Scripts.
 
-ghost use Rattle.std.specs.Prelude.{ℕ, ◌≡◌, ◌<◌, ◌≤◌, ◌^◌, length, map, IfOk, IfErr, IfSome, OnOk, Some, None, option_map, option_and_then, is_some, false};
+ghost use Rattle.std.specs.Prelude.{◌≡◌, ◌<◌, ◌^◌, length, map, IfOk, IfErr, OnOk, OnErr, Some, None, is_some};
 ghost use Rattle.fc_values.specs.Types.{input_of};
-ghost use Rattle.fc_nodes.specs.Program.{Unfolding, unfolding_of};
-ghost use Rattle.firing_core.specs.Cores.{Core as CoreState, EditFits};
+ghost use Rattle.fc_nodes.specs.Program.{unfolding_of};
+ghost use Rattle.firing_core.specs.Cores.{EditFits};
 ghost use Rattle.firing_core.specs.CoreViews.{core_of, IsCore};
 ghost use Rattle.firing_core.specs.Entries.{edit_of};
-ghost use Rattle.fc_io.specs.Lines.{lines_of};
-ghost use Rattle.edit_commands.specs.Lines.{words_of};
 ghost use Rattle.edit_commands.specs.EditLines.{edit_line};
-ghost use Rattle.edit_commands.specs.LineByLine.{WhereAccepted};
-ghost use Rattle.edit_commands.specs.Judging.{edit_fault, after_edit, IsEdit};
-ghost use Rattle.edit_commands.specs.Narrow.{narrow_line};
-ghost use Rattle.edit_commands.specs.Code.{line_of, texts, LineFits, flies_in};
-ghost use Rattle.edit_commands.specs.Scripts.{OfFirings, DoLine, MixLine, ShowLine, ShowCommand, script_word, rounds_of, if_mixed, run_line, scramble_line, show_line, mix_line, script_line, flies, firings_refusal, with_firings, with_edit, line_judged, text_judged, DoesCommand, IsScript, RefusesScript, AreCommands, RefusesLines, AllCommandsFit, at_start, command_of, numbered};
-ghost use Rattle.edit_commands.specs.ScriptCode.{progress_of, IsWithin, HasRefusalAt, IsFaultAt};
+ghost use Rattle.edit_commands.specs.Judging.{IsEdit};
+ghost use Rattle.edit_commands.specs.Code.{line_of, texts, LineFits, ReadsLine, ReadFits, flies_in};
+ghost use Rattle.edit_commands.specs.Scripts.{OfFirings, ShowLine, ShowCommand, script_word, rounds_of, if_mixed, mixed_edit, run_line, scramble_line, show_line, flies, firings_fault, with_firings, with_edit, IsScript, RefusesScript, AreCommands, RefusesLines, AllCommandsFit, at_start, command_of, numbered};
+ghost use Rattle.edit_commands.specs.ScriptCode.{progress_of, program_in, IsWithin, IsReady, Leaves, IsAtFault, edit_in, mixed_in, mix_in, line_in, text_in, fault_in, IsFaultAt};
 
 use crate::edits::{EditLine, edit_line};
 use crate::judging::judge;
 use crate::lines::{count_lines, words};
 use crate::types::{Command, Fault, Line, LineFault, ScriptFault};
-use crate::words::number;
 use fc_io::{first_line, line_text};
 use fc_nodes::Unfolded;
-use fc_values::{InputDecl, Memory};
+use fc_values::{InputDecl, Memory, number};
 use firing_core::{Core, Edit};
 use std::alloc::Global;
 use topology::Network;
+
+/// The most lines of a script.
+pub const MOST_LINES: usize = 4096;
+
+/// The most lines of a script that scramble.
+pub const MOST_SCRAMBLES: u32 = 4;
+
+/// The most firings of a script: the sum over its lines of rounds times devices.
+pub const MOST_FIRINGS: u64 = 1_000_000;
 
 /// What a line begins with that isn't an edit.
 #[derive(Clone, Copy, Debug, PartialEq, Eq)]
@@ -37,7 +41,7 @@ pub(crate) enum ScriptWord {
     Show,
 }
 
-/// The first word of a line that isn't an edit.
+// The first word of a line that isn't an edit.
 fn script_word(word: &[u8]) -> Option<ScriptWord>
     ensures { result ≡ script_word word.now }
 {
@@ -56,7 +60,7 @@ fn script_word(word: &[u8]) -> Option<ScriptWord>
     None
 }
 
-/// The number of rounds that a word writes, at least one.
+// The number of rounds that a word writes, at least one.
 fn rounds(word: &[u8]) -> Option<u32>
     ensures value { result ≡ rounds_of word.now }
 {
@@ -64,7 +68,7 @@ fn rounds(word: &[u8]) -> Option<u32>
     if rounds >= 1 { Some(rounds) } else { None }
 }
 
-/// What the lines before leave: the network, whether a `run` or a `mix` has ended all flights, the scrambles, the firings.
+/// What the lines before leave: the network, whether a `run` or a `mix` has ended all flights, scrambles and firings.
 #[derive(Drop)]
 pub(crate) struct Progress {
     net: Network,
@@ -73,28 +77,36 @@ pub(crate) struct Progress {
     firings: u64,
 }
 
-/// The fault of a line that isn't one of a script's.
-fn form(number: u32) -> ScriptFault
-    ensures { result ≡ ScriptFault.At number Fault.Form }
+/// What a line is judged by: the program, the core at the start, and the number of the line.
+#[derive(Drop)]
+pub(crate) struct Sight<'a> {
+    program: &'a Unfolded,
+    core: &'a Core,
+    number: u32,
+}
+
+// The fault of a line that isn't one of a script's.
+fn form(sight: &Sight) -> ScriptFault
+    ensures { result ≡ ScriptFault.At sight.now.number Fault.Form }
 {
     ScriptFault::At {
-        line: number,
+        line: sight.number,
         fault: Fault::Form,
     }
 }
 
-/// Counts the firings of so many rounds, or the count that passes the limit.
+// Counts the firings of so many rounds, or the count that passes the limit.
 fn add_firings(progress: &mut Progress, rounds: u64) -> Result<(), u64>
     requires rounds { rounds < 2 ^ 33 }
     requires within { IsWithin (progress_of progress.old) }
     ensures ok { OnOk result (progress_of progress.new ≡ with_firings (progress_of progress.old) rounds) }
-    ensures allowed { OnOk result (firings_refusal (progress_of progress.old) rounds ≡ None) }
+    ensures allowed { OnOk result (firings_fault (progress_of progress.old) rounds ≡ None) }
     ensures within { OnOk result (IsWithin (progress_of progress.new)) }
-    ensures refused { IfErr result (λ count. firings_refusal (progress_of progress.old) rounds ≡ Some (OfFirings count)) }
+    ensures refused { IfErr result (λ n. firings_fault (progress_of progress.old) rounds ≡ Some (OfFirings n)) }
 {
     let devices = progress.net.devices().len() as u64;
     let firings = progress.firings + rounds * devices;
-    if firings > 1_000_000 {
+    if firings > MOST_FIRINGS {
         return Err(firings);
     }
     progress.firings = firings;
@@ -102,17 +114,17 @@ fn add_firings(progress: &mut Progress, rounds: u64) -> Result<(), u64>
     Ok(())
 }
 
-fn run(progress: &mut Progress, number: u32, words: &[&[u8]]) -> Result<Command, ScriptFault>
-    requires { IsWithin (progress_of progress.old) }
-    ensures ok { (U : Unfolding) (start : CoreState) → IfOk result (λ c. WhereAccepted (DoesCommand U (progress_of progress.old) (progress_of progress.new) (command_of c)) (line_judged U start (progress_of progress.old) (run_line (texts words.now)))) }
-    ensures within { OnOk result (IsWithin (progress_of progress.new)) }
-    ensures refused { (U : Unfolding) (start : CoreState) → IfErr result (HasRefusalAt number (line_judged U start (progress_of progress.old) (run_line (texts words.now)))) }
+// The rounds that words say.
+fn run(sight: &Sight, progress: &mut Progress, words: &[&[u8]]) -> Result<Command, ScriptFault>
+    requires { IsReady sight.now progress.old }
+    ensures ok { IfOk result (Leaves sight.now progress.old progress.new (run_line (texts words.now))) }
+    ensures refused { IfErr result (IsAtFault sight.now progress.old (run_line (texts words.now))) }
 {
     let [word] = words else {
-        return Err(form(number));
+        return Err(form(sight));
     };
     let Some(rounds) = rounds(word) else {
-        return Err(form(number));
+        return Err(form(sight));
     };
     match add_firings(progress, u64::from(rounds)) {
         Ok(()) => Ok(Command::Run(rounds)),
@@ -120,70 +132,70 @@ fn run(progress: &mut Progress, number: u32, words: &[&[u8]]) -> Result<Command,
     }
 }
 
-fn scramble(progress: &mut Progress, number: u32, words: &[&[u8]]) -> Result<Command, ScriptFault>
-    requires { IsWithin (progress_of progress.old) }
-    ensures ok { (U : Unfolding) (start : CoreState) → IfOk result (λ c. WhereAccepted (DoesCommand U (progress_of progress.old) (progress_of progress.new) (command_of c)) (line_judged U start (progress_of progress.old) (scramble_line (texts words.now)))) }
-    ensures within { OnOk result (IsWithin (progress_of progress.new)) }
-    ensures refused { (U : Unfolding) (start : CoreState) → IfErr result (HasRefusalAt number (line_judged U start (progress_of progress.old) (scramble_line (texts words.now)))) }
+// The rubbish that words say.
+fn scramble(sight: &Sight, progress: &mut Progress, words: &[&[u8]]) -> Result<Command, ScriptFault>
+    requires { IsReady sight.now progress.old }
+    ensures ok { IfOk result (Leaves sight.now progress.old progress.new (scramble_line (texts words.now))) }
+    ensures refused { IfErr result (IsAtFault sight.now progress.old (scramble_line (texts words.now))) }
 {
     let [word] = words else {
-        return Err(form(number));
+        return Err(form(sight));
     };
-    let Some(seed) = crate::words::number(word) else {
-        return Err(form(number));
+    let Some(seed) = number(word) else {
+        return Err(form(sight));
     };
-    if progress.scrambles >= 4 {
+    if progress.scrambles >= MOST_SCRAMBLES {
         return Err(ScriptFault::Scrambles(progress.scrambles + 1));
     }
     progress.scrambles += 1;
     Ok(Command::Scramble(seed))
 }
 
-fn show(number: u32, words: &[&[u8]]) -> Result<Command, ScriptFault>
+// The values, which no words follow.
+fn show(sight: &Sight, words: &[&[u8]]) -> Result<Command, ScriptFault>
     ensures ok { IfOk result (λ c. (show_line (texts words.now) ≡ Some ShowLine) × (command_of c ≡ ShowCommand)) }
-    ensures refused { IfErr result (λ f. (show_line (texts words.now) ≡ None) × (f ≡ ScriptFault.At number Fault.Form)) }
+    ensures none { OnErr result (show_line (texts words.now) ≡ None) }
+    ensures form { IfErr result (λ f. f ≡ ScriptFault.At sight.now.number Fault.Form) }
 {
     match words {
         [] => Ok(Command::Show),
-        _ => Err(form(number)),
+        _ => Err(form(sight)),
     }
 }
 
-/// The core whose flights count.
+// The core whose flights count.
 fn known(core: &Core, quiet: bool) -> Option<&Core>
     ensures { flies_in result ≡ flies (core_of core.now) quiet }
 {
     if quiet { None } else { Some(core) }
 }
 
-/// The edit that a line says, which is done to the network.
+// The edit that a line says, which is done to the network.
 fn do_line(
     alloc: Global,
-    program: &Unfolded,
-    core: &Core,
+    sight: &Sight,
     progress: &mut Progress,
-    number: u32,
     line: EditLine,
 ) -> Result<Edit, ScriptFault>
     requires { LineFits (line_of line) }
-    ensures says { IfOk result (λ e. IsEdit (unfolding_of program.now) (line_of line) (edit_of e)) }
-    ensures fits { IfOk result (λ e. EditFits (unfolding_of program.now) (edit_of e)) }
-    ensures allowed { OnOk result (edit_fault (unfolding_of program.now) (progress_of progress.old).net (flies (core_of core.now) (progress_of progress.old).quiet) (line_of line) ≡ None) }
+    ensures says { IfOk result (λ e. IsEdit (program_in sight.now) (line_of line) (edit_of e)) }
+    ensures fits { IfOk result (λ e. EditFits (program_in sight.now) (edit_of e)) }
+    ensures allowed { OnOk result (fault_in sight.now progress.old (line_of line) ≡ None) }
     ensures after { OnOk result (progress_of progress.new ≡ with_edit (progress_of progress.old) (line_of line)) }
-    ensures refused { IfErr result (IsFaultAt number (edit_fault (unfolding_of program.now) (progress_of progress.old).net (flies (core_of core.now) (progress_of progress.old).quiet) (line_of line))) }
+    ensures refused { IfErr result (IsFaultAt sight.now.number (fault_in sight.now progress.old (line_of line))) }
 {
-    let start = known(core, progress.quiet);
-    match judge(alloc, program, &mut progress.net, start, line) {
+    let start = known(sight.core, progress.quiet);
+    match judge(alloc, sight.program, &mut progress.net, start, line) {
         Ok(edit) => Ok(edit),
         Err(LineFault::Bad(fault)) => Err(ScriptFault::At {
-            line: number,
+            line: sight.number,
             fault,
         }),
         Err(LineFault::Memory) => Err(ScriptFault::Memory),
     }
 }
 
-/// Whether an edit may stand among firings.
+// Whether an edit may stand among firings.
 fn is_mixed(line: &EditLine) -> bool
     ensures { result ≡ is_some (if_mixed (line_of line.now)) }
 {
@@ -193,15 +205,15 @@ fn is_mixed(line: &EditLine) -> bool
     }
 }
 
-/// The edit among firings that words say.
+// The edit among firings that words say.
 fn mixed_line(
     alloc: Global,
     inputs: &[InputDecl],
     words: &[&[u8]],
 ) -> Result<Option<EditLine>, Memory>
     requires { length inputs.now < 2 ^ 32 }
-    ensures says { IfOk result (λ o. option_map line_of o ≡ option_map narrow_line (option_and_then if_mixed (edit_line (map input_of inputs.now) (texts words.now)))) }
-    ensures fits { IfOk result (λ o. IfSome o (λ l. LineFits (line_of l))) }
+    ensures says { IfOk result (ReadsLine (mixed_edit (map input_of inputs.now) (texts words.now))) }
+    ensures fits { IfOk result ReadFits }
 {
     let Some(line) = edit_line(alloc, inputs, words)? else {
         return Ok(None);
@@ -213,133 +225,113 @@ fn mixed_line(
     }
 }
 
-/// The edit that the words of a line say, as a command.
+// The edit that the words of a line say, as a command.
 fn edit_command(
     alloc: Global,
-    program: &Unfolded,
-    core: &Core,
+    sight: &Sight,
     progress: &mut Progress,
-    number: u32,
     words: &[&[u8]],
 ) -> Result<Command, ScriptFault>
-    requires declared { (progress_of progress.old).net.declared ≡ program.now.declared }
-    requires within { IsWithin (progress_of progress.old) }
-    ensures ok { IfOk result (λ c. WhereAccepted (DoesCommand (unfolding_of program.now) (progress_of progress.old) (progress_of progress.new) (command_of c)) (line_judged (unfolding_of program.now) (core_of core.now) (progress_of progress.old) (option_map DoLine (edit_line (progress_of progress.old).net.declared.inputs (texts words.now))))) }
-    ensures within { OnOk result (IsWithin (progress_of progress.new)) }
-    ensures refused { IfErr result (HasRefusalAt number (line_judged (unfolding_of program.now) (core_of core.now) (progress_of progress.old) (option_map DoLine (edit_line (progress_of progress.old).net.declared.inputs (texts words.now))))) }
+    requires { IsReady sight.now progress.old }
+    ensures ok { IfOk result (Leaves sight.now progress.old progress.new (edit_in progress.old words.now)) }
+    ensures refused { IfErr result (IsAtFault sight.now progress.old (edit_in progress.old words.now)) }
 {
-    let inputs = &program.declared().inputs;
+    let inputs = &sight.program.declared().inputs;
     let Some(line) = edit_line(alloc, inputs, words)? else {
-        return Err(form(number));
+        return Err(form(sight));
     };
-    match do_line(alloc, program, core, progress, number, line) {
+    match do_line(alloc, sight, progress, line) {
         Ok(edit) => Ok(Command::Edit(edit)),
         Err(fault) => Err(fault),
     }
 }
 
-/// So many rounds after an edit among firings.
+// So many rounds after an edit among firings.
 fn mix_line(
     alloc: Global,
-    program: &Unfolded,
-    core: &Core,
+    sight: &Sight,
     progress: &mut Progress,
-    number: u32,
     rounds: u32,
     words: &[&[u8]],
 ) -> Result<Command, ScriptFault>
-    requires declared { (progress_of progress.old).net.declared ≡ program.now.declared }
-    requires within { IsWithin (progress_of progress.old) }
-    ensures ok { IfOk result (λ c. WhereAccepted (DoesCommand (unfolding_of program.now) (progress_of progress.old) (progress_of progress.new) (command_of c)) (line_judged (unfolding_of program.now) (core_of core.now) (progress_of progress.old) (option_map (MixLine rounds) (option_and_then if_mixed (edit_line (progress_of progress.old).net.declared.inputs (texts words.now)))))) }
-    ensures within { OnOk result (IsWithin (progress_of progress.new)) }
-    ensures refused { IfErr result (HasRefusalAt number (line_judged (unfolding_of program.now) (core_of core.now) (progress_of progress.old) (option_map (MixLine rounds) (option_and_then if_mixed (edit_line (progress_of progress.old).net.declared.inputs (texts words.now)))))) }
+    requires { IsReady sight.now progress.old }
+    ensures ok { IfOk result (Leaves sight.now progress.old progress.new (mixed_in progress.old rounds words.now)) }
+    ensures refused { IfErr result (IsAtFault sight.now progress.old (mixed_in progress.old rounds words.now)) }
 {
-    let inputs = &program.declared().inputs;
+    let inputs = &sight.program.declared().inputs;
     let Some(line) = mixed_line(alloc, inputs, words)? else {
-        return Err(form(number));
+        return Err(form(sight));
     };
     if let Err(count) = add_firings(progress, u64::from(rounds) + 1) {
         return Err(ScriptFault::Firings(count));
     }
-    match do_line(alloc, program, core, progress, number, line) {
+    match do_line(alloc, sight, progress, line) {
         Ok(edit) => Ok(Command::Mix(rounds, edit)),
         Err(fault) => Err(fault),
     }
 }
 
-/// The edit among firings and the rounds that words say.
+// The edit among firings and the rounds that words say.
 fn mix(
     alloc: Global,
-    program: &Unfolded,
-    core: &Core,
+    sight: &Sight,
     progress: &mut Progress,
-    number: u32,
     words: &[&[u8]],
 ) -> Result<Command, ScriptFault>
-    requires declared { (progress_of progress.old).net.declared ≡ program.now.declared }
-    requires within { IsWithin (progress_of progress.old) }
-    ensures ok { IfOk result (λ c. WhereAccepted (DoesCommand (unfolding_of program.now) (progress_of progress.old) (progress_of progress.new) (command_of c)) (line_judged (unfolding_of program.now) (core_of core.now) (progress_of progress.old) (mix_line (progress_of progress.old).net.declared.inputs (texts words.now)))) }
-    ensures within { OnOk result (IsWithin (progress_of progress.new)) }
-    ensures refused { IfErr result (HasRefusalAt number (line_judged (unfolding_of program.now) (core_of core.now) (progress_of progress.old) (mix_line (progress_of progress.old).net.declared.inputs (texts words.now)))) }
+    requires { IsReady sight.now progress.old }
+    ensures ok { IfOk result (Leaves sight.now progress.old progress.new (mix_in progress.old words.now)) }
+    ensures refused { IfErr result (IsAtFault sight.now progress.old (mix_in progress.old words.now)) }
 {
     let [word, rest @ ..] = words else {
-        return Err(form(number));
+        return Err(form(sight));
     };
     let Some(rounds) = rounds(word) else {
-        return Err(form(number));
+        return Err(form(sight));
     };
-    mix_line(alloc, program, core, progress, number, rounds, rest)
+    mix_line(alloc, sight, progress, rounds, rest)
 }
 
-/// The command that the text of a line says.
+// The command that the text of a line says.
 fn read_command(
     alloc: Global,
-    program: &Unfolded,
-    core: &Core,
+    sight: &Sight,
     progress: &mut Progress,
-    number: u32,
     text: &[u8],
 ) -> Result<Command, ScriptFault>
-    requires declared { (progress_of progress.old).net.declared ≡ program.now.declared }
-    requires within { IsWithin (progress_of progress.old) }
-    ensures ok { IfOk result (λ c. WhereAccepted (DoesCommand (unfolding_of program.now) (progress_of progress.old) (progress_of progress.new) (command_of c)) (text_judged (unfolding_of program.now) (core_of core.now) (progress_of progress.old) text.now)) }
-    ensures within { OnOk result (IsWithin (progress_of progress.new)) }
-    ensures refused { IfErr result (HasRefusalAt number (text_judged (unfolding_of program.now) (core_of core.now) (progress_of progress.old) text.now)) }
+    requires { IsReady sight.now progress.old }
+    ensures ok { IfOk result (Leaves sight.now progress.old progress.new (text_in progress.old text.now)) }
+    ensures refused { IfErr result (IsAtFault sight.now progress.old (text_in progress.old text.now)) }
 {
     let words = words(alloc, text)?;
-    read_words(alloc, program, core, progress, number, &words)
+    read_words(alloc, sight, progress, &words)
 }
 
-/// The command that the words of a line say.
+// The command that the words of a line say.
 fn read_words(
     alloc: Global,
-    program: &Unfolded,
-    core: &Core,
+    sight: &Sight,
     progress: &mut Progress,
-    number: u32,
     words: &[&[u8]],
 ) -> Result<Command, ScriptFault>
-    requires declared { (progress_of progress.old).net.declared ≡ program.now.declared }
-    requires within { IsWithin (progress_of progress.old) }
-    ensures ok { IfOk result (λ c. WhereAccepted (DoesCommand (unfolding_of program.now) (progress_of progress.old) (progress_of progress.new) (command_of c)) (line_judged (unfolding_of program.now) (core_of core.now) (progress_of progress.old) (script_line (progress_of progress.old).net.declared.inputs (texts words.now)))) }
-    ensures within { OnOk result (IsWithin (progress_of progress.new)) }
-    ensures refused { IfErr result (HasRefusalAt number (line_judged (unfolding_of program.now) (core_of core.now) (progress_of progress.old) (script_line (progress_of progress.old).net.declared.inputs (texts words.now)))) }
+    requires { IsReady sight.now progress.old }
+    ensures ok { IfOk result (Leaves sight.now progress.old progress.new (line_in progress.old words.now)) }
+    ensures refused { IfErr result (IsAtFault sight.now progress.old (line_in progress.old words.now)) }
 {
     let [word, rest @ ..] = words else {
-        return Err(form(number));
+        return Err(form(sight));
     };
     let Some(word) = script_word(word) else {
-        return edit_command(alloc, program, core, progress, number, words);
+        return edit_command(alloc, sight, progress, words);
     };
     match word {
-        ScriptWord::Run => run(progress, number, rest),
-        ScriptWord::Mix => mix(alloc, program, core, progress, number, rest),
-        ScriptWord::Scramble => scramble(progress, number, rest),
-        ScriptWord::Show => show(number, rest),
+        ScriptWord::Run => run(sight, progress, rest),
+        ScriptWord::Mix => mix(alloc, sight, progress, rest),
+        ScriptWord::Scramble => scramble(sight, progress, rest),
+        ScriptWord::Show => show(sight, rest),
     }
 }
 
-/// The lines of a script that has no more than 4,096 of them.
+// The lines of a script that has no more of them than it may.
 fn read_lines(
     alloc: Global,
     program: &Unfolded,
@@ -348,7 +340,8 @@ fn read_lines(
 ) -> Result<Vec<Line>, ScriptFault>
     requires program { core.now.program ≡ program.now }
     requires short { length text.now < 2 ^ 32 }
-    ensures script { IfOk result (λ ls. AreCommands (unfolding_of program.now) (core_of core.now) text.now (map numbered ls.items)) }
+    ensures script { IfOk result (λ ls.
+        AreCommands (unfolding_of program.now) (core_of core.now) text.now (map numbered ls.items)) }
     ensures fits { IfOk result (λ ls. AllCommandsFit (unfolding_of program.now) (map numbered ls.items)) }
     ensures refused { IfErr result (RefusesLines (unfolding_of program.now) (core_of core.now) text.now) }
 {
@@ -361,7 +354,12 @@ fn read_lines(
         let line = line_text(front);
         number += 1;
         if !line.is_empty() {
-            let command = match read_command(alloc, program, core, &mut progress, number, line) {
+            let sight = Sight {
+                program,
+                core,
+                number,
+            };
+            let command = match read_command(alloc, &sight, &mut progress, line) {
                 Ok(command) => command,
                 Err(fault) => return Err(fault),
             };
@@ -372,7 +370,7 @@ fn read_lines(
     Ok(commands)
 }
 
-/// What there is before the first line.
+// What there is before the first line.
 fn start(alloc: Global, core: &Core) -> Result<Progress, Memory>
     ensures progress { IfOk result (λ p. progress_of p ≡ at_start (core_of core.now).net) }
     ensures core { OnOk result (IsCore core.now) }
@@ -386,8 +384,8 @@ fn start(alloc: Global, core: &Core) -> Result<Progress, Memory>
     })
 }
 
-/// The lines of a script with their commands: each is judged against the network that the lines before it leave. `Lines`
-/// comes first; else the first line is named that has a fault or passes a limit.
+/// The lines of a script with their commands: each is judged against the network that the lines before it leave.
+/// `Lines` comes first; else the first line is named that has a fault or passes a limit.
 pub fn read_script(
     alloc: Global,
     program: &Unfolded,
@@ -396,12 +394,13 @@ pub fn read_script(
 ) -> Result<Vec<Line>, ScriptFault>
     requires program { core.now.program ≡ program.now }
     requires short { length text.now < 2 ^ 32 }
-    ensures script { IfOk result (λ ls. IsScript (unfolding_of program.now) (core_of core.now) text.now (map numbered ls.items)) }
+    ensures script { IfOk result (λ ls.
+        IsScript (unfolding_of program.now) (core_of core.now) text.now (map numbered ls.items)) }
     ensures fits { IfOk result (λ ls. AllCommandsFit (unfolding_of program.now) (map numbered ls.items)) }
     ensures refused { IfErr result (RefusesScript (unfolding_of program.now) (core_of core.now) text.now) }
 {
     let count = count_lines(text);
-    if count > 4096 {
+    if count > MOST_LINES {
         return Err(ScriptFault::Lines(count as u32));
     }
     read_lines(alloc, program, core, text)

@@ -1,12 +1,12 @@
-//! The lines of scripts, and why a text is none.
+//! The lines of scripts, and the faults of a text.
 
 use fc_values::Memory;
 use firing_core::Edit;
 use std::alloc::{AllocError, AllocFailed};
 use topology::{JoinFault, NetFault};
 
-/// What a line of a script asks for: rounds; an edit; the rubbish of a number at every device; the values; or an edit among
-/// running firings, and then rounds.
+/// What a line of a script asks for: rounds; an edit; the rubbish of a number at every device; the values; or an edit
+/// among running firings, and then rounds.
 #[derive(Drop)]
 pub enum Command {
     Run(u32),
@@ -23,7 +23,7 @@ pub struct Line {
     pub command: Command,
 }
 
-/// Why a line is refused: it isn't one of the lines of its text, the network refuses its edit, or its value or kept list
+/// The fault of a line: it isn't one of the lines of its text, the network refuses its edit, or its value or kept list
 /// is none of an export.
 #[derive(Clone, Copy, Debug, PartialEq, Eq)]
 pub enum Fault {
@@ -32,7 +32,7 @@ pub enum Fault {
     Kept,
 }
 
-/// Why a text is refused: its first line that has a fault, by its number from 1; or how many lines, scrambles or firings it
+/// The fault of a text: its first line that has one, by its number from 1; or how many lines, scrambles or firings it
 /// has, or has up to the line that passes the limit. Or there was no memory.
 #[derive(Clone, Copy, Debug, PartialEq, Eq)]
 pub enum ScriptFault {
@@ -43,7 +43,7 @@ pub enum ScriptFault {
     Memory,
 }
 
-/// Why a line is refused, or want of memory.
+/// The fault of a line, or want of memory.
 #[derive(Clone, Copy, Debug, PartialEq, Eq)]
 pub(crate) enum LineFault {
     Bad(Fault),

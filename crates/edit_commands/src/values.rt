@@ -1,15 +1,17 @@
 //! Values, read from their texts without recursion.
 
-ghost use Rattle.std.specs.Prelude.{ℕ, List, Option, ◌≡◌, ◌<◌, ◌≤◌, ◌+◌, ◌^◌, length, map, IfOk, OnOk, IfSome, MatchOption, [], ◌∷◌, option_map, slice_index, slice_range, take};
+ghost use Rattle.std.specs.Prelude.{◌≡◌, ◌<◌, ◌≤◌, ◌+◌, ◌^◌, length, map, IfOk, OnOk, IfSome, ◌∷◌, option_map};
 ghost use Rattle.fc_values.specs.Values.{local_of};
-ghost use Rattle.edit_commands.specs.Values.{atom_of, value_of, value_with, opens, parts, closes, goes_on, step, part_since, reading, Closed};
+ghost use Rattle.edit_commands.specs.Values.{atom_of, value_of, value_with, part_since};
 ghost use Rattle.edit_commands.specs.EditLines.{values_of};
-ghost use Rattle.edit_commands.specs.Narrow.{narrow, stand_in, PartValue, atom_part, pair_part, part_of as part_view, open_of, since_of, reading_of, StandsBefore, ReadsTo};
+ghost use Rattle.edit_commands.specs.Narrow.{narrow, stand_in, atom_part, pair_part, part_of as part_view, half_of, open_of, since_of, StandsBefore, TakesHalf, ReadsOpening, ReadsComma, ReadsClosing, ReadsOther, ReadsByte};
 ghost use Rattle.edit_commands.specs.Code.{texts};
 
-use crate::words::number;
-use fc_values::{Local, Memory};
+use fc_values::{Local, Memory, number};
 use std::alloc::Global;
+
+/// The most numbers and truth values in a value of a type.
+pub const MOST_LEAVES: u32 = 8;
 
 /// A value, with how many numbers and truth values it has, or one that has too many for every type.
 #[derive(Drop)]
@@ -25,7 +27,7 @@ pub(crate) enum Since {
     Closed(Part),
 }
 
-/// The number or truth value that a text writes.
+// The number or truth value that a text writes.
 fn atom(text: &[u8]) -> Option<Local>
     ensures { option_map local_of result ≡ atom_of text.now }
 {
@@ -39,7 +41,7 @@ fn atom(text: &[u8]) -> Option<Local>
     Some(Local::Int(number))
 }
 
-/// The part that a text writes that is no pair.
+// The part that a text writes that is no pair.
 fn atom_part(text: &[u8]) -> Option<Part>
     ensures { option_map part_view result ≡ option_map atom_part (atom_of text.now) }
 {
@@ -47,7 +49,7 @@ fn atom_part(text: &[u8]) -> Option<Part>
     Some(Part::Small(value, 1))
 }
 
-/// The pair of two parts.
+// The pair of two parts.
 fn pair(alloc: Global, first: Part, second: Part) -> Result<Part, Memory>
     ensures { IfOk result (λ p. part_view p ≡ pair_part (part_view first) (part_view second)) }
 {
@@ -58,14 +60,14 @@ fn pair(alloc: Global, first: Part, second: Part) -> Result<Part, Memory>
         return Ok(Part::Wide);
     };
     let leaves = u32::from(m) + u32::from(n);
-    if leaves > 8 {
+    if leaves > MOST_LEAVES {
         return Ok(Part::Wide);
     }
     let value = Local::Pair(Box::new(alloc, a)?, Box::new(alloc, b)?);
     Ok(Part::Small(value, leaves as u8))
 }
 
-/// The part that stands since the last mark before an index of a text.
+// The part that stands since the last mark before an index of a text.
 fn part_since(text: &[u8], at: usize, since: Since) -> Option<Part>
     requires within { at ≤ length text.now }
     requires before { StandsBefore at since }
@@ -77,26 +79,26 @@ fn part_since(text: &[u8], at: usize, since: Since) -> Option<Part>
     }
 }
 
-/// Puts a bracket that is open behind others, with its first part where that is there.
+// Puts a bracket that is open behind others, with its first part where that is there.
 fn push_half(halves: &mut Vec<Option<Part>>, half: Option<Part>) -> Result<(), Memory>
-    ensures { OnOk result (open_of halves.new.items ≡ option_map part_view half ∷ open_of halves.old.items) }
+    ensures { OnOk result (open_of halves.new.items ≡ half_of half ∷ open_of halves.old.items) }
 {
     halves.push(half)?;
     Ok(())
 }
 
-/// Takes the last bracket that is open.
+// Takes the last bracket that is open.
 fn pop_half(halves: &mut Vec<Option<Part>>) -> Option<Option<Part>>
-    ensures { MatchOption result (open_of halves.old.items ≡ []) (λ half. open_of halves.old.items ≡ option_map part_view half ∷ open_of halves.new.items) }
+    ensures { TakesHalf halves.old.items halves.new.items result }
 {
     halves.pop()
 }
 
-/// A bracket opens at an index, where nothing stands since the last mark.
+// A bracket opens at an index, where nothing stands since the last mark.
 fn opens(halves: &mut Vec<Option<Part>>, since: Since, at: usize) -> Result<Option<Since>, Memory>
     requires room { at < 2 ^ 63 }
     requires before { StandsBefore at since }
-    ensures reads { IfOk result (λ o. ReadsTo (at + 1) halves.new.items o (λ text. opens (open_of halves.old.items) (since_of text at since))) }
+    ensures reads { IfOk result (ReadsOpening at since halves.old.items halves.new.items) }
     ensures before { IfOk result (λ o. IfSome o (StandsBefore (at + 1))) }
 {
     let Since::Bytes(start) = since else {
@@ -109,14 +111,14 @@ fn opens(halves: &mut Vec<Option<Part>>, since: Since, at: usize) -> Result<Opti
     Ok(Some(Since::Bytes(at + 1)))
 }
 
-/// A comma comes at an index, behind a first part.
+// A comma comes at an index, behind a first part.
 fn parts(
     halves: &mut Vec<Option<Part>>,
     part: Option<Part>,
     at: usize,
 ) -> Result<Option<Since>, Memory>
     requires { at < 2 ^ 63 }
-    ensures reads { IfOk result (λ o. ReadsTo (at + 1) halves.new.items o (λ text. parts (open_of halves.old.items) (option_map part_view part))) }
+    ensures reads { IfOk result (ReadsComma at part halves.old.items halves.new.items) }
     ensures before { IfOk result (λ o. IfSome o (StandsBefore (at + 1))) }
 {
     let Some(half) = pop_half(halves) else {
@@ -132,13 +134,13 @@ fn parts(
     Ok(Some(Since::Bytes(at + 1)))
 }
 
-/// A bracket closes behind a second part.
+// A bracket closes behind a second part.
 fn closes(
     alloc: Global,
     halves: &mut Vec<Option<Part>>,
     part: Option<Part>,
 ) -> Result<Option<Part>, Memory>
-    ensures { IfOk result (λ o. option_map (λ p. reading (open_of halves.new.items) (Closed (part_view p))) o ≡ closes pair_part (open_of halves.old.items) (option_map part_view part)) }
+    ensures { IfOk result (ReadsClosing part halves.old.items halves.new.items) }
 {
     let Some(half) = pop_half(halves) else {
         return Ok(None);
@@ -153,10 +155,10 @@ fn closes(
     Ok(Some(both))
 }
 
-/// Any other byte goes on with an atom.
+// Any other byte goes on with an atom.
 fn goes_on(since: Since, at: usize) -> Option<Since>
     requires { StandsBefore at since }
-    ensures reads { (os : List (Option PartValue)) (text : List ℕ) → at < length text → option_map (λ s. reading os (since_of text (at + 1) s)) result ≡ goes_on os (since_of text at since) (slice_index text at) }
+    ensures reads { ReadsOther at since result }
     ensures before { IfSome result (StandsBefore (at + 1)) }
 {
     let Since::Bytes(start) = since else {
@@ -165,7 +167,7 @@ fn goes_on(since: Since, at: usize) -> Option<Since>
     Some(Since::Bytes(start))
 }
 
-/// The next byte of a text.
+// The next byte of a text.
 fn step(
     alloc: Global,
     halves: &mut Vec<Option<Part>>,
@@ -175,7 +177,7 @@ fn step(
 ) -> Result<Option<Since>, Memory>
     requires within { at < length text.now }
     requires before { StandsBefore at since }
-    ensures reads { IfOk result (λ o. option_map (reading_of text.now (at + 1) halves.new.items) o ≡ step atom_part pair_part (reading_of text.now at halves.old.items since) (slice_index text.now at)) }
+    ensures reads { IfOk result (ReadsByte text.now at since halves.old.items halves.new.items) }
     ensures before { IfOk result (λ o. IfSome o (StandsBefore (at + 1))) }
 {
     let byte = text[at];
@@ -192,7 +194,7 @@ fn step(
     Ok(goes_on(since, at))
 }
 
-/// The part that a text writes, if it writes a value.
+// The part that a text writes, if it writes a value.
 #[tactic(auto, unfolding(crate::specs::Values::value_with, crate::specs::Narrow::open_of))]
 fn part_of(alloc: Global, text: &[u8]) -> Result<Option<Part>, Memory>
     ensures { IfOk result (λ p. option_map part_view p ≡ value_with atom_part pair_part text.now) }
@@ -223,7 +225,7 @@ pub(crate) fn read_value(alloc: Global, text: &[u8]) -> Result<Option<Local>, Me
     }
 }
 
-/// A pair that fits no type of a program.
+// A pair that fits no type of a program.
 fn stand_in(alloc: Global) -> Result<Local, Memory>
     ensures { IfOk result (λ v. local_of v ≡ stand_in) }
 {
@@ -234,7 +236,8 @@ fn stand_in(alloc: Global) -> Result<Local, Memory>
 
 /// The values that words write, if each writes one.
 pub(crate) fn read_values(alloc: Global, words: &[&[u8]]) -> Result<Option<Vec<Local>>, Memory>
-    ensures { IfOk result (λ vs. option_map (λ v. map local_of v.items) vs ≡ option_map (map narrow) (values_of (texts words.now))) }
+    ensures { IfOk result (λ vs.
+        option_map (λ v. map local_of v.items) vs ≡ option_map (map narrow) (values_of (texts words.now))) }
 {
     let mut values = Vec::new(alloc);
     for word in words {

@@ -11,9 +11,6 @@ AddsLines {X} text line = (xs : List X) (x : X) → text (xs ++ x ∷ []) ≡ te
 pub record Written {X : Type 0} (text : List X → List ℕ) (items : List X) (before out : List ℕ) (n : ℕ) : Type 0 where
   pub so_far : out ≡ before ++ text (take n items)
 
-pub written_none : {X : Type 0} (text : List X → List ℕ) (items : List X) (before out : List ℕ) → text [] ≡ [] → out ≡ before → Written text items before out 0
-written_none text items before out none is = record { so_far = is ∙ sym (append-nil before) ∙ ap (λ l. before ++ l) (sym none) }
-
 pub written_more : {X : Type 0} (text : List X → List ℕ) (line : X → List ℕ) (items : List X) (before out new : List ℕ) (n : ℕ) (x : X) → AddsLines text line → Written text items before out n → n < length items → x ≡ get_or items n x → new ≡ out ++ line x → Written text items before new (n + 1)
 written_more text line items before out new n x adds w more is grown =
     let next : take (n + 1) items ≡ take n items ++ x ∷ [] = take_more items n x more ∙ ap (λ y. take n items ++ y ∷ []) (sym is) in
@@ -26,10 +23,3 @@ written_more text line items before out new n x adds w more is grown =
 
 pub written_all : {X : Type 0} (text : List X → List ℕ) (items : List X) (before out : List ℕ) (n : ℕ) → Written text items before out n → length items ≤ n → out ≡ before ++ text items
 written_all text items before out n w end = w.so_far ∙ ap (λ l. before ++ text l) (take_all n items end)
-
--- lines of items that are seen as others
-pub mapped_lines : {X Y : Type 0} (view : X → Y) (line : Y → List ℕ) → AddsLines (λ (xs : List X). flat_map line (map view xs)) (λ x. line (view x))
-mapped_lines view line xs x =
-    ap (flat_map line) (map-append view xs (x ∷ []))
-    ∙ flat_map-append line (map view xs) (view x ∷ [])
-    ∙ ap (λ l. flat_map line (map view xs) ++ l) (append-nil (line (view x)))

@@ -2,6 +2,7 @@
 use Rattle.std.specs.Prelude.{ℕ, zero, suc, List, [], ◌∷◌, ◌++◌, flat_map, codes}
 use Rattle.std.specs.Fmt.{decimal}
 use Rattle.fc_values.specs.Types.{Input}
+use Rattle.topology.specs.Networks.{NetDevice}
 use Rattle.firing_core.specs.Entries.{EditValue, LinkEdit, UnlinkEdit, SetEdit, PokeEdit, JoinEdit, LeaveEdit, EntryValue, BeginEntry, EndEntry, IdleEntry, EditEntry}
 use Rattle.value_trees.specs.KeptLists.{kept_only}
 use Rattle.report.specs.Texts.{after_space, after_spaces}
@@ -12,14 +13,19 @@ input_name [] n = []
 input_name (i ∷ is) zero = i.name
 input_name (i ∷ is) (suc n) = input_name is n
 
+-- the join of a device
+abbrev pub join_text : NetDevice → List ℕ
+join_text x = codes "join " ++ decimal x.id ++ after_spaces x.inputs
+
 -- an edit, where these inputs are declared: `link A B W`, `unlink A B`, `set D NAME V`, `poke D V K1 K2 ..` with the
 -- kept values in preorder, `join D V1 V2 ..` with the values of the inputs in declared order, and `leave D`
 abbrev pub edit_text : List Input → EditValue → List ℕ
-edit_text inputs (LinkEdit a b weight) = codes "link " ++ decimal a ++ codes " " ++ decimal b ++ codes " " ++ decimal weight
+edit_text inputs (LinkEdit a b weight) =
+    codes "link " ++ decimal a ++ codes " " ++ decimal b ++ codes " " ++ decimal weight
 edit_text inputs (UnlinkEdit a b) = codes "unlink " ++ decimal a ++ codes " " ++ decimal b
 edit_text inputs (SetEdit d i v) = codes "set " ++ decimal d ++ codes " " ++ input_name inputs i ++ after_space v
 edit_text inputs (PokeEdit d e) = codes "poke " ++ decimal d ++ after_space e.value ++ after_spaces (kept_only e.slots)
-edit_text inputs (JoinEdit x) = codes "join " ++ decimal x.id ++ after_spaces x.inputs
+edit_text inputs (JoinEdit x) = join_text x
 edit_text inputs (LeaveEdit d) = codes "leave " ++ decimal d
 
 -- the line of an entry

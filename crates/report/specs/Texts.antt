@@ -36,7 +36,8 @@ export_value export = export.value
 
 -- the lines of a core's devices, which rise
 abbrev pub values_text : Core → List ℕ
-values_text core = flat_map (λ (d : NetDevice). device_line d.id (option_map export_value (core.exports d.id))) core.net.devices
+values_text core =
+    flat_map (λ (d : NetDevice). device_line d.id (option_map export_value (core.exports d.id))) core.net.devices
 
 -- the lines of a field's devices, which rise
 abbrev pub field_text : Entries → List ℕ

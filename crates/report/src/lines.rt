@@ -29,7 +29,8 @@ fn write_line(
     device: u32,
     held: Option<&Local>,
 ) -> Result<(), Memory>
-    ensures { OnOk result (out.new.items ≡ out.old.items ++ device_line device (option_map (λ v. local_of v.now) held.entry)) }
+    ensures { OnOk result (
+        out.new.items ≡ out.old.items ++ device_line device (option_map (λ v. local_of v.now) held.entry)) }
 {
     write_number(alloc, out, device)?;
     out.push(b' ')?;

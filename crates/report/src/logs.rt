@@ -1,13 +1,13 @@
 //! The lines of logs.
 
-ghost use Rattle.std.specs.Prelude.{◌≡◌, ◌++◌, IfOk, OnOk, OnErr, codes, map};
-ghost use Rattle.std.specs.Fmt.{decimal};
+ghost use Rattle.std.specs.Prelude.{◌≡◌, ◌++◌, IfOk, OnOk, OnErr, map};
 ghost use Rattle.fc_values.specs.Exports.{slots_of};
 ghost use Rattle.fc_values.specs.Types.{input_of};
 ghost use Rattle.fc_values.specs.Values.{local_of};
+ghost use Rattle.topology.specs.Networks.{device_of};
 ghost use Rattle.firing_core.specs.Entries.{edit_of, entries_of, entry_of};
 ghost use Rattle.value_trees.specs.KeptLists.{kept_only};
-ghost use Rattle.report.specs.Logs.{edit_text, entry_line, input_name, log_text};
+ghost use Rattle.report.specs.Logs.{edit_text, entry_line, input_name, join_text, log_text};
 ghost use Rattle.report.specs.Texts.{after_spaces};
 
 use crate::writing::write_after_space;
@@ -18,7 +18,8 @@ use topology::Device;
 
 /// Appends the line `log` and a line for each entry of a book's log, or leaves `out` as it was.
 pub fn entries(alloc: Global, out: &mut Vec<u8>, book: &Book) -> Result<(), Memory>
-    ensures ok { OnOk result (out.new.items ≡ out.old.items ++ log_text book.now.program.declared.inputs (entries_of book.now.log)) }
+    ensures ok { OnOk result (
+        out.new.items ≡ out.old.items ++ log_text book.now.program.declared.inputs (entries_of book.now.log)) }
     ensures err { OnErr result (out.new.items ≡ out.old.items) }
 {
     let lines = log_lines(alloc, &book.program().declared().inputs, book.log())?;
@@ -97,7 +98,7 @@ fn write_edit(
 
 // Appends the join of a device.
 fn write_join(alloc: Global, out: &mut Vec<u8>, device: &Device) -> Result<(), Memory>
-    ensures { OnOk result (out.new.items ≡ out.old.items ++ codes "join " ++ decimal device.now.id ++ after_spaces (map local_of device.now.inputs.items)) }
+    ensures { OnOk result (out.new.items ≡ out.old.items ++ join_text (device_of device.now)) }
 {
     let id = device.id;
     out.extend_from_slice(format!(in alloc; "join {id}")?.as_bytes())?;

@@ -17,8 +17,8 @@ lines-preserved c =
 pub lines-preserved-in_ok-push : goal.lines-preserved-in_ok-push
 lines-preserved-in_ok-push c =
     let cut = cut_at _ _ _ _ _ _ c.is_empty.ensures c.lines-test.true c.first_line.ensures.size c.first_line.ensures.some c.split_at.ensures.front c.split_at.ensures.back c.line_text-line.ensures in
-    read (unfolding_of c.args.program.now) (core_of c.args.core.now) c.args.text.now _ _ _ _ _ _ _ c.lines.invariant cut c.is_empty-in-lines.result c.is_empty-in-lines.ensures _ _ _ c.if-not-is_empty.true c.in-Ok.ensures.ok
-    c.in-Ok.ensures.within (numbered_push _ _ _ c.in_ok-push.ensures.items)
+    read (unfolding_of c.args.program.now) (core_of c.args.core.now) c.args.text.now _ _ _ _ _ _ _ c.lines.invariant cut c.is_empty-in-lines.result c.is_empty-in-lines.ensures _ _ _ c.if-not-is_empty.true c.in-Ok.ensures.ok.does
+    c.in-Ok.ensures.ok.within (numbered_push _ _ _ c.in_ok-push.ensures.items)
 
 pub returns-in-Err-clause-refused : goal.returns-in-Err-clause-refused
 returns-in-Err-clause-refused c =
