@@ -173,8 +173,8 @@ module _ (lists : ListsHaveExports) (U : Unfolding) where
     said : AreSaid (IsEntry U) ls entries
     fits : LogFits U (map value_in entries)
 
-  all_lines : (ms ls : List (ℕ × LogLine)) → AllLines {R = Fault} ms ≡ AllLines ls → ms ≡ ls
-  all_lines ms ls e = cc
+  all_lines : (r : Lines Fault LogLine) (ms ls : List (ℕ × LogLine)) → r ≡ AllLines ms → r ≡ AllLines ls → ms ≡ ls
+  all_lines r ms ls e f = cc
 
   one_line : (n : Network) (k : ℕ) (o : Option LogLine) (rest : LogLine → Lines Fault LogLine) → IfSome o MayBe
       → ((l : LogLine) (ms : List (ℕ × LogLine)) → rest l ≡ AllLines ms → Entries ms) → (ls : List (ℕ × LogLine)) → and_lines k (text_judged U n o) rest ≡ AllLines ls → Entries ls
@@ -186,13 +186,14 @@ module _ (lists : ListsHaveExports) (U : Unfolding) where
       by_lines none (AllLines ms) h g =
           let x = an_entry n l m none in
           let xs = ih l ms h in
-          subst Entries (all_lines ((k, l) ∷ ms) ls g) (record { entries = (k, x.entry) ∷ xs.entries; said = (refl, x.says, xs.said); fits = (x.fits, xs.fits) })
+          subst Entries (all_lines (AllLines ((k, l) ∷ ms)) ((k, l) ∷ ms) ls refl g) (record { entries = (k, x.entry) ∷ xs.entries; said = (refl, x.says, xs.said); fits = (x.fits, xs.fits) })
+
       by_fault : (f : Option Fault) → line_fault U n l ≡ f → and_lines k (unless f l) rest ≡ AllLines ls → Entries ls
       by_fault (Some f) h g = absurd cc
       by_fault None h g = by_lines h (rest l) refl g
 
   entries_from : (n : Network) (k : ℕ) (lines : List (List ℕ)) (ls : List (ℕ × LogLine)) → lines_from (line_judged U) after_line n k lines ≡ AllLines ls → Entries ls
-  entries_from n k [] ls e = subst Entries (all_lines [] ls e) (record { entries = []; said = tt; fits = tt })
+  entries_from n k [] ls e = subst Entries (all_lines (AllLines []) [] ls refl e) (record { entries = []; said = tt; fits = tt })
   entries_from n k (line ∷ lines) ls e = by_test (is_empty line) (entries_from n (k + 1) lines) (λ l. entries_from (after_line n l) (k + 1) lines) e
     where
       by_test : (b : Bool) → ((ms : List (ℕ × LogLine)) → lines_from (line_judged U) after_line n (k + 1) lines ≡ AllLines ms → Entries ms)

@@ -229,11 +229,11 @@ module _ (U : Unfolding) (start : Core) where
       by_lines : line_fault U start p l ≡ None → (r : Lines LineFault ScriptLine) → rest l ≡ r → (ds : List (ℕ × CommandValue)) → SaidBy (IsCommand U) ds (onto (k, l) r) → AllCommandsFit U ds → AreJudged U start p ds
       by_lines none (StopsAt n x) e ds t g = absurd t
       by_lines none (AllLines ls) e [] t g = absurd t
-      by_lines none (AllLines ls) e (d ∷ ds) t g =
-          (
-            may_come U start p l d.1 m none t.1 g.0,
-            subst (λ q. AreJudged U start q ds) (same_after U p l d.1 t.1) (ih l ds (subst (SaidBy (IsCommand U) ds) (sym e) t.2) g.1),
-          )
+      by_lines none (AllLines ls) e (d ∷ ds) t g = (
+        may_come U start p l d.1 m none t.1 g.0,
+        subst (λ q. AreJudged U start q ds) (same_after U p l d.1 t.1) (ih l ds (subst (SaidBy (IsCommand U) ds) (sym e) t.2) g.1),
+      )
+
       by_fault : (r : Option LineFault) → line_fault U start p l ≡ r → SaidBy (IsCommand U) cs (and_lines k (unless r l) rest) → AreJudged U start p cs
       by_fault (Some x) e t = absurd t
       by_fault None e t = by_lines e (rest l) refl cs t f
