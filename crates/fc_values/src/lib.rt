@@ -19,6 +19,7 @@ pub use exports::{Export, Slot, Slots, copy_export};
 pub use laws::{builtin_has_value, equal_says_same, fields_are_read, least_and_greatest};
 pub use memory::Memory;
 pub use names::{Word, find_word, is_digit, is_letter, is_name, is_name_byte};
+pub use operators::{add_cut, multiply_cut};
 pub use types::{Declared, InputDecl, InputTy, LocalTy, Name, Ty, copy_declared, inner};
 pub use values::{FieldVal, Local, Value, blank_of, compare, copy, copy_locals, fits, overwrite};
 

@@ -134,7 +134,7 @@ pub fn add_cut(a: u32, b: u32, ceiling: u32) -> u32
 }
 
 /// The lesser of the ceiling and a product.
-fn multiply_cut(a: u32, b: u32, ceiling: u32) -> u32
+pub fn multiply_cut(a: u32, b: u32, ceiling: u32) -> u32
     ensures { result ≡ min ceiling (a * b) }
 {
     let product = u64::from(a) * u64::from(b);

@@ -1,0 +1,10 @@
+mod Orders
+mod Operators
+mod Hoods
+mod Forms
+mod Pointwise
+mod Tables
+mod Values
+mod Claims
+mod Picked
+mod Root

@@ -1,0 +1,64 @@
+-- Which ranges a builtin takes.
+use Rattle.std.specs.Prelude.{ℕ, Bool, true, false, ◌≡◌, ◌<◌, List, [], ◌∷◌, map, slice_index_or as get_or}
+use Rattle.fc_values.specs.declared.builtins.Builtin.{Builtin}
+use Rattle.fc_values.specs.declared.builtins.Builtin.TheVariants as op
+use Rattle.interval_facts.specs.declared.ranges.Range.{Range}
+use Rattle.interval_facts.specs.Ranges.{RangeValue, BoolRange, range_value}
+
+abbrev pub ranges_in : List Range → List RangeValue
+ranges_in rs = map range_value rs
+
+-- the ranges of these places
+abbrev pub picked : List Range → List ℕ → List RangeValue
+picked rs [] = []
+picked rs (k ∷ ks) = get_or (ranges_in rs) k BoolRange ∷ picked rs ks
+
+-- these places are there
+abbrev pub AreThere : ℕ → List ℕ → Type 0
+AreThere n [] = Unit {0}
+AreThere n (k ∷ ks) = (k < n) × AreThere n ks
+
+-- how many arguments a builtin takes
+abbrev pub arity : Builtin → ℕ
+arity op.Add = 2
+arity op.Sub = 2
+arity op.Mul = 2
+arity op.Rise = 3
+arity op.Min = 2
+arity op.Max = 2
+arity op.Less = 2
+arity op.Equal = 2
+arity op.And = 2
+arity op.Or = 2
+arity op.Not = 1
+arity op.Mux = 3
+arity op.Pair = 2
+arity op.Fst = 1
+arity op.Snd = 1
+arity op.MinHoodLoc = 2
+arity op.MaxHoodLoc = 2
+arity op.SumHood = 1
+arity op.AnyHood = 1
+arity op.AllHood = 1
+
+-- the builtins with one argument, with two and with three, whose value's range depends on those of the arguments
+abbrev pub IsComponent : Builtin → Type 0
+IsComponent op.Fst = Unit {0}
+IsComponent op.Snd = Unit {0}
+IsComponent _ = ⊥
+
+abbrev pub IsOfTwo : Builtin → Type 0
+IsOfTwo op.Add = Unit {0}
+IsOfTwo op.Sub = Unit {0}
+IsOfTwo op.Mul = Unit {0}
+IsOfTwo op.Min = Unit {0}
+IsOfTwo op.Max = Unit {0}
+IsOfTwo op.Pair = Unit {0}
+IsOfTwo op.MinHoodLoc = Unit {0}
+IsOfTwo op.MaxHoodLoc = Unit {0}
+IsOfTwo _ = ⊥
+
+abbrev pub IsOfThree : Builtin → Type 0
+IsOfThree op.Rise = Unit {0}
+IsOfThree op.Mux = Unit {0}
+IsOfThree _ = ⊥
