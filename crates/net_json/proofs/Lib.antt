@@ -4,7 +4,6 @@ mod MemberNames
 mod Risings
 mod Gathering
 mod Limits
-mod Linked
 mod Threes
 mod Takes
 mod TookTrees

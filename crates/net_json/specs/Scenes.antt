@@ -6,8 +6,7 @@ use Rattle.serde_json.specs.Find.{get, as_array}
 use Rattle.serde_json.specs.Read.{read}
 use Rattle.fc_values.specs.Trees.{Copy}
 use Rattle.fc_nodes.specs.Program.{Unfolding}
-use Rattle.topology.specs.Networks.{Network}
-use Rattle.topology.specs.Changes.{made}
+use Rattle.topology.specs.Networks.{Network, network_of}
 use Rattle.net_json.specs.Judging.{Judged, Accepted, Refused, NotJson, Misshaped, and_then, given, require, at_member}
 use Rattle.net_json.specs.Reading.{both, has_size}
 use Rattle.net_json.specs.Devices.{devices_judged}
@@ -68,7 +67,7 @@ scene_form d =
 abbrev pub network_judged : Unfolding → Items → Items → Judged Network
 network_judged U devices links =
     and_then (devices_judged U.declared.inputs (scene_path (codes "devices")) devices) (λ ds.
-    links_judged (scene_path (codes "links")) (made U.declared ds) links)
+    links_judged (scene_path (codes "links")) (network_of U.declared ds []) links)
 
 -- a scene: its form, then devices, links, rows and copies
 abbrev pub scene_judged : Unfolding → Data → Judged SceneValue

@@ -6,16 +6,15 @@ ghost use Rattle.serde_json.specs.Find.{get};
 ghost use Rattle.fc_values.specs.Types.{input_of};
 ghost use Rattle.fc_values.specs.Values.{local_of};
 ghost use Rattle.fc_values.specs.Inputs.{InputsFit};
-ghost use Rattle.topology.specs.Inputs.{input_fault};
 ghost use Rattle.net_json.specs.Judging.{Accepted, RefusedWith, at_member};
 ghost use Rattle.net_json.specs.Inputs.{has_names, has_exactly, input_judged, values_judged, inputs_judged};
 
 use crate::types::{JsonFault, Path};
 use crate::values::{has_size, local};
-use fc_values::{InputDecl, InputTy, Local, Name};
+use fc_values::{InputDecl, Local, Name};
 use serde_json::Value;
 use std::alloc::Global;
-use topology::NetFault;
+use topology::input_fault;
 
 /// The member of a declared name.
 fn member<'v>(value: &'v Value, name: &Name) -> Option<&'v Value>
@@ -38,23 +37,6 @@ fn has_names(inputs: &[InputDecl], value: &Value) -> bool
         }
     }
     true
-}
-
-/// Why a value is none of an input.
-fn input_fault(ty: InputTy, value: &Local) -> Option<NetFault>
-    ensures { result ≡ input_fault ty (local_of value.now) }
-{
-    match (ty, value) {
-        (InputTy::Truth, Local::Bool(_)) => None,
-        (InputTy::Whole(least, greatest), Local::Int(n)) => {
-            if least <= *n && *n <= greatest {
-                None
-            } else {
-                Some(NetFault::InputRange)
-            }
-        }
-        _ => Some(NetFault::InputType),
-    }
 }
 
 /// The value of an input of an object.

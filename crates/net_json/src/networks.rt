@@ -1,26 +1,24 @@
 //! The network of a scene.
 
-ghost use Rattle.std.specs.Prelude.{◌≡◌, ◌≤◌, IfOk, IfErr, length, map};
+ghost use Rattle.std.specs.Prelude.{◌≡◌, ◌≤◌, IfOk, IfErr, length, map, []};
 ghost use Rattle.std.specs.List.{All};
 ghost use Rattle.serde_json.specs.View.{items_view};
 ghost use Rattle.fc_values.specs.Types.{declarations_of};
 ghost use Rattle.fc_values.specs.Fields.{Rises};
 ghost use Rattle.fc_nodes.specs.Program.{unfolding_of};
-ghost use Rattle.topology.specs.Changes.{made};
-ghost use Rattle.topology.specs.Networks.{device_of, numbers};
+ghost use Rattle.topology.specs.Networks.{device_of, network_of, numbers};
 ghost use Rattle.net_json.specs.Judging.{Accepted, RefusedWith};
 ghost use Rattle.net_json.specs.SceneCode.{DeviceFits};
 ghost use Rattle.net_json.specs.Scenes.{network_judged};
-ghost use Rattle.net_json.specs.declared.types.JsonFault.TheVariants as fault;
 
 use crate::devices::read_devices;
 use crate::links::read_links;
 use crate::types::{JsonFault, Path};
 use fc_nodes::Unfolded;
-use fc_values::{Declared, copy_declared};
+use fc_values::{Declared, Memory, copy_declared};
 use serde_json::Value;
 use std::alloc::Global;
-use topology::{Device, MakeFault, Network};
+use topology::{Device, Draft, Network};
 
 /// The network of a scene: its devices, then its links.
 #[tactic(auto, using(crate::proofs::Judgements::refused_next))]
@@ -40,28 +38,18 @@ pub(crate) fn read_network(
     let declared = copy_declared(alloc, program.declared())?;
     let place = root.member(alloc, b"devices")?;
     let devices = read_devices(alloc, &declared.inputs, &place, devices)?;
-    let net = new_network(alloc, declared, devices)?;
+    let draft = new_draft(alloc, declared, devices)?;
     let place = root.member(alloc, b"links")?;
-    read_links(alloc, net, &place, links)
+    read_links(alloc, draft, &place, links)
 }
 
-/// The network of devices that make one.
-fn new_network(
-    alloc: Global,
-    declared: Declared,
-    devices: Vec<Device>,
-) -> Result<Network, JsonFault>
+// The draft of devices that make a network, without links.
+fn new_draft(alloc: Global, declared: Declared, devices: Vec<Device>) -> Result<Draft, Memory>
     requires some { 1 ≤ length devices.items }
     requires few { length devices.items ≤ 1024 }
     requires rising { Rises (numbers (map device_of devices.items)) }
     requires fit { All (λ d. DeviceFits (declarations_of declared).inputs (device_of d)) devices.items }
-    ensures ok { IfOk result (λ n. n ≡ made (declarations_of declared) (map device_of devices.items)) }
-    ensures memory { IfErr result (λ f. f ≡ fault.Memory) }
+    ensures { IfOk result (λ n. n ≡ network_of (declarations_of declared) (map device_of devices.items) []) }
 {
-    match Network::new(alloc, declared, devices) {
-        Ok(net) => Ok(net),
-        Err(MakeFault::Memory) => Err(JsonFault::Memory),
-        Err(MakeFault::Net(_, _)) => unreachable!(),
-        Err(MakeFault::Devices(_)) => unreachable!(),
-    }
+    Draft::new(alloc, declared, devices)
 }

@@ -6,7 +6,7 @@ use Rattle.net_json.proofs.links.read_links.Given as goal
 
 abbrev pub invariant-loop-i : goal.invariant-loop-i
 invariant-loop-i l = record {
-  whole : in_turn link_judged l.path.text.items l.fn.net 0 (items_of (map view l.items))
-      ≡ in_turn link_judged l.path.text.items l.net l.i (items_of (map view (drop l.i l.items)));
-  declared : l.net.declared ≡ l.fn.net.declared;
+  whole : in_turn link_judged l.path.text.items l.fn.draft 0 (items_of (map view l.items))
+      ≡ in_turn link_judged l.path.text.items l.draft l.i (items_of (map view (drop l.i l.items)));
+  declared : l.draft.declared ≡ l.fn.draft.declared;
 }

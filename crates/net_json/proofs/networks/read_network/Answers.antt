@@ -4,8 +4,7 @@ use Rattle.std.proofs.lemmas.Result.{err_from_is_err_and}
 use Rattle.serde_json.specs.View.{items_view}
 use Rattle.fc_values.specs.Types.{Input, Declarations, input_of}
 use Rattle.fc_nodes.specs.Program.{Unfolding, unfolding_of}
-use Rattle.topology.specs.Networks.{NetDevice, Network, device_of}
-use Rattle.topology.specs.Changes.{made}
+use Rattle.topology.specs.Networks.{NetDevice, Network, device_of, network_of}
 use Rattle.serde_json.specs.Data.{Items}
 use Rattle.net_json.specs.Judging.{Judged, Accepted, and_then, at_member, RefusedWith}
 use Rattle.net_json.specs.Devices.{devices_judged}
@@ -18,10 +17,10 @@ use Rattle.net_json.proofs.networks.read_network.Goals as goal
 devices_are : (is js : List Input) (root path : List ℕ) (ds : Items) → is ≡ js → root ≡ [] → path ≡ at_member root (codes "devices") → devices_judged js (scene_path (codes "devices")) ds ≡ devices_judged is path ds
 devices_are is js root path ds e f g = ap (λ (ks : List Input). devices_judged ks (scene_path (codes "devices")) ds) (sym e) ∙ ap (λ (p : List ℕ). devices_judged is p ds) (sym (g ∙ ap (λ (r : List ℕ). at_member r (codes "devices")) f))
 
-links_are : (U : Unfolding) (root path : List ℕ) (ds ls : Items) (ns : List NetDevice) (n : Network) → root ≡ [] → path ≡ at_member root (codes "links") → devices_judged U.declared.inputs (scene_path (codes "devices")) ds ≡ Accepted ns → n ≡ made U.declared ns
+links_are : (U : Unfolding) (root path : List ℕ) (ds ls : Items) (ns : List NetDevice) (n : Network) → root ≡ [] → path ≡ at_member root (codes "links") → devices_judged U.declared.inputs (scene_path (codes "devices")) ds ≡ Accepted ns → n ≡ network_of U.declared ns []
     → network_judged U ds ls ≡ links_judged path n ls
 links_are U root path ds ls ns n f g e h =
-    ap (λ (j : Judged (List NetDevice)). and_then j (λ ms. links_judged (scene_path (codes "links")) (made U.declared ms) ls)) e
+    ap (λ (j : Judged (List NetDevice)). and_then j (λ ms. links_judged (scene_path (codes "links")) (network_of U.declared ms []) ls)) e
     ∙ ap (λ (m : Network). links_judged (scene_path (codes "links")) m ls) (sym h)
     ∙ ap (λ (p : List ℕ). links_judged p n ls) (sym (g ∙ ap (λ (r : List ℕ). at_member r (codes "links")) f))
 
@@ -34,7 +33,7 @@ returns-in_err-devices-clause-refused c =
     let p = err_from_is_err_and c.from_residual-in_err-devices.result c.from_residual-in_err-devices.ensures.1 in
     let inputs = ap (map input_of) c.deref.ensures.value ∙ ap (λ (d : Declarations). d.inputs) (c.in_ok-declared.ensures ∙ c.declared.ensures.value) in
     let same = devices_are (map input_of c.deref.result.now) U.declared.inputs c.new.result.items c.in_ok-place.place.text.items ds inputs c.new.ensures.items c.in_ok-place.ensures in
-    rw (p.1, p.2) (refused_next (devices_judged U.declared.inputs (scene_path (codes "devices")) ds) (λ ms. links_judged (scene_path (codes "links")) (made U.declared ms) ls) f
+    rw (p.1, p.2) (refused_next (devices_judged U.declared.inputs (scene_path (codes "devices")) ds) (λ ms. links_judged (scene_path (codes "links")) (network_of U.declared ms []) ls) f
     (subst (λ (j : Judged (List NetDevice)). RefusedWith j f) (sym same) c.in_err-devices.ensures.refused))
 
 pub returns-clause-refused : goal.returns-clause-refused
@@ -46,7 +45,7 @@ returns-clause-refused c =
     let inputs = ap (map input_of) c.deref.ensures.value ∙ ap (λ (d : Declarations). d.inputs) declared in
     let same = devices_are (map input_of c.deref.result.now) U.declared.inputs c.new.result.items c.in_ok-place.place.text.items ds inputs c.new.ensures.items c.in_ok-place.ensures in
     let ns = map device_of c.in_ok-devices.devices.items in
-    let net = c.in_ok-net.ensures.ok ∙ ap (λ (d : Declarations). made d ns) declared in
+    let net = c.in_ok-draft.ensures ∙ ap (λ (d : Declarations). network_of d ns []) declared in
     subst (λ (j : Judged Network). IfErr c.read_links.result (RefusedWith j))
-    (sym (links_are U c.new.result.items c.in_ok-place-2.place.text.items ds ls ns c.in_ok-net.net c.new.ensures.items c.in_ok-place-2.ensures (same ∙ c.in_ok-devices.ensures.ok) net))
+    (sym (links_are U c.new.result.items c.in_ok-place-2.place.text.items ds ls ns c.in_ok-draft.draft c.new.ensures.items c.in_ok-place-2.ensures (same ∙ c.in_ok-devices.ensures.ok) net))
     c.read_links.ensures.refused

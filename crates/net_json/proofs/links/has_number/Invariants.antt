@@ -1,7 +1,0 @@
-use Rattle.std.proofs.Common.{◌≡◌, drop}
-use Rattle.fc_values.specs.Fields.{is_in}
-use Rattle.topology.specs.Nearby.{near_numbers}
-use Rattle.net_json.proofs.links.has_number.Given as goal
-
-abbrev pub invariant-loop-one : goal.invariant-loop-one
-invariant-loop-one l = is_in l.device (near_numbers (drop l.one-index l.near)) ≡ is_in l.device (near_numbers l.near)
