@@ -2,8 +2,17 @@
 use Rattle.std.specs.Prelude.{ℕ, Bool, true, false, ◌≡◌, ◌<◌, List, [], ◌∷◌, map, slice_index_or as get_or}
 use Rattle.fc_values.specs.declared.builtins.Builtin.{Builtin}
 use Rattle.fc_values.specs.declared.builtins.Builtin.TheVariants as op
+use Rattle.fc_values.specs.Types.{local_type_of}
+use Rattle.interval_facts.specs.declared.builtins.Target.{Target}
 use Rattle.interval_facts.specs.declared.ranges.Range.{Range}
-use Rattle.interval_facts.specs.Ranges.{RangeValue, BoolRange, range_value}
+use Rattle.interval_facts.specs.Ranges.{RangeValue, BoolRange, range_value, full, builtin_range}
+
+-- the range of all values of a target, and that of a builtin's value there
+abbrev pub other_of : Target → RangeValue
+other_of t = full t.ceiling (local_type_of t.ty.now)
+
+abbrev pub value_range : Target → Builtin → List RangeValue → RangeValue
+value_range t builtin rs = builtin_range t.ceiling (other_of t) builtin rs
 
 abbrev pub ranges_in : List Range → List RangeValue
 ranges_in rs = map range_value rs
