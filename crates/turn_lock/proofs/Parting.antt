@@ -1,7 +1,7 @@
 -- A share goes to a new pass, and a pass comes back.
 use Rattle.std.proofs.Common.{◌≡◌, ℕ, ◌<◌, ◌≤◌, ⊎_elim, List, [], ◌∷◌, ◌++◌, length, set, sym, refl, ap, ◌∙◌, subst, inl, inr, arith, Option, false}
 use Rattle.std.proofs.lemmas.Bool.{false≢true}
-use mathlib.Core.Option.{none, some, some-injective}
+use mathlib.Core.Option.{none}
 use Rattle.atomic_table.specs.Table.{State, Me, step, keeps, Allows, Splits, Joins}
 use Rattle.atomic_table.proofs.Lists.{at_longer, set_else}
 use Rattle.turn_lock.specs.declared.views.SeatView.{SeatView}

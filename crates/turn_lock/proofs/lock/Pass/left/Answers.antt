@@ -1,4 +1,4 @@
-use Rattle.std.proofs.Common.{ap, ◌≡◌, subst}
+use Rattle.std.proofs.Common.{subst}
 use Rattle.turn_lock.specs.Passes.{IsBelow, PassView}
 use Rattle.turn_lock.proofs.lock.Pass.left.Goals as goal
 
