@@ -1,16 +1,19 @@
 -- Edits on the lines of a script.
-use Rattle.std.proofs.Common.{ℕ, ◌≡◌, ◌+◌, Bool, false, List, ◌∷◌, refl, sym, ap, subst, ◌∙◌, Some, None, Option}
-use Rattle.std.specs.Prelude.{option_map, option_and_then}
+use Rattle.std.proofs.Common.{ℕ, ◌≡◌, ◌+◌, Bool, true, false, List, ◌∷◌, refl, sym, ap, subst, ◌∙◌, Some, None, Option}
+use Rattle.std.specs.Prelude.{option_map, option_and_then, is_some}
 use Rattle.std.specs.Option.{option_or}
 use Rattle.fc_values.specs.Types.{Input}
 use Rattle.fc_nodes.specs.Program.{Program, unfolding_of, IsProgram}
 use Rattle.topology.specs.Networks.{Network}
 use Rattle.firing_core.specs.Entries.{EditValue}
 use Rattle.firing_core.specs.Cores.{Core, EditFits}
+use Rattle.edit_commands.specs.declared.edits.EditLine.{EditLine as Line}
 use Rattle.edit_commands.specs.declared.types.Fault.{Fault}
 use Rattle.edit_commands.specs.declared.types.ScriptFault.{ScriptFault}
 use Rattle.edit_commands.specs.declared.types.ScriptFault.TheVariants as script
-use Rattle.edit_commands.specs.EditLines.{EditLine, with_two, edit_line}
+use Rattle.edit_commands.specs.EditLines.{EditLine, LinkLine, UnlinkLine, SetLine, PokeLine, JoinLine, LeaveLine}
+use Rattle.edit_commands.specs.Narrow.{narrow_line}
+use Rattle.edit_commands.specs.Code.{line_of}
 use Rattle.edit_commands.specs.LineByLine.{Accepted, Faulty, unless, WhereAccepted}
 use Rattle.edit_commands.specs.Judging.{edit_fault, IsEdit}
 use Rattle.edit_commands.specs.Scripts.{DoLine, MixLine, Progress, flies, LineFault, OfLine, OfFirings, firings_fault, with_firings, with_edit, line_judged, EditCommand, MixCommand, DoesCommand, if_mixed, rounds_of, mix_line}
@@ -86,3 +89,23 @@ module _ (p : Program) (h : IsProgram p) (start : Core) (s : Progress) (o : Opti
 -- an edit passes no limit
 pub edit_within : (p after : Progress) (l : EditLine) → IsWithin p → after ≡ with_edit p l → IsWithin after
 edit_within p after l w e = subst IsWithin (sym e) (record { scrambles = w.scrambles; firings = w.firings })
+
+-- an edit that was read and may stand among firings is that of the words
+pub mixed_read : (o : Option EditLine) (read : Option Line) (l : Line) → option_map line_of read ≡ option_map narrow_line o → read ≡ Some l → is_some (if_mixed (line_of l)) ≡ true
+    → Some (line_of l) ≡ option_map narrow_line (option_and_then if_mixed o)
+mixed_read None read l e f m = let off : None ≡ Some (line_of l) = sym e ∙ ap (option_map line_of) f in absurd cc
+mixed_read (Some q) read l e f m = by_line q (sym e ∙ ap (option_map line_of) f)
+  where
+    by_line : (k : EditLine) → Some (narrow_line k) ≡ Some (line_of l) → Some (line_of l) ≡ option_map narrow_line (if_mixed k)
+    by_line (LinkLine a b w) g = sym g
+    by_line (UnlinkLine a b) g = sym g
+    by_line (SetLine d i v) g = sym g
+    by_line (PokeLine d v ks) g = sym g
+    by_line (JoinLine x) g =
+        let same : line_of l ≡ narrow_line (JoinLine x) = cc in
+        let off : false ≡ true = subst (λ k. is_some (if_mixed k) ≡ true) same m in
+        absurd cc
+    by_line (LeaveLine d) g =
+        let same : line_of l ≡ narrow_line (LeaveLine d) = cc in
+        let off : false ≡ true = subst (λ k. is_some (if_mixed k) ≡ true) same m in
+        absurd cc
