@@ -15,7 +15,7 @@ use Rattle.fc_nodes.proofs.Kids.{TwoKids, evolve_laid}
 use Rattle.fc_nodes.proofs.Kept.{one_more, kept_size}
 use Rattle.device_eval.specs.Neighbours.{kept_there}
 use Rattle.device_eval.specs.Evaluation.{Situation, Vars, Outcome, own_or, heard, evolving, eval_of, after, on_local, on_some}
-use Rattle.flat_exports.specs.Layouts.{LayoutValue, number_in}
+use Rattle.fc_nodes.specs.Layouts.{LayoutValue, number_in}
 use Rattle.alignment.specs.Slots.{FlatEnv, NearSlots, OwnHas, NearHave}
 use Rattle.device_eval.specs.Environments.{env_at, near_at}
 use Rattle.share_op.specs.Hearing.{slot_entries, own_slot_or}

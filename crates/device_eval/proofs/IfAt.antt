@@ -14,7 +14,7 @@ use Rattle.fc_nodes.proofs.Kids.{ThreeKids, if_laid}
 use Rattle.fc_nodes.proofs.Kept.{one_more, kept_size}
 use Rattle.alignment.specs.Environments.{Env, child_env, branch_env}
 use Rattle.device_eval.specs.Evaluation.{Situation, Vars, Outcome, eval_of, after, on_truth, pick}
-use Rattle.flat_exports.specs.Layouts.{LayoutValue, number_in}
+use Rattle.fc_nodes.specs.Layouts.{LayoutValue, number_in}
 use Rattle.alignment.specs.Slots.{FlatEnv, flat_branch, OwnHas, NearHave}
 use Rattle.device_eval.specs.Environments.{env_at}
 use Rattle.device_eval.specs.Walks.{SameIn, Can, Did, CanAt, DidAt, Stands, IsTruth, Ready, ReadyAt}

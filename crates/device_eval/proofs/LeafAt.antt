@@ -14,7 +14,7 @@ use Rattle.device_eval.specs.Evaluation.{Situation, Vars, leaf_value, variable_a
 use Rattle.alignment.specs.Slots.{FlatEnv, NearSlots}
 use Rattle.device_eval.specs.Environments.{near_at, env_at}
 use Rattle.device_eval.specs.Walks.{Can, Did, CanAt, DidAt, ReadyAt}
-use Rattle.flat_exports.specs.Layouts.{LayoutValue}
+use Rattle.fc_nodes.specs.Layouts.{LayoutValue}
 use Rattle.device_eval.proofs.Frames.{same_out, still_same}
 use Rattle.device_eval.proofs.Steps.{some_on}
 

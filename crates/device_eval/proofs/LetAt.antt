@@ -11,7 +11,7 @@ use Rattle.fc_nodes.proofs.Places.{formed_above}
 use Rattle.fc_nodes.proofs.Kids.{TwoKids, let_laid}
 use Rattle.fc_nodes.proofs.Kept.{one_more, kept_size}
 use Rattle.device_eval.specs.Evaluation.{Situation, Vars, eval_of, after}
-use Rattle.flat_exports.specs.Layouts.{LayoutValue}
+use Rattle.fc_nodes.specs.Layouts.{LayoutValue}
 use Rattle.alignment.specs.Slots.{FlatEnv}
 use Rattle.device_eval.specs.Environments.{env_at}
 use Rattle.device_eval.specs.Walks.{SameIn, Can, Did, DidAt, Stands, Ready, ReadyAt}

@@ -15,7 +15,7 @@ use Rattle.fc_nodes.proofs.Kids.{OneKid, nbr_laid}
 use Rattle.fc_nodes.proofs.Kept.{one_more}
 use Rattle.device_eval.specs.Neighbours.{kept_there}
 use Rattle.device_eval.specs.Evaluation.{Situation, Vars, eval_of, heard, on_local}
-use Rattle.flat_exports.specs.Layouts.{LayoutValue, number_in}
+use Rattle.fc_nodes.specs.Layouts.{LayoutValue, number_in}
 use Rattle.alignment.specs.Slots.{FlatEnv, NearSlots, NearHave}
 use Rattle.device_eval.specs.Environments.{env_at, near_at}
 use Rattle.share_op.specs.Hearing.{slot_entries}

@@ -18,12 +18,12 @@ use Rattle.device_eval.specs.Copies.{near_tree, env_of, situation_of, EvaluatesC
 use Rattle.value_trees.specs.declared.copies.Near.{Near}
 use Rattle.value_trees.specs.declared.copies.Snap.{Snap}
 use Rattle.value_trees.specs.Snaps.{IsSnap, IsExportOf, NearAreExports, near_copy, snap_copy, tree_of}
-use Rattle.flat_exports.specs.Layouts.{LayoutValue, IsLayout, blank_slots}
+use Rattle.fc_nodes.specs.Layouts.{LayoutValue, IsLayout, blank_slots}
 use Rattle.alignment.specs.Slots.{FlatEnv}
 use Rattle.device_eval.specs.Environments.{near_at, env_at, OwnFits, NearFit, EnvFits}
 use Rattle.device_eval.specs.References.{snap_near, snap_env}
 use Rattle.device_eval.specs.Walks.{Can, Did, CanAt, DidAt, Stands, Ready, IsLocal}
-use Rattle.flat_exports.proofs.Blanks.{have_forms}
+use Rattle.fc_nodes.proofs.Blanks.{have_forms}
 use Rattle.device_eval.proofs.Finish.{main_runs, main_local, finished_evaluates, finished_export}
 use Rattle.value_trees.proofs.Forms.{have_long}
 use Rattle.device_eval.proofs.Steps.{can_all, did_all}

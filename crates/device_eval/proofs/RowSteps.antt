@@ -7,7 +7,7 @@ use Rattle.fc_nodes.specs.Terms.{Term, Plain, Apply, Nbr, Evolve, If, Let, kept,
 use Rattle.fc_nodes.proofs.Places.{laid_within}
 use Rattle.fc_nodes.proofs.Kept.{kept_size, kept_none}
 use Rattle.device_eval.specs.Evaluation.{Situation, Vars, Outcome, Outcomes, and_then}
-use Rattle.flat_exports.specs.Layouts.{LayoutValue}
+use Rattle.fc_nodes.specs.Layouts.{LayoutValue}
 use Rattle.alignment.specs.Slots.{FlatEnv}
 use Rattle.device_eval.specs.Walks.{Room, SameIn, SameOut, CanAt, DidAt, Ready}
 use Rattle.device_eval.specs.Rows.{row_kept, Row, first_of, CanEach, DidEach, ReadyEach}

@@ -5,7 +5,7 @@ use Rattle.fc_values.specs.Trees.{Trees, Done, Then}
 use Rattle.fc_values.specs.Exports.{SlotValue}
 use Rattle.fc_nodes.specs.declared.nodes.Node.{Node}
 use Rattle.fc_nodes.specs.Terms.{size, kept, kept_before, term_at, Laid, WellFormed}
-use Rattle.flat_exports.specs.Layouts.{LayoutValue, IsLayout}
+use Rattle.fc_nodes.specs.Layouts.{LayoutValue, IsLayout}
 use Rattle.fc_nodes.specs.Flat.{tree_at, Marked}
 use Rattle.device_eval.specs.Evaluation.{Situation, Vars, Outcomes, and_then, eval_of}
 use Rattle.alignment.specs.Slots.{FlatEnv}

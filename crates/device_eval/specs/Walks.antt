@@ -8,7 +8,7 @@ use Rattle.fc_values.specs.Types.{ValueType}
 use Rattle.fc_nodes.specs.Terms.{Term, Sort, HasNode, kept, kept_before, term_at, Laid, WellFormed}
 use Rattle.fc_nodes.specs.Flat.{tree_at, Clear, Marked}
 use Rattle.device_eval.specs.Evaluation.{Situation, Vars, eval_of}
-use Rattle.flat_exports.specs.Layouts.{LayoutValue, IsLayout}
+use Rattle.fc_nodes.specs.Layouts.{LayoutValue, IsLayout}
 use Rattle.alignment.specs.Slots.{FlatEnv}
 use Rattle.device_eval.specs.Environments.{env_at, EnvFits}
 

@@ -6,7 +6,7 @@ ghost use Rattle.fc_values.specs.Fields.{value_of, ValueLocal, restricted};
 ghost use Rattle.fc_nodes.specs.Terms.{OfApply, OfNbr, OfEvolve, ByRep, ByShare, OfIf, OfLet};
 ghost use Rattle.alignment.specs.Environments.{near_numbers};
 ghost use Rattle.device_eval.specs.Evaluation.{variable_at, pick};
-ghost use Rattle.flat_exports.specs.Layouts.{number_in};
+ghost use Rattle.fc_nodes.specs.Layouts.{number_in};
 ghost use Rattle.alignment.specs.References.{flat_of};
 ghost use Rattle.device_eval.specs.Contexts.{vars_of, ReadyIn, ReadyFor, Evaluated, ReadyKids, EvaluatedKids};
 ghost use Rattle.device_eval.specs.Walks.{IsLocal, IsTruth};

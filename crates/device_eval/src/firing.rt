@@ -10,7 +10,7 @@ use crate::evaluation::{Context, Scope, Sight, eval, into_local};
 use alignment::{Env, NearRef};
 use fc_nodes::Unfolded;
 use fc_values::{Export, Memory};
-use flat_exports::{Draft, Layout};
+use flat_exports::Draft;
 use std::alloc::Global;
 use std::marker::Model;
 use std::sync::Arc;
@@ -110,13 +110,13 @@ pub fn evaluate(alloc: Global, program: &Unfolded, snap: &Snap) -> Result<Export
     requires { IsSnap (unfolding_of program.now) snap.now }
     ensures { IfOk result (λ e. IsFired (record { program = program.now; snap = snap.now; export = e })) }
 {
-    let layout = Layout::new(alloc, program)?;
-    let mut draft = Draft::new(alloc, &layout)?;
+    let layout = program.layout();
+    let mut draft = Draft::new(alloc, layout)?;
     let env = root_env(alloc, snap)?;
     let inputs = snap.inputs.as_slice();
     let context = Context {
         program,
-        layout: &layout,
+        layout,
         device: snap.device,
         inputs,
     };

@@ -3,3 +3,4 @@ pub mod Typing
 pub mod Program
 pub mod Flat
 pub mod Places
+pub mod Layouts

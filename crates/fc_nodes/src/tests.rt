@@ -76,7 +76,7 @@ fn pair_program(
         inputs: Vec::new(alloc),
         metric: (1, 1),
     };
-    Ok(Unfolded::new(declared, nodes))
+    Ok(Unfolded::new(alloc, declared, nodes)?)
 }
 
 #[test]

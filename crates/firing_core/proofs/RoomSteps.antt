@@ -20,8 +20,8 @@ use Rattle.fc_values.specs.Inputs.{InputFits, InputsFit}
 use Rattle.value_trees.specs.Snaps.{IsExportOf, NearAreExports, IsSnap}
 use Rattle.value_trees.specs.Shapes.{IsShaped}
 use Rattle.value_trees.proofs.Forms.{fits_form}
-use Rattle.flat_exports.specs.Layouts.{LayoutValue, IsLayout, blank_slots}
-use Rattle.flat_exports.proofs.Blanks.{have_forms}
+use Rattle.fc_nodes.specs.Layouts.{LayoutValue, IsLayout, blank_slots}
+use Rattle.fc_nodes.proofs.Blanks.{have_forms}
 use Rattle.firing_core.specs.Rooms.{SpareValue, AllShaped, IsSpare, types_of, declared_types, IsBlank, owns}
 use Rattle.fc_values.proofs.Forms.{same_form}
 

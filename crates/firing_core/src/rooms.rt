@@ -5,7 +5,7 @@ use fc_nodes::Unfolded;
 use fc_values::{
     Export, InputDecl, InputTy, Local, Memory, blank_of, copy_export, inner, overwrite,
 };
-use flat_exports::{Draft, Layout};
+use flat_exports::Draft;
 use std::alloc::Global;
 use std::marker::Model;
 use value_trees::{Near, Snap, one_shape, overwrite_export};
@@ -159,8 +159,8 @@ ghost use Rattle.firing_core.specs.Rooms.{IsSpare, IsBlank, types_of, owns, expo
 fn blank_export(alloc: Global, program: &Unfolded) -> Result<Export, Memory>
     ensures { IfOk result (λ e. IsShaped (unfolding_of program.now) (export_of e)) }
 {
-    let layout = Layout::new(alloc, program)?;
-    let draft = Draft::new(alloc, &layout)?;
+    let layout = program.layout();
+    let draft = Draft::new(alloc, layout)?;
     let main = program.node(0);
     let value = blank_of(alloc, inner(&main.ty))?;
     Ok(draft.finish(value))

@@ -3,9 +3,9 @@
 ghost use Rattle.std.specs.Prelude.{◌≡◌, ◌<◌, IfOk, length, slice_set, true};
 ghost use Rattle.fc_values.specs.Values.{local_of};
 ghost use Rattle.fc_values.specs.Exports.{slots_of, export_of};
-ghost use Rattle.flat_exports.specs.Layouts.{blank_slots};
+ghost use Rattle.fc_nodes.specs.Layouts.{blank_slots};
 
-use crate::layouts::Layout;
+use fc_nodes::Layout;
 use fc_values::{Export, Local, Memory, Slot, Slots, copy};
 use std::alloc::Global;
 use std::marker::Model;
@@ -34,7 +34,7 @@ impl Draft {
     pub fn new(alloc: Global, layout: &Layout) -> Result<Draft, Memory>
         ensures { IfOk result (λ d. slots_of d ≡ blank_slots layout.now.blanks) }
     {
-        let blanks = layout.blanks.as_slice();
+        let blanks = layout.blanks();
         let mut list = Vec::with_capacity(alloc, blanks.len())?;
         for blank in blanks {
             list.push(Slot {

@@ -2,7 +2,6 @@
 #![tactic(auto)]
 
 mod drafts;
-mod layouts;
 
 pub use drafts::Draft;
-pub use layouts::Layout;
+pub use fc_nodes::Layout;

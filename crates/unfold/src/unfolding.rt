@@ -44,7 +44,7 @@ pub fn unfold(alloc: Global, typed: &Typed) -> Result<Unfolded, UnfoldFault>
     }
     let nodes = nodes_of(alloc, &known, program)?;
     let declared = known.declared(alloc)?;
-    Ok(Unfolded::new(declared, nodes))
+    Ok(Unfolded::new(alloc, declared, nodes)?)
 }
 
 // The nodes of `main`.

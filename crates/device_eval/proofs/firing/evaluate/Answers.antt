@@ -12,21 +12,21 @@ use Rattle.device_eval.proofs.firing.evaluate.Goals as goal
 
 pub eval-requires : goal.eval-requires
 eval-requires c =
-    root_ready c.args.program.now c.new.ensures.program c.args.snap.now c.requires c.in_ok-layout.layout c.in_ok-layout.ensures.layout (flat_of c.in_ok-env.env) c.in_ok-env.ensures (slots_of c.in_ok-draft.draft) c.in_ok-draft.ensures
+    root_ready c.args.program.now c.layout-layout.ensures.program c.args.snap.now c.requires c.layout-layout.result.now c.layout-layout.ensures.layout (flat_of c.in_ok-env.env) c.in_ok-env.ensures (slots_of c.in_ok-draft.draft) c.in_ok-draft.ensures
     _ (situation_as c.args.program.now c.args.snap.now c.as_slice-inputs.result.now c.as_slice-inputs.ensures.value)
 
 pub into_local-requires : goal.into_local-requires
 into_local-requires c =
-    root_local c.args.program.now c.new.ensures.program c.args.snap.now c.requires c.in_ok-layout.layout c.in_ok-layout.ensures.layout (flat_of c.in_ok-env.env) c.in_ok-env.ensures (slots_of c.in_ok-draft.draft) c.in_ok-draft.ensures
+    root_local c.args.program.now c.layout-layout.ensures.program c.args.snap.now c.requires c.layout-layout.result.now c.layout-layout.ensures.layout (flat_of c.in_ok-env.env) c.in_ok-env.ensures (slots_of c.in_ok-draft.draft) c.in_ok-draft.ensures
     _ (situation_as c.args.program.now c.args.snap.now c.as_slice-inputs.result.now c.as_slice-inputs.ensures.value)
     (value_of c.in_ok-value.value) (slots_of c.eval.new.draft) c.in_ok-value.ensures
 
 pub returns : goal.returns
 returns c =
-    let export = root_export c.args.program.now c.new.ensures.program c.args.snap.now c.requires c.in_ok-layout.layout c.in_ok-layout.ensures.layout (flat_of c.in_ok-env.env) c.in_ok-env.ensures (slots_of c.in_ok-draft.draft) c.in_ok-draft.ensures
+    let export = root_export c.args.program.now c.layout-layout.ensures.program c.args.snap.now c.requires c.layout-layout.result.now c.layout-layout.ensures.layout (flat_of c.in_ok-env.env) c.in_ok-env.ensures (slots_of c.in_ok-draft.draft) c.in_ok-draft.ensures
     _ (situation_as c.args.program.now c.args.snap.now c.as_slice-inputs.result.now c.as_slice-inputs.ensures.value)
     (value_of c.in_ok-value.value) (slots_of c.eval.new.draft) c.in_ok-value.ensures (local_of c.into_local.result) c.into_local.ensures in
-    let evaluates = root_evaluates c.args.program.now c.new.ensures.program c.args.snap.now c.requires c.in_ok-layout.layout c.in_ok-layout.ensures.layout (flat_of c.in_ok-env.env) c.in_ok-env.ensures (slots_of c.in_ok-draft.draft) c.in_ok-draft.ensures
+    let evaluates = root_evaluates c.args.program.now c.layout-layout.ensures.program c.args.snap.now c.requires c.layout-layout.result.now c.layout-layout.ensures.layout (flat_of c.in_ok-env.env) c.in_ok-env.ensures (slots_of c.in_ok-draft.draft) c.in_ok-draft.ensures
     _ (situation_as c.args.program.now c.args.snap.now c.as_slice-inputs.result.now c.as_slice-inputs.ensures.value)
     (value_of c.in_ok-value.value) (slots_of c.eval.new.draft) c.in_ok-value.ensures (local_of c.into_local.result) c.into_local.ensures in
     record {

@@ -28,5 +28,5 @@ new-requires-5 c =
 
 pub returns-clause-main : goal.returns-clause-main
 returns-clause-main c =
-    ap (λ (program : Program). term_at program.nodes 0) c.new-5.ensures
-    ∙ pair_main c.put_number-3.new.nodes.items c.args.shared c.args.added c.args.local (seen c.before)
+    ap (λ (program : Program). term_at program.nodes 0) c.in_ok-new.ensures
+    ∙ pair_main c.put_number-3.new.nodes.items c.args.shared c.args.added c.args.local (seen c.before.before.before)

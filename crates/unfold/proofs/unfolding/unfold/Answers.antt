@@ -27,4 +27,4 @@ pub returns-clause-unfolding : goal.returns-clause-unfolding
 returns-clause-unfolding c =
     let v = c.program-program.ensures.value in
     let d = c.in_ok-declared.ensures ∙ ap declared_before c.in_ok-known.ensures ∙ ap (λ (p : Program). declared_by (program_of p)) v in
-    ap unfolding_of c.new.ensures ∙ whole_unfolding (program_of c.args.typed.now.program) (declarations_of c.in_ok-declared.declared) c.in_ok-nodes.nodes.items d (rw v at c.in_ok-nodes.ensures)
+    ap unfolding_of c.in_ok-new.ensures ∙ whole_unfolding (program_of c.args.typed.now.program) (declarations_of c.in_ok-declared.declared) c.in_ok-nodes.nodes.items d (rw v at c.in_ok-nodes.ensures)

@@ -1,6 +1,6 @@
 use Rattle.std.proofs.Common.{◌≡◌, ◌++◌, drop}
 use Rattle.fc_values.specs.Exports.{slots_of}
-use Rattle.flat_exports.specs.Layouts.{blank_slots}
+use Rattle.fc_nodes.specs.Layouts.{blank_slots}
 use Rattle.flat_exports.proofs.drafts.Draft.new.Given as goal
 
 abbrev pub invariant-loop-blank : goal.invariant-loop-blank

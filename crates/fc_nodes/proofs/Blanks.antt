@@ -11,7 +11,7 @@ use Rattle.fc_nodes.specs.declared.nodes.Node.{Node}
 use Rattle.fc_nodes.specs.Terms.{View, view_at, view_of, view_keeps, node_keeps, kept_before, nodes_kept_types, WellFormed, one_if}
 use Rattle.fc_nodes.specs.Flat.{HaveForms}
 use Rattle.fc_nodes.proofs.Kept.{types_step, types_long, types_whole}
-use Rattle.flat_exports.specs.Layouts.{IsLayout, number_at, forms_of, blank_slots}
+use Rattle.fc_nodes.specs.Layouts.{IsLayout, number_at, forms_of, blank_slots}
 
 -- values of these types are blanks of these forms
 pub have_forms : (vs : List Local) (ts : List LocalType) → forms_of vs ≡ ts → HaveForms ts (blank_slots vs)

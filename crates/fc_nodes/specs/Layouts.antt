@@ -1,11 +1,11 @@
 -- Which slot each place of a program has.
-use Rattle.std.specs.Prelude.{ℕ, false, ◌≡◌, List, map, Option, None, option_map, option_and_then, slice_index_or as get_or}
+use Rattle.std.specs.Prelude.{ℕ, false, ◌≡◌, List, map, Option, None, option_map, option_and_then, option_to_list, length, slice_index_or as get_or}
 use Rattle.fc_values.specs.declared.values.Local.{Local}
 use Rattle.fc_values.specs.Types.{LocalType}
 use Rattle.fc_values.specs.Values.{local_of, form_of}
 use Rattle.fc_values.specs.Exports.{SlotValue}
 use Rattle.fc_nodes.specs.declared.nodes.Node.{Node}
-use Rattle.fc_nodes.specs.Terms.{view_at, view_keeps, kept_before, kept_types, term_at}
+use Rattle.fc_nodes.specs.Terms.{view_at, view_keeps, node_keeps, kept_before, kept_types, term_at}
 
 -- what contracts see of a layout: the number of the slot of each place, if it has one, and a value for each slot
 pub record LayoutValue : Type 0 where
@@ -40,3 +40,11 @@ number_at ns p = option_map (λ (t : LocalType). kept_before ns p) (keeps_at ns 
 pub record IsLayout (ns : List Node) (l : LayoutValue) : Type 0 where
   pub each : (p : ℕ) → number_in l p ≡ number_at ns p
   pub forms : forms_of l.blanks ≡ kept_types (term_at ns 0)
+
+-- the number of the slot of one more node, if it keeps something, after the slots of these values
+abbrev pub next_number : List Local → Node → Option ℕ
+next_number blanks n = option_map (λ (t : LocalType). length blanks) (node_keeps n)
+
+-- the form of what a node keeps, if it keeps something
+abbrev pub forms_kept : Node → List LocalType
+forms_kept n = option_to_list (node_keeps n)

@@ -1,12 +1,11 @@
 //! Which slot each kept place of a program has.
 
-ghost use Rattle.std.specs.Prelude.{◌≡◌, ◌<◌, ◌^◌, [], ◌∷◌, ◌++◌, IfOk, OnOk, length, option_map, option_to_list};
+ghost use Rattle.std.specs.Prelude.{◌≡◌, ◌<◌, ◌≤◌, ◌^◌, [], ◌∷◌, ◌++◌, IfOk, OnOk, length, option_map, option_to_list, Some};
 ghost use Rattle.fc_values.specs.Values.{local_of, form_of};
-ghost use Rattle.fc_nodes.specs.Terms.{node_keeps};
-ghost use Rattle.fc_nodes.specs.Program.{IsProgram};
-ghost use Rattle.flat_exports.specs.Layouts.{IsLayout, number_in, forms_of};
+ghost use Rattle.fc_nodes.specs.Terms.{node_keeps, view_at, view_of, WellFormed};
+ghost use Rattle.fc_nodes.specs.Layouts.{IsLayout, number_in, forms_of, forms_kept, next_number};
 
-use fc_nodes::{Node, Op, Unfolded};
+use crate::nodes::{Node, Op};
 use fc_values::{Local, Memory, blank_of, inner};
 use std::alloc::Global;
 use std::marker::Model;
@@ -15,14 +14,14 @@ use std::marker::Model;
 #[derive(Drop)]
 pub struct Layout {
     numbers: Vec<Option<u32>>,
-    pub(crate) blanks: Vec<Local>,
+    blanks: Vec<Local>,
 }
 
 impl Model for Layout {
     ghost use Rattle.std.specs.Prelude.{◌<◌, ◌^◌, length};
     ghost use Rattle.std.specs.Coded.{codes};
     ghost use Rattle.fc_values.specs.contracts.values.Local as local;
-    ghost use Rattle.flat_exports.specs.Layouts.{LayoutValue};
+    ghost use Rattle.fc_nodes.specs.Layouts.{LayoutValue};
 
     ghost Value = { LayoutValue };
 
@@ -34,15 +33,17 @@ impl Model for Layout {
 }
 
 impl Layout {
-    /// The layout of a program.
-    pub fn new(alloc: Global, program: &Unfolded) -> Result<Layout, Memory>
-        ensures layout { IfOk result (λ l. IsLayout program.now.nodes l) }
-        ensures program { IsProgram program.now }
+    // The layout of a program's nodes.
+    pub(crate) fn of(alloc: Global, nodes: &[Node]) -> Result<Layout, Memory>
+        requires formed { WellFormed nodes.now }
+        requires short { length nodes.now ≤ 2048 }
+        ensures { IfOk result (λ l. IsLayout nodes.now l) }
     {
-        let mut numbers = Vec::with_capacity(alloc, program.size() as usize)?;
+        let size = nodes.len() as u32;
+        let mut numbers = Vec::with_capacity(alloc, nodes.len())?;
         let mut blanks = Vec::new(alloc);
-        for place in 0..program.size() {
-            add(alloc, program.node(place), &mut numbers, &mut blanks)?;
+        for place in 0..size {
+            add(alloc, node_at(nodes, place), &mut numbers, &mut blanks)?;
         }
         Ok(Layout { numbers, blanks })
     }
@@ -57,12 +58,27 @@ impl Layout {
         }
     }
 
+    /// A value of the type of each slot.
+    pub fn blanks(&self) -> &[Local]
+        ensures { result.now ≡ self.now.blanks }
+    {
+        self.blanks.as_slice()
+    }
+
     /// The number of slots.
     pub fn slots(&self) -> u32
         ensures { result ≡ length self.now.blanks }
     {
         self.blanks.len() as u32
     }
+}
+
+// The node at a place.
+fn node_at(nodes: &[Node], place: u32) -> &Node
+    requires { place < length nodes.now }
+    ensures { view_at nodes.now place ≡ Some (view_of result.now) }
+{
+    &nodes[place as usize]
 }
 
 // Adds a node, and a slot for it if it keeps a value.
@@ -73,8 +89,8 @@ fn add(
     blanks: &mut Vec<Local>,
 ) -> Result<(), Memory>
     requires { length blanks.old.items < 2 ^ 32 }
-    ensures numbers { OnOk result (numbers.new.items ≡ numbers.old.items ++ option_map (λ t. length blanks.old.items) (node_keeps node.now) ∷ []) }
-    ensures blanks { OnOk result (forms_of blanks.new.items ≡ forms_of blanks.old.items ++ option_to_list (node_keeps node.now)) }
+    ensures numbers { OnOk result (numbers.new.items ≡ numbers.old.items ++ next_number blanks.old.items node.now ∷ []) }
+    ensures blanks { OnOk result (forms_of blanks.new.items ≡ forms_of blanks.old.items ++ forms_kept node.now) }
 {
     match blank(alloc, node)? {
         Some(value) => {
