@@ -6,11 +6,10 @@ use Rattle.fc_values.specs.BuiltinTypes.{inner}
 use Rattle.fc_values.specs.Numbers.{number_of}
 use Rattle.fc_values.specs.Types.{Input}
 use Rattle.fc_values.specs.Values.{LocalValue}
-use Rattle.fc_values.specs.Exports.{FlatExport}
 use Rattle.fc_nodes.specs.Program.{Unfolding}
 use Rattle.fc_nodes.specs.Terms.{type_of}
 use Rattle.value_trees.specs.KeptReads.{has_type, misfit_of}
-use Rattle.value_trees.specs.KeptExports.{Keeps, ListsHaveExports}
+use Rattle.value_trees.specs.KeptExports.{ListsHaveExports}
 use Rattle.topology.specs.Networks.{Network, lives}
 use Rattle.firing_core.specs.Cores.{EditFits}
 use Rattle.firing_core.specs.Entries.{EditValue, LinkEdit, UnlinkEdit, SetEdit, PokeEdit, JoinEdit, LeaveEdit, EntryValue, BeginEntry, EndEntry, IdleEntry, EditEntry}

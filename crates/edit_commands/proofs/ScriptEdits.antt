@@ -1,8 +1,7 @@
 -- Edits on the lines of a script.
-use Rattle.std.proofs.Common.{ℕ, ◌≡◌, ◌+◌, Bool, true, false, List, ◌∷◌, refl, sym, ap, subst, ◌∙◌, Some, None, Option}
+use Rattle.std.proofs.Common.{ℕ, ◌≡◌, ◌+◌, Bool, true, false, refl, sym, ap, subst, ◌∙◌, Some, None, Option}
 use Rattle.std.specs.Prelude.{option_map, option_and_then, is_some}
 use Rattle.std.specs.Option.{option_or}
-use Rattle.fc_values.specs.Types.{Input}
 use Rattle.fc_nodes.specs.Program.{Program, unfolding_of, IsProgram}
 use Rattle.topology.specs.Networks.{Network}
 use Rattle.firing_core.specs.Entries.{EditValue}
@@ -16,7 +15,7 @@ use Rattle.edit_commands.specs.Narrow.{narrow_line}
 use Rattle.edit_commands.specs.Code.{line_of}
 use Rattle.edit_commands.specs.LineByLine.{Accepted, Faulty, unless, WhereAccepted}
 use Rattle.edit_commands.specs.Judging.{edit_fault, IsEdit}
-use Rattle.edit_commands.specs.Scripts.{DoLine, MixLine, Progress, flies, LineFault, OfLine, OfFirings, firings_fault, with_firings, with_edit, line_judged, EditCommand, MixCommand, DoesCommand, if_mixed, rounds_of, mix_line}
+use Rattle.edit_commands.specs.Scripts.{DoLine, MixLine, Progress, flies, LineFault, OfLine, OfFirings, firings_fault, with_firings, with_edit, line_judged, EditCommand, MixCommand, DoesCommand, if_mixed}
 use Rattle.edit_commands.specs.ScriptCode.{IsFaultAt, HasLineFaultAt, IsWithin}
 use Rattle.edit_commands.proofs.WideEdits.{program_narrow, fault_narrow, allowed_same}
 use Rattle.edit_commands.proofs.ReadEdits.{IsRead}

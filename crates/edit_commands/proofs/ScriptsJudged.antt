@@ -1,16 +1,15 @@
 -- The commands of a script are judged.
 use Rattle.std.proofs.Common.{ℕ, ◌≡◌, ◌+◌, ◌<◌, ◌≤◌, nat_le, nat_lt, not, Bool, true, false, List, [], ◌∷◌, length, refl, sym, ap, subst, ◌∙◌, arith, Some, None, Option, if◌then◌else◌}
 use Rattle.std.proofs.lemmas.Bool.Decides.{nat_tests}
-use Rattle.std.specs.Prelude.{option_map, option_and_then, IfSome, is_some}
+use Rattle.std.specs.Prelude.{option_map, option_and_then, IfSome}
 use Rattle.std.specs.Option.{option_or}
 use Rattle.fc_values.specs.Types.{Input}
 use Rattle.fc_nodes.specs.Program.{Unfolding}
 use Rattle.topology.specs.Networks.{Network, lives}
 use Rattle.topology.specs.Changes.{first_fault, link_fault, unlink_fault, set_fault, join_fault}
-use Rattle.topology.specs.declared.types.NetFault.{NetFault}
 use Rattle.topology.specs.declared.types.NetFault.TheVariants as net
 use Rattle.firing_core.specs.Entries.{EditValue, LinkEdit, UnlinkEdit, SetEdit, PokeEdit, JoinEdit, LeaveEdit}
-use Rattle.firing_core.specs.Cores.{Core, EditFits, edit_fault as core_fault}
+use Rattle.firing_core.specs.Cores.{Core, edit_fault as core_fault}
 use Rattle.fc_values.specs.Numbers.{number_of}
 use Rattle.edit_commands.specs.declared.scripts.ScriptWord.{ScriptWord}
 use Rattle.edit_commands.specs.declared.scripts.ScriptWord.TheVariants as first
@@ -19,10 +18,10 @@ use Rattle.edit_commands.specs.declared.types.Fault.{Fault}
 use Rattle.fc_io.specs.Lines.{lines_of, is_empty, line_text}
 use Rattle.edit_commands.specs.Lines.{words_of}
 use Rattle.edit_commands.specs.EditLines.{EditLine, LinkLine, UnlinkLine, SetLine, PokeLine, JoinLine, LeaveLine, with_two, edit_line}
-use Rattle.edit_commands.specs.LineByLine.{unless, Lines, AllLines, StopsAt, onto, and_lines, lines_from, AreSaid, SaidBy}
-use Rattle.edit_commands.specs.Judging.{net_fault, edit_fault, after_edit, IsEdit, fits_kept}
-use Rattle.edit_commands.specs.Scripts.{ScriptLine, RunLine, DoLine, ScrambleLine, ShowLine, MixLine, Progress, at_start, flies, firings_after, LineFault, OfLine, OfFirings, OfScrambles, firings_fault, line_fault, after_line, line_judged, text_judged, if_some, rounds_of, if_mixed, mixed_edit, mixed_line, do_line, run_line, scramble_line, show_line, mix_line, script_word, line_by, script_line, lines_in, Script, Within, TooManyLines, script_of, CommandValue, RunCommand, EditCommand, ScrambleCommand, ShowCommand, MixCommand, IsCommand, DoesOnly, DoesAmong, CommandFits, AllCommandsFit, SaidByScript, IsScript}
-use Rattle.edit_commands.specs.JudgedCommands.{net_after, IsLeftBy, IsAllowed, IsMixed, MayCome, with_net, after_command, AreJudged, ScriptsAreJudged}
+use Rattle.edit_commands.specs.LineByLine.{unless, Lines, AllLines, StopsAt, onto, and_lines, lines_from, SaidBy}
+use Rattle.edit_commands.specs.Judging.{edit_fault, after_edit, IsEdit, fits_kept}
+use Rattle.edit_commands.specs.Scripts.{ScriptLine, RunLine, DoLine, ScrambleLine, ShowLine, MixLine, Progress, at_start, flies, firings_after, LineFault, OfLine, OfFirings, OfScrambles, firings_fault, line_fault, after_line, line_judged, text_judged, if_some, rounds_of, if_mixed, mixed_edit, script_word, line_by, script_line, lines_in, Within, TooManyLines, CommandValue, RunCommand, EditCommand, ScrambleCommand, ShowCommand, MixCommand, IsCommand, CommandFits, AllCommandsFit, SaidByScript}
+use Rattle.edit_commands.specs.JudgedCommands.{net_after, IsLeftBy, IsMixed, MayCome, with_net, after_command, AreJudged, ScriptsAreJudged}
 
 -- ---- what a line that is read may be
 
