@@ -111,6 +111,7 @@ fn brackets(rt: HostRuntime) -> Result<(), Fail> {
 }
 
 #[test]
+#[tactic(auto, unfolding(fc_values::specs::Names::word_of))]
 fn lets_and_nots(rt: HostRuntime) -> Result<(), Fail> {
     let alloc = rt.alloc();
     let inner = binding(alloc, b"y", number(1), variable(alloc, b"y")?)?;
@@ -130,6 +131,7 @@ fn lets_and_nots(rt: HostRuntime) -> Result<(), Fail> {
     Ok(())
 }
 
+#[tactic(auto, unfolding(fc_values::specs::Names::word_of))]
 fn definition(alloc: Global) -> Result<Decl, Memory>
     ensures { IfOk result (λ d. IsInner false (declaration_of d)) }
 {
@@ -179,6 +181,7 @@ fn declared(alloc: Global, s: Name, w: Name, f: Decl, main: Expr) -> Result<Vec<
 }
 
 #[test]
+#[tactic(auto, unfolding(fc_values::specs::Names::word_of))]
 fn declarations(rt: HostRuntime) -> Result<(), Fail> {
     let alloc = rt.alloc();
     let s = name(alloc, b"s")?;
