@@ -53,6 +53,7 @@ fn two(alloc: Global, builtin: Builtin, a: Expr, b: Expr) -> Result<Expr, Memory
 }
 
 // `let x = bound in x`.
+#[tactic(auto, unfolding(fc_values::specs::Names::word_of))]
 fn bound_once(alloc: Global, bound: Expr) -> Result<Expr, Memory>
     requires { IsExpression false (term_of bound) }
     ensures { IfOk result (λ e. IsExpression false (term_of e)) }
@@ -63,6 +64,7 @@ fn bound_once(alloc: Global, bound: Expr) -> Result<Expr, Memory>
 }
 
 // The fault of `ceiling 10; input s: bool; main = E;`, or how many inputs it declares.
+#[tactic(auto, unfolding(fc_values::specs::Names::word_of))]
 fn answer(alloc: Global, main: Expr) -> Result<Result<usize, TypeFault>, Memory>
     requires { IsExpression false (term_of main) }
 {
@@ -77,6 +79,7 @@ fn answer(alloc: Global, main: Expr) -> Result<Result<usize, TypeFault>, Memory>
 }
 
 #[test]
+#[tactic(auto, unfolding(fc_values::specs::Names::word_of))]
 fn first_faults(rt: HostRuntime) -> Result<(), Fail> {
     let alloc = rt.alloc();
     let declaration = 3;
