@@ -1,0 +1,6 @@
+mod Counting
+mod Planning
+mod Keeping
+mod Flying
+mod Ending
+mod Starting

@@ -1,0 +1,52 @@
+-- The agenda: what is left to begin.
+use Rattle.std.specs.Prelude.{ℕ, Bool, false, ◌≡◌, ◌+◌, ◌&&◌, List, length, set, get_or, nat_lt}
+use Rattle.fc_values.specs.Fields.{is_in}
+use Rattle.firing_core.specs.Entries.{EditValue, LinkEdit, UnlinkEdit, SetEdit, PokeEdit, JoinEdit, LeaveEdit}
+
+-- how many firings each device may begin, how many it has begun, and whether it may begin now, by its number
+pub record AgendaValue : Type 0 where
+  pub rounds : ℕ
+  pub begun : List ℕ
+  pub ready : List Bool
+
+abbrev pub begun_by : AgendaValue → ℕ → ℕ
+begun_by a d = get_or a.begun d 0
+
+abbrev pub is_ready : AgendaValue → ℕ → Bool
+is_ready a d = get_or a.ready d false
+
+-- it speaks of all numbers of devices
+pub record IsAgenda (a : AgendaValue) : Type 0 where
+  pub begun : length a.begun ≡ 65536
+  pub ready : length a.ready ≡ 65536
+
+-- the agenda of the devices with these numbers, where nothing has begun: each of them may begin, where any may
+pub record Starts (ids : List ℕ) (rounds : ℕ) (a : AgendaValue) : Type 0 where
+  pub rounds_are : a.rounds ≡ rounds
+  pub begun : (d : ℕ) → begun_by a d ≡ 0
+  pub ready : (d : ℕ) → is_ready a d ≡ (is_in d ids && nat_lt 0 rounds)
+
+-- a device begins a firing
+abbrev pub after_begin : AgendaValue → ℕ → AgendaValue
+after_begin a d = record { rounds = a.rounds; begun = set a.begun d (begun_by a d + 1); ready = set a.ready d false }
+
+-- a device rests, and may begin what is left
+abbrev pub after_end : AgendaValue → ℕ → AgendaValue
+after_end a d = record { rounds = a.rounds; begun = a.begun; ready = set a.ready d (nat_lt (begun_by a d) a.rounds) }
+
+-- a device joins, and has begun nothing
+abbrev pub after_join : AgendaValue → ℕ → AgendaValue
+after_join a d = record { rounds = a.rounds; begun = set a.begun d 0; ready = set a.ready d (nat_lt 0 a.rounds) }
+
+-- a device leaves
+abbrev pub after_leave : AgendaValue → ℕ → AgendaValue
+after_leave a d = record { rounds = a.rounds; begun = a.begun; ready = set a.ready d false }
+
+-- what an edit does to it
+abbrev pub after_change : AgendaValue → EditValue → AgendaValue
+after_change a (LinkEdit x y w) = a
+after_change a (UnlinkEdit x y) = a
+after_change a (SetEdit d i v) = a
+after_change a (PokeEdit d e) = a
+after_change a (JoinEdit x) = after_join a x.id
+after_change a (LeaveEdit d) = after_leave a d

@@ -1,0 +1,187 @@
+//! The value under the lock: a book, and what is left to begin.
+
+use crate::agenda::{Agenda, change_of};
+use crate::item::Item;
+use device_eval::Fired;
+use fc_values::Memory;
+use firing_core::{Book, Edit, EditFault, Room, logs_decide, runs_cut};
+use std::alloc::Global;
+use std::marker::Model;
+use turn_lock::Logged;
+use value_trees::Snap;
+
+/// A book with room for the turns of a table, and each device's begins since the opening or since its last join.
+#[derive(Drop)]
+pub struct Held {
+    book: Book,
+    agenda: Agenda,
+    turns: u64,
+    front: u64,
+}
+
+impl Model for Held {
+    ghost use Rattle.std.specs.Coded.{codes};
+    ghost use Rattle.fc_values.specs.Codes.{local_value_code};
+    ghost use Rattle.fc_values.specs.contracts.values.Local as local;
+    ghost use Rattle.fc_values.specs.contracts.types.LocalTy as local_ty;
+    ghost use Rattle.export_table.specs.Holding.{HeldValue, IsHeld};
+
+    ghost Value = { HeldValue };
+
+    ghost coded = { Prim.hlevel (codes, local_value_code, local.the_row.coded, local_ty.the_row.coded) };
+
+    ghost view = { λ h. record { book = h.book; rounds = h.agenda.rounds; turns = h.turns; front = h.front } };
+
+    ghost invariant = { λ h. IsHeld (record { book = h.book; rounds = h.agenda.rounds; turns = h.turns; front = h.front }) h.agenda };
+}
+
+impl Logged for Held {
+    type Entry = Item;
+
+    ghost use Rattle.export_table.specs.Holding.{list_of};
+    ghost use Rattle.export_table.specs.Answers.{answers as answers_of};
+    ghost use Rattle.export_table.specs.AnswersStay.{answers_earlier, answers_stay};
+
+    ghost list = { list_of };
+
+    ghost answers = { answers_of };
+
+    ghost earlier = { answers_earlier };
+
+    ghost stays = { answers_stay };
+}
+
+impl Held {
+    ghost use Rattle.std.specs.Prelude.{◌≡◌, ◌<◌, ◌≤◌, ℕ, length, IfOk, IfErr, OnOk, OnErr, None, Some};
+    ghost use Rattle.fc_values.specs.Trees.{Copy};
+    ghost use Rattle.fc_nodes.specs.Program.{unfolding_of};
+    ghost use Rattle.value_trees.specs.Snaps.{tree_of, snap_copy, IsSnap};
+    ghost use Rattle.firing_core.specs.Cores.{copy_of, EditFits, edit_fault};
+    ghost use Rattle.firing_core.specs.CoreViews.{core_of};
+    ghost use Rattle.firing_core.specs.Rooms.{IsRoom};
+    ghost use Rattle.firing_core.specs.Entries.{edit_of};
+    ghost use Rattle.firing_core.specs.Refusals.{RefusesEdit};
+    ghost use Rattle.firing_core.specs.declared.entries.Entry.TheVariants as entry;
+    ghost use Rattle.export_table.specs.Begins.{IsNext};
+    ghost use Rattle.export_table.specs.Holding.{Opens, HasTurn, Turned, IsOpenAt, IsTakenAt, opening_in, log_in, core_in, NothingLeft};
+
+    /// Opens a book for so many turns, in which each device may begin so many firings. A refusal hands the book back.
+    pub fn new(alloc: Global, book: Book, rounds: u32, turns: u64) -> Result<Held, (Book, Memory)>
+        requires { (d : ℕ) → (core_of book.core).flying d ≡ None }
+        ensures opened { IfOk result (Opens book rounds turns) }
+        ensures back { IfErr result (λ e. e.0 ≡ book) }
+    {
+        let mut book = book;
+        let front = book.log().len() as u64;
+        let agenda = match Agenda::new(alloc, rounds, book.core().net()) {
+            Ok(agenda) => agenda,
+            Err(memory) => return Err((book, memory)),
+        };
+        match book.reserve(turns as usize) {
+            Ok(()) => Ok(Held {
+                book,
+                agenda,
+                turns,
+                front,
+            }),
+            Err(memory) => Err((book, memory)),
+        }
+    }
+
+    /// The book.
+    pub fn into_book(self) -> Book
+        ensures { result ≡ self.book }
+    {
+        let Held {
+            book,
+            agenda: _,
+            turns: _,
+            front: _,
+        } = self;
+        book
+    }
+
+    /// How many entries the log has.
+    pub fn len(&self) -> u64
+        ensures { result ≡ length self.now.book.log }
+    {
+        self.book.log().len() as u64
+    }
+
+    /// Begins the smallest device that may begin.
+    pub fn next(&mut self, room: Room) -> Result<(u32, Snap), Room>
+        requires turn { HasTurn self.old }
+        requires room { IsRoom (unfolding_of self.old.book.program) room }
+        ensures turned { IfOk result (λ r. Turned self.old self.new (entry.Begin r.0)) }
+        ensures next { IfOk result (λ r. IsNext (opening_in self.old) (log_in self.old) (core_in self.old) r.0) }
+        ensures copy { IfOk result (λ r.
+            snap_copy (unfolding_of self.old.book.program) r.1
+            ≡ copy_of (core_in self.old).net (core_in self.old).exports r.0) }
+        ensures snap { IfOk result (λ r. IsSnap (unfolding_of self.old.book.program) r.1) }
+        ensures idle { OnErr result (Turned self.old self.new entry.Idle) }
+        ensures done { OnErr result (NothingLeft (opening_in self.old) (log_in self.old) (core_in self.old)) }
+        ensures back { IfErr result (λ r. r ≡ room) }
+    {
+        let _net = self.book.core().net();
+        let Some(device) = self.agenda.next() else {
+            self.book.idle();
+            return Err(room);
+        };
+        match self.book.begin_with(device, room) {
+            Ok(snap) => {
+                self.agenda.begin(device);
+                Ok((device, snap))
+            }
+            Err(_) => unreachable!(),
+        }
+    }
+
+    /// Ends a firing that was begun at a place and isn't ended, by what was evaluated of its copy.
+    pub fn end(&mut self, place: u64, fired: Fired) -> Room
+        requires turn { HasTurn self.old }
+        requires program { fired.program ≡ self.old.book.program }
+        requires open { IsOpenAt self.old place fired.snap.device }
+        requires copy { IsTakenAt (opening_in self.old) (log_in self.old) place
+            (snap_copy (unfolding_of self.old.book.program) fired.snap) }
+        ensures turned { Turned self.old self.new (entry.End fired.snap.device) }
+        ensures publishes { (core_in self.new).exports fired.snap.device
+            ≡ Some (tree_of (unfolding_of self.old.book.program) fired.export) }
+        ensures room { IsRoom (unfolding_of self.old.book.program) result }
+    {
+        let _ = place;
+        let _net = self.book.core().net();
+        logs_decide();
+        runs_cut();
+        let device = fired.snap().device;
+        match self.book.end_with(fired) {
+            Ok(room) => {
+                self.agenda.rest(device);
+                room
+            }
+            Err(_) => unreachable!(),
+        }
+    }
+
+    /// Edits the book, or appends an entry that changes nothing.
+    pub fn edit(&mut self, alloc: Global, edit: Edit) -> Result<(), EditFault>
+        requires turn { HasTurn self.old }
+        requires fits { EditFits (unfolding_of self.old.book.program) (edit_of edit) }
+        ensures edited { OnOk result (Turned self.old self.new (entry.Edit edit)) }
+        ensures allowed { OnOk result (edit_fault (core_in self.old) (edit_of edit) ≡ None) }
+        ensures idle { OnErr result (Turned self.old self.new entry.Idle) }
+        ensures refused { IfErr result (RefusesEdit (core_in self.old) (edit_of edit)) }
+    {
+        let _net = self.book.core().net();
+        let change = change_of(&edit);
+        match self.book.edit(alloc, edit) {
+            Ok(()) => {
+                self.agenda.change(change);
+                Ok(())
+            }
+            Err(fault) => {
+                self.book.idle();
+                Err(fault)
+            }
+        }
+    }
+}
