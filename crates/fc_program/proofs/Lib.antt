@@ -1,11 +1,4 @@
-pub mod Cut
 pub mod Calm
-pub mod SectionSizes
-pub mod Stops
-pub mod OneEnding
-pub mod Replaying
-pub mod Resuming
-pub mod Replying
-pub mod Refusing
-pub mod Rooms
-pub mod OneReply
+pub mod Statuses
+pub mod Answering
+pub mod OneAnswer

@@ -1,11 +1,4 @@
-pub mod Sections
-pub mod Tasks
-pub mod Sources
-pub mod FaultWords
-pub mod Refusals
-pub mod SceneFaults
-pub mod Replays
-pub mod ReplayCode
-pub mod Resuming
-pub mod Reply
+pub mod Asked
+pub mod Answers
 pub mod Top
+pub mod Laws

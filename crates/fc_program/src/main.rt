@@ -1,21 +1,10 @@
 //! `fc`: writes a program's canonical text, or replays a log of firings on a network and writes what each device holds.
 #![tactic(auto)]
 
-#[cfg(test)]
-mod examples;
-mod fault_words;
-#[cfg(test)]
-mod layers;
-mod refusal;
-mod replays;
-mod replies;
-mod reply;
+mod answers;
+mod asked;
 #[cfg(test)]
 mod rows;
-mod scene_faults;
-mod sections;
-mod sources;
-mod tasks;
 #[cfg(test)]
 mod tests;
 mod top;

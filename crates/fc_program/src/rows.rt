@@ -3,7 +3,7 @@
 use crate::tests::{input, words};
 use crate::top::fc;
 use fc_io::{CalmSink, CalmSource};
-use std::alloc::Global;
+use std::alloc::{AllocError, Global};
 use std::process::Abort;
 use std::test::Fail;
 
@@ -230,5 +230,148 @@ fn canonical_texts(rt: HostRuntime) -> Result<(), Fail> {
         assert_eq!(rt; sink.taken(), text.as_bytes());
         assert_eq!(rt; outcome.status, *status);
     }
+    Ok(())
+}
+
+// What no other row shows: refusals of a program by `replay` on one device, and of a scene.
+const ONE: &str = "{\"devices\":[{\"id\":0,\"inputs\":{}}],\"links\":[]}";
+
+const OTHER_REFUSALS: [(u8, Replay); 4] = [
+    (
+        3,
+        ("ceiling 10; main = nbr{1};", ONE, "", "types 2 not-local\n"),
+    ),
+    (3, ("ceiling 10; main = 11;", ONE, "", "types 2 literal\n")),
+    (
+        3,
+        (
+            "ceiling 10; main = 5;",
+            "{\"devices\":[{\"id\":0,\"inputs\":{}},{\"id\":1,\"inputs\":{}},{\"id\":2,\"inputs\":{}}],\"links\":[[1,1,1]]}",
+            "",
+            "network /links/0 self-link\n",
+        ),
+    ),
+    (
+        3,
+        (
+            "ceiling 10; input w: int 0..5; main = sense w;",
+            "{\"devices\":[{\"id\":0,\"inputs\":{\"w\":6}}],\"links\":[]}",
+            "",
+            "network /devices/0/inputs/w input-range\n",
+        ),
+    ),
+];
+
+#[test]
+fn other_refusals(rt: HostRuntime) -> Result<(), Fail> {
+    let alloc = rt.alloc();
+    for (status, row) in &OTHER_REFUSALS {
+        replays(&rt, alloc, &["fc", "replay"], row, *status)?;
+    }
+    Ok(())
+}
+
+// An item so many times between two texts.
+fn repeated(
+    alloc: Global,
+    front: &str,
+    item: &str,
+    times: usize,
+    back: &str,
+) -> Result<String, AllocError> {
+    let mut text = String::from_str(alloc, front)?;
+    'items: for _ in 0..times {
+        text.push_str(item)?;
+    }
+    text.push_str(back)?;
+    Ok(text)
+}
+
+// A network in which device 0 has 33 links.
+fn star(alloc: Global) -> Result<String, AllocError> {
+    let mut text = String::from_str(alloc, "{\"devices\":[{\"id\":0,\"inputs\":{}}")?;
+    'devices: for id in 1..34_u32 {
+        text.push_str(format!(in alloc; ",{{\"id\":{id},\"inputs\":{{}}}}")?.as_str())?;
+    }
+    text.push_str("],\"links\":[[0,1,1]")?;
+    'links: for id in 2..34_u32 {
+        text.push_str(format!(in alloc; ",[0,{id},1]")?.as_str())?;
+    }
+    text.push_str("]}")?;
+    Ok(text)
+}
+
+// A call of `fc` with these words and this input.
+fn refuses(
+    rt: &impl Abort,
+    alloc: Global,
+    list: &[&str],
+    input: String,
+    status: u8,
+    text: &str,
+) -> Result<(), Fail> {
+    let words = words(alloc, list)?;
+    let mut source = CalmSource::new(input.into_bytes());
+    let mut sink = CalmSink::new(alloc, 1000)?;
+    let outcome = fc(alloc, &words, &mut source, &mut sink);
+    assert_eq!(rt; sink.taken(), text.as_bytes());
+    assert_eq!(rt; outcome.status, status);
+    Ok(())
+}
+
+#[test]
+fn limits_passed(rt: HostRuntime) -> Result<(), Fail> {
+    let alloc = rt.alloc();
+    let brackets = repeated(alloc, "ceiling 10;\nmain = ", "(", 201, "1")?;
+    let brackets = repeated(alloc, brackets.as_str(), ")", 201, ";")?;
+    refuses(
+        &rt,
+        alloc,
+        &["fc", "format"],
+        brackets,
+        4,
+        "limit depth 201\n",
+    )?;
+    let second = String::from_str(alloc, "language 1; ceiling 10; main = 1;")?;
+    refuses(&rt, alloc, &["fc", "format"], second, 3, "syntax 1 1\n")?;
+    let back = format!(in alloc; ";\n%%\n{ONE}\n%%\n")?;
+    let tokens = repeated(alloc, "ceiling 10;\nmain = 1", " + 1", 2047, back.as_str())?;
+    refuses(
+        &rt,
+        alloc,
+        &["fc", "replay"],
+        tokens,
+        4,
+        "limit tokens 4098\n",
+    )?;
+    let nodes = repeated(alloc, "ceiling 10;\nmain = 1", " + 1", 2046, back.as_str())?;
+    refuses(
+        &rt,
+        alloc,
+        &["fc", "replay"],
+        nodes,
+        4,
+        "limit nodes 4093\n",
+    )?;
+    let front = "ceiling 10; main = 5;\n%%\n{\"devices\":[{}";
+    let devices = repeated(alloc, front, ",{}", 1024, "],\"links\":[]}\n%%\n")?;
+    refuses(
+        &rt,
+        alloc,
+        &["fc", "replay"],
+        devices,
+        4,
+        "limit devices 1025\n",
+    )?;
+    let star = star(alloc)?;
+    let linked = format!(in alloc; "ceiling 10; main = 5;\n%%\n{star}\n%%\n")?;
+    refuses(
+        &rt,
+        alloc,
+        &["fc", "replay"],
+        linked,
+        4,
+        "limit degree 33\n",
+    )?;
     Ok(())
 }

@@ -1,10 +1,5 @@
 //! Tests of what no clause says: that memory suffices, and what comes where a source or a sink fails in mid-stream.
 
-use crate::refusal::Refusal;
-use crate::replies::answer;
-use crate::reply::refuse;
-use crate::sections::sections;
-use crate::tasks::{Extras, Task};
 use crate::top::{calm, fc};
 use fc_io::{CalmSink, CalmSource, MemSink, MemSource};
 use std::alloc::{AllocError, Global};
@@ -76,25 +71,6 @@ fn too_many_bytes(rt: HostRuntime) -> Result<(), Fail> {
     let outcome = fc(alloc, &words, &mut source, &mut sink);
     assert_eq!(rt; outcome.status, 4);
     assert_eq!(rt; sink.taken(), b"limit bytes 1048577\n".as_slice());
-    Ok(())
-}
-
-#[test]
-fn sections_are_cut(rt: HostRuntime) -> Result<(), Fail> {
-    assert_eq!(rt; sections(rt.alloc(), b"a\n%%\nb")?.len(), 2);
-    Ok(())
-}
-
-#[test]
-fn a_refusal_is_answered(rt: HostRuntime) -> Result<(), Fail> {
-    let alloc = rt.alloc();
-    assert_eq!(rt; refuse(alloc, Refusal::Degree)?.status(), 4);
-    let task = Task::Replay(Extras {
-        rounds: false,
-        table: false,
-    });
-    let (reply, _) = answer(alloc, task, b"")?;
-    assert_eq!(rt; reply.text(), b"sections 1\n".as_slice());
     Ok(())
 }
 

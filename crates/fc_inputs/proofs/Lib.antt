@@ -1,0 +1,5 @@
+pub mod Cut
+pub mod SectionSizes
+pub mod Reading
+pub mod OneReading
+pub mod Stopping

@@ -1,0 +1,56 @@
+-- Why an input is refused, and what is judged: accepted, or refused for a cause.
+use Rattle.std.specs.Prelude.{ℕ, ◌≡◌, List, [], ◌∷◌, ◌++◌, codes, Option, Some, None}
+use Rattle.std.specs.Fmt.{decimal}
+use Rattle.topology.specs.declared.types.NetFault.{NetFault}
+use Rattle.net_json.specs.Judging as scene
+use Rattle.net_json.specs.Judging.{NotJson, Misshaped, BadNetwork, BadKept, TooManyDevices}
+use Rattle.fc_inputs.specs.declared.refusal.Refusal.{Refusal}
+use Rattle.fc_inputs.specs.declared.refusal.Refusal.TheVariants.{Devices}
+use Rattle.fc_inputs.specs.FaultWords.{net_word}
+use Rattle.fc_inputs.specs.Refusals.{Reply, line, refused, limit_of}
+
+-- a refusal, or the first fault of a scene
+pub data Cause : Type 0 where
+  Plainly : Refusal → Cause
+  InScene : scene.Refusal → Cause
+
+-- a path as text: that of the scene itself is `/`
+abbrev pub path_text : List ℕ → List ℕ
+path_text [] = codes "/"
+path_text (b ∷ bs) = b ∷ bs
+
+abbrev pub scene_reply : List ℕ → Reply
+scene_reply text = record { status = 3; text = line text }
+
+-- a network's refusal at a path: a limit, or its word
+abbrev pub or_network : Option Refusal → List ℕ → NetFault → Reply
+or_network None path fault = scene_reply (codes "network " ++ path_text path ++ codes " " ++ net_word fault)
+or_network (Some limit) path fault = refused limit
+
+-- the reply to the first fault of a scene
+abbrev pub scene_refused : scene.Refusal → Reply
+scene_refused NotJson = scene_reply (codes "json")
+scene_refused (Misshaped path) = scene_reply (codes "shape " ++ path_text path)
+scene_refused (BadNetwork path fault) = or_network (limit_of fault) path fault
+scene_refused (BadKept path place) = scene_reply (codes "kept " ++ path_text path ++ codes " " ++ decimal place)
+scene_refused (TooManyDevices count) = refused (Devices count)
+
+-- the reply to what is refused
+abbrev pub reply_to : Cause → Reply
+reply_to (Plainly refusal) = refused refusal
+reply_to (InScene refusal) = scene_refused refusal
+
+-- what texts are read to and what a command makes of them, or why they are refused
+pub data Judged (A : Type 0) : Type 0 where
+  Accepted : A → Judged A
+  Refused : Cause → Judged A
+
+-- what comes after something that is judged: its refusal stays
+abbrev pub AndThen : {A B : Type 0} → Judged A → (A → Judged B → Type 0) → Judged B → Type 0
+AndThen (Accepted x) Next j = Next x j
+AndThen (Refused cause) Next j = j ≡ Refused cause
+
+-- the same, of what is made of what is accepted
+abbrev pub judged_map : {A B : Type 0} → (A → B) → Judged A → Judged B
+judged_map f (Accepted x) = Accepted (f x)
+judged_map f (Refused cause) = Refused cause

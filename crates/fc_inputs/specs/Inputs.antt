@@ -1,0 +1,34 @@
+-- What every command over a scene reads: a program, and a scene of it.
+use Rattle.std.specs.Prelude.{ℕ, ◌≡◌, List}
+use Rattle.fc_syntax.specs.Terms.{Declaration}
+use Rattle.fc_nodes.specs.Program.{Unfolding}
+use Rattle.net_json.specs.Judging as scene
+use Rattle.net_json.specs.Scenes.{SceneValue, scene_of}
+use Rattle.fc_inputs.specs.Causes.{InScene, Judged, Accepted, Refused, AndThen}
+use Rattle.fc_inputs.specs.Sources.{ReadsSource, ReadsProgram}
+
+-- a program and a scene of it
+abbrev pub InputOf : Type 0
+InputOf = Unfolding × SceneValue
+
+-- a judged scene, beside its program
+abbrev pub with_scene : Unfolding → scene.Judged SceneValue → Judged InputOf
+with_scene U (scene.Accepted s) = Accepted (U, s)
+with_scene U (scene.Refused refusal) = Refused (InScene refusal)
+
+-- the texts of a program and of a scene: the program is judged first, and then the scene of that program
+pub record ReadsInput (program network : List ℕ) (j : Judged InputOf) : Type 0 where
+  pub judged : Judged Unfolding
+  pub reads : ReadsProgram program judged
+  pub scene : AndThen judged (λ U k. k ≡ with_scene U (scene_of U network)) j
+
+-- ---- the laws: texts are read to one thing
+
+abbrev pub OneSource : Type 0
+OneSource = (text : List ℕ) → (j : Judged (List Declaration)) × ReadsSource text j × ((k : Judged (List Declaration)) → ReadsSource text k → k ≡ j)
+
+abbrev pub OneProgramText : Type 0
+OneProgramText = (text : List ℕ) → (j : Judged Unfolding) × ReadsProgram text j × ((k : Judged Unfolding) → ReadsProgram text k → k ≡ j)
+
+abbrev pub OneInput : Type 0
+OneInput = (program network : List ℕ) → (j : Judged InputOf) × ReadsInput program network j × ((k : Judged InputOf) → ReadsInput program network k → k ≡ j)

@@ -1,0 +1,100 @@
+-- The refusals of all commands: their statuses and their lines.
+use Rattle.std.specs.Prelude.{ℕ, List, [], ◌∷◌, ◌++◌, codes, Option, Some, None}
+use Rattle.std.specs.Fmt.{decimal}
+use Rattle.topology.specs.declared.types.NetFault.{NetFault}
+use Rattle.topology.specs.declared.types.NetFault.TheVariants as net
+use Rattle.fc_inputs.specs.declared.refusal.LineFault.{LineFault}
+use Rattle.fc_inputs.specs.declared.refusal.LineFault.TheVariants as line_fault
+use Rattle.fc_inputs.specs.declared.refusal.Refusal.{Refusal}
+use Rattle.fc_inputs.specs.declared.refusal.Refusal.TheVariants.{Usage, Workers, Bytes, Sections, Lexical, Tokens, Depth, Syntax, Types, Nodes, Devices, Degree, Lines, Scrambles, Firings, Script, Log, Mail}
+use Rattle.fc_inputs.specs.FaultWords.{kind_word, line_word}
+
+-- a status, and the text that is written
+pub record Reply : Type 0 where
+  pub status : ℕ
+  pub text : List ℕ
+
+-- a text with its line feed
+abbrev pub line : List ℕ → List ℕ
+line text = text ++ 10 ∷ []
+
+-- the line that a refusal writes
+abbrev pub line_of : Refusal → List ℕ
+line_of Usage = line (codes "usage: fc check|stable|run|replay|format|gen|trace|mail")
+line_of (Workers count) = line (codes "limit workers " ++ decimal count)
+line_of Bytes = line (codes "limit bytes 1048577")
+line_of (Sections count) = line (codes "sections " ++ decimal count)
+line_of (Lexical at) = line (codes "lexical " ++ decimal at)
+line_of (Tokens count) = line (codes "limit tokens " ++ decimal count)
+line_of Depth = line (codes "limit depth 201")
+line_of (Syntax declaration at) = line (codes "syntax " ++ decimal declaration ++ codes " " ++ decimal at)
+line_of (Types declaration kind) = line (codes "types " ++ decimal declaration ++ codes " " ++ kind_word kind)
+line_of (Nodes size) = line (codes "limit nodes " ++ decimal size)
+line_of (Devices count) = line (codes "limit devices " ++ decimal count)
+line_of Degree = line (codes "limit degree 33")
+line_of (Lines count) = line (codes "limit lines " ++ decimal count)
+line_of (Scrambles count) = line (codes "limit scrambles " ++ decimal count)
+line_of (Firings count) = line (codes "limit firings " ++ decimal count)
+line_of (Script at fault) = line (codes "script " ++ decimal at ++ codes " " ++ line_word fault)
+line_of (Log at fault) = line (codes "log " ++ decimal at ++ codes " " ++ line_word fault)
+line_of (Mail count) = line (codes "limit mail " ++ decimal count)
+
+-- the status of a refusal: 2 for the words, 4 for a limit, and 3 for all else
+abbrev pub status_of : Refusal → ℕ
+status_of Usage = 2
+status_of (Workers count) = 4
+status_of Bytes = 4
+status_of (Sections count) = 3
+status_of (Lexical at) = 3
+status_of (Tokens count) = 4
+status_of Depth = 4
+status_of (Syntax declaration line) = 3
+status_of (Types declaration kind) = 3
+status_of (Nodes size) = 4
+status_of (Devices count) = 4
+status_of Degree = 4
+status_of (Lines count) = 4
+status_of (Scrambles count) = 4
+status_of (Firings count) = 4
+status_of (Script at fault) = 3
+status_of (Log at fault) = 3
+status_of (Mail count) = 4
+
+-- the reply of a refusal
+abbrev pub refused : Refusal → Reply
+refused refusal = record { status = status_of refusal; text = line_of refusal }
+
+-- the limit that a network's refusal is: too many links of a device, or too many devices at a join
+abbrev pub limit_of : NetFault → Option Refusal
+limit_of net.Degree = Some Degree
+limit_of net.Devices = Some (Devices 1025)
+limit_of net.Twice = None
+limit_of net.NoDevice = None
+limit_of net.SelfLink = None
+limit_of net.Weight = None
+limit_of net.NoLink = None
+limit_of net.NoInput = None
+limit_of net.InputType = None
+limit_of net.InputRange = None
+limit_of net.InFlight = None
+limit_of net.Last = None
+
+abbrev pub or_refusal : Option Refusal → Refusal → Refusal
+or_refusal None refusal = refusal
+or_refusal (Some limit) refusal = limit
+
+-- the limit that a fault of a line is
+abbrev pub limit_in : LineFault → Option Refusal
+limit_in line_fault.Form = None
+limit_in (line_fault.Net fault) = limit_of fault
+limit_in line_fault.Kept = None
+limit_in line_fault.Flying = None
+limit_in line_fault.NotFlying = None
+limit_in line_fault.Empty = None
+
+-- the refusal of a line of a log, and of one of a script: a limit, or the line with the word of its fault
+abbrev pub log_refusal : ℕ → LineFault → Refusal
+log_refusal at fault = or_refusal (limit_in fault) (Log at fault)
+
+abbrev pub script_refusal : ℕ → LineFault → Refusal
+script_refusal at fault = or_refusal (limit_in fault) (Script at fault)

@@ -1,0 +1,69 @@
+-- What the code stops with, and for which cause.
+use Rattle.std.specs.Prelude.{◌≡◌, Option, Some, None}
+use Rattle.fc_lexer.specs.declared.tokens.LexFault.{LexFault}
+use Rattle.fc_lexer.specs.declared.tokens.LexFault.TheVariants as lex
+use Rattle.fc_parser.specs.declared.faults.ParseFault.{ParseFault}
+use Rattle.fc_parser.specs.declared.faults.ParseFault.TheVariants as parse
+use Rattle.fc_types.specs.declared.faults.TypeFault.{TypeFault}
+use Rattle.fc_types.specs.declared.faults.TypeFault.TheVariants as types
+use Rattle.unfold.specs.declared.faults.UnfoldFault.{UnfoldFault}
+use Rattle.unfold.specs.declared.faults.UnfoldFault.TheVariants as size_fault
+use Rattle.net_json.specs.declared.types.JsonFault.{JsonFault}
+use Rattle.net_json.specs.declared.types.JsonFault.TheVariants as json
+use Rattle.net_json.specs.Judging.{NotJson, Misshaped, BadNetwork, BadKept, TooManyDevices}
+use Rattle.fc_inputs.specs.declared.refusal.Refusal.TheVariants as refusal
+use Rattle.fc_inputs.specs.declared.stop.Stop.{Stop}
+use Rattle.fc_inputs.specs.declared.stop.Stop.TheVariants as stop
+use Rattle.fc_inputs.specs.Refusals.{Reply}
+use Rattle.fc_inputs.specs.Causes.{Cause, Plainly, InScene, reply_to}
+
+-- the cause of a fault of a scene. Want of memory has none
+abbrev pub scene_cause : JsonFault → Option Cause
+scene_cause json.Json = Some (InScene NotJson)
+scene_cause (json.Shape p) = Some (InScene (Misshaped p.text.items))
+scene_cause (json.Net p fault) = Some (InScene (BadNetwork p.text.items fault))
+scene_cause (json.Kept p place) = Some (InScene (BadKept p.text.items place))
+scene_cause (json.Devices count) = Some (InScene (TooManyDevices count))
+scene_cause json.Memory = None
+
+-- the cause of a stop. A source that fails and want of memory have none
+abbrev pub cause_of : Stop → Option Cause
+cause_of stop.Read = None
+cause_of stop.Memory = None
+cause_of (stop.Refused refusal) = Some (Plainly refusal)
+cause_of (stop.Scene fault) = scene_cause fault
+
+abbrev pub WhereCause : (Cause → Type 0) → Option Cause → Type 0
+WhereCause P None = Unit {0}
+WhereCause P (Some cause) = P cause
+
+-- A call that judges stops for a cause of which this holds, or by want of memory. It doesn't read the source.
+abbrev pub StopsFor : (Cause → Type 0) → Stop → Type 0
+StopsFor P stop.Read = ⊥
+StopsFor P stop.Memory = Unit {0}
+StopsFor P (stop.Refused refusal) = P (Plainly refusal)
+StopsFor P (stop.Scene fault) = WhereCause P (scene_cause fault)
+
+-- the stops of the faults of the front end
+abbrev pub lex_stop : LexFault → Stop
+lex_stop (lex.At at) = stop.Refused (refusal.Lexical at)
+lex_stop lex.Memory = stop.Memory
+
+abbrev pub parse_stop : ParseFault → Stop
+parse_stop (parse.Tokens declaration count) = stop.Refused (refusal.Tokens count)
+parse_stop (parse.Depth declaration) = stop.Refused refusal.Depth
+parse_stop (parse.Syntax declaration line) = stop.Refused (refusal.Syntax declaration line)
+parse_stop parse.Memory = stop.Memory
+
+abbrev pub type_stop : TypeFault → Stop
+type_stop (types.Fault declaration kind) = stop.Refused (refusal.Types declaration kind)
+type_stop types.Memory = stop.Memory
+
+abbrev pub unfold_stop : UnfoldFault → Stop
+unfold_stop (size_fault.TooLarge size) = stop.Refused (refusal.Nodes size)
+unfold_stop size_fault.Memory = stop.Memory
+
+-- the reply to a cause. Where there is none, nothing is replied
+abbrev pub IsReplyFor : Option Cause → Reply → Type 0
+IsReplyFor None reply = ⊥
+IsReplyFor (Some cause) reply = reply ≡ reply_to cause

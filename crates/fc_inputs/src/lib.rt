@@ -1,0 +1,22 @@
+//! What the commands share before they do their work: the sections of an input, the program and the scene that they are read
+//! to, and the refusals with their statuses and lines.
+#![tactic(auto)]
+
+mod cutting;
+mod fault_words;
+mod inputs;
+mod laws;
+mod refusal;
+mod reply;
+mod sources;
+mod stop;
+#[cfg(test)]
+mod tests;
+
+pub use cutting::{one_section, sections, three_sections};
+pub use inputs::read_input;
+pub use laws::{one_input, one_program_text, one_source};
+pub use refusal::{LineFault, Refusal, log_refusal, script_refusal};
+pub use reply::{Failure, Reply, rendered};
+pub use sources::{read_program, read_source};
+pub use stop::Stop;

@@ -1,0 +1,94 @@
+-- Two answers to one input have one status and one text.
+use Rattle.std.proofs.Common.{ℕ, ◌≡◌, Bool, true, false, List, [], ◌∷◌, length, refl, ap, ◌∙◌, sym, subst, Option, Some, None}
+use Rattle.std.specs.Prelude.{nat_lt}
+use Rattle.fc_syntax.specs.Terms.{Declaration}
+use Rattle.fc_syntax.specs.Text.{program_text}
+use Rattle.command_words.specs.declared.commands.Command.{Command}
+use Rattle.command_words.specs.declared.commands.Command.TheVariants.{Check, Stable, Run, Replay, Format, Gen, Trace, Mail}
+use Rattle.command_words.specs.declared.commands.Limit.{Limit}
+use Rattle.command_words.specs.Commands.{limit_of}
+use Rattle.fc_inputs.specs.Causes.{Cause, Judged, Accepted, Refused, judged_map, reply_to}
+use Rattle.fc_inputs.specs.Sections.{sections_of, WithOne, WithThree, other_number}
+use Rattle.fc_inputs.specs.Inputs.{OneSource}
+use Rattle.fc_replay.specs.declared.replays.Options.{Options}
+use Rattle.fc_replay.specs.Replays.{Shown}
+use Rattle.fc_replay.specs.Laws.{ShowAlike, Alike, OneReplay}
+use Rattle.fc_program.specs.declared.TheConstants.{LIMIT}
+use Rattle.fc_program.specs.Asked.{reads}
+use Rattle.fc_program.specs.Answers.{AnswerValue, written, showing, answer_of, Formats, ShowsReplay, options_of, AnswersSections, AnswersInput, AnswersReading, AnswersWithin, AnswersAsked, Answers}
+use Rattle.fc_program.specs.Laws.{SameLogs, SameText, threads_of, AnswersAgree, OneAnswer}
+
+pub record SameAnswer (a b : AnswerValue) : Type 0 where
+  pub status : a.status ≡ b.status
+  pub text : a.text ≡ b.text
+
+abbrev Same : Judged AnswerValue → Judged AnswerValue → Type 0
+Same j k = SameAnswer (answer_of j) (answer_of k)
+
+equal : (i j k : Judged AnswerValue) → j ≡ i → k ≡ i → Same j k
+equal i j k e f = record { status = ap (λ x. (answer_of x).status) (e ∙ sym f); text = ap (λ x. (answer_of x).text) (e ∙ sym f) }
+
+alike : (a b : Judged Shown) (j k : Judged AnswerValue) → Alike a b → j ≡ judged_map showing a → k ≡ judged_map showing b → Same j k
+alike (Accepted a) (Accepted b) j k h e f = record {
+  status = ap (λ x. (answer_of x).status) e ∙ sym (ap (λ x. (answer_of x).status) f);
+  text = ap (λ x. (answer_of x).text) e ∙ h.text ∙ sym (ap (λ x. (answer_of x).text) f);
+}
+alike (Accepted a) (Refused cause) j k h e f = absurd h
+alike (Refused cause) (Accepted b) j k h e f = absurd h
+alike (Refused cause) (Refused other) j k h e f = equal (Refused other) j k (e ∙ ap Refused h) f
+
+by_threads : (b : Bool) (x y : AnswerValue) → x.text ≡ y.text → SameText b x y
+by_threads false x y e = e
+by_threads true x y e = λ logs. e
+
+module _ (source : OneSource) (replay : OneReplay) where
+  same_format : (ss : List (List ℕ)) (j k : Judged AnswerValue) → WithOne Formats ss j → WithOne Formats ss k → Same j k
+  same_format [] j k h g = equal (Refused (other_number [])) j k h g
+  same_format (program ∷ []) j k h g =
+      let one = source program in
+      equal (judged_map (λ ds. written (program_text ds)) one.0) j k
+      (h.prints ∙ ap (judged_map (λ ds. written (program_text ds))) (one.2 h.judged h.reads))
+      (g.prints ∙ ap (judged_map (λ ds. written (program_text ds))) (one.2 g.judged g.reads))
+  same_format (a ∷ b ∷ ss) j k h g = equal (Refused (other_number (a ∷ b ∷ ss))) j k h g
+
+  same_replay : (o : Options) (ss : List (List ℕ)) (j k : Judged AnswerValue) → WithThree (ShowsReplay o) ss j → WithThree (ShowsReplay o) ss k → Same j k
+  same_replay o [] j k h g = equal (Refused (other_number [])) j k h g
+  same_replay o (a ∷ []) j k h g = equal (Refused (other_number (a ∷ []))) j k h g
+  same_replay o (a ∷ b ∷ []) j k h g = equal (Refused (other_number (a ∷ b ∷ []))) j k h g
+  same_replay o (a ∷ b ∷ c ∷ []) j k h g = alike h.judged g.judged j k (replay o a b c h.judged g.judged h.replays g.replays) h.shows g.shows
+  same_replay o (a ∷ b ∷ c ∷ d ∷ ss) j k h g = equal (Refused (other_number (a ∷ b ∷ c ∷ d ∷ ss))) j k h g
+
+  same_sections : (command : Command) (ss : List (List ℕ)) (j k : Judged AnswerValue) → AnswersSections command ss j → AnswersSections command ss k → Same j k
+  same_sections Format ss j k h g = same_format ss j k h g
+  same_sections (Replay rounds table) ss j k h g = same_replay (options_of rounds table) ss j k h g
+  same_sections (Check facts) ss j k h g = absurd h
+  same_sections Stable ss j k h g = absurd h
+  same_sections (Run workers log table) ss j k h g = absurd h
+  same_sections (Gen number devices workers) ss j k h g = absurd h
+  same_sections Trace ss j k h g = absurd h
+  same_sections (Mail number) ss j k h g = absurd h
+
+  same_input : (b : Bool) (command : Command) (input : List ℕ) (j k : Judged AnswerValue) → AnswersInput b command input j → AnswersInput b command input k → Same j k
+  same_input true command input j k h g = equal _ j k h g
+  same_input false command input j k h g = same_sections command (sections_of input) j k h g
+
+  same_reading : (b : Bool) (command : Command) (input : List ℕ) (j k : Judged AnswerValue) → AnswersReading b command input j → AnswersReading b command input k → Same j k
+  same_reading true command input j k h g = same_input (nat_lt LIMIT (length input)) command input j k h g
+  same_reading false command input j k h g = absurd h
+
+  same_within : (o : Option (Limit × ℕ)) (command : Command) (input : List ℕ) (j k : Judged AnswerValue) → AnswersWithin o command input j → AnswersWithin o command input k → Same j k
+  same_within (Some limit) command input j k h g = equal _ j k h g
+  same_within None command input j k h g = same_reading (reads command) command input j k h g
+
+  same_asked : (asked : Option Command) (input : List ℕ) (j k : Judged AnswerValue) → AnswersAsked asked input j → AnswersAsked asked input k → Same j k
+  same_asked None input j k h g = equal _ j k h g
+  same_asked (Some command) input j k h g = same_within (limit_of command) command input j k h g
+
+  pub one_answer : OneAnswer
+  one_answer asked input a b h g =
+      let same = same_asked asked input h.judged g.judged h.makes g.makes in
+      let text : a.text ≡ b.text = ap (λ (x : AnswerValue). x.text) h.is ∙ same.text ∙ sym (ap (λ (x : AnswerValue). x.text) g.is) in
+      record {
+        status = ap (λ (x : AnswerValue). x.status) h.is ∙ same.status ∙ sym (ap (λ (x : AnswerValue). x.status) g.is);
+        text = by_threads (threads_of asked) a b text;
+      }

@@ -1,0 +1,5 @@
+use Rattle.fc_program.proofs.OneAnswer.{one_answer}
+use Rattle.fc_program.proofs.top.one_answer.Goals as goal
+
+pub returns : goal.returns
+returns c = one_answer c.one_source.ensures c.one_replay.ensures

@@ -1,0 +1,99 @@
+//! What the commands make of an input. None of them waits.
+ghost use Rattle.std.specs.Prelude.{◌≡◌, ◌≤◌, IfErr, IfOk, length, true};
+ghost use Rattle.fc_inputs.specs.Causes.{Accepted, Refused};
+ghost use Rattle.fc_inputs.specs.Sections.{sections_of};
+ghost use Rattle.fc_inputs.specs.Stops.{StopsFor};
+ghost use Rattle.fc_program.specs.Answers.{AnswersSections, Formats};
+ghost use Rattle.fc_program.specs.Asked.{exists};
+ghost use Rattle.fc_program.specs.Top.{value_of};
+ghost use Rattle.fc_program.specs.declared.TheConstants.{LIMIT};
+
+use command_words::Command;
+use fc_inputs::{Reply, Stop, one_section, read_source, sections, three_sections};
+use fc_replay::{Options, replay};
+use fc_syntax::print;
+use firing_core::{Book, Part};
+use std::alloc::Global;
+
+/// A status with a text, and for some commands the book that it shows and the stretches of its log.
+#[derive(Drop)]
+pub struct Answer {
+    pub reply: Reply,
+    pub book: Option<Book>,
+    pub parts: Vec<Part>,
+}
+
+impl Answer {
+    ghost use Rattle.std.specs.Prelude.{◌≡◌, Some};
+    ghost use Rattle.fc_program.specs.Answers.{replied, showing, written};
+    ghost use Rattle.fc_program.specs.Top.{value_of};
+    ghost use Rattle.fc_replay.specs.Code.{shown_of};
+
+    /// The answer of a reply.
+    pub fn replied(alloc: Global, reply: Reply) -> Self
+        ensures { value_of result ≡ replied reply }
+    {
+        Answer {
+            reply,
+            book: None,
+            parts: Vec::new(alloc),
+        }
+    }
+
+    // What was done, with its text alone.
+    fn written(alloc: Global, text: Vec<u8>) -> Self
+        ensures { value_of result ≡ written text.items }
+    {
+        Answer::replied(alloc, Reply::new(0, text))
+    }
+
+    // What was done, with a text and the book that it shows.
+    fn showing(alloc: Global, text: Vec<u8>, book: Book) -> Self
+        ensures { value_of result ≡ showing (shown_of text.items book) }
+    {
+        Answer {
+            reply: Reply::new(0, text),
+            book: Some(book),
+            parts: Vec::new(alloc),
+        }
+    }
+}
+
+// The canonical text of a program.
+fn format(alloc: Global, program: &[u8]) -> Result<Answer, Stop>
+    requires { length program.now ≤ 1048576 }
+    ensures formats { IfOk result (λ a. Formats program.now (Accepted (value_of a))) }
+    ensures refused { IfErr result (StopsFor (λ cause. Formats program.now (Refused cause))) }
+{
+    let program = read_source(alloc, program)?;
+    let text = print(alloc, &program)?;
+    Ok(Answer::written(alloc, text))
+}
+
+/// The answer of a command to an input within the limit.
+pub fn answer_to(alloc: Global, command: Command, input: &[u8]) -> Result<Answer, Stop>
+    requires exists { exists command ≡ true }
+    requires short { length input.now ≤ LIMIT }
+    ensures makes { IfOk result (λ a. AnswersSections command (sections_of input.now) (Accepted (value_of a))) }
+    ensures refused { IfErr result (StopsFor (λ cause. AnswersSections command (sections_of input.now) (Refused cause))) }
+{
+    let sections = sections(alloc, input)?;
+    match command {
+        Command::Format => {
+            let program = one_section(&sections)?;
+            Ok(format(alloc, program)?)
+        }
+        Command::Replay { rounds, table } => {
+            let (program, network, log) = three_sections(&sections)?;
+            let options = Options { rounds, table };
+            let (text, book) = replay(alloc, options, program, network, log)?;
+            Ok(Answer::showing(alloc, text, book))
+        }
+        Command::Check { .. }
+        | Command::Stable
+        | Command::Run { .. }
+        | Command::Gen { .. }
+        | Command::Trace
+        | Command::Mail { .. } => unreachable!(),
+    }
+}

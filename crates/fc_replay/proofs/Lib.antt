@@ -1,0 +1,9 @@
+pub mod Starting
+pub mod Rows
+pub mod Entries
+pub mod Stops
+pub mod Replaying
+pub mod Resuming
+pub mod OneReplay
+pub mod Rooms
+pub mod AskedRounds

@@ -1,0 +1,137 @@
+-- What the code has read and replayed, as the definitions say it.
+use Rattle.std.proofs.Common.{ℕ, ◌≡◌, List, [], ◌∷◌, ◌++◌, map, get_or, refl, ap, ◌∙◌, sym, subst, Bool, true, false, Option, Some, None}
+use Rattle.fc_nodes.specs.Program.{Unfolding, unfolding_of}
+use Rattle.topology.specs.Networks.{Network, numbers}
+use Rattle.firing_core.specs.Cores.{Core, IsGood}
+use Rattle.firing_core.specs.declared.entries.Entry.{Entry}
+use Rattle.firing_core.specs.declared.entries.ReplayFault.{ReplayFault}
+use Rattle.firing_core.specs.declared.entries.ReplayFault.TheVariants as replay_fault
+use Rattle.firing_core.specs.Entries.{EntryValue, entries_of}
+use Rattle.firing_core.specs.Replays.{LogFits, replay}
+use Rattle.firing_core.specs.Books.{BookValue, FailsReplay}
+use Rattle.firing_core.specs.CoreViews.{CoreValue, core_of, program_of}
+use Rattle.net_json.specs.Scenes.{SceneValue}
+use Rattle.report.specs.Texts.{values_text}
+use Rattle.edit_commands.specs.declared.types.Fault.{Fault}
+use Rattle.edit_commands.specs.declared.types.ScriptFault.{ScriptFault}
+use Rattle.edit_commands.specs.declared.types.ScriptFault.TheVariants as script
+use Rattle.edit_commands.specs.LineByLine.{Lines, AllLines, StopsAt, SaidBy}
+use Rattle.edit_commands.specs.Logs.{LogLine, IsEntry, RefusesLog, log_of, numbered}
+use Rattle.fc_inputs.specs.declared.refusal.LineFault.{LineFault}
+use Rattle.fc_inputs.specs.declared.refusal.LineFault.TheVariants.{Net}
+use Rattle.fc_inputs.specs.declared.stop.Stop.{Stop}
+use Rattle.fc_inputs.specs.Causes.{Cause, Plainly, Judged, Accepted, Refused}
+use Rattle.fc_inputs.specs.Refusals.{log_refusal}
+use Rattle.fc_inputs.specs.Inputs.{ReadsInput}
+use Rattle.fc_inputs.specs.Stops.{StopsFor}
+use Rattle.fc_replay.specs.declared.replays.Options.{Options}
+use Rattle.fc_replay.specs.Ledgers.{Ledger, ledger_of}
+use Rattle.fc_replay.specs.Stopping.{Logged, entries_in, fault_in, step_fault, first_stop}
+use Rattle.fc_replay.specs.Replays.{start_of, RoundsAsked, IsText, table_line, where_asked, Shown, book_of, ShowsBook, ReplaysEntries, ReplaysLines, ReplaysLog, Replays}
+use Rattle.fc_replay.specs.Code.{stop_at, stop_of, IsFaultOfLog, fault_stop, IsFaulty, IsStopped, IsReplayed, shown_of}
+use Rattle.fc_replay.proofs.Entries.{HasRead, log_lines}
+use Rattle.fc_replay.proofs.Stops.{RunsAreReplays, step_stops, edit_stops, never_stops}
+
+-- ---- what is replayed
+pub is_replayed : (U : Unfolding) (c start : Core) (log : List (ℕ × Entry)) (lines : List ℕ) (es : List EntryValue) (book : BookValue) → HasRead c start log lines es
+    → replay U c es ≡ Some (core_of book.core) → unfolding_of book.program ≡ U → core_of book.start ≡ c → entries_of book.log ≡ es → IsReplayed U start (map numbered log) (ledger_of book)
+is_replayed U c start log lines es book read led is from kept = record {
+  leads = subst (λ k. replay U k (entries_in (map numbered log)) ≡ Some (core_of book.core)) read.same (ap (replay U c) (sym read.entries_read) ∙ led);
+  is = ap (λ V. book_of V (core_of book.start) (entries_of book.log) (core_of book.core)) is
+      ∙ ap (λ k. book_of U k (entries_of book.log) (core_of book.core)) (from ∙ read.same)
+      ∙ ap (λ l. book_of U start l (core_of book.core)) (kept ∙ read.entries_read);
+}
+
+pub is_stopped : (agree : RunsAreReplays) (U : Unfolding) (c start : Core) (log : List (ℕ × Entry)) (lines : List ℕ) (es : List EntryValue) (fault : ReplayFault) → HasRead c start log lines es → IsGood U c → LogFits U es
+    → FailsReplay U c es fault → StopsFor (IsStopped U start (map numbered log)) (stop_of lines fault)
+is_stopped agree U c start log lines es (replay_fault.At i f) read good fits h = by_fault (step_fault f) refl
+  where
+    by_fault : (o : Option LineFault) → step_fault f ≡ o → StopsFor (IsStopped U start (map numbered log)) (stop_at (get_or lines i 0) o)
+    by_fault (Some g) e = record {
+      at = get_or lines i 0;
+      fault = g;
+      stops = subst (λ k. first_stop U k (map numbered log) ≡ Some (get_or lines i 0, g)) read.same
+          (step_stops agree U c (map numbered log) es i f g e read.entries_read good fits h ∙ ap (λ l. Some (get_or l i 0, g)) (sym (read.numbers_read ∙ log_lines log)));
+      is = refl;
+    }
+    by_fault None e = tt
+is_stopped agree U c start log lines es (replay_fault.EditAt i g) read good fits h = record {
+  at = get_or lines i 0;
+  fault = Net g;
+  stops = subst (λ k. first_stop U k (map numbered log) ≡ Some (get_or lines i 0, Net g)) read.same
+      (edit_stops agree U c (map numbered log) es i g read.entries_read good fits h ∙ ap (λ l. Some (get_or l i 0, Net g)) (sym (read.numbers_read ∙ log_lines log)));
+  is = refl;
+}
+is_stopped agree U c start log lines es replay_fault.Memory read good fits h = tt
+
+-- ---- the text
+pub is_text : (options : Options) (book : BookValue) (one two : CoreValue) (rounds table a b d e : List ℕ) → one ≡ book.core → two ≡ book.core → book.core.program ≡ book.program → a ≡ [] → b ≡ a ++ values_text (core_of one)
+    → RoundsAsked options.rounds (numbers (core_of book.core).net.devices) (entries_of book.log) rounds → table ≡ where_asked options.table (table_line (program_of two) (core_of two)) → d ≡ b ++ rounds → e ≡ d ++ table
+    → e ≡ (values_text (core_of book.core) ++ rounds) ++ where_asked options.table (table_line (unfolding_of book.program) (core_of book.core))
+is_text options book one two rounds table a b d e first second held none is counted asked more all =
+    all
+    ∙ ap (λ l. d ++ l) (asked ∙ ap (λ (k : CoreValue). where_asked options.table (table_line (program_of k) (core_of k))) second ∙ ap (λ p. where_asked options.table (table_line (unfolding_of p) (core_of book.core))) held)
+    ∙ ap (λ l. l ++ where_asked options.table (table_line (unfolding_of book.program) (core_of book.core)))
+    (more ∙ ap (λ l. l ++ rounds) (is ∙ ap (λ l. l ++ values_text (core_of one)) none ∙ ap (λ (k : CoreValue). values_text (core_of k)) first))
+
+-- ---- the log
+pub is_fault_of_log : (U : Unfolding) (n : Network) (text : List ℕ) (fault : ScriptFault) → RefusesLog U n text fault → IsFaultOfLog fault
+is_fault_of_log U n text (script.At at fault) h = tt
+is_fault_of_log U n text (script.Lines count) h = absurd h
+is_fault_of_log U n text (script.Scrambles count) h = absurd h
+is_fault_of_log U n text (script.Firings count) h = absurd h
+is_fault_of_log U n text script.Memory h = tt
+
+pub is_faulty : (U : Unfolding) (n : Network) (text : List ℕ) (fault : ScriptFault) → RefusesLog U n text fault → StopsFor (IsFaulty (log_of U n text)) (fault_stop fault)
+is_faulty U n text (script.At at fault) h = subst (λ j. IsFaulty j (Plainly (log_refusal at (fault_in fault)))) (sym h) refl
+is_faulty U n text (script.Lines count) h = absurd h
+is_faulty U n text (script.Scrambles count) h = absurd h
+is_faulty U n text (script.Firings count) h = absurd h
+is_faulty U n text script.Memory h = tt
+
+-- ---- the texts
+module _ (options : Options) (program network log : List ℕ) (U : Unfolding) (s : SceneValue) (reads : ReadsInput program network (Accepted (U, s))) where
+  ended : (j : Judged Shown) → ReplaysLog options U (start_of s) (log_of U s.net log) j → Replays options program network log j
+  ended j h = record { judged = Accepted (U, s); reads = reads; ends = h }
+
+  faulty : (cause : Cause) (ls : Lines Fault LogLine) → IsFaulty ls cause → ReplaysLog options U (start_of s) ls (Refused cause)
+  faulty cause (AllLines lines) h = absurd h
+  faulty cause (StopsAt at fault) h = ap Refused h
+
+  pub replay_faulty : (cause : Cause) → IsFaulty (log_of U s.net log) cause → Replays options program network log (Refused cause)
+  replay_faulty cause h = ended (Refused cause) (faulty cause (log_of U s.net log) h)
+
+  stopped : (cause : Cause) (es : List Logged) (ls : Lines Fault LogLine) → SaidBy (IsEntry U) es ls → IsStopped U (start_of s) es cause → ReplaysLog options U (start_of s) ls (Refused cause)
+  stopped cause es (StopsAt at fault) are h = absurd are
+  stopped cause es (AllLines lines) are h = record {
+    log = es;
+    are = are;
+    ends = subst (λ o. ReplaysEntries options U (start_of s) es o (Refused cause)) (sym h.stops) (ap Refused h.is);
+  }
+
+  pub replay_stopped : (cause : Cause) (es : List Logged) → SaidBy (IsEntry U) es (log_of U s.net log) → IsStopped U (start_of s) es cause → Replays options program network log (Refused cause)
+  replay_stopped cause es are h = ended (Refused cause) (stopped cause es (log_of U s.net log) are h)
+
+  shows : (es : List Logged) (text : List ℕ) (book : Ledger) (ls : Lines Fault LogLine) → SaidBy (IsEntry U) es ls → IsReplayed U (start_of s) es book → IsText options book text
+      → ReplaysLog options U (start_of s) ls (Accepted (record { text = text; book = book }))
+  shows es text book (StopsAt at fault) are h says = absurd are
+  shows es text book (AllLines lines) are h says =
+      let j : Judged Shown = Accepted (record { text = text; book = book }) in
+      let there : ShowsBook options U (start_of s) (entries_in es) j = record {
+        core = book.core;
+        leads = h.leads;
+        text = text;
+        says = subst (λ b. IsText options b text) h.is says;
+        is = ap (λ b. Accepted (shown text b)) h.is;
+      } in
+      record { log = es; are = are; ends = subst (λ o. ReplaysEntries options U (start_of s) es o j) (sym (never_stops U (start_of s) book.core es h.leads)) there }
+    where
+      shown : List ℕ → Ledger → Shown
+      shown t b = record { text = t; book = b }
+
+  pub replay_shown : (es : List Logged) (text : List ℕ) (book : BookValue) → SaidBy (IsEntry U) es (log_of U s.net log) → IsReplayed U (start_of s) es (ledger_of book) → IsText options (ledger_of book) text
+      → Replays options program network log (Accepted (shown_of text book))
+  replay_shown es text book are h says = ended (Accepted (shown_of text book)) (shows es text (ledger_of book) (log_of U s.net log) are h says)
+
+pub replay_unread : (options : Options) (program network log : List ℕ) (cause : Cause) → ReadsInput program network (Refused cause) → Replays options program network log (Refused cause)
+replay_unread options program network log cause h = record { judged = Refused cause; reads = h; ends = refl }

@@ -1,0 +1,78 @@
+-- What the code of `replay` has on the way.
+use Rattle.std.specs.Prelude.{ℕ, ◌≡◌, ◌<◌, slice_index, List, Option, Some, None}
+use Rattle.fc_nodes.specs.Program.{Unfolding}
+use Rattle.topology.specs.declared.types.NetFault.TheVariants as net
+use Rattle.firing_core.specs.declared.entries.ReplayFault.{ReplayFault}
+use Rattle.firing_core.specs.declared.entries.ReplayFault.TheVariants as replay_fault
+use Rattle.firing_core.specs.declared.entries.StepFault.{StepFault}
+use Rattle.firing_core.specs.Books.{BookValue}
+use Rattle.firing_core.specs.Cores.{Core}
+use Rattle.firing_core.specs.Replays.{replay}
+use Rattle.edit_commands.specs.declared.types.Fault.{Fault}
+use Rattle.edit_commands.specs.declared.types.ScriptFault.{ScriptFault}
+use Rattle.edit_commands.specs.declared.types.ScriptFault.TheVariants as script
+use Rattle.edit_commands.specs.LineByLine.{Lines, AllLines, StopsAt}
+use Rattle.edit_commands.specs.Logs.{LogLine}
+use Rattle.fc_inputs.specs.declared.refusal.LineFault.{LineFault}
+use Rattle.fc_inputs.specs.declared.refusal.LineFault.TheVariants.{Net}
+use Rattle.fc_inputs.specs.declared.refusal.Refusal.{Refusal}
+use Rattle.fc_inputs.specs.declared.stop.Stop.{Stop}
+use Rattle.fc_inputs.specs.declared.stop.Stop.TheVariants as stop
+use Rattle.fc_inputs.specs.Causes.{Cause, Plainly}
+use Rattle.fc_inputs.specs.Refusals.{log_refusal}
+use Rattle.fc_replay.specs.Ledgers.{Ledger, ledger_of}
+use Rattle.fc_replay.specs.Stopping.{Logged, entries_in, fault_in, step_fault, first_stop}
+use Rattle.fc_replay.specs.Replays.{Shown, book_of}
+
+-- the stop at a line, for want of memory where there is no reason
+abbrev pub stop_at : ℕ → Option LineFault → Stop
+stop_at line (Some fault) = stop.Refused (log_refusal line fault)
+stop_at line None = stop.Memory
+
+-- the stop of a log that isn't replayed, from the numbers of its lines
+abbrev pub stop_of : List ℕ → ReplayFault → Stop
+stop_of lines (replay_fault.At index why) = stop_at (slice_index lines index) (step_fault why)
+stop_of lines (replay_fault.EditAt index why) = stop_at (slice_index lines index) (Some (Net why))
+stop_of lines replay_fault.Memory = stop.Memory
+
+-- the entry at which a log stops is one of so many
+abbrev pub StopsWithin : ℕ → ReplayFault → Type 0
+StopsWithin n (replay_fault.At index why) = index < n
+StopsWithin n (replay_fault.EditAt index why) = index < n
+StopsWithin n replay_fault.Memory = Unit {0}
+
+-- a fault of a log: the limits of scripts never come
+abbrev pub IsFaultOfLog : ScriptFault → Type 0
+IsFaultOfLog (script.At at fault) = Unit {0}
+IsFaultOfLog (script.Lines count) = ⊥
+IsFaultOfLog (script.Scrambles count) = ⊥
+IsFaultOfLog (script.Firings count) = ⊥
+IsFaultOfLog script.Memory = Unit {0}
+
+abbrev pub fault_stop : ScriptFault → Stop
+fault_stop (script.At at fault) = stop.Refused (log_refusal at (fault_in fault))
+fault_stop (script.Lines count) = stop.Memory
+fault_stop (script.Scrambles count) = stop.Memory
+fault_stop (script.Firings count) = stop.Memory
+fault_stop script.Memory = stop.Memory
+
+-- the cause by which a log isn't read
+abbrev pub IsFaulty : Lines Fault LogLine → Cause → Type 0
+IsFaulty (AllLines lines) cause = ⊥
+IsFaulty (StopsAt at fault) cause = cause ≡ Plainly (log_refusal at (fault_in fault))
+
+-- the cause by which the entries of a log aren't replayed
+pub record IsStopped (U : Unfolding) (start : Core) (log : List Logged) (cause : Cause) : Type 0 where
+  pub at : ℕ
+  pub fault : LineFault
+  pub stops : first_stop U start log ≡ Some (at, fault)
+  pub is : cause ≡ Plainly (log_refusal at fault)
+
+-- a book of the entries of a log, from a start
+pub record IsReplayed (U : Unfolding) (start : Core) (log : List Logged) (book : Ledger) : Type 0 where
+  pub leads : replay U start (entries_in log) ≡ Some book.core
+  pub is : book ≡ book_of U start (entries_in log) book.core
+
+-- what a replay gives in code
+abbrev pub shown_of : List ℕ → BookValue → Shown
+shown_of text book = record { text = text; book = ledger_of book }

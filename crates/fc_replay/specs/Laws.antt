@@ -1,0 +1,24 @@
+-- Texts are replayed to one thing.
+use Rattle.std.specs.Prelude.{ℕ, ◌≡◌, List}
+use Rattle.fc_inputs.specs.Causes.{Judged, Accepted, Refused}
+use Rattle.edit_commands.specs.Agreement.{SameEntries}
+use Rattle.fc_replay.specs.declared.replays.Options.{Options}
+use Rattle.fc_replay.specs.Replays.{Shown, Replays}
+
+-- Two replays are alike: refused for one cause, or with one text. The entries of their books may differ in what an export
+-- holds at the places of a branch that isn't taken, and in nothing else.
+pub record ShowAlike (a b : Shown) : Type 0 where
+  pub text : a.text ≡ b.text
+  pub program : a.book.program ≡ b.book.program
+  pub start : a.book.start ≡ b.book.start
+  pub log : SameEntries b.book.program a.book.log b.book.log
+  pub core : a.book.core ≡ b.book.core
+
+abbrev pub Alike : Judged Shown → Judged Shown → Type 0
+Alike (Accepted a) (Accepted b) = ShowAlike a b
+Alike (Accepted a) (Refused cause) = ⊥
+Alike (Refused cause) (Accepted b) = ⊥
+Alike (Refused cause) (Refused other) = cause ≡ other
+
+abbrev pub OneReplay : Type 0
+OneReplay = (options : Options) (program network log : List ℕ) (j k : Judged Shown) → Replays options program network log j → Replays options program network log k → Alike j k

@@ -1,0 +1,6 @@
+pub mod Ledgers
+pub mod Stopping
+pub mod Replays
+pub mod Resuming
+pub mod Code
+pub mod Laws

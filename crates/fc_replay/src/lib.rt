@@ -1,0 +1,12 @@
+//! What `replay` makes of the texts of a program, a scene and a log: a text, and the book that it shows.
+#![tactic(auto)]
+
+mod laws;
+mod logs;
+mod replays;
+#[cfg(test)]
+mod tests;
+mod texts;
+
+pub use laws::{one_replay, tables_resume};
+pub use replays::{Options, replay};

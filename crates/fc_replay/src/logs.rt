@@ -1,0 +1,115 @@
+//! The entries of a log, with the numbers of their lines, and where it is refused.
+ghost use Rattle.std.specs.Prelude.{◌≡◌, ◌<◌, ◌≤◌, IfErr, IfOk, length, map};
+ghost use Rattle.fc_nodes.specs.Program.{unfolding_of};
+ghost use Rattle.firing_core.specs.Entries.{entries_of};
+ghost use Rattle.firing_core.specs.Replays.{LogFits};
+ghost use Rattle.edit_commands.specs.Logs.{IsLog, entry_in, log_of, numbered};
+ghost use Rattle.fc_inputs.specs.Stops.{StopsFor};
+ghost use Rattle.fc_replay.specs.Code.{IsFaultOfLog, IsFaulty, StopsWithin, fault_stop, stop_at, stop_of};
+ghost use Rattle.fc_replay.specs.Stopping.{fault_in, step_fault};
+
+use edit_commands::{Fault, ScriptFault, read_log};
+use fc_inputs::{LineFault, Refusal, Stop, log_refusal};
+use fc_nodes::Unfolded;
+use fc_values::Memory;
+use firing_core::{Entry, ReplayFault, StepFault};
+use std::alloc::Global;
+use topology::{NetFault, Network};
+
+// A fault of a line, as refusals name it.
+fn fault_in(fault: Fault) -> LineFault
+    ensures { result ≡ fault_in fault }
+{
+    match fault {
+        Fault::Form => LineFault::Form,
+        Fault::Net(fault) => LineFault::Net(fault),
+        Fault::Kept => LineFault::Kept,
+    }
+}
+
+// Why a begin or an end has no step, but for want of memory.
+fn step_fault(fault: StepFault) -> Option<LineFault>
+    ensures { result ≡ step_fault fault }
+{
+    match fault {
+        StepFault::NoDevice => Some(LineFault::Net(NetFault::NoDevice)),
+        StepFault::Flying => Some(LineFault::Flying),
+        StepFault::NotFlying => Some(LineFault::NotFlying),
+        StepFault::Memory => None,
+    }
+}
+
+// The stop at a line.
+fn stop_at(line: u32, fault: Option<LineFault>) -> Stop
+    ensures { result ≡ stop_at line fault }
+{
+    match fault {
+        Some(fault) => Stop::Refused(log_refusal(line, fault)),
+        None => Stop::Memory,
+    }
+}
+
+/// The stop of a log that isn't replayed, from the numbers of its lines.
+pub fn stop(lines: &[u32], fault: ReplayFault) -> Stop
+    requires { StopsWithin (length lines.now) fault }
+    ensures { result ≡ stop_of lines.now fault }
+{
+    match fault {
+        ReplayFault::At { index, fault } => stop_at(lines[index], step_fault(fault)),
+        ReplayFault::EditAt { index, fault } => {
+            stop_at(lines[index], Some(LineFault::Net(fault)))
+        }
+        ReplayFault::Memory => Stop::Memory,
+    }
+}
+
+// The stop of a log that isn't read.
+fn fault_stop(fault: ScriptFault) -> Stop
+    requires { IsFaultOfLog fault }
+    ensures { result ≡ fault_stop fault }
+{
+    match fault {
+        ScriptFault::At { line, fault } => Stop::Refused(log_refusal(line, fault_in(fault))),
+        ScriptFault::Memory => Stop::Memory,
+        ScriptFault::Lines(_) | ScriptFault::Scrambles(_) | ScriptFault::Firings(_) => {
+            unreachable!()
+        }
+    }
+}
+
+/// The entries of the text of a log, with the numbers of their lines.
+pub fn read_entries(
+    alloc: Global,
+    program: &Unfolded,
+    net: &Network,
+    text: &[u8],
+) -> Result<Vec<(u32, Entry)>, Stop>
+    requires declared { net.now.declared ≡ program.now.declared }
+    requires short { length text.now ≤ 1048576 }
+    ensures log { IfOk result (λ es. IsLog (unfolding_of program.now) net.now text.now (map numbered es.items)) }
+    ensures fits { IfOk result (λ es. LogFits (unfolding_of program.now) (entries_of (map entry_in es.items))) }
+    ensures refused { IfErr result (StopsFor (IsFaulty (log_of (unfolding_of program.now) net.now text.now))) }
+{
+    match read_log(alloc, program, net, text) {
+        Ok(entries) => Ok(entries),
+        Err(fault) => Err(fault_stop(fault)),
+    }
+}
+
+/// The numbers of a log's lines.
+pub fn line_numbers(alloc: Global, log: &[(u32, Entry)]) -> Result<Vec<u32>, Memory>
+    ensures { IfOk result (λ v. v.items ≡ map (λ x. x.0) log.now) }
+{
+    let mut numbers = Vec::new(alloc);
+    for line in log {
+        numbers.push(line.0)?;
+    }
+    Ok(numbers)
+}
+
+/// The entries of a log.
+pub fn entries(alloc: Global, log: Vec<(u32, Entry)>) -> Result<Vec<Entry>, Memory>
+    ensures { IfOk result (λ v. v.items ≡ map (λ x. x.1) log.items) }
+{
+    Ok(log.into_iter().map(|line| line.1).collect(alloc)?)
+}

@@ -1,0 +1,93 @@
+//! What `replay` makes of a program, a scene and a log.
+ghost use Rattle.std.specs.Prelude.{◌≡◌, ◌≤◌, IfErr, IfOk, length, map};
+ghost use Rattle.fc_nodes.specs.Program.{unfolding_of};
+ghost use Rattle.firing_core.specs.CoreViews.{core_of};
+ghost use Rattle.firing_core.specs.Cores.{IsGood};
+ghost use Rattle.firing_core.specs.Entries.{entries_of};
+ghost use Rattle.firing_core.specs.Replays.{LogFits};
+ghost use Rattle.net_json.specs.SceneCode.{AreCopies, AreRows, value_of_scene};
+ghost use Rattle.edit_commands.specs.Logs.{entry_in, numbered};
+ghost use Rattle.fc_inputs.specs.Causes.{Accepted, Refused};
+ghost use Rattle.fc_inputs.specs.Stops.{StopsFor};
+ghost use Rattle.fc_replay.specs.Code.{IsReplayed, IsStopped, shown_of};
+ghost use Rattle.fc_replay.specs.Ledgers.{ledger_of};
+ghost use Rattle.fc_replay.specs.Replays.{Replays, start_of};
+
+use crate::logs::{entries, line_numbers, read_entries, stop};
+use crate::texts::shown;
+use fc_inputs::{Stop, read_input};
+use fc_nodes::Unfolded;
+use fc_values::Memory;
+use firing_core::{Book, Core, Entry, replay as replay_log, steps_agree};
+use net_json::Scene;
+use std::alloc::Global;
+use std::sync::Arc;
+
+/// What is written after the values.
+#[derive(Clone, Copy, Debug, PartialEq, Eq)]
+pub struct Options {
+    /// The number of rounds.
+    pub rounds: bool,
+    /// The table of exports.
+    pub table: bool,
+}
+
+// The core that a scene starts from.
+fn start(alloc: Global, program: &Arc<Unfolded>, scene: Scene) -> Result<Core, Memory>
+    requires declared { scene.net.declared ≡ program.now.value.declared }
+    requires rows { AreRows (unfolding_of program.now.value) scene.net scene.table.items }
+    requires copies { AreCopies (unfolding_of program.now.value) scene.net scene.pending.items }
+    ensures program { IfOk result (λ c. c.program ≡ program.now.value) }
+    ensures core { IfOk result (λ c. core_of c ≡ start_of (value_of_scene (unfolding_of program.now.value) scene)) }
+    ensures good { IfOk result (λ c. IsGood (unfolding_of program.now.value) (core_of c)) }
+{
+    let start = Core::new(alloc, program, scene.net, scene.table, scene.pending)?;
+    // Its clause `good`.
+    let _net = start.net();
+    Ok(start)
+}
+
+// The book of a program, a scene and the entries of a log.
+fn replayed(
+    alloc: Global,
+    program: Unfolded,
+    scene: Scene,
+    log: Vec<(u32, Entry)>,
+) -> Result<Book, Stop>
+    requires declared { scene.net.declared ≡ program.declared }
+    requires rows { AreRows (unfolding_of program) scene.net scene.table.items }
+    requires copies { AreCopies (unfolding_of program) scene.net scene.pending.items }
+    requires fits { LogFits (unfolding_of program) (entries_of (map entry_in log.items)) }
+    ensures book { IfOk result (λ b. IsReplayed (unfolding_of program) (start_of (value_of_scene (unfolding_of program) scene)) (map numbered log.items) (ledger_of b)) }
+    ensures refused { IfErr result (StopsFor (IsStopped (unfolding_of program) (start_of (value_of_scene (unfolding_of program) scene)) (map numbered log.items))) }
+{
+    let lines = line_numbers(alloc, &log)?;
+    let entries = entries(alloc, log)?;
+    let program = Arc::new(alloc, program)?;
+    let start = start(alloc, &program, scene)?;
+    steps_agree();
+    match replay_log(alloc, &program, start, entries) {
+        Ok(book) => Ok(book),
+        Err(fault) => Err(stop(&lines, fault)),
+    }
+}
+
+/// The text that `replay` writes of its three texts, and the book that it shows.
+pub fn replay(
+    alloc: Global,
+    options: Options,
+    program: &[u8],
+    network: &[u8],
+    log: &[u8],
+) -> Result<(Vec<u8>, Book), Stop>
+    requires program { length program.now ≤ 1048576 }
+    requires log { length log.now ≤ 1048576 }
+    ensures shown { IfOk result (λ r. Replays options program.now network.now log.now (Accepted (shown_of r.0.items r.1))) }
+    ensures refused { IfErr result (StopsFor (λ cause. Replays options program.now network.now log.now (Refused cause))) }
+{
+    let (program, scene) = read_input(alloc, program, network)?;
+    let log = read_entries(alloc, &program, &scene.net, log)?;
+    let book = replayed(alloc, program, scene, log)?;
+    let text = shown(alloc, options, &book)?;
+    Ok((text, book))
+}

@@ -1,0 +1,110 @@
+//! The text of a book: the values of its core, and what is asked for beside them.
+ghost use Rattle.std.specs.Prelude.{◌≡◌, ◌<◌, length, map, IfOk, true};
+ghost use Rattle.std.specs.List.{All};
+ghost use Rattle.fc_values.specs.Fields.{Rises};
+ghost use Rattle.value_trees.specs.Snaps.{IsExportOf};
+ghost use Rattle.topology.specs.Networks.{numbers};
+ghost use Rattle.firing_core.specs.CoreViews.{core_of, program_of};
+ghost use Rattle.firing_core.specs.Entries.{entries_of};
+ghost use Rattle.net_json.specs.SceneCode.{borrowed_row};
+ghost use Rattle.round_count.specs.Laws.{IsGreatest};
+ghost use Rattle.fc_replay.specs.Ledgers.{ledger_of};
+ghost use Rattle.fc_replay.specs.Replays.{IsText, RoundsAsked, rows_of, table_line, where_asked};
+
+use crate::replays::Options;
+use fc_values::{Export, Memory};
+use firing_core::{Book, Core};
+use net_json::write_table;
+use report::{rounds_line, values};
+use round_count::rounds;
+use std::alloc::Global;
+use topology::Device;
+
+// The numbers of devices.
+fn numbers_of(alloc: Global, devices: &[Device]) -> Result<Vec<u32>, Memory>
+    ensures { IfOk result (λ v. v.items ≡ map (λ d. d.id) devices.now) }
+{
+    Ok(devices.iter().map(|device| device.id).collect(alloc)?)
+}
+
+// The numbers of a core's devices, rising.
+fn live(alloc: Global, core: &Core) -> Result<Vec<u32>, Memory>
+    ensures live { IfOk result (λ v. v.items ≡ numbers (core_of core.now).net.devices) }
+    ensures rising { IfOk result (λ v. Rises v.items) }
+    ensures some { IfOk result (λ v. 0 < length v.items) }
+{
+    let live = numbers_of(alloc, core.net().devices())?;
+    Ok(live)
+}
+
+// The number of rounds in the part of a book's log after its last edit.
+fn rounds_of(alloc: Global, book: &Book) -> Result<u64, Memory>
+    ensures { IfOk result (IsGreatest (numbers (core_of book.now.core).net.devices) (entries_of book.now.log)) }
+{
+    let live = live(alloc, book.core())?;
+    let mut marks = vec![in alloc; 0; live.len()]?;
+    Ok(rounds(&live, book.log(), &mut marks))
+}
+
+// The devices of a core that have an export, with it.
+fn table(alloc: Global, core: &Core) -> Result<Vec<(u32, &Export)>, Memory>
+    ensures rows { IfOk result (λ v. map (borrowed_row (program_of core.now)) v.items ≡ rows_of (core_of core.now) (core_of core.now).net.devices) }
+    ensures rising { IfOk result (λ v. Rises (map (λ r. r.0) v.items)) }
+    ensures exports { IfOk result (λ v. All (λ r. IsExportOf (program_of core.now) r.1.now) v.items) }
+{
+    let mut rows = Vec::new(alloc);
+    for device in core.net().devices() {
+        if let Some(export) = core.export(device.id) {
+            rows.push((device.id, export))?;
+        }
+    }
+    Ok(rows)
+}
+
+// The line of a book's number of rounds.
+fn rounds_text(alloc: Global, book: &Book) -> Result<Vec<u8>, Memory>
+    ensures { IfOk result (λ v. RoundsAsked true (numbers (core_of book.now.core).net.devices) (entries_of book.now.log) v.items) }
+{
+    let rounds = rounds_of(alloc, book)?;
+    let mut line = Vec::new(alloc);
+    rounds_line(alloc, &mut line, rounds)?;
+    Ok(line)
+}
+
+// The same, where it is asked for.
+#[tactic(auto, using(crate::proofs::AskedRounds::asked, crate::proofs::AskedRounds::not_asked))]
+fn rounds_asked(alloc: Global, asked: bool, book: &Book) -> Result<Vec<u8>, Memory>
+    ensures { IfOk result (λ v. RoundsAsked asked (numbers (core_of book.now.core).net.devices) (entries_of book.now.log) v.items) }
+{
+    if asked {
+        Ok(rounds_text(alloc, book)?)
+    } else {
+        Ok(Vec::new(alloc))
+    }
+}
+
+// The line of a core's table, where it is asked for.
+fn table_text(alloc: Global, asked: bool, core: &Core) -> Result<Vec<u8>, Memory>
+    ensures { IfOk result (λ v. v.items ≡ where_asked asked (table_line (program_of core.now) (core_of core.now))) }
+{
+    if !asked {
+        return Ok(Vec::new(alloc));
+    }
+    let rows = table(alloc, core)?;
+    let mut line = write_table(alloc, core.program(), &rows)?;
+    line.push(b'\n')?;
+    Ok(line)
+}
+
+/// The text of a book.
+pub fn shown(alloc: Global, options: Options, book: &Book) -> Result<Vec<u8>, Memory>
+    ensures { IfOk result (λ v. IsText options (ledger_of book.now) v.items) }
+{
+    let rounds = rounds_asked(alloc, options.rounds, book)?;
+    let table = table_text(alloc, options.table, book.core())?;
+    let mut text = Vec::new(alloc);
+    values(alloc, &mut text, book.core())?;
+    text.extend_from_slice(&rounds)?;
+    text.extend_from_slice(&table)?;
+    Ok(text)
+}
