@@ -1,6 +1,6 @@
 //! Calls of the layers below that may want memory, with ample memory, on the hop count.
 
-ghost use Rattle.std.specs.Prelude.{IfOk};
+ghost use Rattle.std.specs.Prelude.{◌≤◌, IfOk, length};
 ghost use Rattle.fc_nodes.specs.Program.{unfolding_of};
 ghost use Rattle.firing_core.specs.Rooms.{IsRoom};
 
@@ -29,13 +29,14 @@ fn hop_count(alloc: Global) -> Result<Unfolded, Fail> {
 }
 
 // The book of a log of the hop count on two devices.
-fn book(alloc: Global, log: &str) -> Result<Book, Fail> {
+fn book(alloc: Global, log: &[u8]) -> Result<Book, Fail>
+    requires { length log.now ≤ 1048576 }
+{
     let options = Options {
         rounds: true,
         table: true,
     };
-    let texts = (HOPS.as_bytes(), SOURCE.as_bytes(), log.as_bytes());
-    match replay(alloc, options, texts.0, texts.1, texts.2) {
+    match replay(alloc, options, HOPS.as_bytes(), SOURCE.as_bytes(), log) {
         Ok((_, book)) => Ok(book),
         Err(_) => Err(Fail::new("there is no book")),
     }
@@ -81,7 +82,7 @@ fn the_hop_count_is_unfolded(rt: HostRuntime) -> Result<(), Fail> {
 #[test]
 fn a_flight_is_copied_and_fired(rt: HostRuntime) -> Result<(), Fail> {
     let alloc = rt.alloc();
-    let book = book(alloc, "B0")?;
+    let book = book(alloc, b"B0")?;
     let core = book.core();
     let Some(snap) = core.flying(0) else {
         return Err(Fail::new("nothing is in flight"));
@@ -99,7 +100,7 @@ fn a_flight_is_copied_and_fired(rt: HostRuntime) -> Result<(), Fail> {
 #[test]
 fn a_book_is_settled(rt: HostRuntime) -> Result<(), Fail> {
     let alloc = rt.alloc();
-    let mut book = book(alloc, "B0")?;
+    let mut book = book(alloc, b"B0")?;
     assert!(rt; book.step(alloc, Entry::Begin(1)).is_ok());
     assert!(rt; book.step(alloc, Entry::Begin(1)).is_err());
     book.settle(alloc)?;
@@ -130,7 +131,7 @@ fn fire_in(alloc: Global, book: &mut Book, room: Room) -> Result<Room, Fail>
 #[test]
 fn a_room_comes_back(rt: HostRuntime) -> Result<(), Fail> {
     let alloc = rt.alloc();
-    let mut book = book(alloc, "")?;
+    let mut book = book(alloc, b"")?;
     let mut room = Room::new(alloc, book.program())?;
     'firings: for _ in 0..1000 {
         room = fire_in(alloc, &mut book, room)?;
