@@ -7,4 +7,5 @@ mod Tables
 mod Values
 mod Claims
 mod Picked
+pub mod Lengths
 mod Root

@@ -2,7 +2,7 @@
 use Rattle.std.proofs.Common.{◌≡◌, ℕ, zero, suc, ◌<◌, List, [], ◌∷◌, length, get_or, map, refl, sym, ◌∙◌, ap, arith}
 use Rattle.fc_values.specs.declared.builtins.Builtin.{Builtin}
 use Rattle.fc_values.specs.declared.builtins.Builtin.TheVariants as op
-use Rattle.interval_facts.specs.declared.ranges.Range.{Range}
+use Rattle.interval_facts.specs.declared.intervals.Range.{Range}
 use Rattle.interval_facts.specs.Ranges.{RangeValue, BoolRange, range_value}
 use Rattle.interval_facts.specs.Picks.{ranges_in, picked, AreThere, arity, IsComponent, IsOfTwo, IsOfThree}
 

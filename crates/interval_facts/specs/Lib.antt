@@ -1,4 +1,5 @@
 pub mod Ranges
+pub mod Codes
 pub mod Solutions
 pub mod Claims
 pub mod Picks

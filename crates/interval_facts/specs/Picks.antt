@@ -4,7 +4,7 @@ use Rattle.fc_values.specs.declared.builtins.Builtin.{Builtin}
 use Rattle.fc_values.specs.declared.builtins.Builtin.TheVariants as op
 use Rattle.fc_values.specs.Types.{local_type_of}
 use Rattle.interval_facts.specs.declared.builtins.Target.{Target}
-use Rattle.interval_facts.specs.declared.ranges.Range.{Range}
+use Rattle.interval_facts.specs.declared.intervals.Range.{Range}
 use Rattle.interval_facts.specs.Ranges.{RangeValue, BoolRange, range_value, full, builtin_range}
 
 -- the range of all values of a target, and that of a builtin's value there

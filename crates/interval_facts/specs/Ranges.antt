@@ -1,5 +1,5 @@
 -- Ranges: between which integers the values of each node of a program lie, by the program alone.
-use Rattle.std.specs.Prelude.{ℕ, suc, ◌≤◌, ◌+◌, ◌-◌, ◌*◌, List, [], ◌∷◌, ◌++◌, Option, Some, None, slice_get, slice_index_or as get_or, option_map, min, max, nat_eq, if◌then◌else◌}
+use Rattle.std.specs.Prelude.{ℕ, suc, ◌≡◌, ◌≤◌, ◌+◌, ◌-◌, ◌*◌, List, [], ◌∷◌, ◌++◌, Option, Some, None, slice_get, slice_index_or as get_or, option_map, min, max, nat_eq, if◌then◌else◌}
 use Rattle.fc_values.specs.declared.builtins.Builtin.{Builtin}
 use Rattle.fc_values.specs.declared.builtins.Builtin.TheVariants as op
 use Rattle.fc_values.specs.declared.types.InputTy.{InputTy}
@@ -10,8 +10,8 @@ use Rattle.fc_values.specs.Fields.{Entries, AnyValue, ValueLocal, ValueField}
 use Rattle.fc_values.specs.BuiltinTypes.{inner}
 use Rattle.fc_nodes.specs.Terms.{Leaf, Literal, Variable, Sense, Uid, NbrLink, Term, Terms, Plain, Apply, Nbr, Evolve, If, Let, NoMore, More, type_of, size}
 use Rattle.fc_nodes.specs.Program.{Unfolding}
-use Rattle.interval_facts.specs.declared.ranges.Range.{Range}
-use Rattle.interval_facts.specs.declared.ranges.Range.TheVariants as range
+use Rattle.interval_facts.specs.declared.intervals.Range.{Range}
+use Rattle.interval_facts.specs.declared.intervals.Range.TheVariants as range
 
 -- a range: the least and the greatest integer, truth values, or a range for each component of a pair
 pub data RangeValue : Type 0 where
@@ -202,3 +202,7 @@ ranges_of U = node_ranges U.declared [] 0 U.main
 
 abbrev pub range_of : Unfolding → ℕ → RangeValue
 range_of U p = get_or (ranges_of U) p BoolRange
+
+-- these are the ranges of a program's nodes, by their places
+abbrev pub AreRangesOf : Unfolding → List RangeValue → Type 0
+AreRangesOf U rs = rs ≡ ranges_of U

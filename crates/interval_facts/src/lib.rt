@@ -2,11 +2,13 @@
 #![tactic(auto)]
 
 mod builtins;
+mod by_place;
+mod intervals;
 mod laws;
-mod ranges;
 #[cfg(test)]
 mod tests;
 
 pub use builtins::builtin_range;
+pub use by_place::Ranges;
+pub use intervals::Range;
 pub use laws::solutions_lie_in_ranges;
-pub use ranges::Range;

@@ -1,4 +1,4 @@
-//! Ranges, and those of builtins.
+//! Ranges, and how they join.
 
 ghost use Rattle.std.specs.Prelude.{◌≡◌, IfOk};
 ghost use Rattle.fc_values.specs.Types.{local_type_of};
