@@ -3,6 +3,7 @@ pub mod Judgements
 mod MemberNames
 mod Risings
 mod Gathering
+mod Accepting
 mod Limits
 mod Threes
 mod Takes
@@ -11,6 +12,7 @@ mod PlainLists
 mod Living
 mod InputFacts
 mod Makes
+mod AcceptedParts
 mod Jsons
 mod Placings
 mod Floats

@@ -74,7 +74,7 @@ module _ (c : ℕ) where
   two_kept k l zs = append_assoc (kept_in k) (kept_in l ++ []) zs ∙ ap (λ (vs : List LocalValue). kept_in k ++ vs) (one_kept l zs)
 
   mutual
-    took : (t : Term) (p : ℕ) (xs ys : List KeptItem) (tree : Tree) → take_tree c t p xs ≡ Took tree ys → Reads c t tree xs ys
+    pub took : (t : Term) (p : ℕ) (xs ys : List KeptItem) (tree : Tree) → take_tree c t p xs ≡ Took tree ys → Reads c t tree xs ys
     took (Plain t l) p xs ys tree e =
         let a : Keep None Done ≡ tree = cc in
         let b : xs ≡ ys = cc in

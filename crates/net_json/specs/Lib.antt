@@ -16,3 +16,4 @@ pub mod SceneCode
 pub mod TableTexts
 pub mod Placing
 pub mod ReadingBack
+pub mod FittingScenes

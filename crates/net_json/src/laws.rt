@@ -7,6 +7,7 @@ ghost use Rattle.value_trees.specs.KeptReads.{misfit_of};
 ghost use Rattle.net_json.specs.KeptItems.{plain_item};
 ghost use Rattle.net_json.specs.Leavings.{misfit_among};
 ghost use Rattle.net_json.specs.ReadingBack.{TablesReadBack};
+ghost use Rattle.net_json.specs.FittingScenes.{AcceptedScenesFit};
 
 /// A kept list of format 1 has the fault that `from_kept` names.
 pub fn plain_lists_misfit_as_values()
@@ -16,4 +17,9 @@ pub fn plain_lists_misfit_as_values()
 /// A table that was written can be given back as the table of a scene.
 pub fn tables_read_back()
     ensures { TablesReadBack }
+{}
+
+/// A program may start from each scene that is accepted for it.
+pub fn accepted_scenes_fit()
+    ensures { AcceptedScenesFit }
 {}
