@@ -9,7 +9,7 @@ use Rattle.fc_values.specs.Values.{LocalValue, IntValue, BoolValue, PairValue}
 use Rattle.topology.specs.declared.types.NetFault.TheVariants as fault
 use Rattle.fc_values.specs.Inputs.{InputFits, InputsFit}
 use Rattle.topology.specs.Inputs.{input_fault, inputs_fault, or_fault}
-use Rattle.topology.specs.Networks.{NetDevice, numbers, DevicesFit}
+use Rattle.topology.specs.Networks.{NetDevice, numbers, inputs_in, DevicesFit}
 use Rattle.topology.specs.Changes.{insert_device, drop_device, put_input, nth_fault}
 use Rattle.fc_values.proofs.Rising.{rises_tail, rises_weaker}
 use Rattle.fc_values.proofs.Booleans.{or_no}
@@ -52,6 +52,15 @@ nth_put [] vs i v f e = absurd (cc)
 nth_put (x ∷ xs) [] i v f e = absurd f
 nth_put (x ∷ xs) (u ∷ us) zero v f e = (input_none x.type v e, f.1)
 nth_put (x ∷ xs) (u ∷ us) (suc i) v f e = (f.0, nth_put xs us i v f.1 e)
+
+-- the inputs of a device that is there
+pub inputs_fit : (D : Declarations) (ns : List NetDevice) (d : ℕ) → DevicesFit D ns → is_in d (numbers ns) ≡ true → InputsFit D.inputs (inputs_in d ns)
+inputs_fit D [] d f t = absurd (cc)
+inputs_fit D (n ∷ ns) d f t = by_test (nat_eq d n.id) t (inputs_fit D ns d f.2)
+  where
+    by_test : (b : Bool) → (b || is_in d (numbers ns)) ≡ true → (is_in d (numbers ns) ≡ true → InputsFit D.inputs (inputs_in d ns)) → InputsFit D.inputs (if b then n.inputs else inputs_in d ns)
+    by_test true u ih = f.1
+    by_test false u ih = ih u
 
 -- ---- rising numbers
 

@@ -1,6 +1,6 @@
 -- The next of the links of a network can be added to those before it.
 use Rattle.std.proofs.Common.{◌≡◌, ℕ, zero, suc, map, take, drop, get_or, ◌<◌, ◌≤◌, ◌⊎◌, inl, inr, min, max, List, [], ◌∷◌, ◌++◌, length, refl, sym, ◌∙◌, ap, arith, Bool, true, false, nat_eq, nat_lt, nat_le, ◌&&◌, ◌||◌, Option, Some, None, Result, Ok, Err, IfErr, OnOk}
-use Rattle.std.proofs.lemmas.Bool.{ltb-false, eqb-true, leb-true, leb-false, ne_eqb, eq-eqb, lt-ltb}
+use Rattle.std.proofs.lemmas.Bool.{ltb-false, eqb-true, le-leb, lt-leb, ne_eqb, eq-eqb, lt-ltb}
 use Rattle.fc_values.specs.Types.{Declarations}
 use Rattle.topology.specs.declared.types.NetFault.{NetFault}
 use Rattle.topology.specs.declared.types.Link.{Link}
@@ -47,20 +47,6 @@ module _ (D : Declarations) (ds : List ℕ) (l : Edge) (ms : List Edge) where
   count_front d [] h = omega (arith, count_split d l ms, count_touch d l h, count_is d [])
   count_front d (k ∷ ks) h = omega (arith, count_front d ks h, count_split d k ks, count_split d k (ks ++ l ∷ ms))
 
-is_le : (m n : ℕ) → m ≤ n → nat_le m n ≡ true
-is_le m n h = by_test (nat_le m n) refl
-  where
-    by_test : (q : Bool) → nat_le m n ≡ q → q ≡ true
-    by_test true e = refl
-    by_test false e = let k = leb-false m n e in absurd (omega arith)
-
-not_le : (m n : ℕ) → n < m → nat_le m n ≡ false
-not_le m n h = by_test (nat_le m n) refl
-  where
-    by_test : (q : Bool) → nat_le m n ≡ q → q ≡ false
-    by_test true e = let k = leb-true m n e in absurd (omega arith)
-    by_test false e = refl
-
 module _ (D : Declarations) (ns : List NetDevice) (ls : List Edge) (l : Edge) (ms : List Edge) (net : IsNetwork (network_of D ns (ls ++ l ∷ ms))) where
   fits : LinkFits D (numbers ns) l
   fits = last_fits D (numbers ns) l ms ls net.links
@@ -75,12 +61,12 @@ module _ (D : Declarations) (ns : List NetDevice) (ls : List Edge) (l : Edge) (m
   not_linked = ap (λ m. has_pair m (max l.a l.b) ls) lesser ∙ ap (λ m. has_pair l.a m ls) greater ∙ no_pair D (numbers ns) l ms ls net.links
 
   not_full : (d : ℕ) → (l.a ≡ d) ⊎ (l.b ≡ d) → is_full (network_of D ns ls) d ≡ false
-  not_full d h = let k = net.degree d in not_le 32 (length (near_in d ls)) (omega (arith, count_front D (numbers ns) l ms d ls h, count_is d ls, count_is d (ls ++ l ∷ ms)))
+  not_full d h = let k = net.degree d in lt-leb 32 (length (near_in d ls)) (omega (arith, count_front D (numbers ns) l ms d ls h, count_is d ls, count_is d (ls ++ l ∷ ms)))
 
   pub may_link : link_fault (network_of D ns ls) l.a l.b l.weight ≡ None
   may_link =
       let o = fits.order in
-      rw (fits.from, fits.to, ne_eqb l.a l.b (λ e. absurd (omega arith)), is_le D.least l.weight fits.above, is_le l.weight D.greatest fits.below, not_linked, not_full l.a (inl refl), not_full l.b (inr refl)) refl
+      rw (fits.from, fits.to, ne_eqb l.a l.b (λ e. absurd (omega arith)), le-leb D.least l.weight fits.above, le-leb l.weight D.greatest fits.below, not_linked, not_full l.a (inl refl), not_full l.b (inr refl)) refl
 
   pub linked_is : linked (network_of D ns ls) l.a l.b l.weight ≡ network_of D ns (ls ++ l ∷ [])
   linked_is =

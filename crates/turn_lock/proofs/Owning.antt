@@ -1,6 +1,7 @@
 -- What keeps each pass's own entries, and what it has seen.
 use Rattle.std.proofs.Common.{◌≡◌, ℕ, ◌<◌, ◌≢◌, ◌⊎◌, ⊎_elim, List, [], ◌∷◌, ◌++◌, length, set, sym, refl, ap, ◌∙◌, subst, inl, inr, arith, Option, Some, None, length-append}
 use Rattle.std.proofs.lemmas.List.{append-nil, append_assoc}
+use Rattle.std.proofs.lemmas.Option.{none-some, same_Some}
 use mathlib.Core.Logic.{dite}
 use native.Mathlib.Decide.{ℕ_discrete}
 use mathlib.Core.Option.{some}
@@ -15,22 +16,6 @@ use Rattle.turn_lock.proofs.Lists.{each_set, each_snoc, each_one, at_below, in_s
 
 in_left' : {A : Type 0} (x : A) (l : List A) (y : A) → In x l → In x (l ++ y ∷ [])
 in_left' x l y i = in_left x l (y ∷ []) i
-
-is_none : Option ℕ → Type 0
-is_none None = Unit {0}
-is_none (Some n) = ⊥
-
-none_some : (p : ℕ) → None ≡ Some p → ⊥
-unfolding is_none
-none_some p e = subst is_none e tt
-
-number_or : Option ℕ → ℕ
-number_or None = 0
-number_or (Some n) = n
-
-some_number : (a b : ℕ) → Some a ≡ Some b → a ≡ b
-unfolding number_or
-some_number a b e = ap number_or e
 
 module _ (E : Type 0) (answers : List E → ℕ → Option ℕ) where
   abbrev V : Type 0
@@ -100,8 +85,8 @@ module _ (E : Type 0) (answers : List E → ℕ → Option ℕ) where
               (λ t. free_more log e v (r.placed id v at) (r.free id v at) p f t (λ q g m. none q g (in_left' (q, g) v.mine (n, e) m)) (none n e (in_last (n, e) v.mine)))
               (λ t j below is. let b = earlier log' j p is in let pn = ap (λ (z : ℕ × E). z.0) t in absurd (omega (arith, b, pn, length-append log (e ∷ [])))) (mine p f i))
               (λ j x other a p f i none. free_more log e x (r.placed j x a) (r.free j x a) p f i none
-              (λ is. ⊎_elim (λ z. none_some p (sym z ∙ is)) (λ (t : (p' : ℕ) × (f' : E) × (answers log' n ≡ Some p') × In (p', f') v.mine × IsOpen answers log v.mine p').
-              let same : t.0 ≡ p = some_number t.0 p (sym t.2 ∙ is) in other (r.apart j id x v a at p f t.1 i (subst (λ z. In (z, t.1) v.mine) same t.3))) may));
+              (λ is. ⊎_elim (λ z. none-some p (sym z ∙ is)) (λ (t : (p' : ℕ) × (f' : E) × (answers log' n ≡ Some p') × In (p', f') v.mine × IsOpen answers log v.mine p').
+              let same : t.0 ≡ p = same_Some t.0 p (sym t.2 ∙ is) in other (r.apart j id x v a at p f t.1 i (subst (λ z. In (z, t.1) v.mine) same t.3))) may));
         }
 
   -- one pass more, with no entries

@@ -1,6 +1,6 @@
 -- What passes to a lock of notes do.
 use Rattle.std.specs.Prelude.{ℕ, ◌≡◌, ◌⊎◌, ◌+◌, ◌<◌, ◌≤◌, List, length, Option, Some, None}
-use Rattle.std.proofs.Common.{subst}
+use Rattle.std.proofs.lemmas.Option.{none-some}
 use Rattle.turn_lock.specs.Logs.{StartsWith, In}
 use Rattle.turn_lock.specs.Passes.{PassView, wrote}
 
@@ -8,13 +8,8 @@ use Rattle.turn_lock.specs.Passes.{PassView, wrote}
 abbrev pub nothing : List ℕ → ℕ → Option ℕ
 nothing log j = None
 
-is_none : Option ℕ → Type 0
-is_none None = Unit {0}
-is_none (Some n) = ⊥
-
 pub not_answered : (p j : ℕ) → None ≡ Some p → p < j
-unfolding is_none
-not_answered p j e = absurd (subst is_none e tt)
+not_answered p j e = absurd (none-some p e)
 
 -- there is room for all turns of the lock
 abbrev pub HasRoom : PassView ℕ → Type 0
