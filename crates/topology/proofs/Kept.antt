@@ -1,18 +1,20 @@
 -- What a network keeps beside its links, after each change.
 use Rattle.std.proofs.Common.{◌≡◌, ◌≢◌, ℕ, ◌*◌, ◌<◌, ◌≤◌, List, [], length, map, get_or, set, sym, ◌∙◌, ap, arith, nat_lt, None}
-use Rattle.std.specs.List.{insert, remove}
+use Rattle.std.specs.List.{insert, remove, prefix_len}
 use Rattle.std.proofs.lemmas.List.{length-map, get_or-map, map-set, get_or-set_other}
 use Rattle.arrayvec.specs.ArrayVec.{ArrayVec}
 use Rattle.fc_values.specs.Values.{LocalValue}
-use Rattle.topology.specs.Networks.{NetDevice, Network, IsNetwork, numbers, near_in, near}
+use Rattle.topology.specs.declared.types.Device.{Device}
+use Rattle.topology.specs.Networks.{NetDevice, Network, device_of, IsNetwork, numbers, near_in, near}
 use Rattle.topology.specs.Changes.{drop_links, insert_device, link_fault, linked, unlinked, nth_fault, with_input, join_fault, joined, leave_fault, left}
-use Rattle.topology.specs.Nearby.{near_each, items_of, drop_near, insert_near, AtPlace, AtEnds, IsDrawn}
+use Rattle.topology.specs.Nearby.{near_each, items_of, drop_near, insert_near, drawn, AtPlace, AtEnds, IsDrawn}
 use Rattle.topology.proofs.Lists.{map_insert}
 use Rattle.topology.proofs.Rooms.{few_links}
+use Rattle.topology.proofs.Drawing.{drawn_is, drawn_kept}
 use Rattle.topology.proofs.Devices.{put_numbers}
 use Rattle.topology.proofs.Changed.{can_link, link_fits, linked_network, unlinked_network, input_network, can_join, joined_network, can_leave, left_network}
 use Rattle.topology.proofs.NearEach.{each_put, each_drop, each_leave, each_join, near_put, map_remove, remove_device}
-use Rattle.fc_values.proofs.Lists.{insert_length}
+use Rattle.fc_values.proofs.Lists.{insert_length, insert_prefix}
 
 pub numbers_long : (ns : List NetDevice) → length (numbers ns) ≡ length ns
 numbers_long ns = length-map ns (λ (n : NetDevice). n.id)
@@ -104,6 +106,19 @@ module _ (n : Network) (near_lists : List Nearby) (k : IsDrawn n (map items_of n
             ∙ each_join n.declared (numbers n.devices) n.links k.network.links x.id at c.new
             ∙ ap (λ ds. near_each ds n.links) (sym (map_insert (λ (d : NetDevice). d.id) n.devices at x) ∙ ap numbers p);
       }
+
+  -- the draft with one device more
+  pub add_kept : (x : Device) (at : ℕ) (xs ys : List Device) (new : List Nearby) (empty : Nearby) → n.devices ≡ map device_of xs → x.id ≤ 65535 → join_fault n (device_of x) ≡ None
+      → at ≡ prefix_len (λ (d : NetDevice). nat_lt d.id x.id) (map device_of xs) → ys ≡ insert xs at x → new ≡ insert near_lists at empty → empty.items ≡ []
+      → IsDrawn (drawn n.declared (map device_of ys) (map items_of new)) (map items_of new) × (drawn n.declared (map device_of ys) (map items_of new) ≡ joined n (device_of x))
+  add_kept x at xs ys new empty same small e place put near none =
+      let p = λ (d : NetDevice). nat_lt d.id x.id in
+      let order : insert (map device_of xs) at (device_of x) ≡ insert_device (device_of x) (map device_of xs) =
+      ap (λ k. insert (map device_of xs) k (device_of x)) place ∙ insert_prefix p (device_of x) (map device_of xs) in
+      let devices : map device_of ys ≡ insert_device (device_of x) n.devices =
+      ap (map device_of) put ∙ map_insert device_of xs at x ∙ order ∙ ap (insert_device (device_of x)) (sym same) in
+      let kept = join_kept (device_of x) at new empty small e (ap (λ ds. insert ds at (device_of x)) same ∙ order ∙ ap (insert_device (device_of x)) (sym same)) near none in
+      rw devices (drawn_kept (joined n (device_of x)) (map items_of new) kept, drawn_is (joined n (device_of x)) (map items_of new) kept)
 
   pub leave_kept : (d at : ℕ) (new : List Nearby) → AtPlace n d at → leave_fault n d ≡ None
       → map items_of new ≡ map (λ ns. drop_near d ns) (map items_of (remove near_lists at))

@@ -1,14 +1,14 @@
 -- Where a device stands among rising devices, and a link among rising links.
-use Rattle.std.proofs.Common.{◌≡◌, ℕ, zero, suc, ◌+◌, ◌<◌, inl, inr, List, [], ◌∷◌, length, map, get_or, refl, sym, ◌∙◌, ap, subst, arith, Bool, true, false, cond, nat_eq, nat_lt, ◌||◌, ◌&&◌}
-use Rattle.std.specs.List.{prefix_len}
+use Rattle.std.proofs.Common.{◌≡◌, ℕ, zero, suc, ◌+◌, ◌<◌, inl, inr, List, [], ◌∷◌, length, map, get_or, refl, sym, ◌∙◌, ap, subst, arith, Bool, true, false, not, cond, nat_eq, nat_lt, ◌||◌, ◌&&◌}
+use Rattle.std.specs.List.{prefix_len, remove}
 use Rattle.std.specs.List.Sorted.{IsPartitionedBy}
 use Rattle.std.proofs.lemmas.Bool.{eqb-true, eqb-false, eq-eqb, ltb-true, ltb-false, lt-ltb, ne_eqb}
 use Rattle.fc_values.specs.Fields.{Rises, is_in}
 use Rattle.topology.specs.declared.types.Device.{Device}
 use Rattle.topology.specs.declared.types.Link.{Link}
 use Rattle.topology.specs.Networks.{NetDevice, Edge, device_of, edge_of, numbers, Before, BeforeAll, IsRisingLinks}
-use Rattle.topology.specs.Changes.{is_before, is_pair}
-use Rattle.topology.proofs.Replaced.{Later, Arranged}
+use Rattle.topology.specs.Changes.{is_before, is_pair, has_pair, drop_pair}
+use Rattle.topology.proofs.Replaced.{Later, Arranged, later_kept}
 use Rattle.topology.proofs.NearChanges.{before_ends}
 use Rattle.topology.proofs.Devices.{rises_apart}
 use Rattle.fc_values.proofs.Rising.{rises_tail, rises_at}
@@ -123,3 +123,35 @@ links_arranged a b (l ∷ ls) r = (apart, λ t. links_later a b l ls t r.0, link
         never : (q : Bool) → (q && false) ≡ false
         never true = refl
         never false = refl
+
+-- ---- the link of a pair has the place before which all others come first
+
+none_later : (a b : ℕ) (ls : List Edge) → Later (is_before a b) (is_pair a b) ls → has_pair a b ls ≡ false
+none_later a b [] l = refl
+none_later a b (m ∷ ms) l = rw l.1 (none_later a b ms l.2)
+
+abbrev Removes : ℕ → ℕ → List Edge → ℕ → Type 0
+Removes a b ls k = k ≡ prefix_len (is_before a b) ls → (k < length ls) × (remove ls k ≡ drop_pair a b ls)
+
+pub pair_removed : (a b : ℕ) (ls : List Edge) (at : ℕ) → Arranged (is_before a b) (is_pair a b) ls → has_pair a b ls ≡ true → Removes a b ls at
+pair_removed a b [] at r t e = absurd (cc)
+pair_removed a b (l ∷ ls) at r t e = by_test (is_before a b l) refl e (λ k u. pair_removed a b ls k r.2 u)
+  where
+    by_test : (q : Bool) → is_before a b l ≡ q → at ≡ cond q (1 + prefix_len (is_before a b) ls) 0 → ((k : ℕ) → has_pair a b ls ≡ true → Removes a b ls k)
+        → (at < suc (length ls)) × (remove (l ∷ ls) at ≡ drop_pair a b (l ∷ ls))
+    by_test true u v ih = further (prefix_len (is_before a b) ls) refl v
+      where
+        further : (k : ℕ) → k ≡ prefix_len (is_before a b) ls → at ≡ 1 + k → (at < suc (length ls)) × (remove (l ∷ ls) at ≡ drop_pair a b (l ∷ ls))
+        further k w z =
+            let s : at ≡ suc k = omega arith in
+            let h = ih k (rw (r.0 u) at t) w in
+            let i = h.0 in
+            (omega arith, rw (s, r.0 u) (ap (λ ms. l ∷ ms) h.1))
+    by_test false u v ih =
+        let later = r.1 u in
+        let same : is_pair a b l ≡ true = first (is_pair a b l) (none_later a b ls later) t in
+        (omega arith, rw (v, same) (sym (later_kept (is_before a b) (is_pair a b) ls later)))
+      where
+        first : (q : Bool) → has_pair a b ls ≡ false → (q || has_pair a b ls) ≡ true → q ≡ true
+        first true e f = refl
+        first false e f = absurd (cc)

@@ -14,7 +14,7 @@ module _ {X : Type 0} (before same : X → Bool) where
   Arranged [] = Unit {0}
   Arranged (x ∷ xs) = (before x ≡ true → same x ≡ false) × (before x ≡ false → Later xs) × Arranged xs
 
-  later_kept : (xs : List X) → Later xs → filter (λ x. not (same x)) xs ≡ xs
+  pub later_kept : (xs : List X) → Later xs → filter (λ x. not (same x)) xs ≡ xs
   later_kept [] l = refl
   later_kept (x ∷ xs) l = rw l.1 (ap (λ ys. x ∷ ys) (later_kept xs l.2))
 

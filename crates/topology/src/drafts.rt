@@ -213,6 +213,7 @@ impl Draft {
         ensures accepted { OnOk result (unlink_fault self.old a b ≡ None) }
         ensures refused { IfErr result (λ f. unlink_fault self.old a b ≡ Some f) }
         ensures err { OnErr result (self.new ≡ self.old) }
+        ensures network { IsNetwork self.old }
     {
         let at = self.linked_ends(a, b)?;
         self.drop_link(at, a, b);
@@ -224,7 +225,9 @@ impl Draft {
         ensures places { IfOk result (AtEnds self.now a b) }
         ensures accepted { OnOk result (unlink_fault self.now a b ≡ None) }
         ensures refused { IfErr result (λ f. unlink_fault self.now a b ≡ Some f) }
+        ensures network { IsNetwork self.now }
     {
+        let _ = &self.declared;
         let Some(at) = self.ends(a, b) else {
             return Err(NetFault::NoDevice);
         };

@@ -1,9 +1,9 @@
 //! Changes of a network's lists.
 
-ghost use Rattle.std.specs.Prelude.{◌≡◌, ◌<◌, ◌≤◌, length, map, vec_capacity, slice_set, OnOk};
+ghost use Rattle.std.specs.Prelude.{◌≡◌, ◌<◌, ◌≤◌, true, length, map, vec_capacity, slice_set, OnOk};
 ghost use Rattle.fc_values.specs.Values.{local_of};
 ghost use Rattle.topology.specs.Networks.{device_of, edge_of, IsRisingLinks};
-ghost use Rattle.topology.specs.Changes.{is_pair, put_edge, drop_pair, drop_links};
+ghost use Rattle.topology.specs.Changes.{is_pair, has_pair, put_edge, drop_pair, drop_links};
 ghost use Rattle.topology.specs.Nearby.{drop_near, items_of};
 
 use crate::nearby::{Nearby, drop_near};
@@ -11,12 +11,15 @@ use crate::places::room_for_link;
 use crate::types::{Device, Link};
 use fc_values::{Local, Memory};
 
-/// Takes the link of a pair away.
+/// Takes the link of a pair away, which is there.
 pub(crate) fn drop_link(links: &mut Vec<Link>, a: u32, b: u32)
+    requires rising { IsRisingLinks (map edge_of links.old.items) }
+    requires there { has_pair a b (map edge_of links.old.items) ≡ true }
     ensures links { map edge_of links.new.items ≡ drop_pair a b (map edge_of links.old.items) }
     ensures room { vec_capacity links.new ≡ vec_capacity links.old }
 {
-    links.retain(|link| !(link.a == a && link.b == b));
+    let at = room_for_link(links, a, b);
+    links.remove(at);
 }
 
 /// Takes the links of a device away.
