@@ -1,5 +1,5 @@
 -- The next of the links of a network can be added to those before it.
-use Rattle.std.proofs.Common.{◌≡◌, ℕ, zero, suc, map, take, drop, get_or, ◌<◌, ◌≤◌, ◌⊎◌, inl, inr, min, max, List, [], ◌∷◌, ◌++◌, length, refl, sym, ◌∙◌, ap, arith, Bool, true, false, nat_eq, nat_lt, nat_le, ◌&&◌, ◌||◌, Option, Some, None, Result, Ok, Err, IfErr, OnOk}
+use Rattle.std.proofs.Common.{◌≡◌, ℕ, zero, suc, map, take, drop, get_or, ◌<◌, ◌≤◌, ◌⊎◌, inl, inr, min, max, List, [], ◌∷◌, ◌++◌, length, refl, sym, ◌∙◌, ap, arith, Bool, true, false, nat_eq, nat_lt, ◌&&◌, ◌||◌, Option, Some, None, Result, Ok, Err, IfErr, OnOk}
 use Rattle.std.proofs.lemmas.Bool.{ltb-false, eqb-true, le-leb, lt-leb, ne_eqb, eq-eqb, lt-ltb}
 use Rattle.fc_values.specs.Types.{Declarations}
 use Rattle.topology.specs.declared.types.NetFault.{NetFault}

@@ -1,5 +1,7 @@
 -- The changes of a network: the first reason against each, in their order, and the network after it.
-use Rattle.std.specs.Prelude.{ℕ, zero, suc, ◌≤◌, Bool, false, ◌+◌, ◌&&◌, ◌||◌, not, min, max, List, [], ◌∷◌, ◌++◌, length, filter, nat_eq, nat_lt, nat_le, if◌then◌else◌, Option, Some, None, ◌≡◌, slice_set}
+use Rattle.std.specs.Prelude.{ℕ, zero, suc, ◌≤◌, Bool, false, ◌+◌, ◌&&◌, ◌||◌, not, min, max, List, [], ◌∷◌, ◌++◌}
+use Rattle.std.specs.Prelude.{length, filter, nat_eq, nat_lt, nat_le, if◌then◌else◌, Option, Some, None, ◌≡◌}
+use Rattle.std.specs.Prelude.{slice_set}
 use Rattle.fc_values.specs.Types.{Declarations, Input}
 use Rattle.fc_values.specs.Values.{LocalValue}
 use Rattle.topology.specs.declared.types.NetFault.{NetFault}

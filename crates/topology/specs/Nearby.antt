@@ -1,5 +1,6 @@
 -- The lists of neighbours that a network keeps beside its links.
-use Rattle.std.specs.Prelude.{ℕ, ◌≡◌, ◌≤◌, ◌<◌, ◌*◌, not, List, [], ◌∷◌, ◌++◌, map, length, filter, slice_index, nat_eq, nat_lt, if◌then◌else◌}
+use Rattle.std.specs.Prelude.{ℕ, ◌≡◌, ◌≤◌, ◌<◌, ◌*◌, nat_eq, nat_lt, not, if◌then◌else◌}
+use Rattle.std.specs.Prelude.{List, [], ◌∷◌, ◌++◌, map, length, filter, slice_index}
 use Rattle.arrayvec.specs.ArrayVec.{ArrayVec}
 use Rattle.fc_values.specs.Types.{Declarations}
 use Rattle.topology.specs.Networks.{Network, NetDevice, Edge, IsNetwork, numbers, near_in}
@@ -43,6 +44,10 @@ drawn D ns lists = record { declared = D; devices = ns; links = links_in (number
 pub record IsDrawn (n : Network) (lists : List (List (ℕ × ℕ))) : Type 0 where
   pub network : IsNetwork n
   pub near : lists ≡ near_each (numbers n.devices) n.links
+
+-- the lists tell of the links of a network, and are the neighbours of its devices
+abbrev pub IsDraft : Declarations → List NetDevice → List (List (ℕ × ℕ)) → Type 0
+IsDraft D ns lists = IsDrawn (drawn D ns lists) lists
 
 -- these are the links of a network, and there is room for as many as its devices can have
 pub record IsWritten (n : Network) (ls : List Edge) (capacity : ℕ) : Type 0 where

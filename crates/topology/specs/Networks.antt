@@ -51,7 +51,9 @@ inputs_in d (n ∷ ns) = if nat_eq d n.id then n.inputs else inputs_in d ns
 -- the devices that are linked to a device, with the weights of the links
 abbrev pub near_in : ℕ → List Edge → List (ℕ × ℕ)
 near_in d [] = []
-near_in d (l ∷ ls) = if nat_eq l.a d then (l.b, l.weight) ∷ near_in d ls else (if nat_eq l.b d then (l.a, l.weight) ∷ near_in d ls else near_in d ls)
+near_in d (l ∷ ls) =
+    if nat_eq l.a d then (l.b, l.weight) ∷ near_in d ls
+    else (if nat_eq l.b d then (l.a, l.weight) ∷ near_in d ls else near_in d ls)
 
 abbrev pub near : Network → ℕ → List (ℕ × ℕ)
 near n d = near_in d n.links

@@ -27,7 +27,7 @@ impl Model for Draft {
     ghost use Rattle.fc_values.specs.Codes.{local_value_code};
     ghost use Rattle.fc_values.specs.Types.{declarations_of};
     ghost use Rattle.topology.specs.Networks.{Network as NetworkValue, device_of};
-    ghost use Rattle.topology.specs.Nearby.{IsDrawn, drawn, items_of};
+    ghost use Rattle.topology.specs.Nearby.{IsDraft, drawn, items_of};
 
     ghost Value = { NetworkValue };
 
@@ -35,16 +35,18 @@ impl Model for Draft {
 
     ghost view = { λ n. drawn (declarations_of n.declared) (map device_of n.devices.items) (map items_of n.near.items) };
 
-    ghost invariant = { λ n. IsDrawn (drawn (declarations_of n.declared) (map device_of n.devices.items) (map items_of n.near.items)) (map items_of n.near.items) };
+    ghost invariant = { λ n. IsDraft (declarations_of n.declared) (map device_of n.devices.items) (map items_of n.near.items) };
 }
 
 impl Draft {
-    ghost use Rattle.std.specs.Prelude.{◌≡◌, ◌<◌, ◌≤◌, length, map, IfOk, OnOk, OnErr, IfErr, IfSome, IfNone, slice_index, Some, None, true, false, [], ◌&&◌};
+    ghost use Rattle.std.specs.Prelude.{◌≡◌, ◌<◌, ◌≤◌, length, map, IfOk, OnOk, OnErr, IfErr, IfSome};
+    ghost use Rattle.std.specs.Prelude.{IfNone, slice_index, Some, None, true, false, [], ◌&&◌};
     ghost use Rattle.fc_values.specs.Types.{declarations_of};
     ghost use Rattle.fc_values.specs.Values.{local_of};
     ghost use Rattle.fc_values.specs.Fields.{Rises};
     ghost use Rattle.topology.specs.Networks.{IsNetwork, device_of, near as near_of, lives, numbers, network_of};
-    ghost use Rattle.topology.specs.Changes.{are_linked, is_full, link_fault, linked, unlink_fault, unlinked, set_fault, with_input, join_fault, joined, leave_fault, left};
+    ghost use Rattle.topology.specs.Changes.{are_linked, is_full, link_fault, linked, unlink_fault, unlinked};
+    ghost use Rattle.topology.specs.Changes.{set_fault, with_input, join_fault, joined, leave_fault, left};
     ghost use Rattle.topology.specs.Nearby.{AtPlace, AtEnds, near_numbers};
 
     /// A draft of devices by rising numbers that make a network, without links.

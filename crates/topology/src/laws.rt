@@ -5,7 +5,8 @@ ghost use Rattle.std.specs.List.{AllPairs, Contains};
 ghost use Rattle.fc_values.specs.Fields.{Rises};
 ghost use Rattle.fc_values.specs.Values.{LocalValue};
 ghost use Rattle.topology.specs.Networks.{NetDevice, Network, IsNetwork, Lives, lives, near, numbers};
-ghost use Rattle.topology.specs.Changes.{link_fault, linked, unlink_fault, unlinked, set_fault, with_input, join_fault, joined, leave_fault, left, in_order};
+ghost use Rattle.topology.specs.Changes.{link_fault, linked, unlink_fault, unlinked, set_fault};
+ghost use Rattle.topology.specs.Changes.{with_input, join_fault, joined, leave_fault, left, in_order};
 ghost use Rattle.topology.specs.Nearby.{near_numbers};
 
 /// A change that isn't refused leads from a network to a network.

@@ -35,13 +35,16 @@ impl Model for Network {
 }
 
 impl Network {
-    ghost use Rattle.std.specs.Prelude.{◌≡◌, ◌<◌, ◌≤◌, length, map, IfOk, OnOk, OnErr, IfErr, IfSome, IfNone, slice_index, nat_lt, Some, None, true, false, []};
+    ghost use Rattle.std.specs.Prelude.{◌≡◌, ◌<◌, ◌≤◌, length, map, IfOk, OnOk, OnErr, IfErr, IfSome};
+    ghost use Rattle.std.specs.Prelude.{IfNone, slice_index, nat_lt, Some, None, true, false, []};
     ghost use Rattle.std.specs.List.{prefix_len};
     ghost use Rattle.fc_values.specs.Types.{declarations_of};
     ghost use Rattle.fc_values.specs.Values.{local_of};
     ghost use Rattle.fc_values.specs.Fields.{Rises};
     ghost use Rattle.topology.specs.Networks.{NetDevice, IsNetwork, device_of, edge_of, near as near_of, lives, numbers, network_of};
-    ghost use Rattle.topology.specs.Changes.{HaveNumbers, HaveInputs, RefusesMake, make_fault, made, are_linked, link_fault, linked, unlink_fault, unlinked, set_fault, with_input, RefusesJoin, join_fault, joined, leave_fault, left};
+    ghost use Rattle.topology.specs.Changes.{HaveNumbers, HaveInputs, RefusesMake, make_fault, made, are_linked};
+    ghost use Rattle.topology.specs.Changes.{link_fault, linked, unlink_fault, unlinked, set_fault, with_input};
+    ghost use Rattle.topology.specs.Changes.{RefusesJoin, join_fault, joined, leave_fault, left};
     ghost use Rattle.topology.specs.Nearby.{near_numbers};
 
     /// The network of these declarations and devices, without links.

@@ -1,4 +1,4 @@
-use Rattle.std.proofs.Common.{◌≡◌, ◌∙◌, refl, sym, ap, subst, List, map, None, length, nat_lt, ◌≤◌, ◌+◌, arith, is_ok, true}
+use Rattle.std.proofs.Common.{◌≡◌, ◌∙◌, refl, sym, ap, subst, List, map, None, length, nat_lt, arith, is_ok, true}
 use Rattle.std.specs.List.{insert, prefix_len}
 use Rattle.std.proofs.lemmas.List.{length-map}
 use Rattle.topology.specs.declared.types.Device.{Device}

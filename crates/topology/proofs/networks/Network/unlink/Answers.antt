@@ -1,6 +1,5 @@
-use Rattle.std.proofs.Common.{◌≡◌, ◌∙◌, sym, ap, subst, map, true}
-use Rattle.topology.specs.Networks.{numbers, edge_of, IsRisingLinks}
-use Rattle.topology.specs.Changes.{has_pair}
+use Rattle.std.proofs.Common.{sym, subst}
+use Rattle.topology.specs.Networks.{numbers, IsRisingLinks}
 use Rattle.topology.proofs.Links.{rising_fit}
 use Rattle.topology.proofs.Changed.{can_unlink}
 use Rattle.topology.proofs.networks.Network.unlink.Goals as goal
