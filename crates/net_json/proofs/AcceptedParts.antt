@@ -16,7 +16,6 @@ use Rattle.fc_nodes.specs.Terms.{type_of}
 use Rattle.fc_nodes.specs.Program.{Unfolding}
 use Rattle.fc_nodes.specs.Flat.{IsWellTyped}
 use Rattle.value_trees.specs.Copies.{WhereSome, NearFits, AllNearFit, FitsCopy}
-use Rattle.value_trees.proofs.ReadBack.{had_type}
 use Rattle.topology.specs.Networks.{NetDevice, Network, numbers, lives, Lives, DevicesFit, IsNetwork, network_of}
 use Rattle.topology.specs.Changes.{in_metric}
 use Rattle.topology.proofs.Lemmas.{linked_network}
@@ -25,8 +24,8 @@ use Rattle.net_json.specs.Reading.{value_of, two_members}
 use Rattle.net_json.specs.Inputs.{inputs_judged}
 use Rattle.net_json.specs.Devices.{device_form, device_number, live_number, device_judged, number_of, devices_judged}
 use Rattle.net_json.specs.Links.{link_of, link_judged}
-use Rattle.net_json.specs.KeptItems.{KeptItem, item_of_values, kept_judged, Taken, Took, Misfit, take_tree}
-use Rattle.net_json.specs.Exports.{whole_export, export_judged}
+use Rattle.net_json.specs.KeptItems.{KeptItem, item_of_values}
+use Rattle.net_json.specs.Exports.{export_judged}
 use Rattle.net_json.specs.Tables.{Row, row_number, row_form, row_judged, rows_judged, array_or, second_format, second_judged, table_judged}
 use Rattle.net_json.specs.Copies.{own_export, some_export, own_judged, other_number, weight_judged, near_judged, near_number, nears_judged, parts_judged, copy_number, copy_judged, near_form, copy_form, copies_judged, CopyForm}
 use Rattle.net_json.specs.Scenes.{SceneValue, scene_path, scene_form, network_judged, scene_judged, of_reading, scene_of, json_of}
@@ -34,7 +33,7 @@ use Rattle.net_json.specs.SceneCode.{DeviceFits}
 use Rattle.net_json.specs.ReadingBack.{AreTableRows}
 use Rattle.net_json.specs.FittingScenes.{AreFlights, SceneFits}
 use Rattle.net_json.proofs.InputFacts.{values_fit}
-use Rattle.net_json.proofs.TookTrees.{took}
+use Rattle.net_json.proofs.AcceptedExports.{export_accepted}
 use Rattle.net_json.proofs.Accepting.{then_accepted, require_accepted, no_fault_accepted, same_accepted, in_turn_keeps, AreGathered, IsNew, all_gathered, many_gathered}
 
 and_both : (p q : Bool) → (p && q) ≡ true → (p ≡ true) × (q ≡ true)
@@ -131,22 +130,6 @@ network_accepted U devices links n e =
     in_turn_keeps link_judged (IsNetworkOf U.declared) (link_keeps U.declared) (scene_path (codes "links")) (network_of U.declared ns []) n 0 links
     (record { net = devices_accepted U.declared (scene_path (codes "devices")) devices ns f; declared = refl }) g)
 
--- ---- exports
-
-whole_accepted : (U : Unfolding) (path : List ℕ) (v : LocalValue) (xs : List KeptItem) (e : TreeExport) (t : Taken Tree) → take_tree U.declared.ceiling U.main 0 xs ≡ t → whole_export U path v t ≡ Accepted e
-    → (tree : Tree) × (take_tree U.declared.ceiling U.main 0 xs ≡ Took tree []) × (e ≡ record { value = v; tree = tree })
-whole_accepted U path v xs e (Took tree []) f g = (tree, f, sym (same_accepted g))
-whole_accepted U path v xs e (Took tree (y ∷ ys)) f g = absurd cc
-whole_accepted U path v xs e (Misfit p) f g = absurd cc
-
-pub export_accepted : (U : Unfolding) (read : Data → Option KeptItem) (path : List ℕ) (v : LocalValue) (ds : Items) (e : TreeExport) → export_judged U read path v ds ≡ Accepted e → IsWellTyped U e
-export_accepted U read path v ds e h =
-    let r = require_accepted _ h in
-    then_accepted (in_turn (kept_judged read) (at_member path (codes "kept")) [] 0 ds) r.1 (λ xs f g.
-    let w = whole_accepted U path v xs e _ refl g in
-    let fits = took U.declared.ceiling U.main 0 xs [] w.0 w.1 in
-    subst (IsWellTyped U) (sym w.2) (record { value = had_type U.declared.ceiling (inner (type_of U.main)) v r.0; tree = fits.fits }))
-
 -- ---- rows
 
 row_new : (U : Unfolding) (n : Network) (read : Data → Option KeptItem) (before path : List ℕ) (d : Data) (r : Row) → row_judged U n read before path d ≡ Accepted r
@@ -158,7 +141,7 @@ row_new U n read before path d r e =
     let number = live_number_accepted n before _ form.id id h in
     subst (IsNew row_number (λ (r : Row). Lives n r.0 × IsWellTyped U r.1) before) (same_accepted m) (record {
       absent = number.1;
-      holds = (number.0, export_accepted U read path form.value form.kept x l);
+      holds = (number.0, (export_accepted U read path form.value form.kept x l).typed);
     }))))
 
 rows_accepted : (U : Unfolding) (n : Network) (read : Data → Option KeptItem) (path : List ℕ) (ds : Items) (rows : List Row) → rows_judged U n read path ds ≡ Accepted rows → AreTableRows U n rows
@@ -190,7 +173,7 @@ own_accepted U path d own e = by_null (is_some (as_null d)) e
         then_accepted (given (Misshaped path) (two_members (codes "value") (codes "kept") d)) f (λ m h k.
         then_accepted (given (Misshaped (at_member path (codes "value"))) (value_of m.0)) k (λ v l n.
         then_accepted (given (Misshaped (at_member path (codes "kept"))) (as_array m.1)) n (λ ds o p.
-        subst (WhereSome (IsWellTyped U)) (same_accepted g) (export_accepted U item_of_values path v ds x p)))))
+        subst (WhereSome (IsWellTyped U)) (same_accepted g) (export_accepted U item_of_values path v ds x p).typed))))
 
 near_new : (U : Unfolding) (device : ℕ) (before path : List ℕ) (d : Data) (n : NearCopy) → near_judged U device before path d ≡ Accepted n → IsNew near_number (NearFits U device) before n
 near_new U device before path d n e =
@@ -208,7 +191,7 @@ near_new U device before path d n e =
         other = number.0;
         above = subst (λ (m : ℕ). U.declared.least ≤ m) same (leb-true U.declared.least form.weight both.0);
         below = subst (λ (m : ℕ). m ≤ U.declared.greatest) same (leb-true form.weight U.declared.greatest both.1);
-        export = export_accepted U _ path form.value form.kept x o;
+        export = (export_accepted U _ path form.value form.kept x o).typed;
       };
     })))))
 

@@ -12,6 +12,7 @@ mod PlainLists
 mod Living
 mod InputFacts
 mod Makes
+mod AcceptedExports
 mod AcceptedParts
 mod Jsons
 mod Placings

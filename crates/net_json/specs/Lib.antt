@@ -17,3 +17,4 @@ pub mod TableTexts
 pub mod Placing
 pub mod ReadingBack
 pub mod FittingScenes
+pub mod AcceptedLists

@@ -8,6 +8,7 @@ ghost use Rattle.net_json.specs.KeptItems.{plain_item};
 ghost use Rattle.net_json.specs.Leavings.{misfit_among};
 ghost use Rattle.net_json.specs.ReadingBack.{TablesReadBack};
 ghost use Rattle.net_json.specs.FittingScenes.{AcceptedScenesFit};
+ghost use Rattle.net_json.specs.AcceptedLists.{AcceptedListsAreKept};
 
 /// A kept list of format 1 has the fault that `from_kept` names.
 pub fn plain_lists_misfit_as_values()
@@ -22,4 +23,9 @@ pub fn tables_read_back()
 /// A program may start from each scene that is accepted for it.
 pub fn accepted_scenes_fit()
     ensures { AcceptedScenesFit }
+{}
+
+/// The export that is accepted for a value and a kept list has that value, and keeps the values of the list.
+pub fn accepted_lists_are_kept()
+    ensures { AcceptedListsAreKept }
 {}

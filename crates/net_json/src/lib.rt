@@ -21,7 +21,9 @@ mod texts;
 mod types;
 mod values;
 
-pub use laws::{accepted_scenes_fit, plain_lists_misfit_as_values, tables_read_back};
+pub use laws::{
+    accepted_lists_are_kept, accepted_scenes_fit, plain_lists_misfit_as_values, tables_read_back,
+};
 pub use scenes::read_scene;
 pub use texts::write_table;
 pub use types::{JsonFault, Path, Scene};
