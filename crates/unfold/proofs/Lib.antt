@@ -9,3 +9,4 @@ pub mod Inputs
 pub mod Written
 pub mod Calls
 pub mod Whole
+pub mod Made

@@ -11,10 +11,12 @@ use Rattle.fc_nodes.specs.declared.nodes.Node.{Node}
 use Rattle.fc_nodes.specs.Terms.{view_of, term_at}
 use Rattle.fc_nodes.specs.Program.{IsProgram, unfolding_of}
 use Rattle.unfold.specs.Nodes.{Nodes, listed}
-use Rattle.unfold.specs.Laws.{UnfoldingIsProgram}
+use Rattle.unfold.specs.Laws.{ProgramsUnfold, UnfoldingIsProgram}
 use Rattle.unfold.specs.Unfolding.{meanings, unfolded, main_expression, main_term}
 use Rattle.unfold.specs.Writing.{IsWritten, unfolded_in}
 use Rattle.unfold.proofs.Listing.{read_back, well_formed}
+use Rattle.unfold.proofs.Made.{term_made}
+use Rattle.unfold.proofs.Sizes.{listed_long}
 use Rattle.unfold.proofs.Programs.{few_inputs, unfolding_typed, declared_lawful}
 
 pub is_program : UnfoldingIsProgram
@@ -51,3 +53,15 @@ main_written ds B n e N0 N1 t b l m z w =
     ∙ ap (λ (fs : List Function). listed 0 (unfolded B.inputs (meanings B.inputs [] fs) [] 0 e)) all
     ∙ ap (λ (A : Before). listed 0 (unfolded A.inputs (meanings A.inputs [] A.functions) [] 0 e)) b
     ∙ ap (λ (x : Expression). listed 0 (unfolded (and_all nothing ds).inputs (meanings (and_all nothing ds).inputs [] (and_all nothing ds).functions) [] 0 x)) m
+
+-- nodes in code that are those of the program
+pub programs_unfold : ProgramsUnfold
+programs_unfold ds h a few small =
+    let long = listed_long (main_term ds) 0 in
+    let made = term_made (main_term ds) (omega (arith, long, small)) in
+    let many : length made.0 ≡ length (Nodes ds) = sym (length-map made.0 view_of) ∙ ap length made.1 in
+    record {
+      program = record { declared = declared_by ds; nodes = made.0 };
+      is = is_program ds made.0 h a few made.1 (omega (arith, many, small));
+      unfolds = whole_unfolding ds (declared_by ds) made.0 refl made.1;
+    }

@@ -10,14 +10,14 @@ use Rattle.fc_syntax.specs.Terms.{Term as Expression, Terms as Expressions, Appl
 use Rattle.fc_types.specs.Before.{Before}
 use Rattle.fc_types.specs.Judging.{judge_builtin}
 use Rattle.fc_nodes.specs.declared.nodes.Node.{Node}
-use Rattle.fc_nodes.specs.Terms.{Term, Evolution, size, sizes, View, Has, Sort, OfApply, OfNbr, OfEvolve, OfIf, OfLet, places, view_of, type_of as term_type}
+use Rattle.fc_nodes.specs.Terms.{Term, Evolution, size, View, Has, Sort, OfApply, OfNbr, OfEvolve, OfIf, OfLet, places, view_of, type_of as term_type}
 use Rattle.fc_nodes.specs.Typing.{types_of}
 use Rattle.unfold.specs.Nodes.{listed, all_listed}
-use Rattle.unfold.specs.Counting.{count, count_all}
+use Rattle.unfold.specs.Counting.{count}
 use Rattle.unfold.specs.Unfolding.{Scope, bind, variable_type, type_given, evolve_term}
 use Rattle.unfold.specs.Views.{counted}
 use Rattle.unfold.specs.Writing.{IsWritten, first_meanings, unfolded_in, all_unfolded_in}
-use Rattle.unfold.proofs.Sizes.{unfolded_size, unfolded_all_size, counts_are}
+use Rattle.unfold.proofs.Sizes.{unfolded_size, counts_are}
 
 -- what is set behind others
 set_behind : (xs ys : List View) (v w : View) → slice_set (xs ++ v ∷ ys) (length xs) w ≡ xs ++ w ∷ ys

@@ -3,6 +3,7 @@ use Rattle.std.specs.Prelude.{ℕ, List, [], take, length, min, Option, Some, No
 use Rattle.fc_types.specs.declared.known.Function.{Function as AFunction}
 use Rattle.fc_types.specs.Before.{Before, Function}
 use Rattle.fc_types.specs.Views.{function_of}
+use Rattle.unfold.specs.declared.count.TheConstants.{MOST_COUNTED}
 use Rattle.unfold.specs.Found.{FirstAt, NoneAmong}
 use Rattle.unfold.specs.Counting.{Count, count, counts}
 
@@ -22,4 +23,4 @@ body_count B n (Some f) = count (counted B n) f.body
 
 -- the numbers of nodes of the first functions, each at most 1,000,000
 abbrev pub AreCapped : Before → List ℕ → Type 0
-AreCapped B ns = (j : ℕ) → j < length ns → slice_index ns j ≡ min 1000000 (body_count B j (slice_get B.functions j))
+AreCapped B ns = (j : ℕ) → j < length ns → slice_index ns j ≡ min MOST_COUNTED (body_count B j (slice_get B.functions j))

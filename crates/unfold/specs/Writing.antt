@@ -16,6 +16,7 @@ use Rattle.unfold.specs.declared.scopes.Argument.{Argument}
 use Rattle.unfold.specs.declared.scopes.Scope.{Scope as AScope}
 use Rattle.unfold.specs.declared.scopes.Scope.TheVariants as scope
 use Rattle.unfold.specs.declared.scopes.Sight.{Sight as ASight}
+use Rattle.unfold.specs.declared.unfolding.TheConstants.{MOST_NODES}
 use Rattle.unfold.specs.Counting.{count, count_all, count_arguments, size_of}
 use Rattle.unfold.specs.Found.{FirstAt}
 use Rattle.unfold.specs.Nodes.{listed}
@@ -97,7 +98,7 @@ call_by_sight s f given p es = call_in s.known s.visible s.scope f given p es
 
 -- so many more nodes are within the limit
 abbrev pub HasRoom : List Node → ℕ → Type 0
-HasRoom before n = length before + n ≤ 2048
+HasRoom before n = length before + n ≤ MOST_NODES
 
 -- there are so many more nodes
 abbrev pub IsLonger : List Node → List Node → ℕ → Type 0

@@ -12,15 +12,15 @@ use fc_types::Known;
 use fc_values::Name;
 
 /// The greatest number of nodes that is told apart.
-pub const MOST: u32 = 1_000_000;
+pub const MOST_COUNTED: u32 = 1_000_000;
 
 // A sum, or the greatest number where it is greater.
 fn add(a: u32, b: u32) -> u32
-    requires first { a ≤ 1000000 }
-    requires second { b ≤ 1000000 }
-    ensures { result ≡ min 1000000 (a + b) }
+    requires first { a ≤ MOST_COUNTED }
+    requires second { b ≤ MOST_COUNTED }
+    ensures { result ≡ min MOST_COUNTED (a + b) }
 {
-    MOST.min(a + b)
+    MOST_COUNTED.min(a + b)
 }
 
 /// The number of nodes of an expression, or the greatest number where it is greater, from those of the functions before.
@@ -28,7 +28,7 @@ fn add(a: u32, b: u32) -> u32
 pub fn count(known: &Known<'_>, counts: &[u32], expr: &Expr) -> u32
     requires visible { length counts.now ≤ length (known_of known.now).functions }
     requires capped { AreCapped (known_of known.now) counts.now }
-    ensures { result ≡ min 1000000 (count_of (counted (known_of known.now) (length counts.now)) (term_of expr.now)) }
+    ensures { result ≡ min MOST_COUNTED (count_of (counted (known_of known.now) (length counts.now)) (term_of expr.now)) }
 {
     match expr {
         Expr::Int(_) | Expr::Truth(_) | Expr::Var(_) => 1,
@@ -59,7 +59,8 @@ fn count_two(known: &Known<'_>, counts: &[u32], first: &Expr, second: &Expr) -> 
     requires visible { length counts.now ≤ length (known_of known.now).functions }
     requires capped { AreCapped (known_of known.now) counts.now }
     ensures { result
-        ≡ min 1000000 (suc (count_of (counted (known_of known.now) (length counts.now)) (term_of first.now) + count_of (counted (known_of known.now) (length counts.now)) (term_of second.now))) }
+        ≡ min MOST_COUNTED (suc (count_of (counted (known_of known.now) (length counts.now)) (term_of first.now)
+        + count_of (counted (known_of known.now) (length counts.now)) (term_of second.now))) }
 {
     add(
         add(1, count(known, counts, first)),
@@ -73,7 +74,7 @@ fn count_all(known: &Known<'_>, counts: &[u32], args: &[Expr]) -> u32
     requires visible { length counts.now ≤ length (known_of known.now).functions }
     requires capped { AreCapped (known_of known.now) counts.now }
     ensures { result
-        ≡ min 1000000 (all_counted (counted (known_of known.now) (length counts.now)) (terms (map term_of args.now))) }
+        ≡ min MOST_COUNTED (all_counted (counted (known_of known.now) (length counts.now)) (terms (map term_of args.now))) }
 {
     match args {
         [] => 0,
@@ -87,7 +88,7 @@ fn count_arguments(known: &Known<'_>, counts: &[u32], args: &[Expr]) -> u32
     requires visible { length counts.now ≤ length (known_of known.now).functions }
     requires capped { AreCapped (known_of known.now) counts.now }
     ensures { result
-        ≡ min 1000000 (arguments_counted (counted (known_of known.now) (length counts.now)) (terms (map term_of args.now))) }
+        ≡ min MOST_COUNTED (arguments_counted (counted (known_of known.now) (length counts.now)) (terms (map term_of args.now))) }
 {
     match args {
         [] => 0,
@@ -102,7 +103,7 @@ fn count_arguments(known: &Known<'_>, counts: &[u32], args: &[Expr]) -> u32
 fn count_named(known: &Known<'_>, counts: &[u32], name: &Name) -> u32
     requires visible { length counts.now ≤ length (known_of known.now).functions }
     requires capped { AreCapped (known_of known.now) counts.now }
-    ensures { result ≡ min 1000000 (size_of name.now.text.items (counted (known_of known.now) (length counts.now))) }
+    ensures { result ≡ min MOST_COUNTED (size_of name.now.text.items (counted (known_of known.now) (length counts.now))) }
 {
     match find(known, counts.len(), name) {
         Some((number, _)) => counts[number],

@@ -9,6 +9,7 @@ ghost use Rattle.fc_types.specs.Views.{known_of};
 ghost use Rattle.unfold.specs.Nodes.{Nodes};
 ghost use Rattle.unfold.specs.Unfolding.{main_expression};
 ghost use Rattle.unfold.specs.Views.{AreCapped};
+ghost use Rattle.unfold.specs.declared.count.TheConstants.{MOST_COUNTED};
 
 use crate::count::count;
 use fc_syntax::{Decl, Expr, Program};
@@ -20,7 +21,7 @@ use std::alloc::Global;
 /// made.
 pub fn count_nodes(alloc: Global, typed: &Typed, known: &Known<'_>) -> Result<u32, Memory>
     requires { known_of known.now ≡ and_all nothing (program_of typed.now.program) }
-    ensures { IfOk result (λ n. n ≡ min 1000000 (length (Nodes (program_of typed.now.program)))) }
+    ensures { IfOk result (λ n. n ≡ min MOST_COUNTED (length (Nodes (program_of typed.now.program)))) }
 {
     let program = typed.program();
     let counts = body_counts(alloc, known)?;

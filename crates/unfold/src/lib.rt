@@ -13,7 +13,7 @@ mod writing;
 
 pub use counting::count_nodes;
 pub use faults::UnfoldFault;
-pub use laws::{nodes_are_counted, unfolding_is_program};
+pub use laws::{nodes_are_counted, programs_unfold, unfolding_is_program};
 pub use unfolding::unfold;
 
 #[cfg(test)]

@@ -8,6 +8,7 @@ ghost use Rattle.fc_types.specs.Judging.{judge_builtin};
 ghost use Rattle.fc_types.specs.Views.{known_of};
 ghost use Rattle.unfold.specs.Unfolding.{binder_of, input_number, sense_by, type_given, untyped, variable_term};
 ghost use Rattle.unfold.specs.Writing.{IsWritten, input_term, scope_of};
+ghost use Rattle.unfold.specs.declared.unfolding.TheConstants.{MOST_NODES};
 
 use crate::names::find_input;
 use crate::scopes::{Scope, lookup};
@@ -18,7 +19,7 @@ use std::alloc::Global;
 
 /// Puts a node whose kids are not known yet behind others, and gives its place.
 pub fn begin_node(alloc: Global, nodes: &mut Vec<Node>) -> Result<u32, Memory>
-    requires room { length nodes.old.items < 2048 }
+    requires room { length nodes.old.items < MOST_NODES }
     ensures place { IfOk result (λ place. place ≡ length nodes.old.items) }
     ensures long { IfOk result (λ place. length nodes.new.items ≡ length nodes.old.items + 1) }
     ensures behind { IfOk result (λ place. map view_of nodes.new.items ≡ map view_of nodes.old.items

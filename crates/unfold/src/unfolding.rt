@@ -10,6 +10,7 @@ ghost use Rattle.fc_nodes.specs.Terms.{view_of};
 ghost use Rattle.unfold.specs.Nodes.{Nodes};
 ghost use Rattle.unfold.specs.Unfolding.{main_term};
 ghost use Rattle.unfold.specs.Writing.{IfTooLarge};
+ghost use Rattle.unfold.specs.declared.count.TheConstants.{MOST_COUNTED};
 
 use crate::counting::{count_nodes, main_of, table};
 use crate::faults::UnfoldFault;
@@ -22,7 +23,7 @@ use fc_values::Memory;
 use std::alloc::Global;
 
 // The greatest number of nodes of a program.
-const MOST_NODES: u32 = 2_048;
+pub const MOST_NODES: u32 = 2_048;
 
 /// The nodes of a typed program: `main`, with each call replaced by one `let` per argument around the function's body. A
 /// program with more than 2,048 nodes is refused before one is made.
@@ -30,11 +31,11 @@ pub fn unfold(alloc: Global, typed: &Typed) -> Result<Unfolded, UnfoldFault>
     ensures unfolding { IfOk result (λ u. unfolding_of u
         ≡ record { declared = declared_by (program_of typed.now.program); main = main_term (program_of typed.now.program) }) }
     ensures nodes { IfOk result (λ u. map view_of u.nodes ≡ Nodes (program_of typed.now.program)) }
-    ensures small { IfOk result (λ u. length (Nodes (program_of typed.now.program)) ≤ 2048) }
-    ensures large { IfErr result (λ fault. IfTooLarge fault (λ size. 2048
-        < length (Nodes (program_of typed.now.program)))) }
-    ensures size { IfErr result (λ fault. IfTooLarge fault (λ size. size
-        ≡ min 1000000 (length (Nodes (program_of typed.now.program))))) }
+    ensures small { IfOk result (λ u. length (Nodes (program_of typed.now.program)) ≤ MOST_NODES) }
+    ensures large { IfErr result (λ fault. IfTooLarge fault (λ size.
+        MOST_NODES < length (Nodes (program_of typed.now.program)))) }
+    ensures size { IfErr result (λ fault. IfTooLarge fault (λ size.
+        size ≡ min MOST_COUNTED (length (Nodes (program_of typed.now.program))))) }
 {
     let program = typed.program();
     let known = table(alloc, program)?;
@@ -52,7 +53,7 @@ fn nodes_of(alloc: Global, known: &Known<'_>, program: &Program) -> Result<Vec<N
     requires printable { IsPrintable (program_of program.now) }
     requires known { known_of known.now ≡ and_all nothing (program_of program.now) }
     requires few { length program.now.decls.items < 2 ^ 32 }
-    requires small { length (Nodes (program_of program.now)) ≤ 2048 }
+    requires small { length (Nodes (program_of program.now)) ≤ MOST_NODES }
     ensures { IfOk result (λ nodes. map view_of nodes.items ≡ Nodes (program_of program.now)) }
 {
     let mut nodes = Vec::new(alloc);

@@ -87,7 +87,8 @@ fn write_apply(
     ensures long { IfOk result (λ _. IsLonger nodes.old.items nodes.new.items
         (nodes_in (sight_of sight.now) (ApplyTerm builtin (terms (map term_of args.now))))) }
     ensures written { IfOk result (λ ty. IsWritten nodes.old.items nodes.new.items ty
-        (unfolded_by (sight_of sight.now) (length nodes.old.items) (ApplyTerm builtin (terms (map term_of args.now))))) }
+        (unfolded_by (sight_of sight.now) (length nodes.old.items)
+        (ApplyTerm builtin (terms (map term_of args.now))))) }
 {
     let place = begin_node(alloc, nodes)?;
     let mut places = Vec::with_capacity(alloc, args.len())?;
@@ -120,9 +121,11 @@ fn write_all(
     ensures long { IfOk result (λ _. IsLonger nodes.old.items nodes.new.items
         (all_nodes_in (sight_of sight.now) (terms (map term_of args.now)))) }
     ensures nodes { IfOk result (λ _. map view_of nodes.new.items ≡ map view_of nodes.old.items
-        ++ all_listed (length nodes.old.items) (all_unfolded_by (sight_of sight.now) (length nodes.old.items) (terms (map term_of args.now)))) }
+        ++ all_listed (length nodes.old.items)
+        (all_unfolded_by (sight_of sight.now) (length nodes.old.items) (terms (map term_of args.now)))) }
     ensures places { IfOk result (λ _. places.new.items ≡ places.old.items
-        ++ places_of (length nodes.old.items) (all_unfolded_by (sight_of sight.now) (length nodes.old.items) (terms (map term_of args.now)))) }
+        ++ places_of (length nodes.old.items)
+        (all_unfolded_by (sight_of sight.now) (length nodes.old.items) (terms (map term_of args.now)))) }
     ensures types { IfOk result (λ _. map type_of types.new.items ≡ map type_of types.old.items
         ++ types_of (all_unfolded_by (sight_of sight.now) (length nodes.old.items) (terms (map term_of args.now)))) }
 {
@@ -175,7 +178,8 @@ fn write_rep(
     ensures long { IfOk result (λ _. IsLonger nodes.old.items nodes.new.items
         (nodes_in (sight_of sight.now) (RepTerm (term_of first.now) name.now.text.items (term_of body.now)))) }
     ensures written { IfOk result (λ ty. IsWritten nodes.old.items nodes.new.items ty
-        (unfolded_by (sight_of sight.now) (length nodes.old.items) (RepTerm (term_of first.now) name.now.text.items (term_of body.now)))) }
+        (unfolded_by (sight_of sight.now) (length nodes.old.items)
+        (RepTerm (term_of first.now) name.now.text.items (term_of body.now)))) }
 {
     let place = begin_node(alloc, nodes)?;
     let ty = write(alloc, sight, first, nodes)?;
@@ -209,7 +213,8 @@ fn write_share(
     ensures long { IfOk result (λ _. IsLonger nodes.old.items nodes.new.items
         (nodes_in (sight_of sight.now) (ShareTerm (term_of first.now) name.now.text.items (term_of body.now)))) }
     ensures written { IfOk result (λ ty. IsWritten nodes.old.items nodes.new.items ty
-        (unfolded_by (sight_of sight.now) (length nodes.old.items) (ShareTerm (term_of first.now) name.now.text.items (term_of body.now)))) }
+        (unfolded_by (sight_of sight.now) (length nodes.old.items)
+        (ShareTerm (term_of first.now) name.now.text.items (term_of body.now)))) }
 {
     let place = begin_node(alloc, nodes)?;
     let ty = write(alloc, sight, first, nodes)?;
@@ -244,7 +249,8 @@ fn write_if(
     ensures long { IfOk result (λ _. IsLonger nodes.old.items nodes.new.items
         (nodes_in (sight_of sight.now) (IfTerm (term_of condition.now) (term_of then.now) (term_of other.now)))) }
     ensures written { IfOk result (λ ty. IsWritten nodes.old.items nodes.new.items ty
-        (unfolded_by (sight_of sight.now) (length nodes.old.items) (IfTerm (term_of condition.now) (term_of then.now) (term_of other.now)))) }
+        (unfolded_by (sight_of sight.now) (length nodes.old.items)
+        (IfTerm (term_of condition.now) (term_of then.now) (term_of other.now)))) }
 {
     let place = begin_node(alloc, nodes)?;
     write(alloc, sight, condition, nodes)?;
@@ -274,7 +280,8 @@ fn write_let(
     ensures long { IfOk result (λ _. IsLonger nodes.old.items nodes.new.items
         (nodes_in (sight_of sight.now) (LetTerm name.now.text.items (term_of bound.now) (term_of body.now)))) }
     ensures written { IfOk result (λ ty. IsWritten nodes.old.items nodes.new.items ty
-        (unfolded_by (sight_of sight.now) (length nodes.old.items) (LetTerm name.now.text.items (term_of bound.now) (term_of body.now)))) }
+        (unfolded_by (sight_of sight.now) (length nodes.old.items)
+        (LetTerm name.now.text.items (term_of bound.now) (term_of body.now)))) }
 {
     let place = begin_node(alloc, nodes)?;
     let bound = write(alloc, sight, bound, nodes)?;
@@ -341,7 +348,8 @@ fn write_body(
     ensures long { IfOk result (λ _. IsLonger nodes.old.items nodes.new.items
         (size_of name.now.text.items (counted (known_of known.now) visible))) }
     ensures written { IfOk result (λ ty. IsWritten nodes.old.items nodes.new.items ty
-        (call_in (known_of known.now) visible [] name.now.text.items (map argument_of given.now) (length nodes.old.items) NoTerms)) }
+        (call_in (known_of known.now) visible [] name.now.text.items
+        (map argument_of given.now) (length nodes.old.items) NoTerms)) }
 {
     match find(known, visible, name) {
         Some((number, function)) => {
