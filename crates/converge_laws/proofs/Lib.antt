@@ -1,0 +1,2 @@
+mod RisingLevels
+mod LowRanks

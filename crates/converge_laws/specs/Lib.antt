@@ -1,0 +1,2 @@
+pub mod CoreLevels
+pub mod Ranks
