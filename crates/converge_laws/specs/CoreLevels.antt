@@ -66,10 +66,13 @@ HasFired P U N j d c = MaybeAt P (suc j) d (c.exports d) × IsFresh P U N j d c
 
 -- Each step without an edit, where a begin takes its copy from any table at the level, keeps the level. It keeps a device
 -- fresh, and fired; a begin makes its device fresh, and an end of a fresh device makes it fired.
-pub record StepsRaise (P : ExportLevel) (U : Unfolding) (N : Network) (j : ℕ) (sees : ℕ → Table TreeExport) (c next : Core) : Type 0 where
+pub record StepsRaise (P : ExportLevel) (U : Unfolding) (N : Network) (j : ℕ) (sees : ℕ → Table TreeExport) (c next : Core)
+    : Type 0 where
   pub level : (e : EntryValue) → is_edit e ≡ false → IsGood U next → StepSeeing U sees c e next → AtLevel P U N j next
-  pub fresh : (d : ℕ) (e : EntryValue) → is_edit e ≡ false → StepSeeing U sees c e next → IsFresh P U N j d c → IsFresh P U N j d next
-  pub fired : (d : ℕ) (e : EntryValue) → is_edit e ≡ false → Lives N d → StepSeeing U sees c e next → HasFired P U N j d c → HasFired P U N j d next
+  pub fresh : (d : ℕ) (e : EntryValue) → is_edit e ≡ false → StepSeeing U sees c e next → IsFresh P U N j d c
+      → IsFresh P U N j d next
+  pub fired : (d : ℕ) (e : EntryValue) → is_edit e ≡ false → Lives N d → StepSeeing U sees c e next → HasFired P U N j d c
+      → HasFired P U N j d next
   pub begins : (d : ℕ) → StepSeeing U sees c (BeginEntry d) next → IsFresh P U N j d next
   pub ends : (d : ℕ) → Lives N d → StepSeeing U sees c (EndEntry d) next → IsFresh P U N j d c → HasFired P U N j d next
 
