@@ -4,3 +4,4 @@ pub mod Moves
 pub mod Wants
 pub mod Counts
 pub mod Growth
+pub mod Greatest

@@ -1,5 +1,5 @@
--- Laws of rounds: entries behind a log or in front of it take no round away.
-use Rattle.std.specs.Prelude.{ℕ, ◌≡◌, ◌≤◌, List, ◌++◌, false}
+-- Laws of rounds: each log has a greatest number of them, and entries behind it or in front take none away.
+use Rattle.std.specs.Prelude.{ℕ, ◌≡◌, ◌<◌, ◌≤◌, List, ◌++◌, length, false}
 use Rattle.firing_core.specs.Entries.{EntryValue}
 use Rattle.firing_core.specs.Rounds.{has_edit, after_edit, HasRounds}
 
@@ -17,6 +17,10 @@ RoundsFollow = (live : List ℕ) (front log : List EntryValue) (k : ℕ) → has
 pub record IsGreatest (live : List ℕ) (log : List EntryValue) (k : ℕ) : Type 0 where
   pub has : HasRounds live (after_edit log) k
   pub greatest : (j : ℕ) → HasRounds live (after_edit log) j → j ≤ k
+
+-- where there are devices, each log has such a number
+abbrev pub SomeGreatest : Type 0
+SomeGreatest = (live : List ℕ) (log : List EntryValue) → 0 < length live → (k : ℕ) × IsGreatest live log k
 
 -- that number doesn't fall with entries behind, where none is an edit, nor with any in front
 abbrev pub GreatestStays : Type 0

@@ -1,6 +1,6 @@
 //! Laws of rounds.
 
-ghost use Rattle.round_count.specs.Laws.{RoundsStay, RoundsFollow, GreatestStays, GreatestFollows};
+ghost use Rattle.round_count.specs.Laws.{GreatestFollows, GreatestStays, RoundsFollow, RoundsStay, SomeGreatest};
 
 /// Entries behind a log that are no edits, and entries in front of it, take no round away; nor does the greatest number
 /// of rounds in the part after the last edit fall.
@@ -9,4 +9,9 @@ pub fn rounds_grow()
     ensures front { RoundsFollow }
     ensures greatest_behind { GreatestStays }
     ensures greatest_front { GreatestFollows }
+{}
+
+/// Where there are devices, each log has a greatest number of rounds.
+pub fn some_greatest()
+    ensures { SomeGreatest }
 {}

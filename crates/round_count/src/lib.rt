@@ -5,7 +5,7 @@ mod counting;
 mod laws;
 
 pub use counting::rounds;
-pub use laws::rounds_grow;
+pub use laws::{rounds_grow, some_greatest};
 
 #[cfg(test)]
 mod tests;
