@@ -2,7 +2,7 @@ mod Orders
 mod Operators
 mod Hoods
 mod Forms
-mod Pointwise
+pub mod Pointwise
 mod Tables
 mod Values
 mod Claims

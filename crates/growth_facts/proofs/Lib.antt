@@ -1,0 +1,10 @@
+pub mod FieldPairs
+pub mod Closeness
+pub mod Above
+pub mod Raised
+pub mod Grow
+mod Law
+mod Joins
+mod KidLists
+pub mod Standing
+mod Ranges

@@ -1,0 +1,7 @@
+pub mod Variables
+pub mod Leads
+pub mod Growth
+pub mod Beside
+pub mod Laws
+pub mod Turns
+pub mod Facts
