@@ -1,29 +1,29 @@
 -- A solution lies in its ranges.
-use Rattle.std.proofs.Common.{◌≡◌, ℕ, zero, suc, ◌≤◌, ◌<◌, ◌+◌, List, [], ◌∷◌, ◌++◌, length, get_or, refl, sym, ◌∙◌, ap, subst, arith, Bool, true, false, ◌&&◌, min, Option, Some, None, option_map, nat_eq, nat_lt}
-use Rattle.std.specs.Prelude.{if◌then◌else◌, slice_get}
+use Rattle.std.proofs.Common.{◌≡◌, ℕ, suc, ◌≤◌, ◌<◌, ◌+◌, List, [], ◌∷◌, length, refl, sym, ◌∙◌, ap, subst, arith, Bool, true, false, ◌&&◌, Option, Some, None, option_map, nat_eq, nat_lt}
+use Rattle.std.specs.Prelude.{if◌then◌else◌}
 use Rattle.std.proofs.lemmas.List.{length-map}
 use Rattle.fc_values.specs.declared.builtins.Builtin.{Builtin}
-use Rattle.fc_values.specs.Types.{LocalType, ValueType, TypeLocal, TypeField, Declarations, Input}
+use Rattle.fc_values.specs.Types.{LocalType, ValueType, TypeLocal, TypeField}
 use Rattle.fc_values.specs.Values.{LocalValue, IntValue, BoolValue, PairValue, Fits}
-use Rattle.fc_values.specs.Fields.{AnyValue, ValueLocal, ValueField, devices, device_of, with_number, FitsOver, FitEachOver}
+use Rattle.fc_values.specs.Fields.{AnyValue, ValueLocal, ValueField, device_of, with_number, FitsOver, FitEachOver}
 use Rattle.fc_values.specs.Builtins.{is_hood, hood_value, local_value, builtin_value}
-use Rattle.fc_values.specs.BuiltinTypes.{inner, inners, Takes, Folds, rule_by, HasRule}
+use Rattle.fc_values.specs.BuiltinTypes.{inner, inners, rule_by, HasRule}
 use Rattle.fc_values.specs.Positions.{argument_nth, arguments_nth}
-use Rattle.fc_values.proofs.BuiltinTyped.{FitEach, arguments_fit}
+use Rattle.fc_values.proofs.BuiltinTyped.{arguments_fit}
 use Rattle.fc_nodes.specs.Terms.{Leaf, Literal, Variable, Sense, Uid, NbrLink, Evolution, ByRep, ByShare, Term, Terms, Plain, Apply, Nbr, Evolve, If, Let, NoMore, More, type_of, size}
 use Rattle.fc_nodes.specs.Typing.{Scope, type_at, evolving_type, types_of, LeafHasType, HasType, HaveTypes}
 use Rattle.alignment.specs.Environments.{same_truth}
-use Rattle.topology.specs.Networks.{Network, IsNetwork, Lives, numbers, inputs_in}
+use Rattle.topology.specs.Networks.{Network, IsNetwork, Lives, inputs_in}
 use Rattle.topology.specs.Nearby.{near_numbers}
-use Rattle.interval_facts.specs.Ranges.{RangeValue, IntRange, BoolRange, PairRange, InRange, AllInRange, LiesIn, full, hull, builtin_range, Bounds, bound_at, sense_range, literal_range, leaf_range, term_range, term_ranges, node_ranges, all_node_ranges}
-use Rattle.interval_facts.specs.Solutions.{Devices, In, Map, Maps, bind, near_among, around, field_over, field_of, FitsOn, local_map, evolved, where_is, at_device, LeafIs, Solves, SolveAll}
+use Rattle.interval_facts.specs.Ranges.{RangeValue, IntRange, InRange, AllInRange, LiesIn, full, hull, builtin_range, Bounds, bound_at, literal_range, leaf_range, term_range, term_ranges, node_ranges, all_node_ranges}
+use Rattle.interval_facts.specs.Solutions.{Devices, In, Map, Maps, bind, near_among, around, FitsOn, local_map, evolved, where_is, at_device, LeafIs, Solves, SolveAll}
 use Rattle.interval_facts.specs.Claims.{MapLiesIn, InRanges, AllInRanges}
 use Rattle.interval_facts.proofs.Orders.{in_full}
 use Rattle.interval_facts.proofs.Operators.{MaybeLies, operator_lies}
 use Rattle.interval_facts.proofs.Hoods.{EachLiesIn, NoneIsEmpty, hood_lies}
 use Rattle.interval_facts.proofs.Forms.{HasForm, BoundsFit, full_as, hull_has_first, hull_has_second, range_form}
-use Rattle.interval_facts.proofs.Pointwise.{Within, OverThem, AllOver, ByPosition, pointwise_nth}
-use Rattle.interval_facts.proofs.Tables.{Shows, shows_first, shows_second, shows_itself, as_many}
+use Rattle.interval_facts.proofs.Pointwise.{OverThem, AllOver, pointwise_nth}
+use Rattle.interval_facts.proofs.Tables.{Shows, shows_first, shows_second, as_many}
 use Rattle.interval_facts.proofs.Values.{restricted_lies, field_lies, links_lie, inputs_fit, sense_lies, lies_by_positions, arguments_lie}
 
 some_around : (d : ℕ) (ns : List ℕ) → 0 < length (with_number d ns)

@@ -1,9 +1,8 @@
 -- Hoods: a field and a local value in their ranges give a value in the builtin's range.
-use Rattle.std.proofs.Common.{◌≡◌, ℕ, zero, suc, ◌≤◌, ◌<◌, ◌+◌, List, [], ◌∷◌, length, refl, arith, Bool, true, false, min, max, Option, Some, None, option_map, nat_eq}
+use Rattle.std.proofs.Common.{ℕ, ◌<◌, List, [], ◌∷◌, length, arith, Bool, true, false, min, Option, Some, None, option_map, nat_eq}
 use Rattle.std.specs.Prelude.{if◌then◌else◌}
 use Rattle.fc_values.specs.declared.builtins.Builtin.{Builtin}
-use Rattle.fc_values.specs.declared.builtins.Builtin.TheVariants as op
-use Rattle.fc_values.specs.Types.{LocalType, IntType, BoolType, PairType, ValueType, TypeLocal, TypeField}
+use Rattle.fc_values.specs.Types.{LocalType, ValueType}
 use Rattle.fc_values.specs.Values.{LocalValue, IntValue, BoolValue, PairValue, Fits, compare_values, is_less, lesser, greater}
 use Rattle.fc_values.specs.Fields.{Entries, AnyValue, ValueLocal, ValueField, AllFit, FitEachOver}
 use Rattle.fc_values.specs.Builtins.{others, least_of, greatest_of, sum_of, any_of, all_of, hood_value}

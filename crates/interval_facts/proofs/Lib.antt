@@ -7,5 +7,7 @@ mod Tables
 mod Values
 mod Claims
 mod Picked
+mod Stepped
+mod Gathered
 pub mod Lengths
 mod Root

@@ -1,10 +1,10 @@
 -- Operators on local values: arguments in their ranges give a value in the builtin's range.
-use Rattle.std.proofs.Common.{◌≡◌, ℕ, zero, suc, ◌≤◌, ◌+◌, ◌-◌, ◌*◌, List, [], ◌∷◌, refl, sym, subst, arith, Bool, true, false, min, Option, Some, None, not, ◌&&◌, ◌||◌}
+use Rattle.std.proofs.Common.{◌≡◌, ℕ, zero, suc, ◌≤◌, ◌+◌, ◌-◌, ◌*◌, List, [], ◌∷◌, refl, arith, Bool, true, false, min, Option, Some, None}
 use Rattle.std.specs.Prelude.{if◌then◌else◌}
 use Rattle.fc_values.specs.declared.builtins.Builtin.{Builtin}
 use Rattle.fc_values.specs.declared.builtins.Builtin.TheVariants as op
-use Rattle.fc_values.specs.Types.{LocalType, IntType, BoolType, PairType}
-use Rattle.fc_values.specs.Values.{LocalValue, IntValue, BoolValue, PairValue, Fits, compare_values, is_less, is_equal, lesser, greater}
+use Rattle.fc_values.specs.Types.{LocalType}
+use Rattle.fc_values.specs.Values.{LocalValue, IntValue, BoolValue, PairValue, Fits}
 use Rattle.fc_values.specs.Builtins.{local_value}
 use Rattle.fc_values.specs.BuiltinTypes.{Takes, takes_add, takes_sub, takes_mul, takes_rise, takes_min, takes_max, takes_less, takes_equal, takes_and, takes_or, takes_not, takes_mux, takes_pair, takes_fst, takes_snd}
 use Rattle.fc_values.proofs.BuiltinTyped.{FitEach}

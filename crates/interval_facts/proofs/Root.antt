@@ -1,8 +1,8 @@
 -- A solution of a program lies in the program's ranges.
-use Rattle.std.proofs.Common.{◌≡◌, ◌≤◌, ℕ, List, [], refl, sym, subst, Option, None, Some}
-use Rattle.fc_nodes.specs.Program.{Program, unfolding_of, IsProgram}
+use Rattle.std.proofs.Common.{◌≤◌, [], sym, subst}
+use Rattle.fc_nodes.specs.Program.{unfolding_of}
 use Rattle.fc_nodes.specs.Typing.{HasType}
-use Rattle.topology.specs.Networks.{Network, IsNetwork, lives}
+use Rattle.topology.specs.Networks.{lives}
 use Rattle.interval_facts.specs.Ranges.{ranges_of, range_of}
 use Rattle.interval_facts.specs.Solutions.{no_binders, local_map}
 use Rattle.interval_facts.specs.Laws.{SolutionsLieInRanges}
@@ -11,7 +11,7 @@ use Rattle.interval_facts.proofs.Tables.{Shows, shows_itself}
 use Rattle.interval_facts.proofs.Claims.{in_ranges}
 
 pub solution_lies : SolutionsLieInRanges
-solution_lies p N F program net same s =
+solution_lies p program N F net same s =
     let U = unfolding_of p in
     let metric = program.lawful.metric.0 in
     in_ranges N net (subst (λ D. D.least ≤ D.greatest) (sym same) metric) (range_of U) U.main 0 [] [] (lives N) no_binders (local_map F) (λ d i. i)

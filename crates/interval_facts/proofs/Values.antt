@@ -1,19 +1,18 @@
 -- Fields and leaves in their ranges.
-use Rattle.std.proofs.Common.{◌≡◌, ◌≢◌, ℕ, zero, suc, ◌≤◌, ◌<◌, ◌+◌, List, [], ◌∷◌, length, get_or, map, refl, sym, ◌∙◌, ap, subst, arith, Bool, true, false, ◌||◌, ◌&&◌, min, Option, Some, None, nat_eq, nat_lt}
+use Rattle.std.proofs.Common.{◌≡◌, ℕ, zero, suc, ◌≤◌, ◌<◌, List, [], ◌∷◌, length, get_or, map, refl, ap, subst, arith, Bool, true, false, ◌||◌, Some, nat_eq, nat_lt}
 use Rattle.std.specs.Prelude.{if◌then◌else◌, filter, slice_get}
-use Rattle.std.proofs.lemmas.Bool.Decides.{nat_tests}
 use Rattle.std.proofs.lemmas.List.{length-map}
 use Rattle.fc_values.specs.declared.types.InputTy.{InputTy}
 use Rattle.fc_values.specs.declared.types.InputTy.TheVariants as input
-use Rattle.fc_values.specs.Types.{ValueType, Declarations, Input}
+use Rattle.fc_values.specs.Types.{Declarations, Input}
 use Rattle.fc_values.specs.Values.{LocalValue, IntValue, BoolValue, PairValue}
 use Rattle.fc_values.specs.Fields.{Entries, AnyValue, ValueLocal, ValueField, devices, device_of, with_entry, is_in, restricted}
 use Rattle.fc_values.specs.Inputs.{InputFits, InputsFit}
 use Rattle.fc_values.specs.Positions.{argument_nth, arguments_nth}
-use Rattle.topology.specs.Networks.{Network, NetDevice, IsNetwork, DevicesFit, numbers, inputs_in, Lives, near}
-use Rattle.topology.proofs.Lemmas.{IsNear, AllNear, near_fits}
-use Rattle.interval_facts.specs.Ranges.{RangeValue, IntRange, BoolRange, PairRange, InRange, AllInRange, LiesIn, input_range, sense_range}
-use Rattle.interval_facts.specs.Solutions.{Devices, In, Map, near_among, field_over, field_of}
+use Rattle.topology.specs.Networks.{Network, NetDevice, IsNetwork, DevicesFit, numbers, inputs_in, near}
+use Rattle.topology.proofs.Lemmas.{AllNear, near_fits}
+use Rattle.interval_facts.specs.Ranges.{RangeValue, IntRange, InRange, AllInRange, LiesIn, input_range, sense_range}
+use Rattle.interval_facts.specs.Solutions.{Devices, In, near_among, field_over, field_of}
 use Rattle.interval_facts.proofs.Operators.{EachLies}
 use Rattle.interval_facts.proofs.Hoods.{EachLiesIn}
 use Rattle.interval_facts.proofs.Pointwise.{Within, OverThem, AllOver}

@@ -1,10 +1,8 @@
 -- What ranges promise of solutions.
 use Rattle.std.specs.Prelude.{ℕ, suc, true, false, ◌+◌, List, [], ◌∷◌}
-use Rattle.fc_values.specs.Values.{LocalValue, IntValue, BoolValue}
-use Rattle.fc_values.specs.Fields.{ValueLocal}
+use Rattle.fc_values.specs.Values.{BoolValue}
 use Rattle.fc_nodes.specs.Terms.{Term, Terms, Plain, Apply, Nbr, Evolve, If, Let, NoMore, More, size}
 use Rattle.topology.specs.Networks.{Network}
-use Rattle.topology.specs.Networks as networks
 use Rattle.interval_facts.specs.Ranges.{RangeValue, LiesIn}
 use Rattle.interval_facts.specs.Solutions.{Devices, In, Map, Maps, bind, local_map, evolved, where_is, Solves, SolveAll}
 

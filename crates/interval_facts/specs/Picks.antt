@@ -1,5 +1,5 @@
 -- Which ranges a builtin takes.
-use Rattle.std.specs.Prelude.{ℕ, Bool, true, false, ◌≡◌, ◌<◌, List, [], ◌∷◌, map, slice_index_or as get_or}
+use Rattle.std.specs.Prelude.{ℕ, ◌<◌, List, [], ◌∷◌, map, slice_index_or as get_or}
 use Rattle.fc_values.specs.declared.builtins.Builtin.{Builtin}
 use Rattle.fc_values.specs.declared.builtins.Builtin.TheVariants as op
 use Rattle.fc_values.specs.Types.{local_type_of}
@@ -17,10 +17,12 @@ value_range t builtin rs = builtin_range t.ceiling (other_of t) builtin rs
 abbrev pub ranges_in : List Range → List RangeValue
 ranges_in rs = map range_value rs
 
--- the ranges of these places
+-- the ranges at these places
+abbrev pub ranges_at : List RangeValue → List ℕ → List RangeValue
+ranges_at rs ks = map (λ (k : ℕ). get_or rs k BoolRange) ks
+
 abbrev pub picked : List Range → List ℕ → List RangeValue
-picked rs [] = []
-picked rs (k ∷ ks) = get_or (ranges_in rs) k BoolRange ∷ picked rs ks
+picked rs ks = ranges_at (ranges_in rs) ks
 
 -- these places are there
 abbrev pub AreThere : ℕ → List ℕ → Type 0

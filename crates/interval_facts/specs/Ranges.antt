@@ -1,5 +1,5 @@
 -- Ranges: between which integers the values of each node of a program lie, by the program alone.
-use Rattle.std.specs.Prelude.{ℕ, suc, ◌≡◌, ◌≤◌, ◌+◌, ◌-◌, ◌*◌, List, [], ◌∷◌, ◌++◌, Option, Some, None, slice_get, slice_index_or as get_or, option_map, min, max, nat_eq, if◌then◌else◌}
+use Rattle.std.specs.Prelude.{ℕ, suc, ◌≡◌, ◌≤◌, ◌+◌, ◌-◌, ◌*◌, List, [], ◌∷◌, ◌++◌, Option, Some, None, slice_get, slice_index_or as get_or, min, max, nat_eq, if◌then◌else◌}
 use Rattle.fc_values.specs.declared.builtins.Builtin.{Builtin}
 use Rattle.fc_values.specs.declared.builtins.Builtin.TheVariants as op
 use Rattle.fc_values.specs.declared.types.InputTy.{InputTy}
@@ -8,7 +8,7 @@ use Rattle.fc_values.specs.Types.{LocalType, IntType, BoolType, PairType, ValueT
 use Rattle.fc_values.specs.Values.{LocalValue, IntValue, BoolValue, PairValue}
 use Rattle.fc_values.specs.Fields.{Entries, AnyValue, ValueLocal, ValueField}
 use Rattle.fc_values.specs.BuiltinTypes.{inner}
-use Rattle.fc_nodes.specs.Terms.{Leaf, Literal, Variable, Sense, Uid, NbrLink, Term, Terms, Plain, Apply, Nbr, Evolve, If, Let, NoMore, More, type_of, size}
+use Rattle.fc_nodes.specs.Terms.{Leaf, Literal, Variable, Sense, Uid, NbrLink, Term, Terms, Plain, Apply, Nbr, Evolve, If, Let, NoMore, More, size}
 use Rattle.fc_nodes.specs.Program.{Unfolding}
 use Rattle.interval_facts.specs.declared.intervals.Range.{Range}
 use Rattle.interval_facts.specs.declared.intervals.Range.TheVariants as range

@@ -1,5 +1,5 @@
 -- Solutions of a program on a network, as equations.
-use Rattle.std.specs.Prelude.{ℕ, suc, Bool, true, false, ◌≡◌, ◌+◌, ◌&&◌, ◌||◌, List, [], ◌∷◌, map, filter, min, nat_eq, nat_lt, if◌then◌else◌, Some, slice_get}
+use Rattle.std.specs.Prelude.{ℕ, suc, Bool, true, false, ◌≡◌, ◌+◌, ◌&&◌, List, [], ◌∷◌, map, filter, min, nat_eq, if◌then◌else◌, Some, slice_get}
 use Rattle.fc_values.specs.Types.{ValueType}
 use Rattle.fc_values.specs.Values.{LocalValue, IntValue, BoolValue}
 use Rattle.fc_values.specs.Fields.{AnyValue, ValueLocal, ValueField, FitsOver, with_entry, with_number, restricted}

@@ -227,7 +227,7 @@ fn difference(alloc: Global, target: &Target<'_>, a: &Range, b: &Range) -> Resul
 }
 
 // The range at the place of an argument.
-fn range_at<'a>(ranges: &'a [Range], kids: &[u32], index: usize) -> &'a Range
+pub fn range_at<'a>(ranges: &'a [Range], kids: &[u32], index: usize) -> &'a Range
     requires there { AreThere (length ranges.now) kids.now }
     requires index { index < length kids.now }
     ensures { range_value result.now ≡ get_or (picked ranges.now kids.now) index BoolRange }

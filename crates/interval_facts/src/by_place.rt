@@ -25,6 +25,14 @@ impl Model for Ranges {
 impl Ranges {
     ghost use Rattle.std.specs.Prelude.{◌≡◌, ◌<◌, length, slice_index_or as get_or};
     ghost use Rattle.interval_facts.specs.Ranges.{range_value, BoolRange};
+    ghost use Rattle.interval_facts.specs.Picks.{ranges_in};
+
+    // Ranges by their places.
+    pub(crate) fn new(list: Vec<Range>) -> Self
+        ensures { result ≡ ranges_in list.items }
+    {
+        Ranges { list }
+    }
 
     /// The range of the node at a place.
     pub fn at(&self, place: u32) -> &Range

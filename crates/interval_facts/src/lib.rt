@@ -3,6 +3,7 @@
 
 mod builtins;
 mod by_place;
+mod gathering;
 mod intervals;
 mod laws;
 #[cfg(test)]
@@ -10,5 +11,6 @@ mod tests;
 
 pub use builtins::builtin_range;
 pub use by_place::Ranges;
+pub use gathering::ranges;
 pub use intervals::Range;
 pub use laws::solutions_lie_in_ranges;
