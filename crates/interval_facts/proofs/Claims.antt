@@ -15,6 +15,7 @@ use Rattle.fc_nodes.specs.Typing.{Scope, type_at, evolving_type, types_of, LeafH
 use Rattle.alignment.specs.Environments.{same_truth}
 use Rattle.topology.specs.Networks.{Network, IsNetwork, Lives, inputs_in}
 use Rattle.topology.specs.Nearby.{near_numbers}
+use Rattle.topology.proofs.Lemmas.{inputs_fit}
 use Rattle.interval_facts.specs.Ranges.{RangeValue, IntRange, InRange, AllInRange, LiesIn, full, hull, builtin_range, Bounds, bound_at, literal_range, leaf_range, term_range, term_ranges, node_ranges, all_node_ranges}
 use Rattle.interval_facts.specs.Solutions.{Devices, In, Map, Maps, bind, near_among, around, FitsOn, local_map, evolved, where_is, at_device, LeafIs, Solves, SolveAll}
 use Rattle.interval_facts.specs.Claims.{MapLiesIn, InRanges, AllInRanges}
@@ -24,7 +25,7 @@ use Rattle.interval_facts.proofs.Hoods.{EachLiesIn, NoneIsEmpty, hood_lies}
 use Rattle.interval_facts.proofs.Forms.{HasForm, BoundsFit, full_as, hull_has_first, hull_has_second, range_form}
 use Rattle.interval_facts.proofs.Pointwise.{OverThem, AllOver, pointwise_nth}
 use Rattle.interval_facts.proofs.Tables.{Shows, shows_first, shows_second, as_many}
-use Rattle.interval_facts.proofs.Values.{restricted_lies, field_lies, links_lie, inputs_fit, sense_lies, lies_by_positions, arguments_lie}
+use Rattle.interval_facts.proofs.Values.{restricted_lies, field_lies, links_lie, sense_lies, lies_by_positions, arguments_lie}
 
 some_around : (d : ℕ) (ns : List ℕ) → 0 < length (with_number d ns)
 some_around d [] = omega arith

@@ -9,7 +9,7 @@ use Rattle.fc_values.specs.Values.{LocalValue, IntValue, BoolValue, PairValue}
 use Rattle.fc_values.specs.Fields.{Entries, AnyValue, ValueLocal, ValueField, devices, device_of, with_entry, is_in, restricted}
 use Rattle.fc_values.specs.Inputs.{InputFits, InputsFit}
 use Rattle.fc_values.specs.Positions.{argument_nth, arguments_nth}
-use Rattle.topology.specs.Networks.{Network, NetDevice, IsNetwork, DevicesFit, numbers, inputs_in, near}
+use Rattle.topology.specs.Networks.{Network, IsNetwork, numbers, near}
 use Rattle.topology.proofs.Lemmas.{AllNear, near_fits}
 use Rattle.interval_facts.specs.Ranges.{RangeValue, IntRange, InRange, AllInRange, LiesIn, input_range, sense_range}
 use Rattle.interval_facts.specs.Solutions.{Devices, In, near_among, field_over, field_of}
@@ -80,14 +80,6 @@ links_lie N net l D d =
     (near_among N D d) (weights_in N.declared (numbers N.devices) d D (near N d) (near_fits N.declared (numbers N.devices) d N.links net.links))
 
 -- the inputs of a device
-pub inputs_fit : (D : Declarations) (ns : List NetDevice) (d : ℕ) → DevicesFit D ns → is_in d (numbers ns) ≡ true → InputsFit D.inputs (inputs_in d ns)
-inputs_fit D [] d h l = absurd cc
-inputs_fit D (n ∷ ns) d h l = by_test (nat_eq d n.id) l (λ k. inputs_fit D ns d h.2 k)
-  where
-    by_test : (b : Bool) → (b || is_in d (numbers ns)) ≡ true → (is_in d (numbers ns) ≡ true → InputsFit D.inputs (inputs_in d ns)) → InputsFit D.inputs (if b then n.inputs else inputs_in d ns)
-    by_test true k f = h.1
-    by_test false k f = f k
-
 input_lies : (ty : InputTy) (v : LocalValue) → InputFits ty v → InRange (input_range ty) v
 input_lies input.Truth (BoolValue b) h = tt
 input_lies (input.Whole a b) (IntValue n) h = h
