@@ -1,0 +1,3 @@
+pub mod Climbing
+mod FewRounds
+pub mod WithoutRise

@@ -1,0 +1,14 @@
+-- Stages of limited rise.
+use Rattle.std.specs.Prelude.{ℕ, suc, ◌≡◌, ◌≤◌, ◌+◌, ◌*◌, ◌⊎◌, min}
+
+-- two numbers that are equal, or both at least k
+abbrev pub Near : ℕ → ℕ → ℕ → Type 0
+Near k a b = (a ≡ b) ⊎ ((k ≤ a) × (k ≤ b))
+
+-- stage i for steps by a growth: up to here what is not yet the solution's may lie no lower
+abbrev pub stage : ℕ → ℕ → ℕ → ℕ
+stage ceiling growth i = min ceiling (i * growth)
+
+-- between stage i and the next one, where so many firings are done that rise by at least `least` each
+abbrev pub climbed : ℕ → ℕ → ℕ → ℕ → ℕ → ℕ
+climbed ceiling growth least i done = min ceiling (min (suc i * growth) (i * growth + done * least))

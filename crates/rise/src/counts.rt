@@ -1,0 +1,31 @@
+//! The firings and rounds that limited rise takes.
+
+ghost use Rattle.std.specs.Prelude.{◌≡◌, ◌≤◌};
+ghost use Rattle.growth_facts.specs.Turns.{turns_of, rounds_of, IsLeastOfTurns};
+
+/// The firings of a stage: the least number of them that makes up the growth, where each one rises by at least `least`.
+pub fn turns(growth: u32, least: u32) -> u32
+    requires some_growth { 1 ≤ growth }
+    requires most_growth { growth ≤ 1000000 }
+    requires some_rise { 1 ≤ least }
+    requires most_rise { least ≤ 1000000 }
+    ensures value { result ≡ turns_of growth least }
+    ensures fewest { IsLeastOfTurns growth least result }
+{
+    (growth + (least - 1)) / least
+}
+
+/// The rounds of all stages up to the greatest value, behind those of the parts.
+pub fn rounds(greatest: u32, growth: u32, least: u32) -> u64
+    requires some_growth { 1 ≤ growth }
+    requires most_growth { growth ≤ 1000000 }
+    requires some_rise { 1 ≤ least }
+    requires most_rise { least ≤ 1000000 }
+    requires greatest { greatest ≤ 1000000 }
+    ensures value { result ≡ rounds_of greatest growth least }
+    ensures most { result ≤ 3000000 }
+{
+    let turns = turns(growth, least) as u64;
+    let steps = (greatest / growth) as u64;
+    (turns - 1) + steps * (turns + 1)
+}

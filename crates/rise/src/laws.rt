@@ -1,0 +1,18 @@
+//! Laws of the definitions.
+
+ghost use Rattle.rise.specs.Laws.{SolvesWithoutRise, StepInAStage, StageBegins, StageIsReached, StageByTurns};
+
+/// A value of a `rep` solves its body `rise(t, x, s)` exactly where it solves `t` and `s` has a solution, if `s` is at least
+/// 1: then the equation of `rise` says that the value is that of `t`.
+pub fn rise_is_no_limit()
+    ensures { SolvesWithoutRise }
+{}
+
+/// One firing's step in a stage of limited rise (`step`); a stage begins where the one before ends (`begins`) and is reached
+/// by as many firings as `turns` says (`reached`, and of a run of firings `stage`).
+pub fn rise_takes_turns()
+    ensures step { StepInAStage }
+    ensures begins { StageBegins }
+    ensures reached { StageIsReached }
+    ensures stage { StageByTurns }
+{}
