@@ -1,5 +1,5 @@
 -- Judgements: what is accepted, or the first refusal.
-use Rattle.std.specs.Prelude.{ℕ, Bool, ◌≡◌, ◌+◌, List, [], ◌∷◌, ◌++◌, Option, Some, None, if◌then◌else◌, decimal, map, nat_lt}
+use Rattle.std.specs.Prelude.{ℕ, Bool, ◌≡◌, ◌+◌, List, [], ◌∷◌, ◌++◌, Option, Some, None, Result, IfOk, IfErr, if◌then◌else◌, decimal, map, nat_lt}
 use Rattle.serde_json.specs.Data.{Data, Items, no_items, item}
 use Rattle.topology.specs.declared.types.NetFault.{NetFault}
 use Rattle.fc_values.specs.Lists.{insert_after}
@@ -51,11 +51,14 @@ in_turn judge path before i no_items = Accepted before
 in_turn judge path before i (item d ds) = and_then (judge before (at_index path i) d) (λ next. in_turn judge path next (i + 1) ds)
 
 -- one thing more beside those before, all by rising numbers. It is judged beside the numbers of those before
-abbrev pub gathered : {X : Type 0} → (X → ℕ) → (List ℕ → List ℕ → Data → Judged X) → List X → List ℕ → Data → Judged (List X)
-gathered number judge before path d = and_then (judge (map number before) path d) (λ x. Accepted (insert_after (λ y. nat_lt (number y) (number x)) x before))
+abbrev pub gathered : {X : Type 0} → (X → ℕ) → (List ℕ → List ℕ → Data → Judged X)
+    → List X → List ℕ → Data → Judged (List X)
+gathered number judge before path d =
+    and_then (judge (map number before) path d) (λ x. Accepted (insert_after (λ y. nat_lt (number y) (number x)) x before))
 
 -- the things that items give, by rising numbers
-abbrev pub gather : {X : Type 0} → (X → ℕ) → (List ℕ → List ℕ → Data → Judged X) → List ℕ → Items → Judged (List X)
+abbrev pub gather : {X : Type 0} → (X → ℕ) → (List ℕ → List ℕ → Data → Judged X)
+    → List ℕ → Items → Judged (List X)
 gather number judge path ds = in_turn (gathered number judge) path [] 0 ds
 
 -- a fault in code is the refusal of a judgement. Want of memory is free
@@ -66,3 +69,11 @@ RefusedWith judged (fault.Net p f) = judged ≡ Refused (BadNetwork p.text.items
 RefusedWith judged (fault.Kept p place) = judged ≡ Refused (BadKept p.text.items place)
 RefusedWith judged (fault.Devices count) = judged ≡ Refused (TooManyDevices count)
 RefusedWith judged fault.Memory = Unit {0}
+
+-- what code gives is what a judgement accepts, by what it stands for
+abbrev pub Accepts : {A B E : Type 0} → Result A E → (A → B) → Judged B → Type 0
+Accepts result view judged = IfOk result (λ x. judged ≡ Accepted (view x))
+
+-- the fault that code gives is the refusal of a judgement
+abbrev pub Refuses : {A B : Type 0} → Result A JsonFault → Judged B → Type 0
+Refuses result judged = IfErr result (RefusedWith judged)

@@ -78,10 +78,12 @@ abbrev mutual
       take_then (take_tree c b (suc p + size a) zs) (λ l us. Took (two_kids (Some v) k l) us)))
   take_tree c (If t x a b) p xs =
       take_then (take_value c BoolType p xs) (λ v ys. take_then (take_tree c x (suc p) ys) (λ k zs.
-      take_then (if truth_in v then take_tree c a (suc p + size x) zs else take_tree c b (suc p + size x + size a) zs) (λ l us. Took (two_kids (Some v) k l) us)))
+      take_then (if truth_in v then take_tree c a (suc p + size x) zs else take_tree c b (suc p + size x + size a) zs)
+      (λ l us. Took (two_kids (Some v) k l) us)))
   take_tree c (Let t a b) p xs =
       take_then (take_tree c a (suc p) xs) (λ k ys. take_then (take_tree c b (suc p + size a) ys) (λ l zs. Took (two_kids None k l) zs))
 
   pub take_trees : ℕ → Terms → ℕ → List KeptItem → Taken Trees
   take_trees c NoMore p xs = Took Done xs
-  take_trees c (More t ts) p xs = take_then (take_tree c t p xs) (λ k ys. take_then (take_trees c ts (p + size t) ys) (λ ks zs. Took (Then k ks) zs))
+  take_trees c (More t ts) p xs =
+      take_then (take_tree c t p xs) (λ k ys. take_then (take_trees c ts (p + size t) ys) (λ ks zs. Took (Then k ks) zs))

@@ -10,6 +10,7 @@ pub mod Leavings
 pub mod Exports
 pub mod Tables
 pub mod Copies
+pub mod PlaceCode
 pub mod CopyCode
 pub mod Scenes
 pub mod SceneCode

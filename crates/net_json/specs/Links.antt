@@ -12,7 +12,8 @@ abbrev pub Link : Type 0
 Link = ℕ × ℕ × ℕ
 
 abbrev pub three_of : Items → Option Link
-three_of (item a (item b (item w no_items))) = option_and_then (λ x. option_and_then (λ y. option_map (λ z. (x, y, z)) (small w)) (small b)) (small a)
+three_of (item a (item b (item w no_items))) =
+    option_and_then (λ x. option_and_then (λ y. option_map (λ z. (x, y, z)) (small w)) (small b)) (small a)
 three_of _ = None
 
 abbrev pub link_of : Data → Option Link

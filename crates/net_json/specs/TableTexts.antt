@@ -44,7 +44,9 @@ abbrev mutual
   placed (Evolve t e a b) p tree = kept_at p (kept_of tree) ++ placed a (suc p) (child 0 tree) ++ placed b (suc p + size a) (child 1 tree)
   placed (If t x a b) p tree =
       kept_at p (kept_of tree) ++ placed x (suc p) (child 0 tree)
-      ++ (if takes_first (kept_of tree) then placed a (suc p + size x) (child 1 tree) else placed b (suc p + size x + size a) (child 1 tree))
+      ++ (if takes_first (kept_of tree)
+      then placed a (suc p + size x) (child 1 tree)
+      else placed b (suc p + size x + size a) (child 1 tree))
   placed (Let t a b) p tree = placed a (suc p) (child 0 tree) ++ placed b (suc p + size a) (child 1 tree)
 
   pub placed_all : Terms → ℕ → Trees → List (ℕ × LocalValue)

@@ -3,11 +3,13 @@
 ghost use Rattle.std.specs.Prelude.{◌≡◌, IfOk, IfErr};
 ghost use Rattle.serde_json.specs.View.{view, items_view};
 ghost use Rattle.fc_values.specs.Values.{local_of};
-ghost use Rattle.net_json.specs.Judging.{Accepted, RefusedWith};
+ghost use Rattle.net_json.specs.PlaceCode.{path_of};
+ghost use Rattle.net_json.specs.Judging.{Accepts, Refuses};
 ghost use Rattle.net_json.specs.CopyCode.{form_of};
 ghost use Rattle.net_json.specs.Copies.{is_null_or_object, near_form, copy_form};
 
-use crate::types::{JsonFault, Path};
+use crate::places::Place;
+use crate::types::JsonFault;
 use crate::values::{four_members, local, whole};
 use fc_values::Local;
 use serde_json::Value;
@@ -36,27 +38,29 @@ pub(crate) struct NearForm<'v> {
 #[tactic(auto, using(crate::proofs::Judgements::refused_next))]
 pub(crate) fn near_form<'v>(
     alloc: Global,
-    path: &Path,
+    here: &Place<'_>,
     value: &'v Value,
 ) -> Result<NearForm<'v>, JsonFault>
-    ensures ok { IfOk result (λ n. near_form path.now.text.items (view value.now) ≡ Accepted (record { id = n.id; weight = n.weight; value = local_of n.value; kept = items_view n.kept.now })) }
-    ensures refused { IfErr result (RefusedWith (near_form path.now.text.items (view value.now))) }
+    ensures ok { Accepts result
+        (λ n. record { id = n.id; weight = n.weight; value = local_of n.value; kept = items_view n.kept.now })
+        (near_form (path_of here.now) (view value.now)) }
+    ensures refused { Refuses result (near_form (path_of here.now) (view value.now)) }
 {
     let Some(((id, weight), (value, kept))) = four_members(value, "id", "weight", "value", "kept")
     else {
-        return Err(JsonFault::Shape(path.copy(alloc)?));
+        return Err(JsonFault::Shape(here.path(alloc)?));
     };
     let Some(id) = whole(id) else {
-        return Err(JsonFault::Shape(path.member(alloc, b"id")?));
+        return Err(JsonFault::Shape(here.member(alloc, b"id")?));
     };
     let Some(weight) = whole(weight) else {
-        return Err(JsonFault::Shape(path.member(alloc, b"weight")?));
+        return Err(JsonFault::Shape(here.member(alloc, b"weight")?));
     };
     let Some(value) = local(alloc, value)? else {
-        return Err(JsonFault::Shape(path.member(alloc, b"value")?));
+        return Err(JsonFault::Shape(here.member(alloc, b"value")?));
     };
     let Some(kept) = kept.as_array() else {
-        return Err(JsonFault::Shape(path.member(alloc, b"kept")?));
+        return Err(JsonFault::Shape(here.member(alloc, b"kept")?));
     };
     let kept = kept.as_slice();
     Ok(NearForm {
@@ -80,27 +84,27 @@ pub(crate) struct CopyForm<'v> {
 #[tactic(auto, using(crate::proofs::Judgements::refused_next))]
 pub(crate) fn form<'v>(
     alloc: Global,
-    path: &Path,
+    here: &Place<'_>,
     value: &'v Value,
 ) -> Result<CopyForm<'v>, JsonFault>
-    ensures ok { IfOk result (λ c. copy_form path.now.text.items (view value.now) ≡ Accepted (form_of c)) }
-    ensures refused { IfErr result (RefusedWith (copy_form path.now.text.items (view value.now))) }
+    ensures ok { Accepts result form_of (copy_form (path_of here.now) (view value.now)) }
+    ensures refused { Refuses result (copy_form (path_of here.now) (view value.now)) }
 {
     let Some(((id, inputs), (own, near))) = four_members(value, "id", "inputs", "own", "near")
     else {
-        return Err(JsonFault::Shape(path.copy(alloc)?));
+        return Err(JsonFault::Shape(here.path(alloc)?));
     };
     let Some(id) = whole(id) else {
-        return Err(JsonFault::Shape(path.member(alloc, b"id")?));
+        return Err(JsonFault::Shape(here.member(alloc, b"id")?));
     };
     if inputs.as_object().is_none() {
-        return Err(JsonFault::Shape(path.member(alloc, b"inputs")?));
+        return Err(JsonFault::Shape(here.member(alloc, b"inputs")?));
     }
     if !is_null_or_object(own) {
-        return Err(JsonFault::Shape(path.member(alloc, b"own")?));
+        return Err(JsonFault::Shape(here.member(alloc, b"own")?));
     }
     let Some(near) = near.as_array() else {
-        return Err(JsonFault::Shape(path.member(alloc, b"near")?));
+        return Err(JsonFault::Shape(here.member(alloc, b"near")?));
     };
     let near = near.as_slice();
     Ok(CopyForm {

@@ -6,14 +6,16 @@ ghost use Rattle.serde_json.specs.View.{view, items_view};
 ghost use Rattle.fc_values.specs.Types.{input_of};
 ghost use Rattle.fc_values.specs.Fields.{Rises};
 ghost use Rattle.topology.specs.Networks.{device_of, numbers};
-ghost use Rattle.net_json.specs.Judging.{Accepted, RefusedWith, at_member, gather};
+ghost use Rattle.net_json.specs.PlaceCode.{path_of};
+ghost use Rattle.net_json.specs.Judging.{at_member, gather, Accepts, Refuses};
 ghost use Rattle.net_json.specs.Devices.{device_form, device_number, device_judged, number_of, devices_judged};
 ghost use Rattle.net_json.specs.Places.{IsPlace};
 ghost use Rattle.net_json.specs.SceneCode.{DeviceFits};
 
 use crate::inputs::read_inputs;
+use crate::places::Place;
 use crate::rising::room;
-use crate::types::{JsonFault, Path};
+use crate::types::JsonFault;
 use crate::values::{two_members, whole};
 use fc_values::InputDecl;
 use serde_json::Value;
@@ -22,38 +24,47 @@ use topology::{Device, NetFault};
 
 /// The number and the inputs of a device, by its form.
 #[tactic(auto, using(crate::proofs::Judgements::refused_next))]
-fn form<'v>(alloc: Global, path: &Path, value: &'v Value) -> Result<(u64, &'v Value), JsonFault>
-    ensures ok { IfOk result (λ f. device_form path.now.text.items (view value.now) ≡ Accepted (f.0, view f.1.now)) }
-    ensures refused { IfErr result (RefusedWith (device_form path.now.text.items (view value.now))) }
+fn form<'v>(
+    alloc: Global,
+    here: &Place<'_>,
+    value: &'v Value,
+) -> Result<(u64, &'v Value), JsonFault>
+    ensures ok { Accepts result (λ f. (f.0, view f.1.now)) (device_form (path_of here.now) (view value.now)) }
+    ensures refused { Refuses result (device_form (path_of here.now) (view value.now)) }
 {
     let Some((id, inputs)) = two_members(value, "id", "inputs") else {
-        return Err(JsonFault::Shape(path.copy(alloc)?));
+        return Err(JsonFault::Shape(here.path(alloc)?));
     };
     let Some(id) = whole(id) else {
-        return Err(JsonFault::Shape(path.member(alloc, b"id")?));
+        return Err(JsonFault::Shape(here.member(alloc, b"id")?));
     };
     if inputs.as_object().is_none() {
-        return Err(JsonFault::Shape(path.member(alloc, b"inputs")?));
+        return Err(JsonFault::Shape(here.member(alloc, b"inputs")?));
     }
     Ok((id, inputs))
 }
 
 /// The number of a device, with its place among those of the devices before.
 #[tactic(auto, using(crate::proofs::Judgements::refused_next))]
-fn number(alloc: Global, numbers: &[u32], path: &Path, id: u64) -> Result<(usize, u32), JsonFault>
+fn number(
+    alloc: Global,
+    numbers: &[u32],
+    here: &Place<'_>,
+    id: u64,
+) -> Result<(usize, u32), JsonFault>
     requires { Rises numbers.now }
-    ensures ok { IfOk result (λ d. device_number numbers.now (at_member path.now.text.items (codes "id")) id ≡ Accepted d.1) }
+    ensures ok { Accepts result (λ d. d.1) (device_number numbers.now (at_member (path_of here.now) (codes "id")) id) }
     ensures place { IfOk result (λ d. IsPlace numbers.now d.1 d.0) }
     ensures small { IfOk result (λ d. d.1 ≤ 65535) }
-    ensures refused { IfErr result (RefusedWith (device_number numbers.now (at_member path.now.text.items (codes "id")) id)) }
+    ensures refused { Refuses result (device_number numbers.now (at_member (path_of here.now) (codes "id")) id) }
 {
     if id > 65_535 {
-        return Err(JsonFault::Shape(path.member(alloc, b"id")?));
+        return Err(JsonFault::Shape(here.member(alloc, b"id")?));
     }
     let id = id as u32;
     match room(numbers, id) {
         Some(at) => Ok((at, id)),
-        None => Err(JsonFault::Net(path.member(alloc, b"id")?, NetFault::Twice)),
+        None => Err(JsonFault::Net(here.member(alloc, b"id")?, NetFault::Twice)),
     }
 }
 
@@ -63,18 +74,20 @@ fn read_device(
     alloc: Global,
     inputs: &[InputDecl],
     numbers: &[u32],
-    path: &Path,
+    here: &Place<'_>,
     value: &Value,
 ) -> Result<(usize, Device), JsonFault>
     requires { Rises numbers.now }
-    ensures ok { IfOk result (λ d. device_judged (map input_of inputs.now) numbers.now path.now.text.items (view value.now) ≡ Accepted (device_of d.1)) }
+    ensures ok { Accepts result (λ d. device_of d.1)
+        (device_judged (map input_of inputs.now) numbers.now (path_of here.now) (view value.now)) }
     ensures place { IfOk result (λ d. IsPlace numbers.now d.1.id d.0) }
     ensures fits { IfOk result (λ d. DeviceFits (map input_of inputs.now) (device_of d.1)) }
-    ensures refused { IfErr result (RefusedWith (device_judged (map input_of inputs.now) numbers.now path.now.text.items (view value.now))) }
+    ensures refused { Refuses result
+        (device_judged (map input_of inputs.now) numbers.now (path_of here.now) (view value.now)) }
 {
-    let (id, members) = form(alloc, path, value)?;
-    let (at, id) = number(alloc, numbers, path, id)?;
-    let inner = path.member(alloc, b"inputs")?;
+    let (id, members) = form(alloc, here, value)?;
+    let (at, id) = number(alloc, numbers, here, id)?;
+    let inner = Place::Member(here, b"inputs");
     let inputs = read_inputs(alloc, inputs, &inner, members)?;
     Ok((at, Device { id, inputs }))
 }
@@ -84,19 +97,21 @@ fn read_device(
 fn gather_devices(
     alloc: Global,
     inputs: &[InputDecl],
-    path: &Path,
+    here: &Place<'_>,
     items: &[Value],
 ) -> Result<Vec<Device>, JsonFault>
-    ensures ok { IfOk result (λ ds. gather number_of (device_judged (map input_of inputs.now)) path.now.text.items (items_view items.now) ≡ Accepted (map device_of ds.items)) }
+    ensures ok { Accepts result (λ ds. map device_of ds.items)
+        (gather number_of (device_judged (map input_of inputs.now)) (path_of here.now) (items_view items.now)) }
     ensures rising { IfOk result (λ ds. Rises (numbers (map device_of ds.items))) }
     ensures fit { IfOk result (λ ds. All (λ d. DeviceFits (map input_of inputs.now) (device_of d)) ds.items) }
     ensures many { IfOk result (λ ds. length ds.items ≡ length items.now) }
-    ensures refused { IfErr result (RefusedWith (gather number_of (device_judged (map input_of inputs.now)) path.now.text.items (items_view items.now))) }
+    ensures refused { Refuses result
+        (gather number_of (device_judged (map input_of inputs.now)) (path_of here.now) (items_view items.now)) }
 {
     let mut numbers = Vec::new(alloc);
     let mut devices = Vec::new(alloc);
     for (i, item) in items.iter().enumerate() {
-        let place = path.index(alloc, i)?;
+        let place = Place::Item(&*here, i);
         let (at, device) = read_device(alloc, inputs, &numbers, &place, item)?;
         numbers.insert(at, device.id)?;
         devices.insert(at, device)?;
@@ -108,21 +123,23 @@ fn gather_devices(
 pub(crate) fn read_devices(
     alloc: Global,
     inputs: &[InputDecl],
-    path: &Path,
+    here: &Place<'_>,
     items: &[Value],
 ) -> Result<Vec<Device>, JsonFault>
-    ensures ok { IfOk result (λ ds. devices_judged (map input_of inputs.now) path.now.text.items (items_view items.now) ≡ Accepted (map device_of ds.items)) }
+    ensures ok { Accepts result (λ ds. map device_of ds.items)
+        (devices_judged (map input_of inputs.now) (path_of here.now) (items_view items.now)) }
     ensures rising { IfOk result (λ ds. Rises (numbers (map device_of ds.items))) }
     ensures fit { IfOk result (λ ds. All (λ d. DeviceFits (map input_of inputs.now) (device_of d)) ds.items) }
     ensures some { IfOk result (λ ds. 1 ≤ length ds.items) }
     ensures few { IfOk result (λ ds. length ds.items ≤ 1024) }
-    ensures refused { IfErr result (RefusedWith (devices_judged (map input_of inputs.now) path.now.text.items (items_view items.now))) }
+    ensures refused { Refuses result
+        (devices_judged (map input_of inputs.now) (path_of here.now) (items_view items.now)) }
 {
     if items.is_empty() {
-        return Err(JsonFault::Shape(path.copy(alloc)?));
+        return Err(JsonFault::Shape(here.path(alloc)?));
     }
     if items.len() > 1024 {
         return Err(JsonFault::Devices(items.len()));
     }
-    gather_devices(alloc, inputs, path, items)
+    gather_devices(alloc, inputs, here, items)
 }

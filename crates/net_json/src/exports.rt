@@ -9,19 +9,21 @@ ghost use Rattle.fc_nodes.specs.Program.{unfolding_of};
 ghost use Rattle.value_trees.specs.KeptReads.{has_type};
 ghost use Rattle.value_trees.specs.Snaps.{tree_of, IsExportOf};
 ghost use Rattle.value_trees.specs.Walks.{FitsMain};
-ghost use Rattle.net_json.specs.Judging.{Accepted, RefusedWith};
+ghost use Rattle.net_json.specs.PlaceCode.{path_of};
+ghost use Rattle.net_json.specs.Judging.{Accepts, Refuses};
 ghost use Rattle.net_json.specs.KeptItems.{take_tree};
 ghost use Rattle.net_json.specs.KeptCode.{kept_of, item_by};
 ghost use Rattle.net_json.specs.Exports.{whole_export, export_judged};
 
 use crate::kept::{Format, Item, read_items};
 use crate::misfits::misfit;
-use crate::types::{JsonFault, Path};
+use crate::places::Place;
+use crate::types::JsonFault;
 use fc_nodes::Unfolded;
-use fc_values::{Export, Local, Memory, fits, inner};
+use fc_values::{Export, Local, Memory};
 use serde_json::Value;
 use std::alloc::Global;
-use value_trees::{KeptFault, from_kept};
+use value_trees::{KeptFault, fits_main, from_kept};
 
 /// The export with a value and a kept list, both of the object at a path.
 #[tactic(auto, using(crate::proofs::Judgements::refused_next))]
@@ -29,37 +31,41 @@ pub(crate) fn read_export(
     alloc: Global,
     program: &Unfolded,
     format: Format,
-    path: &Path,
+    here: &Place<'_>,
     value: Local,
     kept: &[Value],
 ) -> Result<Export, JsonFault>
-    ensures ok { IfOk result (λ e. export_judged (unfolding_of program.now) (item_by format) path.now.text.items (local_of value) (items_view kept.now) ≡ Accepted (tree_of (unfolding_of program.now) e)) }
+    ensures ok { let U = unfolding_of program.now in Accepts result (tree_of U)
+        (export_judged U (item_by format) (path_of here.now) (local_of value) (items_view kept.now)) }
     ensures export { IfOk result (λ e. IsExportOf (unfolding_of program.now) e) }
-    ensures refused { IfErr result (RefusedWith (export_judged (unfolding_of program.now) (item_by format) path.now.text.items (local_of value) (items_view kept.now))) }
+    ensures refused { Refuses result
+        (export_judged (unfolding_of program.now) (item_by format) (path_of here.now) (local_of value) (items_view kept.now)) }
 {
     if !value_fits(program, &value) {
-        return Err(JsonFault::Shape(path.member(alloc, b"value")?));
+        return Err(JsonFault::Shape(here.member(alloc, b"value")?));
     }
-    let list = path.member(alloc, b"kept")?;
+    let list = Place::Member(here, b"kept");
     let items = read_items(alloc, format, &list, kept)?;
-    export_of_items(alloc, program, path, value, items)
+    export_of_items(alloc, program, here, value, items)
 }
 
 /// The export with a value and the items of a kept list.
 fn export_of_items(
     alloc: Global,
     program: &Unfolded,
-    path: &Path,
+    here: &Place<'_>,
     value: Local,
     items: Vec<Item>,
 ) -> Result<Export, JsonFault>
     requires { FitsMain (unfolding_of program.now) (local_of value) }
-    ensures ok { IfOk result (λ e. whole_export (unfolding_of program.now) path.now.text.items (local_of value) (take_tree program.now.declared.ceiling (unfolding_of program.now).main 0 (map kept_of items.items)) ≡ Accepted (tree_of (unfolding_of program.now) e)) }
+    ensures ok { let U = unfolding_of program.now in Accepts result (tree_of U)
+        (whole_export U (path_of here.now) (local_of value) (take_tree program.now.declared.ceiling U.main 0 (map kept_of items.items))) }
     ensures export { IfOk result (λ e. IsExportOf (unfolding_of program.now) e) }
-    ensures refused { IfErr result (RefusedWith (whole_export (unfolding_of program.now) path.now.text.items (local_of value) (take_tree program.now.declared.ceiling (unfolding_of program.now).main 0 (map kept_of items.items)))) }
+    ensures refused { let U = unfolding_of program.now in Refuses result
+        (whole_export U (path_of here.now) (local_of value) (take_tree program.now.declared.ceiling U.main 0 (map kept_of items.items))) }
 {
     if let Some(place) = misfit(program, &items) {
-        return Err(JsonFault::Kept(path.copy(alloc)?, place));
+        return Err(JsonFault::Kept(here.path(alloc)?, place));
     }
     let list = values_of(alloc, items)?;
     match from_kept(alloc, program, value, list) {
@@ -80,12 +86,11 @@ fn values_of(alloc: Global, items: Vec<Item>) -> Result<Vec<Local>, Memory>
     Ok(list)
 }
 
-/// Whether a value fits the type of `main`.
+// The test of a value against the type of `main`, as the definitions have it.
 fn value_fits(program: &Unfolded, value: &Local) -> bool
-    ensures test { result ≡ has_type program.now.declared.ceiling (inner_type (type_of (unfolding_of program.now).main)) (local_of value.now) }
+    ensures test { let U = unfolding_of program.now in
+        result ≡ has_type U.declared.ceiling (inner_type (type_of U.main)) (local_of value.now) }
     ensures fits { IsTrue result → FitsMain (unfolding_of program.now) (local_of value.now) }
 {
-    let ceiling = program.declared().ceiling;
-    let main = program.node(0);
-    fits(inner(&main.ty), value, ceiling)
+    fits_main(program, value)
 }

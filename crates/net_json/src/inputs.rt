@@ -6,10 +6,12 @@ ghost use Rattle.serde_json.specs.Find.{get};
 ghost use Rattle.fc_values.specs.Types.{input_of};
 ghost use Rattle.fc_values.specs.Values.{local_of};
 ghost use Rattle.fc_values.specs.Inputs.{InputsFit};
-ghost use Rattle.net_json.specs.Judging.{Accepted, RefusedWith, at_member};
+ghost use Rattle.net_json.specs.PlaceCode.{path_of};
+ghost use Rattle.net_json.specs.Judging.{at_member, Accepts, Refuses};
 ghost use Rattle.net_json.specs.Inputs.{has_names, has_exactly, input_judged, values_judged, inputs_judged};
 
-use crate::types::{JsonFault, Path};
+use crate::places::Place;
+use crate::types::JsonFault;
 use crate::values::{has_size, local};
 use fc_values::{InputDecl, Local, Name};
 use serde_json::Value;
@@ -41,19 +43,28 @@ fn has_names(inputs: &[InputDecl], value: &Value) -> bool
 
 /// The value of an input of an object.
 #[tactic(auto, using(crate::proofs::Judgements::refused_next))]
-fn input(alloc: Global, input: &InputDecl, path: &Path, value: &Value) -> Result<Local, JsonFault>
-    ensures ok { IfOk result (λ v. input_judged input.now.ty (at_member path.now.text.items input.now.name.text.items) (get input.now.name.text.items (view value.now)) ≡ Accepted (local_of v)) }
-    ensures refused { IfErr result (RefusedWith (input_judged input.now.ty (at_member path.now.text.items input.now.name.text.items) (get input.now.name.text.items (view value.now)))) }
+fn input(
+    alloc: Global,
+    input: &InputDecl,
+    here: &Place<'_>,
+    value: &Value,
+) -> Result<Local, JsonFault>
+    ensures ok { Accepts result local_of
+        (input_judged input.now.ty (at_member (path_of here.now) input.now.name.text.items)
+        (get input.now.name.text.items (view value.now))) }
+    ensures refused { Refuses result
+        (input_judged input.now.ty (at_member (path_of here.now) input.now.name.text.items)
+        (get input.now.name.text.items (view value.now))) }
 {
     let Some(found) = member(value, &input.name) else {
-        return Err(JsonFault::Shape(path.member(alloc, &input.name.text)?));
+        return Err(JsonFault::Shape(here.member(alloc, &input.name.text)?));
     };
     let Some(local) = local(alloc, found)? else {
-        return Err(JsonFault::Shape(path.member(alloc, &input.name.text)?));
+        return Err(JsonFault::Shape(here.member(alloc, &input.name.text)?));
     };
     match input_fault(input.ty, &local) {
         None => Ok(local),
-        Some(fault) => Err(JsonFault::Net(path.member(alloc, &input.name.text)?, fault)),
+        Some(fault) => Err(JsonFault::Net(here.member(alloc, &input.name.text)?, fault)),
     }
 }
 
@@ -62,32 +73,34 @@ fn input(alloc: Global, input: &InputDecl, path: &Path, value: &Value) -> Result
 pub(crate) fn read_inputs(
     alloc: Global,
     inputs: &[InputDecl],
-    path: &Path,
+    here: &Place<'_>,
     value: &Value,
 ) -> Result<Vec<Local>, JsonFault>
-    ensures ok { IfOk result (λ vs. inputs_judged (map input_of inputs.now) path.now.text.items (view value.now) ≡ Accepted (map local_of vs.items)) }
+    ensures ok { Accepts result (λ vs. map local_of vs.items)
+        (inputs_judged (map input_of inputs.now) (path_of here.now) (view value.now)) }
     ensures fit { IfOk result (λ vs. InputsFit (map input_of inputs.now) (map local_of vs.items)) }
-    ensures refused { IfErr result (RefusedWith (inputs_judged (map input_of inputs.now) path.now.text.items (view value.now))) }
+    ensures refused { Refuses result (inputs_judged (map input_of inputs.now) (path_of here.now) (view value.now)) }
 {
     if !has_size(value, inputs.len()) || !has_names(inputs, value) {
-        return Err(JsonFault::Shape(path.copy(alloc)?));
+        return Err(JsonFault::Shape(here.path(alloc)?));
     }
-    read_values(alloc, inputs, path, value)
+    read_values(alloc, inputs, here, value)
 }
 
 fn read_values(
     alloc: Global,
     inputs: &[InputDecl],
-    path: &Path,
+    here: &Place<'_>,
     value: &Value,
 ) -> Result<Vec<Local>, JsonFault>
-    ensures ok { IfOk result (λ vs. values_judged path.now.text.items (view value.now) [] (map input_of inputs.now) ≡ Accepted (map local_of vs.items)) }
+    ensures ok { Accepts result (λ vs. map local_of vs.items)
+        (values_judged (path_of here.now) (view value.now) [] (map input_of inputs.now)) }
     ensures fit { IfOk result (λ vs. InputsFit (map input_of inputs.now) (map local_of vs.items)) }
-    ensures refused { IfErr result (RefusedWith (values_judged path.now.text.items (view value.now) [] (map input_of inputs.now))) }
+    ensures refused { Refuses result (values_judged (path_of here.now) (view value.now) [] (map input_of inputs.now)) }
 {
     let mut values = Vec::new(alloc);
     for one in inputs {
-        values.push(input(alloc, one, path, value)?)?;
+        values.push(input(alloc, one, here, value)?)?;
     }
     Ok(values)
 }

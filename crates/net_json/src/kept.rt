@@ -2,11 +2,13 @@
 
 ghost use Rattle.std.specs.Prelude.{◌≡◌, IfOk, IfErr, map, option_map, []};
 ghost use Rattle.serde_json.specs.View.{view, items_view};
-ghost use Rattle.net_json.specs.Judging.{Accepted, RefusedWith, in_turn};
+ghost use Rattle.net_json.specs.PlaceCode.{path_of};
+ghost use Rattle.net_json.specs.Judging.{in_turn, Accepts, Refuses};
 ghost use Rattle.net_json.specs.KeptItems.{item_of_values, item_of_places, kept_judged};
 ghost use Rattle.net_json.specs.KeptCode.{kept_of, item_by};
 
-use crate::types::{JsonFault, Path};
+use crate::places::Place;
+use crate::types::JsonFault;
 use crate::values::{local, whole};
 use fc_values::{Local, Memory};
 use serde_json::Value;
@@ -31,16 +33,18 @@ pub(crate) struct Item {
 pub(crate) fn read_items(
     alloc: Global,
     format: Format,
-    path: &Path,
+    here: &Place<'_>,
     items: &[Value],
 ) -> Result<Vec<Item>, JsonFault>
-    ensures ok { IfOk result (λ xs. in_turn (kept_judged (item_by format)) path.now.text.items [] 0 (items_view items.now) ≡ Accepted (map kept_of xs.items)) }
-    ensures refused { IfErr result (RefusedWith (in_turn (kept_judged (item_by format)) path.now.text.items [] 0 (items_view items.now))) }
+    ensures ok { Accepts result (λ xs. map kept_of xs.items)
+        (in_turn (kept_judged (item_by format)) (path_of here.now) [] 0 (items_view items.now)) }
+    ensures refused { Refuses result
+        (in_turn (kept_judged (item_by format)) (path_of here.now) [] 0 (items_view items.now)) }
 {
     let mut found = Vec::new(alloc);
     for (i, value) in items.iter().enumerate() {
         let Some(one) = read_item(alloc, format, value)? else {
-            return Err(JsonFault::Shape(path.index(alloc, i)?));
+            return Err(JsonFault::Shape(here.item(alloc, i)?));
         };
         found.push(one)?;
     }

@@ -12,7 +12,7 @@ mod links;
 mod misfits;
 mod networks;
 mod numbers;
-mod paths;
+mod places;
 mod rising;
 mod rows;
 mod scenes;

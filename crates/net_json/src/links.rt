@@ -2,10 +2,12 @@
 
 ghost use Rattle.std.specs.Prelude.{◌≡◌, IfOk, IfErr, OnOk, option_map};
 ghost use Rattle.serde_json.specs.View.{view, items_view};
-ghost use Rattle.net_json.specs.Judging.{Accepted, RefusedWith};
+ghost use Rattle.net_json.specs.PlaceCode.{path_of};
+ghost use Rattle.net_json.specs.Judging.{Accepted, Accepts, Refuses};
 ghost use Rattle.net_json.specs.Links.{link_of, link_judged, links_judged};
 
-use crate::types::{JsonFault, Path};
+use crate::places::Place;
+use crate::types::JsonFault;
 use crate::values::small;
 use serde_json::Value;
 use std::alloc::Global;
@@ -27,20 +29,25 @@ fn link_of(value: &Value) -> Option<(u32, u32, u32)>
 
 /// Adds a link that no link before has the pair of.
 #[tactic(auto, using(crate::proofs::Judgements::refused_next))]
-fn add_link(alloc: Global, draft: &mut Draft, path: &Path, value: &Value) -> Result<(), JsonFault>
-    ensures ok { OnOk result (link_judged draft.old path.now.text.items (view value.now) ≡ Accepted draft.new) }
+fn add_link(
+    alloc: Global,
+    draft: &mut Draft,
+    here: &Place<'_>,
+    value: &Value,
+) -> Result<(), JsonFault>
+    ensures ok { OnOk result (link_judged draft.old (path_of here.now) (view value.now) ≡ Accepted draft.new) }
     ensures declared { OnOk result (draft.new.declared ≡ draft.old.declared) }
-    ensures refused { IfErr result (RefusedWith (link_judged draft.old path.now.text.items (view value.now))) }
+    ensures refused { Refuses result (link_judged draft.old (path_of here.now) (view value.now)) }
 {
     let Some((a, b, weight)) = link_of(value) else {
-        return Err(JsonFault::Shape(path.copy(alloc)?));
+        return Err(JsonFault::Shape(here.path(alloc)?));
     };
     if draft.are_linked(a, b) {
-        return Err(JsonFault::Shape(path.copy(alloc)?));
+        return Err(JsonFault::Shape(here.path(alloc)?));
     }
     match draft.link(a, b, weight) {
         Ok(()) => Ok(()),
-        Err(fault) => Err(JsonFault::Net(path.copy(alloc)?, fault)),
+        Err(fault) => Err(JsonFault::Net(here.path(alloc)?, fault)),
     }
 }
 
@@ -49,16 +56,16 @@ fn add_link(alloc: Global, draft: &mut Draft, path: &Path, value: &Value) -> Res
 pub(crate) fn read_links(
     alloc: Global,
     draft: Draft,
-    path: &Path,
+    here: &Place<'_>,
     items: &[Value],
 ) -> Result<Network, JsonFault>
-    ensures ok { IfOk result (λ n. links_judged path.now.text.items draft (items_view items.now) ≡ Accepted n) }
+    ensures ok { Accepts result (λ n. n) (links_judged (path_of here.now) draft (items_view items.now)) }
     ensures declared { IfOk result (λ n. n.declared ≡ draft.declared) }
-    ensures refused { IfErr result (RefusedWith (links_judged path.now.text.items draft (items_view items.now))) }
+    ensures refused { Refuses result (links_judged (path_of here.now) draft (items_view items.now)) }
 {
     let mut draft = draft;
     for (i, item) in items.iter().enumerate() {
-        let place = path.index(alloc, i)?;
+        let place = Place::Item(&*here, i);
         add_link(alloc, &mut draft, &place, item)?;
     }
     let net = draft.finish(alloc)?;

@@ -31,7 +31,9 @@ pub(crate) fn misfit(program: &Unfolded, items: &[Item]) -> Option<u32>
 #[cycle(take)]
 fn take<'a>(program: &Unfolded, items: &'a [Item], place: u32) -> Result<&'a [Item], u32>
     requires { StandsAt program.now.nodes place }
-    ensures { MatchResult result (λ rest. leaving_at program.now place (map kept_of items.now) ≡ Leaves (map kept_of rest.now)) (λ p. leaving_at program.now place (map kept_of items.now) ≡ Misses p) }
+    ensures { MatchResult result
+        (λ rest. leaving_at program.now place (map kept_of items.now) ≡ Leaves (map kept_of rest.now))
+        (λ p. leaving_at program.now place (map kept_of items.now) ≡ Misses p) }
 {
     let node = program.node(place);
     if is_if(node) {
@@ -56,7 +58,9 @@ fn take_if<'a>(
     requires stands { StandsAt program.now.nodes place }
     requires node { view_at program.now.nodes place ≡ Some (view_of node.now) }
     requires branching { is_branching (sort_of node.now.op) ≡ true }
-    ensures { MatchResult result (λ rest. leaving_at program.now place (map kept_of items.now) ≡ Leaves (map kept_of rest.now)) (λ p. leaving_at program.now place (map kept_of items.now) ≡ Misses p) }
+    ensures { MatchResult result
+        (λ rest. leaving_at program.now place (map kept_of items.now) ≡ Leaves (map kept_of rest.now))
+        (λ p. leaving_at program.now place (map kept_of items.now) ≡ Misses p) }
 {
     let ceiling = program.declared().ceiling;
     let (value, own) = take_value(&LocalTy::Bool, items, place, ceiling)?;
@@ -75,7 +79,9 @@ fn take_kids<'a>(
     place: u32,
 ) -> Result<&'a [Item], u32>
     requires { StandAfter program.now.nodes place kids.now }
-    ensures { MatchResult result (λ rest. kids_leaving program.now kids.now (map kept_of items.now) ≡ Leaves (map kept_of rest.now)) (λ p. kids_leaving program.now kids.now (map kept_of items.now) ≡ Misses p) }
+    ensures { MatchResult result
+        (λ rest. kids_leaving program.now kids.now (map kept_of items.now) ≡ Leaves (map kept_of rest.now))
+        (λ p. kids_leaving program.now kids.now (map kept_of items.now) ≡ Misses p) }
 {
     let mut left = items;
     for kid in kids {
@@ -91,7 +97,10 @@ fn take_own<'a>(
     items: &'a [Item],
     place: u32,
 ) -> Result<&'a [Item], u32>
-    ensures { MatchResult result (λ rest. own_leaving program.now.declared.ceiling (node_keeps node.now) place (map kept_of items.now) ≡ Leaves (map kept_of rest.now)) (λ p. own_leaving program.now.declared.ceiling (node_keeps node.now) place (map kept_of items.now) ≡ Misses p) }
+    ensures { MatchResult result
+        (λ rest. own_leaving program.now.declared.ceiling (node_keeps node.now) place (map kept_of items.now)
+        ≡ Leaves (map kept_of rest.now))
+        (λ p. own_leaving program.now.declared.ceiling (node_keeps node.now) place (map kept_of items.now) ≡ Misses p) }
 {
     let ceiling = program.declared().ceiling;
     match &node.op {
@@ -114,7 +123,10 @@ fn take_value<'a>(
     place: u32,
     ceiling: u32,
 ) -> Result<(&'a Local, &'a [Item]), u32>
-    ensures { MatchResult result (λ taken. take_value ceiling (local_type_of ty.now) place (map kept_of items.now) ≡ Took (local_of taken.0.now) (map kept_of taken.1.now)) (λ p. take_value ceiling (local_type_of ty.now) place (map kept_of items.now) ≡ Misfit p) }
+    ensures { MatchResult result
+        (λ taken. take_value ceiling (local_type_of ty.now) place (map kept_of items.now)
+        ≡ Took (local_of taken.0.now) (map kept_of taken.1.now))
+        (λ p. take_value ceiling (local_type_of ty.now) place (map kept_of items.now) ≡ Misfit p) }
 {
     let Some((first, rest)) = items.split_first() else {
         return Err(place);

@@ -7,13 +7,15 @@ ghost use Rattle.fc_values.specs.Types.{declarations_of};
 ghost use Rattle.fc_values.specs.Fields.{Rises};
 ghost use Rattle.fc_nodes.specs.Program.{unfolding_of};
 ghost use Rattle.topology.specs.Networks.{device_of, network_of, numbers};
-ghost use Rattle.net_json.specs.Judging.{Accepted, RefusedWith};
+ghost use Rattle.net_json.specs.PlaceCode.{path_of};
+ghost use Rattle.net_json.specs.Judging.{Accepts, Refuses};
 ghost use Rattle.net_json.specs.SceneCode.{DeviceFits};
 ghost use Rattle.net_json.specs.Scenes.{network_judged};
 
 use crate::devices::read_devices;
 use crate::links::read_links;
-use crate::types::{JsonFault, Path};
+use crate::places::Place;
+use crate::types::JsonFault;
 use fc_nodes::Unfolded;
 use fc_values::{Declared, Memory, copy_declared};
 use serde_json::Value;
@@ -28,18 +30,18 @@ pub(crate) fn read_network(
     devices: &[Value],
     links: &[Value],
 ) -> Result<Network, JsonFault>
-    ensures ok { IfOk result (λ n. network_judged (unfolding_of program.now) (items_view devices.now) (items_view links.now) ≡ Accepted n) }
+    ensures ok { Accepts result (λ n. n)
+        (network_judged (unfolding_of program.now) (items_view devices.now) (items_view links.now)) }
     ensures declared { IfOk result (λ n. n.declared ≡ program.now.declared) }
-    ensures refused { IfErr result (RefusedWith (network_judged (unfolding_of program.now) (items_view devices.now) (items_view links.now))) }
+    ensures refused { Refuses result
+        (network_judged (unfolding_of program.now) (items_view devices.now) (items_view links.now)) }
 {
-    let root = Path {
-        text: Vec::new(alloc),
-    };
+    let root = Place::Scene;
     let declared = copy_declared(alloc, program.declared())?;
-    let place = root.member(alloc, b"devices")?;
+    let place = Place::Member(&root, b"devices");
     let devices = read_devices(alloc, &declared.inputs, &place, devices)?;
     let draft = new_draft(alloc, declared, devices)?;
-    let place = root.member(alloc, b"links")?;
+    let place = Place::Member(&root, b"links");
     read_links(alloc, draft, &place, links)
 }
 

@@ -3,12 +3,14 @@
 ghost use Rattle.std.specs.Prelude.{◌≡◌, IfOk, IfErr, IfSome, IfNone, codes, true, false};
 ghost use Rattle.fc_values.specs.Fields.{Rises};
 ghost use Rattle.topology.specs.Networks.{lives};
-ghost use Rattle.net_json.specs.Judging.{Accepted, RefusedWith, at_member};
+ghost use Rattle.net_json.specs.PlaceCode.{path_of};
+ghost use Rattle.net_json.specs.Judging.{at_member, Accepts, Refuses};
 ghost use Rattle.net_json.specs.Devices.{live_number};
 ghost use Rattle.net_json.specs.Places.{IsPlace};
 
+use crate::places::Place;
 use crate::rising::room;
-use crate::types::{JsonFault, Path};
+use crate::types::JsonFault;
 use std::alloc::Global;
 use topology::Network;
 
@@ -29,20 +31,21 @@ pub(crate) fn live_number(
     alloc: Global,
     net: &Network,
     numbers: &[u32],
-    path: &Path,
+    here: &Place<'_>,
     id: u64,
 ) -> Result<(usize, u32), JsonFault>
     requires { Rises numbers.now }
-    ensures ok { IfOk result (λ d. live_number net.now numbers.now (at_member path.now.text.items (codes "id")) id ≡ Accepted d.1) }
+    ensures ok { Accepts result (λ d. d.1)
+        (live_number net.now numbers.now (at_member (path_of here.now) (codes "id")) id) }
     ensures place { IfOk result (λ d. IsPlace numbers.now d.1 d.0) }
     ensures lives { IfOk result (λ d. lives net.now d.1 ≡ true) }
-    ensures refused { IfErr result (RefusedWith (live_number net.now numbers.now (at_member path.now.text.items (codes "id")) id)) }
+    ensures refused { Refuses result (live_number net.now numbers.now (at_member (path_of here.now) (codes "id")) id) }
 {
     let Some(id) = device(net, id) else {
-        return Err(JsonFault::Shape(path.member(alloc, b"id")?));
+        return Err(JsonFault::Shape(here.member(alloc, b"id")?));
     };
     match room(numbers, id) {
         Some(at) => Ok((at, id)),
-        None => Err(JsonFault::Shape(path.member(alloc, b"id")?)),
+        None => Err(JsonFault::Shape(here.member(alloc, b"id")?)),
     }
 }

@@ -6,7 +6,8 @@ ghost use Rattle.fc_values.specs.Fields.{Rises};
 ghost use Rattle.fc_nodes.specs.Program.{unfolding_of};
 ghost use Rattle.value_trees.specs.Snaps.{IsExportOf};
 ghost use Rattle.topology.specs.Networks.{lives};
-ghost use Rattle.net_json.specs.Judging.{Accepted, RefusedWith};
+ghost use Rattle.net_json.specs.PlaceCode.{path_of};
+ghost use Rattle.net_json.specs.Judging.{Accepts, Refuses};
 ghost use Rattle.net_json.specs.KeptCode.{item_by};
 ghost use Rattle.net_json.specs.Places.{IsPlace};
 ghost use Rattle.net_json.specs.SceneCode.{row_of, AreRows};
@@ -15,8 +16,9 @@ ghost use Rattle.net_json.specs.Tables.{row_judged, rows_judged, second_judged, 
 use crate::exports::read_export;
 use crate::kept::Format;
 use crate::numbers::live_number;
+use crate::places::Place;
 use crate::tables::{form, second_format};
-use crate::types::{JsonFault, Path};
+use crate::types::JsonFault;
 use fc_nodes::Unfolded;
 use fc_values::Export;
 use serde_json::Value;
@@ -31,19 +33,21 @@ fn read_row(
     net: &Network,
     format: Format,
     numbers: &[u32],
-    path: &Path,
+    here: &Place<'_>,
     value: &Value,
 ) -> Result<(usize, (u32, Export)), JsonFault>
     requires { Rises numbers.now }
-    ensures ok { IfOk result (λ r. row_judged (unfolding_of program.now) net.now (item_by format) numbers.now path.now.text.items (view value.now) ≡ Accepted (row_of (unfolding_of program.now) r.1)) }
+    ensures ok { let U = unfolding_of program.now in Accepts result (λ r. row_of U r.1)
+        (row_judged U net.now (item_by format) numbers.now (path_of here.now) (view value.now)) }
     ensures place { IfOk result (λ r. IsPlace numbers.now r.1.0 r.0) }
     ensures there { IfOk result (λ r. lives net.now r.1.0 ≡ true) }
     ensures export { IfOk result (λ r. IsExportOf (unfolding_of program.now) r.1.1) }
-    ensures refused { IfErr result (RefusedWith (row_judged (unfolding_of program.now) net.now (item_by format) numbers.now path.now.text.items (view value.now))) }
+    ensures refused { Refuses result
+        (row_judged (unfolding_of program.now) net.now (item_by format) numbers.now (path_of here.now) (view value.now)) }
 {
-    let (id, value, kept) = form(alloc, path, value)?;
-    let (at, id) = live_number(alloc, net, numbers, path, id)?;
-    let export = read_export(alloc, program, format, path, value, kept)?;
+    let (id, value, kept) = form(alloc, here, value)?;
+    let (at, id) = live_number(alloc, net, numbers, here, id)?;
+    let export = read_export(alloc, program, format, here, value, kept)?;
     Ok((at, (id, export)))
 }
 
@@ -54,17 +58,19 @@ fn gather_rows(
     program: &Unfolded,
     net: &Network,
     format: Format,
-    path: &Path,
+    here: &Place<'_>,
     items: &[Value],
 ) -> Result<Vec<(u32, Export)>, JsonFault>
-    ensures ok { IfOk result (λ rows. rows_judged (unfolding_of program.now) net.now (item_by format) path.now.text.items (items_view items.now) ≡ Accepted (map (row_of (unfolding_of program.now)) rows.items)) }
+    ensures ok { let U = unfolding_of program.now in Accepts result (λ rows. map (row_of U) rows.items)
+        (rows_judged U net.now (item_by format) (path_of here.now) (items_view items.now)) }
     ensures rows { IfOk result (λ rows. AreRows (unfolding_of program.now) net.now rows.items) }
-    ensures refused { IfErr result (RefusedWith (rows_judged (unfolding_of program.now) net.now (item_by format) path.now.text.items (items_view items.now))) }
+    ensures refused { Refuses result
+        (rows_judged (unfolding_of program.now) net.now (item_by format) (path_of here.now) (items_view items.now)) }
 {
     let mut numbers = Vec::new(alloc);
     let mut rows = Vec::new(alloc);
     for (i, item) in items.iter().enumerate() {
-        let place = path.index(alloc, i)?;
+        let place = Place::Item(&*here, i);
         let (at, row) = read_row(alloc, program, net, format, &numbers, &place, item)?;
         numbers.insert(at, row.0)?;
         rows.insert(at, row)?;
@@ -78,15 +84,17 @@ fn read_second(
     alloc: Global,
     program: &Unfolded,
     net: &Network,
-    path: &Path,
+    here: &Place<'_>,
     value: &Value,
 ) -> Result<Vec<(u32, Export)>, JsonFault>
-    ensures ok { IfOk result (λ rows. second_judged (unfolding_of program.now) net.now path.now.text.items (view value.now) ≡ Accepted (map (row_of (unfolding_of program.now)) rows.items)) }
+    ensures ok { let U = unfolding_of program.now in Accepts result (λ rows. map (row_of U) rows.items)
+        (second_judged U net.now (path_of here.now) (view value.now)) }
     ensures rows { IfOk result (λ rows. AreRows (unfolding_of program.now) net.now rows.items) }
-    ensures refused { IfErr result (RefusedWith (second_judged (unfolding_of program.now) net.now path.now.text.items (view value.now))) }
+    ensures refused { Refuses result
+        (second_judged (unfolding_of program.now) net.now (path_of here.now) (view value.now)) }
 {
-    let rows = second_format(alloc, path, value)?;
-    let inner = path.member(alloc, b"rows")?;
+    let rows = second_format(alloc, here, value)?;
+    let inner = Place::Member(here, b"rows");
     gather_rows(alloc, program, net, Format::Places, &inner, rows)
 }
 
@@ -95,15 +103,17 @@ pub(crate) fn read_table(
     alloc: Global,
     program: &Unfolded,
     net: &Network,
-    path: &Path,
+    here: &Place<'_>,
     value: &Value,
 ) -> Result<Vec<(u32, Export)>, JsonFault>
-    ensures ok { IfOk result (λ rows. table_judged (unfolding_of program.now) net.now path.now.text.items (view value.now) ≡ Accepted (map (row_of (unfolding_of program.now)) rows.items)) }
+    ensures ok { let U = unfolding_of program.now in Accepts result (λ rows. map (row_of U) rows.items)
+        (table_judged U net.now (path_of here.now) (view value.now)) }
     ensures rows { IfOk result (λ rows. AreRows (unfolding_of program.now) net.now rows.items) }
-    ensures refused { IfErr result (RefusedWith (table_judged (unfolding_of program.now) net.now path.now.text.items (view value.now))) }
+    ensures refused { Refuses result
+        (table_judged (unfolding_of program.now) net.now (path_of here.now) (view value.now)) }
 {
     match value.as_array() {
-        Some(rows) => gather_rows(alloc, program, net, Format::Values, path, rows),
-        None => read_second(alloc, program, net, path, value),
+        Some(rows) => gather_rows(alloc, program, net, Format::Values, here, rows),
+        None => read_second(alloc, program, net, here, value),
     }
 }

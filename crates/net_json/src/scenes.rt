@@ -4,15 +4,17 @@ ghost use Rattle.std.specs.Prelude.{◌≡◌, ◌≤◌, IfOk, IfErr, map, opti
 ghost use Rattle.serde_json.specs.Find.{get, as_array};
 ghost use Rattle.serde_json.specs.View.{view, items_view};
 ghost use Rattle.fc_nodes.specs.Program.{unfolding_of};
-ghost use Rattle.net_json.specs.Judging.{Accepted, RefusedWith};
+ghost use Rattle.net_json.specs.PlaceCode.{path_of};
+ghost use Rattle.net_json.specs.Judging.{Accepts, Refuses};
 ghost use Rattle.net_json.specs.SceneCode.{row_of, value_of_scene, AreRows, AreCopies};
 ghost use Rattle.net_json.specs.Scenes.{or_empty, one_if_there, scene_members, is_table, scene_form, scene_judged, scene_of, scene_path};
 ghost use Rattle.net_json.specs.Tables.{table_judged};
 
 use crate::copies::read_copies;
 use crate::networks::read_network;
+use crate::places::Place;
 use crate::rows::read_table;
-use crate::types::{JsonFault, Path, Scene};
+use crate::types::{JsonFault, Scene};
 use crate::values::has_size;
 use fc_nodes::Unfolded;
 use fc_values::Export;
@@ -22,11 +24,12 @@ use topology::Network;
 
 /// The scene of a text, or the first reason why it is none, or want of memory.
 pub fn read_scene(alloc: Global, program: &Unfolded, text: &[u8]) -> Result<Scene, JsonFault>
-    ensures ok { IfOk result (λ s. scene_of (unfolding_of program.now) text.now ≡ Accepted (value_of_scene (unfolding_of program.now) s)) }
+    ensures ok { Accepts result (value_of_scene (unfolding_of program.now))
+        (scene_of (unfolding_of program.now) text.now) }
     ensures declared { IfOk result (λ s. s.net.declared ≡ program.now.declared) }
     ensures rows { IfOk result (λ s. AreRows (unfolding_of program.now) s.net s.table.items) }
     ensures copies { IfOk result (λ s. AreCopies (unfolding_of program.now) s.net s.pending.items) }
-    ensures refused { IfErr result (RefusedWith (scene_of (unfolding_of program.now) text.now)) }
+    ensures refused { Refuses result (scene_of (unfolding_of program.now) text.now) }
 {
     match Value::from_slice(alloc, text) {
         Ok(value) => read_value(alloc, program, &value),
@@ -38,20 +41,19 @@ pub fn read_scene(alloc: Global, program: &Unfolded, text: &[u8]) -> Result<Scen
 /// The scene of a JSON value.
 #[tactic(auto, using(crate::proofs::Judgements::refused_next))]
 fn read_value(alloc: Global, program: &Unfolded, value: &Value) -> Result<Scene, JsonFault>
-    ensures ok { IfOk result (λ s. scene_judged (unfolding_of program.now) (view value.now) ≡ Accepted (value_of_scene (unfolding_of program.now) s)) }
+    ensures ok { let U = unfolding_of program.now in Accepts result (value_of_scene U)
+        (scene_judged U (view value.now)) }
     ensures declared { IfOk result (λ s. s.net.declared ≡ program.now.declared) }
     ensures rows { IfOk result (λ s. AreRows (unfolding_of program.now) s.net s.table.items) }
     ensures copies { IfOk result (λ s. AreCopies (unfolding_of program.now) s.net s.pending.items) }
-    ensures refused { IfErr result (RefusedWith (scene_judged (unfolding_of program.now) (view value.now))) }
+    ensures refused { Refuses result (scene_judged (unfolding_of program.now) (view value.now)) }
 {
-    let root = Path {
-        text: Vec::new(alloc),
-    };
-    let form = form(alloc, &root, value)?;
+    let root = Place::Scene;
+    let form = form(alloc, value)?;
     let net = read_network(alloc, program, form.devices, form.links)?;
-    let place = root.member(alloc, b"table")?;
+    let place = Place::Member(&root, b"table");
     let table = read_rows(alloc, program, &net, &place, form.table)?;
-    let place = root.member(alloc, b"pending")?;
+    let place = Place::Member(&root, b"pending");
     let pending = read_copies(alloc, program, &net, &place, form.pending)?;
     Ok(Scene {
         net,
@@ -65,15 +67,17 @@ fn read_rows(
     alloc: Global,
     program: &Unfolded,
     net: &Network,
-    path: &Path,
+    here: &Place<'_>,
     table: Option<&Value>,
 ) -> Result<Vec<(u32, Export)>, JsonFault>
-    ensures ok { IfOk result (λ rows. table_judged (unfolding_of program.now) net.now path.now.text.items (or_empty (option_map (λ v. view v.now) table.entry)) ≡ Accepted (map (row_of (unfolding_of program.now)) rows.items)) }
+    ensures ok { let U = unfolding_of program.now in Accepts result (λ rows. map (row_of U) rows.items)
+        (table_judged U net.now (path_of here.now) (or_empty (option_map (λ v. view v.now) table.entry))) }
     ensures rows { IfOk result (λ rows. AreRows (unfolding_of program.now) net.now rows.items) }
-    ensures refused { IfErr result (RefusedWith (table_judged (unfolding_of program.now) net.now path.now.text.items (or_empty (option_map (λ v. view v.now) table.entry)))) }
+    ensures refused { Refuses result
+        (table_judged (unfolding_of program.now) net.now (path_of here.now) (or_empty (option_map (λ v. view v.now) table.entry))) }
 {
     match table {
-        Some(table) => read_table(alloc, program, net, path, table),
+        Some(table) => read_table(alloc, program, net, here, table),
         None => Ok(Vec::new(alloc)),
     }
 }
@@ -89,13 +93,20 @@ struct SceneForm<'v> {
 
 /// The parts of a scene, by its form.
 #[tactic(auto, using(crate::proofs::Judgements::refused_next))]
-fn form<'v>(alloc: Global, root: &Path, value: &'v Value) -> Result<SceneForm<'v>, JsonFault>
-    requires { root.now.text.items ≡ [] }
-    ensures ok { IfOk result (λ f. scene_form (view value.now) ≡ Accepted (record { devices = items_view f.devices.now; links = items_view f.links.now; table = or_empty (option_map (λ v. view v.now) f.table); pending = items_view f.pending.now })) }
-    ensures refused { IfErr result (RefusedWith (scene_form (view value.now))) }
+fn form<'v>(alloc: Global, value: &'v Value) -> Result<SceneForm<'v>, JsonFault>
+    ensures ok { Accepts result
+        (λ f. record {
+          devices = items_view f.devices.now;
+          links = items_view f.links.now;
+          table = or_empty (option_map (λ v. view v.now) f.table);
+          pending = items_view f.pending.now;
+        })
+        (scene_form (view value.now)) }
+    ensures refused { Refuses result (scene_form (view value.now)) }
 {
+    let root = Place::Scene;
     let Some((devices, links)) = scene_members(value) else {
-        return Err(JsonFault::Shape(root.copy(alloc)?));
+        return Err(JsonFault::Shape(root.path(alloc)?));
     };
     let Some(devices) = devices.as_array() else {
         return Err(JsonFault::Shape(root.member(alloc, b"devices")?));
@@ -154,7 +165,8 @@ fn is_table(table: Option<&Value>) -> bool
 
 /// The items of an array, none where it is missing.
 fn list_or_none(value: Option<&Value>) -> Option<&[Value]>
-    ensures { option_map (λ v. items_view v.now) result ≡ as_array (or_empty (option_map (λ v. view v.now) value.entry)) }
+    ensures { option_map (λ v. items_view v.now) result ≡ as_array
+        (or_empty (option_map (λ v. view v.now) value.entry)) }
 {
     match value {
         Some(value) => {

@@ -3,10 +3,12 @@
 ghost use Rattle.std.specs.Prelude.{◌≡◌, IfOk, IfErr};
 ghost use Rattle.serde_json.specs.View.{view, items_view};
 ghost use Rattle.fc_values.specs.Values.{local_of};
-ghost use Rattle.net_json.specs.Judging.{Accepted, RefusedWith};
+ghost use Rattle.net_json.specs.PlaceCode.{path_of};
+ghost use Rattle.net_json.specs.Judging.{Accepts, Refuses};
 ghost use Rattle.net_json.specs.Tables.{row_form, second_format};
 
-use crate::types::{JsonFault, Path};
+use crate::places::Place;
+use crate::types::JsonFault;
 use crate::values::{local, three_members, two_members, whole};
 use fc_values::Local;
 use serde_json::Value;
@@ -16,23 +18,24 @@ use std::alloc::Global;
 #[tactic(auto, using(crate::proofs::Judgements::refused_next))]
 pub(crate) fn form<'v>(
     alloc: Global,
-    path: &Path,
+    here: &Place<'_>,
     value: &'v Value,
 ) -> Result<(u64, Local, &'v [Value]), JsonFault>
-    ensures ok { IfOk result (λ r. row_form path.now.text.items (view value.now) ≡ Accepted (record { id = r.0; value = local_of r.1; kept = items_view r.2.now })) }
-    ensures refused { IfErr result (RefusedWith (row_form path.now.text.items (view value.now))) }
+    ensures ok { Accepts result (λ r. record { id = r.0; value = local_of r.1; kept = items_view r.2.now })
+        (row_form (path_of here.now) (view value.now)) }
+    ensures refused { Refuses result (row_form (path_of here.now) (view value.now)) }
 {
     let Some((id, (value, kept))) = three_members(value, "id", "value", "kept") else {
-        return Err(JsonFault::Shape(path.copy(alloc)?));
+        return Err(JsonFault::Shape(here.path(alloc)?));
     };
     let Some(id) = whole(id) else {
-        return Err(JsonFault::Shape(path.member(alloc, b"id")?));
+        return Err(JsonFault::Shape(here.member(alloc, b"id")?));
     };
     let Some(value) = local(alloc, value)? else {
-        return Err(JsonFault::Shape(path.member(alloc, b"value")?));
+        return Err(JsonFault::Shape(here.member(alloc, b"value")?));
     };
     let Some(kept) = kept.as_array() else {
-        return Err(JsonFault::Shape(path.member(alloc, b"kept")?));
+        return Err(JsonFault::Shape(here.member(alloc, b"kept")?));
     };
     Ok((id, value, kept.as_slice()))
 }
@@ -41,20 +44,20 @@ pub(crate) fn form<'v>(
 #[tactic(auto, using(crate::proofs::Judgements::refused_next))]
 pub(crate) fn second_format<'v>(
     alloc: Global,
-    path: &Path,
+    here: &Place<'_>,
     value: &'v Value,
 ) -> Result<&'v [Value], JsonFault>
-    ensures ok { IfOk result (λ rows. second_format path.now.text.items (view value.now) ≡ Accepted (items_view rows.now)) }
-    ensures refused { IfErr result (RefusedWith (second_format path.now.text.items (view value.now))) }
+    ensures ok { Accepts result (λ rows. items_view rows.now) (second_format (path_of here.now) (view value.now)) }
+    ensures refused { Refuses result (second_format (path_of here.now) (view value.now)) }
 {
     let Some((format, rows)) = two_members(value, "format", "rows") else {
-        return Err(JsonFault::Shape(path.copy(alloc)?));
+        return Err(JsonFault::Shape(here.path(alloc)?));
     };
     if whole(format) != Some(2) {
-        return Err(JsonFault::Shape(path.member(alloc, b"format")?));
+        return Err(JsonFault::Shape(here.member(alloc, b"format")?));
     }
     match rows.as_array() {
         Some(rows) => Ok(rows.as_slice()),
-        None => Err(JsonFault::Shape(path.member(alloc, b"rows")?)),
+        None => Err(JsonFault::Shape(here.member(alloc, b"rows")?)),
     }
 }

@@ -28,8 +28,10 @@ pub fn write_table(
 ) -> Result<Vec<u8>, Memory>
     requires rising { Rises (map (λ r. r.0) table.now) }
     requires exports { All (λ r. IsExportOf (unfolding_of program.now) r.1.now) table.now }
-    ensures text { IfOk result (λ text. text.items ≡ table_text (unfolding_of program.now) (map (borrowed_row (unfolding_of program.now)) table.now)) }
-    ensures reads_back { IfOk result (λ text. json_of text.items ≡ Some (table_data (unfolding_of program.now) (map (borrowed_row (unfolding_of program.now)) table.now))) }
+    ensures text { let U = unfolding_of program.now in IfOk result
+        (λ text. text.items ≡ table_text U (map (borrowed_row U) table.now)) }
+    ensures reads_back { let U = unfolding_of program.now in IfOk result
+        (λ text. json_of text.items ≡ Some (table_data U (map (borrowed_row U) table.now))) }
 {
     let value = table_value(alloc, program, table)?;
     let text = value.to_vec(alloc)?;
@@ -39,7 +41,8 @@ pub fn write_table(
 /// A table in format 2.
 fn table_value(alloc: Global, program: &Unfolded, table: &[(u32, &Export)]) -> Result<Value, Memory>
     requires { All (λ r. IsExportOf (unfolding_of program.now) r.1.now) table.now }
-    ensures data { IfOk result (λ v. view v ≡ table_data (unfolding_of program.now) (map (borrowed_row (unfolding_of program.now)) table.now)) }
+    ensures data { let U = unfolding_of program.now in IfOk result
+        (λ v. view v ≡ table_data U (map (borrowed_row U) table.now)) }
     ensures program { IsProgram program.now }
 {
     let places = places_of(alloc, program)?;
@@ -53,7 +56,9 @@ fn table_value(alloc: Global, program: &Unfolded, table: &[(u32, &Export)]) -> R
 
 /// The object of a table in format 2.
 fn table_object(alloc: Global, rows: Vec<Value>) -> Result<Value, AllocError>
-    ensures { IfOk result (λ v. view v ≡ object (member (codes "format") (whole_data 2) (member (codes "rows") (array (items_of (map view rows.items))) no_members))) }
+    ensures { IfOk result
+        (λ v. view v ≡ object (member (codes "format") (whole_data 2)
+        (member (codes "rows") (array (items_of (map view rows.items))) no_members))) }
 {
     json!(in alloc; {"format": 2_u32, "rows": Value::Array(rows)})
 }
@@ -100,7 +105,8 @@ fn row_value(
 ) -> Result<Value, Memory>
     requires places { places.now ≡ kept_places (unfolding_of program.now).main 0 }
     requires export { IsExportOf (unfolding_of program.now) export.now }
-    ensures { IfOk result (λ v. view v ≡ row_data (unfolding_of program.now) (id, tree_of (unfolding_of program.now) export.now)) }
+    ensures { IfOk result
+        (λ v. view v ≡ row_data (unfolding_of program.now) (id, tree_of (unfolding_of program.now) export.now)) }
 {
     let kept = kept_value(alloc, places, &export.slots.list)?;
     let value = local_value(alloc, &export.value)?;
@@ -110,7 +116,9 @@ fn row_value(
 
 /// The object of a row.
 fn row_object(alloc: Global, id: u32, kept: Value, value: Value) -> Result<Value, AllocError>
-    ensures { IfOk result (λ v. view v ≡ object (member (codes "id") (whole_data id) (member (codes "kept") (view kept) (member (codes "value") (view value) no_members)))) }
+    ensures { IfOk result
+        (λ v. view v ≡ object (member (codes "id") (whole_data id)
+        (member (codes "kept") (view kept) (member (codes "value") (view value) no_members)))) }
 {
     json!(in alloc; {"id": id, "kept": kept, "value": value})
 }
@@ -118,7 +126,8 @@ fn row_object(alloc: Global, id: u32, kept: Value, value: Value) -> Result<Value
 /// The values of the slots that are kept, each with the place of its slot.
 fn kept_value(alloc: Global, places: &[u32], slots: &[Slot]) -> Result<Value, Memory>
     requires { length places.now ≡ length slots.now }
-    ensures { IfOk result (λ v. view v ≡ array (items_of (map placed_data (placed_slots places.now (slots_of slots.now))))) }
+    ensures { IfOk result
+        (λ v. view v ≡ array (items_of (map placed_data (placed_slots places.now (slots_of slots.now))))) }
 {
     let mut list = Vec::new(alloc);
     for i in 0..slots.len() {
@@ -129,7 +138,8 @@ fn kept_value(alloc: Global, places: &[u32], slots: &[Slot]) -> Result<Value, Me
 
 /// Puts the value of a slot behind others, with a place, if it is kept.
 fn push_kept(alloc: Global, list: &mut Vec<Value>, place: u32, slot: &Slot) -> Result<(), Memory>
-    ensures { OnOk result (map view list.new.items ≡ map view list.old.items ++ more_if slot.now.kept (placed_data (place, local_of slot.now.value)) []) }
+    ensures { OnOk result
+        (map view list.new.items ≡ map view list.old.items ++ more_if slot.now.kept (placed_data (place, local_of slot.now.value)) []) }
 {
     if slot.kept {
         list.push(placed_value(alloc, place, &slot.value)?)?;

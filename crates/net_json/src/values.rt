@@ -79,7 +79,8 @@ pub(crate) fn two_members<'v>(
     first: &str,
     second: &str,
 ) -> Option<(&'v Value, &'v Value)>
-    ensures { option_map (λ m. (view m.0.now, view m.1.now)) result ≡ two_members first.now second.now (view value.now) }
+    ensures { option_map (λ m. (view m.0.now, view m.1.now)) result ≡ two_members first.now second.now
+        (view value.now) }
 {
     if !has_size(value, 2) {
         return None;
@@ -96,7 +97,8 @@ pub(crate) fn three_members<'v>(
     second: &str,
     third: &str,
 ) -> Option<(&'v Value, (&'v Value, &'v Value))>
-    ensures { option_map (λ m. (view m.0.now, (view m.1.0.now, view m.1.1.now))) result ≡ three_members first.now second.now third.now (view value.now) }
+    ensures { option_map (λ m. (view m.0.now, (view m.1.0.now, view m.1.1.now))) result
+        ≡ three_members first.now second.now third.now (view value.now) }
 {
     if !has_size(value, 3) {
         return None;
@@ -115,7 +117,8 @@ pub(crate) fn four_members<'v>(
     third: &str,
     fourth: &str,
 ) -> Option<((&'v Value, &'v Value), (&'v Value, &'v Value))>
-    ensures { option_map (λ m. ((view m.0.0.now, view m.0.1.now), (view m.1.0.now, view m.1.1.now))) result ≡ four_members first.now second.now third.now fourth.now (view value.now) }
+    ensures { option_map (λ m. ((view m.0.0.now, view m.0.1.now), (view m.1.0.now, view m.1.1.now))) result
+        ≡ four_members first.now second.now third.now fourth.now (view value.now) }
 {
     if !has_size(value, 4) {
         return None;

@@ -6,6 +6,7 @@ use Rattle.fc_nodes.specs.Program.{Unfolding, unfolding_of}
 use Rattle.value_trees.specs.declared.copies.Near.{Near}
 use Rattle.value_trees.specs.Fitting.{IsNear, NearRises}
 use Rattle.value_trees.specs.Snaps.{near_copy}
+use Rattle.net_json.specs.PlaceCode.{path_of}
 use Rattle.net_json.specs.Judging.{in_turn, gathered}
 use Rattle.net_json.specs.Copies.{near_judged, near_number}
 use Rattle.net_json.proofs.Gathering.{rises_more, numbers_more, gathered_more, all_insert, insert_long}
@@ -25,9 +26,9 @@ loop-i-preserved c =
     let nears_are = sym c.insert-in-loop-i.ensures.items in
     record {
       whole = c.loop-i.invariant.whole
-          ∙ gathered_more (near_copy U) near_number nears ns x at same place judge c.args.path.now.text.items c.in_ok-place.place.text.items c.args.items.now c.loop-i.i c.index-items-i.result
-          c.loop-i-test.true c.index-items-i.is c.in_ok-place.ensures c.in_ok-at.ensures.ok
-          ∙ ap (λ ys. in_turn (gathered near_number judge) c.args.path.now.text.items (map (near_copy U) ys) (c.loop-i.i + 1) (items_of (map view (drop (c.loop-i.i + 1) c.args.items.now)))) nears_are;
+          ∙ gathered_more (near_copy U) near_number nears ns x at same place judge (path_of c.args.here.now) c.args.items.now c.loop-i.i c.index-items-i.result
+          c.loop-i-test.true c.index-items-i.is c.in_ok-at.ensures.ok
+          ∙ ap (λ ys. in_turn (gathered near_number judge) (path_of c.args.here.now) (map (near_copy U) ys) (c.loop-i.i + 1) (items_of (map view (drop (c.loop-i.i + 1) c.args.items.now)))) nears_are;
       same = numbers_are ∙ numbers_more (near_copy U) near_number nears ns x at same place ∙ ap (λ ys. map near_number (map (near_copy U) ys)) nears_are;
       rises = subst Rises (sym numbers_are) (rises_more ns x.device at (subst Rises (sym c.deref.ensures.value) c.loop-i.invariant.rises) place);
       near = subst (All (λ (n : Near). IsNear U c.args.device n)) nears_are (all_insert (λ (n : Near). IsNear U c.args.device n) nears at x c.in_ok-at.ensures.near c.loop-i.invariant.near);

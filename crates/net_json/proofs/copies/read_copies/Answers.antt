@@ -6,6 +6,7 @@ use Rattle.fc_nodes.specs.Program.{Unfolding, unfolding_of}
 use Rattle.value_trees.specs.declared.copies.Snap.{Snap}
 use Rattle.value_trees.specs.Snaps.{snap_copy, IsSnap}
 use Rattle.topology.specs.Networks.{Lives}
+use Rattle.net_json.specs.PlaceCode.{path_of}
 use Rattle.net_json.specs.Judging.{in_turn, gathered}
 use Rattle.net_json.specs.Copies.{copy_judged, copy_number}
 use Rattle.net_json.proofs.Gathering.{rises_more, numbers_more, gathered_more, all_insert}
@@ -26,9 +27,9 @@ loop-i-preserved c =
     let copies_are = sym c.in_ok-insert-2.ensures.items in
     record {
       whole = c.loop-i.invariant.whole
-          ∙ gathered_more (snap_copy U) copy_number copies ns x at same place judge c.args.path.now.text.items c.in_ok-place.place.text.items c.args.items.now c.loop-i.i c.index-items-i.result
-          c.loop-i-test.true c.index-items-i.is c.in_ok-place.ensures c.in_ok-at.ensures.ok
-          ∙ ap (λ ys. in_turn (gathered copy_number judge) c.args.path.now.text.items (map (snap_copy U) ys) (c.loop-i.i + 1) (items_of (map view (drop (c.loop-i.i + 1) c.args.items.now)))) copies_are;
+          ∙ gathered_more (snap_copy U) copy_number copies ns x at same place judge (path_of c.args.here.now) c.args.items.now c.loop-i.i c.index-items-i.result
+          c.loop-i-test.true c.index-items-i.is c.in_ok-at.ensures.ok
+          ∙ ap (λ ys. in_turn (gathered copy_number judge) (path_of c.args.here.now) (map (snap_copy U) ys) (c.loop-i.i + 1) (items_of (map view (drop (c.loop-i.i + 1) c.args.items.now)))) copies_are;
       same = numbers_are ∙ numbers_more (snap_copy U) copy_number copies ns x at same place ∙ ap (λ ys. map copy_number (map (snap_copy U) ys)) copies_are;
       rises = subst Rises (sym numbers_are) (rises_more ns x.device at (subst Rises (sym c.deref.ensures.value) c.loop-i.invariant.rises) place);
       there = subst (All (λ (s : Snap). Lives net s.device)) copies_are (all_insert (λ (s : Snap). Lives net s.device) copies at x c.in_ok-at.ensures.there c.loop-i.invariant.there);

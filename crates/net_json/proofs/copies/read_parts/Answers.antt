@@ -7,6 +7,7 @@ use Rattle.fc_nodes.specs.Program.{unfolding_of}
 use Rattle.value_trees.specs.Snaps.{tree_of}
 use Rattle.value_trees.proofs.Fits.{parts_fit}
 use Rattle.fc_values.specs.Inputs.{InputsFit}
+use Rattle.net_json.specs.PlaceCode.{path_of}
 use Rattle.net_json.specs.Judging.{Accepted, and_then, at_member, RefusedWith}
 use Rattle.net_json.specs.Inputs.{inputs_judged}
 use Rattle.net_json.specs.Copies.{own_judged, nears_judged}
@@ -17,20 +18,19 @@ use Rattle.net_json.proofs.copies.read_parts.Goals as goal
 pub returns-in_err-near-clause-refused : goal.returns-in_err-near-clause-refused
 returns-in_err-near-clause-refused c =
     let U = unfolding_of c.args.program.now in
-    let path = c.args.path.now.text.items in
+    let path = path_of c.args.here.now in
     let form = form_of c.args.form in
     let p = err_from_is_err_and c.from_residual-in_err-near.result c.from_residual-in_err-near.ensures.1 in
     let f = c.in_err-near.field-0.0 in
     let vs = map local_of c.in_ok-inputs.inputs.items in
     let own = option_map (tree_of U) c.in_ok-own.own in
     let declared = ap (map input_of) c.deref.ensures.value ∙ ap (λ (d : Declarations). d.inputs) c.declared-declared.ensures.value in
-    let first = ap (λ (is : List Input). inputs_judged is (at_member path (codes "inputs")) form.inputs) (sym declared) ∙ ap (λ (q : List ℕ). inputs_judged (map input_of c.deref.result.now) q form.inputs) (sym c.in_ok-place.ensures) ∙ c.in_ok-inputs.ensures.ok in
-    let second = ap (λ (q : List ℕ). own_judged U q form.own) (sym c.in_ok-place-2.ensures) ∙ c.in_ok-own.ensures.ok in
+    let first = ap (λ (is : List Input). inputs_judged is (at_member path (codes "inputs")) form.inputs) (sym declared) ∙ c.in_ok-inputs.ensures.ok in
     rw (p.1, p.2) (refused_later (inputs_judged U.declared.inputs (at_member path (codes "inputs")) form.inputs)
     (λ vs. and_then (own_judged U (at_member path (codes "own")) form.own) (λ own. and_then (nears_judged U c.args.device (at_member path (codes "near")) form.near) (λ ns. Accepted (record { device = c.args.device; inputs = vs; own = own; near = ns })))) vs f first
-    (refused_later (own_judged U (at_member path (codes "own")) form.own) (λ own. and_then (nears_judged U c.args.device (at_member path (codes "near")) form.near) (λ ns. Accepted (record { device = c.args.device; inputs = vs; own = own; near = ns }))) own f second
+    (refused_later (own_judged U (at_member path (codes "own")) form.own) (λ own. and_then (nears_judged U c.args.device (at_member path (codes "near")) form.near) (λ ns. Accepted (record { device = c.args.device; inputs = vs; own = own; near = ns }))) own f c.in_ok-own.ensures.ok
     (refused_next (nears_judged U c.args.device (at_member path (codes "near")) form.near) (λ ns. Accepted (record { device = c.args.device; inputs = vs; own = own; near = ns })) f
-    (subst (λ (q : List ℕ). RefusedWith (nears_judged U c.args.device q form.near) f) c.in_ok-place-3.ensures c.in_err-near.ensures.refused))))
+    c.in_err-near.ensures.refused)))
 
 pub returns-clause-snap : goal.returns-clause-snap
 returns-clause-snap c =

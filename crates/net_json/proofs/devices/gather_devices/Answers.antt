@@ -1,5 +1,6 @@
 use Rattle.std.proofs.Common.{length, ◌+◌, ◌∙◌, sym, ap, subst, map, drop}
 use Rattle.serde_json.specs.View.{view, items_of}
+use Rattle.net_json.specs.PlaceCode.{path_of}
 use Rattle.net_json.specs.Judging.{in_turn, gathered}
 use Rattle.std.specs.List.{All, insert}
 use Rattle.fc_values.specs.Fields.{Rises}
@@ -22,9 +23,9 @@ loop-i-preserved c =
     let numbers_are = c.in_ok-insert.ensures.items ∙ ap (λ ms. insert ms at x.id) (sym c.deref.ensures.value) in
     record {
       whole = c.loop-i.invariant.whole
-          ∙ gathered_more device_of number_of devices ns x at same place (device_judged (map input_of c.args.inputs.now)) c.args.path.now.text.items c.in_ok-place.place.text.items c.args.items.now c.loop-i.i c.index-items-i.result
-          c.loop-i-test.true c.index-items-i.is c.in_ok-place.ensures c.in_ok-at.ensures.ok
-          ∙ ap (λ ds. in_turn (gathered number_of (device_judged (map input_of c.args.inputs.now))) c.args.path.now.text.items (map device_of ds) (c.loop-i.i + 1) (items_of (map view (drop (c.loop-i.i + 1) c.args.items.now)))) (sym c.in_ok-insert-2.ensures.items);
+          ∙ gathered_more device_of number_of devices ns x at same place (device_judged (map input_of c.args.inputs.now)) (path_of c.args.here.now) c.args.items.now c.loop-i.i c.index-items-i.result
+          c.loop-i-test.true c.index-items-i.is c.in_ok-at.ensures.ok
+          ∙ ap (λ ds. in_turn (gathered number_of (device_judged (map input_of c.args.inputs.now))) (path_of c.args.here.now) (map device_of ds) (c.loop-i.i + 1) (items_of (map view (drop (c.loop-i.i + 1) c.args.items.now)))) (sym c.in_ok-insert-2.ensures.items);
       same = numbers_are ∙ numbers_more device_of number_of devices ns x at same place ∙ ap (λ ds. map number_of (map device_of ds)) (sym c.in_ok-insert-2.ensures.items);
       rises = subst Rises (sym numbers_are) (rises_more ns x.id at (subst Rises (sym c.deref.ensures.value) c.loop-i.invariant.rises) place);
       fit = subst (All (λ (d : Device). DeviceFits (map input_of c.args.inputs.now) (device_of d))) (sym c.in_ok-insert-2.ensures.items) (all_insert (λ (d : Device). DeviceFits (map input_of c.args.inputs.now) (device_of d)) devices at x c.in_ok-at.ensures.fits c.loop-i.invariant.fit);

@@ -3,6 +3,7 @@ use Rattle.std.proofs.lemmas.Bool.{eqb-false}
 use Rattle.serde_json.specs.View.{items_view}
 use Rattle.fc_values.specs.Types.{input_of}
 use Rattle.topology.specs.Networks.{device_of}
+use Rattle.net_json.specs.PlaceCode.{path_of}
 use Rattle.net_json.specs.Judging.{Accepted, Refused, Misshaped, TooManyDevices, RefusedWith, gather}
 use Rattle.net_json.specs.Reading.{count_items}
 use Rattle.net_json.specs.Devices.{device_judged, number_of}
@@ -12,7 +13,7 @@ use Rattle.net_json.proofs.devices.read_devices.Goals as goal
 
 pub returns-then-items-gt1024-clause-refused : goal.returns-then-items-gt1024-clause-refused
 returns-then-items-gt1024-clause-refused c =
-    beyond (Misshaped c.args.path.now.text.items) (TooManyDevices (count_items (items_view c.args.items.now))) (gather number_of (device_judged (map input_of c.args.inputs.now)) c.args.path.now.text.items (items_view c.args.items.now))
+    beyond (Misshaped (path_of c.args.here.now)) (TooManyDevices (count_items (items_view c.args.items.now))) (gather number_of (device_judged (map input_of c.args.inputs.now)) (path_of c.args.here.now) (items_view c.args.items.now))
     (count_items (items_view c.args.items.now)) (length c.args.items.now) (count_values c.args.items.now) c.if-items-gt1024.true
     ∙ ap (λ n. Refused (TooManyDevices n)) (count_values c.args.items.now)
 
@@ -20,7 +21,7 @@ pub returns-clause-ok : goal.returns-clause-ok
 returns-clause-ok c =
     let u = eqb-false (length c.args.items.now) 0 (sym c.if-is_empty.ensures) in
     subst (λ j. IfOk c.gather_devices.result (λ ds. j ≡ Accepted (map device_of ds.items)))
-    (sym (within (Misshaped c.args.path.now.text.items) (TooManyDevices (count_items (items_view c.args.items.now))) (gather number_of (device_judged (map input_of c.args.inputs.now)) c.args.path.now.text.items (items_view c.args.items.now))
+    (sym (within (Misshaped (path_of c.args.here.now)) (TooManyDevices (count_items (items_view c.args.items.now))) (gather number_of (device_judged (map input_of c.args.inputs.now)) (path_of c.args.here.now) (items_view c.args.items.now))
     (count_items (items_view c.args.items.now)) (length c.args.items.now) (count_values c.args.items.now) (omega (arith, u)) c.if-items-gt1024.false))
     c.gather_devices.ensures.ok
 
@@ -28,6 +29,6 @@ pub returns-clause-refused : goal.returns-clause-refused
 returns-clause-refused c =
     let u = eqb-false (length c.args.items.now) 0 (sym c.if-is_empty.ensures) in
     subst (λ j. IfErr c.gather_devices.result (RefusedWith j))
-    (sym (within (Misshaped c.args.path.now.text.items) (TooManyDevices (count_items (items_view c.args.items.now))) (gather number_of (device_judged (map input_of c.args.inputs.now)) c.args.path.now.text.items (items_view c.args.items.now))
+    (sym (within (Misshaped (path_of c.args.here.now)) (TooManyDevices (count_items (items_view c.args.items.now))) (gather number_of (device_judged (map input_of c.args.inputs.now)) (path_of c.args.here.now) (items_view c.args.items.now))
     (count_items (items_view c.args.items.now)) (length c.args.items.now) (count_values c.args.items.now) (omega (arith, u)) c.if-items-gt1024.false))
     c.gather_devices.ensures.refused

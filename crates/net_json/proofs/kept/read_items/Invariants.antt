@@ -1,5 +1,6 @@
 use Rattle.std.proofs.Common.{◌≡◌, map, drop, []}
 use Rattle.serde_json.specs.View.{view, items_of}
+use Rattle.net_json.specs.PlaceCode.{path_of}
 use Rattle.net_json.specs.Judging.{in_turn}
 use Rattle.net_json.specs.KeptItems.{kept_judged}
 use Rattle.net_json.specs.KeptCode.{kept_of, item_by}
@@ -7,5 +8,5 @@ use Rattle.net_json.proofs.kept.read_items.Given as goal
 
 abbrev pub invariant-loop-i : goal.invariant-loop-i
 invariant-loop-i l =
-    in_turn (kept_judged (item_by l.format)) l.path.text.items [] 0 (items_of (map view l.items))
-    ≡ in_turn (kept_judged (item_by l.format)) l.path.text.items (map kept_of l.found.items) l.i (items_of (map view (drop l.i l.items)))
+    in_turn (kept_judged (item_by l.format)) (path_of l.here) [] 0 (items_of (map view l.items))
+    ≡ in_turn (kept_judged (item_by l.format)) (path_of l.here) (map kept_of l.found.items) l.i (items_of (map view (drop l.i l.items)))

@@ -1,4 +1,4 @@
-use Rattle.std.proofs.Common.{◌≡◌, ℕ, List, [], sym, ◌∙◌, ap, subst, map, IfErr}
+use Rattle.std.proofs.Common.{◌≡◌, List, [], sym, ◌∙◌, ap, subst, map, IfOk, IfErr}
 use Rattle.std.specs.Prelude.{codes}
 use Rattle.std.proofs.lemmas.Result.{err_from_is_err_and}
 use Rattle.serde_json.specs.View.{items_view}
@@ -6,7 +6,7 @@ use Rattle.fc_values.specs.Types.{Input, Declarations, input_of}
 use Rattle.fc_nodes.specs.Program.{Unfolding, unfolding_of}
 use Rattle.topology.specs.Networks.{NetDevice, Network, device_of, network_of}
 use Rattle.serde_json.specs.Data.{Items}
-use Rattle.net_json.specs.Judging.{Judged, Accepted, and_then, at_member, RefusedWith}
+use Rattle.net_json.specs.Judging.{Judged, Accepted, and_then, RefusedWith}
 use Rattle.net_json.specs.Devices.{devices_judged}
 use Rattle.net_json.specs.Links.{links_judged}
 use Rattle.net_json.specs.Scenes.{scene_path, network_judged}
@@ -14,15 +14,16 @@ use Rattle.net_json.proofs.Judgements.{refused_next}
 use Rattle.net_json.proofs.networks.read_network.Goals as goal
 
 -- the devices of the definition are those of the call
-devices_are : (is js : List Input) (root path : List ℕ) (ds : Items) → is ≡ js → root ≡ [] → path ≡ at_member root (codes "devices") → devices_judged js (scene_path (codes "devices")) ds ≡ devices_judged is path ds
-devices_are is js root path ds e f g = ap (λ (ks : List Input). devices_judged ks (scene_path (codes "devices")) ds) (sym e) ∙ ap (λ (p : List ℕ). devices_judged is p ds) (sym (g ∙ ap (λ (r : List ℕ). at_member r (codes "devices")) f))
+devices_are : (is js : List Input) (ds : Items) → is ≡ js
+    → devices_judged js (scene_path (codes "devices")) ds ≡ devices_judged is (scene_path (codes "devices")) ds
+devices_are is js ds e = ap (λ (ks : List Input). devices_judged ks (scene_path (codes "devices")) ds) (sym e)
 
-links_are : (U : Unfolding) (root path : List ℕ) (ds ls : Items) (ns : List NetDevice) (n : Network) → root ≡ [] → path ≡ at_member root (codes "links") → devices_judged U.declared.inputs (scene_path (codes "devices")) ds ≡ Accepted ns → n ≡ network_of U.declared ns []
-    → network_judged U ds ls ≡ links_judged path n ls
-links_are U root path ds ls ns n f g e h =
+links_are : (U : Unfolding) (ds ls : Items) (ns : List NetDevice) (n : Network)
+    → devices_judged U.declared.inputs (scene_path (codes "devices")) ds ≡ Accepted ns → n ≡ network_of U.declared ns []
+    → network_judged U ds ls ≡ links_judged (scene_path (codes "links")) n ls
+links_are U ds ls ns n e h =
     ap (λ (j : Judged (List NetDevice)). and_then j (λ ms. links_judged (scene_path (codes "links")) (network_of U.declared ms []) ls)) e
     ∙ ap (λ (m : Network). links_judged (scene_path (codes "links")) m ls) (sym h)
-    ∙ ap (λ (p : List ℕ). links_judged p n ls) (sym (g ∙ ap (λ (r : List ℕ). at_member r (codes "links")) f))
 
 pub returns-in_err-devices-clause-refused : goal.returns-in_err-devices-clause-refused
 returns-in_err-devices-clause-refused c =
@@ -32,9 +33,23 @@ returns-in_err-devices-clause-refused c =
     let f = c.in_err-devices.field-0.0 in
     let p = err_from_is_err_and c.from_residual-in_err-devices.result c.from_residual-in_err-devices.ensures.1 in
     let inputs = ap (map input_of) c.deref.ensures.value ∙ ap (λ (d : Declarations). d.inputs) (c.in_ok-declared.ensures ∙ c.declared.ensures.value) in
-    let same = devices_are (map input_of c.deref.result.now) U.declared.inputs c.new.result.items c.in_ok-place.place.text.items ds inputs c.new.ensures.items c.in_ok-place.ensures in
+    let same = devices_are (map input_of c.deref.result.now) U.declared.inputs ds inputs in
     rw (p.1, p.2) (refused_next (devices_judged U.declared.inputs (scene_path (codes "devices")) ds) (λ ms. links_judged (scene_path (codes "links")) (network_of U.declared ms []) ls) f
     (subst (λ (j : Judged (List NetDevice)). RefusedWith j f) (sym same) c.in_err-devices.ensures.refused))
+
+pub returns-clause-ok : goal.returns-clause-ok
+returns-clause-ok c =
+    let U = unfolding_of c.args.program.now in
+    let ds = items_view c.args.devices.now in
+    let ls = items_view c.args.links.now in
+    let declared = c.in_ok-declared.ensures ∙ c.declared.ensures.value in
+    let inputs = ap (map input_of) c.deref.ensures.value ∙ ap (λ (d : Declarations). d.inputs) declared in
+    let same = devices_are (map input_of c.deref.result.now) U.declared.inputs ds inputs in
+    let ns = map device_of c.in_ok-devices.devices.items in
+    let net = c.in_ok-draft.ensures ∙ ap (λ (d : Declarations). network_of d ns []) declared in
+    subst (λ (j : Judged Network). IfOk c.read_links.result (λ n. j ≡ Accepted n))
+    (sym (links_are U ds ls ns c.in_ok-draft.draft (same ∙ c.in_ok-devices.ensures.ok) net))
+    c.read_links.ensures.ok
 
 pub returns-clause-refused : goal.returns-clause-refused
 returns-clause-refused c =
@@ -43,9 +58,9 @@ returns-clause-refused c =
     let ls = items_view c.args.links.now in
     let declared = c.in_ok-declared.ensures ∙ c.declared.ensures.value in
     let inputs = ap (map input_of) c.deref.ensures.value ∙ ap (λ (d : Declarations). d.inputs) declared in
-    let same = devices_are (map input_of c.deref.result.now) U.declared.inputs c.new.result.items c.in_ok-place.place.text.items ds inputs c.new.ensures.items c.in_ok-place.ensures in
+    let same = devices_are (map input_of c.deref.result.now) U.declared.inputs ds inputs in
     let ns = map device_of c.in_ok-devices.devices.items in
     let net = c.in_ok-draft.ensures ∙ ap (λ (d : Declarations). network_of d ns []) declared in
     subst (λ (j : Judged Network). IfErr c.read_links.result (RefusedWith j))
-    (sym (links_are U c.new.result.items c.in_ok-place-2.place.text.items ds ls ns c.in_ok-draft.draft c.new.ensures.items c.in_ok-place-2.ensures (same ∙ c.in_ok-devices.ensures.ok) net))
+    (sym (links_are U ds ls ns c.in_ok-draft.draft (same ∙ c.in_ok-devices.ensures.ok) net))
     c.read_links.ensures.refused

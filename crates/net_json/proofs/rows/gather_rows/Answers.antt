@@ -6,6 +6,7 @@ use Rattle.fc_values.specs.Fields.{Rises}
 use Rattle.fc_nodes.specs.Program.{Unfolding, unfolding_of}
 use Rattle.value_trees.specs.Snaps.{IsExportOf}
 use Rattle.topology.specs.Networks.{Lives}
+use Rattle.net_json.specs.PlaceCode.{path_of}
 use Rattle.net_json.specs.Judging.{in_turn, gathered}
 use Rattle.net_json.specs.KeptCode.{item_by}
 use Rattle.net_json.specs.SceneCode.{row_of}
@@ -28,9 +29,9 @@ loop-i-preserved c =
     let rows_are = sym c.in_ok-insert-2.ensures.items in
     record {
       whole = c.loop-i.invariant.whole
-          ∙ gathered_more (row_of U) row_number rows ns x at same place judge c.args.path.now.text.items c.in_ok-place.place.text.items c.args.items.now c.loop-i.i c.index-items-i.result
-          c.loop-i-test.true c.index-items-i.is c.in_ok-place.ensures c.in_ok-at.ensures.ok
-          ∙ ap (λ rs. in_turn (gathered row_number judge) c.args.path.now.text.items (map (row_of U) rs) (c.loop-i.i + 1) (items_of (map view (drop (c.loop-i.i + 1) c.args.items.now)))) rows_are;
+          ∙ gathered_more (row_of U) row_number rows ns x at same place judge (path_of c.args.here.now) c.args.items.now c.loop-i.i c.index-items-i.result
+          c.loop-i-test.true c.index-items-i.is c.in_ok-at.ensures.ok
+          ∙ ap (λ rs. in_turn (gathered row_number judge) (path_of c.args.here.now) (map (row_of U) rs) (c.loop-i.i + 1) (items_of (map view (drop (c.loop-i.i + 1) c.args.items.now)))) rows_are;
       same = numbers_are ∙ numbers_more (row_of U) row_number rows ns x at same place ∙ ap (λ rs. map row_number (map (row_of U) rs)) rows_are;
       rises = subst Rises (sym numbers_are) (rises_more ns x.0 at (subst Rises (sym c.deref.ensures.value) c.loop-i.invariant.rises) place);
       there = subst (All (λ (r : ℕ × Export). Lives net r.0)) rows_are (all_insert (λ (r : ℕ × Export). Lives net r.0) rows at x c.in_ok-at.ensures.there c.loop-i.invariant.there);

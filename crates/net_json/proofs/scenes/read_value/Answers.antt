@@ -20,9 +20,6 @@ returns-in_err-pending-clause-refused c =
     let form : SceneForm = record { devices = items_view c.in_ok-form.form.devices.now; links = items_view c.in_ok-form.form.links.now; table = or_empty (option_map (λ v. view v.now) c.in_ok-form.form.table); pending = items_view c.in_ok-form.form.pending.now } in
     let n = c.in_ok-net.net in
     let rows = map (row_of U) c.in_ok-table.table.items in
-    let table_path : c.in_ok-place.place.text.items ≡ scene_path (codes "table") = c.in_ok-place.ensures ∙ ap (λ (r : List ℕ). at_member r (codes "table")) c.new.ensures.items in
-    let pending_path : c.in_ok-place-2.place.text.items ≡ scene_path (codes "pending") = c.in_ok-place-2.ensures ∙ ap (λ (r : List ℕ). at_member r (codes "pending")) c.new.ensures.items in
-    let table = ap (λ (q : List ℕ). table_judged U n q form.table) (sym table_path) ∙ c.in_ok-table.ensures.ok in
     rw (p.1, p.2) (refused_later (scene_form d)
     (λ form. and_then (network_judged U form.devices form.links) (λ n. and_then (table_judged U n (scene_path (codes "table")) form.table) (λ rows. and_then (copies_judged U n (scene_path (codes "pending")) form.pending) (λ copies. Accepted (record { net = n; table = rows; pending = copies })))))
     form f c.in_ok-form.ensures.ok
@@ -31,6 +28,6 @@ returns-in_err-pending-clause-refused c =
     n f c.in_ok-net.ensures.ok
     (refused_later (table_judged U n (scene_path (codes "table")) form.table)
     (λ rows. and_then (copies_judged U n (scene_path (codes "pending")) form.pending) (λ copies. Accepted (record { net = n; table = rows; pending = copies })))
-    rows f table
+    rows f c.in_ok-table.ensures.ok
     (refused_next (copies_judged U n (scene_path (codes "pending")) form.pending) (λ copies. Accepted (record { net = n; table = rows; pending = copies })) f
-    (subst (λ (q : List ℕ). RefusedWith (copies_judged U n q form.pending) f) pending_path c.in_err-pending.ensures.refused)))))
+    c.in_err-pending.ensures.refused))))
