@@ -1,5 +1,5 @@
 -- A program has at most as many declarations as tokens.
-use Rattle.std.proofs.Common.{ℕ, ◌≡◌, ◌≤◌, List, [], ◌∷◌, length, arith}
+use Rattle.std.proofs.Common.{◌≡◌, ◌≤◌, List, length, arith}
 use Rattle.fc_lexer.specs.Kinds.{TokenView}
 use Rattle.fc_syntax.specs.Terms.{Declaration}
 use Rattle.fc_parser.specs.Programs.{Place, pieces, Follow, ended, then, Derives}

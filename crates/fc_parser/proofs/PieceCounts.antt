@@ -1,5 +1,5 @@
 -- There are at most as many pieces as tokens.
-use Rattle.std.proofs.Common.{ℕ, ◌≡◌, ◌+◌, ◌≤◌, Bool, true, false, List, [], ◌∷◌, length, arith}
+use Rattle.std.proofs.Common.{◌+◌, ◌≤◌, Bool, true, false, List, [], ◌∷◌, length, arith}
 use Rattle.std.specs.Prelude.{if◌then◌else◌}
 use Rattle.fc_lexer.specs.Kinds.{TokenView}
 use Rattle.fc_parser.specs.Programs.{is_semi, onto_piece, pieces}

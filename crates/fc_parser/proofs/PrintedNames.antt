@@ -1,16 +1,10 @@
 -- The pieces that are names.
-use Rattle.std.proofs.Common.{ℕ, ◌≡◌, Bool, true, false, ◌&&◌, ◌||◌, List, [], ◌∷◌, refl}
+use Rattle.std.proofs.Common.{ℕ, ◌≡◌, Bool, true, false, ◌||◌, List, [], ◌∷◌, refl}
 use Rattle.fc_values.specs.Names.{IsName}
 use Rattle.fc_lexer.specs.Kinds.{NameOf}
 use Rattle.fc_lexer.proofs.Letters.{is_named, letter_begins, letter_no_space, name_parts}
 use Rattle.fc_parser.proofs.PrintedRuns.{InWord, InSpace, Meets, Inner}
 use Rattle.fc_parser.proofs.PrintedWords.{letters_run}
-
-pub and_three : (a b c : Bool) → (a && b && c) ≡ true → (a ≡ true) × (b ≡ true) × (c ≡ true)
-and_three true true true h = (refl, refl, refl)
-and_three true true false h = cc
-and_three true false c h = cc
-and_three false b c h = cc
 
 pub or_two : (a b : Bool) → (a || b) ≡ false → (a ≡ false) × (b ≡ false)
 or_two false false h = (refl, refl)

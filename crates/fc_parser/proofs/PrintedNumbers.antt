@@ -1,12 +1,12 @@
 -- The pieces that are numbers.
-use Rattle.std.proofs.Common.{ℕ, suc, ◌≡◌, ◌+◌, ◌-◌, ◌*◌, ◌^◌, ◌/◌, ◌%◌, ◌<◌, ◌≤◌, Bool, true, false, ◌&&◌, ◌||◌, ◌==◌, List, [], ◌∷◌, ◌++◌, length, min, refl, ap, ◌∙◌, sym, subst, arith, length-append, decimal, if◌then◌else◌}
+use Rattle.std.proofs.Common.{ℕ, ◌≡◌, ◌+◌, ◌-◌, ◌*◌, ◌/◌, ◌%◌, ◌<◌, ◌≤◌, Bool, true, false, ◌&&◌, ◌||◌, ◌==◌, List, [], ◌∷◌, ◌++◌, length, min, refl, ap, ◌∙◌, sym, subst, arith, length-append, decimal}
 use Rattle.std.specs.List.{list_all}
 use Rattle.std.proofs.lemmas.Fmt.{decimal_by_steps}
 use Rattle.std.proofs.lemmas.List.Folds.{list_all-append}
 use Rattle.std.proofs.lemmas.Bool.Decides.{nat_tests}
 use Rattle.fc_lexer.specs.declared.bytes.Class.TheVariants.{Digit}
 use Rattle.fc_values.specs.Names.{is_digit, is_letter}
-use Rattle.fc_lexer.specs.Bytes.{begins, is_rest, is_space}
+use Rattle.fc_lexer.specs.Bytes.{begins, is_rest}
 use Rattle.fc_lexer.specs.Kinds.{NumberOf, token_kind_as, written}
 use Rattle.fc_lexer.specs.Apart.{Breaks, kind_as}
 use Rattle.fc_lexer.proofs.Digits.{digit_begins, digit_no_space, written_more}

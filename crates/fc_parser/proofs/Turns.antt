@@ -1,5 +1,5 @@
 -- Turns of the loops over pieces.
-use Rattle.std.proofs.Common.{ℕ, suc, ◌≡◌, ◌≤◌, ◌<◌, ◌+◌, ◌-◌, ◌==◌, zero, get_or, Bool, true, List, [], ◌∷◌, ◌++◌, length, refl, ap, ◌∙◌, sym, subst, arith, Some, None, append_assoc, append-nil}
+use Rattle.std.proofs.Common.{ℕ, suc, ◌≡◌, ◌≤◌, ◌+◌, ◌-◌, ◌==◌, zero, get_or, Bool, true, List, [], ◌∷◌, ◌++◌, length, refl, ap, ◌∙◌, sym, subst, arith, append_assoc, append-nil}
 use Rattle.fc_lexer.specs.declared.tokens.Token.{Token}
 use Rattle.std.proofs.lemmas.Bool.{eqb-true}
 use Rattle.std.proofs.lemmas.List.{length-map}
@@ -7,7 +7,7 @@ use Rattle.fc_lexer.specs.Apart.{view_kind}
 use Rattle.fc_lexer.specs.Kinds.{TokenKind, token_view, tokens_of}
 use Rattle.fc_syntax.specs.Terms.{Declaration}
 use Rattle.fc_parser.specs.Programs.{kinds, is_second, pieces, Place, First, AfterMain, Stands, Follow, ended, then, Derives}
-use Rattle.fc_parser.specs.Limits.{Passed, passed_by, first_passed, or_else, limit_passed}
+use Rattle.fc_parser.specs.Limits.{first_passed, limit_passed}
 use Rattle.fc_parser.specs.Faults.{line_of, last_line, IsOpen, FaultFrom, here, later, missing}
 use Rattle.fc_parser.specs.declared.places.Position.{Position}
 use Rattle.fc_parser.specs.declared.places.Position.TheVariants as position

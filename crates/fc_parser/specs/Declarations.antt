@@ -43,7 +43,11 @@ ceiling_read ts = number_read ts >>= λ n a. finish_read a >>= λ _ rest. Got (C
 
 unfoldable pub input_read : Reader Declaration
 input_read ts =
-    name_read ts >>= λ x a. mark_read mark.Colon a >>= λ _ b. input_type_read b >>= λ t c. finish_read c >>= λ _ rest. Got (InputIs x t) rest
+    name_read ts >>= λ x a.
+    mark_read mark.Colon a >>= λ _ b.
+    input_type_read b >>= λ t c.
+    finish_read c >>= λ _ rest.
+    Got (InputIs x t) rest
 
 unfoldable pub metric_read : Reader Declaration
 metric_read ts = range_read ts >>= λ r a. finish_read a >>= λ _ rest. Got (MetricIs r.least r.greatest) rest

@@ -1,5 +1,6 @@
 -- Reading an expression from the front, as a function on the kinds of tokens, and what a function of the code gives of it.
-use Rattle.std.specs.Prelude.{ℕ, zero, suc, ◌+◌, ◌-◌, ◌<◌, ◌≡◌, ◌==◌, nat_le, Bool, true, false, if◌then◌else◌, List, [], ◌∷◌, length, map, Option, Some, None, Result, Ok, Err}
+use Rattle.std.specs.Prelude.{ℕ, zero, suc, ◌+◌, ◌-◌, ◌<◌, ◌≡◌, ◌==◌, nat_le, Bool, true, false}
+use Rattle.std.specs.Prelude.{if◌then◌else◌, List, [], ◌∷◌, length, map, Option, Some, None, Result, Ok, Err}
 use Rattle.std.specs.Borrow.{Bor}
 use Rattle.std.specs.declared.alloc.Global.{Global}
 use Rattle.std.specs.declared.vec.Vec.{Vec}
@@ -13,9 +14,12 @@ use Rattle.fc_values.specs.declared.names.Word.TheVariants as word
 use Rattle.fc_lexer.specs.declared.tokens.Token.{Token}
 use Rattle.fc_lexer.specs.Kinds.{TokenKind, NumberOf, WordOf, NameOf, MarkOf, tokens_of}
 use Rattle.fc_syntax.specs.declared.tree.Expr.{Expr}
-use Rattle.fc_syntax.specs.Terms.{Term, IntTerm, TruthTerm, VarTerm, UidTerm, NbrLinkTerm, SenseTerm, ApplyTerm, NbrTerm, RepTerm, ShareTerm, IfTerm, LetTerm, CallTerm, Terms, NoTerms, MoreTerms, term_of, terms}
+use Rattle.fc_syntax.specs.Terms.{Term, IntTerm, TruthTerm, VarTerm, UidTerm, NbrLinkTerm}
+use Rattle.fc_syntax.specs.Terms.{SenseTerm, ApplyTerm, NbrTerm, RepTerm, ShareTerm, IfTerm}
+use Rattle.fc_syntax.specs.Terms.{LetTerm, CallTerm, Terms, NoTerms, MoreTerms, term_of, terms}
 use Rattle.fc_syntax.specs.Text.{builtin_strength}
 use Rattle.fc_syntax.specs.Printable.{arity, count}
+use Rattle.fc_parser.specs.declared.forms.TheConstants.{GREATEST}
 use Rattle.fc_parser.specs.Grammar.{operator, named, one, two}
 use Rattle.fc_parser.specs.Programs.{kinds}
 use Rattle.fc_parser.specs.Reading.{Read, Got, Not, ◌>>=◌, Reader}
@@ -84,7 +88,12 @@ operator_read n (k ∷ ts) = of_strength n (operator k) ts
 -- { ( NAME ) =>
 unfoldable pub binder_read : Reader (List ℕ)
 binder_read ts =
-    mark_read mark.OpenCurly ts >>= λ _ a. mark_read mark.OpenRound a >>= λ _ b. name_read b >>= λ x c. mark_read mark.CloseRound c >>= λ _ d. mark_read mark.Arrow d >>= λ _ e. Got x e
+    mark_read mark.OpenCurly ts >>= λ _ a.
+    mark_read mark.OpenRound a >>= λ _ b.
+    name_read b >>= λ x c.
+    mark_read mark.CloseRound c >>= λ _ d.
+    mark_read mark.Arrow d >>= λ _ e.
+    Got x e
 
 -- an expression between two marks
 unfoldable pub enclosed_with : Mark → Mark → Reader Term → Reader Term
@@ -133,12 +142,19 @@ fold_term false e x f = RepTerm e x f
 -- ( expr ) { ( NAME ) => expr }
 unfoldable pub fold_with : Bool → Reader Term → Reader Term
 fold_with shared inner ts =
-    enclosed_with mark.OpenRound mark.CloseRound inner ts >>= λ e a. binder_read a >>= λ x b. inner b >>= λ f c. mark_read mark.CloseCurly c >>= λ _ d. Got (fold_term shared e x f) d
+    enclosed_with mark.OpenRound mark.CloseRound inner ts >>= λ e a.
+    binder_read a >>= λ x b.
+    inner b >>= λ f c.
+    mark_read mark.CloseCurly c >>= λ _ d.
+    Got (fold_term shared e x f) d
 
 -- ( expr ) { expr } { expr }
 unfoldable pub choice_with : Reader Term → Reader Term
 choice_with inner ts =
-    enclosed_with mark.OpenRound mark.CloseRound inner ts >>= λ c a. enclosed_with mark.OpenCurly mark.CloseCurly inner a >>= λ e d. enclosed_with mark.OpenCurly mark.CloseCurly inner d >>= λ f r. Got (IfTerm c e f) r
+    enclosed_with mark.OpenRound mark.CloseRound inner ts >>= λ c a.
+    enclosed_with mark.OpenCurly mark.CloseCurly inner a >>= λ e d.
+    enclosed_with mark.OpenCurly mark.CloseCurly inner d >>= λ f r.
+    Got (IfTerm c e f) r
 
 -- expr ) or expr , expr )
 unfoldable pub bracketed_with : Reader Term → Reader Term
@@ -163,7 +179,7 @@ word_with second inner w ts = builtin_with second inner (named w) ts
 -- atom
 unfoldable pub atom_with : Bool → Reader Term → Reader Term
 atom_with second inner [] = Not
-atom_with second inner (NumberOf n ∷ ts) = if nat_le n 1000000 then Got (IntTerm n) ts else Not
+atom_with second inner (NumberOf n ∷ ts) = if nat_le n GREATEST then Got (IntTerm n) ts else Not
 atom_with second inner (WordOf w ∷ ts) = word_with second inner w ts
 atom_with second inner (NameOf x ∷ ts) = named_with inner x ts
 atom_with second inner (MarkOf mark.OpenRound ∷ ts) = bracketed_with inner ts

@@ -20,7 +20,9 @@ use Rattle.fc_lexer.specs.declared.tokens.Mark.TheVariants as mark
 use Rattle.fc_values.specs.declared.names.Word.{Word}
 use Rattle.fc_values.specs.declared.names.Word.TheVariants as word
 use Rattle.fc_lexer.specs.Kinds.{TokenKind, NumberOf, WordOf, NameOf, MarkOf}
-use Rattle.fc_syntax.specs.Terms.{Term, IntTerm, TruthTerm, VarTerm, UidTerm, NbrLinkTerm, SenseTerm, ApplyTerm, NbrTerm, RepTerm, ShareTerm, IfTerm, LetTerm, CallTerm, Terms, NoTerms, MoreTerms, Parameter, Declaration, LanguageIs, CeilingIs, InputIs, MetricIs, DefIs, MainIs}
+use Rattle.fc_syntax.specs.Terms.{Term, IntTerm, TruthTerm, VarTerm, UidTerm, NbrLinkTerm, SenseTerm, ApplyTerm}
+use Rattle.fc_syntax.specs.Terms.{NbrTerm, RepTerm, ShareTerm, IfTerm, LetTerm, CallTerm, Terms, NoTerms, MoreTerms}
+use Rattle.fc_syntax.specs.Terms.{Parameter, Declaration, LanguageIs, CeilingIs, InputIs, MetricIs, DefIs, MainIs}
 use Rattle.fc_syntax.specs.Text.{builtin_strength, left_asks}
 use Rattle.fc_syntax.specs.Printable.{IsNumber, IsOfLanguage, arity, count}
 

@@ -4,6 +4,7 @@ use Rattle.std.specs.Borrow.{Bor}
 use Rattle.fc_lexer.specs.declared.tokens.Token.{Token}
 use Rattle.fc_lexer.specs.declared.tokens.Mark.TheVariants as mark
 use Rattle.fc_lexer.specs.Kinds.{NumberOf}
+use Rattle.fc_parser.specs.declared.forms.TheConstants.{GREATEST}
 use Rattle.fc_parser.specs.declared.refused.Refused.{Refused}
 use Rattle.fc_parser.specs.declared.refused.Refused.TheVariants as refused
 use Rattle.fc_parser.specs.Reading.{Read, Got, Not, Reader, ◌>>=◌}
@@ -11,7 +12,7 @@ use Rattle.fc_parser.specs.Expressions.{kinds_of, mark_read}
 
 -- a number of the grammar
 unfoldable pub number_read : Reader ℕ
-number_read (NumberOf n ∷ rest) = if nat_le n 1000000 then Got n rest else Not
+number_read (NumberOf n ∷ rest) = if nat_le n GREATEST then Got n rest else Not
 number_read ts = Not
 
 -- no token

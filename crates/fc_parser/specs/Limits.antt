@@ -2,6 +2,7 @@
 use Rattle.std.specs.Prelude.{ℕ, ◌+◌, ◌-◌, nat_lt, max, if◌then◌else◌, List, [], ◌∷◌, length, Option, Some, None}
 use Rattle.fc_lexer.specs.declared.tokens.Mark.TheVariants as mark
 use Rattle.fc_lexer.specs.Kinds.{TokenKind, MarkOf, TokenView}
+use Rattle.fc_parser.specs.declared.limits.TheConstants.{MOST_TOKENS, MOST_BRACKETS}
 use Rattle.fc_parser.specs.Programs.{kinds, pieces}
 
 -- the open brackets after a token, of those before it
@@ -25,8 +26,8 @@ pub data Passed : Type 0 where
 -- the limit that a declaration passes: tokens before brackets
 abbrev pub passed_by : ℕ → List TokenView → Option Passed
 passed_by number piece =
-    if nat_lt 4096 (length piece) then Some (TooMany number (length piece)) else
-    (if nat_lt 200 (deepest 0 (kinds piece)) then Some (TooDeep number) else None)
+    if nat_lt MOST_TOKENS (length piece) then Some (TooMany number (length piece)) else
+    (if nat_lt MOST_BRACKETS (deepest 0 (kinds piece)) then Some (TooDeep number) else None)
 
 -- the first of two, if there is one
 abbrev pub or_else : Option Passed → Option Passed → Option Passed

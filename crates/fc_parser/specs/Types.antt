@@ -14,7 +14,11 @@ use Rattle.fc_parser.specs.Expressions.{if_got, mark_read, name_read}
 -- two types and the brackets' end, after `(`
 abbrev pub pair_with : Reader LocalType → Reader LocalType
 pair_with inner ts =
-    inner ts >>= λ s a. mark_read mark.Comma a >>= λ _ b. inner b >>= λ t c. mark_read mark.CloseRound c >>= λ _ rest. Got (PairType s t) rest
+    inner ts >>= λ s a.
+    mark_read mark.Comma a >>= λ _ b.
+    inner b >>= λ t c.
+    mark_read mark.CloseRound c >>= λ _ rest.
+    Got (PairType s t) rest
 
 -- a local type, where the types in its brackets are read by this
 abbrev pub local_with : Reader LocalType → Reader LocalType

@@ -4,19 +4,18 @@ ghost use Rattle.std.specs.Prelude.{◌≡◌, ◌<◌, ◌^◌, length};
 ghost use Rattle.fc_syntax.specs.Terms.{declaration_of, term_of};
 ghost use Rattle.fc_parser.specs.Expressions.{kinds_of};
 ghost use Rattle.fc_parser.specs.Heads.{Gives, GivesWhole, finish_read, number_read};
-ghost use Rattle.fc_parser.specs.Declarations.{Range, body_read, ceiling_read, declaration_read, definition_read, input_read, input_type_read, language_read, main_read, metric_read, range_of, range_read};
+ghost use Rattle.fc_parser.specs.Declarations.{Range, body_read, ceiling_read, declaration_read};
+ghost use Rattle.fc_parser.specs.Declarations.{definition_read, input_read, input_type_read};
+ghost use Rattle.fc_parser.specs.Declarations.{language_read, main_read, metric_read, range_of, range_read};
 
 use crate::expressions::expression;
-use crate::forms::{copy_name, expect, name};
+use crate::forms::{GREATEST, copy_name, expect, name};
 use crate::refused::Refused;
 use crate::types::{parameters, value_type};
 use fc_lexer::{Kind, Mark, Token, Word};
 use fc_syntax::{Decl, Expr};
 use fc_values::InputTy;
 use std::alloc::Global;
-
-// The greatest number of a program.
-const GREATEST: u32 = 1_000_000;
 
 /// The declaration that the tokens of a piece are, in language 2 or 1.
 #[tactic(auto, unfolding(crate::specs::Declarations::declaration_read, crate::specs::Declarations::main_read))]

@@ -4,20 +4,20 @@ ghost use Rattle.std.specs.Prelude.{◌≡◌, ◌<◌, ◌≤◌, ◌^◌, leng
 ghost use Rattle.fc_lexer.specs.Kinds.{tokens_of};
 ghost use Rattle.fc_syntax.specs.Terms.{term_of};
 ghost use Rattle.fc_parser.specs.Programs.{kinds};
-ghost use Rattle.fc_parser.specs.Expressions.{GivesArguments, GivesBinding, GivesExpression, arguments_with, atom_with, binding_with, bracketed_with, builtin_with, choice_with, enclosed_with, expression_at, expression_read, fold_with, kinds_of, nested, operations_with, unary_with, word_with};
+ghost use Rattle.fc_parser.specs.Expressions.{GivesArguments, GivesBinding, GivesExpression, arguments_with};
+ghost use Rattle.fc_parser.specs.Expressions.{atom_with, binding_with, bracketed_with, builtin_with, choice_with};
+ghost use Rattle.fc_parser.specs.Expressions.{enclosed_with, expression_at, expression_read, fold_with};
+ghost use Rattle.fc_parser.specs.Expressions.{kinds_of, nested, operations_with, unary_with, word_with};
 
 use crate::forms::{
-    after_let, apply_two, arity, binder, builtin_of, copy_name, expect, expect_in, has_builtin,
-    mark, name, negate, nots, operator,
+    GREATEST, after_let, apply_two, arity, binder, builtin_of, copy_name, expect, expect_in,
+    has_builtin, mark, name, negate, nots, operator,
 };
 use crate::refused::Refused;
 use fc_lexer::{Kind, Mark, Token, Word};
 use fc_syntax::Expr;
 use fc_values::{Builtin, Memory, Name};
 use std::alloc::Global;
-
-// The greatest number of a program.
-const GREATEST: u32 = 1_000_000;
 
 // The strength of a comparison.
 const COMPARISON: u32 = 3;

@@ -4,7 +4,9 @@ ghost use Rattle.std.specs.Prelude.{◌≡◌, IfOk, true, ◌+◌, ◌≤◌, l
 ghost use Rattle.fc_lexer.specs.Kinds.{kind_view};
 ghost use Rattle.fc_syntax.specs.Printable.{arity as arity_of};
 ghost use Rattle.fc_syntax.specs.Terms.{ApplyTerm, term_of};
-ghost use Rattle.fc_parser.specs.Expressions.{GivesAfter, GivesName, GivesOperator, GivesRest, after_nots, binder_read, count_nots, has_builtin as has, in_read, kinds_of, let_read, mark_read, name_read, negated, not_read, operator_read};
+ghost use Rattle.fc_parser.specs.Expressions.{GivesAfter, GivesName, GivesOperator, GivesRest, after_nots};
+ghost use Rattle.fc_parser.specs.Expressions.{binder_read, count_nots, has_builtin as has, in_read, kinds_of};
+ghost use Rattle.fc_parser.specs.Expressions.{let_read, mark_read, name_read, negated, not_read, operator_read};
 ghost use Rattle.fc_parser.specs.Grammar.{named, one, operator as operator_of_kind, two};
 
 use crate::refused::Refused;
@@ -12,6 +14,9 @@ use fc_lexer::{Kind, Mark, Token, Word};
 use fc_syntax::{Expr, builtin_strength};
 use fc_values::{Builtin, Memory, Name};
 use std::alloc::Global;
+
+/// The greatest number of a program.
+pub const GREATEST: u32 = 1_000_000;
 
 /// What follows this mark, if it stands in front.
 #[tactic(auto, unfolding(crate::specs::Expressions::mark_read))]

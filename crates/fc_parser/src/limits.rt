@@ -5,16 +5,17 @@ ghost use Rattle.fc_lexer.specs.Kinds.{kind_view, tokens_of};
 ghost use Rattle.fc_parser.specs.Expressions.{kinds_of};
 ghost use Rattle.fc_parser.specs.Limits.{deepest, limit_passed, open_after as brackets_after};
 ghost use Rattle.fc_parser.specs.Places.{PassesLimit};
+ghost use Rattle.fc_parser.specs.declared.limits.TheConstants.{MOST_BRACKETS};
 
 use crate::ParseFault;
 use crate::pieces::first_piece;
 use fc_lexer::{Kind, Mark, Token};
 
-// The most tokens of a declaration.
-const MOST_TOKENS: usize = 4096;
+/// The most tokens of a declaration.
+pub const MOST_TOKENS: usize = 4096;
 
-// The most brackets that are open at one place of a declaration.
-const MOST_BRACKETS: usize = 200;
+/// The most brackets that are open at one place of a declaration.
+pub const MOST_BRACKETS: usize = 200;
 
 /// Each declaration keeps the limits, or this is the first one that passes one.
 pub fn judge_limits(tokens: &[Token]) -> Result<(), ParseFault>
@@ -45,7 +46,7 @@ pub fn judge_limits(tokens: &[Token]) -> Result<(), ParseFault>
 
 // Whether more brackets than the limit are open at one place.
 fn is_deep(tokens: &[Token]) -> bool
-    ensures { IsTrue result ↔ (200 < deepest 0 (kinds_of tokens.now)) }
+    ensures { IsTrue result ↔ (MOST_BRACKETS < deepest 0 (kinds_of tokens.now)) }
 {
     let mut depth: usize = 0;
     for token in tokens {
@@ -59,7 +60,7 @@ fn is_deep(tokens: &[Token]) -> bool
 
 // The open brackets after a token, of those before it.
 fn open_after(before: usize, kind: &Kind) -> usize
-    requires { before ≤ 200 }
+    requires { before ≤ MOST_BRACKETS }
     ensures { result ≡ brackets_after before (kind_view kind.now) }
 {
     match kind {

@@ -84,10 +84,10 @@ fn programs(rt: HostRuntime) -> Result<(), Fail> {
     let text = b"ceiling 10 ; main=(1+2)*sumHood(nbr{ 1 });";
     let printed = b"ceiling 10;\nmain = (1 + 2) * sumHood(nbr{1});\n";
     assert!(rt; is_printed_as(alloc, text, printed));
-    let text =
-        b"language 02;ceiling 10;input s:bool;input w:int 0..5;metric 1..9;def f(a:int,g:field (int,bool)):bool=true;def h():int=1;main=share(1){(x)=>h()};";
-    let printed =
-        b"language 2;\nceiling 10;\ninput s: bool;\ninput w: int 0..5;\nmetric 1..9;\ndef f(a: int, g: field (int, bool)): bool = true;\ndef h(): int = 1;\nmain = share(1){(x) => h()};\n";
+    let text = b"language 02;ceiling 10;input s:bool;input w:int 0..5;metric 1..9;\
+        def f(a:int,g:field (int,bool)):bool=true;def h():int=1;main=share(1){(x)=>h()};";
+    let printed = b"language 2;\nceiling 10;\ninput s: bool;\ninput w: int 0..5;\nmetric 1..9;\n\
+        def f(a: int, g: field (int, bool)): bool = true;\ndef h(): int = 1;\nmain = share(1){(x) => h()};\n";
     assert!(rt; is_printed_as(alloc, text, printed));
     Ok(())
 }
