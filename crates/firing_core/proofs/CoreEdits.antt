@@ -12,7 +12,6 @@ use Rattle.fc_nodes.specs.Program.{Program, Unfolding}
 use Rattle.fc_nodes.specs.Flat.{IsExport, tree_export}
 use Rattle.value_trees.specs.declared.copies.Snap.{Snap}
 use Rattle.value_trees.specs.Snaps.{tree_of, snap_copy}
-use Rattle.topology.specs.declared.types.NetFault.{NetFault}
 use Rattle.topology.specs.declared.types.NetFault.TheVariants as fault
 use Rattle.topology.specs.Networks.{NetDevice, Network, numbers, lives, Lives, IsNetwork}
 use Rattle.fc_values.specs.Fields.{is_in}
@@ -333,13 +332,6 @@ leave_allowed v d e f =
     let a = p.0 in
     let b = q.0 in
     rw (a, f, b) refl
-
-pub leave_refused : (v : CoreValue) (d : ℕ) (g : NetFault) → leave_fault v.net d ≡ Some g → (core_of v).flying d ≡ None → edit_fault (core_of v) (LeaveEdit d) ≡ Some g
-leave_refused v d g e f = by_test (lives v.net d) refl e
-  where
-    by_test : (b : Bool) → lives v.net d ≡ b → leave_fault v.net d ≡ Some g → edit_fault (core_of v) (LeaveEdit d) ≡ Some g
-    by_test true t e = rw (t, f) (rw t at e)
-    by_test false t e = rw t (rw t at e)
 
 pub leave_in_flight : (v : CoreValue) (d : ℕ) (s : Copy) → Lives v.net d → (core_of v).flying d ≡ Some s → edit_fault (core_of v) (LeaveEdit d) ≡ Some fault.InFlight
 leave_in_flight v d s l f = rw (l, f) refl

@@ -1,5 +1,5 @@
 -- What rooms hold: exports of one shape, and copies without exports.
-use Rattle.std.proofs.Common.{◌≡◌, ℕ, zero, suc, ◌<◌, ◌≤◌, List, [], ◌∷◌, ◌++◌, length, map, take, drop, get_or, refl, sym, ◌∙◌, ap, subst, arith, Option, Some, None}
+use Rattle.std.proofs.Common.{◌≡◌, ℕ, zero, suc, ◌<◌, ◌≤◌, List, [], ◌∷◌, ◌++◌, length, map, take, drop, get_or, refl, sym, ◌∙◌, ap, subst, arith, Some, None}
 use Rattle.std.specs.Prelude.{slice_set}
 use Rattle.fc_values.specs.declared.values.Local.{Local}
 use Rattle.fc_values.specs.declared.exports.Export.{Export}
@@ -22,7 +22,7 @@ use Rattle.value_trees.specs.Shapes.{IsShaped}
 use Rattle.value_trees.proofs.Forms.{fits_form}
 use Rattle.fc_nodes.specs.Layouts.{LayoutValue, IsLayout, blank_slots}
 use Rattle.fc_nodes.proofs.Blanks.{have_forms}
-use Rattle.firing_core.specs.Rooms.{SpareValue, AllShaped, IsSpare, types_of, declared_types, IsBlank, owns}
+use Rattle.firing_core.specs.Rooms.{SpareValue, AllShaped, IsSpare, types_of, declared_types, IsBlank}
 use Rattle.fc_values.proofs.Forms.{same_form}
 
 -- ---- values of one type
@@ -156,8 +156,3 @@ declared_forms D is e = go is ∙ ap (map (λ (i : Input). input_type i.type)) e
 pub near_front : (U : Unfolding) (xs : List Near) (n : Near) → NearAreExports U (xs ++ n ∷ []) → NearAreExports U xs × IsExportOf U n.export
 near_front U [] n a = (tt, a.0)
 near_front U (x ∷ xs) n a = let r = near_front U xs n a.1 in ((a.0, r.0), r.1)
-
--- a device has one export at most
-pub owns_few : (o : Option Export) → owns o ≤ 1
-owns_few None = omega arith
-owns_few (Some e) = omega arith

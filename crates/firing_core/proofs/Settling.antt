@@ -1,5 +1,5 @@
 -- Flights that are ended one after another.
-use Rattle.std.proofs.Common.{◌≡◌, ℕ, zero, suc, ◌<◌, List, [], ◌∷◌, ◌++◌, length, map, get_or, take, drop, refl, sym, ◌∙◌, ap, subst, append-nil, arith, Bool, true, false, nat_eq, if◌then◌else◌, Option, Some, None, is_some}
+use Rattle.std.proofs.Common.{◌≡◌, ℕ, zero, suc, ◌<◌, List, [], ◌∷◌, ◌++◌, length, map, get_or, take, drop, refl, sym, ◌∙◌, ap, subst, arith, Bool, true, false, nat_eq, if◌then◌else◌, Option, Some, None, is_some}
 use Rattle.std.specs.Prelude.{◌||◌}
 use Rattle.std.proofs.lemmas.Bool.{eqb-true}
 use Rattle.std.proofs.lemmas.List.{map-append, append_assoc, take-append-drop, length-map}
@@ -91,10 +91,6 @@ rooms_join (x ∷ xs) ys set = rooms_join xs ys (rooms_after x set)
 
 entries_join : (xs ys : List ℕ) → entries_of (ends_of (xs ++ ys)) ≡ entries_of (ends_of xs) ++ entries_of (ends_of ys)
 entries_join xs ys = ap entries_of (map-append (λ d. entry.End d) xs ys) ∙ map-append entry_of (ends_of xs) (ends_of ys)
-
--- none of no devices
-pub ends_none : (b : BookValue) → EndsFlights b b []
-ends_none b = record { program = refl; start = refl; log = sym (append-nil b.log); run = refl; rooms = refl }
 
 pub ends_more : (old mid new : BookValue) (xs ys : List ℕ) → EndsFlights old mid xs → EndsFlights mid new ys → EndsFlights old new (xs ++ ys)
 ends_more old mid new xs ys f g = record {

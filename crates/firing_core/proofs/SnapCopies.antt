@@ -61,7 +61,3 @@ module _ (U : Unfolding) where
     own = own_export s.own t.own h.own k.own;
     near = near_exports s.near.items t.near.items h.near k.near;
   }
-
--- an optional reference to an export is the export
-pub borrowed_own : {A B : Type 0} (f : A → B) (x y : Option A) → x ≡ y → option_map f x ≡ option_map f y
-borrowed_own f x y e = ap (option_map f) e

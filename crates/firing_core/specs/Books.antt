@@ -24,6 +24,9 @@ pub record BookValue : Type 0 where
   pub core : CoreValue
   pub spare : ℕ
 
+abbrev pub book_with : Program → CoreValue → List Entry → CoreValue → ℕ → BookValue
+book_with p start log core spare = record { program = p; start = start; log = log; core = core; spare = spare }
+
 -- the start is good, and the log leads from it to the core
 pub record IsBook (b : BookValue) : Type 0 where
   pub started : b.start.program ≡ b.program

@@ -1,5 +1,6 @@
 -- What contracts see of a core in code: one slot for each device, in the order of the network.
-use Rattle.std.specs.Prelude.{ℕ, Bool, true, ◌≡◌, List, [], ◌∷◌, map, length, nat_eq, if◌then◌else◌, Option, Some, None, is_some, option_map}
+use Rattle.std.specs.Prelude.{ℕ, Bool, true, ◌≡◌, List, [], ◌∷◌, map, length, nat_eq, if◌then◌else◌}
+use Rattle.std.specs.Prelude.{Option, Some, None, is_some, option_map}
 use Rattle.fc_values.specs.declared.exports.Export.{Export}
 use Rattle.fc_nodes.specs.Program.{Program, Unfolding, unfolding_of}
 use Rattle.fc_values.specs.Exports.{FlatExport, export_of}
@@ -7,10 +8,11 @@ use Rattle.fc_values.specs.Trees.{Copy}
 use Rattle.value_trees.specs.declared.copies.Near.{Near}
 use Rattle.value_trees.specs.declared.copies.Snap.{Snap}
 use Rattle.value_trees.specs.Copies.{WhereSome}
-use Rattle.value_trees.specs.Snaps.{tree_of, snap_copy, IsExportOf, IsSnap}
-use Rattle.topology.specs.Networks.{Network, IsNetwork, numbers}
+use Rattle.value_trees.specs.Snaps.{tree_of, snap_copy, near_copy, IsExportOf, IsSnap}
+use Rattle.topology.specs.Networks.{Network, IsNetwork, numbers, near}
 use Rattle.device_eval.specs.Firing.{FiredValue}
-use Rattle.firing_core.specs.Cores.{Map, put, Core}
+use Rattle.firing_core.specs.Entries.{EditValue}
+use Rattle.firing_core.specs.Cores.{Map, put, Core, Edits, near_copies}
 use Rattle.firing_core.specs.Rooms.{SpareValue, IsRest}
 
 pub record CoreValue : Type 0 where
@@ -19,6 +21,9 @@ pub record CoreValue : Type 0 where
   pub exports : List (Option Export)
   pub flying : List (Option Snap)
   pub rooms : List (Option SpareValue)
+
+abbrev pub core_with : Program → Network → List (Option Export) → List (Option Snap) → List (Option SpareValue) → CoreValue
+core_with p n xs ss rs = record { program = p; net = n; exports = xs; flying = ss; rooms = rs }
 
 -- a neighbour in a copy, as plain values
 abbrev pub near_view : Near → ℕ × ℕ × FlatExport
@@ -40,6 +45,21 @@ core_of c = record {
   exports = slot_at (numbers c.net.devices) (map (option_map (tree_of (program_of c))) c.exports);
   flying = slot_at (numbers c.net.devices) (map (option_map (snap_copy (program_of c))) c.flying);
 }
+
+-- an edit leads from a core to another
+abbrev pub Edited : CoreValue → EditValue → CoreValue → Type 0
+Edited old e new = Edits (program_of old) (core_of old) e (core_of new)
+
+-- the copies of those neighbours of a device that have an export
+abbrev pub AreNear : CoreValue → ℕ → List Near → Type 0
+AreNear c d ns = map (near_copy (program_of c)) ns ≡ near_copies (core_of c).exports (near c.net d)
+
+-- flights stand for the same copies
+abbrev pub SameFlight : Unfolding → Option Snap → Option Snap → Type 0
+SameFlight U s t = option_map (snap_copy U) s ≡ option_map (snap_copy U) t
+
+abbrev pub SameFlights : Unfolding → List (Option Snap) → List (Option Snap) → Type 0
+SameFlights U ss ts = map (option_map (snap_copy U)) ss ≡ map (option_map (snap_copy U)) ts
 
 abbrev pub AllExports : Unfolding → List (Option Export) → Type 0
 AllExports U [] = Unit {0}

@@ -9,7 +9,8 @@ use Rattle.topology.specs.declared.types.NetFault.{NetFault}
 use Rattle.topology.specs.declared.types.NetFault.TheVariants as fault
 use Rattle.topology.specs.Networks.{Network, IsNetwork, lives, Lives, inputs_in, near}
 use Rattle.topology.specs.Changes.{first_fault, link_fault, linked, unlink_fault, unlinked, set_fault, with_input, join_fault, joined, left}
-use Rattle.firing_core.specs.Entries.{EditValue, LinkEdit, UnlinkEdit, SetEdit, PokeEdit, JoinEdit, LeaveEdit, EntryValue, BeginEntry, EndEntry, IdleEntry, EditEntry}
+use Rattle.firing_core.specs.Entries.{EditValue, LinkEdit, UnlinkEdit, SetEdit, PokeEdit, JoinEdit}
+use Rattle.firing_core.specs.Entries.{LeaveEdit, EntryValue, BeginEntry, EndEntry, IdleEntry, EditEntry}
 
 -- a finite map from devices, read by look-up
 abbrev pub Map : Type 0 → Type 0

@@ -36,4 +36,6 @@ pub record Covers (live : List ℕ) (part : List EntryValue) : Type 0 where
 -- a log without an edit that is so many covering parts and a rest
 abbrev pub HasRounds : List ℕ → List EntryValue → ℕ → Type 0
 HasRounds live log zero = has_edit log ≡ false
-HasRounds live log (suc k) = (part : List EntryValue) × (rest : List EntryValue) × (log ≡ part ++ rest) × Covers live part × HasRounds live rest k
+HasRounds live log (suc k) =
+    (part : List EntryValue) × (rest : List EntryValue)
+    × (log ≡ part ++ rest) × Covers live part × HasRounds live rest k

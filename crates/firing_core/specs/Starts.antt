@@ -14,6 +14,13 @@ abbrev pub look_up : {X Y : Type 0} → (X → ℕ) → (X → Y) → List X →
 look_up key value [] d = None
 look_up key value (x ∷ xs) d = if nat_eq d (key x) then Some (value x) else look_up key value xs d
 
+-- the first export of a device, and the first copy that names it
+abbrev pub export_in : List (ℕ × Export) → Map Export
+export_in table = look_up (λ (e : ℕ × Export). e.0) (λ (e : ℕ × Export). e.1) table
+
+abbrev pub flight_in : List Snap → Map Snap
+flight_in pending = look_up (λ (s : Snap). s.device) (λ (s : Snap). s) pending
+
 -- the devices of a table, and those that copies name
 abbrev pub owners : List (ℕ × Export) → List ℕ
 owners table = map (λ (e : ℕ × Export). e.0) table

@@ -26,15 +26,15 @@ impl Model for Book {
     ghost use Rattle.fc_values.specs.Codes.{local_value_code};
     ghost use Rattle.fc_values.specs.contracts.values.Local as local;
     ghost use Rattle.fc_values.specs.contracts.types.LocalTy as local_ty;
-    ghost use Rattle.firing_core.specs.Books.{BookValue, IsBook};
+    ghost use Rattle.firing_core.specs.Books.{BookValue, IsBook, book_with};
 
     ghost Value = { BookValue };
 
     ghost coded = { Prim.hlevel (codes, local_value_code, local.the_row.coded, local_ty.the_row.coded) };
 
-    ghost view = { λ b. record { program = b.program.value; start = b.start; log = b.log.items; core = b.core; spare = vec_capacity b.log - vec_len b.log } };
+    ghost view = { λ b. book_with b.program.value b.start b.log.items b.core (vec_capacity b.log - vec_len b.log) };
 
-    ghost invariant = { λ b. IsBook (record { program = b.program.value; start = b.start; log = b.log.items; core = b.core; spare = vec_capacity b.log - vec_len b.log }) };
+    ghost invariant = { λ b. IsBook (book_with b.program.value b.start b.log.items b.core (vec_capacity b.log - vec_len b.log)) };
 }
 
 impl Book {
@@ -46,7 +46,8 @@ impl Book {
     ghost use Rattle.firing_core.specs.Rooms.{IsRoom};
     ghost use Rattle.firing_core.specs.Replays.{fault_of, net_fault_of, EntryFits};
     ghost use Rattle.firing_core.specs.CoreViews.{core_of, rooms_of, mark, FiresFlight, FliesInRoom, Publishes};
-    ghost use Rattle.firing_core.specs.Books.{IsBook, IsSameBook, AppendsEntry, HasFault, RefusesEntry, EndsFlights, EndsSome, fliers, in_flight, rooms_after};
+    ghost use Rattle.firing_core.specs.Books.{IsBook, IsSameBook, AppendsEntry, RefusesEntry};
+    ghost use Rattle.firing_core.specs.Books.{EndsFlights, EndsSome, fliers, in_flight, rooms_after};
     ghost use Rattle.firing_core.specs.Refusals.{RefusesEdit};
     ghost use Rattle.firing_core.specs.declared.entries.Entry.TheVariants as entry;
     ghost use Rattle.firing_core.specs.declared.entries.StepFault.TheVariants as fault;
@@ -121,7 +122,8 @@ impl Book {
         ensures ok { OnOk result (AppendsEntry self.old self.new (entry.Begin device)) }
         ensures spare { OnOk result (self.new.spare + 1 ≡ self.old.spare) }
         ensures rooms { rooms_of self.new.core ≡ rooms_of self.old.core }
-        ensures no_device { IsErrOf result StepFault.NoDevice ↔ (fault_of (core_of self.old.core) (BeginEntry device) ≡ Some fault.NoDevice) }
+        ensures no_device { IsErrOf result StepFault.NoDevice
+            ↔ (fault_of (core_of self.old.core) (BeginEntry device) ≡ Some fault.NoDevice) }
         ensures flying { IsErrOf result StepFault.Flying ↔ (fault_of (core_of self.old.core) (BeginEntry device) ≡ Some fault.Flying) }
         ensures never { IsErrOf result StepFault.NotFlying → ⊥ }
         ensures err { OnErr result (self.new ≡ self.old) }
@@ -137,7 +139,8 @@ impl Book {
         requires room { IsRoom (unfolding_of self.old.program) room }
         ensures ok { OnOk result (AppendsEntry self.old self.new (entry.Begin device)) }
         ensures spare { OnOk result (self.new.spare + 1 ≡ self.old.spare) }
-        ensures copy { IfOk result (λ s. snap_copy (unfolding_of self.old.program) s ≡ copy_of self.old.core.net (core_of self.old.core).exports device) }
+        ensures copy { IfOk result (λ s. snap_copy (unfolding_of self.old.program) s
+            ≡ copy_of self.old.core.net (core_of self.old.core).exports device) }
         ensures snap { IfOk result (IsSnap (unfolding_of self.old.program)) }
         ensures rooms { OnOk result (rooms_of self.new.core ≡ mark (rooms_of self.old.core) device true) }
         ensures refused { IfErr result (λ e. fault_of (core_of self.old.core) (BeginEntry device) ≡ Some e.1) }
@@ -301,7 +304,8 @@ pub fn replay(
     ensures start { IfOk result (λ b. core_of b.start ≡ core_of start) }
     ensures log { IfOk result (λ b. b.log ≡ log.items) }
     ensures rooms { IfOk result (λ b. rooms_of b.core ≡ rooms_along (entries_of log.items) (rooms_of start)) }
-    ensures core { IfOk result (λ b. replay_of (unfolding_of program.now.value) (core_of start) (entries_of log.items) ≡ Some (core_of b.core)) }
+    ensures core { IfOk result (λ b.
+        replay_of (unfolding_of program.now.value) (core_of start) (entries_of log.items) ≡ Some (core_of b.core)) }
     ensures refused { IfErr result (FailsReplay (unfolding_of program.now.value) (core_of start) (entries_of log.items)) }
     ensures stuck { IfErr result (IsStuckReplay (unfolding_of program.now.value) (core_of start) (entries_of log.items)) }
 {

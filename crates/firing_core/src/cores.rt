@@ -33,27 +33,30 @@ impl Model for Core {
     ghost use Rattle.fc_values.specs.Codes.{local_value_code};
     ghost use Rattle.fc_values.specs.contracts.values.Local as local;
     ghost use Rattle.fc_values.specs.contracts.types.LocalTy as local_ty;
-    ghost use Rattle.firing_core.specs.CoreViews.{CoreValue, IsCore};
+    ghost use Rattle.firing_core.specs.CoreViews.{CoreValue, IsCore, core_with};
 
     ghost Value = { CoreValue };
 
     ghost coded = { Prim.hlevel (codes, local_value_code, local.the_row.coded, local_ty.the_row.coded) };
 
-    ghost view = { λ c. record { program = c.program.value; net = c.net; exports = c.exports.items; flying = c.flying.items; rooms = c.rooms.items } };
+    ghost view = { λ c. core_with c.program.value c.net c.exports.items c.flying.items c.rooms.items };
 
-    ghost invariant = { λ c. IsCore (record { program = c.program.value; net = c.net; exports = c.exports.items; flying = c.flying.items; rooms = c.rooms.items }) };
+    ghost invariant = { λ c. IsCore (core_with c.program.value c.net c.exports.items c.flying.items c.rooms.items) };
 }
 
 impl Core {
-    ghost use Rattle.std.specs.Prelude.{◌≡◌, ◌↔◌, ◌<◌, ℕ, IfOk, OnOk, OnErr, IfErr, IfSome, IfNone, IsErrOf, IsSome, Some, None, true, false, option_copied, option_map, length, slice_index, map, ◌≤◌};
+    ghost use Rattle.std.specs.Prelude.{◌≡◌, ◌↔◌, ◌<◌, ℕ, IfOk, OnOk, OnErr, IfErr, IfSome};
+    ghost use Rattle.std.specs.Prelude.{IsErrOf, Some, None, false};
+    ghost use Rattle.std.specs.Prelude.{option_map, length, slice_index, ◌≤◌};
     ghost use Rattle.fc_nodes.specs.Program.{unfolding_of};
-    ghost use Rattle.value_trees.specs.Snaps.{snap_copy, tree_of, near_copy, NearAreExports, IsSnap, IsExportOf};
-    ghost use Rattle.topology.specs.Networks.{lives, numbers, device_of, near as near_of};
-    ghost use Rattle.firing_core.specs.Cores.{Step, IsGood, Edits, EditFits, edit_fault, copy_of, near_copies};
+    ghost use Rattle.value_trees.specs.Snaps.{snap_copy, tree_of, NearAreExports, IsSnap, IsExportOf};
+    ghost use Rattle.topology.specs.Networks.{numbers, device_of};
+    ghost use Rattle.firing_core.specs.Cores.{Step, IsGood, EditFits, edit_fault, copy_of};
     ghost use Rattle.firing_core.specs.Replays.{fault_of};
-    ghost use Rattle.firing_core.specs.CoreViews.{core_of, program_of, IsCore, IsSameCore, rooms_of, mark, FiresFlight, Publishes};
+    ghost use Rattle.firing_core.specs.CoreViews.{core_of, program_of, IsCore, IsSameCore, Edited, AreNear, rooms_of, mark, FiresFlight, Publishes};
     ghost use Rattle.firing_core.specs.Starts.{started, IsTable, IsPending};
-    ghost use Rattle.firing_core.specs.Entries.{BeginEntry, EndEntry, LinkEdit, UnlinkEdit, SetEdit, PokeEdit, JoinEdit, LeaveEdit, edit_of};
+    ghost use Rattle.firing_core.specs.Entries.{BeginEntry, EndEntry, LinkEdit, UnlinkEdit};
+    ghost use Rattle.firing_core.specs.Entries.{SetEdit, PokeEdit, JoinEdit, LeaveEdit, edit_of};
     ghost use Rattle.firing_core.specs.Refusals.{RefusesEdit};
     ghost use Rattle.fc_values.specs.Values.{local_of};
     ghost use Rattle.fc_values.specs.Exports.{export_of};
@@ -170,7 +173,7 @@ impl Core {
 
     // The neighbours of a device that have an export.
     fn near(&self, alloc: Global, device: u32) -> Result<ArrayVec<Near, 32, Global>, Memory>
-        ensures near { IfOk result (λ ns. map (near_copy (program_of self.now)) ns.items ≡ near_copies (core_of self.now).exports (near_of self.now.net device)) }
+        ensures near { IfOk result (λ ns. AreNear self.now device ns.items) }
         ensures exports { IfOk result (λ ns. NearAreExports (program_of self.now) ns.items) }
         ensures few { IfOk result (λ ns. length ns.items ≤ 32) }
     {
@@ -243,7 +246,7 @@ impl Core {
     /// Edits the core. Copies in flight stay. `Link`, `Unlink`, `Set` and `Leave` take no memory.
     pub fn edit(&mut self, alloc: Global, edit: &Edit) -> Result<(), EditFault>
         requires { EditFits (program_of self.old) (edit_of edit.now) }
-        ensures ok { OnOk result (Edits (program_of self.old) (core_of self.old) (edit_of edit.now) (core_of self.new)) }
+        ensures ok { OnOk result (Edited self.old (edit_of edit.now) self.new) }
         ensures accepted { OnOk result (edit_fault (core_of self.old) (edit_of edit.now) ≡ None) }
         ensures refused { IfErr result (RefusesEdit (core_of self.old) (edit_of edit.now)) }
         ensures err { OnErr result (self.new ≡ self.old) }
@@ -261,7 +264,7 @@ impl Core {
     }
 
     fn link(&mut self, a: u32, b: u32, weight: u32) -> Result<(), EditFault>
-        ensures ok { OnOk result (Edits (program_of self.old) (core_of self.old) (LinkEdit a b weight) (core_of self.new)) }
+        ensures ok { OnOk result (Edited self.old (LinkEdit a b weight) self.new) }
         ensures refused { IfErr result (RefusesEdit (core_of self.old) (LinkEdit a b weight)) }
         ensures err { OnErr result (self.new ≡ self.old) }
         ensures program { self.new.program ≡ self.old.program }
@@ -274,7 +277,7 @@ impl Core {
     }
 
     fn unlink(&mut self, a: u32, b: u32) -> Result<(), EditFault>
-        ensures ok { OnOk result (Edits (program_of self.old) (core_of self.old) (UnlinkEdit a b) (core_of self.new)) }
+        ensures ok { OnOk result (Edited self.old (UnlinkEdit a b) self.new) }
         ensures refused { IfErr result (RefusesEdit (core_of self.old) (UnlinkEdit a b)) }
         ensures err { OnErr result (self.new ≡ self.old) }
         ensures program { self.new.program ≡ self.old.program }
@@ -288,7 +291,7 @@ impl Core {
 
     // A pair is no value of an input, so what is put is copied without memory.
     fn set(&mut self, device: u32, input: u32, value: &Local) -> Result<(), EditFault>
-        ensures ok { OnOk result (Edits (program_of self.old) (core_of self.old) (SetEdit device input (local_of value.now)) (core_of self.new)) }
+        ensures ok { OnOk result (Edited self.old (SetEdit device input (local_of value.now)) self.new) }
         ensures refused { IfErr result (RefusesEdit (core_of self.old) (SetEdit device input (local_of value.now))) }
         ensures err { OnErr result (self.new ≡ self.old) }
         ensures program { self.new.program ≡ self.old.program }
@@ -308,7 +311,7 @@ impl Core {
 
     fn poke(&mut self, alloc: Global, device: u32, export: &Export) -> Result<(), EditFault>
         requires { IsExportOf (program_of self.old) export.now }
-        ensures ok { OnOk result (Edits (program_of self.old) (core_of self.old) (PokeEdit device (export_of export.now)) (core_of self.new)) }
+        ensures ok { OnOk result (Edited self.old (PokeEdit device (export_of export.now)) self.new) }
         ensures refused { IfErr result (RefusesEdit (core_of self.old) (PokeEdit device (export_of export.now))) }
         ensures err { OnErr result (self.new ≡ self.old) }
         ensures program { self.new.program ≡ self.old.program }
@@ -326,7 +329,7 @@ impl Core {
 
     fn join(&mut self, alloc: Global, device: &Device) -> Result<(), EditFault>
         requires { device.now.id ≤ 65535 }
-        ensures ok { OnOk result (Edits (program_of self.old) (core_of self.old) (JoinEdit (device_of device.now)) (core_of self.new)) }
+        ensures ok { OnOk result (Edited self.old (JoinEdit (device_of device.now)) self.new) }
         ensures refused { IfErr result (RefusesEdit (core_of self.old) (JoinEdit (device_of device.now))) }
         ensures err { OnErr result (self.new ≡ self.old) }
         ensures program { self.new.program ≡ self.old.program }
@@ -355,7 +358,7 @@ impl Core {
     }
 
     fn leave(&mut self, device: u32) -> Result<(), EditFault>
-        ensures ok { OnOk result (Edits (program_of self.old) (core_of self.old) (LeaveEdit device) (core_of self.new)) }
+        ensures ok { OnOk result (Edited self.old (LeaveEdit device) self.new) }
         ensures refused { IfErr result (RefusesEdit (core_of self.old) (LeaveEdit device)) }
         ensures err { OnErr result (self.new ≡ self.old) }
         ensures program { self.new.program ≡ self.old.program }

@@ -1,13 +1,11 @@
 //! A slot for each device of a network, in the order of the devices.
 
-ghost use Rattle.std.specs.Prelude.{◌≡◌, ◌<◌, ◌≤◌, vec_len, vec_capacity, IfOk, OnOk, replicate, length, ℕ, None};
+ghost use Rattle.std.specs.Prelude.{◌≡◌, ◌<◌, ◌≤◌, vec_len, vec_capacity, IfOk, OnOk, replicate, length, None};
 ghost use Rattle.std.specs.List.{insert};
-ghost use Rattle.fc_values.specs.declared.exports.Export.{Export as ExportValue};
-ghost use Rattle.value_trees.specs.declared.copies.Snap.{Snap as SnapValue};
 ghost use Rattle.fc_values.specs.Fields.{Rises};
 ghost use Rattle.topology.specs.Networks.{numbers, IsNetwork};
 ghost use Rattle.firing_core.specs.CoreViews.{slot_at};
-ghost use Rattle.firing_core.specs.Starts.{look_up, owners, named, AllLive};
+ghost use Rattle.firing_core.specs.Starts.{export_in, flight_in, owners, named, AllLive};
 
 use fc_values::{Export, Memory};
 use std::alloc::Global;
@@ -42,7 +40,7 @@ pub(crate) fn export_slots(
 ) -> Result<Vec<Option<Export>>, Memory>
     requires rising { Rises (owners table.items) }
     requires there { AllLive net.now (owners table.items) }
-    ensures slots { IfOk result (λ v. slot_at (numbers net.now.devices) v.items ≡ look_up (λ (e : ℕ × ExportValue). e.0) (λ (e : ℕ × ExportValue). e.1) table.items) }
+    ensures slots { IfOk result (λ v. slot_at (numbers net.now.devices) v.items ≡ export_in table.items) }
     ensures many { IfOk result (λ v. length v.items ≡ length net.now.devices) }
     ensures network { OnOk result (IsNetwork net.now) }
 {
@@ -64,7 +62,7 @@ pub(crate) fn flight_slots(
 ) -> Result<Vec<Option<Snap>>, Memory>
     requires rising { Rises (named pending.items) }
     requires there { AllLive net.now (named pending.items) }
-    ensures slots { IfOk result (λ v. slot_at (numbers net.now.devices) v.items ≡ look_up (λ (s : SnapValue). s.device) (λ (s : SnapValue). s) pending.items) }
+    ensures slots { IfOk result (λ v. slot_at (numbers net.now.devices) v.items ≡ flight_in pending.items) }
     ensures many { IfOk result (λ v. length v.items ≡ length net.now.devices) }
 {
     let mut slots = no_slots(alloc, net.devices().len())?;

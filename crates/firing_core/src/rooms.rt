@@ -134,7 +134,8 @@ impl Room {
     /// The room of two copies and of what they left.
     pub(crate) fn from_parts(first: Snap, second: Snap, mut spare: Spare) -> Room
         requires { length spare.exports + exports_in first + exports_in second ≤ spare.capacity }
-        ensures { (U : Unfolding) → IsSnap U first → IsSnap U second → IsSpare U spare → length spare.exports + exports_in first + exports_in second ≡ 66 → IsRoom U result }
+        ensures { (U : Unfolding) → IsSnap U first → IsSnap U second → IsSpare U spare
+            → length spare.exports + exports_in first + exports_in second ≡ 66 → IsRoom U result }
     {
         let first = emptied(first, &mut spare);
         let second = emptied(second, &mut spare);

@@ -1,14 +1,14 @@
 //! Copies of values, of exports, and of copies.
 
-ghost use Rattle.std.specs.Prelude.{◌≡◌, ◌≤◌, length, map, option_map, IfOk, IfSome, IfNone};
+ghost use Rattle.std.specs.Prelude.{◌≡◌, map, option_map, IfOk, IfSome, IfNone};
 ghost use Rattle.fc_values.specs.Rows.{IsPairValue};
 ghost use Rattle.fc_values.specs.Values.{local_of};
-ghost use Rattle.fc_nodes.specs.Program.{Unfolding, unfolding_of};
+ghost use Rattle.fc_nodes.specs.Program.{unfolding_of};
 ghost use Rattle.fc_values.specs.Exports.{export_of};
 ghost use Rattle.value_trees.specs.Snaps.{snap_copy, IsSnap};
 ghost use Rattle.value_trees.specs.Copies.{WhereSome};
 ghost use Rattle.topology.specs.Networks.{device_of};
-ghost use Rattle.firing_core.specs.CoreViews.{near_view, AllSnaps};
+ghost use Rattle.firing_core.specs.CoreViews.{near_view, AllSnaps, SameFlight, SameFlights};
 
 use arrayvec::ArrayVec;
 use fc_nodes::Unfolded;
@@ -106,7 +106,7 @@ fn copy_flight(
     flight: &Option<Snap>,
 ) -> Result<Option<Snap>, Memory>
     requires { WhereSome (IsSnap (unfolding_of program.now)) flight.now }
-    ensures same { IfOk result (λ s. option_map (snap_copy (unfolding_of program.now)) s ≡ option_map (snap_copy (unfolding_of program.now)) flight.now) }
+    ensures same { IfOk result (λ s. SameFlight (unfolding_of program.now) s flight.now) }
     ensures snap { IfOk result (λ s. WhereSome (IsSnap (unfolding_of program.now)) s) }
 {
     match flight {
@@ -122,7 +122,7 @@ pub(crate) fn copy_flights(
     flights: &[Option<Snap>],
 ) -> Result<Vec<Option<Snap>>, Memory>
     requires { AllSnaps (unfolding_of program.now) flights.now }
-    ensures same { IfOk result (λ v. map (option_map (snap_copy (unfolding_of program.now))) v.items ≡ map (option_map (snap_copy (unfolding_of program.now))) flights.now) }
+    ensures same { IfOk result (λ v. SameFlights (unfolding_of program.now) v.items flights.now) }
     ensures snaps { IfOk result (λ v. AllSnaps (unfolding_of program.now) v.items) }
 {
     let mut copies = Vec::new(alloc);

@@ -9,14 +9,15 @@ use std::alloc::Global;
 use value_trees::{Near, Snap};
 
 impl Core {
-    ghost use Rattle.std.specs.Prelude.{◌≡◌, ◌<◌, ◌≤◌, ◌+◌, [], IfOk, OnOk, OnErr, IfErr, Some, None, true, false, length, slice_index, map};
-    ghost use Rattle.value_trees.specs.Snaps.{snap_copy, near_copy, NearAreExports, IsSnap};
-    ghost use Rattle.topology.specs.Networks.{numbers, near as near_of};
+    ghost use Rattle.std.specs.Prelude.{◌≡◌, ◌<◌, ◌≤◌, ◌+◌, [], IfOk, OnOk, OnErr, IfErr};
+    ghost use Rattle.std.specs.Prelude.{Some, None, true, false, length, slice_index};
+    ghost use Rattle.value_trees.specs.Snaps.{snap_copy, NearAreExports, IsSnap};
+    ghost use Rattle.topology.specs.Networks.{numbers};
     ghost use Rattle.firing_core.specs.Entries.{BeginEntry, EndEntry};
-    ghost use Rattle.firing_core.specs.Cores.{Step, copy_of, near_copies};
+    ghost use Rattle.firing_core.specs.Cores.{Step, copy_of};
     ghost use Rattle.firing_core.specs.Replays.{fault_of};
     ghost use Rattle.firing_core.specs.Rooms.{IsSpare, IsBlank, IsRoom, exports_in};
-    ghost use Rattle.firing_core.specs.CoreViews.{core_of, program_of, IsSameCore, rooms_of, mark, FiresFlight, FliesInRoom, Publishes};
+    ghost use Rattle.firing_core.specs.CoreViews.{core_of, program_of, IsSameCore, AreNear, rooms_of, mark, FiresFlight, FliesInRoom, Publishes};
 
     /// Does what `begin` does, in a room, and answers an equal copy. It takes no memory. The room comes back with a
     /// refusal.
@@ -80,7 +81,7 @@ impl Core {
         requires empty { near.old.items ≡ [] }
         requires spare { IsSpare (program_of self.now) spare.old }
         requires enough { 32 ≤ length spare.old.exports }
-        ensures near { map (near_copy (program_of self.now)) near.new.items ≡ near_copies (core_of self.now).exports (near_of self.now.net device) }
+        ensures near { AreNear self.now device near.new.items }
         ensures exports { NearAreExports (program_of self.now) near.new.items }
         ensures spare { IsSpare (program_of self.now) spare.new }
         ensures left { length spare.new.exports + length near.new.items ≡ length spare.old.exports }
