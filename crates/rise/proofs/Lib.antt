@@ -1,3 +1,2 @@
 pub mod Climbing
-mod FewRounds
 pub mod WithoutRise

@@ -1,7 +1,7 @@
 //! The firings and rounds that limited rise takes.
 
-ghost use Rattle.std.specs.Prelude.{◌≡◌, ◌≤◌};
-ghost use Rattle.growth_facts.specs.Turns.{turns_of, rounds_of, IsLeastOfTurns};
+ghost use Rattle.std.specs.Prelude.{◌≡◌, ◌≤◌, ◌+◌, ◌-◌, ◌*◌};
+ghost use Rattle.growth_facts.specs.Turns.{steps_of, turns_of, rounds_of, IsLeastOfTurns};
 
 /// The firings of a stage: the least number of them that makes up the growth, where each one rises by at least `least`.
 pub fn turns(growth: u32, least: u32) -> u32
@@ -25,7 +25,18 @@ pub fn rounds(greatest: u32, growth: u32, least: u32) -> u64
     ensures value { result ≡ rounds_of greatest growth least }
     ensures most { result ≤ 3000000 }
 {
-    let turns = turns(growth, least) as u64;
+    rounds_by(greatest, growth, turns(growth, least))
+}
+
+// The rounds of all stages of so many firings each.
+fn rounds_by(greatest: u32, growth: u32, turns: u32) -> u64
+    requires some_growth { 1 ≤ growth }
+    requires some_turns { 1 ≤ turns }
+    requires most_turns { turns ≤ 1000000 }
+    requires greatest { greatest ≤ 1000000 }
+    ensures { result ≡ (turns - 1) + (steps_of greatest growth - 1) * (turns + 1) }
+{
+    let turns = turns as u64;
     let steps = (greatest / growth) as u64;
     (turns - 1) + steps * (turns + 1)
 }
