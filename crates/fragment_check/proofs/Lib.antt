@@ -1,0 +1,4 @@
+pub mod Steps
+pub mod Arguments
+mod Evolving
+mod Judgements

@@ -1,0 +1,14 @@
+//! Patterns: which `rep` and `share` stabilise, by the forms of their bodies; and the definitions of levels and verdict.
+#![tactic(auto)]
+
+mod facts;
+mod faults;
+mod forms;
+mod judging;
+mod kinds;
+mod listing;
+
+pub use faults::PatternFault;
+pub use judging::pattern;
+pub use kinds::Pattern;
+pub use listing::patterns;
