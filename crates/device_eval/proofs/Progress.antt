@@ -1,4 +1,4 @@
--- A typed term is never stuck: in an environment that fits it has a value and a tree, and they fit.
+-- Crates above cite this module: a typed term is never stuck: in an environment that fits it has a value and a tree, and they fit.
 use Rattle.std.proofs.Common.{◌≡◌, ℕ, suc, ◌+◌, min, List, [], ◌∷◌, refl, sym, ◌∙◌, ap, subst, arith, Bool, true, false, Option, Some, None}
 use Rattle.fc_values.specs.declared.builtins.Builtin.{Builtin}
 use Rattle.fc_values.specs.Types.{LocalType, IntType, BoolType, ValueType, TypeLocal, TypeField, Declarations}

@@ -1,4 +1,4 @@
--- A solution lies in its ranges.
+-- Crates above cite this module: a solution lies in its ranges, node by node.
 use Rattle.std.proofs.Common.{◌≡◌, ℕ, suc, ◌≤◌, ◌<◌, ◌+◌, List, [], ◌∷◌, length, refl, sym, ◌∙◌, ap, subst, arith, Bool, true, false, ◌&&◌, Option, Some, None, option_map, nat_eq, nat_lt}
 use Rattle.std.specs.Prelude.{if◌then◌else◌}
 use Rattle.std.proofs.lemmas.List.{length-map}
@@ -43,7 +43,7 @@ found n (b ∷ bs) = if nat_eq b.0 n then Some b.1 else found n bs
 abbrev pub BoundsHold : Devices → Bounds → Maps → Type 0
 BoundsHold D bs V = (n : ℕ) (r : RangeValue) → found n bs ≡ Some r → MapLiesIn D r (V n)
 
-bound_holds : (D : Devices) (p : ℕ) (r : RangeValue) (G : Map) (bs : Bounds) (V : Maps) → MapLiesIn D r G → BoundsHold D bs V → BoundsHold D ((p, r) ∷ bs) (bind p G V)
+pub bound_holds : (D : Devices) (p : ℕ) (r : RangeValue) (G : Map) (bs : Bounds) (V : Maps) → MapLiesIn D r G → BoundsHold D bs V → BoundsHold D ((p, r) ∷ bs) (bind p G V)
 bound_holds D p r G bs V g h n s e d i = by_test (nat_eq p n) e
   where
     by_test : (c : Bool) → (if c then Some r else found n bs) ≡ Some s → LiesIn s ((if c then G else V n) d)
@@ -180,7 +180,7 @@ module _ (N : Network) (net : IsNetwork N) (metric : N.declared.least ≤ N.decl
   maps_at D (r ∷ rs) (G ∷ Gs) h d i = (h.0 d i, maps_at D rs Gs h.1 d i)
 
   -- what the variable of a `rep` or `share` is lies in the range of all values
-  evolved_lies : (e : Evolution) (t : ValueType) (D : Devices) (F : Map) (f : ℕ → LocalValue) → FitsOn N D t F → ((d : ℕ) → In D d → F d ≡ ValueLocal (f d)) → MapLiesIn D (full M (inner t)) (evolved e N D f)
+  pub evolved_lies : (e : Evolution) (t : ValueType) (D : Devices) (F : Map) (f : ℕ → LocalValue) → FitsOn N D t F → ((d : ℕ) → In D d → F d ≡ ValueLocal (f d)) → MapLiesIn D (full M (inner t)) (evolved e N D f)
   evolved_lies e t D F f h g = by_kind e
     where
       each : (d : ℕ) → In D d → InRange (full M (inner t)) (f d)
@@ -190,7 +190,7 @@ module _ (N : Network) (net : IsNetwork N) (metric : N.declared.least ≤ N.decl
       by_kind ByRep d i = each d i
       by_kind ByShare d i = field_lies N D f (full M (inner t)) each d i
 
-  evolving_form : (e : Evolution) (t : ValueType) (s : LocalType) → t ≡ TypeLocal s → HasForm (inner (evolving_type e s)) (full M (inner t))
+  pub evolving_form : (e : Evolution) (t : ValueType) (s : LocalType) → t ≡ TypeLocal s → HasForm (inner (evolving_type e s)) (full M (inner t))
   evolving_form ByRep t s e = full_as M t s e
   evolving_form ByShare t s e = full_as M t s e
 
@@ -198,7 +198,7 @@ module _ (N : Network) (net : IsNetwork N) (metric : N.declared.least ≤ N.decl
   branch_in true D k d i e = rw (i, e) refl
   branch_in false D k d i e = rw (i, e) refl
 
-  fewer_hold : (b : Bool) (D : Devices) (k : ℕ → Bool) (cs : Bounds) (V : Maps) → BoundsHold D cs V → BoundsHold (where_is b D k) cs V
+  pub fewer_hold : (b : Bool) (D : Devices) (k : ℕ → Bool) (cs : Bounds) (V : Maps) → BoundsHold D cs V → BoundsHold (where_is b D k) cs V
   fewer_hold b D k cs V h n r e d i = h n r e d (fewer b D k d i)
 
   mutual

@@ -1,4 +1,4 @@
--- The range of a node has the form of the node's type.
+-- Crates above cite this module: the range of a node has the form of the node's type.
 use Rattle.std.proofs.Common.{◌≡◌, ℕ, suc, ◌+◌, List, [], ◌∷◌, refl, sym, ◌∙◌, ap, subst, Bool, true, false, Option, Some, None, option_map, nat_eq, arith}
 use Rattle.std.specs.Prelude.{if◌then◌else◌, slice_get}
 use Rattle.fc_values.specs.declared.builtins.Builtin.{Builtin}

@@ -1,11 +1,11 @@
 mod Orders
 mod Operators
 mod Hoods
-mod Forms
+pub mod Forms
 pub mod Pointwise
-mod Tables
+pub mod Tables
 mod Values
-mod Claims
+pub mod Claims
 mod Picked
 mod Stepped
 mod Gathered

@@ -1,4 +1,4 @@
--- The ranges of all nodes as a table by places.
+-- Crates above cite this module: the ranges of all nodes as a table by places.
 use Rattle.std.proofs.Common.{◌≡◌, ℕ, suc, ◌+◌, List, [], ◌∷◌, ◌++◌, length, get_or, refl, ap, subst, arith}
 use Rattle.std.proofs.lemmas.List.{length-append}
 use Rattle.fc_values.specs.Types.{Declarations}
