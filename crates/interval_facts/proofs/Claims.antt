@@ -13,7 +13,7 @@ use Rattle.fc_values.proofs.BuiltinTyped.{arguments_fit}
 use Rattle.fc_nodes.specs.Terms.{Leaf, Literal, Variable, Sense, Uid, NbrLink, Evolution, ByRep, ByShare, Term, Terms, Plain, Apply, Nbr, Evolve, If, Let, NoMore, More, type_of, size}
 use Rattle.fc_nodes.specs.Typing.{Scope, type_at, evolving_type, types_of, LeafHasType, HasType, HaveTypes}
 use Rattle.alignment.specs.Environments.{same_truth}
-use Rattle.topology.specs.Networks.{Network, IsNetwork, Lives, inputs_in}
+use Rattle.topology.specs.Networks.{Network, IsNetwork, inputs_in}
 use Rattle.topology.specs.Nearby.{near_numbers}
 use Rattle.topology.proofs.Lemmas.{inputs_fit}
 use Rattle.interval_facts.specs.Ranges.{RangeValue, IntRange, InRange, AllInRange, LiesIn, full, hull, builtin_range, Bounds, bound_at, literal_range, leaf_range, term_range, term_ranges, node_ranges, all_node_ranges}
@@ -22,7 +22,9 @@ use Rattle.interval_facts.specs.Claims.{MapLiesIn, InRanges, AllInRanges}
 use Rattle.interval_facts.proofs.Orders.{in_full}
 use Rattle.interval_facts.proofs.Operators.{MaybeLies, operator_lies}
 use Rattle.interval_facts.proofs.Hoods.{EachLiesIn, NoneIsEmpty, hood_lies}
-use Rattle.interval_facts.proofs.Forms.{HasForm, BoundsFit, full_as, hull_has_first, hull_has_second, range_form}
+use Rattle.interval_facts.specs.Scopes.{HasForm, BoundsFit}
+pub use Rattle.interval_facts.specs.Scopes.{found, BoundsHold, Alive}
+use Rattle.interval_facts.proofs.Forms.{full_as, hull_has_first, hull_has_second, range_form}
 use Rattle.interval_facts.proofs.Pointwise.{OverThem, AllOver, pointwise_nth}
 use Rattle.interval_facts.proofs.Tables.{Shows, shows_first, shows_second, as_many}
 use Rattle.interval_facts.proofs.Values.{restricted_lies, field_lies, links_lie, sense_lies, lies_by_positions, arguments_lie}
@@ -35,14 +37,7 @@ some_around d (n ∷ ns) = by_test (nat_lt d n)
     by_test true = omega arith
     by_test false = omega arith
 
--- the binders in scope have their maps in their ranges
-abbrev pub found : ℕ → Bounds → Option RangeValue
-found n [] = None
-found n (b ∷ bs) = if nat_eq b.0 n then Some b.1 else found n bs
-
-abbrev pub BoundsHold : Devices → Bounds → Maps → Type 0
-BoundsHold D bs V = (n : ℕ) (r : RangeValue) → found n bs ≡ Some r → MapLiesIn D r (V n)
-
+-- one binder more
 pub bound_holds : (D : Devices) (p : ℕ) (r : RangeValue) (G : Map) (bs : Bounds) (V : Maps) → MapLiesIn D r G → BoundsHold D bs V → BoundsHold D ((p, r) ∷ bs) (bind p G V)
 bound_holds D p r G bs V g h n s e d i = by_test (nat_eq p n) e
   where
@@ -61,7 +56,7 @@ is_found other n t (b ∷ bs) (c ∷ cs) e h = by_test (nat_eq c.0 n) refl (λ k
     by_test true i f = refl
     by_test false i f = let j : nat_eq b.0 n ≡ false = rw (sym h.0) at i in f (rw j at e)
 
-fewer : (b : Bool) (D : Devices) (k : ℕ → Bool) (d : ℕ) → In (where_is b D k) d → In D d
+pub fewer : (b : Bool) (D : Devices) (k : ℕ → Bool) (d : ℕ) → In (where_is b D k) d → In D d
 fewer b D k d h = by_test (D d) h
   where
     by_test : (c : Bool) → (c && same_truth b (k d)) ≡ true → c ≡ true
@@ -76,15 +71,20 @@ literal_lies (IntValue n) = (omega arith, omega arith)
 literal_lies (BoolValue b) = tt
 literal_lies (PairValue a b) = (literal_lies a, literal_lies b)
 
+-- a solution fits its type
+pub fits_of : (N : Network) (t : Term) (p : ℕ) (D : Devices) (V : Maps) (F : Map) → Solves N p t D V F → FitsOn N D (type_of t) F
+fits_of N (Plain t l) p D V F s = s.0
+fits_of N (Apply t o xs) p D V F s = s.0
+fits_of N (Nbr t a) p D V F s = s.0
+fits_of N (Evolve t e a u) p D V F s = s.0
+fits_of N (If t c u w) p D V F s = s.0
+fits_of N (Let t a u) p D V F s = s.0
+
 module _ (N : Network) (net : IsNetwork N) (metric : N.declared.least ≤ N.declared.greatest) where
   abbrev M : ℕ
   M = N.declared.ceiling
 
-  -- the devices of a set are there
-  abbrev pub Alive : Devices → Type 0
-  Alive D = (d : ℕ) → In D d → Lives N d
-
-  leaf_lies : (t : ValueType) (l : Leaf) (p : ℕ) (bs : Scope) (cs : Bounds) (D : Devices) (V : Maps) (F : Map) → Alive D → LeafHasType N.declared bs t l → BoundsFit bs cs → BoundsHold D cs V →
+  leaf_lies : (t : ValueType) (l : Leaf) (p : ℕ) (bs : Scope) (cs : Bounds) (D : Devices) (V : Maps) (F : Map) → Alive N D → LeafHasType N.declared bs t l → BoundsFit bs cs → BoundsHold D cs V →
       (d : ℕ) → In D d → (v : AnyValue) → LeafIs N D l V d v → LiesIn (leaf_range N.declared cs t l) v
   leaf_lies t (Literal w) p bs cs D V F live ty fit h d i v e = lies_as _ e (literal_lies w)
   leaf_lies t (Variable n) p bs cs D V F live ty fit h d i v e =
@@ -154,19 +154,11 @@ module _ (N : Network) (net : IsNetwork N) (metric : N.declared.least ≤ N.decl
   hull_lies_second t r s (ValueLocal v) f g h = hull_has_second t r s v f g h
   hull_lies_second t r s (ValueField es) f g h = entries_hull_second t r s es f g h
 
-  pub fits_of : (t : Term) (p : ℕ) (D : Devices) (V : Maps) (F : Map) → Solves N p t D V F → FitsOn N D (type_of t) F
-  fits_of (Plain t l) p D V F s = s.0
-  fits_of (Apply t o xs) p D V F s = s.0
-  fits_of (Nbr t a) p D V F s = s.0
-  fits_of (Evolve t e a u) p D V F s = s.0
-  fits_of (If t c u w) p D V F s = s.0
-  fits_of (Let t a u) p D V F s = s.0
-
   all_fit : (xs : Terms) (p : ℕ) (D : Devices) (V : Maps) (Gs : List Map) → SolveAll N p xs D V Gs → (d : ℕ) → In D d → FitEachOver M (around N D d) (types_of xs) (at_device d Gs)
   all_fit NoMore p D V [] s d i = tt
   all_fit NoMore p D V (G ∷ Gs) s d i = absurd s
   all_fit (More x xs) p D V [] s d i = absurd s
-  all_fit (More x xs) p D V (G ∷ Gs) s d i = (fits_of x p D V G s.0 d i, all_fit xs (p + size x) D V Gs s.1 d i)
+  all_fit (More x xs) p D V (G ∷ Gs) s d i = (fits_of N x p D V G s.0 d i, all_fit xs (p + size x) D V Gs s.1 d i)
 
   abbrev MapsLie : Devices → List RangeValue → List Map → Type 0
   MapsLie D [] [] = Unit {0}
@@ -202,7 +194,7 @@ module _ (N : Network) (net : IsNetwork N) (metric : N.declared.least ≤ N.decl
   fewer_hold b D k cs V h n r e d i = h n r e d (fewer b D k d i)
 
   mutual
-    pub term_lies : (t : Term) (p : ℕ) (bs : Scope) (cs : Bounds) (D : Devices) (V : Maps) (F : Map) → Alive D → HasType N.declared bs p t → BoundsFit bs cs → BoundsHold D cs V →
+    pub term_lies : (t : Term) (p : ℕ) (bs : Scope) (cs : Bounds) (D : Devices) (V : Maps) (F : Map) → Alive N D → HasType N.declared bs p t → BoundsFit bs cs → BoundsHold D cs V →
         Solves N p t D V F → MapLiesIn D (term_range N.declared cs p t) F
     term_lies (Plain t l) p bs cs D V F live ty fit h s = λ d i. leaf_lies t l p bs cs D V F live ty fit h d i (F d) (s.1 d i)
     term_lies (Apply t o xs) p bs cs D V F live ty fit h s = λ d i.
@@ -231,7 +223,7 @@ module _ (N : Network) (net : IsNetwork N) (metric : N.declared.least ≤ N.decl
         (refl, range_form N.declared a bs cs (suc p) ty.1 fit, fit)
         (bound_holds D p (term_range N.declared cs (suc p) a) s.1 cs V (term_lies a (suc p) bs cs D V s.1 live ty.1 fit h s.2) h) s.3
 
-    terms_lie : (xs : Terms) (p : ℕ) (bs : Scope) (cs : Bounds) (D : Devices) (V : Maps) (Gs : List Map) → Alive D → HaveTypes N.declared bs p xs → BoundsFit bs cs → BoundsHold D cs V →
+    terms_lie : (xs : Terms) (p : ℕ) (bs : Scope) (cs : Bounds) (D : Devices) (V : Maps) (Gs : List Map) → Alive N D → HaveTypes N.declared bs p xs → BoundsFit bs cs → BoundsHold D cs V →
         SolveAll N p xs D V Gs → MapsLie D (term_ranges N.declared cs p xs) Gs
     terms_lie NoMore p bs cs D V [] live ty fit h s = tt
     terms_lie NoMore p bs cs D V (G ∷ Gs) live ty fit h s = absurd s
@@ -242,7 +234,7 @@ module _ (N : Network) (net : IsNetwork N) (metric : N.declared.least ≤ N.decl
   lies_shown r s D F e h = subst (λ z. MapLiesIn D z F) (sym e) h
 
   mutual
-    pub in_ranges : (rs : ℕ → RangeValue) (t : Term) (p : ℕ) (bs : Scope) (cs : Bounds) (D : Devices) (V : Maps) (F : Map) → Alive D → HasType N.declared bs p t → BoundsFit bs cs → BoundsHold D cs V →
+    pub in_ranges : (rs : ℕ → RangeValue) (t : Term) (p : ℕ) (bs : Scope) (cs : Bounds) (D : Devices) (V : Maps) (F : Map) → Alive N D → HasType N.declared bs p t → BoundsFit bs cs → BoundsHold D cs V →
         (s : Solves N p t D V F) → Shows rs p (node_ranges N.declared cs p t) → InRanges rs N p t D V F s
     in_ranges rs (Plain t l) p bs cs D V F live ty fit h s k = lies_shown (rs p) _ D F k.0 (term_lies (Plain t l) p bs cs D V F live ty fit h s)
     in_ranges rs (Apply t o xs) p bs cs D V F live ty fit h s k =
@@ -275,7 +267,7 @@ module _ (N : Network) (net : IsNetwork N) (metric : N.declared.least ≤ N.decl
               (bound_holds D p (term_range N.declared cs (suc p) a) s.1 cs V (term_lies a (suc p) bs cs D V s.1 live ty.1 fit h s.2) h) s.3 second,
         )
 
-    pub all_in_ranges : (rs : ℕ → RangeValue) (xs : Terms) (p : ℕ) (bs : Scope) (cs : Bounds) (D : Devices) (V : Maps) (Gs : List Map) → Alive D → HaveTypes N.declared bs p xs → BoundsFit bs cs → BoundsHold D cs V →
+    pub all_in_ranges : (rs : ℕ → RangeValue) (xs : Terms) (p : ℕ) (bs : Scope) (cs : Bounds) (D : Devices) (V : Maps) (Gs : List Map) → Alive N D → HaveTypes N.declared bs p xs → BoundsFit bs cs → BoundsHold D cs V →
         (s : SolveAll N p xs D V Gs) → Shows rs p (all_node_ranges N.declared cs p xs) → AllInRanges rs N p xs D V Gs s
     all_in_ranges rs NoMore p bs cs D V Gs live ty fit h s k = tt
     all_in_ranges rs (More x xs) p bs cs D V [] live ty fit h s k = s

@@ -11,17 +11,7 @@ use Rattle.fc_values.specs.BuiltinTypes.{Takes, takes_add, takes_sub, takes_mul,
 use Rattle.fc_nodes.specs.Terms.{Leaf, Literal, Variable, Sense, Uid, NbrLink, ByRep, ByShare, Term, Terms, Plain, Apply, Nbr, Evolve, If, Let, NoMore, More, type_of, size}
 use Rattle.fc_nodes.specs.Typing.{Scope, type_at, types_of, HasType, HaveTypes, LeafHasType}
 use Rattle.interval_facts.specs.Ranges.{RangeValue, IntRange, BoolRange, PairRange, InRange, full, hull, least_range, greatest_range, least_hood, greatest_hood, builtin_range, Bounds, bound_at, input_range, sense_range, leaf_range, term_range, term_ranges}
-
-abbrev pub HasForm : LocalType → RangeValue → Type 0
-HasForm IntType (IntRange a b) = Unit {0}
-HasForm BoolType BoolRange = Unit {0}
-HasForm (PairType s t) (PairRange r u) = HasForm s r × HasForm t u
-HasForm _ _ = ⊥
-
-abbrev pub HaveForms : List LocalType → List RangeValue → Type 0
-HaveForms [] [] = Unit {0}
-HaveForms (t ∷ ts) (r ∷ rs) = HasForm t r × HaveForms ts rs
-HaveForms _ _ = ⊥
+pub use Rattle.interval_facts.specs.Scopes.{HasForm, HaveForms, BoundsFit}
 
 -- two ranges of one type
 data Two : LocalType → RangeValue → RangeValue → Type 0 where
@@ -129,12 +119,6 @@ module _ (m : ℕ) (other : RangeValue) where
   builtin_form false o ts t rule rs h =
       let e : inner t ≡ rule.local = ap inner rule.value ∙ inner_lifted (has_field ts) rule.local in
       subst (λ u. HasForm u (builtin_range m other o rs)) (sym e) (operator_form o (inners ts) rule.local rule.takes rs h)
-
--- the binders in scope with their types and ranges
-abbrev pub BoundsFit : Scope → Bounds → Type 0
-BoundsFit [] [] = Unit {0}
-BoundsFit (b ∷ bs) (c ∷ cs) = (b.0 ≡ c.0) × HasForm (inner b.1) c.1 × BoundsFit bs cs
-BoundsFit _ _ = ⊥
 
 bound_form : (other : RangeValue) (n : ℕ) (t : ValueType) (bs : Scope) (cs : Bounds) → type_at n bs ≡ Some t → BoundsFit bs cs → HasForm (inner t) (bound_at other n cs)
 bound_form other n t [] [] e h = absurd cc

@@ -2,6 +2,7 @@ pub mod Ranges
 pub mod Codes
 pub mod Solutions
 pub mod Claims
+pub mod Scopes
 pub mod Picks
 pub mod Steps
 pub mod Gathering

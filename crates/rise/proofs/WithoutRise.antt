@@ -1,6 +1,6 @@
 -- Crates above cite this module: solutions of a body with limited rise and of its target.
-use Rattle.std.proofs.Common.{◌≡◌, ℕ, suc, ◌≤◌, ◌+◌, List, [], ◌∷◌, refl, sym, ◌∙◌, ap, subst, arith, Bool, true, false, Some, nat_eq, min}
-use Rattle.std.specs.Prelude.{map, ◌&&◌}
+use Rattle.std.proofs.Common.{◌≡◌, ℕ, suc, ◌≤◌, ◌+◌, List, [], ◌∷◌, refl, sym, ◌∙◌, ap, subst, arith, true, false, Some, nat_eq, min}
+use Rattle.std.specs.Prelude.{map}
 use Rattle.std.proofs.lemmas.Bool.Decides.{nat_tests}
 use Rattle.fc_values.specs.declared.builtins.Builtin.TheVariants as op
 use Rattle.fc_values.specs.Types.{IntType, ValueType, TypeLocal}
@@ -13,17 +13,9 @@ use Rattle.topology.specs.Nearby.{near_numbers}
 use Rattle.interval_facts.specs.Ranges.{RangeValue, IntRange, BoolRange, PairRange, LiesIn}
 use Rattle.interval_facts.specs.Solutions.{Devices, In, Map, Maps, bind, near_among, around, FitsOn, local_map, where_is, LeafIs, Solves, SolveAll}
 use Rattle.interval_facts.specs.Claims.{MapLiesIn}
-use Rattle.alignment.specs.Environments.{same_truth}
+use Rattle.interval_facts.proofs.Claims.{fits_of, fewer}
 use Rattle.growth_facts.specs.Leads.{least_integer}
 use Rattle.rise.specs.Laws.{rising_body, in_body, SolvesWithoutRise}
-
--- a device of a part of a set is in the set
-in_part : (b : Bool) (D : Devices) (k : ℕ → Bool) (d : ℕ) → In (where_is b D k) d → In D d
-in_part b D k d h = by_test (D d) h
-  where
-    by_test : (c : Bool) → (c && same_truth b (k d)) ≡ true → c ≡ true
-    by_test true h = refl
-    by_test false h = absurd cc
 
 module _ (N : Network) where
   abbrev M : ℕ
@@ -42,18 +34,10 @@ module _ (N : Network) where
     fits_as D t F G e s.0,
     s.1,
     s.2,
-    solves_agree u (suc p + size c) (where_is true D s.1) V F G (λ d i. e d (in_part true D s.1 d i)) s.3,
-    solves_agree w (suc p + size c + size u) (where_is false D s.1) V F G (λ d i. e d (in_part false D s.1 d i)) s.4,
+    solves_agree u (suc p + size c) (where_is true D s.1) V F G (λ d i. e d (fewer true D s.1 d i)) s.3,
+    solves_agree w (suc p + size c + size u) (where_is false D s.1) V F G (λ d i. e d (fewer false D s.1 d i)) s.4,
   )
   solves_agree (Let t a u) p D V F G e s = (fits_as D t F G e s.0, s.1, s.2, solves_agree u (suc p + size a) D (bind p s.1 V) F G e s.3)
-
-  fits_of : (t : Term) (p : ℕ) (D : Devices) (V : Maps) (F : Map) → Solves N p t D V F → FitsOn N D (type_of t) F
-  fits_of (Plain t l) p D V F s = s.0
-  fits_of (Apply t o xs) p D V F s = s.0
-  fits_of (Nbr t a) p D V F s = s.0
-  fits_of (Evolve t f a u) p D V F s = s.0
-  fits_of (If t c u w) p D V F s = s.0
-  fits_of (Let t a u) p D V F s = s.0
 
   -- a value that is an integer
   record IsInteger (v : AnyValue) : Type 0 where
@@ -100,9 +84,9 @@ module _ (N : Network) where
           where
             same : (d : ℕ) → In D d → T d ≡ ValueLocal (f d)
             same d i =
-                let a = integer_of (around N D d) (T d) (subst (λ y. FitsOver M (around N D d) y (T d)) tt' (fits_of t (suc p) D (in_body x f V) T all.0 d i)) in
+                let a = integer_of (around N D d) (T d) (subst (λ y. FitsOver M (around N D d) y (T d)) tt' (fits_of N t (suc p) D (in_body x f V) T all.0 d i)) in
                 let b = integer_of (around N D d) (ValueLocal (f d)) (fits d i) in
-                let c = integer_of (around N D d) (S d) (subst (λ y. FitsOver M (around N D d) y (S d)) ts (fits_of s (suc p + size t + 1) D (in_body x f V) S all.1.1.0 d i)) in
+                let c = integer_of (around N D d) (S d) (subst (λ y. FitsOver M (around N D d) y (S d)) ts (fits_of N s (suc p + size t + 1) D (in_body x f V) S all.1.1.0 d i)) in
                 let own : X d ≡ ValueLocal (IntValue b.number) = all.1.0.1 d i ∙ ap (restricted d (near_numbers (near_among N D d))) (self_bound x d f V) ∙ b.is in
                 let low = some_number r c.number some (subst (LiesIn r) c.is (lies S all.1.1.0 d i)) in
                 let ai = a.is in let ci = c.is in let bi = b.is in
@@ -121,7 +105,7 @@ module _ (N : Network) where
     bodies h = (fits, local_map f ∷ local_map f ∷ h.1.0 ∷ [], (h.0, ((fits, own), (h.1.1, tt))), value)
       where
         fits : FitsOn N D (TypeLocal IntType) (local_map f)
-        fits = subst (λ y. FitsOn N D y (local_map f)) tt' (fits_of t (suc p) D (in_body x f V) (local_map f) h.0)
+        fits = subst (λ y. FitsOn N D y (local_map f)) tt' (fits_of N t (suc p) D (in_body x f V) (local_map f) h.0)
 
         own : (d : ℕ) → In D d → LeafIs N D (Variable x) (in_body x f V) d (ValueLocal (f d))
         own d i = sym (ap (restricted d (near_numbers (near_among N D d))) (self_bound x d f V))
@@ -129,7 +113,7 @@ module _ (N : Network) where
         value : (d : ℕ) → In D d → builtin_value op.Rise M d (ValueLocal (f d) ∷ ValueLocal (f d) ∷ h.1.0 d ∷ []) ≡ Some (ValueLocal (f d))
         value d i =
             let a = integer_of (around N D d) (ValueLocal (f d)) (fits d i) in
-            let c = integer_of (around N D d) (h.1.0 d) (subst (λ y. FitsOver M (around N D d) y (h.1.0 d)) ts (fits_of s (suc p + size t + 1) D (in_body x f V) h.1.0 h.1.1 d i)) in
+            let c = integer_of (around N D d) (h.1.0 d) (subst (λ y. FitsOver M (around N D d) y (h.1.0 d)) ts (fits_of N s (suc p + size t + 1) D (in_body x f V) h.1.0 h.1.1 d i)) in
             let ai = a.is in let ci = c.is in
             subst (λ y. builtin_value op.Rise M d (y ∷ y ∷ h.1.0 d ∷ []) ≡ Some y) (sym ai) (subst (λ y. builtin_value op.Rise M d (ValueLocal (IntValue a.number) ∷ ValueLocal (IntValue a.number) ∷ y ∷ []) ≡ Some (ValueLocal (IntValue a.number))) (sym ci) (to_target d a.number c.number))
 

@@ -1,13 +1,15 @@
 -- What the laws say.
-use Rattle.std.specs.Prelude.{ℕ, suc, ◌≡◌, ◌↔◌, ◌≤◌, ◌+◌, min}
+use Rattle.std.specs.Prelude.{ℕ, suc, ◌≡◌, ◌↔◌, ◌≤◌, ◌+◌, ◌∷◌, min}
 use Rattle.fc_values.specs.declared.builtins.Builtin.TheVariants as op
 use Rattle.fc_values.specs.Types.{IntType, TypeLocal}
 use Rattle.fc_values.specs.Values.{LocalValue}
 use Rattle.fc_nodes.specs.Terms.{Variable, Term, Plain, Apply, NoMore, More, type_of, size}
-use Rattle.topology.specs.Networks.{Network}
-use Rattle.interval_facts.specs.Ranges.{RangeValue}
+use Rattle.fc_nodes.specs.Typing.{Scope, HasType}
+use Rattle.topology.specs.Networks.{Network, IsNetwork}
+use Rattle.interval_facts.specs.Ranges.{RangeValue, full, Bounds, term_range}
 use Rattle.interval_facts.specs.Solutions.{Devices, Map, Maps, bind, local_map, Solves}
 use Rattle.interval_facts.specs.Claims.{MapLiesIn}
+use Rattle.interval_facts.specs.Scopes.{BoundsFit, BoundsHold, Alive}
 use Rattle.growth_facts.specs.Leads.{least_integer}
 use Rattle.growth_facts.specs.Turns.{turns_of}
 use Rattle.rise.specs.Stages.{Near, stage, climbed}
@@ -29,6 +31,16 @@ abbrev pub SolvesWithoutRise : Type 0
 SolvesWithoutRise = (N : Network) (D : Devices) (V : Maps) (f : ℕ → LocalValue) (x p : ℕ) (t s : Term) (r : RangeValue)
     → type_of t ≡ TypeLocal IntType → type_of s ≡ TypeLocal IntType → 1 ≤ least_integer r
     → ((G : Map) → Solves N (suc p + size t + 1) s D (in_body x f V) G → MapLiesIn D r G)
+    → Solves N p (rising_body x t s) D (in_body x f V) (local_map f)
+    ↔ (Solves N (suc p) t D (in_body x f V) (local_map f) × ((G : Map) × Solves N (suc p + size t + 1) s D (in_body x f V) G))
+
+-- So it is where the devices are there, the binders in scope have their maps in the ranges of their variables, the body is
+-- typed, and the range of s has a least that is at least 1.
+abbrev pub SolvesWithoutRiseInScope : Type 0
+SolvesWithoutRiseInScope = (N : Network) (D : Devices) (bs : Scope) (cs : Bounds) (V : Maps) (f : ℕ → LocalValue) (x p : ℕ) (t s : Term)
+    → IsNetwork N → N.declared.least ≤ N.declared.greatest → Alive N D → BoundsFit bs cs → BoundsHold D cs V
+    → HasType N.declared ((x, TypeLocal IntType) ∷ bs) p (rising_body x t s)
+    → 1 ≤ least_integer (term_range N.declared ((x, full N.declared.ceiling IntType) ∷ cs) (suc p + size t + 1) s)
     → Solves N p (rising_body x t s) D (in_body x f V) (local_map f)
     ↔ (Solves N (suc p) t D (in_body x f V) (local_map f) × ((G : Map) × Solves N (suc p + size t + 1) s D (in_body x f V) G))
 
