@@ -8,7 +8,7 @@ use Rattle.fc_values.specs.Trees.{Tree, TreeExport}
 use Rattle.fc_nodes.specs.Terms.{type_of}
 use Rattle.fc_nodes.specs.Program.{Unfolding}
 use Rattle.value_trees.proofs.ReadBack.{had_type}
-use Rattle.net_json.specs.Judging.{Judged, Accepted, Refusal, Misshaped, given, in_turn, at_member, at_index}
+use Rattle.net_json.specs.Judging.{Accepted, Refusal, Misshaped, given, in_turn, at_member, at_index}
 use Rattle.net_json.specs.KeptItems.{KeptItem, kept_judged, Taken, Took, Misfit, take_tree}
 use Rattle.net_json.specs.Exports.{whole_export, export_judged}
 use Rattle.net_json.specs.AcceptedLists.{item_values, KeepsItems}

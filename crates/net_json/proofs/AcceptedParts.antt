@@ -1,8 +1,8 @@
 -- What is accepted fits the program: networks, exports, copies, and so scenes.
-use Rattle.std.proofs.Common.{◌≡◌, ◌≢◌, ℕ, zero, suc, ◌+◌, ◌<◌, ◌≤◌, ◌&&◌, List, [], ◌∷◌, length, map, refl, sym, ◌∙◌, ap, subst, arith, Bool, true, false, not, nat_eq, nat_le, Option, Some, None}
+use Rattle.std.proofs.Common.{◌≡◌, ◌≢◌, ℕ, ◌≤◌, ◌&&◌, List, [], ◌∷◌, refl, sym, ◌∙◌, subst, arith, Bool, true, false, not, nat_eq, nat_le, Option, Some, None}
 use Rattle.std.specs.Prelude.{codes, if◌then◌else◌, is_some}
 use Rattle.std.specs.List.{All}
-use Rattle.std.proofs.lemmas.Bool.{eqb-true, eqb-false, leb-true}
+use Rattle.std.proofs.lemmas.Bool.{eqb-false, leb-true}
 use Rattle.std.proofs.lemmas.List.Elements.{All-head, All-tail, All-weaker}
 use Rattle.serde_json.specs.Data.{Data, Items}
 use Rattle.serde_json.specs.Find.{as_array, as_null}
@@ -10,16 +10,13 @@ use Rattle.fc_values.specs.Types.{Declarations, Input}
 use Rattle.fc_values.specs.Fields.{is_in}
 use Rattle.fc_values.specs.Inputs.{InputsFit}
 use Rattle.fc_values.specs.Values.{LocalValue}
-use Rattle.fc_values.specs.BuiltinTypes.{inner}
-use Rattle.fc_values.specs.Trees.{Tree, TreeExport, NearCopy, Copy}
-use Rattle.fc_nodes.specs.Terms.{type_of}
+use Rattle.fc_values.specs.Trees.{TreeExport, NearCopy, Copy}
 use Rattle.fc_nodes.specs.Program.{Unfolding}
 use Rattle.fc_nodes.specs.Flat.{IsWellTyped}
 use Rattle.value_trees.specs.Copies.{WhereSome, NearFits, AllNearFit, FitsCopy}
-use Rattle.topology.specs.Networks.{NetDevice, Network, numbers, lives, Lives, DevicesFit, IsNetwork, network_of}
-use Rattle.topology.specs.Changes.{in_metric}
+use Rattle.topology.specs.Networks.{NetDevice, Network, lives, Lives, DevicesFit, IsNetwork, network_of}
 use Rattle.topology.proofs.Lemmas.{linked_network}
-use Rattle.net_json.specs.Judging.{Judged, Accepted, Refused, Misshaped, given, in_turn, at_member}
+use Rattle.net_json.specs.Judging.{Accepted, Misshaped, given, at_member}
 use Rattle.net_json.specs.Reading.{value_of, two_members}
 use Rattle.net_json.specs.Inputs.{inputs_judged}
 use Rattle.net_json.specs.Devices.{device_form, device_number, live_number, device_judged, number_of, devices_judged}
@@ -29,12 +26,11 @@ use Rattle.net_json.specs.Exports.{export_judged}
 use Rattle.net_json.specs.Tables.{Row, row_number, row_form, row_judged, rows_judged, array_or, second_format, second_judged, table_judged}
 use Rattle.net_json.specs.Copies.{own_export, some_export, own_judged, other_number, weight_judged, near_judged, near_number, nears_judged, parts_judged, copy_number, copy_judged, near_form, copy_form, copies_judged, CopyForm}
 use Rattle.net_json.specs.Scenes.{SceneValue, scene_path, scene_form, network_judged, scene_judged, of_reading, scene_of, json_of}
-use Rattle.net_json.specs.SceneCode.{DeviceFits}
 use Rattle.net_json.specs.ReadingBack.{AreTableRows}
 use Rattle.net_json.specs.FittingScenes.{AreFlights, SceneFits}
 use Rattle.net_json.proofs.InputFacts.{values_fit}
 use Rattle.net_json.proofs.AcceptedExports.{export_accepted}
-use Rattle.net_json.proofs.Accepting.{then_accepted, require_accepted, no_fault_accepted, same_accepted, in_turn_keeps, AreGathered, IsNew, all_gathered, many_gathered}
+use Rattle.net_json.proofs.Accepting.{then_accepted, require_accepted, no_fault_accepted, same_accepted, in_turn_keeps, IsNew, all_gathered, many_gathered}
 
 and_both : (p q : Bool) → (p && q) ≡ true → (p ≡ true) × (q ≡ true)
 and_both true q e = (refl, e)
@@ -76,6 +72,11 @@ other_number_accepted device before path id n e =
 
 -- ---- networks
 
+-- a device that may be one of a network with these inputs
+record DeviceFits (is : List Input) (n : NetDevice) : Type 0 where
+  pub small : n.id ≤ 65535
+  pub inputs : InputsFit is n.inputs
+
 device_new : (is : List Input) (before path : List ℕ) (d : Data) (n : NetDevice) → device_judged is before path d ≡ Accepted n → IsNew number_of (DeviceFits is) before n
 device_new is before path d n e =
     then_accepted (device_form path d) e (λ form f g.
@@ -87,7 +88,7 @@ device_new is before path d n e =
       holds = record { small = number.0; inputs = inputs_accepted is _ form.1 vs l };
     }))))
 
-pub devices_fit : (D : Declarations) (ns : List NetDevice) → All (DeviceFits D.inputs) ns → DevicesFit D ns
+devices_fit : (D : Declarations) (ns : List NetDevice) → All (DeviceFits D.inputs) ns → DevicesFit D ns
 devices_fit D [] a = tt
 devices_fit D (n ∷ ns) a =
     let f = All-head (DeviceFits D.inputs) n ns a in

@@ -8,7 +8,7 @@ use Rattle.topology.specs.declared.types.NetFault.{NetFault}
 use Rattle.fc_values.specs.Fields.{Rises, is_in}
 use Rattle.fc_values.specs.Lists.{insert_after}
 use Rattle.fc_values.proofs.Lists.{insert_map, insert_length}
-use Rattle.net_json.specs.Judging.{Judged, Accepted, Refused, Refusal, BadNetwork, and_then, require, no_fault, in_turn, gathered, gather, at_index}
+use Rattle.net_json.specs.Judging.{Judged, Accepted, Refused, Refusal, and_then, require, no_fault, in_turn, gathered, gather, at_index}
 use Rattle.net_json.specs.Reading.{count_items}
 use Rattle.net_json.proofs.Risings.{insert_rises}
 

@@ -11,7 +11,6 @@ mod TookTrees
 mod PlainLists
 mod Living
 mod InputFacts
-mod Makes
 mod AcceptedExports
 mod AcceptedParts
 mod Jsons

@@ -1,15 +1,13 @@
 -- Scenes in code: what they stand for, and what their rows and copies are.
-use Rattle.std.specs.Prelude.{ℕ, ◌≤◌, List, map}
+use Rattle.std.specs.Prelude.{ℕ, List, map}
 use Rattle.std.specs.Borrow.{Bor}
 use Rattle.std.specs.List.{All}
 use Rattle.fc_values.specs.declared.exports.Export.{Export}
-use Rattle.fc_values.specs.Types.{Input}
 use Rattle.fc_values.specs.Fields.{Rises}
 use Rattle.fc_nodes.specs.Program.{Unfolding}
 use Rattle.value_trees.specs.declared.copies.Snap.{Snap}
 use Rattle.value_trees.specs.Snaps.{tree_of, snap_copy, IsExportOf, IsSnap}
-use Rattle.fc_values.specs.Inputs.{InputsFit}
-use Rattle.topology.specs.Networks.{NetDevice, Network, Lives}
+use Rattle.topology.specs.Networks.{Network, Lives}
 use Rattle.net_json.specs.declared.types.Scene.{Scene}
 use Rattle.net_json.specs.Tables.{Row}
 use Rattle.net_json.specs.Scenes.{SceneValue}
@@ -23,11 +21,6 @@ borrowed_row U r = (r.0, tree_of U r.1.now)
 -- what a scene stands for
 abbrev pub value_of_scene : Unfolding → Scene → SceneValue
 value_of_scene U s = record { net = s.net; table = map (row_of U) s.table.items; pending = map (snap_copy U) s.pending.items }
-
--- a device that may be one of a network with these inputs
-pub record DeviceFits (is : List Input) (n : NetDevice) : Type 0 where
-  pub small : n.id ≤ 65535
-  pub inputs : InputsFit is n.inputs
 
 -- rows of devices that are there, rising, with well-typed exports
 pub record AreRows (U : Unfolding) (n : Network) (rows : List (ℕ × Export)) : Type 0 where

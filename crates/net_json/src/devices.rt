@@ -1,7 +1,6 @@
 //! The devices of a scene.
 
-ghost use Rattle.std.specs.Prelude.{◌≡◌, ◌≤◌, IfOk, IfErr, length, map, codes};
-ghost use Rattle.std.specs.List.{All};
+ghost use Rattle.std.specs.Prelude.{IfOk, map, codes};
 ghost use Rattle.serde_json.specs.View.{view, items_view};
 ghost use Rattle.fc_values.specs.Types.{input_of};
 ghost use Rattle.fc_values.specs.Fields.{Rises};
@@ -10,7 +9,6 @@ ghost use Rattle.net_json.specs.PlaceCode.{path_of};
 ghost use Rattle.net_json.specs.Judging.{at_member, gather, Accepts, Refuses};
 ghost use Rattle.net_json.specs.Devices.{device_form, device_number, device_judged, number_of, devices_judged};
 ghost use Rattle.net_json.specs.Places.{IsPlace};
-ghost use Rattle.net_json.specs.SceneCode.{DeviceFits};
 
 use crate::inputs::read_inputs;
 use crate::places::Place;
@@ -55,7 +53,6 @@ fn number(
     requires { Rises numbers.now }
     ensures ok { Accepts result (λ d. d.1) (device_number numbers.now (at_member (path_of here.now) (codes "id")) id) }
     ensures place { IfOk result (λ d. IsPlace numbers.now d.1 d.0) }
-    ensures small { IfOk result (λ d. d.1 ≤ 65535) }
     ensures refused { Refuses result (device_number numbers.now (at_member (path_of here.now) (codes "id")) id) }
 {
     if id > 65_535 {
@@ -81,7 +78,6 @@ fn read_device(
     ensures ok { Accepts result (λ d. device_of d.1)
         (device_judged (map input_of inputs.now) numbers.now (path_of here.now) (view value.now)) }
     ensures place { IfOk result (λ d. IsPlace numbers.now d.1.id d.0) }
-    ensures fits { IfOk result (λ d. DeviceFits (map input_of inputs.now) (device_of d.1)) }
     ensures refused { Refuses result
         (device_judged (map input_of inputs.now) numbers.now (path_of here.now) (view value.now)) }
 {
@@ -102,9 +98,6 @@ fn gather_devices(
 ) -> Result<Vec<Device>, JsonFault>
     ensures ok { Accepts result (λ ds. map device_of ds.items)
         (gather number_of (device_judged (map input_of inputs.now)) (path_of here.now) (items_view items.now)) }
-    ensures rising { IfOk result (λ ds. Rises (numbers (map device_of ds.items))) }
-    ensures fit { IfOk result (λ ds. All (λ d. DeviceFits (map input_of inputs.now) (device_of d)) ds.items) }
-    ensures many { IfOk result (λ ds. length ds.items ≡ length items.now) }
     ensures refused { Refuses result
         (gather number_of (device_judged (map input_of inputs.now)) (path_of here.now) (items_view items.now)) }
 {
@@ -128,10 +121,6 @@ pub(crate) fn read_devices(
 ) -> Result<Vec<Device>, JsonFault>
     ensures ok { Accepts result (λ ds. map device_of ds.items)
         (devices_judged (map input_of inputs.now) (path_of here.now) (items_view items.now)) }
-    ensures rising { IfOk result (λ ds. Rises (numbers (map device_of ds.items))) }
-    ensures fit { IfOk result (λ ds. All (λ d. DeviceFits (map input_of inputs.now) (device_of d)) ds.items) }
-    ensures some { IfOk result (λ ds. 1 ≤ length ds.items) }
-    ensures few { IfOk result (λ ds. length ds.items ≤ 1024) }
     ensures refused { Refuses result
         (devices_judged (map input_of inputs.now) (path_of here.now) (items_view items.now)) }
 {

@@ -1,6 +1,6 @@
 //! Exports, by their values and their kept lists.
 
-ghost use Rattle.std.specs.Prelude.{◌≡◌, IsTrue, IfOk, IfErr, map};
+ghost use Rattle.std.specs.Prelude.{◌≡◌, IsTrue, IfOk, map};
 ghost use Rattle.serde_json.specs.View.{items_view};
 ghost use Rattle.fc_values.specs.Values.{local_of};
 ghost use Rattle.fc_values.specs.BuiltinTypes.{inner as inner_type};

@@ -1,4 +1,4 @@
-use Rattle.std.proofs.Common.{ℕ, List, sym, ◌∙◌, ap, subst, map, option_map}
+use Rattle.std.proofs.Common.{List, sym, ◌∙◌, ap, subst, map, option_map}
 use Rattle.std.specs.Prelude.{codes}
 use Rattle.std.proofs.lemmas.Result.{err_from_is_err_and}
 use Rattle.fc_values.specs.Types.{Input, Declarations, input_of}
@@ -8,7 +8,7 @@ use Rattle.value_trees.specs.Snaps.{tree_of}
 use Rattle.value_trees.proofs.Fits.{parts_fit}
 use Rattle.fc_values.specs.Inputs.{InputsFit}
 use Rattle.net_json.specs.PlaceCode.{path_of}
-use Rattle.net_json.specs.Judging.{Accepted, and_then, at_member, RefusedWith}
+use Rattle.net_json.specs.Judging.{Accepted, and_then, at_member}
 use Rattle.net_json.specs.Inputs.{inputs_judged}
 use Rattle.net_json.specs.Copies.{own_judged, nears_judged}
 use Rattle.net_json.specs.CopyCode.{form_of}

@@ -1,15 +1,13 @@
-use Rattle.std.proofs.Common.{length, ◌+◌, ◌∙◌, sym, ap, subst, map, drop}
+use Rattle.std.proofs.Common.{◌+◌, ◌∙◌, sym, ap, subst, map, drop}
 use Rattle.serde_json.specs.View.{view, items_of}
 use Rattle.net_json.specs.PlaceCode.{path_of}
 use Rattle.net_json.specs.Judging.{in_turn, gathered}
-use Rattle.std.specs.List.{All, insert}
+use Rattle.std.specs.List.{insert}
 use Rattle.fc_values.specs.Fields.{Rises}
 use Rattle.fc_values.specs.Types.{input_of}
 use Rattle.topology.specs.Networks.{device_of}
-use Rattle.topology.specs.declared.types.Device.{Device}
-use Rattle.net_json.specs.SceneCode.{DeviceFits}
 use Rattle.net_json.specs.Devices.{device_judged, number_of}
-use Rattle.net_json.proofs.Gathering.{rises_more, numbers_more, gathered_more, all_insert, insert_long}
+use Rattle.net_json.proofs.Gathering.{rises_more, numbers_more, gathered_more}
 use Rattle.net_json.proofs.devices.gather_devices.Goals as goal
 
 pub loop-i-preserved : goal.loop-i-preserved
@@ -28,6 +26,4 @@ loop-i-preserved c =
           ∙ ap (λ ds. in_turn (gathered number_of (device_judged (map input_of c.args.inputs.now))) (path_of c.args.here.now) (map device_of ds) (c.loop-i.i + 1) (items_of (map view (drop (c.loop-i.i + 1) c.args.items.now)))) (sym c.in_ok-insert-2.ensures.items);
       same = numbers_are ∙ numbers_more device_of number_of devices ns x at same place ∙ ap (λ ds. map number_of (map device_of ds)) (sym c.in_ok-insert-2.ensures.items);
       rises = subst Rises (sym numbers_are) (rises_more ns x.id at (subst Rises (sym c.deref.ensures.value) c.loop-i.invariant.rises) place);
-      fit = subst (All (λ (d : Device). DeviceFits (map input_of c.args.inputs.now) (device_of d))) (sym c.in_ok-insert-2.ensures.items) (all_insert (λ (d : Device). DeviceFits (map input_of c.args.inputs.now) (device_of d)) devices at x c.in_ok-at.ensures.fits c.loop-i.invariant.fit);
-      many = ap (length {A = Device}) c.in_ok-insert-2.ensures.items ∙ insert_long devices at x ∙ ap (λ n. n + 1) c.loop-i.invariant.many;
     }

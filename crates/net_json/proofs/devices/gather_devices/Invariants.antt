@@ -1,5 +1,4 @@
-use Rattle.std.proofs.Common.{◌≡◌, length, map, drop, []}
-use Rattle.std.specs.List.{All}
+use Rattle.std.proofs.Common.{◌≡◌, map, drop, []}
 use Rattle.fc_values.specs.Fields.{Rises}
 use Rattle.fc_values.specs.Types.{input_of}
 use Rattle.serde_json.specs.View.{view, items_of}
@@ -7,7 +6,6 @@ use Rattle.topology.specs.Networks.{device_of}
 use Rattle.net_json.specs.PlaceCode.{path_of}
 use Rattle.net_json.specs.Judging.{in_turn, gathered}
 use Rattle.net_json.specs.Devices.{device_judged, number_of}
-use Rattle.net_json.specs.SceneCode.{DeviceFits}
 use Rattle.net_json.proofs.devices.gather_devices.Given as goal
 
 abbrev pub invariant-loop-i : goal.invariant-loop-i
@@ -16,6 +14,4 @@ invariant-loop-i l = record {
       ≡ in_turn (gathered number_of (device_judged (map input_of l.inputs))) (path_of l.here) (map device_of l.devices.items) l.i (items_of (map view (drop l.i l.items)));
   same : l.numbers.items ≡ map number_of (map device_of l.devices.items);
   rises : Rises l.numbers.items;
-  fit : All (λ d. DeviceFits (map input_of l.inputs) (device_of d)) l.devices.items;
-  many : length l.devices.items ≡ l.i;
 }

@@ -1,9 +1,9 @@
-use Rattle.std.proofs.Common.{◌≡◌, ℕ, List, sym, ◌∙◌, ap, subst, map, option_map}
+use Rattle.std.proofs.Common.{map, option_map}
 use Rattle.std.specs.Prelude.{codes}
 use Rattle.std.proofs.lemmas.Result.{err_from_is_err_and}
 use Rattle.serde_json.specs.View.{view, items_view}
 use Rattle.fc_nodes.specs.Program.{unfolding_of}
-use Rattle.net_json.specs.Judging.{Accepted, and_then, at_member, RefusedWith}
+use Rattle.net_json.specs.Judging.{Accepted, and_then}
 use Rattle.net_json.specs.Copies.{copies_judged}
 use Rattle.net_json.specs.SceneCode.{row_of}
 use Rattle.net_json.specs.Scenes.{scene_path, scene_form, SceneForm, network_judged, or_empty}
