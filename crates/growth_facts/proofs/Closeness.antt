@@ -122,12 +122,3 @@ module _ (b m : ℕ) (t : LocalType) where
   lesser_close v v' w w' f f' g g' (inr h) (inl e) = rw e (other_less w' v v' g' f f' h.0 h.1)
   lesser_close v v' w w' f f' g g' (inr h) (inr h') =
       let e = lesser_lead v w (fits_form m t w v g f) in let e' = lesser_lead v' w' (fits_form m t w' v' g' f') in inr (omega (arith, e, h.0, h'.0), omega (arith, e', h.1, h'.1))
-
-  -- one argument of `max` is the same on both sides
-  pub greater_close : (v v' w : LocalValue) → Fits m t v → Fits m t v' → Fits m t w → Close b v v' → Close b (greater v w) (greater v' w)
-  greater_close v v' w f f' g (inl e) = inl (rw e refl)
-  greater_close v v' w f f' g (inr h) = let e = greater_lead v w (fits_form m t v w f g) in let e' = greater_lead v' w (fits_form m t v' w f' g) in inr (omega (arith, e, h.0), omega (arith, e', h.1))
-
-  pub greater_other : (v v' w : LocalValue) → Fits m t v → Fits m t v' → Fits m t w → Close b v v' → Close b (greater w v) (greater w v')
-  greater_other v v' w f f' g (inl e) = inl (rw e refl)
-  greater_other v v' w f f' g (inr h) = let e = greater_lead w v (fits_form m t w v g f) in let e' = greater_lead w v' (fits_form m t w v' g f') in inr (omega (arith, e, h.0), omega (arith, e', h.1))

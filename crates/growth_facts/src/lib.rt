@@ -8,6 +8,6 @@ mod tables;
 mod walk;
 
 pub use laws::growth_law;
-pub use node_facts::{Facts, Growth};
+pub use node_facts::Growth;
 pub use nodes::{greatest_integer, least_integer};
-pub use walk::{facts, growth};
+pub use walk::growth;

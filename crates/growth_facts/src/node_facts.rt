@@ -7,9 +7,9 @@ pub enum Growth {
     At(u32),
 }
 
-/// What is known of a node of the body of a `rep` or `share`: whether the variable occurs in it, whether it is the
-/// variable itself, what is heard of the variable, or the second component of that; whether its entries are integers, or
-/// are led by an integer; the least of these integers, 0 where there are none; and its growth.
+// What is known of a node of the body of a `rep` or `share`: whether the variable occurs in it, whether it is the
+// variable itself, what is heard of the variable, or the second component of that; whether its entries are integers, or
+// are led by an integer; the least of these integers, 0 where there are none; and its growth.
 #[derive(Clone, Copy)]
 pub struct Facts {
     pub uses: bool,
@@ -22,7 +22,7 @@ pub struct Facts {
     pub growth: Growth,
 }
 
-/// The variable of a `rep` or `share`: the place that binds it, and which of the two that is.
+// The variable of a `rep` or `share`: the place that binds it, and which of the two that is.
 #[derive(Clone, Copy)]
 pub struct Evolving {
     pub place: u32,

@@ -24,8 +24,8 @@ pub fn growth(program: &Unfolded, ranges: &Ranges, rep: u32, place: u32) -> Grow
     facts.growth
 }
 
-/// What is known of the node at a place of the body of a `rep` or `share`, by one walk over the nodes below it.
-pub fn facts(program: &Unfolded, ranges: &Ranges, rep: u32, place: u32) -> Facts
+// What is known of the node at a place, by one walk over the nodes below it.
+fn facts(program: &Unfolded, ranges: &Ranges, rep: u32, place: u32) -> Facts
     requires ranges { AreRangesOf (unfolding_of program.now) ranges.now }
     requires evolving { IsEvolving program.now.nodes rep }
     requires place { place < length program.now.nodes }
