@@ -1,11 +1,11 @@
 -- A finished walk of `main` gives the export of the copy.
-use Rattle.std.proofs.Common.{◌≡◌, ℕ, List, [], length, refl, sym, ◌∙◌, ap, subst, false, Some, IsSome}
+use Rattle.std.proofs.Common.{◌≡◌, ℕ, List, [], length, refl, sym, ap, subst, false, Some, IsSome}
 use Rattle.fc_values.specs.Values.{LocalValue, Fits}
 use Rattle.fc_values.specs.Fields.{AnyValue, ValueLocal, with_number}
 use Rattle.fc_values.specs.BuiltinTypes.{inner}
 use Rattle.fc_values.specs.Trees.{Tree, Copy}
-use Rattle.fc_values.specs.Exports.{SlotValue, FlatExport, slot_at}
-use Rattle.fc_nodes.specs.Terms.{type_of, kept, kept_types}
+use Rattle.fc_values.specs.Exports.{SlotValue, slot_at}
+use Rattle.fc_nodes.specs.Terms.{type_of, kept_types}
 use Rattle.fc_nodes.specs.Program.{Program, Unfolding, unfolding_of, IsProgram}
 use Rattle.fc_nodes.specs.Flat.{FitsTree, IsWellTyped, tree_at, Marked, HaveForms, tree_export, IsExport}
 use Rattle.device_eval.specs.Evaluation.{Outcome, eval_of}
@@ -14,13 +14,7 @@ use Rattle.device_eval.specs.Copies.{env_of, situation_of, EvaluatesCopy}
 use Rattle.device_eval.proofs.Progress.{Gives, IsLocalOf, local_of_type}
 use Rattle.device_eval.proofs.OneExport.{main_gives}
 use Rattle.device_eval.proofs.Agree.{gives_rule, only_one}
-use Rattle.fc_nodes.proofs.Kept.{kept_long}
-use Rattle.value_trees.proofs.Forms.{have_long}
 use Rattle.device_eval.proofs.Shapes.{root_forms}
-
--- an export in slots has all slots of the program, and they are marked
-pub export_long : (U : Unfolding) (x : FlatExport) → IsExport U x → length x.slots ≡ kept U.main
-export_long U x h = have_long (kept_types U.main) x.slots h.shaped ∙ kept_long U.main
 
 module _ (P : Program) (s : Copy) (p : IsProgram P) (h : FitsCopy (unfolding_of P) s) where
   abbrev pub U : Unfolding

@@ -36,7 +36,8 @@ pub record FitsEnv (ceiling device : ℕ) (ds : List ℕ) (P : Tree → Type 0) 
 -- A variable in scope: a field is over the device, the neighbours and maybe more devices.
 abbrev pub VariableFits : ℕ → ℕ → List ℕ → ValueType → AnyValue → Type 0
 VariableFits ceiling device ds (TypeLocal t) (ValueLocal v) = Fits ceiling t v
-VariableFits ceiling device ds (TypeField t) (ValueField es) = AllFit ceiling t es × (filter (λ (d : ℕ). nat_eq d device || is_in d ds) (devices es) ≡ with_number device ds)
+VariableFits ceiling device ds (TypeField t) (ValueField es) =
+    AllFit ceiling t es × (filter (λ (d : ℕ). nat_eq d device || is_in d ds) (devices es) ≡ with_number device ds)
 VariableFits ceiling device ds _ _ = ⊥
 
 abbrev pub VarsFit : ℕ → ℕ → List ℕ → Scope → Vars → Type 0

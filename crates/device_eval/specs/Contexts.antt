@@ -38,11 +38,13 @@ ReadyIn c p s xs = Ready (situation_in c) c.program.now.nodes c.layout.now p (va
 -- the same, and this node stands there
 abbrev pub ReadyFor : Context → ℕ → Sight → Node → Sort → List Slot → Type 0
 ReadyFor c p s n o xs =
-    ReadyAt (situation_in c) c.program.now.nodes c.layout.now p o (type_of n.ty) n.kids.items (vars_of s.vars.now) (flat_of s.env.now) (slots_of xs)
+    ReadyAt (situation_in c) c.program.now.nodes c.layout.now p o (type_of n.ty) n.kids.items
+    (vars_of s.vars.now) (flat_of s.env.now) (slots_of xs)
 
 -- what the evaluation makes of a draft, and the value that it gives
 abbrev pub Evaluated : Context → ℕ → Sight → List Slot → List Slot → Value → Type 0
-Evaluated c p s old new v = DidAt (situation_in c) c.program.now.nodes p (vars_of s.vars.now) (flat_of s.env.now) (slots_of old) (value_of v) (slots_of new)
+Evaluated c p s old new v =
+    DidAt (situation_in c) c.program.now.nodes p (vars_of s.vars.now) (flat_of s.env.now) (slots_of old) (value_of v) (slots_of new)
 
 -- the same for places one after another, whose values are added to others
 abbrev pub ReadyKids : Context → List ℕ → Sight → List Slot → Type 0
@@ -50,4 +52,5 @@ ReadyKids c ks s xs = ReadyEach (situation_in c) c.program.now.nodes c.layout.no
 
 abbrev pub EvaluatedKids : Context → List ℕ → Sight → List Slot → List Slot → List Value → List Value → Type 0
 EvaluatedKids c ks s old new before behind =
-    DidEach (situation_in c) c.program.now.nodes ks (vars_of s.vars.now) (flat_of s.env.now) (slots_of old) (values_of before) (values_of behind) (slots_of new)
+    DidEach (situation_in c) c.program.now.nodes ks (vars_of s.vars.now) (flat_of s.env.now)
+    (slots_of old) (values_of before) (values_of behind) (slots_of new)

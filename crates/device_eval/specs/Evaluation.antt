@@ -1,10 +1,12 @@
 -- Evaluation as a function: the value and the tree of a term, or none where it is stuck.
-use Rattle.std.specs.Prelude.{ℕ, suc, Bool, true, false, ◌+◌, List, [], ◌∷◌, min, Option, Some, None, option_map, nat_eq, slice_get, if◌then◌else◌}
+use Rattle.std.specs.Prelude.{ℕ, suc, Bool, true, false, ◌+◌, List, [], ◌∷◌, min, Option}
+use Rattle.std.specs.Prelude.{Some, None, option_map, nat_eq, slice_get, if◌then◌else◌}
 use Rattle.fc_values.specs.Values.{LocalValue, IntValue, BoolValue, PairValue}
 use Rattle.fc_values.specs.Fields.{Entries, AnyValue, ValueLocal, ValueField, with_entry, restricted}
 use Rattle.fc_values.specs.Builtins.{builtin_value}
 use Rattle.fc_values.specs.Trees.{Tree, Trees, Keep, Done, Then, leaf, kept_of}
-use Rattle.fc_nodes.specs.Terms.{Leaf, Literal, Variable, Sense, Uid, NbrLink, Evolution, ByRep, ByShare, Term, Terms, Plain, Apply, Nbr, Evolve, If, Let, NoMore, More, size}
+use Rattle.fc_nodes.specs.Terms.{Leaf, Literal, Variable, Sense, Uid, NbrLink, Evolution, ByRep, ByShare}
+use Rattle.fc_nodes.specs.Terms.{Term, Terms, Plain, Apply, Nbr, Evolve, If, Let, NoMore, More, size}
 use Rattle.alignment.specs.Environments.{Env, child_env, branch_env, near_numbers}
 use Rattle.device_eval.specs.Neighbours.{kept_there, weights}
 
@@ -100,7 +102,9 @@ abbrev mutual
   eval_of S p (If t c a b) vars env =
       after (eval_of S (suc p) c vars (child_env 0 env)) (λ r tc.
       on_truth r (λ k.
-      after (pick k (eval_of S (suc p + size c) a vars (child_env 1 (branch_env k env))) (eval_of S (suc p + size c + size a) b vars (child_env 1 (branch_env k env)))) (λ v tk.
+      after (pick k
+      (eval_of S (suc p + size c) a vars (child_env 1 (branch_env k env)))
+      (eval_of S (suc p + size c + size a) b vars (child_env 1 (branch_env k env)))) (λ v tk.
       Some (v, Keep (Some (BoolValue k)) (Then tc (Then tk Done))))))
   eval_of S p (Let t a b) vars env =
       after (eval_of S (suc p) a vars (child_env 0 env)) (λ r ta.

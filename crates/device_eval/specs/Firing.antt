@@ -15,4 +15,5 @@ pub record FiredValue : Type 0 where
 pub record IsFired (f : FiredValue) : Type 0 where
   pub snap : IsSnap (unfolding_of f.program) f.snap
   pub export : IsExportOf (unfolding_of f.program) f.export
-  pub evaluates : EvaluatesCopy (unfolding_of f.program) (snap_copy (unfolding_of f.program) f.snap) (tree_of (unfolding_of f.program) f.export)
+  pub evaluates : EvaluatesCopy (unfolding_of f.program)
+      (snap_copy (unfolding_of f.program) f.snap) (tree_of (unfolding_of f.program) f.export)

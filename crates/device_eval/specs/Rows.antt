@@ -15,7 +15,8 @@ use Rattle.device_eval.specs.Walks.{Room, SameOut, Still}
 -- the outcomes of these places, in order
 abbrev pub outcomes_at : Situation → List Node → List ℕ → Vars → FlatEnv → Outcomes
 outcomes_at S ns [] vars env = Some ([], Done)
-outcomes_at S ns (k ∷ ks) vars env = and_then (eval_of S k (term_at ns k) vars (env_at (term_at ns k) (kept_before ns k) env)) (outcomes_at S ns ks vars env)
+outcomes_at S ns (k ∷ ks) vars env =
+    and_then (eval_of S k (term_at ns k) vars (env_at (term_at ns k) (kept_before ns k) env)) (outcomes_at S ns ks vars env)
 
 -- the trees that slots stand for, one for each place
 abbrev pub row_trees : List Node → List ℕ → List SlotValue → Trees
@@ -54,13 +55,15 @@ pub record CanEach (S : Situation) (ns : List Node) (ks : List ℕ) (vars : Vars
   pub runs : IsSome (outcomes_at S ns ks vars env)
 
 -- places at which evaluation may begin, one after another
-pub record ReadyEach (S : Situation) (ns : List Node) (l : LayoutValue) (ks : List ℕ) (vars : Vars) (env : FlatEnv) (xs : List SlotValue) : Type 0 where
+pub record ReadyEach (S : Situation) (ns : List Node) (l : LayoutValue) (ks : List ℕ)
+    (vars : Vars) (env : FlatEnv) (xs : List SlotValue) : Type 0 where
   pub can : CanEach S ns ks vars env xs
   pub layout : IsLayout ns l
   pub formed : WellFormed ns
 
 -- what it gives: their values are added to others
-pub record DidEach (S : Situation) (ns : List Node) (ks : List ℕ) (vars : Vars) (env : FlatEnv) (xs : List SlotValue) (old new : List AnyValue) (ys : List SlotValue) : Type 0 where
+pub record DidEach (S : Situation) (ns : List Node) (ks : List ℕ) (vars : Vars) (env : FlatEnv)
+    (xs : List SlotValue) (old new : List AnyValue) (ys : List SlotValue) : Type 0 where
   pub vs : List AnyValue
   pub added : new ≡ old ++ vs
   pub gives : outcomes_at S ns ks vars env ≡ Some (vs, row_trees ns ks ys)

@@ -6,7 +6,8 @@ use Rattle.fc_values.specs.Values.{LocalValue, IntValue, BoolValue}
 use Rattle.fc_values.specs.Fields.{Entries, AnyValue, ValueLocal, ValueField, with_entry, restricted}
 use Rattle.fc_values.specs.Builtins.{builtin_value}
 use Rattle.fc_values.specs.Trees.{Tree, Trees, Keep, Done, Then, leaf}
-use Rattle.fc_nodes.specs.Terms.{Literal, Variable, Sense, Uid, NbrLink, ByRep, ByShare, Term, Terms, Plain, Apply, Nbr, Evolve, If, Let, NoMore, More, size}
+use Rattle.fc_nodes.specs.Terms.{Literal, Variable, Sense, Uid, NbrLink, ByRep, ByShare, Term}
+use Rattle.fc_nodes.specs.Terms.{Terms, Plain, Apply, Nbr, Evolve, If, Let, NoMore, More, size}
 use Rattle.alignment.specs.Environments.{Env, child_env, branch_env, near_numbers}
 use Rattle.device_eval.specs.Neighbours.{kept_there, weights}
 use Rattle.device_eval.specs.Evaluation.{Situation, Vars, variable_at, own_or}
@@ -15,7 +16,8 @@ use Rattle.device_eval.specs.Evaluation.{Situation, Vars, variable_at, own_or}
 mutual
   pub data Evaluates (S : Situation) : ℕ → Term → Vars → Env → AnyValue → Tree → Type 0 where
     -- a number or truth value is itself
-    literal : {p : ℕ} {vars : Vars} {env : Env} (t : ValueType) (v : LocalValue) → Evaluates S p (Plain t (Literal v)) vars env (ValueLocal v) leaf
+    literal : {p : ℕ} {vars : Vars} {env : Env} (t : ValueType) (v : LocalValue)
+        → Evaluates S p (Plain t (Literal v)) vars env (ValueLocal v) leaf
     -- a variable is its value; a field is restricted to the aligned neighbours and the device
     variable : {p : ℕ} {vars : Vars} {env : Env} (t : ValueType) (n : ℕ) (v : AnyValue) → variable_at n vars ≡ Some v
         → Evaluates S p (Plain t (Variable n)) vars env (restricted S.device (near_numbers env.near) v) leaf
@@ -23,12 +25,15 @@ mutual
     sense : {p : ℕ} {vars : Vars} {env : Env} (t : ValueType) (i : ℕ) (v : LocalValue) → slice_get S.inputs i ≡ Some v
         → Evaluates S p (Plain t (Sense i)) vars env (ValueLocal v) leaf
     -- the device's number, cut at the ceiling
-    uid : {p : ℕ} {vars : Vars} {env : Env} (t : ValueType) → Evaluates S p (Plain t Uid) vars env (ValueLocal (IntValue (min S.device S.ceiling))) leaf
+    uid : {p : ℕ} {vars : Vars} {env : Env} (t : ValueType)
+        → Evaluates S p (Plain t Uid) vars env (ValueLocal (IntValue (min S.device S.ceiling))) leaf
     -- the weight of each aligned neighbour, and the least weight at the device itself
-    nbr_link : {p : ℕ} {vars : Vars} {env : Env} (t : ValueType) → Evaluates S p (Plain t NbrLink) vars env (ValueField (with_entry S.device (IntValue S.least) (weights env.near))) leaf
+    nbr_link : {p : ℕ} {vars : Vars} {env : Env} (t : ValueType)
+        → Evaluates S p (Plain t NbrLink) vars env (ValueField (with_entry S.device (IntValue S.least) (weights env.near))) leaf
     -- the arguments in order, and then the builtin
     builtin : {p : ℕ} {vars : Vars} {env : Env} (t : ValueType) (o : Builtin) (xs : Terms) (vs : List AnyValue) (ts : Trees) (v : AnyValue)
-        → EvaluateAll S (suc p) 0 xs vars env vs ts → builtin_value o S.ceiling S.device vs ≡ Some v → Evaluates S p (Apply t o xs) vars env v (Keep None ts)
+        → EvaluateAll S (suc p) 0 xs vars env vs ts → builtin_value o S.ceiling S.device vs ≡ Some v
+        → Evaluates S p (Apply t o xs) vars env v (Keep None ts)
     -- each neighbour's kept value, and the new value at the device; it is what is kept
     nbr : {p : ℕ} {vars : Vars} {env : Env} (t : ValueType) (a : Term) (v : LocalValue) (ta : Tree) (es : Entries)
         → Evaluates S (suc p) a vars (child_env 0 env) (ValueLocal v) ta → kept_there env.near ≡ Some es

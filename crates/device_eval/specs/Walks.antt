@@ -39,7 +39,8 @@ pub record Can (S : Situation) (p : ℕ) (t : Term) (k : ℕ) (vars : Vars) (env
   pub runs : IsSome (eval_of S p t vars (env_at t k env))
 
 -- what it gives: the value of the definition, and slots that stand for its tree; no other slot is written
-pub record Did (S : Situation) (p : ℕ) (t : Term) (k : ℕ) (vars : Vars) (env : FlatEnv) (xs : List SlotValue) (v : AnyValue) (ys : List SlotValue) : Type 0 where
+pub record Did (S : Situation) (p : ℕ) (t : Term) (k : ℕ) (vars : Vars) (env : FlatEnv)
+    (xs : List SlotValue) (v : AnyValue) (ys : List SlotValue) : Type 0 where
   pub gives : eval_of S p t vars (env_at t k env) ≡ Some (v, tree_at t k ys)
   pub marked : Marked t k ys
   pub out : SameOut k (kept t) xs ys
@@ -61,12 +62,14 @@ pub record Stands (ns : List Node) (l : LayoutValue) (p : ℕ) : Type 0 where
   pub within : p < length ns
 
 -- a place at which evaluation may begin
-pub record Ready (S : Situation) (ns : List Node) (l : LayoutValue) (p : ℕ) (vars : Vars) (env : FlatEnv) (xs : List SlotValue) : Type 0 where
+pub record Ready (S : Situation) (ns : List Node) (l : LayoutValue) (p : ℕ)
+    (vars : Vars) (env : FlatEnv) (xs : List SlotValue) : Type 0 where
   pub can : CanAt S ns p vars env xs
   pub stands : Stands ns l p
 
 -- the same, and the node that stands there
-pub record ReadyAt (S : Situation) (ns : List Node) (l : LayoutValue) (p : ℕ) (s : Sort) (t : ValueType) (ks : List ℕ) (vars : Vars) (env : FlatEnv) (xs : List SlotValue) : Type 0 where
+pub record ReadyAt (S : Situation) (ns : List Node) (l : LayoutValue) (p : ℕ) (s : Sort) (t : ValueType)
+    (ks : List ℕ) (vars : Vars) (env : FlatEnv) (xs : List SlotValue) : Type 0 where
   pub ready : Ready S ns l p vars env xs
   pub node : HasNode ns p s t ks
 
