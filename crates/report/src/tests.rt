@@ -1,10 +1,14 @@
 //! Tests that memory suffices.
 
 use crate::logs::log_lines;
+use crate::node_facts::write_fact;
 use crate::{field, rounds_line, verdict};
-use fc_nodes::{Reason, Verdict};
-use fc_values::{Export, InputDecl, InputTy, Local, Memory, Name, Slot, Slots};
+use fc_nodes::{Node, Op, Reason, Verdict};
+use fc_values::{
+    Builtin, Export, InputDecl, InputTy, Local, LocalTy, Memory, Name, Slot, Slots, Ty,
+};
 use firing_core::{Edit, Entry};
+use interval_facts::Range;
 use std::alloc::Global;
 use std::test::Fail;
 use topology::Device;
@@ -71,5 +75,29 @@ fn shows_logs(rt: HostRuntime) -> Result<(), Fail> {
     let lines =
         b"log\nB0\nE17\nI\nlink 0 17 2\nunlink 0 17\nset 17 src true\npoke 0 4 5 7\njoin 9 false\nleave 17\n";
     assert_eq!(rt; text.as_slice(), lines.as_slice());
+    Ok(())
+}
+
+// A node, of which its kids aren't shown.
+fn node(alloc: Global, op: Op, ty: Ty) -> Node {
+    let kids = Vec::new(alloc);
+    Node { op, ty, kids }
+}
+
+#[test]
+fn shows_facts(rt: HostRuntime) -> Result<(), Fail> {
+    let alloc = rt.alloc();
+    let mut out = Vec::new(alloc);
+    let rep = node(alloc, Op::Rep, Ty::Local(LocalTy::Int));
+    write_fact(alloc, &mut out, 0, &rep, &Range::Int(0, 10), Some(22))?;
+    let sum = node(alloc, Op::Apply(Builtin::Add), Ty::Field(LocalTy::Int));
+    write_fact(alloc, &mut out, 3, &sum, &Range::Int(1, 10), None)?;
+    let variable = node(alloc, Op::Var(0), Ty::Local(LocalTy::Int));
+    write_fact(alloc, &mut out, 5, &variable, &Range::Int(0, 10), None)?;
+    let input = node(alloc, Op::Sense(0), Ty::Local(LocalTy::Bool));
+    write_fact(alloc, &mut out, 8, &input, &Range::Bool, Some(1))?;
+    let text =
+        b"0 rep int 0..10 22\n3 + field int 1..10 -\n5 var 0 int 0..10 -\n8 sense 0 bool - 1\n";
+    assert_eq!(rt; out.as_slice(), text.as_slice());
     Ok(())
 }

@@ -1,0 +1,6 @@
+use Rattle.std.proofs.Common.{◌≡◌}
+use Rattle.report.specs.Facts.{facts_before}
+use Rattle.report.proofs.node_facts.fact_lines.Given as goal
+
+abbrev pub invariant-loop-place : goal.invariant-loop-place
+invariant-loop-place l = l.lines.items ≡ facts_before l.program l.ranges l.levels l.place
