@@ -1,7 +1,7 @@
 -- A begin that nothing answers is a flight, with the copy that was taken there.
 use Rattle.std.proofs.Common.{◌≡◌, ◌⊎◌, ⊎_elim, ℕ, zero, suc, ◌+◌, ◌<◌, List, [], ◌∷◌, ◌++◌, map, take, length, refl, sym, ap, ◌∙◌, subst, inl, inr, arith, Option, Some, None, if◌then◌else◌, length-append}
 use Rattle.std.proofs.lemmas.Bool.{eq-eqb, ne_eqb}
-use Rattle.std.proofs.lemmas.List.{append_assoc, map-append}
+use Rattle.std.proofs.lemmas.List.{append_assoc, append-nil, map-append}
 use mathlib.Core.Logic.{dite}
 use native.Mathlib.Decide.{ℕ_discrete}
 use mathlib.Core.Option.{some, some-injective, some-ne-none}
@@ -75,7 +75,7 @@ is_end (EndEntry d) = Unit {0}
 is_end IdleEntry = ⊥
 is_end (EditEntry e) = ⊥
 
-begin_not_end : (e d : ℕ) → BeginEntry e ≡ EndEntry d → ⊥
+pub begin_not_end : (e d : ℕ) → BeginEntry e ≡ EndEntry d → ⊥
 unfolding is_end
 begin_not_end e d p = subst is_end (sym p) tt
 
@@ -105,14 +105,16 @@ module _ (U : Unfolding) (o : Opening) (start core : Core) (good : IsGood U star
   flies_after : (mid : List EntryValue) (c : Core) → (HasEnd d mid → ⊥) → Run U start (front ++ BeginEntry d ∷ mid) c → c.flying d ≡ Taken
   flies_after mid c none run = flights U start before c front mid d good led run none
 
-  -- no end of the device follows
-  no_end : (mid tail : List EntryValue) → (HasEnd d mid → ⊥) → last_begin d (items_of o (front ++ BeginEntry d ∷ mid)) ≡ Some (suc (length front)) → Open ((front ++ BeginEntry d ∷ mid) ++ tail)
-      → Run U start ((front ++ BeginEntry d ∷ mid) ++ tail) core → HasEnd d tail → ⊥
-  no_end mid [] none last free run h = h
-  no_end mid (x ∷ xs) none last free run h = by_entry x refl
-      (λ other keeps. no_end (mid ++ x ∷ []) xs (λ t. ⊎_elim none other (end_snoc d mid x t))
+  -- no end of the device follows, and no begin of it
+  stays_open : (mid tail : List EntryValue) → (HasEnd d mid → ⊥) → last_begin d (items_of o (front ++ BeginEntry d ∷ mid)) ≡ Some (suc (length front)) → Open ((front ++ BeginEntry d ∷ mid) ++ tail)
+      → Run U start ((front ++ BeginEntry d ∷ mid) ++ tail) core
+      → (HasEnd d tail → ⊥) × (last_begin d (items_of o ((front ++ BeginEntry d ∷ mid) ++ tail)) ≡ Some (suc (length front)))
+  stays_open mid [] none last free run = ((λ h. h), ap (λ l. last_begin d (items_of o l)) (append-nil (front ++ BeginEntry d ∷ mid)) ∙ last)
+  stays_open mid (x ∷ xs) none last free run = by_entry x refl
+      (λ other keeps. let r = stays_open (mid ++ x ∷ []) xs (λ t. ⊎_elim none other (end_snoc d mid x t))
       (ap (λ l. last_begin d (items_of o l)) (sym more) ∙ (last_snoc d o (front ++ BeginEntry d ∷ mid) x ∙ (ap (λ w. after_item d (suc (length (front ++ BeginEntry d ∷ mid))) w (WrittenItem x)) last ∙ keeps)))
-      (subst Open shift free) (subst (λ l. Run U start l core) shift run) (⊎_elim (λ e. absurd (other e)) (λ t. t) h))
+      (subst Open shift free) (subst (λ l. Run U start l core) shift run) in
+      ((λ h. ⊎_elim (λ e. absurd (other e)) r.0 h), ap (λ l. last_begin d (items_of o l)) shift ∙ r.1))
     where
       pre : List EntryValue
       pre = front ++ BeginEntry d ∷ mid
@@ -138,25 +140,33 @@ module _ (U : Unfolding) (o : Opening) (start core : Core) (good : IsGood U star
           items : items_of o (pre ++ x ∷ xs) ≡ items_of o pre ++ WrittenItem x ∷ map WrittenItem xs
           items = ap (λ l. OpeningItem o ∷ l) (map-append WrittenItem pre (x ∷ xs))
 
-      by_entry : (y : EntryValue) → x ≡ y
-          → ((x ≡ EndEntry d → ⊥) → after_item d (suc (length pre)) (Some (suc (length front))) (WrittenItem x) ≡ Some (suc (length front)) → ⊥) → ⊥
+      by_entry : {X : Type 0} → (y : EntryValue) → x ≡ y
+          → ((x ≡ EndEntry d → ⊥) → after_item d (suc (length pre)) (Some (suc (length front))) (WrittenItem x) ≡ Some (suc (length front)) → X) → X
       by_entry (BeginEntry e) is go = dite (ℕ_discrete e d)
-          (λ same. some_none (copy_of before.net before.exports d) (sym flown ∙ (begins e is same)))
+          (λ same. absurd (some_none (copy_of before.net before.exports d) (sym flown ∙ (begins e is same))))
           (λ other. go (λ t. begin_not_end e d (sym is ∙ t)) (ap (λ z. after_item d (suc (length pre)) (Some (suc (length front))) (WrittenItem z)) is ∙ ap (λ b. if b then Some (suc (length pre)) else Some (suc (length front))) (ne_eqb e d other)))
         where
           begins : (e : ℕ) → x ≡ BeginEntry e → e ≡ d → split.0.flying d ≡ None
           begins e is same = ap split.0.flying (sym same) ∙ (subst (λ z. (next : Core) × Step U split.0 z next × Run U next xs core) is split.2).1.1
-      by_entry (EndEntry e) is go = dite (ℕ_discrete e d) (λ same. answered e is same)
+      by_entry (EndEntry e) is go = dite (ℕ_discrete e d) (λ same. absurd (answered e is same))
           (λ other. go (λ t. other (same_end e d (sym is ∙ t))) (ap (λ z. after_item d (suc (length pre)) (Some (suc (length front))) (WrittenItem z)) is))
       by_entry IdleEntry is go = go (λ t. idle_not_end d (sym is ∙ t)) (ap (λ z. after_item d (suc (length pre)) (Some (suc (length front))) (WrittenItem z)) is)
       by_entry (EditEntry e) is go = go (λ t. edit_not_end e d (sym is ∙ t)) (ap (λ z. after_item d (suc (length pre)) (Some (suc (length front))) (WrittenItem z)) is)
 
-  -- so the device flies, with the copy of that begin
-  pub open_flies : (rest : List EntryValue) → Open (front ++ BeginEntry d ∷ rest) → Run U start (front ++ BeginEntry d ∷ rest) core → core.flying d ≡ Taken
-  open_flies rest free run = flies_after rest core (no_end [] rest (λ t. t) began (subst Open same free) (subst (λ l. Run U start l core) same run)) run
+  opened : (rest : List EntryValue) → Open (front ++ BeginEntry d ∷ rest) → Run U start (front ++ BeginEntry d ∷ rest) core
+      → (HasEnd d rest → ⊥) × (last_begin d (items_of o (front ++ BeginEntry d ∷ rest)) ≡ Some (suc (length front)))
+  opened rest free run = let r = stays_open [] rest (λ t. t) began (subst Open same free) (subst (λ l. Run U start l core) same run) in (r.0, ap (λ l. last_begin d (items_of o l)) same ∙ r.1)
     where
       same : front ++ BeginEntry d ∷ rest ≡ (front ++ BeginEntry d ∷ []) ++ rest
       same = sym (append_assoc front (BeginEntry d ∷ []) rest)
 
       began : last_begin d (items_of o (front ++ BeginEntry d ∷ [])) ≡ Some (suc (length front))
       began = last_snoc d o front (BeginEntry d) ∙ ap (λ b. if b then Some (suc (length front)) else last_begin d (items_of o front)) (eq-eqb d d refl)
+
+  -- so the device flies, with the copy of that begin
+  pub open_flies : (rest : List EntryValue) → Open (front ++ BeginEntry d ∷ rest) → Run U start (front ++ BeginEntry d ∷ rest) core → core.flying d ≡ Taken
+  open_flies rest free run = flies_after rest core (opened rest free run).0 run
+
+  -- and that begin is its last one
+  pub open_last : (rest : List EntryValue) → Open (front ++ BeginEntry d ∷ rest) → Run U start (front ++ BeginEntry d ∷ rest) core → last_begin d (items_of o (front ++ BeginEntry d ∷ rest)) ≡ Some (suc (length front))
+  open_last rest free run = (opened rest free run).1

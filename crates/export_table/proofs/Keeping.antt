@@ -33,7 +33,7 @@ lives_below n d k e = in_below n.declared d n.devices k.devices e
 
 -- ---- what one entry keeps
 
-entries_snoc : (log : List Entry) (e : Entry) → entries_of (log ++ e ∷ []) ≡ entries_of log ++ entry_of e ∷ []
+pub entries_snoc : (log : List Entry) (e : Entry) → entries_of (log ++ e ∷ []) ≡ entries_of log ++ entry_of e ∷ []
 entries_snoc [] e = refl
 entries_snoc (x ∷ xs) e = ap (λ l. entry_of x ∷ l) (entries_snoc xs e)
 

@@ -1,6 +1,11 @@
+mod FlagTrees
 mod Counting
 mod Planning
 mod Keeping
 mod Flying
 mod Ending
 mod Starting
+mod Passing
+mod Turning
+mod OwnFirings
+mod Calls

@@ -2,6 +2,10 @@ pub mod Items
 pub mod Answers
 pub mod AnswersStay
 pub mod Begins
+pub mod Flags
 pub mod Agendas
 pub mod Changes
 pub mod Holding
+pub mod Firings
+pub mod Passing
+pub mod Turns

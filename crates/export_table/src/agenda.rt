@@ -1,7 +1,8 @@
 //! What is left to begin.
 
-ghost use Rattle.std.specs.Prelude.{◌≡◌, ◌<◌, ℕ, IfOk, IfSome, IfNone, length, get_or, replicate, true, false};
+ghost use Rattle.std.specs.Prelude.{◌≡◌, ◌<◌, ℕ, IfOk, IfSome, IfNone, replicate};
 
+use crate::flags::Flags;
 use fc_values::Memory;
 use firing_core::Edit;
 use std::alloc::Global;
@@ -13,7 +14,7 @@ use topology::Network;
 pub(crate) struct Agenda {
     rounds: u32,
     begun: Vec<u32>,
-    ready: Vec<bool>,
+    ready: Flags,
 }
 
 impl Model for Agenda {
@@ -21,25 +22,9 @@ impl Model for Agenda {
 
     ghost Value = { AgendaValue };
 
-    ghost view = { λ a. record { rounds = a.rounds; begun = a.begun.items; ready = a.ready.items } };
+    ghost view = { λ a. record { rounds = a.rounds; begun = a.begun.items; ready = a.ready } };
 
-    ghost invariant = { λ a. IsAgenda (record { rounds = a.rounds; begun = a.begun.items; ready = a.ready.items }) };
-}
-
-// The first flag that is set.
-fn first_true(flags: &[bool]) -> Option<usize>
-    ensures some { IfSome result (λ d. (d < length flags.now) × (get_or flags.now d false ≡ true)) }
-    ensures smallest { IfSome result (λ d. (e : ℕ) → e < d → get_or flags.now e false ≡ false) }
-    ensures none { IfNone result ((e : ℕ) → e < length flags.now → get_or flags.now e false ≡ false) }
-{
-    let mut d = 0;
-    while d < flags.len() {
-        if flags[d] {
-            return Some(d);
-        }
-        d += 1;
-    }
-    None
+    ghost invariant = { λ a. IsAgenda (record { rounds = a.rounds; begun = a.begun.items; ready = a.ready }) };
 }
 
 // As many zeros.
@@ -47,13 +32,6 @@ fn zeros(alloc: Global, count: usize) -> Result<Vec<u32>, Memory>
     ensures { IfOk result (λ v. v.items ≡ replicate count 0) }
 {
     Ok(vec![in alloc; 0; count]?)
-}
-
-// As many flags, none of which is set.
-fn no_flags(alloc: Global, count: usize) -> Result<Vec<bool>, Memory>
-    ensures { IfOk result (λ v. v.items ≡ replicate count false) }
-{
-    Ok(vec![in alloc; false; count]?)
 }
 
 impl Agenda {
@@ -69,7 +47,7 @@ impl Agenda {
         ensures whole { IfOk result IsAgenda }
     {
         let begun = zeros(alloc, count)?;
-        let ready = no_flags(alloc, count)?;
+        let ready = Flags::new(alloc, count)?;
         Ok(Agenda {
             rounds,
             begun,
@@ -96,10 +74,7 @@ impl Agenda {
         ensures smallest { IfSome result (λ d. (e : ℕ) → e < d → is_ready self.now e ≡ false) }
         ensures none { IfNone result ((e : ℕ) → e < 65536 → is_ready self.now e ≡ false) }
     {
-        match first_true(&self.ready) {
-            Some(device) => Some(device as u32),
-            None => None,
-        }
+        self.ready.first()
     }
 
     /// The device begins a firing.
@@ -109,7 +84,7 @@ impl Agenda {
         ensures { self.new ≡ after_begin self.old device }
     {
         self.begun[device as usize] += 1;
-        self.ready[device as usize] = false;
+        self.ready.set(device, false);
     }
 
     /// The device rests, and may begin what is left.
@@ -117,7 +92,8 @@ impl Agenda {
         requires number { device < 65536 }
         ensures { self.new ≡ after_end self.old device }
     {
-        self.ready[device as usize] = self.begun[device as usize] < self.rounds;
+        self.ready
+            .set(device, self.begun[device as usize] < self.rounds);
     }
 
     /// The device joins, and has begun nothing.
@@ -126,7 +102,7 @@ impl Agenda {
         ensures { self.new ≡ after_join self.old device }
     {
         self.begun[device as usize] = 0;
-        self.ready[device as usize] = 0 < self.rounds;
+        self.ready.set(device, 0 < self.rounds);
     }
 
     /// The device leaves.
@@ -134,7 +110,7 @@ impl Agenda {
         requires number { device < 65536 }
         ensures { self.new ≡ after_leave self.old device }
     {
-        self.ready[device as usize] = false;
+        self.ready.set(device, false);
     }
 
     /// What an edit changes.

@@ -52,7 +52,7 @@ impl Logged for Held {
 }
 
 impl Held {
-    ghost use Rattle.std.specs.Prelude.{◌≡◌, ◌<◌, ◌≤◌, ℕ, length, IfOk, IfErr, OnOk, OnErr, None, Some};
+    ghost use Rattle.std.specs.Prelude.{◌≡◌, ◌<◌, ◌≤◌, ℕ, length, IfOk, IfErr, OnOk, OnErr, IsErrOf, None, Some};
     ghost use Rattle.fc_values.specs.Trees.{Copy};
     ghost use Rattle.fc_nodes.specs.Program.{unfolding_of};
     ghost use Rattle.value_trees.specs.Snaps.{tree_of, snap_copy, IsSnap};
@@ -60,7 +60,7 @@ impl Held {
     ghost use Rattle.firing_core.specs.CoreViews.{core_of};
     ghost use Rattle.firing_core.specs.Rooms.{IsRoom};
     ghost use Rattle.firing_core.specs.Entries.{edit_of};
-    ghost use Rattle.firing_core.specs.Refusals.{RefusesEdit};
+    ghost use Rattle.firing_core.specs.Refusals.{RefusesEdit, TakesNone};
     ghost use Rattle.firing_core.specs.declared.entries.Entry.TheVariants as entry;
     ghost use Rattle.export_table.specs.Begins.{IsNext};
     ghost use Rattle.export_table.specs.Holding.{Opens, HasTurn, Turned, IsOpenAt, IsTakenAt, opening_in, log_in, core_in, NothingLeft};
@@ -170,6 +170,7 @@ impl Held {
         ensures allowed { OnOk result (edit_fault (core_in self.old) (edit_of edit) ≡ None) }
         ensures idle { OnErr result (Turned self.old self.new entry.Idle) }
         ensures refused { IfErr result (RefusesEdit (core_in self.old) (edit_of edit)) }
+        ensures memory { IsErrOf result EditFault.Memory → TakesNone (edit_of edit) → ⊥ }
     {
         let _net = self.book.core().net();
         let change = change_of(&edit);

@@ -2,10 +2,15 @@
 #![tactic(auto)]
 
 mod agenda;
+mod firing;
+mod flags;
 mod held;
 mod item;
+mod shared;
 #[cfg(test)]
 mod tests;
 
+pub use firing::{Firing, Gate, OpenGate};
 pub use held::Held;
 pub use item::Item;
+pub use shared::Shared;

@@ -1,0 +1,59 @@
+-- What the calls of a table owe the lock, and what they learn from it.
+use Rattle.std.proofs.Common.{◌≡◌, ℕ, ◌<◌, List, [], ◌∷◌, ◌++◌, refl, subst, Option, Some, None, Result, Ok, Err, IfOk, IfErr, OnOk, OnErr}
+use Rattle.turn_lock.specs.Passes.{PassView, Agrees, MayAnswer, wrote}
+use Rattle.firing_core.specs.declared.entries.Edit.{Edit}
+use Rattle.firing_core.specs.declared.entries.Entry.TheVariants as entry
+use Rattle.firing_core.specs.declared.entries.EditFault.{EditFault}
+use Rattle.firing_core.specs.declared.entries.EditFault.TheVariants as fault
+use Rattle.firing_core.specs.Refusals.{TakesNone}
+use Rattle.firing_core.specs.Entries.{edit_of}
+use Rattle.export_table.specs.Items.{ItemValue}
+use Rattle.export_table.specs.Answers.{answers}
+use Rattle.export_table.specs.Holding.{HeldValue, list_of}
+use Rattle.export_table.specs.Firings.{FiringValue}
+use Rattle.export_table.specs.Passing.{TableValue, IsPassOf, on_log}
+use Rattle.export_table.specs.Turns.{Begins, Rests, Edits, RefusesIn, Began, Rested, Edited, Refused}
+use Rattle.export_table.proofs.Turning as turning
+
+-- the list gets one item more, which the pass may add
+abbrev Adds : HeldValue → HeldValue → List (ℕ × ItemValue) → Type 0
+Adds x y mine = (i : ItemValue) × (list_of y ≡ list_of x ++ i ∷ []) × MayAnswer answers (list_of x) mine i
+
+module _ {Room : Type 0} (x y : HeldValue) (Back : Room → Type 0) where
+  pub next_adds : (mine : List (ℕ × ItemValue)) (r : Result FiringValue Room) → IfOk r (Begins x y) → IfErr r (λ m. Rests x y × Back m) → Adds x y mine
+  next_adds mine (Ok f) ok err = turning.adds_plain x y (entry.Begin f.device) mine ok.turned refl
+  next_adds mine (Err m) ok err = turning.adds_plain x y entry.Idle mine (err.0).turned refl
+
+  module _ (t : TableValue) (v w : PassView ItemValue) (k : IsPassOf t v) (a : Agrees list_of answers v x) (item : ItemValue) (left : list_of y ≡ w.seen) (view : w ≡ wrote v (list_of x) item) where
+    pub next_pass : (r : Result FiringValue Room) → IfOk r (Begins x y) → IfErr r (λ m. Rests x y × Back m) → IsPassOf t w
+    next_pass (Ok f) ok err = turning.still_pass t v x k a y w item left view (entry.Begin f.device) ok.turned
+    next_pass (Err m) ok err = turning.still_pass t v x k a y w item left view entry.Idle (err.0).turned
+
+    pub next_began : (r : Result FiringValue Room) → IfOk r (Begins x y) → IfOk r (Began t.opening (on_log v) (on_log w))
+    next_began (Ok f) ok = turning.began t v x k a y w item left view f ok
+    next_began (Err m) ok = tt
+
+    pub next_rested : (r : Result FiringValue Room) → IfErr r (λ m. Rests x y × Back m) → OnErr r (Rested t.opening (on_log v) (on_log w))
+    next_rested (Ok f) err = tt
+    next_rested (Err m) err = turning.rested t v x k a y w item left view err.0
+
+module _ (x y : HeldValue) (e : Edit) where
+  pub edit_adds : (mine : List (ℕ × ItemValue)) (r : Result (Unit {0}) EditFault) → OnOk r (Edits x y e) → IfErr r (RefusesIn x y (edit_of e)) → Adds x y mine
+  edit_adds mine (Ok u) ok err = turning.adds_plain x y (entry.Edit e) mine ok.turned refl
+  edit_adds mine (Err f) ok err = turning.adds_plain x y entry.Idle mine err.turned refl
+
+  pub edit_takes : (r : Result (Unit {0}) EditFault) → IfErr r (RefusesIn x y (edit_of e)) → r ≡ Err fault.Memory → TakesNone (edit_of e) → ⊥
+  edit_takes r err is none = let h = subst (λ q. IfErr q (RefusesIn x y (edit_of e))) is err in h.refused none
+
+  module _ (t : TableValue) (v w : PassView ItemValue) (k : IsPassOf t v) (a : Agrees list_of answers v x) (item : ItemValue) (left : list_of y ≡ w.seen) (view : w ≡ wrote v (list_of x) item) where
+    pub edit_pass : (r : Result (Unit {0}) EditFault) → OnOk r (Edits x y e) → IfErr r (RefusesIn x y (edit_of e)) → IsPassOf t w
+    edit_pass (Ok u) ok err = turning.still_pass t v x k a y w item left view (entry.Edit e) ok.turned
+    edit_pass (Err f) ok err = turning.still_pass t v x k a y w item left view entry.Idle err.turned
+
+    pub edit_edited : (r : Result (Unit {0}) EditFault) → OnOk r (Edits x y e) → OnOk r (Edited t.opening (on_log v) (on_log w) (edit_of e))
+    edit_edited (Ok u) ok = turning.edited t v x k a y w item left view e ok
+    edit_edited (Err f) ok = tt
+
+    pub edit_refused : (r : Result (Unit {0}) EditFault) → IfErr r (RefusesIn x y (edit_of e)) → IfErr r (Refused t.opening (on_log v) (on_log w) (edit_of e))
+    edit_refused (Ok u) err = tt
+    edit_refused (Err f) err = turning.refused t v x k a y w item left view (edit_of e) f err

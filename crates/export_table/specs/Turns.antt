@@ -1,0 +1,132 @@
+-- What the calls of a shared table promise.
+use Rattle.std.specs.Prelude.{ℕ, ◌≡◌, ◌+◌, ◌<◌, List, [], ◌∷◌, ◌++◌, length, drop, map, Some, None}
+use Rattle.fc_nodes.specs.Program.{unfolding_of}
+use Rattle.value_trees.specs.Snaps.{snap_copy, tree_of, IsSnap}
+use Rattle.device_eval.specs.Firing.{FiredValue}
+use Rattle.firing_core.specs.declared.entries.Entry.TheVariants as entry
+use Rattle.firing_core.specs.declared.entries.Edit.{Edit}
+use Rattle.firing_core.specs.declared.entries.EditFault.{EditFault}
+use Rattle.firing_core.specs.Entries.{EditValue, EntryValue, BeginEntry, EndEntry, IdleEntry, EditEntry, edit_of, entries_of}
+use Rattle.firing_core.specs.Cores.{Core, Run, copy_of, edit_fault}
+use Rattle.firing_core.specs.CoreViews.{core_of}
+use Rattle.firing_core.specs.Books.{BookValue}
+use Rattle.firing_core.specs.Refusals.{RefusesEdit}
+use Rattle.turn_lock.specs.Logs.{StartsWith, In, Rises, ArePlaced}
+use Rattle.turn_lock.specs.Passes.{PassView, wrote}
+use Rattle.export_table.specs.Items.{Opening}
+use Rattle.export_table.specs.Begins.{IsNext}
+use Rattle.export_table.specs.Holding.{HeldValue, HasTurn, Turned, NothingLeft, IsOpenAt, IsTakenAt, opening_in, log_in, core_in}
+use Rattle.export_table.specs.Firings.{FiringValue, IsCopyAt}
+
+-- ---- what a turn does to the locked value
+
+-- it begins this firing
+pub record Begins (old new : HeldValue) (f : FiringValue) : Type 0 where
+  pub turned : Turned old new (entry.Begin f.device)
+  pub place : f.place ≡ length old.book.log
+  pub next : IsNext (opening_in old) (log_in old) (core_in old) f.device
+  pub copy : snap_copy (unfolding_of old.book.program) f.snap ≡ copy_of (core_in old).net (core_in old).exports f.device
+  pub snap : IsSnap (unfolding_of old.book.program) f.snap
+
+-- it begins nothing, since nothing may begin
+pub record Rests (old new : HeldValue) : Type 0 where
+  pub turned : Turned old new entry.Idle
+  pub done : NothingLeft (opening_in old) (log_in old) (core_in old)
+
+-- it may end this firing
+pub record MayEnd (h : HeldValue) (place : ℕ) (f : FiredValue) : Type 0 where
+  pub turn : HasTurn h
+  pub program : f.program ≡ h.book.program
+  pub opened : IsOpenAt h place f.snap.device
+  pub copy : IsTakenAt (opening_in h) (log_in h) place (snap_copy (unfolding_of h.book.program) f.snap)
+
+-- it ends this firing
+pub record Ends (old new : HeldValue) (f : FiredValue) : Type 0 where
+  pub turned : Turned old new (entry.End f.snap.device)
+  pub publishes : (core_in new).exports f.snap.device ≡ Some (tree_of (unfolding_of old.book.program) f.export)
+
+-- it edits the book
+pub record Edits (old new : HeldValue) (e : Edit) : Type 0 where
+  pub turned : Turned old new (entry.Edit e)
+  pub allowed : edit_fault (core_in old) (edit_of e) ≡ None
+
+-- it edits nothing, since the core refuses it
+pub record RefusesIn (old new : HeldValue) (e : EditValue) (f : EditFault) : Type 0 where
+  pub turned : Turned old new entry.Idle
+  pub refused : RefusesEdit (core_in old) e f
+
+-- ---- what a turn does to a pass
+
+-- The pass v is w after its turn. The log was `before` then, which leads to `core`; it begins with what the pass had seen,
+-- and got the one entry e.
+pub record TookTurn (o : Opening) (v w : PassView EntryValue) (before : List EntryValue) (core : Core) (e : EntryValue) : Type 0 where
+  pub begins : StartsWith before v.seen
+  pub placed : ArePlaced before v.mine
+  pub leads : Run (unfolding_of o.program) (core_of o.start) before core
+  pub view : w ≡ wrote v before e
+
+-- it began this firing, of the smallest device that might begin
+pub record Began (o : Opening) (v w : PassView EntryValue) (f : FiringValue) : Type 0 where
+  pub before : List EntryValue
+  pub core : Core
+  pub turn : TookTurn o v w before core (BeginEntry f.device)
+  pub place : f.place ≡ length before
+  pub next : IsNext o before core f.device
+  pub copy : snap_copy (unfolding_of o.program) f.snap ≡ copy_of core.net core.exports f.device
+  pub snap : IsSnap (unfolding_of o.program) f.snap
+
+-- it began nothing, since each device there was in flight or had begun all its firings
+pub record Rested (o : Opening) (v w : PassView EntryValue) : Type 0 where
+  pub before : List EntryValue
+  pub core : Core
+  pub turn : TookTurn o v w before core IdleEntry
+  pub done : NothingLeft o before core
+
+-- A firing that the pass may end: it began it at this place, it didn't end it since, and what was evaluated is the copy
+-- that was taken there.
+pub record IsOwnFiring (o : Opening) (v : PassView EntryValue) (place : ℕ) (f : FiredValue) : Type 0 where
+  pub begun : In (place, BeginEntry f.snap.device) v.mine
+  pub unended : (q : ℕ) → In (q, EndEntry f.snap.device) v.mine → q < place
+  pub program : f.program ≡ o.program
+  pub copy : IsCopyAt o v.seen place (snap_copy (unfolding_of o.program) f.snap)
+
+-- a firing that a pass may end stays one at each other turn of the pass
+abbrev pub FiringsStay : Type 0
+FiringsStay = (o : Opening) (v w : PassView EntryValue) (before : List EntryValue) (core : Core) (e : EntryValue) (place : ℕ) (f : FiredValue)
+    → TookTurn o v w before core e → (e ≡ EndEntry f.snap.device → ⊥) → IsOwnFiring o v place f → IsOwnFiring o w place f
+
+-- it ended this firing, and so published its export
+pub record Ended (o : Opening) (v w : PassView EntryValue) (f : FiredValue) : Type 0 where
+  pub before : List EntryValue
+  pub core : Core
+  pub next : Core
+  pub turn : TookTurn o v w before core (EndEntry f.snap.device)
+  pub leads : Run (unfolding_of o.program) (core_of o.start) w.seen next
+  pub publishes : next.exports f.snap.device ≡ Some (tree_of (unfolding_of o.program) f.export)
+
+-- it edited the book, and the core allowed it
+pub record Edited (o : Opening) (v w : PassView EntryValue) (e : EditValue) : Type 0 where
+  pub before : List EntryValue
+  pub core : Core
+  pub turn : TookTurn o v w before core (EditEntry e)
+  pub allowed : edit_fault core e ≡ None
+
+-- it edited nothing, since the core refused it
+pub record Refused (o : Opening) (v w : PassView EntryValue) (e : EditValue) (f : EditFault) : Type 0 where
+  pub before : List EntryValue
+  pub core : Core
+  pub turn : TookTurn o v w before core IdleEntry
+  pub refused : RefusesEdit core e f
+
+-- ---- the end of a table
+
+-- The table gave back the book: its log begins with what the last pass had seen, and past the opening it is exactly the
+-- entries of that pass, in order, each at its place.
+pub record Closes (o : Opening) (v : PassView EntryValue) (b : BookValue) : Type 0 where
+  pub program : b.program ≡ o.program
+  pub start : b.start ≡ o.start
+  pub begins : StartsWith (entries_of b.log) v.seen
+  pub placed : ArePlaced (entries_of b.log) v.mine
+  pub counted : length b.log ≡ o.front + length v.mine
+  pub whole : drop o.front (entries_of b.log) ≡ map (λ (z : ℕ × EntryValue). z.1) v.mine
+  pub rises : Rises v.mine
