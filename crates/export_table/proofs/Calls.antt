@@ -6,13 +6,15 @@ use Rattle.firing_core.specs.declared.entries.Entry.TheVariants as entry
 use Rattle.firing_core.specs.declared.entries.EditFault.{EditFault}
 use Rattle.firing_core.specs.declared.entries.EditFault.TheVariants as fault
 use Rattle.firing_core.specs.Refusals.{TakesNone}
-use Rattle.firing_core.specs.Entries.{edit_of}
+use Rattle.firing_core.specs.Entries.{BeginEntry, IdleEntry, EditEntry, edit_of}
 use Rattle.export_table.specs.Items.{ItemValue}
 use Rattle.export_table.specs.Answers.{answers}
-use Rattle.export_table.specs.Holding.{HeldValue, list_of}
+use Rattle.export_table.specs.Holding.{HeldValue, list_of, log_in, core_in}
 use Rattle.export_table.specs.Firings.{FiringValue}
 use Rattle.export_table.specs.Passing.{TableValue, IsPassOf, on_log}
-use Rattle.export_table.specs.Turns.{Begins, Rests, Edits, RefusesIn, Began, Rested, Edited, Refused}
+use Rattle.export_table.specs.Turns.{Begins, Rests, Edits, RefusesIn, Began, Rested, Edited, Refused, KeepsFirings}
+use Rattle.export_table.proofs.Flying.{begin_not_end, idle_not_end, edit_not_end}
+use Rattle.export_table.proofs.OwnFirings.{firing_stays}
 use Rattle.export_table.proofs.Turning as turning
 
 -- the list gets one item more, which the pass may add
@@ -28,6 +30,10 @@ module _ {Room : Type 0} (x y : HeldValue) (Back : Room → Type 0) where
     pub next_pass : (r : Result FiringValue Room) → IfOk r (Begins x y) → IfErr r (λ m. Rests x y × Back m) → IsPassOf t w
     next_pass (Ok f) ok err = turning.still_pass t v x k a y w item left view (entry.Begin f.device) ok.turned
     next_pass (Err m) ok err = turning.still_pass t v x k a y w item left view entry.Idle (err.0).turned
+
+    pub next_keeps : (r : Result FiringValue Room) → IfOk r (Begins x y) → IfErr r (λ m. Rests x y × Back m) → KeepsFirings t.opening (on_log v) (on_log w)
+    next_keeps (Ok f) ok err place g own = firing_stays t.opening (on_log v) (on_log w) (log_in x) (core_in x) (BeginEntry f.device) place g (turning.took_turn t v x k a y w item left view (entry.Begin f.device) ok.turned) (begin_not_end f.device g.snap.device) own
+    next_keeps (Err m) ok err place g own = firing_stays t.opening (on_log v) (on_log w) (log_in x) (core_in x) IdleEntry place g (turning.took_turn t v x k a y w item left view entry.Idle (err.0).turned) (idle_not_end g.snap.device) own
 
     pub next_began : (r : Result FiringValue Room) → IfOk r (Begins x y) → IfOk r (Began t.opening (on_log v) (on_log w))
     next_began (Ok f) ok = turning.began t v x k a y w item left view f ok
@@ -49,6 +55,10 @@ module _ (x y : HeldValue) (e : Edit) where
     pub edit_pass : (r : Result (Unit {0}) EditFault) → OnOk r (Edits x y e) → IfErr r (RefusesIn x y (edit_of e)) → IsPassOf t w
     edit_pass (Ok u) ok err = turning.still_pass t v x k a y w item left view (entry.Edit e) ok.turned
     edit_pass (Err f) ok err = turning.still_pass t v x k a y w item left view entry.Idle err.turned
+
+    pub edit_keeps : (r : Result (Unit {0}) EditFault) → OnOk r (Edits x y e) → IfErr r (RefusesIn x y (edit_of e)) → KeepsFirings t.opening (on_log v) (on_log w)
+    edit_keeps (Ok u) ok err place g own = firing_stays t.opening (on_log v) (on_log w) (log_in x) (core_in x) (EditEntry (edit_of e)) place g (turning.took_turn t v x k a y w item left view (entry.Edit e) ok.turned) (edit_not_end (edit_of e) g.snap.device) own
+    edit_keeps (Err f) ok err place g own = firing_stays t.opening (on_log v) (on_log w) (log_in x) (core_in x) IdleEntry place g (turning.took_turn t v x k a y w item left view entry.Idle err.turned) (idle_not_end g.snap.device) own
 
     pub edit_edited : (r : Result (Unit {0}) EditFault) → OnOk r (Edits x y e) → OnOk r (Edited t.opening (on_log v) (on_log w) (edit_of e))
     edit_edited (Ok u) ok = turning.edited t v x k a y w item left view e ok

@@ -1,5 +1,6 @@
 -- An open begin may end.
 use Rattle.std.proofs.Common.{◌≡◌, ℕ, suc, List, ◌∷◌, take, length, sym, ap, ◌∙◌, subst, Option, Some, None}
+use Rattle.std.proofs.lemmas.Option.{none-some}
 use Rattle.fc_values.specs.Trees.{Copy}
 use Rattle.value_trees.specs.declared.copies.Snap.{Snap}
 use Rattle.value_trees.specs.Snaps.{snap_copy}
@@ -48,7 +49,4 @@ flies_at h z e book flights cuts place f opened taken = flies_now h book flights
     (subst (λ (y : HeldValue). IsTakenAt (opening_in y) (log_in y) place (snap_copy (unfolding_of y.book.program) f)) (sym e) taken)
 
 pub no_fault : (U : Unfolding) (c : Core) (d : ℕ) (s : Copy) (f : StepFault) → IsGood U c → c.flying d ≡ Some s → fault_of c (EndEntry d) ≡ Some f → ⊥
-no_fault U c d s f good flies is = none_some f (sym (may_end U c d s good flies).1 ∙ is)
-  where
-    none_some : (f : StepFault) → None ≡ Some f → ⊥
-    none_some f e = absurd (cc)
+no_fault U c d s f good flies is = none-some f (sym (may_end U c d s good flies).1 ∙ is)

@@ -1,5 +1,6 @@
 -- A begin that nothing answers is a flight, with the copy that was taken there.
 use Rattle.std.proofs.Common.{◌≡◌, ◌⊎◌, ⊎_elim, ℕ, zero, suc, ◌+◌, ◌<◌, List, [], ◌∷◌, ◌++◌, map, take, length, refl, sym, ap, ◌∙◌, subst, inl, inr, arith, Option, Some, None, if◌then◌else◌, length-append}
+use Rattle.std.proofs.lemmas.Option.{none-some}
 use Rattle.std.proofs.lemmas.Bool.{eq-eqb, ne_eqb}
 use Rattle.std.proofs.lemmas.List.{append_assoc, append-nil, map-append}
 use mathlib.Core.Logic.{dite}
@@ -79,20 +80,17 @@ pub begin_not_end : (e d : ℕ) → BeginEntry e ≡ EndEntry d → ⊥
 unfolding is_end
 begin_not_end e d p = subst is_end (sym p) tt
 
-idle_not_end : (d : ℕ) → IdleEntry ≡ EndEntry d → ⊥
+pub idle_not_end : (d : ℕ) → IdleEntry ≡ EndEntry d → ⊥
 unfolding is_end
 idle_not_end d p = subst is_end (sym p) tt
 
-edit_not_end : (x : EditValue) (d : ℕ) → EditEntry x ≡ EndEntry d → ⊥
+pub edit_not_end : (x : EditValue) (d : ℕ) → EditEntry x ≡ EndEntry d → ⊥
 unfolding is_end
 edit_not_end x d p = subst is_end (sym p) tt
 
 same_end : (e d : ℕ) → EndEntry e ≡ EndEntry d → e ≡ d
 unfolding device_of
 same_end e d p = ap device_of p
-
-some_none : {X : Type 0} (x : X) → Some x ≡ None → ⊥
-some_none x e = absurd (cc)
 
 module _ (U : Unfolding) (o : Opening) (start core : Core) (good : IsGood U start) (flights : FlightsStay) (cuts : RunsCut) (front : List EntryValue) (before : Core) (led : Run U start front before) (d : ℕ) where
   abbrev Open : List EntryValue → Type 0
@@ -143,7 +141,7 @@ module _ (U : Unfolding) (o : Opening) (start core : Core) (good : IsGood U star
       by_entry : {X : Type 0} → (y : EntryValue) → x ≡ y
           → ((x ≡ EndEntry d → ⊥) → after_item d (suc (length pre)) (Some (suc (length front))) (WrittenItem x) ≡ Some (suc (length front)) → X) → X
       by_entry (BeginEntry e) is go = dite (ℕ_discrete e d)
-          (λ same. absurd (some_none (copy_of before.net before.exports d) (sym flown ∙ (begins e is same))))
+          (λ same. absurd (none-some (copy_of before.net before.exports d) (sym (begins e is same) ∙ flown)))
           (λ other. go (λ t. begin_not_end e d (sym is ∙ t)) (ap (λ z. after_item d (suc (length pre)) (Some (suc (length front))) (WrittenItem z)) is ∙ ap (λ b. if b then Some (suc (length pre)) else Some (suc (length front))) (ne_eqb e d other)))
         where
           begins : (e : ℕ) → x ≡ BeginEntry e → e ≡ d → split.0.flying d ≡ None

@@ -1,5 +1,6 @@
 -- What the type of the locked value keeps, after each entry.
 use Rattle.std.proofs.Common.{◌≡◌, ℕ, ◌+◌, ◌<◌, ◌≤◌, List, [], ◌∷◌, ◌++◌, length, refl, sym, ap, ◌∙◌, subst, arith, Bool, true, false, ◌||◌, nat_eq, nat_lt, Some, None, if◌then◌else◌, length-append, length-set}
+use Rattle.std.proofs.lemmas.Option.{none-some}
 use Rattle.std.proofs.lemmas.Bool.{false≢true, eqb-true, ltb-true, ltb-false}
 use Rattle.fc_values.specs.Trees.{Copy}
 use Rattle.fc_nodes.specs.Program.{Unfolding}
@@ -71,9 +72,6 @@ module _ (b b' : BookValue) (rounds turns front : ℕ) where
 
 -- ---- flights and rooms
 
-some_none : {X : Type 0} (x : X) → None ≡ Some x → ⊥
-some_none x e = absurd (cc)
-
 pub roomy_begin : (U : Unfolding) (c c' : CoreValue) (d : ℕ) → Roomy c → Step U (core_of c) (BeginEntry d) (core_of c') → rooms_of c' ≡ mark (rooms_of c) d true → Roomy c'
 roomy_begin U c c' d r step marks e s flies = ap (λ f. f e) marks ∙ by_test (nat_eq e d) tt (sym (ap (λ (k : Core). k.flying e) step.2) ∙ flies)
   where
@@ -85,7 +83,7 @@ pub roomy_end : (U : Unfolding) (c c' : CoreValue) (d : ℕ) → Roomy c → Ste
 roomy_end U c c' d r step marks e s flies = ap (λ f. f e) marks ∙ by_test (nat_eq e d) (sym (ap (λ (k : Core). k.flying e) step.after) ∙ flies)
   where
     by_test : (t : Bool) → (if t then None else (core_of c).flying e) ≡ Some s → (if t then false else rooms_of c e) ≡ true
-    by_test true h = absurd (some_none s h)
+    by_test true h = absurd (none-some s h)
     by_test false h = r e s h
 
 pub roomy_idle : (U : Unfolding) (c c' : CoreValue) → Roomy c → Step U (core_of c) IdleEntry (core_of c') → rooms_of c' ≡ rooms_of c → Roomy c'
@@ -102,7 +100,7 @@ roomy_edit U c c' x r step marks e s flies = ap (λ f. f e) marks ∙ r e s (by_
     by_edit (JoinEdit y) t = by_test (nat_eq e y.id) (sym (ap (λ (k : Core). k.flying e) t.after) ∙ flies)
       where
         by_test : (q : Bool) → (if q then None else (core_of c).flying e) ≡ Some s → (core_of c).flying e ≡ Some s
-        by_test true h = absurd (some_none s h)
+        by_test true h = absurd (none-some s h)
         by_test false h = h
     by_edit (LeaveEdit d) t = sym (ap (λ (k : Core). k.flying e) t.after) ∙ flies
 

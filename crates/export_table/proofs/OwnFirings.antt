@@ -1,5 +1,6 @@
 -- A pass that began a firing and didn't end it may end it.
 use Rattle.std.proofs.Common.{◌≡◌, ◌⊎◌, ⊎_elim, ℕ, zero, suc, ◌+◌, ◌<◌, List, [], ◌∷◌, ◌++◌, take, length, refl, sym, ap, ◌∙◌, subst, inl, inr, arith, Bool, true, false, nat_eq, Option, Some, None, Result, Ok, Err, IfOk, if◌then◌else◌}
+use Rattle.std.proofs.lemmas.Option.{none-some, same_Some}
 use Rattle.std.proofs.lemmas.Bool.{eqb-true}
 use Rattle.std.proofs.lemmas.List.{append_assoc, append-nil}
 use mathlib.Core.Option.{some, none, some-injective, some-ne-none}
@@ -34,24 +35,10 @@ item_there (y ∷ ys) zero x is = ap Some (some-injective y x is)
 item_there (y ∷ ys) (suc p) x is = item_there ys p x is
 
 item_taken : (items : List ItemValue) (q p : ℕ) (x : ItemValue) → item_at (take q items) p ≡ Some x → (item_at items p ≡ Some x) × (p < q)
-item_taken items zero p x is = absurd (none_some x is)
-  where
-    none_some : (x : ItemValue) → None ≡ Some x → ⊥
-    none_some x e = absurd (cc)
-item_taken [] (suc q) p x is = absurd (none_some x is)
-  where
-    none_some : (x : ItemValue) → None ≡ Some x → ⊥
-    none_some x e = absurd (cc)
+item_taken items zero p x is = absurd (none-some x is)
+item_taken [] (suc q) p x is = absurd (none-some x is)
 item_taken (y ∷ ys) (suc q) zero x is = (is, omega arith)
 item_taken (y ∷ ys) (suc q) (suc p) x is = let r = item_taken ys q p x is in (r.0, omega (arith, r.1))
-
-number_or : Option ℕ → ℕ
-number_or None = 0
-number_or (Some n) = n
-
-same : (a b : ℕ) → Some a ≡ Some b → a ≡ b
-unfolding number_or
-same a b e = ap number_or e
 
 -- a begin of the device stands where its last begin is
 begun_at : (d n p : ℕ) (was : Option ℕ) (xs : List ItemValue) → begun_from d n was xs ≡ Some p → (was ≡ Some p) ⊎ ((j : ℕ) × (p ≡ n + j) × (item_at xs j ≡ Some (WrittenItem (BeginEntry d))))
@@ -65,17 +52,14 @@ begun_at d n p was (x ∷ xs) is = ⊎_elim (λ h. by_item x h)
     by_item (WrittenItem (BeginEntry e)) h = by_test (nat_eq e d) refl h
       where
         by_test : (b : Bool) → nat_eq e d ≡ b → (if b then Some n else was) ≡ Some p → (was ≡ Some p) ⊎ ((j : ℕ) × (p ≡ n + j) × (item_at (WrittenItem (BeginEntry e) ∷ xs) j ≡ Some (WrittenItem (BeginEntry d))))
-        by_test true t h = inr (0, (let s = same n p h in omega (arith, s)), ap (λ k. Some (WrittenItem (BeginEntry k))) (eqb-true e d t))
+        by_test true t h = inr (0, (let s = same_Some n p h in omega (arith, s)), ap (λ k. Some (WrittenItem (BeginEntry k))) (eqb-true e d t))
         by_test false t h = inl h
     by_item (WrittenItem (EndEntry e)) h = inl h
     by_item (WrittenItem IdleEntry) h = inl h
     by_item (WrittenItem (EditEntry e)) h = inl h
 
 last_at : (d p : ℕ) (xs : List ItemValue) → last_begin d xs ≡ Some p → item_at xs p ≡ Some (WrittenItem (BeginEntry d))
-last_at d p xs is = ⊎_elim (λ n. absurd (none_some p n)) (λ (r : (j : ℕ) × (p ≡ 0 + j) × (item_at xs j ≡ Some (WrittenItem (BeginEntry d)))). ap (item_at xs) (let e = r.1 in omega (arith, e)) ∙ r.2) (begun_at d 0 p None xs is)
-  where
-    none_some : (p : ℕ) → None ≡ Some p → ⊥
-    none_some p e = absurd (cc)
+last_at d p xs is = ⊎_elim (λ n. absurd (none-some p n)) (λ (r : (j : ℕ) × (p ≡ 0 + j) × (item_at xs j ≡ Some (WrittenItem (BeginEntry d)))). ap (item_at xs) (let e = r.1 in omega (arith, e)) ∙ r.2) (begun_at d 0 p None xs is)
 
 device_in : Option ItemValue → ℕ
 device_in None = 0
@@ -93,14 +77,11 @@ same_device d e is = ap device_in is
 own_open : (items : List ItemValue) (mine : List (ℕ × ItemValue)) (d place : ℕ) → ArePlaced items mine → In (place, WrittenItem (BeginEntry d)) mine → ((q : ℕ) → In (q, WrittenItem (EndEntry d)) mine → q < suc place) → IsOpen answers items mine place
 own_open items mine d place placed own later q f i is = by_item f (item_there items q f (placed q f i)) i
   where
-    none_some : None ≡ Some place → ⊥
-    none_some e = absurd (cc)
-
     by_item : (f : ItemValue) → item_at items q ≡ Some f → In (q, f) mine → ⊥
-    by_item (OpeningItem o) at i = none_some (sym (ap (item_answers (take q items)) at) ∙ is)
-    by_item (WrittenItem (BeginEntry e)) at i = none_some (sym (ap (item_answers (take q items)) at) ∙ is)
-    by_item (WrittenItem IdleEntry) at i = none_some (sym (ap (item_answers (take q items)) at) ∙ is)
-    by_item (WrittenItem (EditEntry e)) at i = none_some (sym (ap (item_answers (take q items)) at) ∙ is)
+    by_item (OpeningItem o) at i = none-some place (sym (ap (item_answers (take q items)) at) ∙ is)
+    by_item (WrittenItem (BeginEntry e)) at i = none-some place (sym (ap (item_answers (take q items)) at) ∙ is)
+    by_item (WrittenItem IdleEntry) at i = none-some place (sym (ap (item_answers (take q items)) at) ∙ is)
+    by_item (WrittenItem (EditEntry e)) at i = none-some place (sym (ap (item_answers (take q items)) at) ∙ is)
     by_item (WrittenItem (EndEntry e)) at i =
         let begun = item_taken items q place (WrittenItem (BeginEntry e)) (last_at e place (take q items) (sym (ap (item_answers (take q items)) at) ∙ is)) in
         let same : e ≡ d = same_device e d (sym begun.0 ∙ item_there items place (WrittenItem (BeginEntry d)) (placed place (WrittenItem (BeginEntry d)) own)) in

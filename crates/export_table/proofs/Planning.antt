@@ -1,5 +1,6 @@
 -- The agenda after each step of the core.
 use Rattle.std.proofs.Common.{◌≡◌, ◌≢◌, ◌↔◌, ℕ, ◌+◌, ◌<◌, ◌≤◌, List, [], ◌∷◌, ◌++◌, length, refl, sym, ap, ◌∙◌, subst, arith, Bool, true, false, not, nat_eq, nat_lt, get_or-set_same, get_or-set_other, ◌||◌, nat_le, is_some, Option, Some, None, if◌then◌else◌}
+use Rattle.std.proofs.lemmas.Option.{none-some}
 use Rattle.std.proofs.lemmas.Bool.{false≢true, eq-eqb, ne_eqb, ltb-true, lt-ltb}
 use mathlib.Core.Logic.{dite}
 use native.Mathlib.Decide.{ℕ_discrete}
@@ -33,9 +34,6 @@ put_same f d v = ap (λ b. if b then v else f d) (eq-eqb d d refl)
 put_other : {X : Type 0} (f : ℕ → Option X) (d e : ℕ) (v : Option X) → e ≢ d → put f d v e ≡ f e
 put_other f d e v n = ap (λ b. if b then v else f e) (ne_eqb e d n)
 
-some_none : {X : Type 0} (x : X) → Some x ≡ None → ⊥
-some_none x e = absurd (cc)
-
 -- what an entry leaves of a device as it was
 abbrev Stays : Opening → List EntryValue → List EntryValue → Core → Core → ℕ → Type 0
 Stays o log log' c c' e = (lives c'.net e ≡ lives c.net e) × (c'.flying e ≡ c.flying e) × (begun_in o log' e ≡ begun_in o log e)
@@ -66,7 +64,7 @@ pub plans_begin : (U : Unfolding) (o : Opening) (log : List EntryValue) (c c' : 
 plans_begin U o log c c' a d p w past small step = plans_at o log (log ++ BeginEntry d ∷ []) c c' a (after_begin a d) d p refl
     (λ e n. (get_or-set_other a.begun d e (begun_by a d + 1) 0 n, get_or-set_other a.ready d e false false n))
     (get_or-set_same a.begun d (begun_by a d + 1) 0 (omega (arith, w.begun, small)) ∙ (ap (λ n. n + 1) (p.begun d small) ∙ sym (begun_more o log (BeginEntry d) d past refl (eq-eqb d d refl))))
-    ((λ t. absurd (false≢true (sym (get_or-set_same a.ready d false false (omega (arith, w.ready, small))) ∙ t))), (λ m. absurd (some_none (copy_of c.net c.exports d) (sym flies ∙ m.rests))))
+    ((λ t. absurd (false≢true (sym (get_or-set_same a.ready d false false (omega (arith, w.ready, small))) ∙ t))), (λ m. absurd (none-some (copy_of c.net c.exports d) (sym m.rests ∙ flies))))
     (λ e n. (ap (λ (k : Core). lives k.net e) step.2, ap (λ (k : Core). k.flying e) step.2 ∙ put_other c.flying d e (Some (copy_of c.net c.exports d)) n, begun_other o log (BeginEntry d) e past refl (not_other d e n)))
   where
     flies : c'.flying d ≡ Some (copy_of c.net c.exports d)

@@ -1,5 +1,6 @@
 -- What an agenda starts with, and what the type of the locked value keeps at the opening.
 use Rattle.std.proofs.Common.{◌≡◌, ℕ, zero, suc, ◌+◌, ◌<◌, ◌≤◌, List, [], ◌∷◌, ◌++◌, length, drop, map, refl, sym, ap, ◌∙◌, subst, arith, Bool, true, false, ◌&&◌, ◌||◌, nat_eq, nat_lt, get_or, replicate, take, length-set, get_or-set_same, get_or-set_other, Some, None}
+use Rattle.std.proofs.lemmas.Option.{none-some}
 use Rattle.std.proofs.lemmas.Bool.{eq-eqb, ne_eqb, ltb-true, lt-ltb, and_parts, and_from}
 use Rattle.std.proofs.lemmas.List.{take_more, map-append}
 use mathlib.Core.Logic.{dite}
@@ -102,16 +103,13 @@ plans_first o log c a front rests s = record {
   );
 }
 
-none_some : (s : Copy) → None ≡ Some s → ⊥
-none_some s e = absurd (cc)
-
 -- a table holds its book from the opening on
 pub held_first : (b b' : BookValue) (rounds turns : ℕ) (a : AgendaValue) → IsSameBook b b' → turns ≤ b'.spare → ((d : ℕ) → (core_of b.core).flying d ≡ None) → Starts (numbers b.core.net.devices) rounds a → IsAgenda a
     → IsHeld (record { book = b'; rounds = a.rounds; turns = turns; front = length b.log }) a
 held_first b b' rounds turns a same spare rests starts whole = record {
   past = omega (arith, long);
   room = omega (arith, long, spare);
-  rooms = λ d s flies. absurd (none_some s (sym (still d) ∙ flies));
+  rooms = λ d s flies. absurd (none-some s (sym (still d) ∙ flies));
   plans = plans_first (opening_of b' a.rounds turns (length b.log)) (entries_of b'.log) (core_of b'.core) a (sym long ∙ sym (entries_length b'.log)) still
       (subst (λ (z : CoreValue × ℕ). Starts (numbers z.0.net.devices) z.1 a) (λ i. (sym same.core i, sym starts.rounds_are i)) starts);
   agenda = whole;

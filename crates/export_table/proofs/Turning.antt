@@ -20,7 +20,7 @@ use Rattle.export_table.specs.Begins.{IsNext}
 use Rattle.export_table.specs.Holding.{HeldValue, HasTurn, Opens, Turned, NothingLeft, opening_in, log_in, core_in, list_of}
 use Rattle.export_table.specs.Firings.{FiringValue}
 use Rattle.export_table.specs.Passing.{TableValue, IsPassOf, on_log, on_items, item_at_next}
-use Rattle.export_table.specs.Turns.{Begins, Rests, Edits, RefusesIn, TookTurn, Began, Rested, Edited, Refused, Closes}
+use Rattle.export_table.specs.Turns.{Begins, Rests, Edits, RefusesIn, TookTurn, Began, Rested, Edited, Refused, Closes, IsAfterTurn}
 use Rattle.export_table.proofs.Keeping.{entries_length, entries_snoc}
 use Rattle.export_table.proofs.Flying.{answers_here}
 use Rattle.export_table.proofs.Passing.{begins_items, items_length, pass_of, placed_items, pass_wrote, rises_items, whole_items, mine_length}
@@ -38,6 +38,14 @@ adds_entry x y e t =
 pub adds_plain : (x y : HeldValue) (e : Entry) (mine : List (ℕ × ItemValue)) → Turned x y e → entry_answers (list_of x) (entry_of e) ≡ None
     → (i : ItemValue) × (list_of y ≡ list_of x ++ i ∷ []) × MayAnswer answers (list_of x) mine i
 adds_plain x y e mine t none = (WrittenItem (entry_of e), adds_entry x y e t, inl (answers_here (list_of x) (WrittenItem (entry_of e)) [] ∙ none))
+
+pub after_turn : (v w : PassView ItemValue) (log : List ItemValue) (i : ItemValue) → w ≡ wrote v log i → IsAfterTurn v w
+after_turn v w log i is = record {
+  left = ap (λ (p : PassView ItemValue). p.left) is;
+  name = ap (λ (p : PassView ItemValue). p.name) is;
+  made = ap (λ (p : PassView ItemValue). p.made) is;
+  out = ap (λ (p : PassView ItemValue). p.out) is;
+}
 
 -- ---- what a pass of the table knows of the value
 

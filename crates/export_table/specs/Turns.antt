@@ -1,5 +1,5 @@
 -- What the calls of a shared table promise.
-use Rattle.std.specs.Prelude.{ℕ, ◌≡◌, ◌+◌, ◌<◌, List, [], ◌∷◌, ◌++◌, length, drop, map, Some, None}
+use Rattle.std.specs.Prelude.{ℕ, ◌≡◌, ◌+◌, ◌-◌, ◌<◌, List, [], ◌∷◌, ◌++◌, length, drop, map, Some, None}
 use Rattle.fc_nodes.specs.Program.{unfolding_of}
 use Rattle.value_trees.specs.Snaps.{snap_copy, tree_of, IsSnap}
 use Rattle.device_eval.specs.Firing.{FiredValue}
@@ -13,7 +13,7 @@ use Rattle.firing_core.specs.Books.{BookValue}
 use Rattle.firing_core.specs.Refusals.{RefusesEdit}
 use Rattle.turn_lock.specs.Logs.{StartsWith, In, Rises, ArePlaced}
 use Rattle.turn_lock.specs.Passes.{PassView, wrote}
-use Rattle.export_table.specs.Items.{Opening}
+use Rattle.export_table.specs.Items.{Opening, ItemValue}
 use Rattle.export_table.specs.Begins.{IsNext}
 use Rattle.export_table.specs.Holding.{HeldValue, HasTurn, Turned, NothingLeft, IsOpenAt, IsTakenAt, opening_in, log_in, core_in}
 use Rattle.export_table.specs.Firings.{FiringValue, IsCopyAt}
@@ -57,6 +57,13 @@ pub record RefusesIn (old new : HeldValue) (e : EditValue) (f : EditFault) : Typ
 
 -- ---- what a turn does to a pass
 
+-- After a turn of the pass v one turn less is left, and all that no entry changes stays.
+pub record IsAfterTurn (v w : PassView ItemValue) : Type 0 where
+  pub left : w.left ≡ v.left - 1
+  pub name : w.name ≡ v.name
+  pub made : w.made ≡ v.made
+  pub out : w.out ≡ v.out
+
 -- The pass v is w after its turn. The log was `before` then, which leads to `core`; it begins with what the pass had seen,
 -- and got the one entry e.
 pub record TookTurn (o : Opening) (v w : PassView EntryValue) (before : List EntryValue) (core : Core) (e : EntryValue) : Type 0 where
@@ -89,6 +96,10 @@ pub record IsOwnFiring (o : Opening) (v : PassView EntryValue) (place : ℕ) (f 
   pub unended : (q : ℕ) → In (q, EndEntry f.snap.device) v.mine → q < place
   pub program : f.program ≡ o.program
   pub copy : IsCopyAt o v.seen place (snap_copy (unfolding_of o.program) f.snap)
+
+-- each firing that the pass may end stays one
+abbrev pub KeepsFirings : Opening → PassView EntryValue → PassView EntryValue → Type 0
+KeepsFirings o v w = (place : ℕ) (f : FiredValue) → IsOwnFiring o v place f → IsOwnFiring o w place f
 
 -- a firing that a pass may end stays one at each other turn of the pass
 abbrev pub FiringsStay : Type 0

@@ -14,7 +14,7 @@ ghost use Rattle.turn_lock.specs.Logs.{StartsWith, In, Rises};
 ghost use Rattle.turn_lock.specs.Passes.{IsBelow, opened, kept_part, new_part, joined};
 ghost use Rattle.export_table.specs.Holding.{HasTurn, core_in, opening_of};
 ghost use Rattle.export_table.specs.Passing.{IsPassOf, on_log};
-ghost use Rattle.export_table.specs.Turns.{Begins, Rests, MayEnd, Ends, Edits, RefusesIn, Began, Rested, IsOwnFiring, Ended, Edited, Refused, Closes};
+ghost use Rattle.export_table.specs.Turns.{Begins, Rests, MayEnd, Ends, Edits, RefusesIn, Began, Rested, IsOwnFiring, Ended, Edited, Refused, Closes, IsAfterTurn, KeepsFirings};
 
 use crate::firing::Firing;
 use crate::held::Held;
@@ -110,6 +110,8 @@ impl Shared {
         ensures rested { OnErr result (Rested self.now.opening (on_log pass.old) (on_log pass.new)) }
         ensures back { IfErr result (λ r. r ≡ room) }
         ensures own { IsPassOf self.now pass.new }
+        ensures keeps { KeepsFirings self.now.opening (on_log pass.old) (on_log pass.new) }
+        ensures after { IsAfterTurn pass.old pass.new }
     {
         self.lock.turn(
             rt,
@@ -137,6 +139,7 @@ impl Shared {
         ensures ended { Ended self.now.opening (on_log pass.old) (on_log pass.new) fired }
         ensures room { IsRoom (unfolding_of self.now.opening.program) result }
         ensures own { IsPassOf self.now pass.new }
+        ensures after { IsAfterTurn pass.old pass.new }
     {
         logs_decide();
         runs_cut();
@@ -166,6 +169,8 @@ impl Shared {
         ensures refused { IfErr result (Refused self.now.opening (on_log pass.old) (on_log pass.new) (edit_of edit)) }
         ensures memory { IsErrOf result EditFault.Memory → TakesNone (edit_of edit) → ⊥ }
         ensures own { IsPassOf self.now pass.new }
+        ensures keeps { KeepsFirings self.now.opening (on_log pass.old) (on_log pass.new) }
+        ensures after { IsAfterTurn pass.old pass.new }
     {
         self.lock.turn(
             rt,

@@ -3,10 +3,10 @@ use Rattle.fc_nodes.specs.Program.{unfolding_of}
 use Rattle.firing_core.specs.Entries.{edit_of}
 use Rattle.firing_core.specs.Cores.{EditFits}
 use Rattle.export_table.specs.Items.{Opening}
-use Rattle.export_table.specs.Holding.{HeldValue, HasTurn}
+use Rattle.export_table.specs.Holding.{HeldValue, HasTurn, list_of}
 use Rattle.export_table.specs.Turns.{Edits, RefusesIn}
-use Rattle.export_table.proofs.Turning.{same_opening, has_turn}
-use Rattle.export_table.proofs.Calls.{edit_adds, edit_pass, edit_edited, edit_refused, edit_takes}
+use Rattle.export_table.proofs.Turning.{same_opening, has_turn, after_turn}
+use Rattle.export_table.proofs.Calls.{edit_adds, edit_pass, edit_edited, edit_refused, edit_takes, edit_keeps}
 use Rattle.export_table.proofs.shared.Shared.edit.Goals as goal
 
 pub turn-requires-clause-may : goal.turn-requires-clause-may
@@ -40,3 +40,12 @@ returns-clause-own g c = let t = c.turn.ensures.turned in
     edit_pass t.before t.after c.args.edit c.args.self.now c.args.pass.now c.turn.new.pass c.requires.own t.agrees t.entry t.left t.view c.turn.result
     (subst (λ (z : HeldValue × HeldValue). OnOk c.turn.result (Edits z.0 z.1 c.args.edit)) (λ i. (t.call.shows i, t.call.leaves i)) t.call.met.0)
     (subst (λ (z : HeldValue × HeldValue). IfErr c.turn.result (RefusesIn z.0 z.1 (edit_of c.args.edit))) (λ i. (t.call.shows i, t.call.leaves i)) t.call.met.1)
+
+pub returns-clause-keeps : goal.returns-clause-keeps
+returns-clause-keeps g c = let t = c.turn.ensures.turned in
+    edit_keeps t.before t.after c.args.edit c.args.self.now c.args.pass.now c.turn.new.pass c.requires.own t.agrees t.entry t.left t.view c.turn.result
+    (subst (λ (z : HeldValue × HeldValue). OnOk c.turn.result (Edits z.0 z.1 c.args.edit)) (λ i. (t.call.shows i, t.call.leaves i)) t.call.met.0)
+    (subst (λ (z : HeldValue × HeldValue). IfErr c.turn.result (RefusesIn z.0 z.1 (edit_of c.args.edit))) (λ i. (t.call.shows i, t.call.leaves i)) t.call.met.1)
+
+pub returns-clause-after : goal.returns-clause-after
+returns-clause-after g c = let t = c.turn.ensures.turned in after_turn c.args.pass.now c.turn.new.pass (list_of t.before) t.entry t.view

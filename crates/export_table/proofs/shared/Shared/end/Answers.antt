@@ -3,9 +3,9 @@ use Rattle.fc_nodes.specs.Program.{unfolding_of}
 use Rattle.firing_core.specs.Rooms.{IsRoom}
 use Rattle.firing_core.specs.declared.entries.Entry.TheVariants as entry
 use Rattle.export_table.specs.Items.{Opening}
-use Rattle.export_table.specs.Holding.{HeldValue}
+use Rattle.export_table.specs.Holding.{HeldValue, list_of}
 use Rattle.export_table.specs.Turns.{MayEnd, Ends}
-use Rattle.export_table.proofs.Turning.{same_opening, still_pass}
+use Rattle.export_table.proofs.Turning.{same_opening, still_pass, after_turn}
 use Rattle.export_table.proofs.OwnFirings.{may_end, adds_end, ended}
 use Rattle.export_table.proofs.shared.Shared.end.Goals as goal
 
@@ -32,3 +32,6 @@ pub returns-clause-own : goal.returns-clause-own
 returns-clause-own g c = let t = c.turn.ensures.turned in
     let ends = subst (λ (z : HeldValue × HeldValue). Ends z.0 z.1 c.args.fired) (λ i. (t.call.shows i, t.call.leaves i)) t.call.met.0 in
     still_pass c.args.self.now c.args.pass.now t.before c.requires.own t.agrees t.after c.turn.new.pass t.entry t.left t.view (entry.End c.args.fired.snap.device) ends.turned
+
+pub returns-clause-after : goal.returns-clause-after
+returns-clause-after g c = let t = c.turn.ensures.turned in after_turn c.args.pass.now c.turn.new.pass (list_of t.before) t.entry t.view

@@ -2,12 +2,12 @@ use Rattle.std.proofs.Common.{◌≡◌, ℕ, subst, sym, ap, IfOk, IfErr}
 use Rattle.fc_nodes.specs.Program.{unfolding_of}
 use Rattle.firing_core.specs.Rooms.{RoomValue, IsRoom}
 use Rattle.export_table.specs.Items.{Opening}
-use Rattle.export_table.specs.Holding.{HeldValue, HasTurn}
+use Rattle.export_table.specs.Holding.{HeldValue, HasTurn, list_of}
 use Rattle.export_table.specs.Passing.{on_log}
 use Rattle.export_table.specs.Turns.{Begins, Rests}
-use Rattle.export_table.proofs.Turning.{same_opening, has_turn}
+use Rattle.export_table.proofs.Turning.{same_opening, has_turn, after_turn}
 use Rattle.export_table.proofs.OwnFirings.{own_firings}
-use Rattle.export_table.proofs.Calls.{next_adds, next_pass, next_began, next_rested}
+use Rattle.export_table.proofs.Calls.{next_adds, next_pass, next_began, next_rested, next_keeps}
 use Rattle.export_table.proofs.shared.Shared.next.Goals as goal
 
 pub turn-requires-clause-may : goal.turn-requires-clause-may
@@ -41,3 +41,12 @@ returns-clause-own g c = let t = c.turn.ensures.turned in
     next_pass t.before t.after (λ (m : RoomValue). m ≡ c.args.room) c.args.self.now c.args.pass.now c.turn.new.pass c.requires.own t.agrees t.entry t.left t.view c.turn.result
     (subst (λ (z : HeldValue × HeldValue). IfOk c.turn.result (Begins z.0 z.1)) (λ i. (t.call.shows i, t.call.leaves i)) t.call.met.0)
     (subst (λ (z : HeldValue × HeldValue). IfErr c.turn.result (λ m. Rests z.0 z.1 × (m ≡ c.args.room))) (λ i. (t.call.shows i, t.call.leaves i)) t.call.met.1)
+
+pub returns-clause-keeps : goal.returns-clause-keeps
+returns-clause-keeps g c = let t = c.turn.ensures.turned in
+    next_keeps t.before t.after (λ (m : RoomValue). m ≡ c.args.room) c.args.self.now c.args.pass.now c.turn.new.pass c.requires.own t.agrees t.entry t.left t.view c.turn.result
+    (subst (λ (z : HeldValue × HeldValue). IfOk c.turn.result (Begins z.0 z.1)) (λ i. (t.call.shows i, t.call.leaves i)) t.call.met.0)
+    (subst (λ (z : HeldValue × HeldValue). IfErr c.turn.result (λ m. Rests z.0 z.1 × (m ≡ c.args.room))) (λ i. (t.call.shows i, t.call.leaves i)) t.call.met.1)
+
+pub returns-clause-after : goal.returns-clause-after
+returns-clause-after g c = let t = c.turn.ensures.turned in after_turn c.args.pass.now c.turn.new.pass (list_of t.before) t.entry t.view
