@@ -24,7 +24,7 @@ term_sort (Evolve t e a b) = OfEvolve e
 term_sort (If t c a b) = OfIf
 term_sort (Let t a b) = OfLet
 
-or_none : (a : Bool) → a ≡ (a || false)
+pub or_none : (a : Bool) → a ≡ (a || false)
 or_none true = refl
 or_none false = refl
 
@@ -112,7 +112,7 @@ joined_is m rs e x p u =
         ≡ made b' o' h' r' (is_integer (inner (type_of u))) (leads (inner (type_of u))) (least_integer (rs p)) (growth_by b' h' (growth_apart m p (least_integer (rs p))) (growth_heard p (leads (inner (type_of u)))) g')
     with_all b b' o o' h h' r r' g g' i j k l n = rw (n, i, j, k, l) refl
 
-sort_is : (ns : List Node) (p : ℕ) (u : Term) (s : Sort) (t : ValueType) (ks : List ℕ) → Laid ns p u → HasNode ns p s t ks → (term_sort u ≡ s) × (type_of u ≡ t)
+pub sort_is : (ns : List Node) (p : ℕ) (u : Term) (s : Sort) (t : ValueType) (ks : List ℕ) → Laid ns p u → HasNode ns p s t ks → (term_sort u ≡ s) × (type_of u ≡ t)
 sort_is ns p (Plain t l) s t' ks h k = (cc, cc)
 sort_is ns p (Apply t o xs) s t' ks h k = let l = h.0 in (cc, cc)
 sort_is ns p (Nbr t a) s t' ks h k = let l = h.0 in (cc, cc)
@@ -131,7 +131,7 @@ facts_by_place P ab e x p (More t ts) l =
     ∙ ap (λ u. facts_of P.declared.ceiling (range_of (unfolding_of P)) e x p u ∷ facts_at P e x (places (p + size t) ts)) (sym h)
 
 -- a node at a place
-pub node_joined : (P : Program) → AllAbove P.nodes → (e : Evolution) (x p : ℕ) → StandsAt P.nodes p → (s : Sort) (t : ValueType) (ks : List ℕ) → HasNode P.nodes p s t ks
+node_joined : (P : Program) → AllAbove P.nodes → (e : Evolution) (x p : ℕ) → StandsAt P.nodes p → (s : Sort) (t : ValueType) (ks : List ℕ) → HasNode P.nodes p s t ks
     → facts_of P.declared.ceiling (range_of (unfolding_of P)) e x p (term_at P.nodes p)
     ≡ joined P.declared.ceiling e x p s (inner t) (least_integer (range_of (unfolding_of P) p)) (facts_at P e x ks)
 node_joined P ab e x p st s t ks h =
@@ -143,3 +143,14 @@ node_joined P ab e x p st s t ks h =
     ∙ ap (λ y. joined P.declared.ceiling e x p y (inner (type_of (term_at P.nodes p))) lo (facts_in P.declared.ceiling (range_of (unfolding_of P)) e x (suc p) (kids_of (term_at P.nodes p)))) z.0
     ∙ ap (λ y. joined P.declared.ceiling e x p s (inner y) lo (facts_in P.declared.ceiling (range_of (unfolding_of P)) e x (suc p) (kids_of (term_at P.nodes p)))) z.1
     ∙ ap (joined P.declared.ceiling e x p s (inner t) lo) by
+
+-- the same by what a node in code says of the ceiling, the least integer and the kids
+pub node_joined_as : (P : Program) → AllAbove P.nodes → (e : Evolution) (x p : ℕ) → StandsAt P.nodes p → (s : Sort) (t : ValueType) (ks : List ℕ) → HasNode P.nodes p s t ks
+    → (m lo : ℕ) (js : List ℕ) (v : NodeFacts) → m ≡ P.declared.ceiling → lo ≡ least_integer (range_of (unfolding_of P) p) → js ≡ ks → v ≡ joined m e x p s (inner t) lo (facts_at P e x js)
+    → v ≡ facts_of P.declared.ceiling (range_of (unfolding_of P)) e x p (term_at P.nodes p)
+node_joined_as P ab e x p st s t ks h m lo js v i j k q =
+    q
+    ∙ ap (λ n. joined n e x p s (inner t) lo (facts_at P e x js)) i
+    ∙ ap (λ n. joined P.declared.ceiling e x p s (inner t) n (facts_at P e x js)) j
+    ∙ ap (λ ns. joined P.declared.ceiling e x p s (inner t) (least_integer (range_of (unfolding_of P) p)) (facts_at P e x ns)) k
+    ∙ sym (node_joined P ab e x p st s t ks h)

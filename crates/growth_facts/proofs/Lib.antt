@@ -5,6 +5,7 @@ pub mod Raised
 pub mod Grow
 mod Law
 mod Joins
+mod Occurs
 mod KidLists
 pub mod Standing
 mod Ranges

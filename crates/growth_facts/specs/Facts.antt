@@ -98,6 +98,13 @@ abbrev pub evolution_by : Bool → Evolution
 evolution_by true = ByShare
 evolution_by false = ByRep
 
+-- a `rep`, a `share`, an `if` or a `let`
+abbrev pub closed_sort : Sort → Bool
+closed_sort (OfEvolve e) = true
+closed_sort OfIf = true
+closed_sort OfLet = true
+closed_sort _ = false
+
 abbrev pub sort_is_share : Sort → Bool
 sort_is_share (OfEvolve ByShare) = true
 sort_is_share _ = false

@@ -4,6 +4,7 @@
 mod laws;
 mod node_facts;
 mod nodes;
+mod occurrences;
 mod tables;
 mod walk;
 

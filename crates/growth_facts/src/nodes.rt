@@ -1,16 +1,17 @@
 //! The facts of a node, from those of its kids.
 
-ghost use Rattle.std.specs.Prelude.{◌≡◌, ◌<◌, ◌^◌, ◌||◌, ◌++◌, List, [], ◌∷◌};
+ghost use Rattle.std.specs.Prelude.{ℕ, true, ◌≡◌, ◌<◌, ◌^◌, ◌||◌, ◌++◌, List, [], ◌∷◌};
 ghost use Rattle.fc_values.specs.Types.{local_type_of, type_of};
 ghost use Rattle.fc_values.specs.BuiltinTypes.{inner as inner_type};
-ghost use Rattle.fc_nodes.specs.Terms.{sort_of};
+ghost use Rattle.fc_nodes.specs.Terms.{Evolution, sort_of};
 ghost use Rattle.interval_facts.specs.Ranges.{range_value};
 ghost use Rattle.growth_facts.specs.Leads.{is_integer as is_integer_type, leads as leads_of};
 ghost use Rattle.growth_facts.specs.Leads.{least_integer as least_integer_of, least_alone as least_alone_of, greatest_integer as greatest_integer_of, greatest_alone as greatest_alone_of};
 ghost use Rattle.growth_facts.specs.Growth.{NodeFacts, growth_by as growth_by_of, growth_apart, growth_heard};
-ghost use Rattle.growth_facts.specs.Facts.{growth_value, facts_value, AreKids, own_sort, heard_sort, rest_sort, sort_growth, joined, evolution_by};
+ghost use Rattle.growth_facts.specs.Facts.{growth_value, facts_value, AreKids, own_sort, heard_sort, rest_sort, sort_growth, joined, evolution_by, any_uses, closed_sort};
 
 use crate::node_facts::{Evolving, Facts, Growth, Kids};
+use crate::occurrences::is_own;
 use crate::tables::{only_if, op_growth};
 use fc_nodes::{Node, Op};
 use fc_values::{Builtin, LocalTy, inner};
@@ -124,16 +125,6 @@ pub fn with_kid(kids: &Kids, facts: Facts) -> Kids
     more
 }
 
-// Whether a node is the variable of a binder.
-fn is_own(node: &Node, binder: u32) -> bool
-    ensures { result ≡ own_sort binder (sort_of node.now.op) }
-{
-    match &node.op {
-        Op::Var(place) => *place == binder,
-        _ => false,
-    }
-}
-
 // Whether a node is what is heard of a variable.
 fn is_heard(node: &Node, variable: &Evolving, own: bool, kids: &Kids) -> bool
     requires { own ≡ own_sort variable.now.place (sort_of node.now.op) }
@@ -213,6 +204,40 @@ pub fn join(
         rest: is_rest(node, kids),
         integer: is_integer(ty),
         leads,
+        least,
+        growth,
+    }
+}
+
+// Whether a node is a `rep`, a `share`, an `if` or a `let`, in which nothing with the variable grows.
+pub fn is_closed(node: &Node) -> bool
+    ensures { result ≡ closed_sort (sort_of node.now.op) }
+{
+    match &node.op {
+        Op::Rep | Op::Share | Op::If | Op::Let => true,
+        _ => false,
+    }
+}
+
+// The facts of such a node, by whether the variable occurs in it.
+pub fn closed_facts(node: &Node, uses: bool, least: u32, place: u32, ceiling: u32) -> Facts
+    requires { closed_sort (sort_of node.now.op) ≡ true }
+    ensures { (e : Evolution) (x : ℕ) (fs : List NodeFacts) → uses ≡ any_uses fs
+        → facts_value result ≡ joined ceiling e x place (sort_of node.now.op) (inner_type (type_of node.now.ty)) least fs }
+{
+    let ty = inner(&node.ty);
+    let growth = if uses {
+        Growth::None(place)
+    } else {
+        apart(least, place, ceiling)
+    };
+    Facts {
+        uses,
+        own: false,
+        heard: false,
+        rest: false,
+        integer: is_integer(ty),
+        leads: leads(ty),
         least,
         growth,
     }

@@ -9,7 +9,8 @@ ghost use Rattle.growth_facts.specs.Growth.{facts_of};
 ghost use Rattle.growth_facts.specs.Facts.{growth_value, facts_value, AreKids, facts_at, evolution_by, sort_is_share, IsEvolving, node_facts, growth_at};
 
 use crate::node_facts::{Evolving, Facts, Growth, Kids};
-use crate::nodes::{join, least_integer, no_kids, with_kid};
+use crate::nodes::{closed_facts, is_closed, join, least_integer, no_kids, with_kid};
+use crate::occurrences::occurs_in;
 use fc_nodes::{Node, Op, Unfolded};
 use interval_facts::Ranges;
 
@@ -58,9 +59,14 @@ fn facts_below(program: &Unfolded, ranges: &Ranges, variable: &Evolving, place: 
         (evolution_by variable.now.by_share) variable.now.place place (term_at program.now.nodes place) }
 {
     let node = program.node(place);
-    let below = kids_below(program, ranges, variable, node.kids.as_slice(), place);
+    let kids = node.kids.as_slice();
     let least = least_integer(ranges.at(place));
     let ceiling = program.declared().ceiling;
+    if is_closed(node) {
+        let uses = occurs_in(program, variable.place, kids, place);
+        return closed_facts(node, uses, least, place, ceiling);
+    }
+    let below = kids_below(program, ranges, variable, kids, place);
     join(node, variable, least, &below, place, ceiling)
 }
 

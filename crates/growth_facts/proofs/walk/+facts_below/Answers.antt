@@ -1,37 +1,48 @@
-use Rattle.std.proofs.Common.{arith, sym, ◌∙◌, ap}
-use Rattle.fc_values.specs.BuiltinTypes.{inner}
-use Rattle.fc_values.specs.Types.{type_of}
+use Rattle.std.proofs.Common.{arith, ◌∙◌, ap}
 use Rattle.fc_nodes.proofs.Places.{formed_above}
 use Rattle.fc_nodes.proofs.Kids.{kids_stand}
 use Rattle.fc_nodes.specs.Program.{unfolding_of}
-use Rattle.fc_nodes.specs.Terms.{sort_of}
-use Rattle.interval_facts.specs.Ranges.{range_of}
 use Rattle.interval_facts.proofs.Lengths.{place_there}
-use Rattle.growth_facts.specs.Leads.{least_integer}
-use Rattle.growth_facts.specs.Facts.{joined, evolution_by, facts_at}
-use Rattle.growth_facts.proofs.Joins.{node_joined}
+use Rattle.growth_facts.specs.Facts.{evolution_by, facts_at}
+use Rattle.growth_facts.proofs.Joins.{node_joined_as}
+use Rattle.growth_facts.proofs.Occurs.{uses_at}
 use Rattle.growth_facts.proofs.Ranges.{least_there}
 use Rattle.growth_facts.proofs.walk.+facts_below.Goals as goal
+
+pub facts_below-at-requires : goal.facts_below-at-requires
+facts_below-at-requires t c = place_there c.args.program.now c.node-node.ensures.program c.args.ranges.now c.requires.ranges c.args.place c.requires.stands.within
+
+pub facts_below-occurs_in-uses-requires : goal.facts_below-occurs_in-uses-requires
+facts_below-occurs_in-uses-requires t c =
+    rw c.as_slice-kids.ensures.value (kids_stand c.args.program.now.nodes (formed_above c.args.program.now.nodes c.node-node.ensures.program.formed) c.args.place c.requires.stands _ _ _ c.node-node.ensures.node)
 
 pub facts_below-kids_below-below-requires : goal.facts_below-kids_below-below-requires
 facts_below-kids_below-below-requires t c =
     let d = c.decreases in
     let w = c.requires.stands.within in
     let stand = kids_stand c.args.program.now.nodes (formed_above c.args.program.now.nodes c.node-node.ensures.program.formed) c.args.place c.requires.stands _ _ _ c.node-node.ensures.node in
-    (omega (arith, d, w), (c.requires.ranges, rw c.as_slice.ensures.value stand))
+    (omega (arith, d, w), (c.requires.ranges, rw c.as_slice-kids.ensures.value stand))
 
-pub facts_below-at-requires : goal.facts_below-at-requires
-facts_below-at-requires t c = place_there c.args.program.now c.node-node.ensures.program c.args.ranges.now c.requires.ranges c.args.place c.requires.stands.within
+pub facts_below-returns-then-is_closed : goal.facts_below-returns-then-is_closed
+facts_below-returns-then-is_closed t c =
+    let P = c.args.program.now in
+    let e = evolution_by c.args.variable.now.by_share in
+    let x = c.args.variable.now.place in
+    let kids = c.as_slice-kids.result.now in
+    node_joined_as P (formed_above P.nodes c.node-node.ensures.program.formed) e x c.args.place c.requires.stands _ _ _ c.node-node.ensures.node _ _ kids _
+    (ap (λ D. D.ceiling) c.declared.ensures.value)
+    (c.least_integer-least.ensures ∙ least_there (unfolding_of P) c.args.ranges.now c.requires.ranges c.args.place _ c.at.ensures)
+    c.as_slice-kids.ensures.value
+    (c.closed_facts.ensures e x (facts_at P e x kids) (c.occurs_in-uses.ensures ∙ uses_at P e x kids))
 
 pub facts_below-returns : goal.facts_below-returns
 facts_below-returns t c =
     let P = c.args.program.now in
     let e = evolution_by c.args.variable.now.by_share in
     let x = c.args.variable.now.place in
-    let node = c.node-node.result.now in
-    let least = c.least_integer-least.ensures ∙ least_there (unfolding_of P) c.args.ranges.now c.requires.ranges c.args.place _ c.at.ensures in
-    c.join.ensures (facts_at P e x c.as_slice.result.now) c.kids_below-below.ensures
-    ∙ ap (λ m. joined m e x c.args.place (sort_of node.op) (inner (type_of node.ty)) c.least_integer-least.result (facts_at P e x c.as_slice.result.now)) (ap (λ D. D.ceiling) c.declared.ensures.value)
-    ∙ ap (λ lo. joined P.declared.ceiling e x c.args.place (sort_of node.op) (inner (type_of node.ty)) lo (facts_at P e x c.as_slice.result.now)) least
-    ∙ ap (λ ks. joined P.declared.ceiling e x c.args.place (sort_of node.op) (inner (type_of node.ty)) (least_integer (range_of (unfolding_of P) c.args.place)) (facts_at P e x ks)) c.as_slice.ensures.value
-    ∙ sym (node_joined P (formed_above P.nodes c.node-node.ensures.program.formed) e x c.args.place c.requires.stands _ _ _ c.node-node.ensures.node)
+    let kids = c.as_slice-kids.result.now in
+    node_joined_as P (formed_above P.nodes c.node-node.ensures.program.formed) e x c.args.place c.requires.stands _ _ _ c.node-node.ensures.node _ _ kids _
+    (ap (λ D. D.ceiling) c.declared.ensures.value)
+    (c.least_integer-least.ensures ∙ least_there (unfolding_of P) c.args.ranges.now c.requires.ranges c.args.place _ c.at.ensures)
+    c.as_slice-kids.ensures.value
+    (c.join.ensures (facts_at P e x kids) c.kids_below-below.ensures)
