@@ -82,7 +82,8 @@ growth_heard p leads = only_if leads p (Grows 0)
 -- a node of which `other` is the growth where it has the variable and isn't what is heard of it
 abbrev pub node_growth : ℕ → (ℕ → RangeValue) → Evolution → ℕ → ℕ → Term → GrowthValue → GrowthValue
 node_growth ceiling rs e x p t other =
-    growth_by (occurs x t) (is_heard e x t) (growth_apart ceiling p (least_integer (rs p))) (growth_heard p (leads (inner (type_of t)))) other
+    growth_by (occurs x t) (is_heard e x t) (growth_apart ceiling p (least_integer (rs p)))
+    (growth_heard p (leads (inner (type_of t)))) other
 
 -- the facts of a term at a place, with its growth
 abbrev pub facts_with : (ℕ → RangeValue) → Evolution → ℕ → ℕ → Term → GrowthValue → NodeFacts

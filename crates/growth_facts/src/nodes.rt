@@ -6,9 +6,11 @@ ghost use Rattle.fc_values.specs.BuiltinTypes.{inner as inner_type};
 ghost use Rattle.fc_nodes.specs.Terms.{Evolution, sort_of};
 ghost use Rattle.interval_facts.specs.Ranges.{range_value};
 ghost use Rattle.growth_facts.specs.Leads.{is_integer as is_integer_type, leads as leads_of};
-ghost use Rattle.growth_facts.specs.Leads.{least_integer as least_integer_of, least_alone as least_alone_of, greatest_integer as greatest_integer_of, greatest_alone as greatest_alone_of};
+ghost use Rattle.growth_facts.specs.Leads.{least_integer as least_integer_of, least_alone as least_alone_of};
+ghost use Rattle.growth_facts.specs.Leads.{greatest_integer as greatest_integer_of, greatest_alone as greatest_alone_of};
 ghost use Rattle.growth_facts.specs.Growth.{NodeFacts, growth_by as growth_by_of, growth_apart, growth_heard};
-ghost use Rattle.growth_facts.specs.Facts.{growth_value, facts_value, AreKids, own_sort, heard_sort, rest_sort, sort_growth, joined, evolution_by, any_uses, closed_sort};
+ghost use Rattle.growth_facts.specs.Facts.{growth_value, facts_value, AreKids, own_sort, heard_sort, rest_sort};
+ghost use Rattle.growth_facts.specs.Facts.{sort_growth, joined, evolution_by, any_uses, closed_sort};
 
 use crate::node_facts::{Evolving, Facts, Growth, Kids};
 use crate::occurrences::is_own;

@@ -1,7 +1,8 @@
 //! The growth of a builtin by its arguments.
 
 ghost use Rattle.std.specs.Prelude.{◌≡◌, List, [], ◌∷◌};
-ghost use Rattle.growth_facts.specs.Growth.{NodeFacts, only_if as only_if_of, on_one_side as on_one_side_of, raised as raised_of, lesser_growth, op_growth as op_growth_of};
+ghost use Rattle.growth_facts.specs.Growth.{NodeFacts, only_if as only_if_of, on_one_side as on_one_side_of};
+ghost use Rattle.growth_facts.specs.Growth.{raised as raised_of, lesser_growth, op_growth as op_growth_of};
 ghost use Rattle.growth_facts.specs.Facts.{growth_value, facts_value, AreKids};
 
 use crate::node_facts::{Facts, Growth, Kids};

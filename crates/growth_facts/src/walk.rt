@@ -6,7 +6,8 @@ ghost use Rattle.fc_nodes.specs.Program.{unfolding_of};
 ghost use Rattle.fc_nodes.specs.Places.{StandsAt, StandAfter};
 ghost use Rattle.interval_facts.specs.Ranges.{AreRangesOf, range_of};
 ghost use Rattle.growth_facts.specs.Growth.{facts_of};
-ghost use Rattle.growth_facts.specs.Facts.{growth_value, facts_value, AreKids, facts_at, evolution_by, sort_is_share, IsEvolving, node_facts, growth_at};
+ghost use Rattle.growth_facts.specs.Facts.{growth_value, facts_value, AreKids, facts_at, evolution_by};
+ghost use Rattle.growth_facts.specs.Facts.{sort_is_share, IsEvolving, node_facts, growth_at};
 
 use crate::node_facts::{Evolving, Facts, Growth, Kids};
 use crate::nodes::{closed_facts, is_closed, join, least_integer, no_kids, with_kid};

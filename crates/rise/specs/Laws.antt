@@ -60,7 +60,8 @@ StageBegins = (ceiling growth least i : ℕ) → climbed ceiling growth least i 
 
 -- after as many firings as make up the growth the next stage is reached
 abbrev pub StageIsReached : Type 0
-StageIsReached = (ceiling growth least i : ℕ) → 1 ≤ least → climbed ceiling growth least i (turns_of growth least) ≡ stage ceiling growth (suc i)
+StageIsReached = (ceiling growth least i : ℕ) → 1 ≤ least
+    → climbed ceiling growth least i (turns_of growth least) ≡ stage ceiling growth (suc i)
 
 -- so a run of firings leads from a stage to the next one, while the targets are there
 abbrev pub StageByTurns : Type 0
