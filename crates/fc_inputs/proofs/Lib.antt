@@ -2,4 +2,5 @@ pub mod Cut
 pub mod SectionSizes
 pub mod Reading
 pub mod OneReading
+pub mod Unfolds
 pub mod Stopping

@@ -1,5 +1,5 @@
 -- Texts are read to one thing.
-use Rattle.std.proofs.Common.{ℕ, ◌≡◌, ◌⊎◌, inl, inr, ◌<◌, ◌≤◌, Bool, true, false, List, length, refl, ap, ◌∙◌, sym, subst, arith, min, Option, Some, None}
+use Rattle.std.proofs.Common.{ℕ, ◌≡◌, ◌⊎◌, inl, inr, ◌<◌, Bool, true, false, List, length, refl, ap, ◌∙◌, sym, subst, arith, min, Option, Some, None}
 use Rattle.std.specs.Prelude.{nat_le}
 use Rattle.std.proofs.lemmas.Bool.Decides.{nat_tests}
 use Rattle.fc_lexer.specs.Kinds.{TokenView}
@@ -16,12 +16,14 @@ use Rattle.fc_types.specs.Faults.{FirstFault}
 use Rattle.fc_types.specs.Laws as types
 use Rattle.fc_nodes.specs.Program.{Unfolding}
 use Rattle.net_json.specs.Scenes.{scene_of}
+use Rattle.unfold.specs.declared.count.TheConstants.{MOST_COUNTED}
+use Rattle.unfold.specs.declared.unfolding.TheConstants.{MOST_NODES}
 use Rattle.unfold.specs.Nodes.{Nodes}
 use Rattle.fc_inputs.specs.declared.refusal.Refusal.{Refusal}
 use Rattle.fc_inputs.specs.declared.refusal.Refusal.TheVariants.{Lexical, Tokens, Depth, Syntax, Types, Nodes as Size}
-use Rattle.fc_inputs.specs.Causes.{Cause, Plainly, InScene, Judged, Accepted, Refused, AndThen}
+use Rattle.fc_inputs.specs.Causes.{Plainly, InScene, Judged, Accepted, Refused, AndThen}
 use Rattle.fc_inputs.specs.Sources.{IsSource, IsNoSource, lexical, tokens, depth, syntax, IsProgramText, IsNoProgram, no_source, ill_typed, too_large, unfolding_by, ReadsSource, ReadsProgram}
-use Rattle.fc_inputs.specs.Inputs.{InputOf, with_scene, ReadsInput, OneSource, OneProgramText, OneInput}
+use Rattle.fc_inputs.specs.Inputs.{InputOf, with_scene, OneSource, OneProgramText, OneInput}
 
 -- a limit is one
 limit_same : (ts us : List TokenView) (p q : Option Passed) → ts ≡ us → limit_passed ts ≡ p → limit_passed us ≡ q → p ≡ q
@@ -118,7 +120,7 @@ module _ (source : OneSource) (typed_or_fault : types.TypedOrAtFault) (not_both 
   same_no_program text r s (ill_typed ds n k x f) (too_large es y t l) = absurd (not_both es n k t (subst (λ v. FirstFault v n k) (declared_same text ds es x y) f))
   same_no_program text r s (too_large ds x t l) (no_source b y) = absurd (never text ds s x y)
   same_no_program text r s (too_large ds x t l) (ill_typed es m j y g) = absurd (not_both ds m j t (subst (λ v. FirstFault v m j) (sym (declared_same text ds es x y)) g))
-  same_no_program text r s (too_large ds x t l) (too_large es y u k) = ap (λ v. Size (min 1000000 (length (Nodes v)))) (declared_same text ds es x y)
+  same_no_program text r s (too_large ds x t l) (too_large es y u k) = ap (λ v. Size (min MOST_COUNTED (length (Nodes v)))) (declared_same text ds es x y)
 
   program_or_refused : (text : List ℕ) (U : Unfolding) (r : Refusal) → IsProgramText text U → IsNoProgram text r → ⊥
   program_or_refused text U r p (no_source a x) = never text p.declarations r p.source x
@@ -137,14 +139,14 @@ module _ (source : OneSource) (typed_or_fault : types.TypedOrAtFault) (not_both 
   abbrev ReadTyped : List ℕ → Type 0
   ReadTyped text = (j : Judged Unfolding) × ReadsProgram text j
 
-  by_size : (text : List ℕ) (ds : List Declaration) → IsSource text ds → IsTyped ds → (b : Bool) → nat_le (length (Nodes ds)) 2048 ≡ b → ReadTyped text
+  by_size : (text : List ℕ) (ds : List Declaration) → IsSource text ds → IsTyped ds → (b : Bool) → nat_le (length (Nodes ds)) MOST_NODES ≡ b → ReadTyped text
   by_size text ds h t true e = (Accepted (unfolding_by ds), record { declarations = ds; source = h; typed = t; few = grind (arith, nat_tests); unfolds = refl })
   by_size text ds h t false e =
-      let large : 2048 < length (Nodes ds) = grind (arith, nat_tests) in
-      (Refused (Plainly (Size (min 1000000 (length (Nodes ds))))), too_large ds h t large)
+      let large : MOST_NODES < length (Nodes ds) = grind (arith, nat_tests) in
+      (Refused (Plainly (Size (min MOST_COUNTED (length (Nodes ds))))), too_large ds h t large)
 
   by_types : (text : List ℕ) (ds : List Declaration) → IsSource text ds → IsTyped ds ⊎ ((n : ℕ) × (k : TypeKind) × FirstFault ds n k) → ReadTyped text
-  by_types text ds h (inl t) = by_size text ds h t (nat_le (length (Nodes ds)) 2048) refl
+  by_types text ds h (inl t) = by_size text ds h t (nat_le (length (Nodes ds)) MOST_NODES) refl
   by_types text ds h (inr a) = (Refused (Plainly (Types a.0 a.1)), ill_typed ds a.0 a.1 h a.2)
 
   by_source : (text : List ℕ) (j : Judged (List Declaration)) → ReadsSource text j → ReadTyped text

@@ -14,6 +14,8 @@ use Rattle.fc_types.specs.Typing.{IsTyped}
 use Rattle.fc_types.specs.Faults.{FirstFault}
 use Rattle.fc_types.specs.Views.{IfFault}
 use Rattle.fc_nodes.specs.Program.{Unfolding}
+use Rattle.unfold.specs.declared.count.TheConstants.{MOST_COUNTED}
+use Rattle.unfold.specs.declared.unfolding.TheConstants.{MOST_NODES}
 use Rattle.unfold.specs.declared.faults.UnfoldFault.{UnfoldFault}
 use Rattle.unfold.specs.declared.faults.UnfoldFault.TheVariants as size_fault
 use Rattle.unfold.specs.Nodes.{Nodes}
@@ -25,9 +27,9 @@ use Rattle.net_json.specs.Scenes.{SceneValue, scene_of}
 use Rattle.fc_inputs.specs.declared.refusal.Refusal.TheVariants.{Nodes as Size}
 use Rattle.fc_inputs.specs.declared.stop.Stop.{Stop}
 use Rattle.fc_inputs.specs.declared.stop.Stop.TheVariants as stop
-use Rattle.fc_inputs.specs.Causes.{Cause, Plainly, InScene, Judged, Accepted, Refused}
+use Rattle.fc_inputs.specs.Causes.{Cause, Plainly, InScene, Accepted, Refused}
 use Rattle.fc_inputs.specs.Sources.{IsSource, lexical, tokens, depth, syntax, no_source, ill_typed, too_large, ReadsSource, ReadsProgram}
-use Rattle.fc_inputs.specs.Inputs.{InputOf, with_scene, ReadsInput}
+use Rattle.fc_inputs.specs.Inputs.{with_scene, ReadsInput}
 use Rattle.fc_inputs.specs.Stops.{StopsFor, lex_stop, parse_stop, type_stop, unfold_stop}
 use Rattle.fc_inputs.proofs.Stopping.{stops_map}
 
@@ -52,7 +54,7 @@ pub by_types : (text : List ℕ) (ds : List Declaration) (f : TypeFault) → IsS
 by_types text ds (types.Fault number kind) s h = ill_typed ds number kind s h
 by_types text ds types.Memory s h = tt
 
-pub by_size : (text : List ℕ) (ds : List Declaration) (f : UnfoldFault) → IsSource text ds → IsTyped ds → IfTooLarge f (λ n. 2048 < length (Nodes ds)) → IfTooLarge f (λ n. n ≡ min 1000000 (length (Nodes ds)))
+pub by_size : (text : List ℕ) (ds : List Declaration) (f : UnfoldFault) → IsSource text ds → IsTyped ds → IfTooLarge f (λ n. MOST_NODES < length (Nodes ds)) → IfTooLarge f (λ n. n ≡ min MOST_COUNTED (length (Nodes ds)))
     → StopsFor (λ cause. ReadsProgram text (Refused cause)) (unfold_stop f)
 by_size text ds (size_fault.TooLarge size) s t h k = subst (λ n. ReadsProgram text (Refused (Plainly (Size n)))) (sym k) (too_large ds s t h)
 by_size text ds size_fault.Memory s t h k = tt

@@ -20,7 +20,7 @@ total_lines (b ∷ bs) =
     let P : Bool → Type 0 = λ t. total (cond t ((b ∷ []) ∷ lines_of bs) (onto_first b (lines_of bs))) ≡ length (b ∷ bs) in
     elim (b == 10) as P [ true ↦ omega (arith, rest) | false ↦ omega (arith, rest, onto_total b (lines_of bs)) ]
 
-more_room : (n m : ℕ) (ss : List (List ℕ)) → n ≤ m → AreWithin n ss → AreWithin m ss
+pub more_room : (n m : ℕ) (ss : List (List ℕ)) → n ≤ m → AreWithin n ss → AreWithin m ss
 more_room n m [] le w = tt
 more_room n m (s ∷ ss) le w = (omega (arith, w.0), more_room n m ss le w.1)
 
@@ -40,6 +40,3 @@ sections_within (l ∷ ls) =
 
 pub within_input : (input : List ℕ) (sections : List (List ℕ)) → sections ≡ sections_of input → AreWithin (length input) sections
 within_input input sections e = subst (AreWithin (length input)) (sym e) (subst (λ n. AreWithin n (sections_of input)) (total_lines input) (sections_within (lines_of input)))
-
-pub within_limit : (n m : ℕ) (ss : List (List ℕ)) → AreWithin n ss → n ≤ m → AreWithin m ss
-within_limit n m ss w le = more_room n m ss le w

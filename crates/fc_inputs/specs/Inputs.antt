@@ -1,11 +1,12 @@
 -- What every command over a scene reads: a program, and a scene of it.
-use Rattle.std.specs.Prelude.{ℕ, ◌≡◌, List}
+use Rattle.std.specs.Prelude.{ℕ, ◌≡◌, ◌≤◌, List, length}
 use Rattle.fc_syntax.specs.Terms.{Declaration}
-use Rattle.fc_nodes.specs.Program.{Unfolding}
+use Rattle.fc_nodes.specs.Program.{IsProgram, Program, Unfolding, unfolding_of}
 use Rattle.net_json.specs.Judging as scene
 use Rattle.net_json.specs.Scenes.{SceneValue, scene_of}
+use Rattle.fc_inputs.specs.declared.sources.TheConstants.{MOST_BYTES}
 use Rattle.fc_inputs.specs.Causes.{InScene, Judged, Accepted, Refused, AndThen}
-use Rattle.fc_inputs.specs.Sources.{ReadsSource, ReadsProgram}
+use Rattle.fc_inputs.specs.Sources.{IsProgramText, ReadsSource, ReadsProgram}
 
 -- a program and a scene of it
 abbrev pub InputOf : Type 0
@@ -25,10 +26,23 @@ pub record ReadsInput (program network : List ℕ) (j : Judged InputOf) : Type 0
 -- ---- the laws: texts are read to one thing
 
 abbrev pub OneSource : Type 0
-OneSource = (text : List ℕ) → (j : Judged (List Declaration)) × ReadsSource text j × ((k : Judged (List Declaration)) → ReadsSource text k → k ≡ j)
+OneSource =
+    (text : List ℕ) → (j : Judged (List Declaration)) × ReadsSource text j
+    × ((k : Judged (List Declaration)) → ReadsSource text k → k ≡ j)
 
 abbrev pub OneProgramText : Type 0
-OneProgramText = (text : List ℕ) → (j : Judged Unfolding) × ReadsProgram text j × ((k : Judged Unfolding) → ReadsProgram text k → k ≡ j)
+OneProgramText =
+    (text : List ℕ) → (j : Judged Unfolding) × ReadsProgram text j
+    × ((k : Judged Unfolding) → ReadsProgram text k → k ≡ j)
 
 abbrev pub OneInput : Type 0
-OneInput = (program network : List ℕ) → (j : Judged InputOf) × ReadsInput program network j × ((k : Judged InputOf) → ReadsInput program network k → k ≡ j)
+OneInput =
+    (program network : List ℕ) → (j : Judged InputOf) × ReadsInput program network j
+    × ((k : Judged InputOf) → ReadsInput program network k → k ≡ j)
+
+-- ---- and what a text unfolds to is a program of nodes
+
+abbrev pub TextsUnfold : Type 0
+TextsUnfold =
+    (text : List ℕ) (U : Unfolding) → length text ≤ MOST_BYTES → IsProgramText text U
+    → (P : Program) × IsProgram P × (unfolding_of P ≡ U)

@@ -37,10 +37,15 @@ abbrev pub WithOne : {A : Type 0} → (List ℕ → Judged A → Type 0) → Lis
 WithOne P (one ∷ []) j = P one j
 WithOne P sections j = j ≡ Refused (other_number sections)
 
-abbrev pub WithThree : {A : Type 0} → (List ℕ → List ℕ → List ℕ → Judged A → Type 0) → List (List ℕ) → Judged A → Type 0
+abbrev pub WithThree : {A : Type 0} → (List ℕ → List ℕ → List ℕ → Judged A → Type 0) → List (List ℕ) → Judged A
+    → Type 0
 WithThree P (one ∷ two ∷ three ∷ []) j = P one two three j
 WithThree P sections j = j ≡ Refused (other_number sections)
 
 -- sections of another number, and the cause that this is
 abbrev pub IsOther : ℕ → List (List ℕ) → Cause → Type 0
 IsOther takes sections cause = (length sections ≢ takes) × (cause ≡ other_number sections)
+
+-- the law: no section is longer than its input
+abbrev pub SectionsAreWithin : Type 0
+SectionsAreWithin = (input : List ℕ) (most : ℕ) → length input ≤ most → AreWithin most (sections_of input)

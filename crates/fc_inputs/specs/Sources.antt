@@ -15,6 +15,8 @@ use Rattle.fc_inputs.specs.declared.refusal.Refusal.{Refusal}
 use Rattle.fc_inputs.specs.declared.refusal.Refusal.TheVariants.{Lexical, Tokens, Depth, Syntax, Types}
 use Rattle.fc_inputs.specs.declared.refusal.Refusal.TheVariants.{Nodes as Size}
 use Rattle.fc_inputs.specs.Causes.{Plainly, InScene, Judged, Accepted, Refused}
+use Rattle.unfold.specs.declared.count.TheConstants.{MOST_COUNTED}
+use Rattle.unfold.specs.declared.unfolding.TheConstants.{MOST_NODES}
 use Rattle.unfold.specs.Nodes.{Nodes}
 use Rattle.unfold.specs.Unfolding.{main_term}
 
@@ -28,9 +30,12 @@ pub record IsSource (text : List ℕ) (ds : List Declaration) : Type 0 where
 -- the text is refused: nothing begins at a byte that reading reaches, a declaration passes a limit, or one is at fault
 pub data IsNoSource (text : List ℕ) : Refusal → Type 0 where
   lexical : (at : ℕ) → StopsAt text at → IsNoSource text (Lexical at)
-  tokens : (tokens : List TokenView) (number count : ℕ) → Lexes text tokens → limit_passed tokens ≡ Some (TooMany number count) → IsNoSource text (Tokens count)
-  depth : (tokens : List TokenView) (number : ℕ) → Lexes text tokens → limit_passed tokens ≡ Some (TooDeep number) → IsNoSource text Depth
-  syntax : (tokens : List TokenView) (number line : ℕ) → Lexes text tokens → limit_passed tokens ≡ None → FaultAt tokens number line → IsNoSource text (Syntax number line)
+  tokens : (tokens : List TokenView) (number count : ℕ) → Lexes text tokens
+      → limit_passed tokens ≡ Some (TooMany number count) → IsNoSource text (Tokens count)
+  depth : (tokens : List TokenView) (number : ℕ) → Lexes text tokens
+      → limit_passed tokens ≡ Some (TooDeep number) → IsNoSource text Depth
+  syntax : (tokens : List TokenView) (number line : ℕ) → Lexes text tokens → limit_passed tokens ≡ None
+      → FaultAt tokens number line → IsNoSource text (Syntax number line)
 
 -- what declarations unfold to
 abbrev pub unfolding_by : List Declaration → Unfolding
@@ -41,14 +46,16 @@ pub record IsProgramText (text : List ℕ) (U : Unfolding) : Type 0 where
   pub declarations : List Declaration
   pub source : IsSource text declarations
   pub typed : IsTyped declarations
-  pub few : length (Nodes declarations) ≤ 2048
+  pub few : length (Nodes declarations) ≤ MOST_NODES
   pub unfolds : U ≡ unfolding_by declarations
 
 -- the text is no program: it is refused as above, or it has a first fault of typing, or more nodes
 pub data IsNoProgram (text : List ℕ) : Refusal → Type 0 where
   no_source : (refusal : Refusal) → IsNoSource text refusal → IsNoProgram text refusal
-  ill_typed : (ds : List Declaration) (number : ℕ) (kind : TypeKind) → IsSource text ds → FirstFault ds number kind → IsNoProgram text (Types number kind)
-  too_large : (ds : List Declaration) → IsSource text ds → IsTyped ds → 2048 < length (Nodes ds) → IsNoProgram text (Size (min 1000000 (length (Nodes ds))))
+  ill_typed : (ds : List Declaration) (number : ℕ) (kind : TypeKind) → IsSource text ds
+      → FirstFault ds number kind → IsNoProgram text (Types number kind)
+  too_large : (ds : List Declaration) → IsSource text ds → IsTyped ds → MOST_NODES < length (Nodes ds)
+      → IsNoProgram text (Size (min MOST_COUNTED (length (Nodes ds))))
 
 -- what a text is read to by tokens and grammar
 abbrev pub ReadsSource : List ℕ → Judged (List Declaration) → Type 0

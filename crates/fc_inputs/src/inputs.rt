@@ -5,6 +5,7 @@ ghost use Rattle.net_json.specs.SceneCode.{AreCopies, AreRows, value_of_scene};
 ghost use Rattle.fc_inputs.specs.Causes.{Accepted, Refused};
 ghost use Rattle.fc_inputs.specs.Inputs.{ReadsInput};
 ghost use Rattle.fc_inputs.specs.Stops.{StopsFor};
+ghost use Rattle.fc_inputs.specs.declared.sources.TheConstants.{MOST_BYTES};
 
 use crate::sources::read_program;
 use crate::stop::Stop;
@@ -14,8 +15,9 @@ use std::alloc::Global;
 
 /// The program of a text, and the scene of that program that another text is.
 pub fn read_input(alloc: Global, program: &[u8], network: &[u8]) -> Result<(Unfolded, Scene), Stop>
-    requires { length program.now ≤ 1048576 }
-    ensures input { IfOk result (λ r. ReadsInput program.now network.now (Accepted (unfolding_of r.0, value_of_scene (unfolding_of r.0) r.1))) }
+    requires { length program.now ≤ MOST_BYTES }
+    ensures input { IfOk result (λ r. ReadsInput program.now network.now
+        (Accepted (unfolding_of r.0, value_of_scene (unfolding_of r.0) r.1))) }
     ensures declared { IfOk result (λ r. r.1.net.declared ≡ r.0.declared) }
     ensures rows { IfOk result (λ r. AreRows (unfolding_of r.0) r.1.net r.1.table.items) }
     ensures copies { IfOk result (λ r. AreCopies (unfolding_of r.0) r.1.net r.1.pending.items) }

@@ -1,10 +1,12 @@
 //! Laws of the definitions.
 
-ghost use Rattle.fc_inputs.specs.Inputs.{OneInput, OneProgramText, OneSource};
+ghost use Rattle.fc_inputs.specs.Inputs.{OneInput, OneProgramText, OneSource, TextsUnfold};
+ghost use Rattle.fc_inputs.specs.Sections.{SectionsAreWithin};
 
-use fc_lexer::one_reading;
-use fc_parser::one_meaning;
+use fc_lexer::{one_reading, spans_rise};
+use fc_parser::{derived_is_printable, few_declarations, one_meaning};
 use fc_types::{one_first_fault, typed_or_at_fault};
+use unfold::programs_unfold;
 
 /// A text derives one program, or is refused for one cause, and not both.
 pub fn one_source()
@@ -29,3 +31,18 @@ pub fn one_input()
 {
     one_program_text();
 }
+
+/// The text of a program unfolds to a program of nodes.
+pub fn texts_unfold()
+    ensures { TextsUnfold }
+{
+    spans_rise();
+    derived_is_printable();
+    few_declarations();
+    programs_unfold();
+}
+
+/// No section is longer than its input.
+pub fn sections_are_within()
+    ensures { SectionsAreWithin }
+{}

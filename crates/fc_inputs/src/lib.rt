@@ -15,8 +15,8 @@ mod tests;
 
 pub use cutting::{one_section, sections, three_sections};
 pub use inputs::read_input;
-pub use laws::{one_input, one_program_text, one_source};
+pub use laws::{one_input, one_program_text, one_source, sections_are_within, texts_unfold};
 pub use refusal::{LineFault, Refusal, log_refusal, script_refusal};
 pub use reply::{Failure, Reply, rendered};
-pub use sources::{read_program, read_source};
+pub use sources::{MOST_BYTES, read_program, read_source};
 pub use stop::Stop;

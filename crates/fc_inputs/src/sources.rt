@@ -16,12 +16,15 @@ use fc_types::check_types;
 use std::alloc::Global;
 use unfold::unfold;
 
+/// How many bytes an input has at most.
+pub const MOST_BYTES: usize = 1_048_576;
+
 /// The program that the tokens of a text derive.
 pub fn read_source(alloc: Global, text: &[u8]) -> Result<Program, Stop>
-    requires { length text.now ≤ 1048576 }
+    requires { length text.now ≤ MOST_BYTES }
     ensures source { IfOk result (λ p. ReadsSource text.now (Accepted (program_of p))) }
     ensures printable { IfOk result (λ p. IsPrintable (program_of p)) }
-    ensures few { IfOk result (λ p. length p.decls.items ≤ 1048576) }
+    ensures few { IfOk result (λ p. length p.decls.items ≤ MOST_BYTES) }
     ensures refused { IfErr result (StopsFor (λ cause. ReadsSource text.now (Refused cause))) }
 {
     let tokens = lex(alloc, text)?;
@@ -33,7 +36,7 @@ pub fn read_source(alloc: Global, text: &[u8]) -> Result<Program, Stop>
 
 /// The program that a text is, typed and unfolded.
 pub fn read_program(alloc: Global, text: &[u8]) -> Result<Unfolded, Stop>
-    requires { length text.now ≤ 1048576 }
+    requires { length text.now ≤ MOST_BYTES }
     ensures program { IfOk result (λ u. ReadsProgram text.now (Accepted (unfolding_of u))) }
     ensures refused { IfErr result (StopsFor (λ cause. ReadsProgram text.now (Refused cause))) }
 {

@@ -21,11 +21,10 @@ use Rattle.fc_inputs.specs.Stops.{StopsFor, WhereCause, IsReplyFor, cause_of, sc
 use Rattle.fc_inputs.proofs.Stopping.{stops_map}
 use Rattle.fc_replay.specs.declared.replays.Options.{Options}
 use Rattle.fc_replay.specs.Replays.{Shown, Replays}
-use Rattle.fc_program.specs.declared.TheConstants.{LIMIT}
+use Rattle.fc_inputs.specs.declared.sources.TheConstants.{MOST_BYTES}
 use Rattle.fc_program.specs.Asked.{exists, reads, limit_refusal}
 use Rattle.fc_program.specs.Answers.{AnswerValue, written, showing, replied, answer_of, Formats, ShowsReplay, options_of, AnswersSections, AnswersInput, AnswersReading, AnswersWithin, AnswersAsked, Answers}
 use Rattle.fc_program.specs.Top.{IsAnswer, IsJudged, StopsAsked, cause_status, stop_status}
-use Rattle.fc_program.proofs.Statuses.{status_few, status_usage, status_outside}
 
 -- ---- `format`
 pub format_stops : (program : List ℕ) (s : Stop) → StopsFor (λ cause. ReadsSource program (Refused cause)) s → StopsFor (λ cause. Formats program (Refused cause)) s
@@ -85,7 +84,7 @@ module _ (command : Command) (input : List ℕ) (ss : List (List ℕ)) (same : s
       replay_made shown a e h = over (Accepted shown) (Accepted a) h (record { judged = Accepted shown; replays = h; shows = ap Accepted e })
 
 -- ---- what is read
-reads_there : (command : Command) → exists command ≡ true → reads command ≡ true
+pub reads_there : (command : Command) → exists command ≡ true → reads command ≡ true
 reads_there Format e = refl
 reads_there (Replay rounds table) e = refl
 reads_there (Check facts) e = absurd cc
@@ -96,24 +95,24 @@ reads_there Trace e = absurd cc
 reads_there (Mail number) e = absurd cc
 
 module _ (command : Command) (within : limit_of command ≡ None) (there : exists command ≡ true) where
-  within_reads : (input : List ℕ) (j : Judged AnswerValue) → AnswersInput (nat_lt LIMIT (length input)) command input j → AnswersAsked (Some command) input j
+  within_reads : (input : List ℕ) (j : Judged AnswerValue) → AnswersInput (nat_lt MOST_BYTES (length input)) command input j → AnswersAsked (Some command) input j
   within_reads input j h =
       subst (λ o. AnswersWithin o command input j) (sym within) (subst (λ b. AnswersReading b command input j) (sym (reads_there command there)) h)
 
-  short : (input : List ℕ) → length input ≤ LIMIT → nat_lt LIMIT (length input) ≡ false
+  short : (input : List ℕ) → length input ≤ MOST_BYTES → nat_lt MOST_BYTES (length input) ≡ false
   short input le = grind (arith, nat_tests)
 
-  long : (input : List ℕ) → LIMIT < length input → nat_lt LIMIT (length input) ≡ true
+  long : (input : List ℕ) → MOST_BYTES < length input → nat_lt MOST_BYTES (length input) ≡ true
   long input lt = grind (arith, nat_tests)
 
-  judged_of : (left : Option (List ℕ)) (input : List ℕ) (j : Judged AnswerValue) → IfSome left (λ l. input ≡ l) → length input ≤ LIMIT → AnswersSections command (sections_of input) j → IsJudged (Some command) left j
+  judged_of : (left : Option (List ℕ)) (input : List ℕ) (j : Judged AnswerValue) → IfSome left (λ l. input ≡ l) → length input ≤ MOST_BYTES → AnswersSections command (sections_of input) j → IsJudged (Some command) left j
   judged_of left input j same le h = record {
     input = input;
     there = same;
     makes = within_reads input j (subst (λ b. AnswersInput b command input j) (sym (short input le)) h);
   }
 
-  pub read_made : (left : Option (List ℕ)) (input given : List ℕ) (a : AnswerValue) → IfSome left (λ l. input ≡ l) → given ≡ input → length input ≤ LIMIT → AnswersSections command (sections_of given) (Accepted a)
+  pub read_made : (left : Option (List ℕ)) (input given : List ℕ) (a : AnswerValue) → IfSome left (λ l. input ≡ l) → given ≡ input → length input ≤ MOST_BYTES → AnswersSections command (sections_of given) (Accepted a)
       → IsJudged (Some command) left (Accepted a)
   read_made left input given a same is le h = judged_of left input (Accepted a) same le (subst (λ i. AnswersSections command (sections_of i) (Accepted a)) is h)
 
@@ -123,23 +122,23 @@ module _ (command : Command) (within : limit_of command ≡ None) (there : exist
   asked_stop left (stop.Refused r) h = h
   asked_stop left (stop.Scene f) h = h
 
-  pub read_refused : (left : Option (List ℕ)) (input given : List ℕ) (s : Stop) → IfSome left (λ l. input ≡ l) → given ≡ input → length input ≤ LIMIT → StopsFor (SectionsRefused command given) s → StopsAsked (Some command) left s
+  pub read_refused : (left : Option (List ℕ)) (input given : List ℕ) (s : Stop) → IfSome left (λ l. input ≡ l) → given ≡ input → length input ≤ MOST_BYTES → StopsFor (SectionsRefused command given) s → StopsAsked (Some command) left s
   read_refused left input given s same is le h =
       asked_stop left s
       (stops_map (SectionsRefused command given) (λ cause. IsJudged (Some command) left (Refused cause))
       (λ cause k. judged_of left input (Refused cause) same le (subst (λ i. SectionsRefused command i cause) is k)) s h)
 
-  longer : (xs bytes rest : List ℕ) → xs ≡ bytes ++ rest → length bytes ≡ LIMIT + 1 → LIMIT < length xs
+  longer : (xs bytes rest : List ℕ) → xs ≡ bytes ++ rest → length bytes ≡ MOST_BYTES + 1 → MOST_BYTES < length xs
   longer xs bytes rest e h = omega (arith, h, ap length e, length-append bytes rest)
 
-  too_long : (left : Option (List ℕ)) (input : List ℕ) → IfSome left (λ l. input ≡ l) → LIMIT < length input → IsJudged (Some command) left (Refused (Plainly refusal.Bytes))
+  too_long : (left : Option (List ℕ)) (input : List ℕ) → IfSome left (λ l. input ≡ l) → MOST_BYTES < length input → IsJudged (Some command) left (Refused (Plainly refusal.Bytes))
   too_long left input same lt = record {
     input = input;
     there = same;
     makes = within_reads input _ (subst (λ b. AnswersInput b command input (Refused (Plainly refusal.Bytes))) (sym (long input lt)) refl);
   }
 
-  pub read_too_long : (left after : Option (List ℕ)) (bytes : List ℕ) → Consumes left after bytes → length bytes ≡ LIMIT + 1 → IsJudged (Some command) left (Refused (Plainly refusal.Bytes))
+  pub read_too_long : (left after : Option (List ℕ)) (bytes : List ℕ) → Consumes left after bytes → length bytes ≡ MOST_BYTES + 1 → IsJudged (Some command) left (Refused (Plainly refusal.Bytes))
   read_too_long None after bytes c h = too_long None bytes tt (omega (arith, h))
   read_too_long (Some xs) None bytes c h = absurd c
   read_too_long (Some xs) (Some rest) bytes c h = too_long (Some xs) xs refl (longer xs bytes rest c h)
@@ -170,31 +169,9 @@ pub for_limit : (asked : Option Command) (command : Command) (left : Option (Lis
 for_limit asked command left r e h =
     subst (λ o. IsJudged o left (Refused (Plainly r))) e (unread (Some command) left (Refused (Plainly r)) (limited (limit_of command) command (left_or_none left) r h))
 
-none_past : (o : Option (Limit × ℕ)) → None ≡ past o → o ≡ None
-none_past None e = refl
-none_past (Some l) e = absurd cc
-
-pub no_limit : (command : Command) → None ≡ past (limit_of command) → limit_of command ≡ None
-no_limit command e = none_past (limit_of command) e
-
 -- ---- answers
 pub answer_judged : (asked : Option Command) (left : Option (List ℕ)) (j : Judged AnswerValue) (a : AnswerValue) → IsJudged asked left j → a ≡ answer_of j → IsAnswer asked left a
 answer_judged asked left j a h e = record { input = h.input; there = h.there; answers = record { judged = j; makes = h.makes; is = e } }
-
-pub answer_few : (asked : Option Command) (left : Option (List ℕ)) (a : AnswerValue) → IsAnswer asked left a → a.status ≤ 4
-answer_few asked left a h =
-    let b = h.answers in
-    subst (λ (x : AnswerValue). x.status ≤ 4) (sym b.is) (status_few asked h.input b.judged b.makes)
-
-pub answer_usage : (asked : Option Command) (left : Option (List ℕ)) (a : AnswerValue) → IsAnswer asked left a → a.status ≡ 2 → asked ≡ None
-answer_usage asked left a h two =
-    let b = h.answers in
-    status_usage asked h.input b.judged b.makes (ap (λ (x : AnswerValue). x.status) (sym b.is) ∙ two)
-
-pub answer_outside : (asked : Option Command) (left : Option (List ℕ)) (a : AnswerValue) → IsAnswer asked left a → asked ≡ None → a.status ≡ 2
-answer_outside asked left a h none =
-    let b = h.answers in
-    ap (λ (x : AnswerValue). x.status) b.is ∙ status_outside asked h.input b.judged b.makes none
 
 -- what stops with a cause is a reply
 where_answers : (asked : Option Command) (left : Option (List ℕ)) (o : Option Cause) (r : Reply) (a : AnswerValue) → WhereCause (λ cause. IsJudged asked left (Refused cause)) o → IsReplyFor o r → a ≡ replied r → IsAnswer asked left a
@@ -206,25 +183,3 @@ stop_answers asked left stop.Read r a h is e = absurd is
 stop_answers asked left stop.Memory r a h is e = absurd is
 stop_answers asked left (stop.Refused refused) r a h is e = answer_judged asked left (Refused (Plainly refused)) a h (e ∙ ap replied is)
 stop_answers asked left (stop.Scene f) r a h is e = where_answers asked left (scene_cause f) r a h is e
-
-pub stop_inside : (asked : Option Command) (left : Option (List ℕ)) (s : Stop) → StopsAsked asked left s → s ≡ stop.Read → asked ≢ None
-stop_inside asked left stop.Read h e = h
-stop_inside asked left stop.Memory h e = absurd cc
-stop_inside asked left (stop.Refused refused) h e = absurd cc
-stop_inside asked left (stop.Scene f) h e = absurd cc
-
--- a stop with a reply doesn't read
-pub replied_reads : (s : Stop) (r : Reply) → IsReplyFor (cause_of s) r → s ≡ stop.Read → ⊥
-replied_reads s r is e = subst (λ x. IsReplyFor (cause_of x) r) e is
-
-status_where : (o : Option Cause) (r : Reply) → IsReplyFor o r → cause_status o ≡ r.status
-status_where None r is = absurd is
-status_where (Some cause) r is = ap (λ (x : Reply). x.status) (sym is)
-
-pub stop_status_is : (s : Stop) (r : Reply) → IsReplyFor (cause_of s) r → stop_status s ≡ r.status
-stop_status_is s r is = status_where (cause_of s) r is
-
--- what a `?` gives
-pub err_is : {T : Type 0} (P : Stop → Type 0) (r : Result T Stop) (s : Stop) → IsErrAnd r (λ e. e ≡ s) → P s → IfErr r P
-err_is P (Ok x) s h k = tt
-err_is P (Err e) s h k = subst P (sym h) k

@@ -1,4 +1,4 @@
 pub mod Calm
-pub mod Statuses
 pub mod Answering
 pub mod OneAnswer
+pub mod SomeAnswer

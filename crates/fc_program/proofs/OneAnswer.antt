@@ -13,7 +13,7 @@ use Rattle.fc_inputs.specs.Inputs.{OneSource}
 use Rattle.fc_replay.specs.declared.replays.Options.{Options}
 use Rattle.fc_replay.specs.Replays.{Shown}
 use Rattle.fc_replay.specs.Laws.{ShowAlike, Alike, OneReplay}
-use Rattle.fc_program.specs.declared.TheConstants.{LIMIT}
+use Rattle.fc_inputs.specs.declared.sources.TheConstants.{MOST_BYTES}
 use Rattle.fc_program.specs.Asked.{reads}
 use Rattle.fc_program.specs.Answers.{AnswerValue, written, showing, answer_of, Formats, ShowsReplay, options_of, AnswersSections, AnswersInput, AnswersReading, AnswersWithin, AnswersAsked, Answers}
 use Rattle.fc_program.specs.Laws.{SameLogs, SameText, threads_of, AnswersAgree, OneAnswer}
@@ -73,7 +73,7 @@ module _ (source : OneSource) (replay : OneReplay) where
   same_input false command input j k h g = same_sections command (sections_of input) j k h g
 
   same_reading : (b : Bool) (command : Command) (input : List ℕ) (j k : Judged AnswerValue) → AnswersReading b command input j → AnswersReading b command input k → Same j k
-  same_reading true command input j k h g = same_input (nat_lt LIMIT (length input)) command input j k h g
+  same_reading true command input j k h g = same_input (nat_lt MOST_BYTES (length input)) command input j k h g
   same_reading false command input j k h g = absurd h
 
   same_within : (o : Option (Limit × ℕ)) (command : Command) (input : List ℕ) (j k : Judged AnswerValue) → AnswersWithin o command input j → AnswersWithin o command input k → Same j k

@@ -15,7 +15,7 @@ use Rattle.fc_inputs.specs.Sources.{ReadsSource}
 use Rattle.fc_replay.specs.declared.replays.Options.{Options}
 use Rattle.fc_replay.specs.Ledgers.{Ledger}
 use Rattle.fc_replay.specs.Replays.{Shown, Replays}
-use Rattle.fc_program.specs.declared.TheConstants.{LIMIT}
+use Rattle.fc_inputs.specs.declared.sources.TheConstants.{MOST_BYTES}
 use Rattle.fc_program.specs.Asked.{reads, limit_refusal}
 
 pub record AnswerValue : Type 0 where
@@ -74,7 +74,7 @@ AnswersInput false command input j = AnswersSections command (sections_of input)
 
 -- a command that reads, and one that reads nothing, of which there is none yet
 abbrev pub AnswersReading : Bool → Command → List ℕ → Judged AnswerValue → Type 0
-AnswersReading true command input j = AnswersInput (nat_lt LIMIT (length input)) command input j
+AnswersReading true command input j = AnswersInput (nat_lt MOST_BYTES (length input)) command input j
 AnswersReading false command input j = ⊥
 
 -- a command with a number that is past its limit, which is judged before all reading, and one without

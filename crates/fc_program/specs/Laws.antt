@@ -3,7 +3,7 @@ use Rattle.std.specs.Prelude.{ℕ, Bool, true, false, ◌≡◌, List, Option, S
 use Rattle.edit_commands.specs.Agreement.{SameEntries}
 use Rattle.command_words.specs.declared.commands.Command.{Command}
 use Rattle.fc_replay.specs.Ledgers.{Ledger}
-use Rattle.fc_program.specs.Asked.{runs_threads}
+use Rattle.fc_program.specs.Asked.{MayAsk, runs_threads}
 use Rattle.fc_program.specs.Answers.{AnswerValue, Answers}
 
 -- the logs of two books agree: they may differ in what an export holds at the places of a branch that isn't taken
@@ -28,4 +28,12 @@ pub record AnswersAgree (asked : Option Command) (a b : AnswerValue) : Type 0 wh
   pub text : SameText (threads_of asked) a b
 
 abbrev pub OneAnswer : Type 0
-OneAnswer = (asked : Option Command) (input : List ℕ) (a b : AnswerValue) → Answers asked input a → Answers asked input b → AnswersAgree asked a b
+OneAnswer =
+    (asked : Option Command) (input : List ℕ) (a b : AnswerValue) → Answers asked input a → Answers asked input b
+    → AnswersAgree asked a b
+
+-- each input has an answer, whatever the words ask for
+abbrev pub SomeAnswer : Type 0
+SomeAnswer =
+    (asked : Option Command) (input : List ℕ) → MayAsk asked
+    → (answer : AnswerValue) × Answers asked input answer

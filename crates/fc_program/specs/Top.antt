@@ -49,7 +49,9 @@ pub record Tells (answer : AnswerValue) (told : Option BookValue) (stretches : L
   pub parts : stretches ≡ answer.parts
 
 -- There is an answer with this status, this book and these parts, and the sink took its text and nothing else.
-pub record IsExact (asked : Option Command) (left old new : Option (List ℕ)) (ended : ℕ) (told : Option BookValue) (stretches : List Part) : Type 0 where
+pub record IsExact
+    (asked : Option Command) (left old new : Option (List ℕ)) (ended : ℕ) (told : Option BookValue)
+    (stretches : List Part) : Type 0 where
   pub answer : AnswerValue
   pub answers : IsAnswer asked left answer
   pub status : ended ≡ answer.status
@@ -57,7 +59,9 @@ pub record IsExact (asked : Option Command) (left old new : Option (List ℕ)) (
   pub tells : Tells answer told stretches
 
 -- There is an answer with this book and these parts, and the sink took a front of its text.
-pub record IsCut (asked : Option Command) (left old new : Option (List ℕ)) (told : Option BookValue) (stretches : List Part) : Type 0 where
+pub record IsCut
+    (asked : Option Command) (left old new : Option (List ℕ)) (told : Option BookValue) (stretches : List Part)
+    : Type 0 where
   pub answer : AnswerValue
   pub answers : IsAnswer asked left answer
   pub size : ℕ

@@ -6,7 +6,7 @@ ghost use Rattle.fc_inputs.specs.Stops.{StopsFor};
 ghost use Rattle.fc_program.specs.Answers.{AnswersSections, Formats};
 ghost use Rattle.fc_program.specs.Asked.{exists};
 ghost use Rattle.fc_program.specs.Top.{value_of};
-ghost use Rattle.fc_program.specs.declared.TheConstants.{LIMIT};
+ghost use Rattle.fc_inputs.specs.declared.sources.TheConstants.{MOST_BYTES};
 
 use command_words::Command;
 use fc_inputs::{Reply, Stop, one_section, read_source, sections, three_sections};
@@ -61,7 +61,7 @@ impl Answer {
 
 // The canonical text of a program.
 fn format(alloc: Global, program: &[u8]) -> Result<Answer, Stop>
-    requires { length program.now ≤ 1048576 }
+    requires { length program.now ≤ MOST_BYTES }
     ensures formats { IfOk result (λ a. Formats program.now (Accepted (value_of a))) }
     ensures refused { IfErr result (StopsFor (λ cause. Formats program.now (Refused cause))) }
 {
@@ -73,7 +73,7 @@ fn format(alloc: Global, program: &[u8]) -> Result<Answer, Stop>
 /// The answer of a command to an input within the limit.
 pub fn answer_to(alloc: Global, command: Command, input: &[u8]) -> Result<Answer, Stop>
     requires exists { exists command ≡ true }
-    requires short { length input.now ≤ LIMIT }
+    requires short { length input.now ≤ MOST_BYTES }
     ensures makes { IfOk result (λ a. AnswersSections command (sections_of input.now) (Accepted (value_of a))) }
     ensures refused { IfErr result (StopsFor (λ cause. AnswersSections command (sections_of input.now) (Refused cause))) }
 {

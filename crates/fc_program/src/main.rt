@@ -16,9 +16,6 @@ use std::io::{self, ErrorKind};
 use std::process::ExitCode;
 use std::rt::Env;
 
-/// How many bytes an input has at most.
-pub const LIMIT: usize = 1_048_576;
-
 // The words of the command line.
 fn command_line(rt: &(impl Env + Alloc<A = Global>)) -> io::Result<Vec<String>> {
     let mut words = Vec::new(rt.alloc());

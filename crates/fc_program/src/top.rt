@@ -8,16 +8,15 @@ ghost use Rattle.fc_inputs.specs.declared.stop.Stop.TheVariants as stop;
 ghost use Rattle.fc_inputs.specs.declared.reply.Failure.TheVariants as failure;
 ghost use Rattle.fc_program.specs.Asked.{asked_of, exists, reads_source, MayAsk};
 ghost use Rattle.fc_program.specs.Answers.{AnswerValue, Answers};
-ghost use Rattle.fc_program.specs.Laws.{OneAnswer};
+ghost use Rattle.fc_program.specs.Laws.{OneAnswer, SomeAnswer};
 ghost use Rattle.fc_program.specs.Top.{IsAnswer, IsCut, IsExact, IsJudged, StopsAsked, stop_status, value_of};
 
-use crate::LIMIT;
 use crate::answers::{Answer, answer_to};
 use crate::asked::{asked, past_limit};
 use command_words::Command;
-use fc_inputs::{Failure, Refusal, Stop, one_source, rendered};
+use fc_inputs::{Failure, MOST_BYTES, Refusal, Stop, one_source, rendered, sections_are_within};
 use fc_io::{CalmSink, CalmSource, ReadAll, Sink, Source, read_all, write_all};
-use fc_replay::one_replay;
+use fc_replay::{one_replay, some_replay};
 use firing_core::{Book, Part};
 use std::alloc::Global;
 
@@ -32,7 +31,7 @@ fn read_and_judged<S: Source>(alloc: Global, command: Command, src: &mut S) -> R
     ensures fault { IsErrOf result Stop.Read → Rose (S.faults src.old) (S.faults src.new) }
     ensures quiet { (IsErrOf result Stop.Read → ⊥) → S.faults src.new ≡ S.faults src.old }
 {
-    match read_all(alloc, src, LIMIT) {
+    match read_all(alloc, src, MOST_BYTES) {
         Ok(input) => Ok(answer_to(alloc, command, &input)?),
         Err(ReadAll::TooLong) => Err(Stop::Refused(Refusal::Bytes)),
         Err(ReadAll::ReadFault) => Err(Stop::Read),
@@ -188,6 +187,15 @@ pub fn one_answer()
 {
     one_source();
     one_replay();
+}
+
+/// Each input has an answer, whatever the words ask for.
+pub fn some_answer()
+    ensures { SomeAnswer }
+{
+    one_source();
+    sections_are_within();
+    some_replay();
 }
 
 /// What the words ask for, over a source and a sink that stay calm, with more room than the text has bytes: the status is

@@ -25,24 +25,6 @@ log_lines (x ∷ log) = ap (λ l. x.0 ∷ l) (log_lines log)
 pub record IsNumberedTo (log : List (ℕ × Entry)) (numbers : List ℕ) (n : ℕ) : Type 0 where
   pub so_far : numbers ++ map (λ (x : ℕ × Entry). x.0) (drop n log) ≡ map (λ (x : ℕ × Entry). x.0) log
 
-pub numbered_none : (log : List (ℕ × Entry)) (numbers : List ℕ) → numbers ≡ [] → IsNumberedTo log numbers 0
-numbered_none log numbers none = record { so_far = ap (λ l. l ++ map (λ (x : ℕ × Entry). x.0) log) none }
-
-pub numbered_more : (log : List (ℕ × Entry)) (numbers pushed : List ℕ) (n : ℕ) (x : ℕ × Entry) → IsNumberedTo log numbers n → n < length log → x ≡ get_or log n x → pushed ≡ numbers ++ x.0 ∷ []
-    → IsNumberedTo log pushed (n + 1)
-numbered_more log numbers pushed n x w more is grown =
-    let rest : List ℕ = map (λ (y : ℕ × Entry). y.0) (drop (n + 1) log) in
-    let now : drop n log ≡ x ∷ drop (n + 1) log = drop-cons log n x more ∙ ap (λ y. y ∷ drop (suc n) log) (sym is) ∙ ap (λ k. x ∷ drop k log) (sym (add-one n)) in
-    record {
-      so_far = ap (λ l. l ++ rest) grown
-          ∙ append_assoc numbers (x.0 ∷ []) rest
-          ∙ ap (λ l. numbers ++ map (λ (y : ℕ × Entry). y.0) l) (sym now)
-          ∙ w.so_far;
-    }
-
-pub numbered_all : (log : List (ℕ × Entry)) (numbers : List ℕ) (n : ℕ) → IsNumberedTo log numbers n → length log ≤ n → numbers ≡ map (λ (x : ℕ × Entry). x.0) log
-numbered_all log numbers n w end = sym (append-nil numbers) ∙ ap (λ l. numbers ++ map (λ (x : ℕ × Entry). x.0) l) (sym (drop_all n log end)) ∙ w.so_far
-
 -- an index at which a log fails is within it
 within_log : {P : Core → EntryValue → Type 0} (U : Unfolding) (c : Core) (es : List EntryValue) (i : ℕ) → FailsAt U c es i P → i < length es
 within_log U c es i at = omega (arith, at.place, ap length at.cut, length-append at.front (at.entry ∷ at.rest))

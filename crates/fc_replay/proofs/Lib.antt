@@ -5,5 +5,6 @@ pub mod Stops
 pub mod Replaying
 pub mod Resuming
 pub mod OneReplay
+pub mod SomeReplay
 pub mod Rooms
 pub mod AskedRounds

@@ -19,22 +19,8 @@ use Rattle.fc_replay.specs.Replays.{row_of, rows_of}
 pub record IsTo (U : Unfolding) (core : Core) (items : List Device) (rows : List Row) (n : ℕ) : Type 0 where
   pub so_far : rows ++ rows_of core (map device_of (drop n items)) ≡ rows_of core (map device_of items)
 
-pub rows_none : (U : Unfolding) (core : Core) (items : List Device) (rows : List (ℕ × Bor Export)) → rows ≡ [] → IsTo U core items (map (borrowed_row U) rows) 0
-rows_none U core items rows none = record { so_far = ap (λ (r : List (ℕ × Bor Export)). map (borrowed_row U) r ++ rows_of core (map device_of items)) none }
-
 here : (items : List Device) (n : ℕ) (x : Device) → n < length items → x ≡ get_or items n x → drop n items ≡ x ∷ drop (n + 1) items
 here items n x more is = drop-cons items n x more ∙ ap (λ y. y ∷ drop (suc n) items) (sym is) ∙ ap (λ k. x ∷ drop k items) (sym (add-one n))
-
-pub rows_more : (U : Unfolding) (core : Core) (items : List Device) (rows pushed : List Row) (n : ℕ) (x : Device) → IsTo U core items rows n → n < length items → x ≡ get_or items n x
-    → pushed ≡ rows ++ row_of x.id (core.exports x.id) → IsTo U core items pushed (n + 1)
-rows_more U core items rows pushed n x w more is grown =
-    let rest : List Row = rows_of core (map device_of (drop (n + 1) items)) in
-    record {
-      so_far = ap (λ r. r ++ rest) grown
-          ∙ append_assoc rows (row_of x.id (core.exports x.id)) rest
-          ∙ ap (λ l. rows ++ rows_of core (map device_of l)) (sym (here items n x more is))
-          ∙ w.so_far;
-    }
 
 pub rows_all : (U : Unfolding) (core : Core) (items : List Device) (rows : List Row) (n : ℕ) → IsTo U core items rows n → length items ≤ n → map device_of items ≡ core.net.devices
     → rows ≡ rows_of core core.net.devices

@@ -17,7 +17,7 @@ pub record HasStep (U : Unfolding) (c : Core) (e : EntryValue) (next : Core) : T
   pub edit : net_fault_of c e ≡ None
   pub after : step_of U c e ≡ Some next
 
-has_step : (U : Unfolding) (c next : Core) (e : EntryValue) → step U c e ≡ Some next → HasStep U c e next
+pub has_step : (U : Unfolding) (c next : Core) (e : EntryValue) → step U c e ≡ Some next → HasStep U c e next
 has_step U c next e h = by_fault (fault_of c e) refl h
   where
     by_edit : (g : Option NetFault) → net_fault_of c e ≡ g → fault_of c e ≡ None → unless g (step_of U c e) ≡ Some next → HasStep U c e next
@@ -42,7 +42,7 @@ begins U c last e es h = by_step (step U c e) refl h
     by_step (Some next) is k = record { next = next; first = has_step U c next e is; rest = k }
 
 -- where the first entry has a step, the first stop is that of the rest
-later_stop : (U : Unfolding) (c next : Core) (x : Logged) (xs : List Logged) → HasStep U c x.1 next → first_stop U c (x ∷ xs) ≡ first_stop U next xs
+pub later_stop : (U : Unfolding) (c next : Core) (x : Logged) (xs : List Logged) → HasStep U c x.1 next → first_stop U c (x ∷ xs) ≡ first_stop U next xs
 later_stop U c next x xs s =
     ap (λ f. stop_here x.0 (no_step f (net_fault_of c x.1)) (stop_later (step_of U c x.1) (λ n. first_stop U n xs))) s.fault
     ∙ ap (λ g. stop_here x.0 (no_step None g) (stop_later (step_of U c x.1) (λ n. first_stop U n xs))) s.edit

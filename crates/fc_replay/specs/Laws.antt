@@ -1,5 +1,6 @@
--- Texts are replayed to one thing.
-use Rattle.std.specs.Prelude.{ℕ, ◌≡◌, List}
+-- Texts are replayed to something, and to one thing in what is written.
+use Rattle.std.specs.Prelude.{ℕ, ◌≡◌, ◌≤◌, List, length}
+use Rattle.fc_inputs.specs.declared.sources.TheConstants.{MOST_BYTES}
 use Rattle.fc_inputs.specs.Causes.{Judged, Accepted, Refused}
 use Rattle.edit_commands.specs.Agreement.{SameEntries}
 use Rattle.fc_replay.specs.declared.replays.Options.{Options}
@@ -21,4 +22,12 @@ Alike (Refused cause) (Accepted b) = ⊥
 Alike (Refused cause) (Refused other) = cause ≡ other
 
 abbrev pub OneReplay : Type 0
-OneReplay = (options : Options) (program network log : List ℕ) (j k : Judged Shown) → Replays options program network log j → Replays options program network log k → Alike j k
+OneReplay =
+    (options : Options) (program network log : List ℕ) (j k : Judged Shown) → Replays options program network log j
+    → Replays options program network log k → Alike j k
+
+-- texts, of which that of the program is within the limit, are replayed to something
+abbrev pub SomeReplay : Type 0
+SomeReplay =
+    (options : Options) (program network log : List ℕ) → length program ≤ MOST_BYTES
+    → (j : Judged Shown) × Replays options program network log j

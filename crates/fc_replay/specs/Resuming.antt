@@ -15,4 +15,6 @@ pub record Resumes (U : Unfolding) (core : Core) (path : List ℕ) : Type 0 wher
 
 -- each good core of a program does so
 abbrev pub TablesResume : Type 0
-TablesResume = (U : Unfolding) (core : Core) (path : List ℕ) → U.declared.ceiling ≤ 1000000 → IsNetwork core.net → IsGood U core → Resumes U core path
+TablesResume =
+    (U : Unfolding) (core : Core) (path : List ℕ) → U.declared.ceiling ≤ 1000000 → IsNetwork core.net → IsGood U core
+    → Resumes U core path

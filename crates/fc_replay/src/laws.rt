@@ -1,11 +1,13 @@
 //! Laws of the definitions.
 
-ghost use Rattle.fc_replay.specs.Laws.{OneReplay};
+ghost use Rattle.fc_replay.specs.Laws.{OneReplay, SomeReplay};
 ghost use Rattle.fc_replay.specs.Resuming.{TablesResume};
 
-use edit_commands::readings_agree;
-use fc_inputs::one_input;
-use net_json::tables_read_back;
+use edit_commands::{logs_have_entries, readings_agree};
+use fc_inputs::{one_input, texts_unfold};
+use firing_core::{faultless_steps, steps_agree, steps_keep_good};
+use net_json::{accepted_scenes_fit, tables_read_back};
+use round_count::some_greatest;
 
 /// Texts are replayed to one thing, but for what exports hold at the places of a branch that isn't taken.
 pub fn one_replay()
@@ -13,6 +15,20 @@ pub fn one_replay()
 {
     one_input();
     readings_agree();
+}
+
+/// Texts are replayed to something.
+pub fn some_replay()
+    ensures { SomeReplay }
+{
+    one_input();
+    texts_unfold();
+    accepted_scenes_fit();
+    faultless_steps();
+    steps_agree();
+    steps_keep_good();
+    some_greatest();
+    logs_have_entries();
 }
 
 /// A table that `replay` has written, given back as the table of a scene of the same network, is read to the same rows,

@@ -8,5 +8,5 @@ mod replays;
 mod tests;
 mod texts;
 
-pub use laws::{one_replay, tables_resume};
+pub use laws::{one_replay, some_replay, tables_resume};
 pub use replays::{Options, replay};

@@ -5,6 +5,7 @@ ghost use Rattle.firing_core.specs.Entries.{entries_of};
 ghost use Rattle.firing_core.specs.Replays.{LogFits};
 ghost use Rattle.edit_commands.specs.Logs.{IsLog, entry_in, log_of, numbered};
 ghost use Rattle.fc_inputs.specs.Stops.{StopsFor};
+ghost use Rattle.fc_inputs.specs.declared.sources.TheConstants.{MOST_BYTES};
 ghost use Rattle.fc_replay.specs.Code.{IsFaultOfLog, IsFaulty, StopsWithin, fault_stop, stop_at, stop_of};
 ghost use Rattle.fc_replay.specs.Stopping.{fault_in, step_fault};
 
@@ -85,7 +86,7 @@ pub fn read_entries(
     text: &[u8],
 ) -> Result<Vec<(u32, Entry)>, Stop>
     requires declared { net.now.declared ≡ program.now.declared }
-    requires short { length text.now ≤ 1048576 }
+    requires short { length text.now ≤ MOST_BYTES }
     ensures log { IfOk result (λ es. IsLog (unfolding_of program.now) net.now text.now (map numbered es.items)) }
     ensures fits { IfOk result (λ es. LogFits (unfolding_of program.now) (entries_of (map entry_in es.items))) }
     ensures refused { IfErr result (StopsFor (IsFaulty (log_of (unfolding_of program.now) net.now text.now))) }

@@ -9,6 +9,7 @@ ghost use Rattle.net_json.specs.SceneCode.{AreCopies, AreRows, value_of_scene};
 ghost use Rattle.edit_commands.specs.Logs.{entry_in, numbered};
 ghost use Rattle.fc_inputs.specs.Causes.{Accepted, Refused};
 ghost use Rattle.fc_inputs.specs.Stops.{StopsFor};
+ghost use Rattle.fc_inputs.specs.declared.sources.TheConstants.{MOST_BYTES};
 ghost use Rattle.fc_replay.specs.Code.{IsReplayed, IsStopped, shown_of};
 ghost use Rattle.fc_replay.specs.Ledgers.{ledger_of};
 ghost use Rattle.fc_replay.specs.Replays.{Replays, start_of};
@@ -58,8 +59,10 @@ fn replayed(
     requires rows { AreRows (unfolding_of program) scene.net scene.table.items }
     requires copies { AreCopies (unfolding_of program) scene.net scene.pending.items }
     requires fits { LogFits (unfolding_of program) (entries_of (map entry_in log.items)) }
-    ensures book { IfOk result (λ b. IsReplayed (unfolding_of program) (start_of (value_of_scene (unfolding_of program) scene)) (map numbered log.items) (ledger_of b)) }
-    ensures refused { IfErr result (StopsFor (IsStopped (unfolding_of program) (start_of (value_of_scene (unfolding_of program) scene)) (map numbered log.items))) }
+    ensures book { IfOk result (λ b. IsReplayed (unfolding_of program)
+        (start_of (value_of_scene (unfolding_of program) scene)) (map numbered log.items) (ledger_of b)) }
+    ensures refused { IfErr result (StopsFor (IsStopped (unfolding_of program)
+        (start_of (value_of_scene (unfolding_of program) scene)) (map numbered log.items))) }
 {
     let lines = line_numbers(alloc, &log)?;
     let entries = entries(alloc, log)?;
@@ -80,8 +83,8 @@ pub fn replay(
     network: &[u8],
     log: &[u8],
 ) -> Result<(Vec<u8>, Book), Stop>
-    requires program { length program.now ≤ 1048576 }
-    requires log { length log.now ≤ 1048576 }
+    requires program { length program.now ≤ MOST_BYTES }
+    requires log { length log.now ≤ MOST_BYTES }
     ensures shown { IfOk result (λ r. Replays options program.now network.now log.now (Accepted (shown_of r.0.items r.1))) }
     ensures refused { IfErr result (StopsFor (λ cause. Replays options program.now network.now log.now (Refused cause))) }
 {

@@ -3,6 +3,7 @@
 ghost use Rattle.std.specs.Prelude.{◌≤◌, IfOk, length};
 ghost use Rattle.fc_nodes.specs.Program.{unfolding_of};
 ghost use Rattle.firing_core.specs.Rooms.{IsRoom};
+ghost use Rattle.fc_inputs.specs.declared.sources.TheConstants.{MOST_BYTES};
 
 use crate::{Options, replay};
 use device_eval::fire;
@@ -30,7 +31,7 @@ fn hop_count(alloc: Global) -> Result<Unfolded, Fail> {
 
 // The book of a log of the hop count on two devices.
 fn book(alloc: Global, log: &[u8]) -> Result<Book, Fail>
-    requires { length log.now ≤ 1048576 }
+    requires { length log.now ≤ MOST_BYTES }
 {
     let options = Options {
         rounds: true,

@@ -48,7 +48,8 @@ fn rounds_of(alloc: Global, book: &Book) -> Result<u64, Memory>
 
 // The devices of a core that have an export, with it.
 fn table(alloc: Global, core: &Core) -> Result<Vec<(u32, &Export)>, Memory>
-    ensures rows { IfOk result (λ v. map (borrowed_row (program_of core.now)) v.items ≡ rows_of (core_of core.now) (core_of core.now).net.devices) }
+    ensures rows { IfOk result (λ v. map (borrowed_row (program_of core.now)) v.items
+        ≡ rows_of (core_of core.now) (core_of core.now).net.devices) }
     ensures rising { IfOk result (λ v. Rises (map (λ r. r.0) v.items)) }
     ensures exports { IfOk result (λ v. All (λ r. IsExportOf (program_of core.now) r.1.now) v.items) }
 {

@@ -1,5 +1,7 @@
 use Rattle.std.proofs.Common.{subst, length, min, ◌<◌, ◌≡◌}
 use Rattle.fc_syntax.specs.declared.tree.Program.{Program}
+use Rattle.unfold.specs.declared.count.TheConstants.{MOST_COUNTED}
+use Rattle.unfold.specs.declared.unfolding.TheConstants.{MOST_NODES}
 use Rattle.unfold.specs.Nodes.{Nodes}
 use Rattle.unfold.specs.Writing.{IfTooLarge}
 use Rattle.fc_syntax.specs.Terms.{program_of}
@@ -22,5 +24,5 @@ pub returns-in_err-unfold-clause-refused : goal.returns-in_err-unfold-clause-ref
 returns-in_err-unfold-clause-refused c =
     stop_is (λ cause. ReadsProgram c.args.text.now (Refused cause)) c.from_residual-in_err-unfold.result _ c.from_residual-in_err-unfold.ensures.1
     (by_size c.args.text.now (program_of c.in_ok-program.program) c.in_err-unfold.field-0.0 c.in_ok-program.ensures.source c.in_ok-typed.ensures.typed
-    (subst (λ (p : Program). IfTooLarge c.in_err-unfold.field-0.0 (λ n. 2048 < length (Nodes (program_of p)))) c.in_ok-typed.ensures.program c.in_err-unfold.ensures.large)
-    (subst (λ (p : Program). IfTooLarge c.in_err-unfold.field-0.0 (λ n. n ≡ min 1000000 (length (Nodes (program_of p))))) c.in_ok-typed.ensures.program c.in_err-unfold.ensures.size))
+    (subst (λ (p : Program). IfTooLarge c.in_err-unfold.field-0.0 (λ n. MOST_NODES < length (Nodes (program_of p)))) c.in_ok-typed.ensures.program c.in_err-unfold.ensures.large)
+    (subst (λ (p : Program). IfTooLarge c.in_err-unfold.field-0.0 (λ n. n ≡ min MOST_COUNTED (length (Nodes (program_of p))))) c.in_ok-typed.ensures.program c.in_err-unfold.ensures.size))

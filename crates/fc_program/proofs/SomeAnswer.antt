@@ -1,0 +1,74 @@
+-- Each input has an answer.
+use Rattle.std.proofs.Common.{ℕ, ◌≡◌, ◌≤◌, Bool, true, false, List, [], ◌∷◌, length, refl, sym, subst, arith, Option, Some, None}
+use Rattle.std.specs.Prelude.{nat_lt}
+use Rattle.std.proofs.lemmas.Bool.Decides.{nat_tests}
+use Rattle.fc_syntax.specs.Text.{program_text}
+use Rattle.command_words.specs.declared.commands.Command.{Command}
+use Rattle.command_words.specs.declared.commands.Command.TheVariants.{Check, Stable, Run, Replay, Format, Gen, Trace, Mail}
+use Rattle.command_words.specs.declared.commands.Limit.{Limit}
+use Rattle.command_words.specs.Commands.{limit_of}
+use Rattle.fc_inputs.specs.declared.refusal.Refusal.TheVariants.{Usage, Bytes}
+use Rattle.fc_inputs.specs.declared.sources.TheConstants.{MOST_BYTES}
+use Rattle.fc_inputs.specs.Causes.{Plainly, Judged, Refused, judged_map}
+use Rattle.fc_inputs.specs.Sections.{sections_of, AreWithin, SectionsAreWithin, WithOne, WithThree, other_number}
+use Rattle.fc_inputs.specs.Inputs.{OneSource}
+use Rattle.fc_replay.specs.declared.replays.Options.{Options}
+use Rattle.fc_replay.specs.Laws.{SomeReplay}
+use Rattle.fc_program.specs.Asked.{exists, reads, limit_refusal, MayAsk}
+use Rattle.fc_program.specs.Answers.{AnswerValue, written, showing, answer_of, Formats, ShowsReplay, options_of, AnswersSections, AnswersInput, AnswersReading, AnswersWithin, AnswersAsked}
+use Rattle.fc_program.specs.Laws.{SomeAnswer}
+use Rattle.fc_program.proofs.Answering.{reads_there}
+
+-- something is judged so
+abbrev IsJudgedSo : (Judged AnswerValue → Type 0) → Type 0
+IsJudgedSo P = (j : Judged AnswerValue) × P j
+
+module _ (source : OneSource) (within : SectionsAreWithin) (replay : SomeReplay) where
+  some_format : (ss : List (List ℕ)) → IsJudgedSo (WithOne Formats ss)
+  some_format [] = (Refused (other_number []), refl)
+  some_format (program ∷ []) =
+      let one = source program in
+      (judged_map (λ ds. written (program_text ds)) one.0, record { judged = one.0; reads = one.1; prints = refl })
+  some_format (a ∷ b ∷ ss) = (Refused (other_number (a ∷ b ∷ ss)), refl)
+
+  some_shown : (o : Options) (ss : List (List ℕ)) → AreWithin MOST_BYTES ss → IsJudgedSo (WithThree (ShowsReplay o) ss)
+  some_shown o [] w = (Refused (other_number []), refl)
+  some_shown o (a ∷ []) w = (Refused (other_number (a ∷ [])), refl)
+  some_shown o (a ∷ b ∷ []) w = (Refused (other_number (a ∷ b ∷ [])), refl)
+  some_shown o (a ∷ b ∷ c ∷ []) w =
+      let r = replay o a b c w.0 in
+      (judged_map showing r.0, record { judged = r.0; replays = r.1; shows = refl })
+  some_shown o (a ∷ b ∷ c ∷ d ∷ ss) w = (Refused (other_number (a ∷ b ∷ c ∷ d ∷ ss)), refl)
+
+  some_sections : (command : Command) → exists command ≡ true → (ss : List (List ℕ)) → AreWithin MOST_BYTES ss → IsJudgedSo (AnswersSections command ss)
+  some_sections Format there ss w = some_format ss
+  some_sections (Replay rounds table) there ss w = some_shown (options_of rounds table) ss w
+  some_sections (Check facts) there ss w = absurd cc
+  some_sections Stable there ss w = absurd cc
+  some_sections (Run workers log table) there ss w = absurd cc
+  some_sections (Gen number devices workers) there ss w = absurd cc
+  some_sections Trace there ss w = absurd cc
+  some_sections (Mail number) there ss w = absurd cc
+
+  some_input : (command : Command) (input : List ℕ) → exists command ≡ true → (b : Bool) → nat_lt MOST_BYTES (length input) ≡ b → IsJudgedSo (AnswersInput b command input)
+  some_input command input there true long = (Refused (Plainly Bytes), refl)
+  some_input command input there false short =
+      some_sections command there (sections_of input) (within input MOST_BYTES (few (length input) short))
+    where
+      few : (n : ℕ) → nat_lt MOST_BYTES n ≡ false → n ≤ MOST_BYTES
+      few n e = grind (arith, nat_tests)
+
+  some_within : (command : Command) (input : List ℕ) → MayAsk (Some command) → (o : Option (Limit × ℕ)) → limit_of command ≡ o → IsJudgedSo (AnswersWithin o command input)
+  some_within command input may (Some limit) past = (Refused (Plainly (limit_refusal limit.0 limit.1)), refl)
+  some_within command input may None past =
+      subst (λ b. IsJudgedSo (AnswersReading b command input)) (sym (reads_there command (may past)))
+      (some_input command input (may past) (nat_lt MOST_BYTES (length input)) refl)
+
+  some_asked : (asked : Option Command) (input : List ℕ) → MayAsk asked → IsJudgedSo (AnswersAsked asked input)
+  some_asked None input may = (Refused (Plainly Usage), refl)
+  some_asked (Some command) input may = some_within command input may (limit_of command) refl
+
+  pub some_answer : SomeAnswer
+  some_answer asked input may =
+      let r = some_asked asked input may in
+      (answer_of r.0, record { judged = r.0; makes = r.1; is = refl })
