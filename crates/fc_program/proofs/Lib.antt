@@ -1,4 +1,3 @@
-pub mod Calm
 pub mod Answering
 pub mod OneAnswer
 pub mod SomeAnswer
