@@ -30,10 +30,14 @@ abbrev pub top : List RangeValue → RangeValue
 top [] = BoolRange
 top (r ∷ rs) = r
 
-pub read_back : (r : RangeValue) (rest : List Token) (stack : List RangeValue) → read_on (written r rest) stack ≡ read_on rest (r ∷ stack)
+pub read_back : (r : RangeValue) (rest : List Token) (stack : List RangeValue) →
+    read_on (written r rest) stack ≡ read_on rest (r ∷ stack)
 read_back (IntRange a b) rest stack = refl
 read_back BoolRange rest stack = refl
-read_back (PairRange r s) rest stack = read_back r (written s ((2, (0, 0)) ∷ rest)) stack ∙ read_back s ((2, (0, 0)) ∷ rest) (r ∷ stack)
+read_back (PairRange r s) rest stack =
+    read_back r (written s ((2, (0, 0)) ∷ rest)) stack ∙ read_back s ((2, (0, 0)) ∷ rest) (r ∷ stack)
 
 abbrev pub range_value_code : Coded RangeValue
-range_value_code = code_by (List Token) (coded_list (coded× coded_ℕ (coded× coded_ℕ coded_ℕ))) (λ r. written r []) (λ ts. top (read_on ts [])) (λ r. ap top (read_back r [] []))
+range_value_code =
+    code_by (List Token) (coded_list (coded× coded_ℕ (coded× coded_ℕ coded_ℕ))) (λ r. written r [])
+    (λ ts. top (read_on ts [])) (λ r. ap top (read_back r [] []))

@@ -38,7 +38,8 @@ fn gather(
     list: &mut Vec<Range>,
 ) -> Result<(), Memory>
     requires { IsNext program.now place (ranges_in list.old.items) }
-    ensures { IfOk result (λ _. Extends program.now (ranges_in list.old.items) (ranges_in list.new.items) (end_of program.now place)) }
+    ensures { IfOk result (λ _. Extends program.now (ranges_in list.old.items) (ranges_in list.new.items)
+        (end_of program.now place)) }
 {
     let node = program.node(place);
     list.push(Range::Bool)?;
@@ -58,7 +59,8 @@ fn gather_kids(
     list: &mut Vec<Range>,
 ) -> Result<(), Memory>
     requires { AreNext program.now place kids.now (ranges_in list.old.items) }
-    ensures { IfOk result (λ _. Extends program.now (ranges_in list.old.items) (ranges_in list.new.items) (end_of program.now place)) }
+    ensures { IfOk result (λ _. Extends program.now (ranges_in list.old.items) (ranges_in list.new.items)
+        (end_of program.now place)) }
 {
     for kid in kids {
         gather(alloc, program, *kid, list)?;
@@ -125,7 +127,8 @@ fn variable_range(
 // The range of an input, by its number.
 fn sense_range(alloc: Global, program: &Unfolded, input: u32, ty: &Ty) -> Result<Range, Memory>
     ensures { IfOk result (λ r. range_value r
-        ≡ sense_range_of (full_of program.now.declared.ceiling (inner_of (type_of ty.now))) (slice_get program.now.declared.inputs input)) }
+        ≡ sense_range_of (full_of program.now.declared.ceiling (inner_of (type_of ty.now)))
+        (slice_get program.now.declared.inputs input)) }
 {
     let declared = program.declared();
     match declared.inputs.get(input as usize) {

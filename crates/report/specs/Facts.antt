@@ -48,10 +48,12 @@ node_text place (Has s t ks) = decimal place ++ codes " " ++ sort_text s ++ code
 -- the line of a node: behind it its range and its level
 abbrev pub fact_line : ℕ → Option View → RangeValue → Option ℕ → List ℕ
 fact_line place None range level = []
-fact_line place (Some node) range level = node_text place node ++ codes " " ++ range_text range ++ codes " " ++ level_text level ++ codes "\n"
+fact_line place (Some node) range level =
+    node_text place node ++ codes " " ++ range_text range ++ codes " " ++ level_text level ++ codes "\n"
 
 abbrev pub fact_at : Program → List RangeValue → List (Option ℕ) → ℕ → List ℕ
-fact_at P ranges levels place = fact_line place (view_at P.nodes place) (get_or ranges place BoolRange) (get_or levels place None)
+fact_at P ranges levels place =
+    fact_line place (view_at P.nodes place) (get_or ranges place BoolRange) (get_or levels place None)
 
 -- the lines of the nodes before a place
 abbrev pub facts_before : Program → List RangeValue → List (Option ℕ) → ℕ → List ℕ
