@@ -3,6 +3,8 @@
 
 mod ranks;
 mod rounds;
+mod stabilising;
 
 pub use ranks::ranks_are_low;
 pub use rounds::{Levels, rounds_raise_levels};
+pub use stabilising::{analysed_programs_stabilise, solutions_raise_levels};

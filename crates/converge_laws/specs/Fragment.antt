@@ -1,0 +1,44 @@
+-- What an analysis says of the nodes of a term, where it is in the fragment.
+use Rattle.std.specs.Prelude.{ℕ, suc, ◌≡◌, ◌≤◌, ◌+◌, length}
+use Rattle.fc_values.specs.BuiltinTypes.{inner}
+use Rattle.fc_nodes.specs.Terms.{Leaf, Variable, Term, Terms, Plain, Apply, Nbr, Evolve, If, Let, NoMore, More, size}
+use Rattle.topology.specs.Networks.{Network}
+use Rattle.interval_facts.specs.Ranges.{RangeValue}
+use Rattle.growth_facts.specs.Leads.{greatest_integer}
+use Rattle.fragment_check.specs.declared.kinds.Pattern.{Pattern}
+use Rattle.fragment_check.specs.Shapes.{HasPattern}
+use Rattle.fragment_check.specs.Verdicts.{added_levels}
+
+-- what is said of a program by places: of each node its range, of each binder the range of its variable, of each `rep` and
+-- `share` its pattern and how many levels it adds to that of its body, for so many devices
+pub record Analysis : Type 0 where
+  pub devices : ℕ
+  pub ranges : ℕ → RangeValue
+  pub bounds : ℕ → RangeValue
+  pub pattern : ℕ → Pattern
+  pub stages : ℕ → ℕ
+
+-- it is for networks with so many devices, and no range goes past the ceiling
+pub record IsFor (A : Analysis) (N : Network) : Type 0 where
+  pub devices : A.devices ≡ length N.devices
+  pub ends : (p : ℕ) → greatest_integer (A.ranges p) ≤ N.declared.ceiling
+
+-- a variable has the range of its binder
+abbrev pub LeafInFragment : Analysis → ℕ → Leaf → Type 0
+LeafInFragment A p (Variable q) = A.ranges p ≡ A.bounds q
+LeafInFragment A p _ = Unit {0}
+
+-- each `rep` and `share` outside the first values has its pattern
+abbrev mutual
+  pub InFragment : Analysis → ℕ → ℕ → Term → Type 0
+  InFragment A m p (Plain t l) = LeafInFragment A p l
+  InFragment A m p (Apply t o xs) = AllInFragment A m (suc p) xs
+  InFragment A m p (Nbr t a) = InFragment A m (suc p) a
+  InFragment A m p (Evolve t e a u) = HasPattern m A.ranges e p (suc p + size a) (inner t) u (A.pattern p)
+      × (A.stages p ≡ added_levels A.devices A.bounds e (A.pattern p)) × InFragment A m (suc p + size a) u
+  InFragment A m p (If t c u w) = InFragment A m (suc p) c × InFragment A m (suc p + size c) u × InFragment A m (suc p + size c + size u) w
+  InFragment A m p (Let t a u) = InFragment A m (suc p) a × InFragment A m (suc p + size a) u
+
+  pub AllInFragment : Analysis → ℕ → ℕ → Terms → Type 0
+  AllInFragment A m p NoMore = Unit {0}
+  AllInFragment A m p (More t ts) = InFragment A m p t × AllInFragment A m (p + size t) ts

@@ -1,0 +1,34 @@
+-- What the laws say of a program that an analysis finds in the fragment.
+use Rattle.std.specs.Prelude.{ℕ, ◌≡◌}
+use Rattle.fc_values.specs.Values.{LocalValue}
+use Rattle.fc_nodes.specs.Terms.{size}
+use Rattle.fc_nodes.specs.Program.{Program, unfolding_of, IsProgram}
+use Rattle.topology.specs.Networks.{Network, IsNetwork}
+use Rattle.interval_facts.specs.Ranges.{range_of}
+use Rattle.interval_facts.specs.Solutions.{SolvesMain}
+use Rattle.fragment_check.specs.Levels.{level_of}
+use Rattle.converge_laws.specs.CoreLevels.{Raises}
+use Rattle.converge_laws.specs.Fragment.{Analysis, IsFor, InFragment}
+use Rattle.converge_laws.specs.Invariant.{ExportAt}
+use Rattle.converge_laws.specs.Stabilising.{Stabilises}
+
+-- an analysis of a program by its own ranges, for a network: each `rep` and `share` of the program has a pattern
+pub record IsAnalysis (P : Program) (A : Analysis) (N : Network) : Type 0 where
+  pub ranges : A.ranges ≡ range_of (unfolding_of P)
+  pub for : IsFor A N
+  pub fragment : InFragment A N.declared.ceiling 0 (unfolding_of P).main
+
+-- the level of `main`, which no `rep` or `share` is around
+abbrev pub root_level : Program → Analysis → ℕ
+root_level P A = level_of A.stages 0 1 (size (unfolding_of P).main) (λ q. 0) (unfolding_of P).main
+
+-- One level a round: the levels of exports that agree with a solution meet what levels have to meet, so that each round
+-- raises the level of a core by one.
+abbrev pub SolutionsRaiseLevels : Type 0
+SolutionsRaiseLevels = (P : Program) (A : Analysis) (N : Network) → IsProgram P → IsNetwork N → N.declared ≡ P.declared → IsAnalysis P A N
+    → (F : ℕ → LocalValue) (s : SolvesMain N (unfolding_of P).main F) → Raises (ExportAt (unfolding_of P) A N F s) (unfolding_of P) N
+
+-- the program stabilises within as many rounds as its level
+abbrev pub AnalysedStabilise : Type 0
+AnalysedStabilise = (P : Program) (A : Analysis) (N : Network) → IsProgram P → IsNetwork N → N.declared ≡ P.declared → IsAnalysis P A N
+    → Stabilises (unfolding_of P) N (root_level P A)
