@@ -8,6 +8,7 @@ mod judging;
 mod kinds;
 mod listing;
 
+pub use facts::is_own;
 pub use faults::PatternFault;
 pub use judging::pattern;
 pub use kinds::Pattern;

@@ -1,0 +1,5 @@
+mod Bounded
+mod Small
+mod LevelBounds
+mod Potentials
+mod NodeSteps

@@ -1,0 +1,312 @@
+-- The level of the node at a place, from those of its kids.
+use Rattle.std.proofs.Common.{◌≡◌, ℕ, zero, suc, ◌≤◌, ◌<◌, ◌+◌, List, [], ◌∷◌, length, refl, sym, ◌∙◌, ap, subst, arith, get_or, Bool, true, false, max, nat_eq}
+use Rattle.std.specs.Prelude.{if◌then◌else◌}
+use Rattle.fc_values.specs.Types.{ValueType}
+use Rattle.fc_nodes.specs.declared.nodes.Node.{Node}
+use Rattle.fc_nodes.specs.Terms.{Evolution, Term, Terms, Plain, Apply, Nbr, Evolve, If, Let, NoMore, More, size, sizes, Sort, OfLeaf, OfApply, OfNbr, OfEvolve, OfIf, OfLet, term_at, terms_by, HasNode, Laid, AllLaid, places, is_branching}
+use Rattle.fc_nodes.specs.Program.{IsProgram}
+use Rattle.fc_nodes.specs.Places.{StandsAt}
+use Rattle.fc_nodes.proofs.Places.{AllAbove, formed_above, in_range, term_is}
+use Rattle.fc_nodes.proofs.Kids.{laid_term, OneKid, TwoKids, ThreeKids, apply_laid, nbr_laid, if_laid, let_laid, evolve_laid, if_sort}
+use Rattle.growth_facts.specs.Variables.{is_own}
+use Rattle.fragment_check.specs.Levels.{Lvs, bind_level, level_of, level_all}
+use Rattle.fragment_check.specs.Facts.{InRow, is_nbr_sort}
+use Rattle.fragment_check.specs.Listing.{is_evolve_sort}
+use Rattle.fragment_check.proofs.Steps.{nbr_sort, kids_row}
+use Rattle.round_bound.specs.declared.scopes.Context.{Context}
+use Rattle.round_bound.specs.declared.scopes.Sight.{Sight}
+use Rattle.round_bound.specs.Walks.{most_added, level_before, levels_in, Ready, stages_in, level_at, greatest_at, leaf_level_by, is_let_sort, is_apply_sort}
+use Rattle.round_bound.proofs.Small.{stages_few}
+use Rattle.round_bound.proofs.LevelBounds.{level_few}
+
+-- ---- terms end within the nodes
+
+mutual
+  laid_end : (ns : List Node) (p : ℕ) (u : Term) → Laid ns p u → p + size u ≤ length ns
+  laid_end ns p (Plain t l) h = let w = in_range ns p _ h in omega (arith, w)
+  laid_end ns p (Apply t o xs) h = let w = in_range ns p _ h.0 in let e = laid_ends ns (suc p) xs (omega (arith, w)) h.1 in omega (arith, e)
+  laid_end ns p (Nbr t a) h = let e = laid_end ns (suc p) a h.1 in omega (arith, e)
+  laid_end ns p (Evolve t v a b) h = let e = laid_end ns (suc p + size a) b h.2 in omega (arith, e)
+  laid_end ns p (If t c a b) h = let e = laid_end ns (suc p + size c + size a) b h.3 in omega (arith, e)
+  laid_end ns p (Let t a b) h = let e = laid_end ns (suc p + size a) b h.2 in omega (arith, e)
+
+  laid_ends : (ns : List Node) (p : ℕ) (xs : Terms) → p ≤ length ns → AllLaid ns p xs → p + sizes xs ≤ length ns
+  laid_ends ns p NoMore l h = omega (arith, l)
+  laid_ends ns p (More x xs) l h = let e = laid_end ns p x h.0 in let f = laid_ends ns (p + size x) xs e h.1 in omega (arith, f)
+
+-- the kid with a number
+pub row_at : (ns : List Node) (p : ℕ) (ks : List ℕ) (i q : ℕ) → InRow ns p ks → i < length ks → q ≡ get_or ks i q → (p < q) × StandsAt ns q
+row_at ns p [] i q r l e = absurd (omega (arith, l))
+row_at ns p (k ∷ ks) zero q r l e = (let k' = r.0 in omega (arith, k', e), subst (StandsAt ns) (sym e) r.1)
+row_at ns p (k ∷ ks) (suc i) q r l e = let s = row_at ns k ks i q r.2 (omega (arith, l)) e in (let a = s.0 in let b = r.0 in omega (arith, a, b), s.1)
+
+same_at : (ks : List ℕ) (i q : ℕ) → i < length ks → q ≡ get_or ks i q → q ≡ get_or ks i 0
+same_at [] i q l e = absurd (omega (arith, l))
+same_at (k ∷ ks) zero q l e = e
+same_at (k ∷ ks) (suc i) q l e = same_at ks i q (omega (arith, l)) e
+
+again : (ks : List ℕ) (i : ℕ) → i < length ks → get_or ks i 0 ≡ get_or ks i (get_or ks i 0)
+again [] i l = absurd (omega (arith, l))
+again (k ∷ ks) zero l = refl
+again (k ∷ ks) (suc i) l = again ks i (omega (arith, l))
+
+pub later_ready : (c : Context) (p q : ℕ) (s : Sight) → p ≤ q → Ready c p s → Ready c q s
+later_ready c p q s l r = record {
+  ranges = r.ranges;
+  devices = r.devices;
+  branch = let b = r.branch in omega (arith, b, l);
+  scope = λ i. let b = r.scope i in omega (arith, b, l);
+}
+
+-- with another branch level and another variable
+pub other_ready : (c : Context) (p q b o : ℕ) (s : Sight) → p ≤ q → b ≤ level_before q → Ready c p s → Ready c q (record { branch = b; own = o; scope = s.scope })
+other_ready c p q b o s l f r = record {
+  ranges = r.ranges;
+  devices = r.devices;
+  branch = f;
+  scope = λ i. let b' = r.scope i in omega (arith, b', l);
+}
+
+let_sort : (s : Sort) → is_let_sort s ≡ true → s ≡ OfLet
+let_sort (OfLeaf l) e = absurd cc
+let_sort (OfApply o) e = absurd cc
+let_sort OfNbr e = absurd cc
+let_sort (OfEvolve v) e = absurd cc
+let_sort OfIf e = absurd cc
+let_sort OfLet e = refl
+
+if_places : (K : ℕ → ℕ) (p b x : ℕ) (lv : Lvs) (t : ValueType) (c u v : Term) (q r w : ℕ) → q ≡ suc p → r ≡ suc p + size c → w ≡ suc p + size c + size u
+    → level_of K p b x lv (If t c u v) ≡ max (level_of K q b x lv c) (max (level_of K r (level_of K q b x lv c) x lv u) (level_of K w (level_of K q b x lv c) x lv v))
+if_places K p b x lv t c u v q r w e f g = rw (e, f, g) refl
+
+let_places : (K : ℕ → ℕ) (p b x : ℕ) (lv : Lvs) (t : ValueType) (a u : Term) (q r : ℕ) → q ≡ suc p → r ≡ suc p + size a
+    → level_of K p b x lv (Let t a u) ≡ level_of K r b x (bind_level p (level_of K q b x lv a) lv) u
+let_places K p b x lv t a u q r e f = rw (e, f) refl
+
+bind_before : (B p l : ℕ) (lv : Lvs) → l ≤ B → ((q : ℕ) → lv q ≤ B) → (q : ℕ) → bind_level p l lv q ≤ B
+bind_before B p l lv f g q = by_test (nat_eq p q)
+  where
+    by_test : (c : Bool) → (if c then l else lv q) ≤ B
+    by_test true = f
+    by_test false = g q
+
+-- ---- at a place
+
+module _ (c : Context) (prog : IsProgram c.program.now) (p : ℕ) (sight : Sight) (ready : Ready c p sight) where
+  few : (q : ℕ) → stages_in c q ≤ most_added
+  few = stages_few c.program.now prog c.devices
+
+  -- the level of a term is before its end
+  pub ends_small : (q b x : ℕ) (lv : Lvs) → b ≤ level_before q → ((i : ℕ) → lv i ≤ level_before q) → level_of (stages_in c) q b x lv (term_at c.program.now.nodes q) ≤ level_before (q + size (term_at c.program.now.nodes q))
+  ends_small q b x lv f g =
+      let r = level_few (stages_in c) few (level_before q) q b x lv (term_at c.program.now.nodes q) f g in
+      omega (arith, r)
+
+  pub small : StandsAt c.program.now.nodes p → level_at c p sight ≤ 6144002049
+  small st =
+      let r = ends_small p sight.branch sight.own (levels_in sight.scope.now) ready.branch ready.scope in
+      let e = laid_end c.program.now.nodes p (term_at c.program.now.nodes p) st.laid in
+      let l = prog.short in
+      omega (arith, r, e, l)
+
+  pub branch_small : StandsAt c.program.now.nodes p → sight.branch ≤ 6144002049
+  branch_small st = let r = ready.branch in let w = st.within in let l = prog.short in omega (arith, r, w, l)
+
+  in_row : (xs : Terms) (q : ℕ) → AllLaid c.program.now.nodes q xs → greatest_at c (places q xs) sight ≡ level_all (stages_in c) q sight.branch sight.own (levels_in sight.scope.now) xs
+  in_row NoMore q l = refl
+  in_row (More x xs) q l =
+      let e = laid_term c.program.now.nodes (formed_above c.program.now.nodes prog.formed) x q l.0 in
+      let f = in_row xs (q + size x) l.1 in
+      ap (λ u. max (level_of (stages_in c) q sight.branch sight.own (levels_in sight.scope.now) u) (greatest_at c (places (q + size x) xs) sight)) e
+      ∙ ap (max (level_of (stages_in c) q sight.branch sight.own (levels_in sight.scope.now) x)) f
+
+  module _ (st : StandsAt c.program.now.nodes p) (s : Sort) (t : ValueType) (ks : List ℕ) (h : HasNode c.program.now.nodes p s t ks) where
+    above : AllAbove c.program.now.nodes
+    above = formed_above c.program.now.nodes prog.formed
+
+    pub row : InRow c.program.now.nodes p ks
+    row = kids_row c.program.now.nodes prog.formed p st s t ks h
+
+    pub apply_level : is_apply_sort s ≡ true → greatest_at c ks sight ≡ level_at c p sight
+    apply_level z = by_sort s z h
+      where
+        by_sort : (s : Sort) → is_apply_sort s ≡ true → HasNode c.program.now.nodes p s t ks → greatest_at c ks sight ≡ level_at c p sight
+        by_sort (OfLeaf l) z h = absurd cc
+        by_sort (OfApply o) z h =
+            let k = apply_laid c.program.now.nodes above p o t ks h st.laid in
+            ap (λ l. greatest_at c l sight) k.stand_at ∙ in_row (terms_by (term_at c.program.now.nodes) ks) (suc p) k.kids
+            ∙ sym (ap (level_of (stages_in c) p sight.branch sight.own (levels_in sight.scope.now)) k.term)
+        by_sort OfNbr z h = absurd cc
+        by_sort (OfEvolve v) z h = absurd cc
+        by_sort OfIf z h = absurd cc
+        by_sort OfLet z h = absurd cc
+
+    pub leaf_level_is : is_nbr_sort s ≡ false → is_branching s ≡ false → is_let_sort s ≡ false → is_evolve_sort s ≡ false → is_apply_sort s ≡ false → leaf_level_by sight t s ≡ level_at c p sight
+    leaf_level_is a b d e f = by_sort s a b d e f h
+      where
+        by_sort : (s : Sort) → is_nbr_sort s ≡ false → is_branching s ≡ false → is_let_sort s ≡ false → is_evolve_sort s ≡ false → is_apply_sort s ≡ false → HasNode c.program.now.nodes p s t ks → leaf_level_by sight t s ≡ level_at c p sight
+        by_sort (OfLeaf l) a b d e f h = sym (ap (level_of (stages_in c) p sight.branch sight.own (levels_in sight.scope.now)) (term_is c.program.now.nodes above p (OfLeaf l) t ks h))
+        by_sort (OfApply o) a b d e f h = absurd cc
+        by_sort OfNbr a b d e f h = absurd cc
+        by_sort (OfEvolve v) a b d e f h = absurd cc
+        by_sort OfIf a b d e f h = absurd cc
+        by_sort OfLet a b d e f h = absurd cc
+
+    -- ---- `nbr`
+
+    module _ (z : is_nbr_sort s ≡ true) where
+      one : OneKid c.program.now.nodes p (Nbr t) ks
+      one = nbr_laid c.program.now.nodes above p t ks (subst (λ q. HasNode c.program.now.nodes p q t ks) (nbr_sort s z) h) st.laid
+
+      pub nbr_some : 0 < length ks
+      nbr_some = let k = one in let l = k.long in omega (arith, l)
+
+      pub nbr_level : (q : ℕ) → q ≡ get_or ks 0 q → level_at c p sight ≡ (if is_own sight.own (term_at c.program.now.nodes q) then suc sight.branch else suc (level_at c q sight))
+      nbr_level q e =
+          let k = one in
+          let f = same_at ks 0 q nbr_some e in
+          ap (level_of (stages_in c) p sight.branch sight.own (levels_in sight.scope.now)) (k.term ∙ ap (λ i. Nbr t (term_at c.program.now.nodes i)) (sym f))
+          ∙ ap (λ i. if is_own sight.own (term_at c.program.now.nodes q) then suc sight.branch else suc (level_of (stages_in c) i sight.branch sight.own (levels_in sight.scope.now) (term_at c.program.now.nodes q))) (sym (f ∙ k.first_is))
+
+    -- ---- `if`
+
+    module _ (z : is_branching s ≡ true) where
+      three : ThreeKids c.program.now.nodes p (If t) ks
+      three = if_laid c.program.now.nodes above p t ks (subst (λ q. HasNode c.program.now.nodes p q t ks) (if_sort s z) h) st.laid
+
+      pub if_long : length ks ≡ 3
+      if_long = let k = three in k.long
+
+      pub third_there : get_or ks 2 0 ≡ get_or ks 2 (get_or ks 2 0)
+      third_there = let l = if_long in again ks 2 (omega (arith, l))
+
+      module _ (q r u : ℕ) (e : q ≡ get_or ks 0 q) (f : r ≡ get_or ks 1 r) (g : u ≡ get_or ks 2 u) where
+        q_is : q ≡ get_or ks 0 0
+        q_is = let l = if_long in same_at ks 0 q (omega (arith, l)) e
+
+        r_is : r ≡ get_or ks 1 0
+        r_is = let l = if_long in same_at ks 1 r (omega (arith, l)) f
+
+        u_is : u ≡ get_or ks 2 0
+        u_is = let l = if_long in same_at ks 2 u (omega (arith, l)) g
+
+        pub if_term : term_at c.program.now.nodes p ≡ If t (term_at c.program.now.nodes q) (term_at c.program.now.nodes r) (term_at c.program.now.nodes u)
+        if_term =
+            let k = three in
+            k.term ∙ ap (λ i. If t (term_at c.program.now.nodes i) (term_at c.program.now.nodes (get_or ks 1 0)) (term_at c.program.now.nodes (get_or ks 2 0))) (sym q_is)
+            ∙ ap (λ i. If t (term_at c.program.now.nodes q) (term_at c.program.now.nodes i) (term_at c.program.now.nodes (get_or ks 2 0))) (sym r_is)
+            ∙ ap (λ i. If t (term_at c.program.now.nodes q) (term_at c.program.now.nodes r) (term_at c.program.now.nodes i)) (sym u_is)
+
+        first_place : q ≡ suc p
+        first_place = let k = three in q_is ∙ k.first_is
+
+        second_place : r ≡ suc p + size (term_at c.program.now.nodes q)
+        second_place = let k = three in r_is ∙ k.second_is ∙ ap (λ i. suc p + size (term_at c.program.now.nodes i)) (sym q_is)
+
+        third_place : u ≡ suc p + size (term_at c.program.now.nodes q) + size (term_at c.program.now.nodes r)
+        third_place =
+            let k = three in
+            u_is ∙ k.third_is ∙ ap (λ i. suc p + size (term_at c.program.now.nodes i) + size (term_at c.program.now.nodes (get_or ks 1 0))) (sym q_is)
+            ∙ ap (λ i. suc p + size (term_at c.program.now.nodes q) + size (term_at c.program.now.nodes i)) (sym r_is)
+
+        pub if_level : level_at c p sight ≡ max (level_at c q sight)
+            (max (level_of (stages_in c) r (level_at c q sight) sight.own (levels_in sight.scope.now) (term_at c.program.now.nodes r)) (level_of (stages_in c) u (level_at c q sight) sight.own (levels_in sight.scope.now) (term_at c.program.now.nodes u)))
+        if_level =
+            ap (level_of (stages_in c) p sight.branch sight.own (levels_in sight.scope.now)) if_term
+            ∙ if_places (stages_in c) p sight.branch sight.own (levels_in sight.scope.now) t (term_at c.program.now.nodes q) (term_at c.program.now.nodes r) (term_at c.program.now.nodes u) q r u first_place second_place third_place
+
+        pub if_done : (b m n f g : ℕ) → n ≡ max b m → m ≡ max f g → b ≡ level_at c q sight
+            → f ≡ level_of (stages_in c) r b sight.own (levels_in sight.scope.now) (term_at c.program.now.nodes r)
+            → g ≡ level_of (stages_in c) u b sight.own (levels_in sight.scope.now) (term_at c.program.now.nodes u) → n ≡ level_at c p sight
+        if_done b m n f g i j k l o =
+            i ∙ ap (max b) j ∙ ap (λ y. max b (max y g)) l ∙ ap (λ y. max b (max (level_of (stages_in c) r b sight.own (levels_in sight.scope.now) (term_at c.program.now.nodes r)) y)) o
+            ∙ ap (λ y. max y (max (level_of (stages_in c) r y sight.own (levels_in sight.scope.now) (term_at c.program.now.nodes r)) (level_of (stages_in c) u y sight.own (levels_in sight.scope.now) (term_at c.program.now.nodes u)))) k
+            ∙ sym if_level
+
+        -- where its branches are ready
+        pub if_ready : (b : ℕ) → b ≡ level_at c q sight → Ready c r (record { branch = b; own = sight.own; scope = sight.scope }) × Ready c u (record { branch = b; own = sight.own; scope = sight.scope })
+        if_ready b e =
+            let l = ends_small q sight.branch sight.own (levels_in sight.scope.now) (let w = ready.branch in let a = first_place in omega (arith, w, a)) (λ i. let w = ready.scope i in let a = first_place in omega (arith, w, a)) in
+            let a = first_place in
+            let d = second_place in
+            let k = third_place in
+            (other_ready c p r b sight.own sight (omega (arith, d)) (omega (arith, e, l, a, d)) ready, other_ready c p u b sight.own sight (omega (arith, k)) (omega (arith, e, l, a, k)) ready)
+
+    -- ---- `let`
+
+    module _ (z : is_let_sort s ≡ true) where
+      let_two : TwoKids c.program.now.nodes p (Let t) ks
+      let_two = let_laid c.program.now.nodes above p t ks (subst (λ q. HasNode c.program.now.nodes p q t ks) (let_sort s z) h) st.laid
+
+      pub let_long : length ks ≡ 2
+      let_long = let k = let_two in k.long
+
+      module _ (q r : ℕ) (e : q ≡ get_or ks 0 q) (f : r ≡ get_or ks 1 r) where
+        let_q : q ≡ get_or ks 0 0
+        let_q = let l = let_long in same_at ks 0 q (omega (arith, l)) e
+
+        let_r : r ≡ get_or ks 1 0
+        let_r = let l = let_long in same_at ks 1 r (omega (arith, l)) f
+
+        let_term : term_at c.program.now.nodes p ≡ Let t (term_at c.program.now.nodes q) (term_at c.program.now.nodes r)
+        let_term =
+            let k = let_two in
+            k.term ∙ ap (λ i. Let t (term_at c.program.now.nodes i) (term_at c.program.now.nodes (get_or ks 1 0))) (sym let_q)
+            ∙ ap (λ i. Let t (term_at c.program.now.nodes q) (term_at c.program.now.nodes i)) (sym let_r)
+
+        let_first : q ≡ suc p
+        let_first = let k = let_two in let_q ∙ k.first_is
+
+        let_second : r ≡ suc p + size (term_at c.program.now.nodes q)
+        let_second = let k = let_two in let_r ∙ k.second_is ∙ ap (λ i. suc p + size (term_at c.program.now.nodes i)) (sym let_q)
+
+        pub let_level : level_at c p sight ≡ level_of (stages_in c) r sight.branch sight.own (bind_level p (level_at c q sight) (levels_in sight.scope.now)) (term_at c.program.now.nodes r)
+        let_level =
+            ap (level_of (stages_in c) p sight.branch sight.own (levels_in sight.scope.now)) let_term
+            ∙ let_places (stages_in c) p sight.branch sight.own (levels_in sight.scope.now) t (term_at c.program.now.nodes q) (term_at c.program.now.nodes r) q r let_first let_second
+
+        pub let_bound : (b : ℕ) → b ≡ level_at c q sight → (i : ℕ) → bind_level p b (levels_in sight.scope.now) i ≤ level_before r
+        let_bound b e i =
+            let l = ends_small q sight.branch sight.own (levels_in sight.scope.now) (let w = ready.branch in let a = let_first in omega (arith, w, a)) (λ j. let w = ready.scope j in let a = let_first in omega (arith, w, a)) in
+            let a = let_first in
+            let d = let_second in
+            bind_before (level_before r) p b (levels_in sight.scope.now) (omega (arith, e, l, a, d)) (λ j. let w = ready.scope j in omega (arith, w, d)) i
+
+        pub let_later : p ≤ r
+        let_later = let d = let_second in omega (arith, d)
+
+    -- ---- `rep` and `share`
+
+    module _ (z : is_evolve_sort s ≡ true) where
+      evolve_sort_is : (e : Evolution) × (s ≡ OfEvolve e)
+      evolve_sort_is = by_sort s z
+        where
+          by_sort : (s : Sort) → is_evolve_sort s ≡ true → (e : Evolution) × (s ≡ OfEvolve e)
+          by_sort (OfLeaf l) z = absurd cc
+          by_sort (OfApply o) z = absurd cc
+          by_sort OfNbr z = absurd cc
+          by_sort (OfEvolve v) z = (v, refl)
+          by_sort OfIf z = absurd cc
+          by_sort OfLet z = absurd cc
+
+      evolve_two : TwoKids c.program.now.nodes p (Evolve t evolve_sort_is.0) ks
+      evolve_two = let v = evolve_sort_is in evolve_laid c.program.now.nodes above p v.0 t ks (subst (λ q. HasNode c.program.now.nodes p q t ks) v.1 h) st.laid
+
+      pub evolve_long : length ks ≡ 2
+      evolve_long = let k = evolve_two in k.long
+
+      module _ (r : ℕ) (f : r ≡ get_or ks 1 r) where
+        evolve_r : r ≡ get_or ks 1 0
+        evolve_r = let l = evolve_long in same_at ks 1 r (omega (arith, l)) f
+
+        evolve_second : r ≡ suc p + size (term_at c.program.now.nodes (get_or ks 0 0))
+        evolve_second = let k = evolve_two in evolve_r ∙ k.second_is
+
+        pub evolve_level : level_at c p sight ≡ level_of (stages_in c) r sight.branch p (levels_in sight.scope.now) (term_at c.program.now.nodes r) + stages_in c p
+        evolve_level =
+            let k = evolve_two in
+            ap (level_of (stages_in c) p sight.branch sight.own (levels_in sight.scope.now)) (k.term ∙ ap (λ i. Evolve t evolve_sort_is.0 (term_at c.program.now.nodes (get_or ks 0 0)) (term_at c.program.now.nodes i)) (sym evolve_r))
+            ∙ ap (λ i. level_of (stages_in c) i sight.branch p (levels_in sight.scope.now) (term_at c.program.now.nodes r) + stages_in c p) (sym evolve_second)
+
+        pub evolve_later : p ≤ r
+        evolve_later = let d = evolve_second in omega (arith, d)

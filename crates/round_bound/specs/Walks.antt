@@ -1,0 +1,72 @@
+-- Levels by the places of a program.
+use Rattle.std.specs.Prelude.{ℕ, suc, Bool, true, false, ◌≤◌, ◌+◌, ◌*◌, List, [], ◌∷◌, max}
+use Rattle.fc_values.specs.Types.{LocalType, IntType, PairType, ValueType}
+use Rattle.fc_nodes.specs.Terms.{Sort, OfLeaf, OfApply, OfLet, term_at}
+use Rattle.fc_nodes.specs.Program.{unfolding_of}
+use Rattle.interval_facts.specs.Ranges.{AreRangesOf}
+use Rattle.fragment_check.specs.Levels.{Stages, Lvs, bind_level, leaf_level, level_of}
+use Rattle.fragment_check.specs.Verdicts.{stages_of}
+use Rattle.fragment_check.specs.declared.kinds.Pattern.{Pattern}
+use Rattle.fragment_check.specs.declared.kinds.Pattern.TheVariants as pattern
+use Rattle.round_bound.specs.declared.scopes.Scope.{Scope}
+use Rattle.round_bound.specs.declared.scopes.Scope.TheVariants as scope
+use Rattle.round_bound.specs.declared.scopes.Sight.{Sight}
+use Rattle.round_bound.specs.declared.scopes.Context.{Context}
+
+-- a `rep` or `share` adds at most so many levels
+abbrev pub most_added : ℕ
+most_added = 3000000
+
+-- the levels of what the binders in scope bind
+abbrev pub levels_in : Scope → Lvs
+levels_in scope.Empty = λ q. 0
+levels_in (scope.Bind' n l p rest) = bind_level n l (levels_in rest)
+
+-- the greatest level before a place
+abbrev pub level_before : ℕ → ℕ
+level_before p = 1 + suc most_added * p
+
+-- levels are asked for there: all levels so far are small
+pub record Ready (c : Context) (p : ℕ) (s : Sight) : Type 0 where
+  pub ranges : AreRangesOf (unfolding_of c.program.now) c.ranges.now
+  pub devices : 1 ≤ c.devices
+  pub branch : s.branch ≤ level_before p
+  pub scope : (q : ℕ) → levels_in s.scope.now q ≤ level_before p
+
+abbrev pub stages_in : Context → Stages
+stages_in c = stages_of c.program.now c.devices
+
+-- the level of the term at a place
+abbrev pub level_at : Context → ℕ → Sight → ℕ
+level_at c p s = level_of (stages_in c) p s.branch s.own (levels_in s.scope.now) (term_at c.program.now.nodes p)
+
+-- of the kids of a node
+abbrev pub greatest_at : Context → List ℕ → Sight → ℕ
+greatest_at c [] s = s.branch
+greatest_at c (k ∷ ks) s = max (level_at c k s) (greatest_at c ks s)
+
+-- the level of a node without kids
+abbrev pub leaf_level_by : Sight → ValueType → Sort → ℕ
+leaf_level_by s t (OfLeaf l) = leaf_level s.branch s.own (levels_in s.scope.now) t l
+leaf_level_by s t _ = s.branch
+
+-- the greatest integer of all values of a type, for pairs of the first component
+abbrev pub greatest_full : ℕ → LocalType → ℕ
+greatest_full m IntType = m
+greatest_full m (PairType IntType t) = m
+greatest_full m _ = 0
+
+abbrev pub is_let_sort : Sort → Bool
+is_let_sort OfLet = true
+is_let_sort _ = false
+
+-- the numbers of a pattern are from 1, or 0, to the ceiling
+abbrev pub PatternFew : ℕ → Pattern → Type 0
+PatternFew m pattern.Constant = Unit {0}
+PatternFew m (pattern.Acyclic q) = Unit {0}
+PatternFew m (pattern.Minimising greatest growth) = (greatest ≤ m) × (1 ≤ growth) × (growth ≤ m)
+PatternFew m (pattern.Rising greatest growth rise) = (greatest ≤ m) × (1 ≤ growth) × (growth ≤ m) × (1 ≤ rise) × (rise ≤ m)
+
+abbrev pub is_apply_sort : Sort → Bool
+is_apply_sort (OfApply o) = true
+is_apply_sort _ = false
