@@ -5,3 +5,4 @@ pub mod Facts
 pub mod Forms
 pub mod Listing
 pub mod Verdicts
+pub mod Laws

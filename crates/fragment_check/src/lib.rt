@@ -6,10 +6,12 @@ mod faults;
 mod forms;
 mod judging;
 mod kinds;
+mod laws;
 mod listing;
 
 pub use facts::is_own;
 pub use faults::PatternFault;
 pub use judging::pattern;
 pub use kinds::Pattern;
+pub use laws::patterns_have_shapes;
 pub use listing::patterns;
