@@ -1,5 +1,5 @@
 -- A pass that began a firing and didn't end it may end it.
-use Rattle.std.proofs.Common.{◌≡◌, ◌⊎◌, ⊎_elim, ℕ, zero, suc, ◌+◌, ◌<◌, List, [], ◌∷◌, ◌++◌, take, length, refl, sym, ap, ◌∙◌, subst, inl, inr, arith, Bool, true, false, nat_eq, Option, Some, None, Result, Ok, Err, IfOk, if◌then◌else◌}
+use Rattle.std.proofs.Common.{◌≡◌, ◌⊎◌, ⊎_elim, ℕ, zero, suc, ◌+◌, ◌<◌, List, [], ◌∷◌, ◌++◌, take, length, refl, sym, ap, ◌∙◌, subst, inl, inr, arith, Bool, true, false, nat_eq, Option, Some, None, Result, Ok, Err, IfOk, IfSome, if◌then◌else◌}
 use Rattle.std.proofs.lemmas.Option.{none-some, same_Some}
 use Rattle.std.proofs.lemmas.Bool.{eqb-true}
 use Rattle.std.proofs.lemmas.List.{append_assoc, append-nil}
@@ -22,7 +22,7 @@ use Rattle.export_table.specs.Answers.{after_item, begun_from, last_begin, item_
 use Rattle.export_table.specs.Holding.{HeldValue, HasTurn, Turned, IsOpenAt, IsTakenAt, opening_in, log_in, core_in, list_of}
 use Rattle.export_table.specs.Firings.{FiringValue, IsCopyAt}
 use Rattle.export_table.specs.Passing.{TableValue, IsPassOf, on_log, written}
-use Rattle.export_table.specs.Turns.{MayEnd, Ends, Began, IsOwnFiring, FiringsStay, Ended}
+use Rattle.export_table.specs.Turns.{MayEnd, Ends, Began, IsOwnFiring, CanEnd, KeepsFirings, FiringsStay, Ended}
 use Rattle.export_table.proofs.Flying.{begin_not_end, cut_at, take_all, answers_here, open_last}
 use Rattle.export_table.proofs.Passing.{own_items, from_items, in_snoc, in_left, in_last, at_below}
 use Rattle.export_table.proofs.Turning.{adds_entry, same_opening, has_begun, has_turn, took_turn}
@@ -201,7 +201,11 @@ firing_stays o v w before core e place f t other own = record {
     mine : w.mine ≡ v.mine ++ (length before, e) ∷ []
     mine = ap (λ (p : PassView EntryValue). p.mine) t.view
 
-pub own_firings : {Room : Type 0} (o : Opening) (v w : PassView EntryValue) (r : Result FiringValue Room) → IfOk r (Began o v w)
-    → IfOk r (λ (f : FiringValue). (e : FiredValue) → e.program ≡ o.program → e.snap ≡ f.snap → IsOwnFiring o w f.place e)
-own_firings o v w (Ok f) ok = own_firing o v w f ok
+pub own_firings : {Room : Type 0} (o : Opening) (v w : PassView EntryValue) (r : Result FiringValue Room) → IfOk r (Began o v w) → IfOk r (CanEnd o w)
+own_firings o v w (Ok f) ok = record { snap = ok.snap; own = own_firing o v w f ok }
 own_firings o v w (Err m) ok = tt
+
+-- and after other turns
+pub keeps_some : (o : Opening) (v w : PassView EntryValue) (f : Option FiringValue) → KeepsFirings o v w → IfSome f (CanEnd o v) → IfSome f (CanEnd o w)
+keeps_some o v w None keeps can = tt
+keeps_some o v w (Some f) keeps can = record { snap = can.snap; own = λ e program snap. keeps f.place e (can.own e program snap) }

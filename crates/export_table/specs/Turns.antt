@@ -97,6 +97,11 @@ pub record IsOwnFiring (o : Opening) (v : PassView EntryValue) (place : ℕ) (f 
   pub program : f.program ≡ o.program
   pub copy : IsCopyAt o v.seen place (snap_copy (unfolding_of o.program) f.snap)
 
+-- the copy of a firing is one of the program, and the pass may end the firing with whatever is evaluated of it
+pub record CanEnd (o : Opening) (v : PassView EntryValue) (f : FiringValue) : Type 0 where
+  pub snap : IsSnap (unfolding_of o.program) f.snap
+  pub own : (e : FiredValue) → e.program ≡ o.program → e.snap ≡ f.snap → IsOwnFiring o v f.place e
+
 -- each firing that the pass may end stays one
 abbrev pub KeepsFirings : Opening → PassView EntryValue → PassView EntryValue → Type 0
 KeepsFirings o v w = (place : ℕ) (f : FiredValue) → IsOwnFiring o v place f → IsOwnFiring o w place f

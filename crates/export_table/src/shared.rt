@@ -2,7 +2,6 @@
 
 ghost use Rattle.std.specs.Prelude.{◌≡◌, ◌<◌, ◌≤◌, ◌+◌, ◌^◌, ◌++◌, ◌∷◌, [], ℕ, length, IfOk, IfErr, OnOk, OnErr, IsErrOf, None};
 ghost use Rattle.fc_nodes.specs.Program.{unfolding_of};
-ghost use Rattle.device_eval.specs.Firing.{FiredValue};
 ghost use Rattle.firing_core.specs.Cores.{EditFits, edit_fault};
 ghost use Rattle.firing_core.specs.CoreViews.{core_of};
 ghost use Rattle.firing_core.specs.Rooms.{IsRoom};
@@ -14,7 +13,7 @@ ghost use Rattle.turn_lock.specs.Logs.{StartsWith, In, Rises};
 ghost use Rattle.turn_lock.specs.Passes.{IsBelow, opened, kept_part, new_part, joined};
 ghost use Rattle.export_table.specs.Holding.{HasTurn, core_in, opening_of};
 ghost use Rattle.export_table.specs.Passing.{IsPassOf, on_log};
-ghost use Rattle.export_table.specs.Turns.{Begins, Rests, MayEnd, Ends, Edits, RefusesIn, Began, Rested, IsOwnFiring, Ended, Edited, Refused, Closes, IsAfterTurn, KeepsFirings};
+ghost use Rattle.export_table.specs.Turns.{Begins, Rests, MayEnd, Ends, Edits, RefusesIn, Began, Rested, IsOwnFiring, CanEnd, Ended, Edited, Refused, Closes, IsAfterTurn, KeepsFirings};
 
 use crate::firing::Firing;
 use crate::held::Held;
@@ -105,8 +104,7 @@ impl Shared {
         requires some { 0 < pass.old.left }
         requires room { IsRoom (unfolding_of self.now.opening.program) room }
         ensures began { IfOk result (Began self.now.opening (on_log pass.old) (on_log pass.new)) }
-        ensures may_end { IfOk result (λ f. (e : FiredValue) → e.program ≡ self.now.opening.program → e.snap ≡ f.snap
-            → IsOwnFiring self.now.opening (on_log pass.new) f.place e) }
+        ensures may_end { IfOk result (CanEnd self.now.opening (on_log pass.new)) }
         ensures rested { OnErr result (Rested self.now.opening (on_log pass.old) (on_log pass.new)) }
         ensures back { IfErr result (λ r. r ≡ room) }
         ensures own { IsPassOf self.now pass.new }
