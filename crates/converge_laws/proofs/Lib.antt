@@ -32,3 +32,6 @@ mod Iterated
 mod Exists
 mod Stabilised
 mod Nearest
+mod Shaped
+mod Ends
+mod Verdict

@@ -5,3 +5,4 @@ pub mod Fragment
 pub mod Invariant
 pub mod Stabilising
 pub mod Laws
+pub mod Verdicts

@@ -1,8 +1,20 @@
 //! A program that an analysis finds in the fragment stabilises.
 
+ghost use Rattle.std.specs.Prelude.{ℕ, ◌≡◌, length};
+ghost use Rattle.fc_nodes.specs.declared.verdicts.Verdict.TheVariants as verdict;
+ghost use Rattle.fc_nodes.specs.Program.{unfolding_of};
+ghost use Rattle.topology.specs.Networks.{numbers};
+ghost use Rattle.firing_core.specs.Entries.{entries_of};
+ghost use Rattle.firing_core.specs.CoreViews.{core_of};
+ghost use Rattle.firing_core.specs.Rounds.{after_edit, HasRounds};
+ghost use Rattle.fragment_check.specs.Verdicts.{verdict_of};
 ghost use Rattle.converge_laws.specs.Laws.{SolutionsRaiseLevels, AnalysedStabilise};
+ghost use Rattle.converge_laws.specs.Stabilising.{Stabilises};
+ghost use Rattle.converge_laws.specs.Verdicts.{IsSettled};
 
-use firing_core::{faultless_steps, runs_cut, steps_keep_good};
+use fc_nodes::Unfolded;
+use firing_core::{Book, faultless_steps, runs_cut, steps_keep_good};
+use topology::Network;
 
 /// One level a round: the levels of exports that agree with a solution, node by node, are `Levels`. A copy from exports at a
 /// level has its export one level up, whatever trees stand where the solution's branches don't lead.
@@ -19,6 +31,34 @@ pub fn solutions_raise_levels()
 pub fn analysed_programs_stabilise()
     ensures { AnalysedStabilise }
 {
+    steps_keep_good();
+    faultless_steps();
+    runs_cut();
+}
+
+/// The convergence law: where the verdict for a program and so many devices as a network with its declarations has is a yes
+/// for `k` rounds, exactly one field solves the program there, and from every good core each log without an edit with `k`
+/// rounds leads to its values.
+pub fn stabilises(program: &Unfolded, net: &Network)
+    requires declared { net.now.declared ≡ program.now.declared }
+    ensures { (k : ℕ) → verdict_of program.now (length net.now.devices) ≡ verdict.Yes k
+        → Stabilises (unfolding_of program.now) net.now k }
+{
+    program.declared();
+    net.declared();
+    steps_keep_good();
+    faultless_steps();
+    runs_cut();
+}
+
+/// Where the verdict for the network at the end of a book's log is a yes for `k` rounds, and the part of the log after its
+/// last edit has them, each device's export has the value of the one field that solves the program on that network.
+pub fn settled(book: &Book)
+    ensures { (k : ℕ) → verdict_of book.now.program (length (core_of book.now.core).net.devices) ≡ verdict.Yes k
+        → HasRounds (numbers (core_of book.now.core).net.devices) (after_edit (entries_of book.now.log)) k
+        → IsSettled (unfolding_of book.now.program) (core_of book.now.core) }
+{
+    book.program().declared();
     steps_keep_good();
     faultless_steps();
     runs_cut();
