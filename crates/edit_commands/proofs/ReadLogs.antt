@@ -1,10 +1,10 @@
 -- A log, read line by line.
-use Rattle.std.proofs.Common.{ℕ, ◌≡◌, ◌+◌, Bool, true, false, ◌==◌, List, [], ◌∷◌, ◌++◌, map, length, refl, sym, ap, ◌∙◌}
-use Rattle.std.proofs.lemmas.List.{map-append}
+use Rattle.std.proofs.Common.{ℕ, ◌≡◌, ◌+◌, Bool, true, false, ◌==◌, List, [], ◌∷◌, ◌++◌, length, refl, sym, ap, ◌∙◌, arith, length-append}
+use Rattle.std.proofs.lemmas.List.{map-append, length-map}
 use Rattle.fc_nodes.specs.Program.{Unfolding}
 use Rattle.topology.specs.Networks.{Network}
 use Rattle.firing_core.specs.declared.entries.Entry.{Entry}
-use Rattle.firing_core.specs.Entries.{EntryValue, entries_of}
+use Rattle.firing_core.specs.Entries.{EntryValue, entry_of, entries_of}
 use Rattle.firing_core.specs.Replays.{EntryFits, LogFits}
 use Rattle.edit_commands.specs.declared.types.Fault.{Fault}
 use Rattle.edit_commands.specs.declared.types.ScriptFault.{ScriptFault}
@@ -12,7 +12,7 @@ use Rattle.edit_commands.specs.declared.types.ScriptFault.TheVariants as script
 use Rattle.edit_commands.specs.EditLines.{EditLine, LinkLine, UnlinkLine, SetLine, PokeLine, JoinLine, LeaveLine}
 use Rattle.edit_commands.specs.LineByLine.{Judged, Accepted, Faulty, WhereAccepted, StopsAt}
 use Rattle.edit_commands.specs.Judging.{after_edit}
-use Rattle.edit_commands.specs.Logs.{LogLine, BeginLine, EndLine, IdleLine, OfEdit, after_line, line_judged, log_of, IsEntry, DoesEntry, IsLog, RefusesLog, numbered, entry_in}
+use Rattle.edit_commands.specs.Logs.{LogLine, BeginLine, EndLine, IdleLine, OfEdit, after_line, line_judged, log_of, IsEntry, DoesEntry, IsLog, RefusesLog, numbered}
 use Rattle.edit_commands.specs.Code.{HasFaultAt}
 use Rattle.edit_commands.proofs.CutLines.{IsCut}
 use Rattle.edit_commands.proofs.ReadLines as lines
@@ -72,11 +72,28 @@ unfolding log_of
 all_read U start text now number rest es t r is end =
     lines.all_read (line_judged U) after_line (IsEntry U) (EntryFits U) (HasDeclared start) start text now number rest es t r is end
 
--- one more entry in code
-pub numbered_push : (old new : List (ℕ × Entry)) (e : ℕ × Entry) → new ≡ old ++ e ∷ [] → map numbered new ≡ map numbered old ++ numbered e ∷ []
-numbered_push old new e h = ap (map numbered) h ∙ map-append numbered old (e ∷ [])
+-- one more entry
+numbered_more : (ks : List ℕ) (es : List EntryValue) (k : ℕ) (e : EntryValue) → length ks ≡ length es → numbered (ks ++ k ∷ []) (es ++ e ∷ []) ≡ numbered ks es ++ (k, e) ∷ []
+numbered_more [] [] k e h = refl
+numbered_more [] (f ∷ fs) k e h = absurd (omega arith)
+numbered_more (j ∷ js) [] k e h = absurd (omega arith)
+numbered_more (j ∷ js) (f ∷ fs) k e h = ap (λ xs. (j, f) ∷ xs) (numbered_more js fs k e (omega arith))
+
+-- and in code
+pub logged_more : (ks lines : List ℕ) (es entries : List Entry) (k : ℕ) (e : Entry) → length ks ≡ length es → lines ≡ ks ++ k ∷ [] → entries ≡ es ++ e ∷ []
+    → numbered lines (entries_of entries) ≡ numbered ks (entries_of es) ++ (k, entry_of e) ∷ []
+logged_more ks lines es entries k e long l m =
+    ap (λ xs. numbered xs (entries_of entries)) l
+    ∙ ap (λ xs. numbered (ks ++ k ∷ []) (entries_of xs)) m
+    ∙ ap (numbered (ks ++ k ∷ [])) (map-append entry_of es (e ∷ []))
+    ∙ numbered_more ks (entries_of es) k (entry_of e) (omega (arith, long, length-map es entry_of))
+
+pub same_lengths : {X Y : Type 0} (xs new : List X) (ys more : List Y) (x : X) (y : Y) → new ≡ xs ++ x ∷ [] → more ≡ ys ++ y ∷ [] → length xs ≡ length ys → length new ≡ length more
+same_lengths xs new ys more x y n m h = omega (arith, ap length n, ap length m, length-append xs (x ∷ []), length-append ys (y ∷ []), h)
 
 -- what fits with its numbers fits without them
-pub fits_plain : (U : Unfolding) (es : List (ℕ × Entry)) → AllFit (EntryFits U) (map numbered es) → LogFits U (entries_of (map entry_in es))
-fits_plain U [] h = tt
-fits_plain U (e ∷ es) h = (h.0, fits_plain U es h.1)
+pub fits_plain : (U : Unfolding) (ks : List ℕ) (es : List Entry) → length ks ≡ length es → AllFit (EntryFits U) (numbered ks (entries_of es)) → LogFits U (entries_of es)
+fits_plain U [] [] l h = tt
+fits_plain U [] (e ∷ es) l h = absurd (omega arith)
+fits_plain U (k ∷ ks) [] l h = absurd (omega arith)
+fits_plain U (k ∷ ks) (e ∷ es) l h = (h.0, fits_plain U ks es (omega arith) h.1)

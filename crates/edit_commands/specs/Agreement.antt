@@ -6,7 +6,8 @@ use Rattle.fc_nodes.specs.Program.{Unfolding}
 use Rattle.fc_nodes.specs.Flat.{IsExport, tree_export}
 use Rattle.topology.specs.Networks.{Network}
 use Rattle.firing_core.specs.declared.entries.ReplayFault.{ReplayFault}
-use Rattle.firing_core.specs.Entries.{EditValue, LinkEdit, UnlinkEdit, SetEdit, PokeEdit, JoinEdit, LeaveEdit, EntryValue, BeginEntry, EndEntry, IdleEntry, EditEntry}
+use Rattle.firing_core.specs.Entries.{EditValue, LinkEdit, UnlinkEdit, SetEdit, PokeEdit, JoinEdit}
+use Rattle.firing_core.specs.Entries.{LeaveEdit, EntryValue, BeginEntry, EndEntry, IdleEntry, EditEntry}
 use Rattle.firing_core.specs.Cores.{Core}
 use Rattle.firing_core.specs.Replays.{fault_of, net_fault_of, step_of, replay}
 use Rattle.firing_core.specs.Rounds.{after_edit}

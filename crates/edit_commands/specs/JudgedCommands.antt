@@ -6,7 +6,9 @@ use Rattle.topology.specs.Changes.{linked, unlinked, with_input, joined, left}
 use Rattle.firing_core.specs.Entries.{EditValue, LinkEdit, UnlinkEdit, SetEdit, PokeEdit, JoinEdit, LeaveEdit}
 use Rattle.firing_core.specs.Cores.{Core, EditFits, edit_fault}
 use Rattle.edit_commands.specs.declared.scripts.TheConstants.{MOST_SCRAMBLES, MOST_FIRINGS}
-use Rattle.edit_commands.specs.Scripts.{Progress, at_start, flies, firings_after, with_firings, CommandValue, RunCommand, EditCommand, ScrambleCommand, ShowCommand, MixCommand, AllCommandsFit, IsScript}
+use Rattle.edit_commands.specs.Scripts.{Progress, at_start, flies, firings_after, with_firings}
+use Rattle.edit_commands.specs.Scripts.{CommandValue, RunCommand, EditCommand, ScrambleCommand}
+use Rattle.edit_commands.specs.Scripts.{ShowCommand, MixCommand, AllCommandsFit, IsScript}
 
 -- the network after an edit
 abbrev pub net_after : Network → EditValue → Network

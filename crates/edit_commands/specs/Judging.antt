@@ -1,5 +1,6 @@
 -- Edits against the network that the lines before leave: the first fault, and the network after.
-use Rattle.std.specs.Prelude.{ℕ, Bool, ◌≡◌, not, ◌&&◌, is_none, nat_le, if◌then◌else◌, List, [], ◌∷◌, length, Option, Some, None, option_map}
+use Rattle.std.specs.Prelude.{ℕ, Bool, ◌≡◌, not, ◌&&◌, is_none, nat_le, if◌then◌else◌}
+use Rattle.std.specs.Prelude.{List, [], ◌∷◌, length, Option, Some, None, option_map}
 use Rattle.fc_values.specs.Values.{LocalValue}
 use Rattle.fc_values.specs.BuiltinTypes.{inner}
 use Rattle.fc_nodes.specs.Terms.{type_of}

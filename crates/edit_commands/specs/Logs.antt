@@ -3,11 +3,11 @@ use Rattle.std.specs.Prelude.{ℕ, false, ◌≡◌, ◌==◌, if◌then◌else�
 use Rattle.fc_values.specs.Types.{Input}
 use Rattle.fc_nodes.specs.Program.{Unfolding}
 use Rattle.topology.specs.Networks.{Network}
-use Rattle.firing_core.specs.declared.entries.Entry.{Entry}
-use Rattle.firing_core.specs.Entries.{EntryValue, BeginEntry, EndEntry, IdleEntry, EditEntry, entry_of}
+use Rattle.firing_core.specs.Entries.{EntryValue, BeginEntry, EndEntry, IdleEntry, EditEntry, entries_of}
 use Rattle.firing_core.specs.Replays.{EntryFits}
 use Rattle.edit_commands.specs.declared.types.Fault.{Fault}
 use Rattle.edit_commands.specs.declared.types.Fault.TheVariants as fault
+use Rattle.edit_commands.specs.declared.types.Log.{Log}
 use Rattle.edit_commands.specs.declared.types.ScriptFault.{ScriptFault}
 use Rattle.edit_commands.specs.declared.types.ScriptFault.TheVariants as script
 use Rattle.fc_io.specs.Lines.{lines_of}
@@ -90,13 +90,15 @@ DoesEntry U n after e l = Does after_line (IsEntry U) (EntryFits U) n after e l
 abbrev pub IsLog : Unfolding → Network → List ℕ → List (ℕ × EntryValue) → Type 0
 IsLog U n text es = SaidBy (IsEntry U) es (log_of U n text)
 
--- an entry of the code, with the number of its line
-abbrev pub numbered : ℕ × Entry → ℕ × EntryValue
-numbered e = (e.0, entry_of e.1)
+-- entries, each with the number of its line
+abbrev pub numbered : List ℕ → List EntryValue → List (ℕ × EntryValue)
+numbered [] es = []
+numbered (k ∷ ks) [] = []
+numbered (k ∷ ks) (e ∷ es) = (k, e) ∷ numbered ks es
 
--- the same without its number
-abbrev pub entry_in : ℕ × Entry → Entry
-entry_in e = e.1
+-- those of a log of the code
+abbrev pub logged : Log → List (ℕ × EntryValue)
+logged l = numbered l.lines.items (entries_of l.entries.items)
 
 -- the fault of a log: its first line that has one. Want of memory is free
 abbrev pub RefusesLog : Unfolding → Network → List ℕ → ScriptFault → Type 0

@@ -1,5 +1,6 @@
 -- Values that are too wide for every type of a program: they are not kept, since nothing asks what is in them.
-use Rattle.std.specs.Prelude.{ℕ, ◌+◌, ◌<◌, ◌≤◌, nat_le, if◌then◌else◌, List, [], ◌∷◌, map, reverse, Option, option_map, MatchOption, slice_index, slice_range, ◌≡◌, length}
+use Rattle.std.specs.Prelude.{ℕ, ◌+◌, ◌<◌, ◌≤◌, nat_le, if◌then◌else◌, List, [], ◌∷◌, map, reverse}
+use Rattle.std.specs.Prelude.{Option, option_map, MatchOption, slice_index, slice_range, ◌≡◌, length}
 use Rattle.fc_values.specs.Values.{LocalValue, IntValue, BoolValue, PairValue, local_of}
 use Rattle.topology.specs.Networks.{NetDevice}
 use Rattle.edit_commands.specs.declared.values.TheConstants.{MOST_LEAVES}

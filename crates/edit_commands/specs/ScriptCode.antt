@@ -16,7 +16,8 @@ use Rattle.edit_commands.specs.EditLines.{EditLine}
 use Rattle.edit_commands.specs.LineByLine.{Judged, Faulty, WhereAccepted}
 use Rattle.edit_commands.specs.Judging.{edit_fault}
 use Rattle.edit_commands.specs.Code.{texts}
-use Rattle.edit_commands.specs.Scripts.{Progress, ScriptLine, LineFault, OfLine, OfScrambles, OfFirings, DoesCommand, command_of, flies, line_judged, do_line, mixed_line, mix_line, script_line}
+use Rattle.edit_commands.specs.Scripts.{Progress, ScriptLine, LineFault, OfLine, OfScrambles, OfFirings, DoesCommand}
+use Rattle.edit_commands.specs.Scripts.{command_of, flies, line_judged, do_line, mixed_line, mix_line, script_line}
 
 abbrev pub progress_of : ProgressCode → Progress
 progress_of p = record { net = p.net; quiet = p.quiet; scrambles = p.scrambles; firings = p.firings }

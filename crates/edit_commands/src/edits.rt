@@ -4,7 +4,8 @@ ghost use Rattle.std.specs.Prelude.{◌≡◌, ◌<◌, ◌≤◌, ◌^◌, not,
 ghost use Rattle.std.specs.List.{prefix_len};
 ghost use Rattle.std.specs.Str.{bytes_eq};
 ghost use Rattle.fc_values.specs.Types.{input_of};
-ghost use Rattle.edit_commands.specs.EditLines.{edit_line, edit_word, link_line, unlink_line, set_line, poke_line, join_line, leave_line, input_number};
+ghost use Rattle.edit_commands.specs.EditLines.{edit_line, edit_word, link_line, unlink_line, set_line};
+ghost use Rattle.edit_commands.specs.EditLines.{poke_line, join_line, leave_line, input_number};
 ghost use Rattle.edit_commands.specs.Code.{line_of, texts, ReadsLine, ReadFits};
 
 use crate::values::{read_value, read_values};

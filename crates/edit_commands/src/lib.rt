@@ -14,4 +14,4 @@ mod words;
 pub use laws::{logs_have_entries, readings_agree, scripts_are_judged, values_are_read};
 pub use logs::read_log;
 pub use scripts::read_script;
-pub use types::{Command, Fault, Line, ScriptFault};
+pub use types::{Command, Fault, Line, Log, ScriptFault};

@@ -1,18 +1,18 @@
 //! Logs.
 
-ghost use Rattle.std.specs.Prelude.{◌≡◌, ◌<◌, ◌^◌, length, map, IfOk, IfErr, Some, None};
+ghost use Rattle.std.specs.Prelude.{◌≡◌, ◌<◌, ◌^◌, length, IfOk, IfErr, Some, None};
 ghost use Rattle.fc_values.specs.Numbers.{number_of};
 ghost use Rattle.fc_nodes.specs.Program.{unfolding_of};
 ghost use Rattle.firing_core.specs.Entries.{entries_of};
 ghost use Rattle.firing_core.specs.Replays.{LogFits};
-ghost use Rattle.edit_commands.specs.Logs.{IsLog, RefusesLog, numbered, entry_in};
+ghost use Rattle.edit_commands.specs.Logs.{IsLog, RefusesLog, logged};
 ghost use Rattle.edit_commands.specs.LogCode.{IsEditOf, IsEditFault, IsEntryOf, line_in, edit_text_in};
 ghost use Rattle.edit_commands.specs.Code.{HasFault, HasFaultAt};
 
 use crate::edits::edit_line;
 use crate::judging::judge;
 use crate::lines::words;
-use crate::types::{Fault, LineFault, ScriptFault};
+use crate::types::{Fault, LineFault, Log, ScriptFault};
 use fc_io::{first_line, line_text};
 use fc_nodes::Unfolded;
 use fc_values::number;
@@ -89,22 +89,30 @@ fn read_edit_entry(
     }
 }
 
-/// The entries of a log with the numbers of their lines from 1: each line is judged against the network that the lines
+// The room for the entries of a text: each has a line with a byte or more beside its line feed.
+fn room(text: &[u8]) -> usize {
+    let feeds = text.iter().filter(|byte| **byte == b'\n').count();
+    feeds.min(text.len() / 2) + 1
+}
+
+/// The entries of a log with the numbers of their lines: each line is judged against the network that the lines
 /// before it leave. `At` is the first line that has a fault. `Lines`, `Scrambles` and `Firings` never come.
 pub fn read_log(
     alloc: Global,
     program: &Unfolded,
     net: &Network,
     text: &[u8],
-) -> Result<Vec<(u32, Entry)>, ScriptFault>
+) -> Result<Log, ScriptFault>
     requires declared { net.now.declared ≡ program.now.declared }
     requires short { length text.now < 2 ^ 32 }
-    ensures log { IfOk result (λ es. IsLog (unfolding_of program.now) net.now text.now (map numbered es.items)) }
-    ensures fits { IfOk result (λ es. LogFits (unfolding_of program.now) (entries_of (map entry_in es.items))) }
+    ensures log { IfOk result (λ l. IsLog (unfolding_of program.now) net.now text.now (logged l)) }
+    ensures many { IfOk result (λ l. length l.lines.items ≡ length l.entries.items) }
+    ensures fits { IfOk result (λ l. LogFits (unfolding_of program.now) (entries_of l.entries.items)) }
     ensures refused { IfErr result (RefusesLog (unfolding_of program.now) net.now text.now) }
 {
     let mut after = net.copy(alloc)?;
-    let mut entries = Vec::new(alloc);
+    let mut lines = Vec::with_capacity(alloc, room(text))?;
+    let mut entries = Vec::with_capacity(alloc, room(text))?;
     let mut number = 0;
     let mut rest = text;
     'lines: while !rest.is_empty() {
@@ -116,11 +124,12 @@ pub fn read_log(
                 Ok(entry) => entry,
                 Err(fault) => return Err(fault),
             };
-            entries.push((number, entry))?;
+            lines.push(number)?;
+            entries.push(entry)?;
         }
         rest = back;
     }
-    Ok(entries)
+    Ok(Log { lines, entries })
 }
 
 // The entry that the text of the line of a number says. An edit is done to the network.

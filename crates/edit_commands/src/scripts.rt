@@ -9,8 +9,12 @@ ghost use Rattle.firing_core.specs.Entries.{edit_of};
 ghost use Rattle.edit_commands.specs.EditLines.{edit_line};
 ghost use Rattle.edit_commands.specs.Judging.{IsEdit};
 ghost use Rattle.edit_commands.specs.Code.{line_of, texts, LineFits, ReadsLine, ReadFits, flies_in};
-ghost use Rattle.edit_commands.specs.Scripts.{OfFirings, ShowLine, ShowCommand, script_word, rounds_of, if_mixed, mixed_edit, run_line, scramble_line, show_line, flies, firings_fault, with_firings, with_edit, IsScript, RefusesScript, AreCommands, RefusesLines, AllCommandsFit, at_start, command_of, numbered};
-ghost use Rattle.edit_commands.specs.ScriptCode.{progress_of, program_in, IsWithin, IsReady, Leaves, IsAtFault, edit_in, mixed_in, mix_in, line_in, text_in, fault_in, IsFaultAt};
+ghost use Rattle.edit_commands.specs.Scripts.{OfFirings, ShowLine, ShowCommand, script_word, rounds_of, if_mixed};
+ghost use Rattle.edit_commands.specs.Scripts.{mixed_edit, run_line, scramble_line, show_line, flies, firings_fault};
+ghost use Rattle.edit_commands.specs.Scripts.{with_firings, with_edit, IsScript, RefusesScript, AreCommands};
+ghost use Rattle.edit_commands.specs.Scripts.{RefusesLines, AllCommandsFit, at_start, command_of, numbered};
+ghost use Rattle.edit_commands.specs.ScriptCode.{progress_of, program_in, IsWithin, IsReady, Leaves, IsAtFault};
+ghost use Rattle.edit_commands.specs.ScriptCode.{edit_in, mixed_in, mix_in, line_in, text_in, fault_in, IsFaultAt};
 
 use crate::edits::{EditLine, edit_line};
 use crate::judging::judge;

@@ -1,7 +1,7 @@
 //! The lines of scripts, and the faults of a text.
 
 use fc_values::Memory;
-use firing_core::Edit;
+use firing_core::{Edit, Entry};
 use std::alloc::{AllocError, AllocFailed};
 use topology::{JoinFault, NetFault};
 
@@ -21,6 +21,13 @@ pub enum Command {
 pub struct Line {
     pub number: u32,
     pub command: Command,
+}
+
+/// The entries of a log, and in a list as long the numbers of their lines from 1.
+#[derive(Drop)]
+pub struct Log {
+    pub lines: Vec<u32>,
+    pub entries: Vec<Entry>,
 }
 
 /// The fault of a line: it isn't one of the lines of its text, the network refuses its edit, or its value or kept list

@@ -4,7 +4,9 @@ ghost use Rattle.std.specs.Prelude.{◌≡◌, ◌<◌, ◌≤◌, ◌+◌, ◌^
 ghost use Rattle.fc_values.specs.Values.{local_of};
 ghost use Rattle.edit_commands.specs.Values.{atom_of, value_of, value_with, part_since};
 ghost use Rattle.edit_commands.specs.EditLines.{values_of};
-ghost use Rattle.edit_commands.specs.Narrow.{narrow, stand_in, atom_part, pair_part, part_of as part_view, half_of, open_of, since_of, StandsBefore, TakesHalf, ReadsOpening, ReadsComma, ReadsClosing, ReadsOther, ReadsByte};
+ghost use Rattle.edit_commands.specs.Narrow.{narrow, stand_in, atom_part, pair_part, part_of as part_view};
+ghost use Rattle.edit_commands.specs.Narrow.{half_of, open_of, since_of, StandsBefore, TakesHalf};
+ghost use Rattle.edit_commands.specs.Narrow.{ReadsOpening, ReadsComma, ReadsClosing, ReadsOther, ReadsByte};
 ghost use Rattle.edit_commands.specs.Code.{texts};
 
 use fc_values::{Local, Memory, number};

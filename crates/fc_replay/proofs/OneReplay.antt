@@ -1,5 +1,5 @@
 -- Texts are replayed to one thing.
-use Rattle.std.proofs.Common.{ℕ, ◌≡◌, ◌≤◌, List, ◌++◌, map, refl, ap, ◌∙◌, sym, subst, arith, Bool, true, false, Option, Some, None}
+use Rattle.std.proofs.Common.{ℕ, ◌≡◌, ◌≤◌, List, ◌++◌, refl, ap, ◌∙◌, sym, subst, arith, Bool, true, false, Option, Some, None}
 use Rattle.fc_nodes.specs.Program.{Unfolding}
 use Rattle.topology.specs.Networks.{numbers}
 use Rattle.firing_core.specs.Cores.{Core}
@@ -11,14 +11,14 @@ use Rattle.report.specs.Verdicts.{rounds_text}
 use Rattle.edit_commands.specs.declared.types.Fault.{Fault}
 use Rattle.edit_commands.specs.LineByLine.{Lines, AllLines, StopsAt, SaidBy}
 use Rattle.edit_commands.specs.Logs.{LogLine, log_of, IsEntry}
-use Rattle.edit_commands.specs.Agreement.{SameEntries, ReadingsAgree, StepsAgree, ReplaysAgree, PartsAgree, number_in}
+use Rattle.edit_commands.specs.Agreement.{SameEntries, ReadingsAgree, StepsAgree, ReplaysAgree, PartsAgree}
 use Rattle.fc_inputs.specs.declared.refusal.LineFault.{LineFault}
 use Rattle.fc_inputs.specs.Causes.{Cause, Judged, Accepted, Refused, AndThen}
-use Rattle.fc_inputs.specs.Inputs.{InputOf, ReadsInput, OneInput}
+use Rattle.fc_inputs.specs.Inputs.{InputOf, OneInput}
 use Rattle.fc_replay.specs.declared.replays.Options.{Options}
 use Rattle.fc_replay.specs.Stopping.{Logged, entries_in, first_stop}
-use Rattle.fc_replay.specs.Replays.{start_of, RoundsAsked, IsText, table_line, where_asked, Shown, book_of, ShowsBook, ReplaysEntries, ReplaysLog, Replays}
-use Rattle.fc_replay.specs.Laws.{ShowAlike, Alike, OneReplay}
+use Rattle.fc_replay.specs.Replays.{start_of, RoundsAsked, table_line, where_asked, Shown, book_of, ShowsBook, ReplaysEntries, ReplaysLog, Replays}
+use Rattle.fc_replay.specs.Laws.{Alike}
 use Rattle.fc_replay.proofs.Stops.{same_stop}
 
 not_more : (live live' : List ℕ) (es es' : List EntryValue) (n m : ℕ) → live ≡ live' → after_edit es ≡ after_edit es' → IsGreatest live es n → IsGreatest live' es' m → n ≤ m

@@ -1,9 +1,8 @@
 -- What the code has read and replayed, as the definitions say it.
-use Rattle.std.proofs.Common.{ℕ, ◌≡◌, List, [], ◌∷◌, ◌++◌, map, get_or, refl, ap, ◌∙◌, sym, subst, Bool, true, false, Option, Some, None}
+use Rattle.std.proofs.Common.{ℕ, ◌≡◌, List, [], ◌++◌, get_or, refl, ap, ◌∙◌, sym, subst, Option, Some, None}
 use Rattle.fc_nodes.specs.Program.{Unfolding, unfolding_of}
 use Rattle.topology.specs.Networks.{Network, numbers}
 use Rattle.firing_core.specs.Cores.{Core, IsGood}
-use Rattle.firing_core.specs.declared.entries.Entry.{Entry}
 use Rattle.firing_core.specs.declared.entries.ReplayFault.{ReplayFault}
 use Rattle.firing_core.specs.declared.entries.ReplayFault.TheVariants as replay_fault
 use Rattle.firing_core.specs.Entries.{EntryValue, entries_of}
@@ -16,10 +15,9 @@ use Rattle.edit_commands.specs.declared.types.Fault.{Fault}
 use Rattle.edit_commands.specs.declared.types.ScriptFault.{ScriptFault}
 use Rattle.edit_commands.specs.declared.types.ScriptFault.TheVariants as script
 use Rattle.edit_commands.specs.LineByLine.{Lines, AllLines, StopsAt, SaidBy}
-use Rattle.edit_commands.specs.Logs.{LogLine, IsEntry, RefusesLog, log_of, numbered}
+use Rattle.edit_commands.specs.Logs.{LogLine, IsEntry, RefusesLog, log_of}
 use Rattle.fc_inputs.specs.declared.refusal.LineFault.{LineFault}
 use Rattle.fc_inputs.specs.declared.refusal.LineFault.TheVariants.{Net}
-use Rattle.fc_inputs.specs.declared.stop.Stop.{Stop}
 use Rattle.fc_inputs.specs.Causes.{Cause, Plainly, Judged, Accepted, Refused}
 use Rattle.fc_inputs.specs.Refusals.{log_refusal}
 use Rattle.fc_inputs.specs.Inputs.{ReadsInput}
@@ -27,39 +25,39 @@ use Rattle.fc_inputs.specs.Stops.{StopsFor}
 use Rattle.fc_replay.specs.declared.replays.Options.{Options}
 use Rattle.fc_replay.specs.Ledgers.{Ledger, ledger_of}
 use Rattle.fc_replay.specs.Stopping.{Logged, entries_in, fault_in, step_fault, first_stop}
-use Rattle.fc_replay.specs.Replays.{start_of, RoundsAsked, IsText, table_line, where_asked, Shown, book_of, ShowsBook, ReplaysEntries, ReplaysLines, ReplaysLog, Replays}
+use Rattle.fc_replay.specs.Replays.{start_of, RoundsAsked, IsText, table_line, where_asked, Shown, book_of, ShowsBook, ReplaysEntries, ReplaysLog, Replays}
 use Rattle.fc_replay.specs.Code.{stop_at, stop_of, IsFaultOfLog, fault_stop, IsFaulty, IsStopped, IsReplayed, shown_of}
-use Rattle.fc_replay.proofs.Entries.{HasRead, log_lines}
+use Rattle.fc_replay.proofs.Entries.{HasRead}
 use Rattle.fc_replay.proofs.Stops.{RunsAreReplays, step_stops, edit_stops, never_stops}
 
 -- ---- what is replayed
-pub is_replayed : (U : Unfolding) (c start : Core) (log : List (ℕ × Entry)) (lines : List ℕ) (es : List EntryValue) (book : BookValue) → HasRead c start log lines es
-    → replay U c es ≡ Some (core_of book.core) → unfolding_of book.program ≡ U → core_of book.start ≡ c → entries_of book.log ≡ es → IsReplayed U start (map numbered log) (ledger_of book)
+pub is_replayed : (U : Unfolding) (c start : Core) (log : List Logged) (lines : List ℕ) (es : List EntryValue) (book : BookValue) → HasRead c start log lines es
+    → replay U c es ≡ Some (core_of book.core) → unfolding_of book.program ≡ U → core_of book.start ≡ c → entries_of book.log ≡ es → IsReplayed U start log (ledger_of book)
 is_replayed U c start log lines es book read led is from kept = record {
-  leads = subst (λ k. replay U k (entries_in (map numbered log)) ≡ Some (core_of book.core)) read.same (ap (replay U c) (sym read.entries_read) ∙ led);
+  leads = subst (λ k. replay U k (entries_in log) ≡ Some (core_of book.core)) read.same (ap (replay U c) (sym read.entries_read) ∙ led);
   is = ap (λ V. book_of V (core_of book.start) (entries_of book.log) (core_of book.core)) is
       ∙ ap (λ k. book_of U k (entries_of book.log) (core_of book.core)) (from ∙ read.same)
       ∙ ap (λ l. book_of U start l (core_of book.core)) (kept ∙ read.entries_read);
 }
 
-pub is_stopped : (agree : RunsAreReplays) (U : Unfolding) (c start : Core) (log : List (ℕ × Entry)) (lines : List ℕ) (es : List EntryValue) (fault : ReplayFault) → HasRead c start log lines es → IsGood U c → LogFits U es
-    → FailsReplay U c es fault → StopsFor (IsStopped U start (map numbered log)) (stop_of lines fault)
+pub is_stopped : (agree : RunsAreReplays) (U : Unfolding) (c start : Core) (log : List Logged) (lines : List ℕ) (es : List EntryValue) (fault : ReplayFault) → HasRead c start log lines es → IsGood U c → LogFits U es
+    → FailsReplay U c es fault → StopsFor (IsStopped U start log) (stop_of lines fault)
 is_stopped agree U c start log lines es (replay_fault.At i f) read good fits h = by_fault (step_fault f) refl
   where
-    by_fault : (o : Option LineFault) → step_fault f ≡ o → StopsFor (IsStopped U start (map numbered log)) (stop_at (get_or lines i 0) o)
+    by_fault : (o : Option LineFault) → step_fault f ≡ o → StopsFor (IsStopped U start log) (stop_at (get_or lines i 0) o)
     by_fault (Some g) e = record {
       at = get_or lines i 0;
       fault = g;
-      stops = subst (λ k. first_stop U k (map numbered log) ≡ Some (get_or lines i 0, g)) read.same
-          (step_stops agree U c (map numbered log) es i f g e read.entries_read good fits h ∙ ap (λ l. Some (get_or l i 0, g)) (sym (read.numbers_read ∙ log_lines log)));
+      stops = subst (λ k. first_stop U k log ≡ Some (get_or lines i 0, g)) read.same
+          (step_stops agree U c log es i f g e read.entries_read good fits h ∙ ap (λ l. Some (get_or l i 0, g)) (sym read.numbers_read));
       is = refl;
     }
     by_fault None e = tt
 is_stopped agree U c start log lines es (replay_fault.EditAt i g) read good fits h = record {
   at = get_or lines i 0;
   fault = Net g;
-  stops = subst (λ k. first_stop U k (map numbered log) ≡ Some (get_or lines i 0, Net g)) read.same
-      (edit_stops agree U c (map numbered log) es i g read.entries_read good fits h ∙ ap (λ l. Some (get_or l i 0, Net g)) (sym (read.numbers_read ∙ log_lines log)));
+  stops = subst (λ k. first_stop U k log ≡ Some (get_or lines i 0, Net g)) read.same
+      (edit_stops agree U c log es i g read.entries_read good fits h ∙ ap (λ l. Some (get_or l i 0, Net g)) (sym read.numbers_read));
   is = refl;
 }
 is_stopped agree U c start log lines es replay_fault.Memory read good fits h = tt

@@ -1,9 +1,9 @@
 -- A copy that a begin in a room has taken.
-use Rattle.std.proofs.Common.{ℕ, ◌≡◌, Bool, true, refl, ap, sym, ◌∙◌, Option, Some}
+use Rattle.std.proofs.Common.{ℕ, ◌≡◌, Bool, true, refl, ap, sym, ◌∙◌, Some}
 use Rattle.std.proofs.lemmas.Bool.{eq-eqb}
 use Rattle.fc_values.specs.Trees.{Copy}
 use Rattle.fc_nodes.specs.Program.{Unfolding}
-use Rattle.firing_core.specs.Cores.{Map, Core, put, copy_of, Step}
+use Rattle.firing_core.specs.Cores.{Core, copy_of, Step}
 use Rattle.firing_core.specs.CoreViews.{mark}
 use Rattle.firing_core.specs.Entries.{BeginEntry}
 use Rattle.firing_core.proofs.Maps.{put_same}

@@ -1,10 +1,8 @@
 -- What the code of `replay` has on the way.
 use Rattle.std.specs.Prelude.{ℕ, ◌≡◌, ◌<◌, slice_index, List, Option, Some, None}
 use Rattle.fc_nodes.specs.Program.{Unfolding}
-use Rattle.topology.specs.declared.types.NetFault.TheVariants as net
 use Rattle.firing_core.specs.declared.entries.ReplayFault.{ReplayFault}
 use Rattle.firing_core.specs.declared.entries.ReplayFault.TheVariants as replay_fault
-use Rattle.firing_core.specs.declared.entries.StepFault.{StepFault}
 use Rattle.firing_core.specs.Books.{BookValue}
 use Rattle.firing_core.specs.Cores.{Core}
 use Rattle.firing_core.specs.Replays.{replay}
@@ -15,7 +13,6 @@ use Rattle.edit_commands.specs.LineByLine.{Lines, AllLines, StopsAt}
 use Rattle.edit_commands.specs.Logs.{LogLine}
 use Rattle.fc_inputs.specs.declared.refusal.LineFault.{LineFault}
 use Rattle.fc_inputs.specs.declared.refusal.LineFault.TheVariants.{Net}
-use Rattle.fc_inputs.specs.declared.refusal.Refusal.{Refusal}
 use Rattle.fc_inputs.specs.declared.stop.Stop.{Stop}
 use Rattle.fc_inputs.specs.declared.stop.Stop.TheVariants as stop
 use Rattle.fc_inputs.specs.Causes.{Cause, Plainly}

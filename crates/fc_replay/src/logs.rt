@@ -1,19 +1,18 @@
 //! The entries of a log, with the numbers of their lines, and where it is refused.
-ghost use Rattle.std.specs.Prelude.{◌≡◌, ◌<◌, ◌≤◌, IfErr, IfOk, length, map};
+ghost use Rattle.std.specs.Prelude.{◌≡◌, ◌<◌, ◌≤◌, IfErr, IfOk, length};
 ghost use Rattle.fc_nodes.specs.Program.{unfolding_of};
 ghost use Rattle.firing_core.specs.Entries.{entries_of};
 ghost use Rattle.firing_core.specs.Replays.{LogFits};
-ghost use Rattle.edit_commands.specs.Logs.{IsLog, entry_in, log_of, numbered};
+ghost use Rattle.edit_commands.specs.Logs.{IsLog, log_of, logged};
 ghost use Rattle.fc_inputs.specs.Stops.{StopsFor};
 ghost use Rattle.fc_inputs.specs.declared.sources.TheConstants.{MOST_BYTES};
 ghost use Rattle.fc_replay.specs.Code.{IsFaultOfLog, IsFaulty, StopsWithin, fault_stop, stop_at, stop_of};
 ghost use Rattle.fc_replay.specs.Stopping.{fault_in, step_fault};
 
-use edit_commands::{Fault, ScriptFault, read_log};
+use edit_commands::{Fault, Log, ScriptFault, read_log};
 use fc_inputs::{LineFault, Refusal, Stop, log_refusal};
 use fc_nodes::Unfolded;
-use fc_values::Memory;
-use firing_core::{Entry, ReplayFault, StepFault};
+use firing_core::{ReplayFault, StepFault};
 use std::alloc::Global;
 use topology::{NetFault, Network};
 
@@ -84,33 +83,16 @@ pub fn read_entries(
     program: &Unfolded,
     net: &Network,
     text: &[u8],
-) -> Result<Vec<(u32, Entry)>, Stop>
+) -> Result<Log, Stop>
     requires declared { net.now.declared ≡ program.now.declared }
     requires short { length text.now ≤ MOST_BYTES }
-    ensures log { IfOk result (λ es. IsLog (unfolding_of program.now) net.now text.now (map numbered es.items)) }
-    ensures fits { IfOk result (λ es. LogFits (unfolding_of program.now) (entries_of (map entry_in es.items))) }
+    ensures log { IfOk result (λ l. IsLog (unfolding_of program.now) net.now text.now (logged l)) }
+    ensures many { IfOk result (λ l. length l.lines.items ≡ length l.entries.items) }
+    ensures fits { IfOk result (λ l. LogFits (unfolding_of program.now) (entries_of l.entries.items)) }
     ensures refused { IfErr result (StopsFor (IsFaulty (log_of (unfolding_of program.now) net.now text.now))) }
 {
     match read_log(alloc, program, net, text) {
-        Ok(entries) => Ok(entries),
+        Ok(log) => Ok(log),
         Err(fault) => Err(fault_stop(fault)),
     }
-}
-
-/// The numbers of a log's lines.
-pub fn line_numbers(alloc: Global, log: &[(u32, Entry)]) -> Result<Vec<u32>, Memory>
-    ensures { IfOk result (λ v. v.items ≡ map (λ x. x.0) log.now) }
-{
-    let mut numbers = Vec::new(alloc);
-    for line in log {
-        numbers.push(line.0)?;
-    }
-    Ok(numbers)
-}
-
-/// The entries of a log.
-pub fn entries(alloc: Global, log: Vec<(u32, Entry)>) -> Result<Vec<Entry>, Memory>
-    ensures { IfOk result (λ v. v.items ≡ map (λ x. x.1) log.items) }
-{
-    Ok(log.into_iter().map(|line| line.1).collect(alloc)?)
 }

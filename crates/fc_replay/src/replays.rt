@@ -1,12 +1,12 @@
 //! What `replay` makes of a program, a scene and a log.
-ghost use Rattle.std.specs.Prelude.{◌≡◌, ◌≤◌, IfErr, IfOk, length, map};
+ghost use Rattle.std.specs.Prelude.{◌≡◌, ◌≤◌, IfErr, IfOk, length};
 ghost use Rattle.fc_nodes.specs.Program.{unfolding_of};
 ghost use Rattle.firing_core.specs.CoreViews.{core_of};
 ghost use Rattle.firing_core.specs.Cores.{IsGood};
 ghost use Rattle.firing_core.specs.Entries.{entries_of};
 ghost use Rattle.firing_core.specs.Replays.{LogFits};
 ghost use Rattle.net_json.specs.SceneCode.{AreCopies, AreRows, value_of_scene};
-ghost use Rattle.edit_commands.specs.Logs.{entry_in, numbered};
+ghost use Rattle.edit_commands.specs.Logs.{logged};
 ghost use Rattle.fc_inputs.specs.Causes.{Accepted, Refused};
 ghost use Rattle.fc_inputs.specs.Stops.{StopsFor};
 ghost use Rattle.fc_inputs.specs.declared.sources.TheConstants.{MOST_BYTES};
@@ -14,12 +14,13 @@ ghost use Rattle.fc_replay.specs.Code.{IsReplayed, IsStopped, shown_of};
 ghost use Rattle.fc_replay.specs.Ledgers.{ledger_of};
 ghost use Rattle.fc_replay.specs.Replays.{Replays, start_of};
 
-use crate::logs::{entries, line_numbers, read_entries, stop};
+use crate::logs::{read_entries, stop};
 use crate::texts::shown;
+use edit_commands::Log;
 use fc_inputs::{Stop, read_input};
 use fc_nodes::Unfolded;
 use fc_values::Memory;
-use firing_core::{Book, Core, Entry, replay as replay_log, steps_agree};
+use firing_core::{Book, Core, replay as replay_log, steps_agree};
 use net_json::Scene;
 use std::alloc::Global;
 use std::sync::Arc;
@@ -49,23 +50,18 @@ fn start(alloc: Global, program: &Arc<Unfolded>, scene: Scene) -> Result<Core, M
 }
 
 // The book of a program, a scene and the entries of a log.
-fn replayed(
-    alloc: Global,
-    program: Unfolded,
-    scene: Scene,
-    log: Vec<(u32, Entry)>,
-) -> Result<Book, Stop>
+fn replayed(alloc: Global, program: Unfolded, scene: Scene, log: Log) -> Result<Book, Stop>
     requires declared { scene.net.declared ≡ program.declared }
     requires rows { AreRows (unfolding_of program) scene.net scene.table.items }
     requires copies { AreCopies (unfolding_of program) scene.net scene.pending.items }
-    requires fits { LogFits (unfolding_of program) (entries_of (map entry_in log.items)) }
+    requires many { length log.lines.items ≡ length log.entries.items }
+    requires fits { LogFits (unfolding_of program) (entries_of log.entries.items) }
     ensures book { IfOk result (λ b. IsReplayed (unfolding_of program)
-        (start_of (value_of_scene (unfolding_of program) scene)) (map numbered log.items) (ledger_of b)) }
+        (start_of (value_of_scene (unfolding_of program) scene)) (logged log) (ledger_of b)) }
     ensures refused { IfErr result (StopsFor (IsStopped (unfolding_of program)
-        (start_of (value_of_scene (unfolding_of program) scene)) (map numbered log.items))) }
+        (start_of (value_of_scene (unfolding_of program) scene)) (logged log))) }
 {
-    let lines = line_numbers(alloc, &log)?;
-    let entries = entries(alloc, log)?;
+    let Log { lines, entries } = log;
     let program = Arc::new(alloc, program)?;
     let start = start(alloc, &program, scene)?;
     steps_agree();

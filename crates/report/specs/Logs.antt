@@ -3,7 +3,8 @@ use Rattle.std.specs.Prelude.{ℕ, zero, suc, List, [], ◌∷◌, ◌++◌, fla
 use Rattle.std.specs.Fmt.{decimal}
 use Rattle.fc_values.specs.Types.{Input}
 use Rattle.topology.specs.Networks.{NetDevice}
-use Rattle.firing_core.specs.Entries.{EditValue, LinkEdit, UnlinkEdit, SetEdit, PokeEdit, JoinEdit, LeaveEdit, EntryValue, BeginEntry, EndEntry, IdleEntry, EditEntry}
+use Rattle.firing_core.specs.Entries.{EditValue, LinkEdit, UnlinkEdit, SetEdit, PokeEdit, JoinEdit}
+use Rattle.firing_core.specs.Entries.{LeaveEdit, EntryValue, BeginEntry, EndEntry, IdleEntry, EditEntry}
 use Rattle.value_trees.specs.KeptLists.{kept_only}
 use Rattle.report.specs.Texts.{after_space, after_spaces}
 

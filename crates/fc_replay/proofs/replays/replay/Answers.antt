@@ -1,7 +1,6 @@
-use Rattle.std.proofs.Common.{map}
 use Rattle.fc_nodes.specs.Program.{unfolding_of}
 use Rattle.net_json.specs.SceneCode.{value_of_scene}
-use Rattle.edit_commands.specs.Logs.{log_of, numbered}
+use Rattle.edit_commands.specs.Logs.{log_of, logged}
 use Rattle.fc_inputs.specs.Causes.{Refused}
 use Rattle.fc_inputs.specs.Inputs.{ReadsInput}
 use Rattle.fc_inputs.proofs.Stopping.{stop_is, stops_map}
@@ -29,12 +28,12 @@ returns-in_err-book-clause-refused c =
     let U = unfolding_of c.in_ok-program.program in
     let s = value_of_scene U c.in_ok-program.scene in
     stop_is (λ cause. Replays c.args.options c.args.program.now c.args.network.now c.args.log.now (Refused cause)) c.from_residual-in_err-book.result _ c.from_residual-in_err-book.ensures.1
-    (stops_map (IsStopped U (start_of s) (map numbered c.in_ok-log.log.items)) _
-    (λ cause k. replay_stopped c.args.options c.args.program.now c.args.network.now c.args.log.now U s c.in_ok-program.ensures.input cause (map numbered c.in_ok-log.log.items) c.in_ok-log.ensures.log k)
+    (stops_map (IsStopped U (start_of s) (logged c.in_ok-log.log)) _
+    (λ cause k. replay_stopped c.args.options c.args.program.now c.args.network.now c.args.log.now U s c.in_ok-program.ensures.input cause (logged c.in_ok-log.log) c.in_ok-log.ensures.log k)
     c.in_err-book.field-0.0 c.in_err-book.ensures.refused)
 
 pub returns-clause-shown : goal.returns-clause-shown
 returns-clause-shown c =
     let U = unfolding_of c.in_ok-program.program in
     replay_shown c.args.options c.args.program.now c.args.network.now c.args.log.now U (value_of_scene U c.in_ok-program.scene) c.in_ok-program.ensures.input
-    (map numbered c.in_ok-log.log.items) c.in_ok-text.text.items c.in_ok-book.book c.in_ok-log.ensures.log c.in_ok-book.ensures.book c.in_ok-text.ensures
+    (logged c.in_ok-log.log) c.in_ok-text.text.items c.in_ok-book.book c.in_ok-log.ensures.log c.in_ok-book.ensures.book c.in_ok-text.ensures
