@@ -32,6 +32,5 @@ mod Iterated
 mod Exists
 mod Stabilised
 mod Nearest
-mod Shaped
 mod Ends
 mod Verdict

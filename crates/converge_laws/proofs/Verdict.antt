@@ -22,13 +22,13 @@ use Rattle.growth_facts.specs.Leads.{greatest_integer}
 use Rattle.fragment_check.specs.declared.kinds.Pattern.{Pattern}
 use Rattle.fragment_check.specs.Patterns.{Judged, pattern_of, judged, all_judged, refusal_first, first_refused}
 use Rattle.fragment_check.specs.Shapes.{HasPattern}
+use Rattle.fragment_check.specs.Laws.{PatternsHaveShapes}
 use Rattle.fragment_check.specs.Verdicts.{bound_range, variable_range, added_levels, added_by, added_at, judged_of, main_level, verdict_by}
 use Rattle.converge_laws.specs.Fragment.{Analysis, InFragment, AllInFragment}
 use Rattle.converge_laws.specs.Laws.{IsAnalysis}
 use Rattle.converge_laws.specs.Stabilising.{Stabilises}
 use Rattle.converge_laws.specs.Verdicts.{pattern_or, analysis_of, YesStabilises, YesSettles}
 use Rattle.converge_laws.proofs.Ends.{greatest_within, get_within, nodes_within}
-use Rattle.converge_laws.proofs.Shaped.{has_pattern}
 use Rattle.converge_laws.proofs.Stabilised.{stabilised}
 
 -- none is refused among two lists of judgements
@@ -45,7 +45,7 @@ none_first : (p : ℕ) (r : Result Pattern Reason) (rest : Option (ℕ × Reason
 none_first p (Ok a) rest h = (a, refl, h)
 none_first p (Err r) rest h = absurd cc
 
-module _ (P : Program) (n : ℕ) (program : IsProgram P) where
+module _ (shapes : PatternsHaveShapes) (P : Program) (n : ℕ) (program : IsProgram P) where
   abbrev D : Declarations
   D = P.declared
 
@@ -99,7 +99,7 @@ module _ (P : Program) (n : ℕ) (program : IsProgram P) where
         let here : term_at P.nodes p ≡ Evolve t e a u = laid_term P.nodes above (Evolve t e a u) p la in
         let is : A.pattern p ≡ k.0 = ap (λ z. pattern_or (pattern_of D.ceiling R p z)) here ∙ ap pattern_or k.1 in
         let added : A.stages p ≡ added_levels n (variable_range P) e k.0 = ap (added_at D.ceiling R (variable_range P) n p) here ∙ ap (added_by n (variable_range P) e) k.1 in
-        let has = has_pattern D e p ty.0 bs D.ceiling R (suc p + size a) u k.0 ty.5 k.1 in
+        let has = shapes D bs D.ceiling R e p (suc p + size a) ty.0 u k.0 ty.5 k.1 in
         let has' : HasPattern D.ceiling R e p (suc p + size a) (inner t) u k.0 = subst (λ s. HasPattern D.ceiling R e p (suc p + size a) s u k.0) (sym (ap inner ty.1)) has in (
           subst (HasPattern D.ceiling R e p (suc p + size a) (inner t) u) (sym is) has',
           added ∙ ap (added_levels n (variable_range P) e) (sym is),
@@ -153,15 +153,15 @@ yes_says : (o : Option (ℕ × Reason)) (level k : ℕ) → verdict_by o level �
 yes_says None level k h = (refl, cc)
 yes_says (Some j) level k h = absurd cc
 
-pub yes_stabilises : StepsKeepGood → CopiesFit → RunsCut → YesStabilises
-yes_stabilises keeps fit cuts P N k program net same h =
+pub yes_stabilises : PatternsHaveShapes → StepsKeepGood → CopiesFit → RunsCut → YesStabilises
+yes_stabilises shapes keeps fit cuts P N k program net same h =
     let y = yes_says (first_refused (judged_of P)) (main_level P (length N.devices)) k h in
-    subst (Stabilises (unfolding_of P) N) y.1 (stabilised P (analysis_of P (length N.devices)) N program net same (analysed P (length N.devices) program N same refl y.0) keeps fit cuts)
+    subst (Stabilises (unfolding_of P) N) y.1 (stabilised P (analysis_of P (length N.devices)) N program net same (analysed shapes P (length N.devices) program N same refl y.0) keeps fit cuts)
 
-pub yes_settles : StepsKeepGood → RunsKeepGood → CopiesFit → RunsCut → RunsCutAtEdit → YesSettles
-yes_settles keeps runs fit cuts edits P start last log k program good run h rounds =
+pub yes_settles : PatternsHaveShapes → StepsKeepGood → RunsKeepGood → CopiesFit → RunsCut → RunsCutAtEdit → YesSettles
+yes_settles shapes keeps runs fit cuts edits P start last log k program good run h rounds =
     let cut = edits (unfolding_of P) start last log run in
     let there = runs P start cut.middle cut.front program good cut.first in
     let end = runs P start last log program good run in
-    let s = yes_stabilises keeps fit cuts P last.net k program end.net end.declared h in
+    let s = yes_stabilises shapes keeps fit cuts P last.net k program end.net end.declared h in
     record { one = s.one; values = λ d l. s.reached cut.middle last (after_edit log) there (sym cut.net) cut.second rounds d l }

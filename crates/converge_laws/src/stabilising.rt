@@ -14,6 +14,7 @@ ghost use Rattle.converge_laws.specs.Verdicts.{IsSettled};
 
 use fc_nodes::Unfolded;
 use firing_core::{Book, faultless_steps, runs_cut, steps_keep_good};
+use fragment_check::patterns_have_shapes;
 use topology::Network;
 
 /// One level a round: the levels of exports that agree with a solution, node by node, are `Levels`. A copy from exports at a
@@ -46,6 +47,7 @@ pub fn stabilises(program: &Unfolded, net: &Network)
 {
     program.declared();
     net.declared();
+    patterns_have_shapes();
     steps_keep_good();
     faultless_steps();
     runs_cut();
@@ -59,6 +61,7 @@ pub fn settled(book: &Book)
         → IsSettled (unfolding_of book.now.program) (core_of book.now.core) }
 {
     book.program().declared();
+    patterns_have_shapes();
     steps_keep_good();
     faultless_steps();
     runs_cut();

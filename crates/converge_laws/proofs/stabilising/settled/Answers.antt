@@ -7,5 +7,5 @@ use Rattle.converge_laws.proofs.stabilising.settled.Goals as goal
 
 pub returns : goal.returns
 returns c = λ k h rounds.
-    yes_settles c.steps_keep_good.ensures.step c.steps_keep_good.ensures.run c.faultless_steps.ensures.copy c.runs_cut.ensures.cut c.runs_cut.ensures.edit c.args.book.now.program
+    yes_settles c.patterns_have_shapes.ensures c.steps_keep_good.ensures.step c.steps_keep_good.ensures.run c.faultless_steps.ensures.copy c.runs_cut.ensures.cut c.runs_cut.ensures.edit c.args.book.now.program
     (core_of c.args.book.now.start) (core_of c.args.book.now.core) (entries_of c.args.book.now.log) k (subst IsProgram (c.deref.ensures ∙ c.program.ensures.value) c.declared.ensures.program) c.program.ensures.book.good c.program.ensures.book.runs h rounds
