@@ -1,11 +1,12 @@
 -- What the laws say of a program that an analysis finds in the fragment.
 use Rattle.std.specs.Prelude.{ℕ, ◌≡◌}
 use Rattle.fc_values.specs.Values.{LocalValue}
-use Rattle.fc_nodes.specs.Terms.{size}
+use Rattle.fc_nodes.specs.Terms.{Term, size}
 use Rattle.fc_nodes.specs.Program.{Program, unfolding_of, IsProgram}
 use Rattle.topology.specs.Networks.{Network, IsNetwork}
 use Rattle.interval_facts.specs.Ranges.{range_of}
-use Rattle.interval_facts.specs.Solutions.{SolvesMain}
+use Rattle.interval_facts.specs.Solutions.{Devices, In, Map, Maps, Solves, SolvesMain}
+use Rattle.interval_facts.specs.Claims.{InRanges}
 use Rattle.fragment_check.specs.Levels.{level_of}
 use Rattle.converge_laws.specs.CoreLevels.{Raises}
 use Rattle.converge_laws.specs.Fragment.{Analysis, IsFor, InFragment}
@@ -32,3 +33,11 @@ SolutionsRaiseLevels = (P : Program) (A : Analysis) (N : Network) → IsProgram 
 abbrev pub AnalysedStabilise : Type 0
 AnalysedStabilise = (P : Program) (A : Analysis) (N : Network) → IsProgram P → IsNetwork N → N.declared ≡ P.declared → IsAnalysis P A N
     → Stabilises (unfolding_of P) N (root_level P A)
+
+-- One solution at each place: where a term that stands at place p over devices D is in the fragment, two maps that solve it
+-- with the same maps of its binders are equal over D, if one of them lies in the ranges. It does where the binders' maps lie
+-- in the ranges of their variables; without this it would be false.
+abbrev pub SolutionsAreOne : Type 0
+SolutionsAreOne = (A : Analysis) (N : Network) → IsNetwork N → IsFor A N
+    → (t : Term) (p : ℕ) (D : Devices) (V : Maps) (F G : Map) → InFragment A N.declared.ceiling p t
+    → Solves N p t D V F → (s : Solves N p t D V G) → InRanges A.ranges N p t D V G s → (d : ℕ) → In D d → F d ≡ G d

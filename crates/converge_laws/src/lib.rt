@@ -7,4 +7,6 @@ mod stabilising;
 
 pub use ranks::ranks_are_low;
 pub use rounds::{Levels, rounds_raise_levels};
-pub use stabilising::{analysed_programs_stabilise, settled, solutions_raise_levels, stabilises};
+pub use stabilising::{
+    analysed_programs_stabilise, settled, solutions_are_one, solutions_raise_levels, stabilises,
+};

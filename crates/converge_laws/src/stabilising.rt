@@ -8,7 +8,7 @@ ghost use Rattle.firing_core.specs.Entries.{entries_of};
 ghost use Rattle.firing_core.specs.CoreViews.{core_of};
 ghost use Rattle.firing_core.specs.Rounds.{after_edit, HasRounds};
 ghost use Rattle.fragment_check.specs.Verdicts.{verdict_of};
-ghost use Rattle.converge_laws.specs.Laws.{SolutionsRaiseLevels, AnalysedStabilise};
+ghost use Rattle.converge_laws.specs.Laws.{SolutionsAreOne, SolutionsRaiseLevels, AnalysedStabilise};
 ghost use Rattle.converge_laws.specs.Stabilising.{Stabilises};
 ghost use Rattle.converge_laws.specs.Verdicts.{IsSettled};
 
@@ -26,6 +26,12 @@ pub fn solutions_raise_levels()
     faultless_steps();
     runs_cut();
 }
+
+/// Two maps that solve a term of the fragment, over one set of devices and with the same maps of its binders, are equal there,
+/// if one lies in the ranges of the term's nodes.
+pub fn solutions_are_one()
+    ensures { SolutionsAreOne }
+{}
 
 /// Where each `rep` and `share` outside the first values has a pattern, exactly one field solves the program, and from every
 /// good core each log without an edit that has as many rounds as the level of `main` leads to its values.
