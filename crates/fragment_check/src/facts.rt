@@ -5,7 +5,7 @@ ghost use Rattle.fc_values.specs.declared.builtins.Builtin.TheVariants as op;
 ghost use Rattle.fc_values.specs.Types.{type_of};
 ghost use Rattle.fc_nodes.specs.Terms.{term_at, terms_by, sort_of};
 ghost use Rattle.fc_nodes.specs.Places.{StandsAt};
-ghost use Rattle.growth_facts.specs.Variables.{is_own, is_heard};
+ghost use Rattle.growth_facts.specs.Variables.{occurs, is_own, is_heard};
 ghost use Rattle.fragment_check.specs.Patterns.{together as together_of, int_variable, same_binder, comparison, compared};
 ghost use Rattle.fragment_check.specs.Facts.{InRow, evolution_of, facts_of, facts_of_all, facts_of_apply, guarded_facts, joined as joined_of, variable_facts, under_nbr, beneath, is_own_sort, is_nbr_sort, is_deep_sort, is_less_sort, leaf_facts_by, is_mux, builtin_by, int_variable_by};
 
@@ -215,6 +215,18 @@ fn beneath(inside: Facts) -> Facts
         bare: inside.bare,
         guarding: inside.guarding,
     }
+}
+
+/// Whether the variable of a binder occurs in the term at a place.
+pub fn occurs(program: &Unfolded, variable: u32, place: u32) -> bool
+    requires { StandsAt program.now.nodes place }
+    ensures { result ≡ occurs variable (term_at program.now.nodes place) }
+{
+    let own = Own {
+        place: variable,
+        is_share: false,
+    };
+    gather(program, own, place).uses
 }
 
 /// Whether the term at a place is the variable.

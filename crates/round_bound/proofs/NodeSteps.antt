@@ -1,6 +1,11 @@
 -- The level of the node at a place, from those of its kids.
-use Rattle.std.proofs.Common.{◌≡◌, ℕ, zero, suc, ◌≤◌, ◌<◌, ◌+◌, List, [], ◌∷◌, length, refl, sym, ◌∙◌, ap, subst, arith, get_or, Bool, true, false, max, nat_eq}
+use Rattle.std.proofs.Common.{◌≡◌, ℕ, zero, suc, ◌≤◌, ◌<◌, ◌+◌, ◌-◌, ◌*◌, ◌||◌, List, [], ◌∷◌, ◌++◌, length, refl, sym, ◌∙◌, ap, subst, arith, get_or, Bool, true, false, not, Option, Some, None, max, nat_eq}
 use Rattle.std.specs.Prelude.{if◌then◌else◌}
+use Rattle.std.specs.List.{repeat}
+use Rattle.std.specs.Prelude.{slice_set, IfOk}
+use Rattle.std.specs.declared.result.Result.{Result}
+use Rattle.std.specs.declared.result.Result.TheVariants.{Ok, Err}
+use Rattle.std.proofs.lemmas.List.{append_assoc}
 use Rattle.fc_values.specs.Types.{ValueType}
 use Rattle.fc_nodes.specs.declared.nodes.Node.{Node}
 use Rattle.fc_nodes.specs.Terms.{Evolution, Term, Terms, Plain, Apply, Nbr, Evolve, If, Let, NoMore, More, size, sizes, Sort, OfLeaf, OfApply, OfNbr, OfEvolve, OfIf, OfLet, term_at, terms_by, HasNode, Laid, AllLaid, places, is_branching}
@@ -8,14 +13,15 @@ use Rattle.fc_nodes.specs.Program.{IsProgram}
 use Rattle.fc_nodes.specs.Places.{StandsAt}
 use Rattle.fc_nodes.proofs.Places.{AllAbove, formed_above, in_range, term_is}
 use Rattle.fc_nodes.proofs.Kids.{laid_term, OneKid, TwoKids, ThreeKids, apply_laid, nbr_laid, if_laid, let_laid, evolve_laid, if_sort}
-use Rattle.growth_facts.specs.Variables.{is_own}
-use Rattle.fragment_check.specs.Levels.{Lvs, bind_level, level_of, level_all}
+use Rattle.growth_facts.specs.Variables.{occurs, occurs_in, is_own}
+use Rattle.fragment_check.specs.Levels.{Lvs, bind_level, level_unless, level_of, level_all, node_levels, all_node_levels}
 use Rattle.fragment_check.specs.Facts.{InRow, is_nbr_sort}
 use Rattle.fragment_check.specs.Listing.{is_evolve_sort}
 use Rattle.fragment_check.proofs.Steps.{nbr_sort, kids_row}
 use Rattle.round_bound.specs.declared.scopes.Context.{Context}
 use Rattle.round_bound.specs.declared.scopes.Sight.{Sight}
-use Rattle.round_bound.specs.Walks.{most_added, level_before, levels_in, Ready, stages_in, level_at, greatest_at, leaf_level_by, is_let_sort, is_apply_sort}
+use Rattle.round_bound.specs.declared.scopes.Found.{Found}
+use Rattle.round_bound.specs.Walks.{FoundAll, FoundBelow, most_added, level_before, levels_in, Ready, stages_in, level_at, greatest_at, node_levels_at, levels_at, behind, leaf_level_by, is_used_leaf, is_let_sort, is_apply_sort}
 use Rattle.round_bound.proofs.Small.{stages_few}
 use Rattle.round_bound.proofs.LevelBounds.{level_few}
 
@@ -83,12 +89,75 @@ let_places : (K : ℕ → ℕ) (p b x : ℕ) (lv : Lvs) (t : ValueType) (a u : T
     → level_of K p b x lv (Let t a u) ≡ level_of K r b x (bind_level p (level_of K q b x lv a) lv) u
 let_places K p b x lv t a u q r e f = rw (e, f) refl
 
+if_levels : (K : ℕ → ℕ) (p b x : ℕ) (lv : Lvs) (t : ValueType) (c u v : Term) (q r w : ℕ) → q ≡ suc p → r ≡ suc p + size c → w ≡ suc p + size c + size u
+    → behind (node_levels K p b x lv (If t c u v)) ≡ node_levels K q b x lv c ++ (node_levels K r (level_of K q b x lv c) x lv u ++ node_levels K w (level_of K q b x lv c) x lv v)
+if_levels K p b x lv t c u v q r w e f g = rw (e, f, g) refl
+
+let_levels : (K : ℕ → ℕ) (p b x : ℕ) (lv : Lvs) (t : ValueType) (a u : Term) (q r : ℕ) → q ≡ suc p → r ≡ suc p + size a
+    → behind (node_levels K p b x lv (Let t a u)) ≡ node_levels K q b x lv a ++ node_levels K r b x (bind_level p (level_of K q b x lv a) lv) u
+let_levels K p b x lv t a u q r e f = rw (e, f) refl
+
+-- the levels of a node: its own one, and those behind it
+pub own_level : (K : ℕ → ℕ) (p b x : ℕ) (lv : Lvs) (t : Term) → node_levels K p b x lv t ≡ level_unless (occurs x t) (level_of K p b x lv t) ∷ behind (node_levels K p b x lv t)
+own_level K p b x lv (Plain t l) = refl
+own_level K p b x lv (Apply t o xs) = refl
+own_level K p b x lv (Nbr t a) = refl
+own_level K p b x lv (Evolve t e a u) = refl
+own_level K p b x lv (If t c u v) = refl
+own_level K p b x lv (Let t a u) = refl
+
 bind_before : (B p l : ℕ) (lv : Lvs) → l ≤ B → ((q : ℕ) → lv q ≤ B) → (q : ℕ) → bind_level p l lv q ≤ B
 bind_before B p l lv f g q = by_test (nat_eq p q)
   where
     by_test : (c : Bool) → (if c then l else lv q) ≤ B
     by_test true = f
     by_test false = g q
+
+pub own_some : (K : ℕ → ℕ) (p b x : ℕ) (lv : Lvs) (t : Term) → occurs x t ≡ false → (l : ℕ) → l ≡ level_of K p b x lv t → node_levels K p b x lv t ≡ Some l ∷ behind (node_levels K p b x lv t)
+own_some K p b x lv t o l e = own_level K p b x lv t ∙ ap (λ c. level_unless c (level_of K p b x lv t) ∷ behind (node_levels K p b x lv t)) o ∙ ap (λ k. Some k ∷ behind (node_levels K p b x lv t)) (sym e)
+
+pub own_none : (K : ℕ → ℕ) (p b x : ℕ) (lv : Lvs) (t : Term) → occurs x t ≡ true → node_levels K p b x lv t ≡ None ∷ behind (node_levels K p b x lv t)
+own_none K p b x lv t o = own_level K p b x lv t ∙ ap (λ c. level_unless c (level_of K p b x lv t) ∷ behind (node_levels K p b x lv t)) o
+
+pub used : (b : Bool) → not b ≡ false → b ≡ true
+used true e = refl
+used false e = absurd cc
+
+pub unused : (b : Bool) → not b ≡ true → b ≡ false
+unused true e = absurd cc
+unused false e = refl
+
+-- ---- lists of levels
+
+pub two_behind : (old q r m n : List (Option ℕ)) → m ≡ old ++ q → n ≡ m ++ r → n ≡ old ++ (q ++ r)
+two_behind old q r m n e f = f ∙ ap (λ l. l ++ r) e ∙ append_assoc old q r
+
+pub three_behind : (old q r u k m n : List (Option ℕ)) → k ≡ old ++ q → m ≡ k ++ r → n ≡ m ++ u → n ≡ old ++ (q ++ (r ++ u))
+three_behind old q r u k m n e f g = two_behind old q (r ++ u) k n e (two_behind k r u m n f g)
+
+pub set_there : (old rest : List (Option ℕ)) (v w : Option ℕ) → slice_set (old ++ (v ∷ rest)) (length old) w ≡ old ++ (w ∷ rest)
+set_there [] rest v w = refl
+set_there (o ∷ os) rest v w = ap (λ (l : List (Option ℕ)). o ∷ l) (set_there os rest v w)
+
+pub set_found : (old m n rest : List (Option ℕ)) (i l : ℕ) → m ≡ old ++ None ∷ [] → n ≡ m ++ rest → i ≡ length old → slice_set n i (Some l) ≡ old ++ (Some l ∷ rest)
+set_found old m n rest i l e f g =
+    ap (λ k. slice_set k i (Some l)) (two_behind old (None ∷ []) rest m n e f) ∙ ap (λ k. slice_set (old ++ (None ∷ rest)) k (Some l)) g ∙ set_there old rest None (Some l)
+
+-- one that has no level, out of so many
+pub one_none : (os : List (Option ℕ)) (n : ℕ) → 0 < n → (os ++ None ∷ []) ++ repeat (n - 1) (None ∷ []) ≡ os ++ repeat n (None ∷ [])
+one_none os zero l = absurd (omega (arith, l))
+one_none os (suc n) l = let e : suc n - 1 ≡ n = omega arith in append_assoc os (None ∷ []) (repeat (suc n - 1) (None ∷ [])) ∙ ap (λ k. os ++ (None ∷ repeat k (None ∷ []))) e
+
+pub if_suc : (b : Bool) (m n : ℕ) → (if b then suc m else suc n) ≡ suc (if b then m else n)
+if_suc true m n = refl
+if_suc false m n = refl
+
+-- what is found below a builtin
+pub all_below : {E : Type 0} (c : Context) (p : ℕ) (s : Sight) (ks ls : List ℕ) (r : Result Found E) (old new : List (Option ℕ)) → ks ≡ ls → greatest_at c ls s ≡ level_at c p s
+    → occurs_in s.own (terms_by (term_at c.program.now.nodes) ls) ≡ occurs s.own (term_at c.program.now.nodes p) → levels_at c ls s ≡ behind (node_levels_at c p s)
+    → IfOk r (λ f. FoundAll c ks s f old new) → IfOk r (λ f. FoundBelow c p s f old new)
+all_below c p s ks ls (Err x) old new k e f g h = tt
+all_below c p s ks ls (Ok x) old new k e f g h = let i = subst (λ l. FoundAll c l s x old new) k h in record { level = i.level ∙ e; uses = i.uses ∙ f; levels = i.levels ∙ ap (λ l. old ++ l) g }
 
 -- ---- at a place
 
@@ -120,6 +189,14 @@ module _ (c : Context) (prog : IsProgram c.program.now) (p : ℕ) (sight : Sight
       ap (λ u. max (level_of (stages_in c) q sight.branch sight.own (levels_in sight.scope.now) u) (greatest_at c (places (q + size x) xs) sight)) e
       ∙ ap (max (level_of (stages_in c) q sight.branch sight.own (levels_in sight.scope.now) x)) f
 
+  row_levels : (xs : Terms) (q : ℕ) → AllLaid c.program.now.nodes q xs → levels_at c (places q xs) sight ≡ all_node_levels (stages_in c) q sight.branch sight.own (levels_in sight.scope.now) xs
+  row_levels NoMore q l = refl
+  row_levels (More x xs) q l =
+      let e = laid_term c.program.now.nodes (formed_above c.program.now.nodes prog.formed) x q l.0 in
+      let f = row_levels xs (q + size x) l.1 in
+      ap (λ u. node_levels (stages_in c) q sight.branch sight.own (levels_in sight.scope.now) u ++ levels_at c (places (q + size x) xs) sight) e
+      ∙ ap (λ l. node_levels (stages_in c) q sight.branch sight.own (levels_in sight.scope.now) x ++ l) f
+
   module _ (st : StandsAt c.program.now.nodes p) (s : Sort) (t : ValueType) (ks : List ℕ) (h : HasNode c.program.now.nodes p s t ks) where
     above : AllAbove c.program.now.nodes
     above = formed_above c.program.now.nodes prog.formed
@@ -140,6 +217,46 @@ module _ (c : Context) (prog : IsProgram c.program.now) (p : ℕ) (sight : Sight
         by_sort (OfEvolve v) z h = absurd cc
         by_sort OfIf z h = absurd cc
         by_sort OfLet z h = absurd cc
+
+    pub apply_levels : is_apply_sort s ≡ true → levels_at c ks sight ≡ behind (node_levels_at c p sight)
+    apply_levels z = by_sort s z h
+      where
+        by_sort : (s : Sort) → is_apply_sort s ≡ true → HasNode c.program.now.nodes p s t ks → levels_at c ks sight ≡ behind (node_levels_at c p sight)
+        by_sort (OfLeaf l) z h = absurd cc
+        by_sort (OfApply o) z h =
+            let k = apply_laid c.program.now.nodes above p o t ks h st.laid in
+            ap (λ l. levels_at c l sight) k.stand_at ∙ row_levels (terms_by (term_at c.program.now.nodes) ks) (suc p) k.kids
+            ∙ sym (ap (λ u. behind (node_levels (stages_in c) p sight.branch sight.own (levels_in sight.scope.now) u)) k.term)
+        by_sort OfNbr z h = absurd cc
+        by_sort (OfEvolve v) z h = absurd cc
+        by_sort OfIf z h = absurd cc
+        by_sort OfLet z h = absurd cc
+
+    pub apply_uses : is_apply_sort s ≡ true → occurs_in sight.own (terms_by (term_at c.program.now.nodes) ks) ≡ occurs sight.own (term_at c.program.now.nodes p)
+    apply_uses z = by_sort s z h
+      where
+        by_sort : (s : Sort) → is_apply_sort s ≡ true → HasNode c.program.now.nodes p s t ks → occurs_in sight.own (terms_by (term_at c.program.now.nodes) ks) ≡ occurs sight.own (term_at c.program.now.nodes p)
+        by_sort (OfLeaf l) z h = absurd cc
+        by_sort (OfApply o) z h = sym (ap (occurs sight.own) (term_is c.program.now.nodes above p (OfApply o) t ks h))
+        by_sort OfNbr z h = absurd cc
+        by_sort (OfEvolve v) z h = absurd cc
+        by_sort OfIf z h = absurd cc
+        by_sort OfLet z h = absurd cc
+
+    pub leaf_levels : is_nbr_sort s ≡ false → is_branching s ≡ false → is_let_sort s ≡ false → is_evolve_sort s ≡ false → is_apply_sort s ≡ false
+        → ([] ≡ behind (node_levels_at c p sight)) × (is_used_leaf sight.own s ≡ occurs sight.own (term_at c.program.now.nodes p))
+    leaf_levels a b d e f = by_sort s a b d e f h
+      where
+        by_sort : (s : Sort) → is_nbr_sort s ≡ false → is_branching s ≡ false → is_let_sort s ≡ false → is_evolve_sort s ≡ false → is_apply_sort s ≡ false → HasNode c.program.now.nodes p s t ks
+            → ([] ≡ behind (node_levels_at c p sight)) × (is_used_leaf sight.own s ≡ occurs sight.own (term_at c.program.now.nodes p))
+        by_sort (OfLeaf l) a b d e f h =
+            let k = term_is c.program.now.nodes above p (OfLeaf l) t ks h in
+            (sym (ap (λ u. behind (node_levels (stages_in c) p sight.branch sight.own (levels_in sight.scope.now) u)) k), sym (ap (occurs sight.own) k))
+        by_sort (OfApply o) a b d e f h = absurd cc
+        by_sort OfNbr a b d e f h = absurd cc
+        by_sort (OfEvolve v) a b d e f h = absurd cc
+        by_sort OfIf a b d e f h = absurd cc
+        by_sort OfLet a b d e f h = absurd cc
 
     pub leaf_level_is : is_nbr_sort s ≡ false → is_branching s ≡ false → is_let_sort s ≡ false → is_evolve_sort s ≡ false → is_apply_sort s ≡ false → leaf_level_by sight t s ≡ level_at c p sight
     leaf_level_is a b d e f = by_sort s a b d e f h
@@ -167,6 +284,16 @@ module _ (c : Context) (prog : IsProgram c.program.now) (p : ℕ) (sight : Sight
           let f = same_at ks 0 q nbr_some e in
           ap (level_of (stages_in c) p sight.branch sight.own (levels_in sight.scope.now)) (k.term ∙ ap (λ i. Nbr t (term_at c.program.now.nodes i)) (sym f))
           ∙ ap (λ i. if is_own sight.own (term_at c.program.now.nodes q) then suc sight.branch else suc (level_of (stages_in c) i sight.branch sight.own (levels_in sight.scope.now) (term_at c.program.now.nodes q))) (sym (f ∙ k.first_is))
+
+      pub nbr_rest : (q : ℕ) → q ≡ get_or ks 0 q → (behind (node_levels_at c p sight) ≡ node_levels_at c q sight) × (occurs sight.own (term_at c.program.now.nodes p) ≡ occurs sight.own (term_at c.program.now.nodes q))
+      nbr_rest q e =
+          let k = one in
+          let f = same_at ks 0 q nbr_some e in
+          let g = k.term ∙ ap (λ i. Nbr t (term_at c.program.now.nodes i)) (sym f) in (
+            ap (λ u. behind (node_levels (stages_in c) p sight.branch sight.own (levels_in sight.scope.now) u)) g
+                ∙ ap (λ i. node_levels (stages_in c) i sight.branch sight.own (levels_in sight.scope.now) (term_at c.program.now.nodes q)) (sym (f ∙ k.first_is)),
+            ap (occurs sight.own) g,
+          )
 
     -- ---- `if`
 
@@ -214,6 +341,16 @@ module _ (c : Context) (prog : IsProgram c.program.now) (p : ℕ) (sight : Sight
         if_level =
             ap (level_of (stages_in c) p sight.branch sight.own (levels_in sight.scope.now)) if_term
             ∙ if_places (stages_in c) p sight.branch sight.own (levels_in sight.scope.now) t (term_at c.program.now.nodes q) (term_at c.program.now.nodes r) (term_at c.program.now.nodes u) q r u first_place second_place third_place
+
+        pub if_rest : (b : ℕ) → b ≡ level_at c q sight → (behind (node_levels_at c p sight)
+            ≡ node_levels_at c q sight ++ (node_levels (stages_in c) r b sight.own (levels_in sight.scope.now) (term_at c.program.now.nodes r) ++ node_levels (stages_in c) u b sight.own (levels_in sight.scope.now) (term_at c.program.now.nodes u)))
+            × (occurs sight.own (term_at c.program.now.nodes p) ≡ (occurs sight.own (term_at c.program.now.nodes q) || (occurs sight.own (term_at c.program.now.nodes r) || occurs sight.own (term_at c.program.now.nodes u))))
+        if_rest b i = (
+          ap (λ y. behind (node_levels (stages_in c) p sight.branch sight.own (levels_in sight.scope.now) y)) if_term
+              ∙ if_levels (stages_in c) p sight.branch sight.own (levels_in sight.scope.now) t (term_at c.program.now.nodes q) (term_at c.program.now.nodes r) (term_at c.program.now.nodes u) q r u first_place second_place third_place
+              ∙ ap (λ y. node_levels_at c q sight ++ (node_levels (stages_in c) r y sight.own (levels_in sight.scope.now) (term_at c.program.now.nodes r) ++ node_levels (stages_in c) u y sight.own (levels_in sight.scope.now) (term_at c.program.now.nodes u))) (sym i),
+          ap (occurs sight.own) if_term,
+        )
 
         pub if_done : (b m n f g : ℕ) → n ≡ max b m → m ≡ max f g → b ≡ level_at c q sight
             → f ≡ level_of (stages_in c) r b sight.own (levels_in sight.scope.now) (term_at c.program.now.nodes r)
@@ -265,6 +402,16 @@ module _ (c : Context) (prog : IsProgram c.program.now) (p : ℕ) (sight : Sight
             ap (level_of (stages_in c) p sight.branch sight.own (levels_in sight.scope.now)) let_term
             ∙ let_places (stages_in c) p sight.branch sight.own (levels_in sight.scope.now) t (term_at c.program.now.nodes q) (term_at c.program.now.nodes r) q r let_first let_second
 
+        pub let_rest : (b : ℕ) → b ≡ level_at c q sight → (behind (node_levels_at c p sight)
+            ≡ node_levels_at c q sight ++ node_levels (stages_in c) r sight.branch sight.own (bind_level p b (levels_in sight.scope.now)) (term_at c.program.now.nodes r))
+            × (occurs sight.own (term_at c.program.now.nodes p) ≡ (occurs sight.own (term_at c.program.now.nodes q) || occurs sight.own (term_at c.program.now.nodes r)))
+        let_rest b i = (
+          ap (λ y. behind (node_levels (stages_in c) p sight.branch sight.own (levels_in sight.scope.now) y)) let_term
+              ∙ let_levels (stages_in c) p sight.branch sight.own (levels_in sight.scope.now) t (term_at c.program.now.nodes q) (term_at c.program.now.nodes r) q r let_first let_second
+              ∙ ap (λ y. node_levels_at c q sight ++ node_levels (stages_in c) r sight.branch sight.own (bind_level p y (levels_in sight.scope.now)) (term_at c.program.now.nodes r)) (sym i),
+          ap (occurs sight.own) let_term,
+        )
+
         pub let_bound : (b : ℕ) → b ≡ level_at c q sight → (i : ℕ) → bind_level p b (levels_in sight.scope.now) i ≤ level_before r
         let_bound b e i =
             let l = ends_small q sight.branch sight.own (levels_in sight.scope.now) (let w = ready.branch in let a = let_first in omega (arith, w, a)) (λ j. let w = ready.scope j in let a = let_first in omega (arith, w, a)) in
@@ -310,3 +457,17 @@ module _ (c : Context) (prog : IsProgram c.program.now) (p : ℕ) (sight : Sight
 
         pub evolve_later : p ≤ r
         evolve_later = let d = evolve_second in omega (arith, d)
+
+        pub evolve_rest : (q : ℕ) → q ≡ get_or ks 0 q → (behind (node_levels_at c p sight)
+            ≡ repeat (r - q) (None ∷ []) ++ node_levels (stages_in c) r sight.branch p (levels_in sight.scope.now) (term_at c.program.now.nodes r)) × (q ≤ r)
+        evolve_rest q e =
+            let k = evolve_two in
+            let l = evolve_long in
+            let z = same_at ks 0 q (omega (arith, l)) e ∙ k.first_is in
+            let d = evolve_second in
+            let n : size (term_at c.program.now.nodes (get_or ks 0 0)) ≡ r - q = omega (arith, z, d) in (
+              ap (λ y. behind (node_levels (stages_in c) p sight.branch sight.own (levels_in sight.scope.now) y)) (k.term ∙ ap (λ i. Evolve t evolve_sort_is.0 (term_at c.program.now.nodes (get_or ks 0 0)) (term_at c.program.now.nodes i)) (sym evolve_r))
+                  ∙ ap (λ i. repeat (size (term_at c.program.now.nodes (get_or ks 0 0))) (None ∷ []) ++ node_levels (stages_in c) i sight.branch p (levels_in sight.scope.now) (term_at c.program.now.nodes r)) (sym evolve_second)
+                  ∙ ap (λ i. repeat i (None ∷ []) ++ node_levels (stages_in c) r sight.branch p (levels_in sight.scope.now) (term_at c.program.now.nodes r)) n,
+              omega (arith, z, d),
+            )

@@ -1,10 +1,11 @@
 -- Levels by the places of a program.
-use Rattle.std.specs.Prelude.{ℕ, suc, Bool, true, false, ◌≤◌, ◌+◌, ◌*◌, List, [], ◌∷◌, max}
+use Rattle.std.specs.Prelude.{ℕ, suc, Bool, true, false, ◌≡◌, ◌≤◌, ◌+◌, ◌*◌, List, [], ◌∷◌, ◌++◌, max, Option, Some, None}
 use Rattle.fc_values.specs.Types.{LocalType, IntType, PairType, ValueType}
-use Rattle.fc_nodes.specs.Terms.{Sort, OfLeaf, OfApply, OfLet, term_at}
+use Rattle.fc_nodes.specs.Terms.{Sort, OfLeaf, OfApply, OfLet, term_at, terms_by}
 use Rattle.fc_nodes.specs.Program.{unfolding_of}
 use Rattle.interval_facts.specs.Ranges.{AreRangesOf}
-use Rattle.fragment_check.specs.Levels.{Stages, Lvs, bind_level, leaf_level, level_of}
+use Rattle.growth_facts.specs.Variables.{is_variable, occurs, occurs_in}
+use Rattle.fragment_check.specs.Levels.{Stages, Lvs, bind_level, leaf_level, level_of, node_levels}
 use Rattle.fragment_check.specs.Verdicts.{stages_of}
 use Rattle.fragment_check.specs.declared.kinds.Pattern.{Pattern}
 use Rattle.fragment_check.specs.declared.kinds.Pattern.TheVariants as pattern
@@ -12,6 +13,7 @@ use Rattle.round_bound.specs.declared.scopes.Scope.{Scope}
 use Rattle.round_bound.specs.declared.scopes.Scope.TheVariants as scope
 use Rattle.round_bound.specs.declared.scopes.Sight.{Sight}
 use Rattle.round_bound.specs.declared.scopes.Context.{Context}
+use Rattle.round_bound.specs.declared.scopes.Found.{Found}
 
 -- a `rep` or `share` adds at most so many levels
 abbrev pub most_added : ℕ
@@ -40,10 +42,40 @@ stages_in c = stages_of c.program.now c.devices
 abbrev pub level_at : Context → ℕ → Sight → ℕ
 level_at c p s = level_of (stages_in c) p s.branch s.own (levels_in s.scope.now) (term_at c.program.now.nodes p)
 
+-- the levels of all nodes of the term at a place
+abbrev pub node_levels_at : Context → ℕ → Sight → List (Option ℕ)
+node_levels_at c p s = node_levels (stages_in c) p s.branch s.own (levels_in s.scope.now) (term_at c.program.now.nodes p)
+
+-- what is found there: the level, whether the variable around occurs, and the levels that are put behind others
+pub record FoundAt (c : Context) (p : ℕ) (s : Sight) (f : Found) (old new : List (Option ℕ)) : Type 0 where
+  pub level : f.level ≡ level_at c p s
+  pub uses : f.uses ≡ occurs s.own (term_at c.program.now.nodes p)
+  pub levels : new ≡ old ++ node_levels_at c p s
+
+-- all but the first
+abbrev pub behind : List (Option ℕ) → List (Option ℕ)
+behind [] = []
+behind (o ∷ os) = os
+
+-- the same of the nodes below a node
+pub record FoundBelow (c : Context) (p : ℕ) (s : Sight) (f : Found) (old new : List (Option ℕ)) : Type 0 where
+  pub level : f.level ≡ level_at c p s
+  pub uses : f.uses ≡ occurs s.own (term_at c.program.now.nodes p)
+  pub levels : new ≡ old ++ behind (node_levels_at c p s)
+
 -- of the kids of a node
 abbrev pub greatest_at : Context → List ℕ → Sight → ℕ
 greatest_at c [] s = s.branch
 greatest_at c (k ∷ ks) s = max (level_at c k s) (greatest_at c ks s)
+
+abbrev pub levels_at : Context → List ℕ → Sight → List (Option ℕ)
+levels_at c [] s = []
+levels_at c (k ∷ ks) s = node_levels_at c k s ++ levels_at c ks s
+
+pub record FoundAll (c : Context) (ks : List ℕ) (s : Sight) (f : Found) (old new : List (Option ℕ)) : Type 0 where
+  pub level : f.level ≡ greatest_at c ks s
+  pub uses : f.uses ≡ occurs_in s.own (terms_by (term_at c.program.now.nodes) ks)
+  pub levels : new ≡ old ++ levels_at c ks s
 
 -- the level of a node without kids
 abbrev pub leaf_level_by : Sight → ValueType → Sort → ℕ
@@ -70,3 +102,7 @@ PatternFew m (pattern.Rising greatest growth rise) = (greatest ≤ m) × (1 ≤ 
 abbrev pub is_apply_sort : Sort → Bool
 is_apply_sort (OfApply o) = true
 is_apply_sort _ = false
+
+abbrev pub is_used_leaf : ℕ → Sort → Bool
+is_used_leaf x (OfLeaf l) = is_variable x l
+is_used_leaf x _ = false

@@ -6,4 +6,4 @@ mod scopes;
 mod verdicts;
 mod walk;
 
-pub use verdicts::{recognise, rounds};
+pub use verdicts::{levels, recognise};

@@ -30,6 +30,13 @@ pub struct Sight<'a> {
     pub scope: &'a Scope<'a>,
 }
 
+/// The level of a term, and whether the variable of the nearest `rep` or `share` around occurs in it.
+#[derive(Clone, Copy)]
+pub struct Found {
+    pub level: u64,
+    pub uses: bool,
+}
+
 /// The level of what a binder binds.
 pub fn bound_level(scope: &Scope<'_>, binder: u32) -> u64
     ensures { result ≡ levels_in scope.now binder }

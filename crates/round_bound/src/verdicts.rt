@@ -3,10 +3,10 @@
 ghost use Rattle.std.specs.Prelude.{◌≡◌, ◌≤◌, ◌<◌, ◌^◌, IfOk};
 ghost use Rattle.fc_nodes.specs.Program.{unfolding_of};
 ghost use Rattle.interval_facts.specs.Ranges.{AreRangesOf};
-ghost use Rattle.fragment_check.specs.Verdicts.{main_level, verdict_of};
+ghost use Rattle.fragment_check.specs.Verdicts.{levels_of, main_level, verdict_of};
 
 use crate::scopes::{Context, Scope, Sight};
-use crate::walk::level;
+use crate::walk::walk;
 use fc_nodes::{Unfolded, Verdict};
 use fc_values::Memory;
 use fragment_check::{PatternFault, patterns};
@@ -26,18 +26,42 @@ pub fn recognise(
     ensures { IfOk result (λ v. v ≡ verdict_of program.now devices) }
 {
     match patterns(alloc, program, ranges) {
-        Ok(_) => Ok(Verdict::Yes(rounds(program, ranges, devices))),
+        Ok(_) => {
+            let found = main_levels(alloc, program, ranges, devices)?;
+            Ok(Verdict::Yes(found.1))
+        }
         Err(PatternFault::Refused { place, reason }) => Ok(Verdict::No { place, reason }),
         Err(PatternFault::Memory) => Err(Memory),
     }
 }
 
-/// The level of `main`: after so many rounds a program of the fragment has the values of its solution.
-pub fn rounds(program: &Unfolded, ranges: &Ranges, devices: u32) -> u64
+/// The levels of all nodes of a program for so many devices, by their places.
+pub fn levels(
+    alloc: Global,
+    program: &Unfolded,
+    ranges: &Ranges,
+    devices: u32,
+) -> Result<Vec<Option<u64>>, Memory>
     requires ranges { AreRangesOf (unfolding_of program.now) ranges.now }
     requires devices { 1 ≤ devices }
-    ensures value { result ≡ main_level program.now devices }
-    ensures few { result < 2 ^ 33 }
+    ensures { IfOk result (λ l. l.items ≡ levels_of program.now devices) }
+{
+    let found = main_levels(alloc, program, ranges, devices)?;
+    Ok(found.0)
+}
+
+// The levels of all nodes, and that of `main`.
+fn main_levels(
+    alloc: Global,
+    program: &Unfolded,
+    ranges: &Ranges,
+    devices: u32,
+) -> Result<(Vec<Option<u64>>, u64), Memory>
+    requires ranges { AreRangesOf (unfolding_of program.now) ranges.now }
+    requires devices { 1 ≤ devices }
+    ensures levels { IfOk result (λ f. f.0.items ≡ levels_of program.now devices) }
+    ensures main { IfOk result (λ f. f.1 ≡ main_level program.now devices) }
+    ensures few { IfOk result (λ f. f.1 < 2 ^ 33) }
 {
     let context = Context {
         program,
@@ -50,5 +74,7 @@ pub fn rounds(program: &Unfolded, ranges: &Ranges, devices: u32) -> u64
         own: program.size(),
         scope: &nowhere,
     };
-    level(&context, 0, &sight)
+    let mut levels = Vec::with_capacity(alloc, program.size() as usize)?;
+    let found = walk(&context, 0, &sight, &mut levels)?;
+    Ok((levels, found.level))
 }

@@ -1,134 +1,261 @@
-//! The level of a term.
+//! The walk over a program's nodes.
 
-ghost use Rattle.std.specs.Prelude.{◌≡◌, ◌<◌, ◌^◌, Some, true};
-ghost use Rattle.fc_values.specs.BuiltinTypes.{is_field};
+ghost use Rattle.std.specs.Prelude.{◌≡◌, ◌<◌, ◌^◌, ◌||◌, ◌++◌, ◌-◌, if◌then◌else◌, IfOk, OnOk, None, Some, true};
+ghost use Rattle.std.specs.List.{repeat};
+ghost use Rattle.std.specs.Prelude.{[], ◌∷◌};
 ghost use Rattle.fc_values.specs.Types.{type_of};
+ghost use Rattle.fc_values.specs.BuiltinTypes.{is_field};
 ghost use Rattle.fc_nodes.specs.Terms.{sort_of, view_at, view_of, is_branching};
 ghost use Rattle.fc_nodes.specs.Places.{StandsAt};
 ghost use Rattle.fc_nodes.specs.Program.{IsProgram};
 ghost use Rattle.fragment_check.specs.Facts.{InRow, is_nbr_sort};
 ghost use Rattle.fragment_check.specs.Listing.{is_evolve_sort};
-ghost use Rattle.round_bound.specs.Walks.{Ready, level_at, greatest_at, leaf_level_by, is_let_sort, is_apply_sort};
+ghost use Rattle.round_bound.specs.Walks.{Ready, FoundAt, FoundAll, FoundBelow, leaf_level_by, is_used_leaf, is_let_sort, is_apply_sort};
 
 use crate::added::{added, is_evolving, is_let, is_share};
-use crate::scopes::{Context, Scope, Sight, bound_level};
+use crate::scopes::{Context, Found, Scope, Sight, bound_level};
 use fc_nodes::{Node, Op, is_if};
-use fc_values::Ty;
-use fragment_check::is_own;
+use fc_values::{Memory, Ty};
+use fragment_check::{is_own, occurs};
 
-/// The level of the term at a place.
-#[cycle(level)]
-pub fn level(context: &Context<'_>, place: u32, sight: &Sight<'_>) -> u64
+/// Puts the levels of all nodes of the term at a place behind others, and finds the term's own.
+#[cycle(walk)]
+pub fn walk(
+    context: &Context<'_>,
+    place: u32,
+    sight: &Sight<'_>,
+    levels: &mut Vec<Option<u64>>,
+) -> Result<Found, Memory>
     requires ready { Ready context.now place sight.now }
     requires stands { StandsAt context.now.program.now.nodes place }
-    ensures { result ≡ level_at context.now place sight.now }
+    ensures { IfOk result (λ f. FoundAt context.now place sight.now f levels.old.items levels.new.items) }
 {
     let node = context.program.node(place);
+    let at = levels.len();
+    levels.push(None)?;
+    let found = below(context, place, node, sight, levels)?;
+    if !found.uses {
+        levels[at] = Some(found.level);
+    }
+    Ok(found)
+}
+
+// Puts the levels of the nodes below a node behind others, and finds that of the node.
+#[cycle(walk)]
+fn below(
+    context: &Context<'_>,
+    place: u32,
+    node: &Node,
+    sight: &Sight<'_>,
+    levels: &mut Vec<Option<u64>>,
+) -> Result<Found, Memory>
+    requires ready { Ready context.now place sight.now }
+    requires stands { StandsAt context.now.program.now.nodes place }
+    requires node { view_at context.now.program.now.nodes place ≡ Some (view_of node.now) }
+    requires program { IsProgram context.now.program.now }
+    ensures { IfOk result (λ f. FoundBelow context.now place sight.now f levels.old.items levels.new.items) }
+{
     if is_nbr(node) {
-        return level_of_nbr(context, place, node, sight);
+        return below_nbr(context, place, node, sight, levels);
     }
     if is_if(node) {
-        return level_of_if(context, place, node, sight);
+        return below_if(context, place, node, sight, levels);
     }
     if is_let(node) {
-        return level_of_let(context, place, node, sight);
+        return below_let(context, place, node, sight, levels);
     }
     if is_evolving(node) {
-        return level_of_evolving(context, place, node, sight);
+        return below_evolving(context, place, node, sight, levels);
     }
     if is_apply(node) {
-        return greatest_level(context, node.kids.as_slice(), place, sight);
+        return walk_all(context, node.kids.as_slice(), place, sight, levels);
     }
-    leaf_level(node, sight)
+    Ok(leaf(node, sight))
 }
 
-// The greatest level of terms one after another, and at least that of the branch.
-#[cycle(level)]
-fn greatest_level(context: &Context<'_>, kids: &[u32], place: u32, sight: &Sight<'_>) -> u64
+// Puts the levels of terms one after another behind others, and finds the greatest, which is at least that of the branch.
+#[cycle(walk)]
+fn walk_all(
+    context: &Context<'_>,
+    kids: &[u32],
+    place: u32,
+    sight: &Sight<'_>,
+    levels: &mut Vec<Option<u64>>,
+) -> Result<Found, Memory>
     requires ready { Ready context.now place sight.now }
     requires row { InRow context.now.program.now.nodes place kids.now }
-    ensures { result ≡ greatest_at context.now kids.now sight.now }
+    ensures { IfOk result (λ f. FoundAll context.now kids.now sight.now f levels.old.items levels.new.items) }
 {
-    match kids.split_first() {
-        Some((first, rest)) => {
-            let here = level(context, *first, sight);
-            here.max(greatest_level(context, rest, *first, sight))
-        }
-        None => sight.branch,
-    }
+    let Some((first, rest)) = kids.split_first() else {
+        return Ok(Found {
+            level: sight.branch,
+            uses: false,
+        });
+    };
+    let here = walk(context, *first, sight, levels)?;
+    let others = walk_all(context, rest, *first, sight, levels)?;
+    Ok(Found {
+        level: here.level.max(others.level),
+        uses: either(here.uses, others.uses),
+    })
 }
 
-#[cycle(level)]
-fn level_of_nbr(context: &Context<'_>, place: u32, node: &Node, sight: &Sight<'_>) -> u64
+#[cycle(walk)]
+fn below_nbr(
+    context: &Context<'_>,
+    place: u32,
+    node: &Node,
+    sight: &Sight<'_>,
+    levels: &mut Vec<Option<u64>>,
+) -> Result<Found, Memory>
     requires ready { Ready context.now place sight.now }
     requires stands { StandsAt context.now.program.now.nodes place }
     requires node { view_at context.now.program.now.nodes place ≡ Some (view_of node.now) }
     requires program { IsProgram context.now.program.now }
     requires nbr { is_nbr_sort (sort_of node.now.op) ≡ true }
-    ensures { result ≡ level_at context.now place sight.now }
+    ensures { IfOk result (λ f. FoundBelow context.now place sight.now f levels.old.items levels.new.items) }
 {
     let inside = node.kids[0];
-    if is_own(context.program, sight.own, inside) {
-        sight.branch + 1
-    } else {
-        level(context, inside, sight) + 1
-    }
+    let found = walk(context, inside, sight, levels)?;
+    let own = is_own(context.program, sight.own, inside);
+    Ok(Found {
+        level: chosen(own, sight.branch, found.level) + 1,
+        uses: found.uses,
+    })
 }
 
-#[cycle(level)]
-fn level_of_if(context: &Context<'_>, place: u32, node: &Node, sight: &Sight<'_>) -> u64
+#[cycle(walk)]
+fn below_if(
+    context: &Context<'_>,
+    place: u32,
+    node: &Node,
+    sight: &Sight<'_>,
+    levels: &mut Vec<Option<u64>>,
+) -> Result<Found, Memory>
     requires ready { Ready context.now place sight.now }
     requires stands { StandsAt context.now.program.now.nodes place }
     requires node { view_at context.now.program.now.nodes place ≡ Some (view_of node.now) }
     requires program { IsProgram context.now.program.now }
     requires branching { is_branching (sort_of node.now.op) ≡ true }
-    ensures { result ≡ level_at context.now place sight.now }
+    ensures { IfOk result (λ f. FoundBelow context.now place sight.now f levels.old.items levels.new.items) }
 {
-    let branch = level(context, node.kids[0], sight);
+    let condition = walk(context, node.kids[0], sight, levels)?;
     let taken = Sight {
-        branch,
+        branch: condition.level,
         own: sight.own,
         scope: sight.scope,
     };
-    let first = level(context, node.kids[1], &taken);
-    let second = level(context, node.kids[2], &taken);
-    branch.max(first.max(second))
+    let first = walk(context, node.kids[1], &taken, levels)?;
+    let second = walk(context, node.kids[2], &taken, levels)?;
+    Ok(Found {
+        level: condition.level.max(first.level.max(second.level)),
+        uses: either(condition.uses, either(first.uses, second.uses)),
+    })
 }
 
-#[cycle(level)]
-fn level_of_let(context: &Context<'_>, place: u32, node: &Node, sight: &Sight<'_>) -> u64
+#[cycle(walk)]
+fn below_let(
+    context: &Context<'_>,
+    place: u32,
+    node: &Node,
+    sight: &Sight<'_>,
+    levels: &mut Vec<Option<u64>>,
+) -> Result<Found, Memory>
     requires ready { Ready context.now place sight.now }
     requires stands { StandsAt context.now.program.now.nodes place }
     requires node { view_at context.now.program.now.nodes place ≡ Some (view_of node.now) }
     requires program { IsProgram context.now.program.now }
     requires binding { is_let_sort (sort_of node.now.op) ≡ true }
-    ensures { result ≡ level_at context.now place sight.now }
+    ensures { IfOk result (λ f. FoundBelow context.now place sight.now f levels.old.items levels.new.items) }
 {
-    let bound = level(context, node.kids[0], sight);
-    let scope = Scope::Bind(place, bound, sight.scope);
-    let body = Sight {
+    let bound = walk(context, node.kids[0], sight, levels)?;
+    let scope = Scope::Bind(place, bound.level, sight.scope);
+    let inner = Sight {
         branch: sight.branch,
         own: sight.own,
         scope: &scope,
     };
-    level(context, node.kids[1], &body)
+    let body = walk(context, node.kids[1], &inner, levels)?;
+    Ok(Found {
+        level: body.level,
+        uses: either(bound.uses, body.uses),
+    })
 }
 
-#[cycle(level)]
-fn level_of_evolving(context: &Context<'_>, place: u32, node: &Node, sight: &Sight<'_>) -> u64
+#[cycle(walk)]
+fn below_evolving(
+    context: &Context<'_>,
+    place: u32,
+    node: &Node,
+    sight: &Sight<'_>,
+    levels: &mut Vec<Option<u64>>,
+) -> Result<Found, Memory>
     requires ready { Ready context.now place sight.now }
     requires stands { StandsAt context.now.program.now.nodes place }
     requires node { view_at context.now.program.now.nodes place ≡ Some (view_of node.now) }
     requires program { IsProgram context.now.program.now }
     requires evolving { is_evolve_sort (sort_of node.now.op) ≡ true }
-    ensures { result ≡ level_at context.now place sight.now }
+    ensures { IfOk result (λ f. FoundBelow context.now place sight.now f levels.old.items levels.new.items) }
 {
-    let body = Sight {
+    let body = node.kids[1];
+    let inner = Sight {
         branch: sight.branch,
         own: place,
         scope: sight.scope,
     };
-    level(context, node.kids[1], &body) + added(context, place, is_share(node))
+    none_for(body - node.kids[0], levels)?;
+    let found = walk(context, body, &inner, levels)?;
+    Ok(Found {
+        level: found.level + added(context, place, is_share(node)),
+        uses: occurs(context.program, sight.own, place),
+    })
+}
+
+// The nodes of a first value have no level.
+fn none_for(count: u32, levels: &mut Vec<Option<u64>>) -> Result<(), Memory>
+    ensures { OnOk result (levels.new.items ≡ levels.old.items ++ repeat count (None ∷ [])) }
+{
+    let mut left = count;
+    while left > 0 {
+        levels.push(None)?;
+        left -= 1;
+    }
+    Ok(())
+}
+
+// The level of what is under `nbr`, where that is the variable itself or anything else.
+fn chosen(own: bool, branch: u64, inside: u64) -> u64
+    ensures { result ≡ (if own then branch else inside) }
+{
+    if own { branch } else { inside }
+}
+
+// Whether one of two is true.
+fn either(a: bool, b: bool) -> bool
+    ensures { result ≡ (a || b) }
+{
+    a || b
+}
+
+// What is found of a node without kids.
+fn leaf(node: &Node, sight: &Sight<'_>) -> Found
+    requires { sight.now.branch < 2 ^ 63 }
+    ensures level { result.level ≡ leaf_level_by sight.now (type_of node.now.ty) (sort_of node.now.op) }
+    ensures uses { result.uses ≡ is_used_leaf sight.now.own (sort_of node.now.op) }
+{
+    Found {
+        level: leaf_level(node, sight),
+        uses: is_used(node, sight.own),
+    }
+}
+
+fn is_used(node: &Node, variable: u32) -> bool
+    ensures { result ≡ is_used_leaf variable (sort_of node.now.op) }
+{
+    match &node.op {
+        Op::Var(binder) => *binder == variable,
+        _ => false,
+    }
 }
 
 // The level of a node without kids.
