@@ -1,0 +1,3 @@
+pub mod SamePrograms
+pub mod LevelCounts
+pub mod Checking

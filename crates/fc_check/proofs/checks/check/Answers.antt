@@ -1,0 +1,15 @@
+use Rattle.std.proofs.Common.{length, map, ap, sym, ◌∙◌}
+use Rattle.fc_nodes.specs.Program.{unfolding_of}
+use Rattle.net_json.specs.SceneCode.{value_of_scene}
+use Rattle.fc_inputs.specs.Causes.{Refused}
+use Rattle.fc_inputs.specs.Inputs.{ReadsInput}
+use Rattle.fc_inputs.proofs.Stopping.{stop_is, stops_map}
+use Rattle.fc_check.specs.Checks.{Checks}
+use Rattle.fc_check.proofs.Checking.{refused_input}
+use Rattle.fc_check.proofs.checks.check.Goals as goal
+
+pub returns-in_err-program-clause-refused : goal.returns-in_err-program-clause-refused
+returns-in_err-program-clause-refused c =
+    stop_is (λ cause. Checks c.args.facts c.args.program.now c.args.network.now (Refused cause)) c.from_residual.result _ c.from_residual.ensures.1
+    (stops_map (λ cause. ReadsInput c.args.program.now c.args.network.now (Refused cause)) _
+    (λ cause k. refused_input c.args.facts c.args.program.now c.args.network.now cause k) c.in_err-program.field-0.0 c.in_err-program.ensures.refused)

@@ -1,0 +1,44 @@
+-- What `check` makes of a program and a scene: its verdict, and behind a yes the facts of each node, where they are asked for.
+use Rattle.std.specs.Prelude.{ℕ, Bool, true, false, ◌≡◌, List, [], ◌++◌, length}
+use Rattle.fc_nodes.specs.Program.{IsProgram, Program, Unfolding, unfolding_of}
+use Rattle.fc_nodes.specs.declared.verdicts.Verdict.{Verdict}
+use Rattle.fc_nodes.specs.declared.verdicts.Verdict.TheVariants as verdict
+use Rattle.interval_facts.specs.Ranges.{ranges_of}
+use Rattle.fragment_check.specs.Verdicts.{levels_of, verdict_of}
+use Rattle.net_json.specs.Scenes.{SceneValue}
+use Rattle.report.specs.Facts.{facts_text}
+use Rattle.report.specs.Verdicts.{verdict_text}
+use Rattle.fc_inputs.specs.Refusals.{Reply}
+use Rattle.fc_inputs.specs.Causes.{Judged, Accepted, AndThen}
+use Rattle.fc_inputs.specs.Inputs.{InputOf, ReadsInput}
+
+-- the status is 1 exactly where the verdict is a no
+abbrev pub verdict_status : Verdict → ℕ
+verdict_status (verdict.Yes rounds) = 0
+verdict_status (verdict.No place why) = 1
+
+-- the lines of facts, behind a yes and where they are asked for
+abbrev pub facts_behind : Bool → Verdict → List ℕ → List ℕ
+facts_behind true (verdict.Yes rounds) text = text
+facts_behind true (verdict.No place why) text = []
+facts_behind false v text = []
+
+-- what is written of a program for so many devices, and the status
+abbrev pub checked_of : Bool → Program → ℕ → Reply
+checked_of facts P n = record {
+  status = verdict_status (verdict_of P n);
+  text = verdict_text (verdict_of P n) ++ facts_behind facts (verdict_of P n) (facts_text P (ranges_of (unfolding_of P)) (levels_of P n));
+}
+
+-- a program and a scene of it: the program is unfolded, and the devices are those of the scene's network
+pub record ChecksScene (facts : Bool) (U : Unfolding) (s : SceneValue) (j : Judged Reply) : Type 0 where
+  pub nodes : Program
+  pub is_program : IsProgram nodes
+  pub unfolded : unfolding_of nodes ≡ U
+  pub checked : j ≡ Accepted (checked_of facts nodes (length s.net.devices))
+
+-- the texts of a program and of a scene
+pub record Checks (facts : Bool) (program network : List ℕ) (j : Judged Reply) : Type 0 where
+  pub judged : Judged InputOf
+  pub reads : ReadsInput program network judged
+  pub ends : AndThen judged (λ i k. ChecksScene facts i.0 i.1 k) j

@@ -1,0 +1,17 @@
+-- Texts are checked to something, and to one thing.
+use Rattle.std.specs.Prelude.{ℕ, Bool, ◌≡◌, ◌≤◌, List, length}
+use Rattle.fc_inputs.specs.declared.sources.TheConstants.{MOST_BYTES}
+use Rattle.fc_inputs.specs.Causes.{Judged}
+use Rattle.fc_inputs.specs.Refusals.{Reply}
+use Rattle.fc_check.specs.Checks.{Checks}
+
+abbrev pub OneCheck : Type 0
+OneCheck =
+    (facts : Bool) (program network : List ℕ) (j k : Judged Reply) → Checks facts program network j
+    → Checks facts program network k → j ≡ k
+
+-- texts, of which that of the program is within the limit, are checked to something
+abbrev pub SomeCheck : Type 0
+SomeCheck =
+    (facts : Bool) (program network : List ℕ) → length program ≤ MOST_BYTES
+    → (j : Judged Reply) × Checks facts program network j

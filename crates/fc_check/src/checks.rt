@@ -1,0 +1,50 @@
+//! What `check` makes of a program and a scene.
+ghost use Rattle.std.specs.Prelude.{◌≡◌, ◌≤◌, IfErr, IfOk, length};
+ghost use Rattle.fc_nodes.specs.Program.{IsProgram};
+ghost use Rattle.fc_inputs.specs.Causes.{Accepted, Refused};
+ghost use Rattle.fc_inputs.specs.Stops.{StopsFor};
+ghost use Rattle.fc_inputs.specs.declared.sources.TheConstants.{MOST_BYTES};
+ghost use Rattle.fc_check.specs.Checks.{Checks, checked_of};
+
+use fc_inputs::{Reply, Stop, read_input};
+use fc_nodes::{Unfolded, Verdict};
+use fc_values::Memory;
+use interval_facts::ranges;
+use report::{facts as write_facts, verdict as write_verdict};
+use round_bound::{levels, recognise};
+use std::alloc::Global;
+
+// The verdict on a program for so many devices, and behind a yes the facts of each node, where they are asked for.
+fn checked(alloc: Global, facts: bool, program: &Unfolded, devices: u32) -> Result<Reply, Memory>
+    requires program { IsProgram program.now }
+    requires devices { 1 ≤ devices }
+    ensures { IfOk result (λ r. r ≡ checked_of facts program.now devices) }
+{
+    let ranges = ranges(alloc, program)?;
+    let verdict = recognise(alloc, program, &ranges, devices)?;
+    let mut text = Vec::new(alloc);
+    write_verdict(alloc, &mut text, &verdict)?;
+    match verdict {
+        Verdict::Yes(_) => {
+            if facts {
+                let levels = levels(alloc, program, &ranges, devices)?;
+                write_facts(alloc, &mut text, program, &ranges, &levels)?;
+            }
+            Ok(Reply::new(0, text))
+        }
+        Verdict::No { .. } => Ok(Reply::new(1, text)),
+    }
+}
+
+/// What `check` writes of the texts of a program and a scene, and its status.
+pub fn check(alloc: Global, facts: bool, program: &[u8], network: &[u8]) -> Result<Reply, Stop>
+    requires { length program.now ≤ MOST_BYTES }
+    ensures checks { IfOk result (λ r. Checks facts program.now network.now (Accepted r)) }
+    ensures refused { IfErr result (StopsFor (λ cause. Checks facts program.now network.now (Refused cause))) }
+{
+    let (program, scene) = read_input(alloc, program, network)?;
+    // Its clauses: the nodes are a program, and the network has devices.
+    let _size = program.size();
+    let devices = scene.net.devices().len() as u32;
+    Ok(checked(alloc, facts, &program, devices)?)
+}
