@@ -1,5 +1,5 @@
 -- What the calls of a table owe the lock, and what they learn from it.
-use Rattle.std.proofs.Common.{◌≡◌, ℕ, ◌<◌, List, [], ◌∷◌, ◌++◌, refl, subst, Option, Some, None, Result, Ok, Err, IfOk, IfErr, OnOk, OnErr}
+use Rattle.std.proofs.Common.{◌≡◌, ℕ, List, [], ◌∷◌, ◌++◌, refl, subst, Result, Ok, Err, IfOk, IfErr, OnOk, OnErr}
 use Rattle.turn_lock.specs.Passes.{PassView, Agrees, MayAnswer, wrote}
 use Rattle.firing_core.specs.declared.entries.Edit.{Edit}
 use Rattle.firing_core.specs.declared.entries.Entry.TheVariants as entry

@@ -1,11 +1,11 @@
 -- The program `main = 5`, which the tests use.
-use Rattle.std.proofs.Common.{◌≡◌, ℕ, ◌≤◌, List, [], ◌∷◌, length, refl, sym, ap, ◌∙◌, subst, arith, Some}
+use Rattle.std.proofs.Common.{◌≡◌, List, [], ◌∷◌, refl, sym, ap, subst, arith, Some}
 use Rattle.fc_values.specs.Types.{Declarations, TypeLocal, IntType}
 use Rattle.fc_values.specs.Values.{IntValue}
 use Rattle.fc_nodes.specs.declared.nodes.Node.{Node}
-use Rattle.fc_nodes.specs.Terms.{Term, Plain, Literal, OfLeaf, View, Has, view_of, view_at, term_for, term_to, term_at, Later, Laid, WellFormed, size, type_of}
+use Rattle.fc_nodes.specs.Terms.{Term, Plain, Literal, OfLeaf, View, Has, view_of, term_for, term_to, term_at, Later, Laid, size, type_of}
 use Rattle.fc_nodes.specs.Typing.{HasType}
-use Rattle.fc_nodes.specs.Program.{Program, IsLawful, IsProgram}
+use Rattle.fc_nodes.specs.Program.{IsLawful, IsProgram}
 
 abbrev five : Term
 five = Plain (TypeLocal IntType) (Literal (IntValue 5))

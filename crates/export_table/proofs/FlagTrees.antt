@@ -1,5 +1,5 @@
 -- Trees of flags: how a change goes up, and where the first flag is.
-use Rattle.std.proofs.Common.{◌≡◌, ◌≢◌, ◌⊎◌, ⊎_elim, ℕ, zero, suc, ◌+◌, ◌*◌, ◌/◌, ◌^◌, ◌<◌, ◌≤◌, List, length, drop, set, get_or, refl, sym, ap, ◌∙◌, subst, inl, inr, arith, Bool, true, false, ◌||◌, nat_lt, length-set, get_or-set_same, get_or-set_other}
+use Rattle.std.proofs.Common.{◌≡◌, ◌≢◌, ◌⊎◌, ⊎_elim, ℕ, zero, suc, ◌+◌, ◌*◌, ◌/◌, ◌^◌, ◌<◌, ◌≤◌, List, length, set, get_or, refl, sym, ap, ◌∙◌, subst, inl, inr, arith, Bool, true, false, ◌||◌, nat_lt, length-set, get_or-set_same, get_or-set_other}
 use Rattle.std.proofs.lemmas.Bool.{ltb-true, ltb-false}
 use Rattle.std.proofs.lemmas.List.{drop-set-lt, drop-set-add, get_or-drop}
 use Rattle.std.proofs.Math.Nat.{pow-succ'}

@@ -3,28 +3,29 @@ use Rattle.std.proofs.Common.{◌≡◌, ◌⊎◌, ⊎_elim, ℕ, zero, suc, �
 use Rattle.std.proofs.lemmas.Option.{none-some, same_Some}
 use Rattle.std.proofs.lemmas.Bool.{eqb-true}
 use Rattle.std.proofs.lemmas.List.{append_assoc, append-nil}
-use mathlib.Core.Option.{some, none, some-injective, some-ne-none}
+use mathlib.Core.Option.{some, some-injective, some-ne-none}
 use lib.ListN.{get_elem?}
-use Rattle.fc_nodes.specs.Program.{Unfolding, unfolding_of}
+use Rattle.fc_nodes.specs.Program.{unfolding_of}
 use Rattle.fc_values.specs.Trees.{Copy}
 use Rattle.value_trees.specs.declared.copies.Snap.{Snap}
 use Rattle.value_trees.specs.Snaps.{snap_copy, tree_of}
 use Rattle.device_eval.specs.Firing.{FiredValue}
-use Rattle.turn_lock.specs.Logs.{StartsWith, In, ArePlaced, AnswersOwn, IsOpen, IsUnanswered}
+use Rattle.turn_lock.specs.Logs.{In, ArePlaced, IsOpen, IsUnanswered}
 use Rattle.turn_lock.specs.Passes.{PassView, Agrees, MayAnswer, wrote}
 use Rattle.firing_core.specs.declared.entries.Entry.TheVariants as entry
 use Rattle.firing_core.specs.Entries.{EntryValue, BeginEntry, EndEntry, IdleEntry, EditEntry}
-use Rattle.firing_core.specs.Cores.{Core, Run, copy_of}
+use Rattle.firing_core.specs.Cores.{Run, copy_of}
 use Rattle.firing_core.specs.CoreViews.{core_of}
 use Rattle.firing_core.specs.Laws.{FlightsStay, RunsCut}
 use Rattle.export_table.specs.Items.{Opening, ItemValue, OpeningItem, WrittenItem, items_of}
 use Rattle.export_table.specs.Answers.{after_item, begun_from, last_begin, item_answers, item_at, answers}
-use Rattle.export_table.specs.Holding.{HeldValue, HasTurn, Turned, IsOpenAt, IsTakenAt, opening_in, log_in, core_in, list_of}
-use Rattle.export_table.specs.Firings.{FiringValue, IsCopyAt}
+use Rattle.export_table.specs.Holding.{HeldValue, IsOpenAt, IsTakenAt, opening_in, log_in, core_in, list_of}
+use Rattle.export_table.specs.Firings.{FiringValue}
 use Rattle.export_table.specs.Passing.{TableValue, IsPassOf, on_log, written}
 use Rattle.export_table.specs.Turns.{MayEnd, Ends, Began, IsOwnFiring, CanEnd, KeepsFirings, FiringsStay, Ended}
 use Rattle.export_table.proofs.Flying.{begin_not_end, cut_at, take_all, answers_here, open_last}
-use Rattle.export_table.proofs.Passing.{own_items, from_items, in_snoc, in_left, in_last, at_below}
+use Rattle.turn_lock.proofs.Lists.{in_snoc, in_left, in_last, at_below}
+use Rattle.export_table.proofs.Passing.{own_items, from_items}
 use Rattle.export_table.proofs.Turning.{adds_entry, same_opening, has_begun, has_turn, took_turn}
 
 -- ---- places in a list of items

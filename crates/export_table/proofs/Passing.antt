@@ -1,9 +1,9 @@
 -- A pass to the lock of a table, and the pass over the log for which it stands.
-use Rattle.std.proofs.Common.{◌≡◌, ◌⊎◌, ⊎_elim, ℕ, zero, suc, ◌+◌, ◌-◌, ◌<◌, ◌≤◌, List, [], ◌∷◌, ◌++◌, length, drop, map, refl, sym, ap, ◌∙◌, subst, inl, inr, arith, Bool, true, false, ltb, eqb}
+use Rattle.std.proofs.Common.{◌≡◌, ℕ, zero, suc, ◌-◌, List, [], ◌∷◌, ◌++◌, length, drop, map, refl, sym, ap, ◌∙◌, inl, inr, arith, Bool, true, false, ltb}
 use Rattle.std.proofs.lemmas.Bool.{ltb-true, ltb-false}
 use Rattle.std.proofs.lemmas.List.{map-append}
 use mathlib.Core.Bool.{cond}
-use mathlib.Core.Option.{some, none, some-injective, some-ne-none}
+use mathlib.Core.Option.{some, some-injective, some-ne-none}
 use lib.ListN.{get_elem?}
 use Rattle.turn_lock.specs.Logs.{StartsWith, In, Rises, ArePlaced, longer, put_in, merged}
 use Rattle.turn_lock.specs.Passes.{PassView, wrote, joined, kept_part, new_part}
@@ -154,26 +154,3 @@ whole_items o n log mine is = sym (drop_written n log) ∙ (ap (map written) is 
 pub mine_length : (mine : List (ℕ × EntryValue)) → length (map item_at_next mine) ≡ length mine
 mine_length [] = refl
 mine_length (z ∷ zs) = omega (arith, mine_length zs)
-
--- ---- one entry more
-
-module _ {A : Type 0} where
-  pub in_snoc : (x y : A) (l : List A) → In x (l ++ y ∷ []) → In x l ⊎ (x ≡ y)
-  in_snoc x y [] (inl e) = inr e
-  in_snoc x y [] (inr n) = absurd n
-  in_snoc x y (z ∷ zs) (inl e) = inl (inl e)
-  in_snoc x y (z ∷ zs) (inr n) = ⊎_elim (λ h. inl (inr h)) (λ e. inr e) (in_snoc x y zs n)
-
-  pub in_left : (x : A) (l m : List A) → In x l → In x (l ++ m)
-  in_left x [] m i = absurd i
-  in_left x (z ∷ zs) m (inl e) = inl e
-  in_left x (z ∷ zs) m (inr n) = inr (in_left x zs m n)
-
-  pub in_last : (x : A) (l : List A) → In x (l ++ x ∷ [])
-  in_last x [] = inl refl
-  in_last x (z ∷ zs) = inr (in_last x zs)
-
-  pub at_below : (l : List A) (i : ℕ) (a : A) → get_elem? l i ≡ some a → i < length l
-  at_below [] i a e = absurd (some-ne-none a (sym e))
-  at_below (x ∷ xs) zero a e = omega arith
-  at_below (x ∷ xs) (suc i) a e = let b = at_below xs i a e in omega (arith, b)

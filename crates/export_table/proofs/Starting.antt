@@ -1,5 +1,5 @@
 -- What an agenda starts with, and what the type of the locked value keeps at the opening.
-use Rattle.std.proofs.Common.{◌≡◌, ℕ, zero, suc, ◌+◌, ◌<◌, ◌≤◌, List, [], ◌∷◌, ◌++◌, length, drop, map, refl, sym, ap, ◌∙◌, subst, arith, Bool, true, false, ◌&&◌, ◌||◌, nat_eq, nat_lt, get_or, replicate, take, length-set, get_or-set_same, get_or-set_other, Some, None}
+use Rattle.std.proofs.Common.{◌≡◌, ℕ, zero, suc, ◌+◌, ◌<◌, ◌≤◌, List, [], ◌∷◌, ◌++◌, length, drop, map, refl, sym, ap, ◌∙◌, subst, arith, Bool, true, false, ◌&&◌, ◌||◌, nat_eq, nat_lt, get_or, replicate, take, length-set, get_or-set_same, get_or-set_other, None}
 use Rattle.std.proofs.lemmas.Option.{none-some}
 use Rattle.std.proofs.lemmas.Bool.{eq-eqb, ne_eqb, ltb-true, lt-ltb, and_parts, and_from}
 use Rattle.std.proofs.lemmas.List.{take_more, map-append}
@@ -9,7 +9,6 @@ use Rattle.fc_values.specs.Fields.{is_in}
 use Rattle.fc_values.specs.Types.{Declarations}
 use Rattle.topology.specs.Networks.{NetDevice, Network, IsNetwork, lives, numbers, DevicesFit, device_of}
 use Rattle.topology.specs.declared.types.Device.{Device}
-use Rattle.fc_values.specs.Trees.{Copy}
 use Rattle.firing_core.specs.Entries.{EntryValue, entries_of}
 use Rattle.firing_core.specs.Cores.{Core}
 use Rattle.firing_core.specs.CoreViews.{CoreValue, core_of}

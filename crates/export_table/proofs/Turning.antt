@@ -1,19 +1,18 @@
 -- What a turn on the locked value says of the pass that took it.
-use Rattle.std.proofs.Common.{◌≡◌, ◌⊎◌, ℕ, suc, ◌+◌, ◌-◌, ◌<◌, ◌≤◌, List, [], ◌∷◌, ◌++◌, length, drop, map, refl, sym, ap, ◌∙◌, subst, inl, arith, Option, Some, None, Result, Ok, Err, IfOk, IfErr, OnOk, OnErr}
+use Rattle.std.proofs.Common.{◌≡◌, ℕ, suc, ◌<◌, List, [], ◌∷◌, ◌++◌, length, drop, map, refl, sym, ap, ◌∙◌, subst, inl, arith, None}
 use Rattle.std.proofs.lemmas.List.{same_from_push, map-append}
 use Rattle.fc_nodes.specs.Program.{unfolding_of}
-use Rattle.value_trees.specs.Snaps.{snap_copy, tree_of, IsSnap}
+use Rattle.value_trees.specs.Snaps.{snap_copy, IsSnap}
 use Rattle.turn_lock.specs.Logs.{StartsWith, ArePlaced, Rises}
 use Rattle.turn_lock.specs.Passes.{PassView, Agrees, MayAnswer, Closed, opened, wrote}
 use Rattle.firing_core.specs.declared.entries.Edit.{Edit}
 use Rattle.firing_core.specs.declared.entries.Entry.{Entry}
 use Rattle.firing_core.specs.declared.entries.Entry.TheVariants as entry
 use Rattle.firing_core.specs.declared.entries.EditFault.{EditFault}
-use Rattle.firing_core.specs.Entries.{EditValue, EntryValue, BeginEntry, IdleEntry, EditEntry, edit_of, entry_of, entries_of}
-use Rattle.firing_core.specs.Cores.{Core, Run, copy_of, edit_fault}
+use Rattle.firing_core.specs.Entries.{EditValue, edit_of, entry_of, entries_of}
+use Rattle.firing_core.specs.Cores.{Run, copy_of}
 use Rattle.firing_core.specs.CoreViews.{core_of}
 use Rattle.firing_core.specs.Books.{BookValue}
-use Rattle.firing_core.specs.Refusals.{RefusesEdit}
 use Rattle.export_table.specs.Items.{Opening, ItemValue, OpeningItem, WrittenItem, items_of}
 use Rattle.export_table.specs.Answers.{answers, entry_answers}
 use Rattle.export_table.specs.Begins.{IsNext}

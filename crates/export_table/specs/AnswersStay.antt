@@ -1,5 +1,5 @@
 -- What the lock asks of answers: an item answers an earlier one, and the items up to there decide which.
-use Rattle.std.proofs.Common.{◌≡◌, ℕ, ◌+◌, ◌<◌, ◌⊎◌, ⊎_elim, nat_eq, zero, suc, List, [], ◌∷◌, ◌++◌, length, take, sym, refl, ap, subst, inl, inr, arith, Bool, true, false, Option, Some, None, if◌then◌else◌}
+use Rattle.std.proofs.Common.{◌≡◌, ℕ, ◌+◌, ◌<◌, ◌⊎◌, ⊎_elim, nat_eq, zero, suc, List, [], ◌∷◌, ◌++◌, length, take, sym, refl, inl, inr, arith, Bool, true, false, Option, Some, None, if◌then◌else◌}
 use Rattle.std.proofs.lemmas.Option.{none-some, same_Some}
 use Rattle.std.proofs.lemmas.List.{take-append-le, length-take-le}
 use Rattle.firing_core.specs.Entries.{EntryValue, BeginEntry, EndEntry, IdleEntry, EditEntry}

@@ -1,5 +1,5 @@
 -- What the calls of a shared table promise.
-use Rattle.std.specs.Prelude.{ℕ, ◌≡◌, ◌+◌, ◌-◌, ◌<◌, List, [], ◌∷◌, ◌++◌, length, drop, map, Some, None}
+use Rattle.std.specs.Prelude.{ℕ, ◌≡◌, ◌+◌, ◌-◌, ◌<◌, List, length, drop, map, Some, None}
 use Rattle.fc_nodes.specs.Program.{unfolding_of}
 use Rattle.value_trees.specs.Snaps.{snap_copy, tree_of, IsSnap}
 use Rattle.device_eval.specs.Firing.{FiredValue}

@@ -1,4 +1,4 @@
--- Sums over views, numbers given out, and lists in lists.
+-- Crates above cite this module: sums over views, numbers given out, and elements of lists.
 use Rattle.std.proofs.Common.{◌≡◌, ℕ, ◌+◌, ◌<◌, ◌≤◌, ◌≢◌, ◌⊎◌, ⊎_elim, eqb, ltb, eq-eqb, ne_eqb, cond, zero, suc, List, [], ◌∷◌, ◌++◌, length, set, sym, refl, ap, ◌∙◌, subst, inl, inr, arith, Bool, true, false}
 use mathlib.Core.Option.{some, some-injective, some-ne-none}
 use lib.ListN.{get_elem?}

@@ -1,4 +1,4 @@
-use Rattle.std.proofs.Common.{◌≡◌, ℕ, subst, sym, ap, IfErr, OnOk}
+use Rattle.std.proofs.Common.{subst, sym, IfErr, OnOk}
 use Rattle.fc_nodes.specs.Program.{unfolding_of}
 use Rattle.firing_core.specs.Entries.{edit_of}
 use Rattle.firing_core.specs.Cores.{EditFits}

@@ -1,4 +1,4 @@
-use Rattle.std.proofs.Common.{ap, subst, sym}
+use Rattle.std.proofs.Common.{subst, sym}
 use Rattle.fc_nodes.specs.Program.{unfolding_of}
 use Rattle.firing_core.specs.Rooms.{IsRoom}
 use Rattle.firing_core.specs.declared.entries.Entry.TheVariants as entry

@@ -1,4 +1,4 @@
-use Rattle.std.proofs.Common.{◌≡◌, ℕ, subst, sym, ap, IfOk, IfErr}
+use Rattle.std.proofs.Common.{◌≡◌, subst, sym, IfOk, IfErr}
 use Rattle.fc_nodes.specs.Program.{unfolding_of}
 use Rattle.firing_core.specs.Rooms.{RoomValue, IsRoom}
 use Rattle.export_table.specs.Items.{Opening}

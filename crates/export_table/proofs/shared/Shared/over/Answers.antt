@@ -1,6 +1,5 @@
 use Rattle.std.proofs.Common.{ap}
 use Rattle.export_table.specs.Holding.{opening_in}
-use Rattle.export_table.specs.Passing.{TableValue}
 use Rattle.export_table.proofs.Turning.{first_pass}
 use Rattle.export_table.proofs.shared.Shared.over.Goals as goal
 
