@@ -1,5 +1,6 @@
 mod Apps
 mod Taken
 mod Spelled
+mod CheckWords
 mod ReplayWords
 mod FormatWords

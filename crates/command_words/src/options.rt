@@ -1,14 +1,26 @@
-//! The options of `replay` and `format`, read by `clap`.
+//! The options of `check`, `replay` and `format`, read by `clap`.
 
 ghost use Rattle.std.specs.Prelude.{◌≡◌, true, is_some, map, string_bytes, IfOk, IfErr};
 ghost use Rattle.clap.specs.Words.{HasMatchesOf, app_of, kind_of};
-ghost use Rattle.command_words.specs.Options.{format_app, format_of, replay_app, replay_of};
+ghost use Rattle.command_words.specs.Options.{check_app, check_of, format_app, format_of, replay_app, replay_of};
 
 use crate::commands::Command as Asked;
 use clap::error::ErrorKind;
 use clap::{Arg, ArgAction, ArgMatches, Command, Error};
 use fc_values::Memory;
 use std::alloc::{AllocError, Global};
+
+fn check_options<'a>(alloc: Global) -> Result<Command<'a>, AllocError>
+    ensures { IfOk result (λ c. app_of c ≡ check_app) }
+{
+    let facts = Arg::new(alloc, "facts")
+        .long("facts")
+        .action(ArgAction::SetTrue);
+    Command::new(alloc, "check")
+        .disable_help_flag(true)
+        .disable_version_flag(true)
+        .arg(facts)
+}
 
 fn replay_options<'a>(alloc: Global) -> Result<Command<'a>, AllocError>
     ensures { IfOk result (λ c. app_of c ≡ replay_app) }
@@ -35,6 +47,14 @@ fn format_options<'a>(alloc: Global) -> Command<'a>
 }
 
 // The words begin with the command's. They are inside, so the parse fails for memory alone.
+fn check_matches<'a>(alloc: Global, words: &'a [String]) -> Result<ArgMatches<'a>, Error>
+    requires { is_some (check_of (map string_bytes words.now)) ≡ true }
+    ensures matches { IfOk result (HasMatchesOf check_app (map string_bytes words.entry.now)) }
+    ensures memory { IfErr result (λ e. kind_of e ≡ ErrorKind.OutOfMemory) }
+{
+    check_options(alloc)?.try_get_matches_from(words)
+}
+
 fn replay_matches<'a>(alloc: Global, words: &'a [String]) -> Result<ArgMatches<'a>, Error>
     requires { is_some (replay_of (map string_bytes words.now)) ≡ true }
     ensures matches { IfOk result (HasMatchesOf replay_app (map string_bytes words.entry.now)) }
@@ -48,6 +68,19 @@ fn format_matches<'a>(alloc: Global, words: &'a [String]) -> Result<ArgMatches<'
     ensures { IfErr result (λ e. kind_of e ≡ ErrorKind.OutOfMemory) }
 {
     format_options(alloc).try_get_matches_from(words)
+}
+
+/// The `check` that the words ask for, of which the command's is the first.
+pub fn check(alloc: Global, words: &[String]) -> Result<Asked, Memory>
+    requires { is_some (check_of (map string_bytes words.now)) ≡ true }
+    ensures { IfOk result (λ asked. check_of (map string_bytes words.now) ≡ Some asked) }
+{
+    match check_matches(alloc, words) {
+        Ok(matches) => Ok(Asked::Check {
+            facts: matches.get_flag("facts"),
+        }),
+        Err(_) => Err(Memory),
+    }
 }
 
 /// The `replay` that the words ask for, of which the command's is the first.

@@ -5,7 +5,7 @@ ghost use Rattle.command_words.specs.Words.{command_of};
 
 use crate::choices::{Name, command_of_settings, named};
 use crate::commands::Command;
-use crate::options::{format, replay};
+use crate::options::{check, format, replay};
 use crate::settings::settings;
 use fc_values::Memory;
 use std::alloc::Global;
@@ -30,6 +30,7 @@ pub fn command(alloc: Global, words: &[String]) -> Result<Option<Command>, Memor
         return Ok(None);
     };
     match name {
+        Name::Check => Ok(Some(check(alloc, asked)?)),
         Name::Replay => Ok(Some(replay(alloc, asked)?)),
         Name::Format => Ok(Some(format(alloc, asked)?)),
         _ => Ok(Some(command)),

@@ -32,10 +32,14 @@ AreWithin most (section ∷ sections) = (length section ≤ most) × AreWithin m
 abbrev pub other_number : List (List ℕ) → Cause
 other_number sections = Plainly (Sections (length sections))
 
--- what a command that takes one section, or three, does with the sections of an input. Any other number is refused
+-- what a command that takes one section, two, or three, does with the sections of an input. Any other number is refused
 abbrev pub WithOne : {A : Type 0} → (List ℕ → Judged A → Type 0) → List (List ℕ) → Judged A → Type 0
 WithOne P (one ∷ []) j = P one j
 WithOne P sections j = j ≡ Refused (other_number sections)
+
+abbrev pub WithTwo : {A : Type 0} → (List ℕ → List ℕ → Judged A → Type 0) → List (List ℕ) → Judged A → Type 0
+WithTwo P (one ∷ two ∷ []) j = P one two j
+WithTwo P sections j = j ≡ Refused (other_number sections)
 
 abbrev pub WithThree : {A : Type 0} → (List ℕ → List ℕ → List ℕ → Judged A → Type 0) → List (List ℕ) → Judged A
     → Type 0

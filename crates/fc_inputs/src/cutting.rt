@@ -47,6 +47,17 @@ pub fn one_section<'s>(sections: &[&'s [u8]]) -> Result<&'s [u8], Stop>
     }
 }
 
+/// The two sections of a command that takes two.
+pub fn two_sections<'s>(sections: &[&'s [u8]]) -> Result<(&'s [u8], &'s [u8]), Stop>
+    ensures two { IfOk result (λ s. map (λ s. s.now) sections.now ≡ s.0.now ∷ s.1.now ∷ []) }
+    ensures refused { IfErr result (StopsFor (λ cause. IsOther 2 (map (λ s. s.now) sections.now) cause)) }
+{
+    match sections {
+        [one, two] => Ok((*one, *two)),
+        _ => Err(Stop::Refused(Refusal::Sections(sections.len()))),
+    }
+}
+
 /// The three sections of a command that takes three.
 pub fn three_sections<'s>(sections: &[&'s [u8]]) -> Result<(&'s [u8], &'s [u8], &'s [u8]), Stop>
     ensures three { IfOk result (λ s. map (λ s. s.now) sections.now ≡ s.0.now ∷ s.1.now ∷ s.2.now ∷ []) }

@@ -13,7 +13,7 @@ mod stop;
 #[cfg(test)]
 mod tests;
 
-pub use cutting::{one_section, sections, three_sections};
+pub use cutting::{one_section, sections, three_sections, two_sections};
 pub use inputs::read_input;
 pub use laws::{one_input, one_program_text, one_source, sections_are_within, texts_unfold};
 pub use refusal::{LineFault, Refusal, log_refusal, script_refusal};

@@ -1,10 +1,12 @@
 -- What the code answers, as the definitions say it.
-use Rattle.std.proofs.Common.{ℕ, ◌≡◌, ◌≢◌, ◌+◌, ◌<◌, ◌≤◌, ◌++◌, Bool, true, false, List, [], ◌∷◌, length, length-append, map, refl, ap, ◌∙◌, sym, subst, arith, Option, Some, None, option_map, Result, Ok, Err}
+use Rattle.std.proofs.Common.{ℕ, ◌≡◌, ◌≢◌, ◌+◌, ◌<◌, ◌≤◌, ◌++◌, Bool, true, false, List, [], ◌∷◌, length, length-append, map, refl, ap, ◌∙◌, sym, subst, arith, Option, Some, None, option_map, take, Result, Ok, Err}
 use Rattle.std.specs.Prelude.{IfErr, IfSome, IsErrAnd, nat_lt}
-use Rattle.std.specs.Io.KnownBytes.{Consumes}
+use Rattle.std.specs.Io.KnownBytes.{Appends, Consumes}
 use Rattle.std.proofs.lemmas.Bool.Decides.{nat_tests}
 use Rattle.fc_syntax.specs.Terms.{Declaration}
 use Rattle.fc_syntax.specs.Text.{program_text}
+use Rattle.firing_core.specs.declared.entries.Part.{Part}
+use Rattle.firing_core.specs.Books.{BookValue}
 use Rattle.command_words.specs.declared.commands.Command.{Command}
 use Rattle.command_words.specs.declared.commands.Command.TheVariants.{Check, Stable, Run, Replay, Format, Gen, Trace, Mail}
 use Rattle.command_words.specs.declared.commands.Limit.{Limit}
@@ -15,16 +17,18 @@ use Rattle.fc_inputs.specs.declared.stop.Stop.{Stop}
 use Rattle.fc_inputs.specs.declared.stop.Stop.TheVariants as stop
 use Rattle.fc_inputs.specs.Refusals.{Reply}
 use Rattle.fc_inputs.specs.Causes.{Cause, Plainly, reply_to, Judged, Accepted, Refused}
-use Rattle.fc_inputs.specs.Sections.{sections_of, WithOne, WithThree, other_number, IsOther}
+use Rattle.fc_inputs.specs.Sections.{sections_of, WithOne, WithTwo, WithThree, other_number, IsOther}
 use Rattle.fc_inputs.specs.Sources.{ReadsSource}
 use Rattle.fc_inputs.specs.Stops.{StopsFor, WhereCause, IsReplyFor, cause_of, scene_cause}
 use Rattle.fc_inputs.proofs.Stopping.{stops_map}
+use Rattle.fc_check.specs.Checks.{Checks}
 use Rattle.fc_replay.specs.declared.replays.Options.{Options}
+use Rattle.fc_replay.specs.Ledgers.{ledger_of}
 use Rattle.fc_replay.specs.Replays.{Shown, Replays}
 use Rattle.fc_inputs.specs.declared.sources.TheConstants.{MOST_BYTES}
 use Rattle.fc_program.specs.Asked.{exists, reads, limit_refusal}
-use Rattle.fc_program.specs.Answers.{AnswerValue, written, showing, replied, answer_of, Formats, ShowsReplay, options_of, AnswersSections, AnswersInput, AnswersReading, AnswersWithin, AnswersAsked, Answers}
-use Rattle.fc_program.specs.Top.{IsAnswer, IsJudged, StopsAsked, cause_status, stop_status}
+use Rattle.fc_program.specs.Answers.{AnswerValue, written, showing, replied, answer_of, Formats, ShowsCheck, ShowsReplay, options_of, AnswersSections, AnswersInput, AnswersReading, AnswersWithin, AnswersAsked, Answers}
+use Rattle.fc_program.specs.Top.{IsAnswer, IsCut, IsExact, IsJudged, StopsAsked, cause_status, stop_status}
 
 -- ---- `format`
 pub format_stops : (program : List ℕ) (s : Stop) → StopsFor (λ cause. ReadsSource program (Refused cause)) s → StopsFor (λ cause. Formats program (Refused cause)) s
@@ -38,6 +42,12 @@ other_one : (ss : List (List ℕ)) (cause : Cause) → IsOther 1 ss cause → Wi
 other_one [] cause h = ap Refused h.1
 other_one (a ∷ []) cause h = absurd (h.0 refl)
 other_one (a ∷ b ∷ ss) cause h = ap Refused h.1
+
+other_two : (facts : Bool) (ss : List (List ℕ)) (cause : Cause) → IsOther 2 ss cause → WithTwo (ShowsCheck facts) ss (Refused cause)
+other_two facts [] cause h = ap Refused h.1
+other_two facts (a ∷ []) cause h = ap Refused h.1
+other_two facts (a ∷ b ∷ []) cause h = absurd (h.0 refl)
+other_two facts (a ∷ b ∷ c ∷ ss) cause h = ap Refused h.1
 
 other_three : (o : Options) (ss : List (List ℕ)) (cause : Cause) → IsOther 3 ss cause → WithThree (ShowsReplay o) ss (Refused cause)
 other_three o [] cause h = ap Refused h.1
@@ -64,6 +74,25 @@ module _ (command : Command) (input : List ℕ) (ss : List (List ℕ)) (same : s
     pub format_made : (program : List ℕ) (a : AnswerValue) → ss ≡ program ∷ [] → Formats program (Accepted a) → AnswersSections command (sections_of input) (Accepted a)
     format_made program a one h = as_format (Accepted a) (subst (λ l. WithOne Formats l (Accepted a)) (sym one) h)
 
+  module _ (facts : Bool) (is : command ≡ Check facts) where
+    as_check : (j : Judged AnswerValue) → WithTwo (ShowsCheck facts) ss j → AnswersSections command (sections_of input) j
+    as_check j h = subst (λ c. AnswersSections c (sections_of input) j) (sym is) (subst (λ l. WithTwo (ShowsCheck facts) l j) same h)
+
+    pub check_other : (s : Stop) → StopsFor (λ cause. IsOther 2 ss cause) s → StopsFor (SectionsRefused command input) s
+    check_other s h = stops_map (λ cause. IsOther 2 ss cause) (SectionsRefused command input) (λ cause k. as_check (Refused cause) (other_two facts ss cause k)) s h
+
+    module _ (program network : List ℕ) (two : ss ≡ program ∷ network ∷ []) where
+      check_over : (j : Judged AnswerValue) → ShowsCheck facts program network j → AnswersSections command (sections_of input) j
+      check_over j k = as_check j (subst (λ l. WithTwo (ShowsCheck facts) l j) (sym two) k)
+
+      pub check_refused : (s : Stop) → StopsFor (λ cause. Checks facts program network (Refused cause)) s → StopsFor (SectionsRefused command input) s
+      check_refused s h =
+          stops_map (λ cause. Checks facts program network (Refused cause)) (SectionsRefused command input)
+          (λ cause k. check_over (Refused cause) (record { judged = Refused cause; checks = k; shows = refl })) s h
+
+      pub check_made : (reply : Reply) (a : AnswerValue) → a ≡ replied reply → Checks facts program network (Accepted reply) → AnswersSections command (sections_of input) (Accepted a)
+      check_made reply a e h = check_over (Accepted a) (record { judged = Accepted reply; checks = h; shows = ap Accepted e })
+
   module _ (rounds table : Bool) (is : command ≡ Replay rounds table) where
     as_replay : (j : Judged AnswerValue) → WithThree (ShowsReplay (options_of rounds table)) ss j → AnswersSections command (sections_of input) j
     as_replay j h = subst (λ c. AnswersSections c (sections_of input) j) (sym is) (subst (λ l. WithThree (ShowsReplay (options_of rounds table)) l j) same h)
@@ -87,7 +116,7 @@ module _ (command : Command) (input : List ℕ) (ss : List (List ℕ)) (same : s
 pub reads_there : (command : Command) → exists command ≡ true → reads command ≡ true
 reads_there Format e = refl
 reads_there (Replay rounds table) e = refl
-reads_there (Check facts) e = absurd cc
+reads_there (Check facts) e = refl
 reads_there Stable e = absurd cc
 reads_there (Run workers log table) e = absurd cc
 reads_there (Gen number devices workers) e = absurd cc
@@ -183,3 +212,32 @@ stop_answers asked left stop.Read r a h is e = absurd is
 stop_answers asked left stop.Memory r a h is e = absurd is
 stop_answers asked left (stop.Refused refused) r a h is e = answer_judged asked left (Refused (Plainly refused)) a h (e ∙ ap replied is)
 stop_answers asked left (stop.Scene f) r a h is e = where_answers asked left (scene_cause f) r a h is e
+
+-- ---- what was written is an answer, or a front of one
+pub exact_answer : (asked : Option Command) (left old new : Option (List ℕ)) (ended : ℕ) (told : Option BookValue) (stretches : List Part) (a : AnswerValue) → IsAnswer asked left a → ended ≡ a.status
+    → Appends old new a.text → option_map ledger_of told ≡ a.book → stretches ≡ a.parts → IsExact asked left old new ended told stretches
+exact_answer asked left old new ended told stretches a h status text book parts = record {
+  answer = a;
+  answers = h;
+  status = status;
+  text = text;
+  tells = record { book = book; parts = parts };
+}
+
+pub cut_answer : (asked : Option Command) (left old new : Option (List ℕ)) (told : Option BookValue) (stretches : List Part) (a : AnswerValue) (size : ℕ) → IsAnswer asked left a → size < length a.text
+    → Appends old new (take size a.text) → option_map ledger_of told ≡ a.book → stretches ≡ a.parts → IsCut asked left old new told stretches
+cut_answer asked left old new told stretches a size h short text book parts = record {
+  answer = a;
+  answers = h;
+  size = size;
+  short = short;
+  text = text;
+  tells = record { book = book; parts = parts };
+}
+
+-- the same of what is known by other names
+pub exact_named : (asked named : Option Command) (left left' old old' new : Option (List ℕ)) (ended : ℕ) (told : Option BookValue) (stretches : List Part) → asked ≡ named → left ≡ left' → old ≡ old'
+    → IsExact asked left old new ended told stretches → IsExact named left' old' new ended told stretches
+exact_named asked named left left' old old' new ended told stretches e f g h =
+    subst (λ a. IsExact a left' old' new ended told stretches) e
+    (subst (λ l. IsExact asked l old' new ended told stretches) f (subst (λ o. IsExact asked left o new ended told stretches) g h))

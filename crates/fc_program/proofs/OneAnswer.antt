@@ -8,14 +8,15 @@ use Rattle.command_words.specs.declared.commands.Command.TheVariants.{Check, Sta
 use Rattle.command_words.specs.declared.commands.Limit.{Limit}
 use Rattle.command_words.specs.Commands.{limit_of}
 use Rattle.fc_inputs.specs.Causes.{Cause, Judged, Accepted, Refused, judged_map, reply_to}
-use Rattle.fc_inputs.specs.Sections.{sections_of, WithOne, WithThree, other_number}
+use Rattle.fc_inputs.specs.Sections.{sections_of, WithOne, WithTwo, WithThree, other_number}
 use Rattle.fc_inputs.specs.Inputs.{OneSource}
+use Rattle.fc_check.specs.Laws.{OneCheck}
 use Rattle.fc_replay.specs.declared.replays.Options.{Options}
 use Rattle.fc_replay.specs.Replays.{Shown}
 use Rattle.fc_replay.specs.Laws.{ShowAlike, Alike, OneReplay}
 use Rattle.fc_inputs.specs.declared.sources.TheConstants.{MOST_BYTES}
 use Rattle.fc_program.specs.Asked.{reads}
-use Rattle.fc_program.specs.Answers.{AnswerValue, written, showing, answer_of, Formats, ShowsReplay, options_of, AnswersSections, AnswersInput, AnswersReading, AnswersWithin, AnswersAsked, Answers}
+use Rattle.fc_program.specs.Answers.{AnswerValue, written, showing, replied, answer_of, Formats, ShowsCheck, ShowsReplay, options_of, AnswersSections, AnswersInput, AnswersReading, AnswersWithin, AnswersAsked, Answers}
 use Rattle.fc_program.specs.Laws.{SameLogs, SameText, threads_of, AnswersAgree, OneAnswer}
 
 pub record SameAnswer (a b : AnswerValue) : Type 0 where
@@ -41,7 +42,7 @@ by_threads : (b : Bool) (x y : AnswerValue) → x.text ≡ y.text → SameText b
 by_threads false x y e = e
 by_threads true x y e = λ logs. e
 
-module _ (source : OneSource) (replay : OneReplay) where
+module _ (source : OneSource) (check : OneCheck) (replay : OneReplay) where
   same_format : (ss : List (List ℕ)) (j k : Judged AnswerValue) → WithOne Formats ss j → WithOne Formats ss k → Same j k
   same_format [] j k h g = equal (Refused (other_number [])) j k h g
   same_format (program ∷ []) j k h g =
@@ -50,6 +51,13 @@ module _ (source : OneSource) (replay : OneReplay) where
       (h.prints ∙ ap (judged_map (λ ds. written (program_text ds))) (one.2 h.judged h.reads))
       (g.prints ∙ ap (judged_map (λ ds. written (program_text ds))) (one.2 g.judged g.reads))
   same_format (a ∷ b ∷ ss) j k h g = equal (Refused (other_number (a ∷ b ∷ ss))) j k h g
+
+  same_check : (facts : Bool) (ss : List (List ℕ)) (j k : Judged AnswerValue) → WithTwo (ShowsCheck facts) ss j → WithTwo (ShowsCheck facts) ss k → Same j k
+  same_check facts [] j k h g = equal (Refused (other_number [])) j k h g
+  same_check facts (a ∷ []) j k h g = equal (Refused (other_number (a ∷ []))) j k h g
+  same_check facts (a ∷ b ∷ []) j k h g =
+      equal (judged_map replied g.judged) j k (h.shows ∙ ap (judged_map replied) (check facts a b h.judged g.judged h.checks g.checks)) g.shows
+  same_check facts (a ∷ b ∷ c ∷ ss) j k h g = equal (Refused (other_number (a ∷ b ∷ c ∷ ss))) j k h g
 
   same_replay : (o : Options) (ss : List (List ℕ)) (j k : Judged AnswerValue) → WithThree (ShowsReplay o) ss j → WithThree (ShowsReplay o) ss k → Same j k
   same_replay o [] j k h g = equal (Refused (other_number [])) j k h g
@@ -61,7 +69,7 @@ module _ (source : OneSource) (replay : OneReplay) where
   same_sections : (command : Command) (ss : List (List ℕ)) (j k : Judged AnswerValue) → AnswersSections command ss j → AnswersSections command ss k → Same j k
   same_sections Format ss j k h g = same_format ss j k h g
   same_sections (Replay rounds table) ss j k h g = same_replay (options_of rounds table) ss j k h g
-  same_sections (Check facts) ss j k h g = absurd h
+  same_sections (Check facts) ss j k h g = same_check facts ss j k h g
   same_sections Stable ss j k h g = absurd h
   same_sections (Run workers log table) ss j k h g = absurd h
   same_sections (Gen number devices workers) ss j k h g = absurd h

@@ -10,12 +10,13 @@ use Rattle.command_words.specs.Commands.{limit_of}
 use Rattle.fc_inputs.specs.declared.refusal.Refusal.TheVariants.{Usage, Bytes}
 use Rattle.fc_inputs.specs.declared.sources.TheConstants.{MOST_BYTES}
 use Rattle.fc_inputs.specs.Causes.{Plainly, Judged, Refused, judged_map}
-use Rattle.fc_inputs.specs.Sections.{sections_of, AreWithin, SectionsAreWithin, WithOne, WithThree, other_number}
+use Rattle.fc_inputs.specs.Sections.{sections_of, AreWithin, SectionsAreWithin, WithOne, WithTwo, WithThree, other_number}
 use Rattle.fc_inputs.specs.Inputs.{OneSource}
+use Rattle.fc_check.specs.Laws.{SomeCheck}
 use Rattle.fc_replay.specs.declared.replays.Options.{Options}
 use Rattle.fc_replay.specs.Laws.{SomeReplay}
 use Rattle.fc_program.specs.Asked.{exists, reads, limit_refusal, MayAsk}
-use Rattle.fc_program.specs.Answers.{AnswerValue, written, showing, answer_of, Formats, ShowsReplay, options_of, AnswersSections, AnswersInput, AnswersReading, AnswersWithin, AnswersAsked}
+use Rattle.fc_program.specs.Answers.{AnswerValue, written, showing, replied, answer_of, Formats, ShowsCheck, ShowsReplay, options_of, AnswersSections, AnswersInput, AnswersReading, AnswersWithin, AnswersAsked}
 use Rattle.fc_program.specs.Laws.{SomeAnswer}
 use Rattle.fc_program.proofs.Answering.{reads_there}
 
@@ -23,13 +24,21 @@ use Rattle.fc_program.proofs.Answering.{reads_there}
 abbrev IsJudgedSo : (Judged AnswerValue → Type 0) → Type 0
 IsJudgedSo P = (j : Judged AnswerValue) × P j
 
-module _ (source : OneSource) (within : SectionsAreWithin) (replay : SomeReplay) where
+module _ (source : OneSource) (within : SectionsAreWithin) (check : SomeCheck) (replay : SomeReplay) where
   some_format : (ss : List (List ℕ)) → IsJudgedSo (WithOne Formats ss)
   some_format [] = (Refused (other_number []), refl)
   some_format (program ∷ []) =
       let one = source program in
       (judged_map (λ ds. written (program_text ds)) one.0, record { judged = one.0; reads = one.1; prints = refl })
   some_format (a ∷ b ∷ ss) = (Refused (other_number (a ∷ b ∷ ss)), refl)
+
+  some_checked : (facts : Bool) (ss : List (List ℕ)) → AreWithin MOST_BYTES ss → IsJudgedSo (WithTwo (ShowsCheck facts) ss)
+  some_checked facts [] w = (Refused (other_number []), refl)
+  some_checked facts (a ∷ []) w = (Refused (other_number (a ∷ [])), refl)
+  some_checked facts (a ∷ b ∷ []) w =
+      let r = check facts a b w.0 in
+      (judged_map replied r.0, record { judged = r.0; checks = r.1; shows = refl })
+  some_checked facts (a ∷ b ∷ c ∷ ss) w = (Refused (other_number (a ∷ b ∷ c ∷ ss)), refl)
 
   some_shown : (o : Options) (ss : List (List ℕ)) → AreWithin MOST_BYTES ss → IsJudgedSo (WithThree (ShowsReplay o) ss)
   some_shown o [] w = (Refused (other_number []), refl)
@@ -43,7 +52,7 @@ module _ (source : OneSource) (within : SectionsAreWithin) (replay : SomeReplay)
   some_sections : (command : Command) → exists command ≡ true → (ss : List (List ℕ)) → AreWithin MOST_BYTES ss → IsJudgedSo (AnswersSections command ss)
   some_sections Format there ss w = some_format ss
   some_sections (Replay rounds table) there ss w = some_shown (options_of rounds table) ss w
-  some_sections (Check facts) there ss w = absurd cc
+  some_sections (Check facts) there ss w = some_checked facts ss w
   some_sections Stable there ss w = absurd cc
   some_sections (Run workers log table) there ss w = absurd cc
   some_sections (Gen number devices workers) there ss w = absurd cc

@@ -10,8 +10,9 @@ use Rattle.command_words.specs.Commands.{limit_of}
 use Rattle.fc_inputs.specs.declared.refusal.Refusal.TheVariants.{Usage, Bytes}
 use Rattle.fc_inputs.specs.Refusals.{Reply}
 use Rattle.fc_inputs.specs.Causes.{Plainly, reply_to, Judged, Accepted, Refused, judged_map}
-use Rattle.fc_inputs.specs.Sections.{sections_of, WithOne, WithThree}
+use Rattle.fc_inputs.specs.Sections.{sections_of, WithOne, WithTwo, WithThree}
 use Rattle.fc_inputs.specs.Sources.{ReadsSource}
+use Rattle.fc_check.specs.Checks.{Checks}
 use Rattle.fc_replay.specs.declared.replays.Options.{Options}
 use Rattle.fc_replay.specs.Ledgers.{Ledger}
 use Rattle.fc_replay.specs.Replays.{Shown, Replays}
@@ -53,6 +54,12 @@ pub record ShowsReplay (options : Options) (program network log : List ℕ) (j :
   pub replays : Replays options program network log judged
   pub shows : j ≡ judged_map showing judged
 
+-- `check` writes the verdict on a program and a scene, and its facts where they are asked for
+pub record ShowsCheck (facts : Bool) (program network : List ℕ) (j : Judged AnswerValue) : Type 0 where
+  pub judged : Judged Reply
+  pub checks : Checks facts program network judged
+  pub shows : j ≡ judged_map replied judged
+
 abbrev pub options_of : Bool → Bool → Options
 options_of rounds table = record { rounds = rounds; table = table }
 
@@ -60,7 +67,7 @@ options_of rounds table = record { rounds = rounds; table = table }
 abbrev pub AnswersSections : Command → List (List ℕ) → Judged AnswerValue → Type 0
 AnswersSections Format sections j = WithOne Formats sections j
 AnswersSections (Replay rounds table) sections j = WithThree (ShowsReplay (options_of rounds table)) sections j
-AnswersSections (Check facts) sections j = ⊥
+AnswersSections (Check facts) sections j = WithTwo (ShowsCheck facts) sections j
 AnswersSections Stable sections j = ⊥
 AnswersSections (Run workers log table) sections j = ⊥
 AnswersSections (Gen number devices workers) sections j = ⊥

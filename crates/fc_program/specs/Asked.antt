@@ -13,7 +13,7 @@ use Rattle.fc_inputs.specs.declared.refusal.Refusal.TheVariants as refusal
 abbrev pub exists : Command → Bool
 exists Format = true
 exists (Replay rounds table) = true
-exists (Check facts) = false
+exists (Check facts) = true
 exists Stable = false
 exists (Run workers log table) = false
 exists (Gen number devices workers) = false

@@ -9,7 +9,8 @@ ghost use Rattle.fc_program.specs.Top.{value_of};
 ghost use Rattle.fc_inputs.specs.declared.sources.TheConstants.{MOST_BYTES};
 
 use command_words::Command;
-use fc_inputs::{Reply, Stop, one_section, read_source, sections, three_sections};
+use fc_check::check;
+use fc_inputs::{Reply, Stop, one_section, read_source, sections, three_sections, two_sections};
 use fc_replay::{Options, replay};
 use fc_syntax::print;
 use firing_core::{Book, Part};
@@ -89,8 +90,12 @@ pub fn answer_to(alloc: Global, command: Command, input: &[u8]) -> Result<Answer
             let (text, book) = replay(alloc, options, program, network, log)?;
             Ok(Answer::showing(alloc, text, book))
         }
-        Command::Check { .. }
-        | Command::Stable
+        Command::Check { facts } => {
+            let (program, network) = two_sections(&sections)?;
+            let reply = check(alloc, facts, program, network)?;
+            Ok(Answer::replied(alloc, reply))
+        }
+        Command::Stable
         | Command::Run { .. }
         | Command::Gen { .. }
         | Command::Trace

@@ -12,7 +12,10 @@ use std::alloc::Global;
 fn exists(command: Command) -> bool
     ensures { result ≡ exists command }
 {
-    matches!(command, Command::Format | Command::Replay { .. })
+    matches!(
+        command,
+        Command::Format | Command::Replay { .. } | Command::Check { .. }
+    )
 }
 
 /// What the words ask for, if they ask for something that the program does.

@@ -14,6 +14,7 @@ ghost use Rattle.fc_program.specs.Top.{IsAnswer, IsCut, IsExact, IsJudged, Stops
 use crate::answers::{Answer, answer_to};
 use crate::asked::{asked, past_limit};
 use command_words::Command;
+use fc_check::{one_check, some_check};
 use fc_inputs::{Failure, MOST_BYTES, Refusal, Stop, one_source, rendered, sections_are_within};
 use fc_io::{CalmSink, CalmSource, ReadAll, Sink, Source, read_all, write_all};
 use fc_replay::{one_replay, some_replay};
@@ -186,6 +187,7 @@ pub fn one_answer()
     ensures { OneAnswer }
 {
     one_source();
+    one_check();
     one_replay();
 }
 
@@ -195,6 +197,7 @@ pub fn some_answer()
 {
     one_source();
     sections_are_within();
+    some_check();
     some_replay();
 }
 

@@ -1,0 +1,14 @@
+use Rattle.std.proofs.Common.{rules, ap, ap₂, codes, ◌≡◌, ◌∙◌}
+use Rattle.std.proofs.lemmas.Result.{IfOk-weaker}
+use Rattle.clap.specs.Words.{rule_of, with_rule}
+use Rattle.clap.specs.Simple.{app_of_fields}
+use Rattle.command_words.specs.Options.{flag_rule, check_app}
+use Rattle.command_words.proofs.Apps.{helpless, versionless}
+use Rattle.command_words.proofs.options.check_options.Goals as goal
+
+pub returns : goal.returns
+unfolding check_app
+returns c =
+    let facts_is : rule_of c.action-facts.result ≡ flag_rule (codes "facts") = search rules in
+    let made = ap app_of_fields c.disable_version_flag.ensures ∙ ap versionless (ap app_of_fields c.disable_help_flag.ensures ∙ ap helpless c.new-2.ensures.app) in
+    IfOk-weaker c.arg.result _ _ (λ k h. h.shape (search rules) ∙ ap₂ with_rule made facts_is) c.arg.ensures

@@ -1,0 +1,104 @@
+//! Worked rows of `check`.
+
+use crate::tests::words;
+use crate::top::fc;
+use fc_io::{CalmSink, CalmSource};
+use std::alloc::Global;
+use std::process::Abort;
+use std::test::Fail;
+
+const HOPS: &str =
+    "ceiling 10; input src: bool; main = rep(10){(d) => minHoodLoc(nbr{d} + 1, mux(sense src, 0, 10))};";
+
+const SHARED_HOPS: &str =
+    "language 2; ceiling 10; input src: bool; main = share(10){(d) => minHoodLoc(d + 1, mux(sense src, 0, 10))};";
+
+// Three devices in a line, with a source at device 0.
+const LINE: &str =
+    "{\"devices\":[{\"id\":0,\"inputs\":{\"src\":true}},{\"id\":1,\"inputs\":{\"src\":false}},{\"id\":2,\"inputs\":{\"src\":false}}],\"links\":[[0,1,1],[1,2,1]]}";
+
+const PAIR: &str =
+    "{\"devices\":[{\"id\":0,\"inputs\":{}},{\"id\":1,\"inputs\":{}}],\"links\":[[0,1,1]]}";
+
+const HOP_FACTS: &str = "yes 22
+0 rep int 0..10 22
+1 10 int 10..10 -
+2 minHoodLoc int 0..10 -
+3 + field int 1..10 -
+4 nbr field int 0..10 -
+5 var 0 int 0..10 -
+6 1 int 1..1 1
+7 mux int 0..10 1
+8 sense 0 bool - 1
+9 0 int 0..0 1
+10 10 int 10..10 1
+";
+
+/// A program, a network, and the text that `check` writes.
+type Check = (&'static str, &'static str, &'static str);
+
+const YES: [Check; 2] = [(HOPS, LINE, "yes 22\n"), (SHARED_HOPS, LINE, "yes 12\n")];
+
+const NO: [Check; 3] = [
+    (
+        "ceiling 10; main = rep(0){(x) => x + 1};",
+        PAIR,
+        "no 0 unguarded\n",
+    ),
+    (
+        "ceiling 10; main = rep(0){(x) => maxHoodLoc(nbr{x}, 0)};",
+        PAIR,
+        "no 0 converging\n",
+    ),
+    (
+        "ceiling 10; main = rep(9){(d) => let y = nbr{d} in minHoodLoc(y + 1, 5)};",
+        PAIR,
+        "no 0 nested\n",
+    ),
+];
+
+// A call of `fc` with these words, on this program and network.
+fn checks(
+    rt: &impl Abort,
+    alloc: Global,
+    list: &[&str],
+    row: &Check,
+    status: u8,
+) -> Result<(), Fail> {
+    let (program, network, text) = *row;
+    let words = words(alloc, list)?;
+    let input = format!(in alloc; "{program}\n%%\n{network}")?;
+    let mut source = CalmSource::new(input.into_bytes());
+    let mut sink = CalmSink::new(alloc, 1000)?;
+    let outcome = fc(alloc, &words, &mut source, &mut sink);
+    assert_eq!(rt; sink.taken(), text.as_bytes());
+    assert_eq!(rt; outcome.status, status);
+    Ok(())
+}
+
+#[test]
+fn verdicts(rt: HostRuntime) -> Result<(), Fail> {
+    let alloc = rt.alloc();
+    for row in &YES {
+        checks(&rt, alloc, &["fc", "check"], row, 0)?;
+    }
+    for row in &NO {
+        checks(&rt, alloc, &["fc", "check"], row, 1)?;
+        checks(&rt, alloc, &["fc", "check", "--facts"], row, 1)?;
+    }
+    Ok(())
+}
+
+#[test]
+fn facts(rt: HostRuntime) -> Result<(), Fail> {
+    let alloc = rt.alloc();
+    let row = (HOPS, LINE, HOP_FACTS);
+    checks(&rt, alloc, &["fc", "check", "--facts"], &row, 0)
+}
+
+#[test]
+fn refusals(rt: HostRuntime) -> Result<(), Fail> {
+    let alloc = rt.alloc();
+    let row = (HOPS, "\n%%\n", "sections 3\n");
+    checks(&rt, alloc, &["fc", "check"], &row, 3)
+}
