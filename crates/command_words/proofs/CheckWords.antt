@@ -1,19 +1,18 @@
 -- The words of `check`, and what `clap` makes of them.
-use Rattle.std.proofs.Common.{ℕ, ◌≡◌, Bool, true, false, true≢false, if◌then◌else◌, is_some, List, [], ◌∷◌, map, codes, refl, sym, ap, ◌∙◌, subst, Option, Some, None, option_and_then}
+use Rattle.std.proofs.Common.{ℕ, ◌≡◌, Bool, true, false, true≢false, if◌then◌else◌, is_some, List, [], ◌∷◌, codes, refl, sym, subst, Option, Some, None, option_and_then}
 use Rattle.std.specs.List.{list_all}
 use Rattle.clap.specs.Words.{is_simple, matches_of, one_of, takes}
 use Rattle.clap.proofs.OnLiterals.{clap_on_literals}
 use Rattle.command_words.specs.declared.commands.Command.{Command}
 use Rattle.command_words.specs.declared.commands.Command.TheVariants as command
 use Rattle.command_words.specs.declared.choices.Name.TheVariants.{Check}
-use Rattle.command_words.specs.declared.choices.Choices.{Choices}
 use Rattle.command_words.specs.declared.settings.Setting.{Setting}
 use Rattle.command_words.specs.declared.settings.Setting.TheVariants as set
 use Rattle.command_words.specs.declared.settings.Numbered.TheVariants.{Workers, Devices, Number}
 use Rattle.command_words.specs.Settings.{settings_of}
-use Rattle.command_words.specs.Words.{all_set, allows, asked, command_from, command_with, no_choices}
+use Rattle.command_words.specs.Words.{allows, asked, command_from, command_with}
 use Rattle.command_words.specs.Options.{check_app, check_of}
-use Rattle.command_words.proofs.Spelled.{flags_spelled, spelled}
+use Rattle.command_words.proofs.Spelled.{flags_spelled}
 
 -- what `clap` reads of the flag, beside the command
 pub record ReadsCheck (words : List (List ℕ)) (c : Option Command) : Type 0 where

@@ -1,5 +1,5 @@
 -- Two programs that unfold one program are checked alike: their nodes differ at most in how memory holds them.
-use Rattle.std.proofs.Common.{ℕ, zero, suc, ◌≡◌, ◌<◌, ◌≤◌, ◌+◌, ◌-◌, Bool, true, false, List, [], ◌∷◌, ◌++◌, length, refl, ap, ap₂, ◌∙◌, sym, subst, arith, Option, Some, None}
+use Rattle.std.proofs.Common.{ℕ, zero, suc, ◌≡◌, ◌<◌, ◌≤◌, ◌+◌, ◌-◌, Bool, true, false, List, ◌++◌, length, refl, ap, ap₂, ◌∙◌, sym, subst, arith, Option, None}
 use Rattle.std.specs.Prelude.{slice_index_or as get_or, nat_lt}
 use Rattle.std.proofs.Math.Path.{fun_ext}
 use Rattle.std.proofs.lemmas.Option.{slice_get_past}
@@ -11,7 +11,7 @@ use Rattle.fc_nodes.specs.Terms.{Term, Terms, Plain, Apply, Nbr, Evolve, If, Let
 use Rattle.interval_facts.specs.Ranges.{RangeValue, BoolRange, range_of, ranges_of}
 use Rattle.fragment_check.specs.Patterns.{judged, first_refused}
 use Rattle.fragment_check.specs.Levels.{Stages, level_of, node_levels}
-use Rattle.fragment_check.specs.Verdicts.{added_at, bound_range, levels_of, stages_of, verdict_by, verdict_of}
+use Rattle.fragment_check.specs.Verdicts.{added_at, bound_range, levels_of, verdict_by, verdict_of}
 use Rattle.report.specs.Facts.{fact_line, facts_before, facts_text}
 use Rattle.report.specs.Verdicts.{verdict_text}
 use Rattle.fc_inputs.specs.Refusals.{Reply}

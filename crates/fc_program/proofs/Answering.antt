@@ -1,6 +1,6 @@
 -- What the code answers, as the definitions say it.
-use Rattle.std.proofs.Common.{ℕ, ◌≡◌, ◌≢◌, ◌+◌, ◌<◌, ◌≤◌, ◌++◌, Bool, true, false, List, [], ◌∷◌, length, length-append, map, refl, ap, ◌∙◌, sym, subst, arith, Option, Some, None, option_map, take, Result, Ok, Err}
-use Rattle.std.specs.Prelude.{IfErr, IfSome, IsErrAnd, nat_lt}
+use Rattle.std.proofs.Common.{ℕ, ◌≡◌, ◌+◌, ◌<◌, ◌≤◌, ◌++◌, Bool, true, false, List, [], ◌∷◌, length, length-append, refl, ap, ◌∙◌, sym, subst, arith, Option, Some, None, option_map, take}
+use Rattle.std.specs.Prelude.{IfSome, nat_lt}
 use Rattle.std.specs.Io.KnownBytes.{Appends, Consumes}
 use Rattle.std.proofs.lemmas.Bool.Decides.{nat_tests}
 use Rattle.fc_syntax.specs.Terms.{Declaration}
@@ -16,8 +16,8 @@ use Rattle.fc_inputs.specs.declared.refusal.Refusal.TheVariants as refusal
 use Rattle.fc_inputs.specs.declared.stop.Stop.{Stop}
 use Rattle.fc_inputs.specs.declared.stop.Stop.TheVariants as stop
 use Rattle.fc_inputs.specs.Refusals.{Reply}
-use Rattle.fc_inputs.specs.Causes.{Cause, Plainly, reply_to, Judged, Accepted, Refused}
-use Rattle.fc_inputs.specs.Sections.{sections_of, WithOne, WithTwo, WithThree, other_number, IsOther}
+use Rattle.fc_inputs.specs.Causes.{Cause, Plainly, Judged, Accepted, Refused}
+use Rattle.fc_inputs.specs.Sections.{sections_of, WithOne, WithTwo, WithThree, IsOther}
 use Rattle.fc_inputs.specs.Sources.{ReadsSource}
 use Rattle.fc_inputs.specs.Stops.{StopsFor, WhereCause, IsReplyFor, cause_of, scene_cause}
 use Rattle.fc_inputs.proofs.Stopping.{stops_map}
@@ -27,8 +27,8 @@ use Rattle.fc_replay.specs.Ledgers.{ledger_of}
 use Rattle.fc_replay.specs.Replays.{Shown, Replays}
 use Rattle.fc_inputs.specs.declared.sources.TheConstants.{MOST_BYTES}
 use Rattle.fc_program.specs.Asked.{exists, reads, limit_refusal}
-use Rattle.fc_program.specs.Answers.{AnswerValue, written, showing, replied, answer_of, Formats, ShowsCheck, ShowsReplay, options_of, AnswersSections, AnswersInput, AnswersReading, AnswersWithin, AnswersAsked, Answers}
-use Rattle.fc_program.specs.Top.{IsAnswer, IsCut, IsExact, IsJudged, StopsAsked, cause_status, stop_status}
+use Rattle.fc_program.specs.Answers.{AnswerValue, written, showing, replied, answer_of, Formats, ShowsCheck, ShowsReplay, options_of, AnswersSections, AnswersInput, AnswersReading, AnswersWithin, AnswersAsked}
+use Rattle.fc_program.specs.Top.{IsAnswer, IsCut, IsExact, IsJudged, StopsAsked}
 
 -- ---- `format`
 pub format_stops : (program : List ℕ) (s : Stop) → StopsFor (λ cause. ReadsSource program (Refused cause)) s → StopsFor (λ cause. Formats program (Refused cause)) s

@@ -1,23 +1,22 @@
 -- Two answers to one input have one status and one text.
-use Rattle.std.proofs.Common.{ℕ, ◌≡◌, Bool, true, false, List, [], ◌∷◌, length, refl, ap, ◌∙◌, sym, subst, Option, Some, None}
+use Rattle.std.proofs.Common.{ℕ, ◌≡◌, Bool, true, false, List, [], ◌∷◌, length, ap, ◌∙◌, sym, Option, Some, None}
 use Rattle.std.specs.Prelude.{nat_lt}
-use Rattle.fc_syntax.specs.Terms.{Declaration}
 use Rattle.fc_syntax.specs.Text.{program_text}
 use Rattle.command_words.specs.declared.commands.Command.{Command}
 use Rattle.command_words.specs.declared.commands.Command.TheVariants.{Check, Stable, Run, Replay, Format, Gen, Trace, Mail}
 use Rattle.command_words.specs.declared.commands.Limit.{Limit}
 use Rattle.command_words.specs.Commands.{limit_of}
-use Rattle.fc_inputs.specs.Causes.{Cause, Judged, Accepted, Refused, judged_map, reply_to}
+use Rattle.fc_inputs.specs.Causes.{Judged, Accepted, Refused, judged_map}
 use Rattle.fc_inputs.specs.Sections.{sections_of, WithOne, WithTwo, WithThree, other_number}
 use Rattle.fc_inputs.specs.Inputs.{OneSource}
 use Rattle.fc_check.specs.Laws.{OneCheck}
 use Rattle.fc_replay.specs.declared.replays.Options.{Options}
 use Rattle.fc_replay.specs.Replays.{Shown}
-use Rattle.fc_replay.specs.Laws.{ShowAlike, Alike, OneReplay}
+use Rattle.fc_replay.specs.Laws.{Alike, OneReplay}
 use Rattle.fc_inputs.specs.declared.sources.TheConstants.{MOST_BYTES}
 use Rattle.fc_program.specs.Asked.{reads}
-use Rattle.fc_program.specs.Answers.{AnswerValue, written, showing, replied, answer_of, Formats, ShowsCheck, ShowsReplay, options_of, AnswersSections, AnswersInput, AnswersReading, AnswersWithin, AnswersAsked, Answers}
-use Rattle.fc_program.specs.Laws.{SameLogs, SameText, threads_of, AnswersAgree, OneAnswer}
+use Rattle.fc_program.specs.Answers.{AnswerValue, written, showing, replied, answer_of, Formats, ShowsCheck, ShowsReplay, options_of, AnswersSections, AnswersInput, AnswersReading, AnswersWithin, AnswersAsked}
+use Rattle.fc_program.specs.Laws.{SameText, threads_of, OneAnswer}
 
 pub record SameAnswer (a b : AnswerValue) : Type 0 where
   pub status : a.status ≡ b.status

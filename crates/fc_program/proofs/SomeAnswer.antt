@@ -15,7 +15,7 @@ use Rattle.fc_inputs.specs.Inputs.{OneSource}
 use Rattle.fc_check.specs.Laws.{SomeCheck}
 use Rattle.fc_replay.specs.declared.replays.Options.{Options}
 use Rattle.fc_replay.specs.Laws.{SomeReplay}
-use Rattle.fc_program.specs.Asked.{exists, reads, limit_refusal, MayAsk}
+use Rattle.fc_program.specs.Asked.{exists, limit_refusal, MayAsk}
 use Rattle.fc_program.specs.Answers.{AnswerValue, written, showing, replied, answer_of, Formats, ShowsCheck, ShowsReplay, options_of, AnswersSections, AnswersInput, AnswersReading, AnswersWithin, AnswersAsked}
 use Rattle.fc_program.specs.Laws.{SomeAnswer}
 use Rattle.fc_program.proofs.Answering.{reads_there}

@@ -1,6 +1,3 @@
-use Rattle.std.proofs.Common.{length, map, ap, sym, ◌∙◌}
-use Rattle.fc_nodes.specs.Program.{unfolding_of}
-use Rattle.net_json.specs.SceneCode.{value_of_scene}
 use Rattle.fc_inputs.specs.Causes.{Refused}
 use Rattle.fc_inputs.specs.Inputs.{ReadsInput}
 use Rattle.fc_inputs.proofs.Stopping.{stop_is, stops_map}

@@ -1,6 +1,4 @@
-use Rattle.std.proofs.Common.{ℕ, rules, arith, ◌≡◌, ◌≤◌, ap, refl, sym, subst, ◌∙◌, option_map}
-use Rattle.fc_replay.specs.Ledgers.{ledger_of}
-use Rattle.std.specs.Io.KnownBytes.{Appends}
+use Rattle.std.proofs.Common.{ℕ, rules, arith, ◌≡◌, ◌≤◌, sym, ◌∙◌}
 use Rattle.fc_program.specs.Top.{value_of}
 use Rattle.fc_program.proofs.Answering.{exact_answer, cut_answer}
 use Rattle.fc_program.proofs.top.ended.Goals as goal
