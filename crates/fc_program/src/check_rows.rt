@@ -1,24 +1,13 @@
 //! Worked rows of `check`.
 
-use crate::tests::words;
-use crate::top::fc;
-use fc_io::{CalmSink, CalmSource};
+use crate::rows::{HOPS, PAIR, SHARED_HOPS, gives};
 use std::alloc::Global;
 use std::process::Abort;
 use std::test::Fail;
 
-const HOPS: &str =
-    "ceiling 10; input src: bool; main = rep(10){(d) => minHoodLoc(nbr{d} + 1, mux(sense src, 0, 10))};";
-
-const SHARED_HOPS: &str =
-    "language 2; ceiling 10; input src: bool; main = share(10){(d) => minHoodLoc(d + 1, mux(sense src, 0, 10))};";
-
 // Three devices in a line, with a source at device 0.
 const LINE: &str =
     "{\"devices\":[{\"id\":0,\"inputs\":{\"src\":true}},{\"id\":1,\"inputs\":{\"src\":false}},{\"id\":2,\"inputs\":{\"src\":false}}],\"links\":[[0,1,1],[1,2,1]]}";
-
-const PAIR: &str =
-    "{\"devices\":[{\"id\":0,\"inputs\":{}},{\"id\":1,\"inputs\":{}}],\"links\":[[0,1,1]]}";
 
 const HOP_FACTS: &str = "yes 22
 0 rep int 0..10 22
@@ -66,14 +55,8 @@ fn checks(
     status: u8,
 ) -> Result<(), Fail> {
     let (program, network, text) = *row;
-    let words = words(alloc, list)?;
     let input = format!(in alloc; "{program}\n%%\n{network}")?;
-    let mut source = CalmSource::new(input.into_bytes());
-    let mut sink = CalmSink::new(alloc, 1000)?;
-    let outcome = fc(alloc, &words, &mut source, &mut sink);
-    assert_eq!(rt; sink.taken(), text.as_bytes());
-    assert_eq!(rt; outcome.status, status);
-    Ok(())
+    gives(rt, alloc, list, input, status, text)
 }
 
 #[test]

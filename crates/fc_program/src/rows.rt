@@ -8,10 +8,10 @@ use std::process::Abort;
 use std::test::Fail;
 
 // The hop count to the nearest source, of both languages, and the hood of the first example.
-const HOPS: &str =
+pub const HOPS: &str =
     "ceiling 10;\ninput src: bool;\nmain = rep(10){(d) => minHoodLoc(nbr{d} + 1, mux(sense src, 0, 10))};";
 
-const SHARED_HOPS: &str =
+pub const SHARED_HOPS: &str =
     "language 2; ceiling 10; input src: bool; main = share(10){(d) => minHoodLoc(d + 1, mux(sense src, 0, 10))};";
 
 const HOOD: &str = "ceiling 10; main = minHoodLoc(nbr{1} + 1, 5);";
@@ -19,7 +19,7 @@ const HOOD: &str = "ceiling 10; main = minHoodLoc(nbr{1} + 1, 5);";
 const COUNTER: &str = "ceiling 10; main = rep(0){(x) => x + 1};";
 
 // Two linked devices: without inputs, with a source at device 0, and with a firing of device 0 that is begun.
-const PAIR: &str =
+pub const PAIR: &str =
     "{\"devices\":[{\"id\":0,\"inputs\":{}},{\"id\":1,\"inputs\":{}}],\"links\":[[0,1,1]]}";
 
 const SOURCE: &str =
@@ -301,8 +301,8 @@ fn star(alloc: Global) -> Result<String, AllocError> {
     Ok(text)
 }
 
-// A call of `fc` with these words and this input.
-fn refuses(
+/// A call of `fc` with these words and this input.
+pub fn gives(
     rt: &impl Abort,
     alloc: Global,
     list: &[&str],
@@ -324,7 +324,7 @@ fn limits_passed(rt: HostRuntime) -> Result<(), Fail> {
     let alloc = rt.alloc();
     let brackets = repeated(alloc, "ceiling 10;\nmain = ", "(", 201, "1")?;
     let brackets = repeated(alloc, brackets.as_str(), ")", 201, ";")?;
-    refuses(
+    gives(
         &rt,
         alloc,
         &["fc", "format"],
@@ -333,10 +333,10 @@ fn limits_passed(rt: HostRuntime) -> Result<(), Fail> {
         "limit depth 201\n",
     )?;
     let second = String::from_str(alloc, "language 1; ceiling 10; main = 1;")?;
-    refuses(&rt, alloc, &["fc", "format"], second, 3, "syntax 1 1\n")?;
+    gives(&rt, alloc, &["fc", "format"], second, 3, "syntax 1 1\n")?;
     let back = format!(in alloc; ";\n%%\n{ONE}\n%%\n")?;
     let tokens = repeated(alloc, "ceiling 10;\nmain = 1", " + 1", 2047, back.as_str())?;
-    refuses(
+    gives(
         &rt,
         alloc,
         &["fc", "replay"],
@@ -345,7 +345,7 @@ fn limits_passed(rt: HostRuntime) -> Result<(), Fail> {
         "limit tokens 4098\n",
     )?;
     let nodes = repeated(alloc, "ceiling 10;\nmain = 1", " + 1", 2046, back.as_str())?;
-    refuses(
+    gives(
         &rt,
         alloc,
         &["fc", "replay"],
@@ -355,7 +355,7 @@ fn limits_passed(rt: HostRuntime) -> Result<(), Fail> {
     )?;
     let front = "ceiling 10; main = 5;\n%%\n{\"devices\":[{}";
     let devices = repeated(alloc, front, ",{}", 1024, "],\"links\":[]}\n%%\n")?;
-    refuses(
+    gives(
         &rt,
         alloc,
         &["fc", "replay"],
@@ -365,7 +365,7 @@ fn limits_passed(rt: HostRuntime) -> Result<(), Fail> {
     )?;
     let star = star(alloc)?;
     let linked = format!(in alloc; "ceiling 10; main = 5;\n%%\n{star}\n%%\n")?;
-    refuses(
+    gives(
         &rt,
         alloc,
         &["fc", "replay"],
