@@ -1,6 +1,6 @@
 -- What texts are checked to.
 use Rattle.std.proofs.Common.{ℕ, ◌≡◌, Bool, List, length, refl, ap, ◌∙◌, sym, subst}
-use Rattle.fc_nodes.specs.Program.{IsProgram, Program, Unfolding, unfolding_of}
+use Rattle.fc_nodes.specs.Program.{Unfolding}
 use Rattle.net_json.specs.Judging as scene
 use Rattle.net_json.specs.Scenes.{SceneValue, scene_of}
 use Rattle.fc_inputs.specs.Causes.{Cause, Judged, Accepted, Refused, AndThen}
@@ -60,11 +60,3 @@ some_check input unfolds facts program network short =
 -- ---- what the code does
 pub refused_input : (facts : Bool) (program network : List ℕ) (cause : Cause) → ReadsInput program network (Refused cause) → Checks facts program network (Refused cause)
 refused_input facts program network cause h = record { judged = Refused cause; reads = h; ends = refl }
-
-pub checked_input : (facts : Bool) (program network : List ℕ) (P : Program) (s : SceneValue) (n : ℕ) (r : Reply) → IsProgram P
-    → ReadsInput program network (Accepted (unfolding_of P, s)) → n ≡ length s.net.devices → r ≡ checked_of facts P n → Checks facts program network (Accepted r)
-checked_input facts program network P s n r is reads count e = record {
-  judged = Accepted (unfolding_of P, s);
-  reads = reads;
-  ends = record { nodes = P; is_program = is; unfolded = refl; checked = ap Accepted (e ∙ ap (checked_of facts P) count) };
-}
