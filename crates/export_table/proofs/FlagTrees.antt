@@ -81,16 +81,6 @@ pub record IsFirst (t : List Bool) (node : ℕ) : Type 0 where
   pub here : get_or t node false ≡ true
   pub before : (n : ℕ) → 2 ^ level ≤ n → n < node → get_or t n false ≡ false
 
-pub root_first : (t : List Bool) → get_or t 1 false ≡ true → IsFirst t 1
-root_first t e = record {
-  level = 0;
-  deep = omega arith;
-  low = omega arith;
-  high = omega arith;
-  here = e;
-  before = λ n l h. absurd (omega (arith, l, h));
-}
-
 -- what stands below a node that isn't set
 below_unset : (t : List Bool) (n : ℕ) → Tells t n → get_or t n false ≡ false → (get_or t (2 * n) false ≡ false) × (get_or t (2 * n + 1) false ≡ false)
 below_unset t n tells none = either_false (get_or t (2 * n) false) (get_or t (2 * n + 1) false) (sym tells ∙ none)

@@ -1,5 +1,5 @@
 -- A pass that began a firing and didn't end it may end it.
-use Rattle.std.proofs.Common.{◌≡◌, ◌⊎◌, ⊎_elim, ℕ, zero, suc, ◌+◌, ◌<◌, List, [], ◌∷◌, ◌++◌, take, length, refl, sym, ap, ◌∙◌, subst, inl, inr, arith, Bool, true, false, nat_eq, Option, Some, None, Result, Ok, Err, IfOk, IfSome, if◌then◌else◌}
+use Rattle.std.proofs.Common.{◌≡◌, ◌⊎◌, ⊎_elim, ℕ, zero, suc, ◌+◌, ◌<◌, List, [], ◌∷◌, ◌++◌, take, length, refl, sym, ap, ◌∙◌, subst, inl, inr, arith, Bool, true, false, nat_eq, Option, Some, None, Result, Ok, Err, IfOk, if◌then◌else◌}
 use Rattle.std.proofs.lemmas.Option.{none-some, same_Some}
 use Rattle.std.proofs.lemmas.Bool.{eqb-true}
 use Rattle.std.proofs.lemmas.List.{append_assoc, append-nil}
@@ -22,7 +22,7 @@ use Rattle.export_table.specs.Answers.{after_item, begun_from, last_begin, item_
 use Rattle.export_table.specs.Holding.{HeldValue, IsOpenAt, IsTakenAt, opening_in, log_in, core_in, list_of}
 use Rattle.export_table.specs.Firings.{FiringValue}
 use Rattle.export_table.specs.Passing.{TableValue, IsPassOf, on_log, written}
-use Rattle.export_table.specs.Turns.{MayEnd, Ends, Began, IsOwnFiring, CanEnd, KeepsFirings, FiringsStay, Ended}
+use Rattle.export_table.specs.Turns.{MayEnd, Ends, Began, IsOwnFiring, CanEnd, FiringsStay, Ended}
 use Rattle.export_table.proofs.Flying.{begin_not_end, cut_at, take_all, answers_here, open_last}
 use Rattle.turn_lock.proofs.Lists.{in_snoc, in_left, in_last, at_below}
 use Rattle.export_table.proofs.Passing.{own_items, from_items}
@@ -205,8 +205,3 @@ firing_stays o v w before core e place f t other own = record {
 pub own_firings : {Room : Type 0} (o : Opening) (v w : PassView EntryValue) (r : Result FiringValue Room) → IfOk r (Began o v w) → IfOk r (CanEnd o w)
 own_firings o v w (Ok f) ok = record { snap = ok.snap; own = own_firing o v w f ok }
 own_firings o v w (Err m) ok = tt
-
--- and after other turns
-pub keeps_some : (o : Opening) (v w : PassView EntryValue) (f : Option FiringValue) → KeepsFirings o v w → IfSome f (CanEnd o v) → IfSome f (CanEnd o w)
-keeps_some o v w None keeps can = tt
-keeps_some o v w (Some f) keeps can = record { snap = can.snap; own = λ e program snap. keeps f.place e (can.own e program snap) }

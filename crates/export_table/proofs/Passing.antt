@@ -6,7 +6,7 @@ use mathlib.Core.Bool.{cond}
 use mathlib.Core.Option.{some, some-injective, some-ne-none}
 use lib.ListN.{get_elem?}
 use Rattle.turn_lock.specs.Logs.{StartsWith, In, Rises, ArePlaced, longer, put_in, merged}
-use Rattle.turn_lock.specs.Passes.{PassView, wrote, joined, kept_part, new_part}
+use Rattle.turn_lock.specs.Passes.{PassView, wrote, joined}
 use Rattle.firing_core.specs.Entries.{EntryValue}
 use Rattle.export_table.specs.Items.{Opening, ItemValue, OpeningItem, WrittenItem, items_of}
 use Rattle.export_table.specs.Passing.{TableValue, IsPassOf, written, written_at, behind_first, item_at_next, on_log, on_items}
@@ -86,12 +86,6 @@ pass_of t u v is lock turns start = (
   where
     back : on_log v ≡ u
     back = ap on_log is ∙ on_log_back t.opening u
-
-pub pass_kept : (t : TableValue) (share : ℕ) (v w : PassView ItemValue) → IsPassOf t v → w ≡ kept_part share v → IsPassOf t w × (on_log w ≡ kept_part share (on_log v))
-pass_kept t share v w k is = pass_of t (kept_part share (on_log v)) w (is ∙ ap (kept_part share) k.opening) k.lock k.turns k.start
-
-pub pass_given : (t : TableValue) (share : ℕ) (v w : PassView ItemValue) → IsPassOf t v → w ≡ new_part share v → IsPassOf t w × (on_log w ≡ new_part share (on_log v))
-pass_given t share v w k is = pass_of t (new_part share (on_log v)) w (is ∙ ap (new_part share) k.opening) k.lock k.turns k.start
 
 pub pass_joined : (t : TableValue) (v w z : PassView ItemValue) → IsPassOf t v → IsPassOf t w → z ≡ joined v w → IsPassOf t z × (on_log z ≡ joined (on_log v) (on_log w))
 pass_joined t v w z k l is = pass_of t (joined (on_log v) (on_log w)) z (is ∙ ((λ i. joined (k.opening i) (l.opening i)) ∙ joined_items t.opening (on_log v) (on_log w))) k.lock k.turns k.start

@@ -1,6 +1,7 @@
 //! The verdict on a program.
 
-ghost use Rattle.std.specs.Prelude.{◌≡◌, ◌≤◌, ◌<◌, ◌^◌, IfOk};
+ghost use Rattle.std.specs.Prelude.{ℕ, ◌≡◌, ◌≤◌, ◌<◌, ◌^◌, IfOk};
+ghost use Rattle.fc_nodes.specs.declared.verdicts.Verdict.TheVariants as verdict;
 ghost use Rattle.fc_nodes.specs.Program.{unfolding_of};
 ghost use Rattle.interval_facts.specs.Ranges.{AreRangesOf};
 ghost use Rattle.fragment_check.specs.Verdicts.{levels_of, main_level, verdict_of};
@@ -23,7 +24,8 @@ pub fn recognise(
 ) -> Result<Verdict, Memory>
     requires ranges { AreRangesOf (unfolding_of program.now) ranges.now }
     requires devices { 1 ≤ devices }
-    ensures { IfOk result (λ v. v ≡ verdict_of program.now devices) }
+    ensures verdict { IfOk result (λ v. v ≡ verdict_of program.now devices) }
+    ensures few { IfOk result (λ v. (k : ℕ) → v ≡ verdict.Yes k → k < 2 ^ 33) }
 {
     match patterns(alloc, program, ranges) {
         Ok(_) => {
