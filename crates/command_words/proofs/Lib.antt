@@ -3,4 +3,4 @@ mod Taken
 mod Spelled
 mod CheckWords
 mod ReplayWords
-mod FormatWords
+mod BareWords

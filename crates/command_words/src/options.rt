@@ -1,9 +1,10 @@
-//! The options of `check`, `replay` and `format`, read by `clap`.
+//! The options of `check` and `replay`, and the commands that take nothing, read by `clap`.
 
 ghost use Rattle.std.specs.Prelude.{◌≡◌, true, is_some, map, string_bytes, IfOk, IfErr};
 ghost use Rattle.clap.specs.Words.{HasMatchesOf, app_of, kind_of};
-ghost use Rattle.command_words.specs.Options.{check_app, check_of, format_app, format_of, replay_app, replay_of};
+ghost use Rattle.command_words.specs.Options.{bare_app, bare_of, check_app, check_of, replay_app, replay_of, takes_nothing};
 
+use crate::choices::Name;
 use crate::commands::Command as Asked;
 use clap::error::ErrorKind;
 use clap::{Arg, ArgAction, ArgMatches, Command, Error};
@@ -38,10 +39,10 @@ fn replay_options<'a>(alloc: Global) -> Result<Command<'a>, AllocError>
         .arg(table)
 }
 
-fn format_options<'a>(alloc: Global) -> Command<'a>
-    ensures { app_of result ≡ format_app }
+fn bare_options<'a>(alloc: Global, name: &'a str) -> Command<'a>
+    ensures { app_of result ≡ bare_app name.entry.now }
 {
-    Command::new(alloc, "format")
+    Command::new(alloc, name)
         .disable_help_flag(true)
         .disable_version_flag(true)
 }
@@ -63,11 +64,17 @@ fn replay_matches<'a>(alloc: Global, words: &'a [String]) -> Result<ArgMatches<'
     replay_options(alloc)?.try_get_matches_from(words)
 }
 
-fn format_matches<'a>(alloc: Global, words: &'a [String]) -> Result<ArgMatches<'a>, Error>
-    requires { is_some (format_of (map string_bytes words.now)) ≡ true }
+fn bare_matches<'a>(
+    alloc: Global,
+    name: Name,
+    word: &'a str,
+    words: &'a [String],
+) -> Result<ArgMatches<'a>, Error>
+    requires nothing { takes_nothing name ≡ true }
+    requires inside { is_some (bare_of name (map string_bytes words.now)) ≡ true }
     ensures { IfErr result (λ e. kind_of e ≡ ErrorKind.OutOfMemory) }
 {
-    format_options(alloc).try_get_matches_from(words)
+    bare_options(alloc, word).try_get_matches_from(words)
 }
 
 /// The `check` that the words ask for, of which the command's is the first.
@@ -97,13 +104,13 @@ pub fn replay(alloc: Global, words: &[String]) -> Result<Asked, Memory>
     }
 }
 
-/// The `format` that the words ask for, of which the command's is the first.
-pub fn format(alloc: Global, words: &[String]) -> Result<Asked, Memory>
-    requires { is_some (format_of (map string_bytes words.now)) ≡ true }
-    ensures { IfOk result (λ asked. format_of (map string_bytes words.now) ≡ Some asked) }
+/// Reads the words of a command that takes nothing, of which the command's is the first.
+pub fn bare(alloc: Global, name: Name, word: &str, words: &[String]) -> Result<(), Memory>
+    requires nothing { takes_nothing name ≡ true }
+    requires inside { is_some (bare_of name (map string_bytes words.now)) ≡ true }
 {
-    match format_matches(alloc, words) {
-        Ok(_) => Ok(Asked::Format),
+    match bare_matches(alloc, name, word, words) {
+        Ok(_) => Ok(()),
         Err(_) => Err(Memory),
     }
 }

@@ -1,14 +1,22 @@
 //! The command that the words ask for.
 
 ghost use Rattle.std.specs.Prelude.{◌≡◌, IfOk, map, string_bytes};
+ghost use Rattle.command_words.specs.Options.{takes_nothing};
 ghost use Rattle.command_words.specs.Words.{command_of};
 
 use crate::choices::{Name, command_of_settings, named};
 use crate::commands::Command;
-use crate::options::{check, format, replay};
+use crate::options::{bare, check, replay};
 use crate::settings::settings;
 use fc_values::Memory;
 use std::alloc::Global;
+
+// Whether a command takes no flag, no option and no number.
+fn takes_nothing(name: Name) -> bool
+    ensures { result ≡ takes_nothing name }
+{
+    matches!(name, Name::Format | Name::Stable | Name::Trace)
+}
 
 /// The command that the words ask for, if they ask for one: the first word is the program's name.
 pub fn command(alloc: Global, words: &[String]) -> Result<Option<Command>, Memory>
@@ -29,10 +37,13 @@ pub fn command(alloc: Global, words: &[String]) -> Result<Option<Command>, Memor
     let Some(command) = command_of_settings(name, settings.as_slice()) else {
         return Ok(None);
     };
+    if takes_nothing(name) {
+        bare(alloc, name, word.as_str(), asked)?;
+        return Ok(Some(command));
+    }
     match name {
         Name::Check => Ok(Some(check(alloc, asked)?)),
         Name::Replay => Ok(Some(replay(alloc, asked)?)),
-        Name::Format => Ok(Some(format(alloc, asked)?)),
         _ => Ok(Some(command)),
     }
 }

@@ -11,7 +11,7 @@ use Rattle.alignment.specs.Environments.{Env}
 use Rattle.device_eval.specs.Evaluation.{Vars}
 use Rattle.topology.specs.Networks.{Network, IsNetwork}
 use Rattle.interval_facts.specs.Solutions.{Devices, In, Map, Maps, bind, around, local_map, evolved, Solves}
-use Rattle.growth_facts.specs.Variables.{occurs}
+use Rattle.fc_nodes.specs.Variables.{occurs}
 use Rattle.fragment_check.specs.Levels.{Lvs, level_of}
 use Rattle.converge_laws.specs.Fragment.{Analysis}
 use Rattle.converge_laws.specs.Stages.{lag_of, Stage, StageBy}
@@ -39,7 +39,7 @@ use Rattle.converge_laws.proofs.LowRanks.{ranks_are_low}
 use Rattle.converge_laws.proofs.Guarded.{IsPartBelow, SameBelow, guarded_equal, other_binder}
 use Rattle.converge_laws.proofs.Below.{compared_is, lies_between}
 use Rattle.converge_laws.proofs.Around.{around_up}
-use Rattle.converge_laws.proofs.Nearest.{some_around}
+use Rattle.interval_facts.proofs.Claims.{some_around}
 use Rattle.fc_values.proofs.Rising.{rises_test}
 
 module _ (A : Analysis) (N : Network) (d j : ℕ) (t : ValueType) (e : Evolution) (a u : Term) (p b : ℕ) (st : Stage) (lv : Lvs) (D : Devices) (V : Maps) (F : Map) (s : Solves N p (Evolve t e a u) D V F) (vars : Vars) (env : Env) (v : AnyValue) (tree : Tree) (cl : occurs st.var (Evolve t e a u) ≡ false) (g : Given A N d j p b st lv (Evolve t e a u) D V F s vars env) (r : Evolves N d p e a u vars env v tree)

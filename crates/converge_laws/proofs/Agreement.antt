@@ -9,7 +9,7 @@ use Rattle.fc_nodes.specs.Terms.{Leaf, Literal, Variable, Sense, Uid, NbrLink, T
 use Rattle.alignment.specs.Environments.{same_truth}
 use Rattle.topology.specs.Networks.{Network, near}
 use Rattle.interval_facts.specs.Solutions.{Devices, In, Map, Maps, bind, near_among, field_of, where_is, LeafIs}
-use Rattle.growth_facts.specs.Variables.{occurs, occurs_in}
+use Rattle.fc_nodes.specs.Variables.{occurs, occurs_in}
 use Rattle.converge_laws.proofs.Near.{AllSet, all_set}
 use Rattle.topology.specs.Nearby.{near_numbers}
 

@@ -20,7 +20,7 @@ use Rattle.interval_facts.specs.Solutions.{Devices, In, Map, Maps, near_among, a
 use Rattle.interval_facts.specs.Claims.{InRanges, AllInRanges}
 use Rattle.interval_facts.proofs.Pointwise.{pointwise_nth}
 use Rattle.growth_facts.specs.Leads.{lead, least_integer, greatest_integer}
-use Rattle.growth_facts.specs.Variables.{occurs, occurs_in}
+use Rattle.fc_nodes.specs.Variables.{occurs, occurs_in}
 use Rattle.growth_facts.specs.Beside.{Pairs}
 use Rattle.growth_facts.proofs.FieldPairs.{field_nth, pairs_with}
 use Rattle.growth_facts.proofs.Grow.{within_of}

@@ -11,7 +11,7 @@ use Rattle.alignment.specs.Environments.{Env, child_env}
 use Rattle.device_eval.specs.Evaluation.{Vars, own_or}
 use Rattle.topology.specs.Networks.{Network, near, IsNetwork}
 use Rattle.interval_facts.specs.Solutions.{Devices, Map, Maps, bind, near_among, around, local_map, evolved, Solves}
-use Rattle.growth_facts.specs.Variables.{occurs}
+use Rattle.fc_nodes.specs.Variables.{occurs}
 use Rattle.fragment_check.specs.Levels.{Lvs, level_of}
 use Rattle.converge_laws.specs.Fragment.{Analysis}
 use Rattle.converge_laws.specs.Stages.{Stage, KeptAt, HeardAt}

@@ -10,7 +10,7 @@ use Rattle.alignment.specs.Environments.{Env}
 use Rattle.device_eval.specs.Evaluation.{Vars}
 use Rattle.topology.specs.Networks.{Network, IsNetwork}
 use Rattle.interval_facts.specs.Solutions.{Devices, Map, Maps, bind, around, local_map, evolved, Solves}
-use Rattle.growth_facts.specs.Variables.{occurs}
+use Rattle.fc_nodes.specs.Variables.{occurs}
 use Rattle.fragment_check.specs.Levels.{Lvs, level_of}
 use Rattle.converge_laws.specs.Fragment.{Analysis}
 use Rattle.converge_laws.specs.Stages.{ClimbsBy, lag_of, Stage, StageBy, KeptAt, HeardAt}

@@ -16,7 +16,7 @@ use Rattle.device_eval.specs.Rules.{Evaluates, rep, share}
 use Rattle.device_eval.specs.Neighbours.{kept_there}
 use Rattle.topology.specs.Networks.{Network}
 use Rattle.interval_facts.specs.Solutions.{Devices, Map, Maps, bind, near_among, local_map, evolved, Solves}
-use Rattle.growth_facts.specs.Variables.{occurs}
+use Rattle.fc_nodes.specs.Variables.{occurs}
 use Rattle.fragment_check.specs.Levels.{Lvs, level_of}
 use Rattle.converge_laws.specs.Fragment.{Analysis}
 use Rattle.converge_laws.specs.Stages.{Stage, StageBy, KeptAt}

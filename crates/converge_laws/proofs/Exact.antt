@@ -11,7 +11,7 @@ use Rattle.topology.specs.Networks.{Network, IsNetwork}
 use Rattle.interval_facts.specs.Ranges.{RangeValue, IntRange, BoolRange, PairRange, InRange, LiesIn}
 use Rattle.interval_facts.specs.Solutions.{Devices, In, Map, Maps, around, at_device, Solves, SolveAll}
 use Rattle.interval_facts.specs.Claims.{InRanges, AllInRanges}
-use Rattle.growth_facts.specs.Variables.{occurs}
+use Rattle.fc_nodes.specs.Variables.{occurs}
 use Rattle.growth_facts.specs.Leads.{lead, Close, leads, greatest_integer}
 use Rattle.growth_facts.specs.Growth.{Grows, growth_of}
 use Rattle.growth_facts.specs.Beside.{Shallow}

@@ -15,7 +15,7 @@ use Rattle.topology.specs.Networks.{Network, Lives, numbers, near, IsNetwork}
 use Rattle.device_eval.proofs.Sights.{devices_with, fit_with, restricted_fits}
 use Rattle.topology.proofs.Lemmas.{AllNear, near_fits}
 use Rattle.interval_facts.specs.Solutions.{Devices, In, Map, Maps, bind, near_among, around, field_over, at_device, field_of, local_map, evolved, where_is, LeafIs, Solves, SolveAll}
-use Rattle.growth_facts.specs.Variables.{occurs, occurs_in}
+use Rattle.fc_nodes.specs.Variables.{occurs, occurs_in}
 use Rattle.converge_laws.proofs.Near.{is_same, in_part}
 use Rattle.converge_laws.proofs.Given.{situation_at}
 use Rattle.converge_laws.proofs.Step.{or_left, or_right, self_eq}

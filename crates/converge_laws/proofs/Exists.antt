@@ -12,7 +12,7 @@ use Rattle.device_eval.specs.Conditions.{Suits}
 use Rattle.topology.specs.Networks.{Network, Lives, IsNetwork}
 use Rattle.interval_facts.specs.Ranges.{Bounds, full}
 use Rattle.interval_facts.specs.Solutions.{Devices, In, Map, Maps, bind, around, at_device, local_map, evolved, where_is, Solves, SolveAll}
-use Rattle.growth_facts.specs.Variables.{occurs, is_own}
+use Rattle.fc_nodes.specs.Variables.{occurs, is_own}
 use Rattle.growth_facts.specs.Leads.{lead, least_integer}
 use Rattle.fragment_check.specs.declared.kinds.Pattern.{Pattern}
 use Rattle.fragment_check.specs.Shapes.{HasPattern, constant, acyclic, minimising, rising}
@@ -28,7 +28,7 @@ use Rattle.converge_laws.proofs.Iterated.{Turn, val, val_fits, fixed, last_low, 
 use Rattle.converge_laws.proofs.One.{own_size}
 use Rattle.converge_laws.proofs.Ranged.{lies_of}
 use Rattle.converge_laws.proofs.Standing.{Standing, StandAll, ranged, in_arguments, in_first, in_rest, in_nbr, in_body, in_condition, in_true, in_false, in_bound, in_let}
-use Rattle.converge_laws.proofs.Whole.{size_some}
+use Rattle.fc_nodes.proofs.Kids.{size_some}
 
 -- the types of the arguments of `rise`
 record RiseTypes (a b c t : ValueType) : Type 0 where

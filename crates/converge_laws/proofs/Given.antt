@@ -10,7 +10,7 @@ use Rattle.device_eval.specs.Rules.{Evaluates, EvaluateAll}
 use Rattle.device_eval.proofs.Sights.{kids_from}
 use Rattle.topology.specs.Networks.{Network, Lives, inputs_in}
 use Rattle.interval_facts.specs.Solutions.{Devices, In, Map, Maps, near_among, at_device, Solves, SolveAll}
-use Rattle.growth_facts.specs.Variables.{occurs, occurs_in}
+use Rattle.fc_nodes.specs.Variables.{occurs, occurs_in}
 use Rattle.fragment_check.specs.Levels.{Lvs, level_of, level_all}
 use Rattle.converge_laws.specs.Fragment.{Analysis}
 use Rattle.converge_laws.specs.Stages.{Stage}

@@ -11,7 +11,7 @@ use Rattle.fc_values.specs.Positions.{argument_nth}
 use Rattle.fc_nodes.specs.Terms.{Evolution, Term, Terms, Plain, Apply, Nbr, Evolve, If, Let, NoMore, More, type_of}
 use Rattle.interval_facts.specs.Ranges.{RangeValue, LiesIn}
 use Rattle.interval_facts.proofs.Pointwise.{pointwise_nth}
-use Rattle.growth_facts.specs.Variables.{occurs, occurs_in, is_heard}
+use Rattle.fc_nodes.specs.Variables.{occurs, occurs_in, is_heard}
 use Rattle.growth_facts.specs.Beside.{FieldPair, Beside, apart, heard, joined, BesideAll, no_more, one_more, IsPart}
 use Rattle.growth_facts.proofs.FieldPairs.{field_nth}
 use Rattle.growth_facts.proofs.Grow.{heard_uses, apply_not_heard, both_fit, within_of}

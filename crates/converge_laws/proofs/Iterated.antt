@@ -11,7 +11,7 @@ use Rattle.topology.specs.Networks.{Network, IsNetwork}
 use Rattle.interval_facts.specs.Ranges.{RangeValue}
 use Rattle.interval_facts.specs.Solutions.{Devices, In, Maps, bind, around, local_map, evolved, Solves}
 use Rattle.interval_facts.specs.Claims.{InRanges}
-use Rattle.growth_facts.specs.Variables.{occurs}
+use Rattle.fc_nodes.specs.Variables.{occurs}
 use Rattle.growth_facts.specs.Leads.{lead, Close, greatest_integer}
 use Rattle.growth_facts.specs.Growth.{Grows, growth_of}
 use Rattle.growth_facts.specs.Beside.{Shallow}

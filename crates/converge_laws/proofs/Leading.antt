@@ -9,7 +9,7 @@ use Rattle.fc_values.specs.BuiltinTypes.{inner, inners, lifted, has_field, rule_
 use Rattle.fc_nodes.specs.Typing.{types_of}
 use Rattle.fc_nodes.specs.Terms.{Evolution, Term, Terms, Plain, Apply, Nbr, Evolve, If, Let, NoMore, More, type_of, size}
 use Rattle.interval_facts.specs.Ranges.{RangeValue, IntRange, BoolRange, PairRange, InRange}
-use Rattle.growth_facts.specs.Variables.{occurs, occurs_in, is_heard}
+use Rattle.fc_nodes.specs.Variables.{occurs, occurs_in, is_heard}
 use Rattle.growth_facts.specs.Leads.{lead, leads, is_integer, greatest_integer}
 use Rattle.growth_facts.specs.Growth.{GrowthValue, Grows, Lacks, NodeFacts, only_if, on_one_side, lesser_growth, op_growth, growth_of, facts_in}
 use Rattle.growth_facts.specs.Beside.{Shallow, AllShallow}

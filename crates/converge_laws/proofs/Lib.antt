@@ -5,7 +5,6 @@ mod Given
 mod Step
 mod Evolve
 mod Down
-mod Fresh
 mod Root
 mod Around
 mod Seen
@@ -31,6 +30,5 @@ mod Existing
 mod Iterated
 mod Exists
 mod Stabilised
-mod Nearest
 mod Ends
 mod Verdict

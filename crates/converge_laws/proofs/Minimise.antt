@@ -10,7 +10,7 @@ use Rattle.fc_values.specs.Builtins.{others, least_of, builtin_value}
 use Rattle.fc_values.specs.BuiltinTypes.{inner}
 use Rattle.fc_values.specs.Positions.{argument_nth}
 use Rattle.fc_nodes.specs.Terms.{Evolution, Term, Apply, NoMore, More, type_of}
-use Rattle.growth_facts.specs.Variables.{occurs}
+use Rattle.fc_nodes.specs.Variables.{occurs}
 use Rattle.growth_facts.specs.Leads.{lead, Close}
 use Rattle.growth_facts.specs.Beside.{IsPart, FieldPair, Beside, apart, heard, joined, no_more, one_more}
 use Rattle.growth_facts.proofs.Closeness.{lesser_close}

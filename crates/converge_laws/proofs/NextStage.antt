@@ -11,7 +11,7 @@ use Rattle.fc_nodes.specs.Terms.{Evolution, Term, Apply, NoMore, More, type_of, 
 use Rattle.topology.specs.Networks.{Network, IsNetwork}
 use Rattle.interval_facts.specs.Solutions.{Devices, In, Map, Maps, around, local_map, evolved, Solves}
 use Rattle.interval_facts.specs.Claims.{InRanges}
-use Rattle.growth_facts.specs.Variables.{occurs}
+use Rattle.fc_nodes.specs.Variables.{occurs}
 use Rattle.growth_facts.specs.Leads.{Close}
 use Rattle.growth_facts.specs.Growth.{Grows, growth_of}
 use Rattle.growth_facts.specs.Beside.{FieldPair, Beside, Shallow, IsPart}
@@ -19,7 +19,7 @@ use Rattle.fragment_check.specs.Shapes.{Guarded}
 use Rattle.converge_laws.specs.Stages.{integer_of}
 use Rattle.converge_laws.specs.Fragment.{Analysis, InFragment}
 use Rattle.converge_laws.proofs.Around.{heard_in, around_up, solution_fits}
-use Rattle.converge_laws.proofs.Nearest.{some_around}
+use Rattle.interval_facts.proofs.Claims.{some_around}
 use Rattle.converge_laws.proofs.Below.{compared_is}
 use Rattle.converge_laws.proofs.Climb.{close_less}
 use Rattle.converge_laws.proofs.Exact.{hood_types, head_of}

@@ -11,7 +11,7 @@ use Rattle.fc_values.specs.Positions.{argument_nth}
 use Rattle.fc_nodes.specs.Terms.{Evolution, Term, Terms, Plain, Apply, Nbr, Evolve, If, Let, NoMore, More, type_of, size, sizes}
 use Rattle.topology.specs.Networks.{Network, IsNetwork}
 use Rattle.interval_facts.specs.Solutions.{Devices, In, Map, Maps, bind, around, at_device, local_map, evolved, where_is, Solves, SolveAll}
-use Rattle.growth_facts.specs.Variables.{occurs, occurs_in}
+use Rattle.fc_nodes.specs.Variables.{occurs, occurs_in}
 use Rattle.growth_facts.specs.Leads.{lead, Close}
 use Rattle.interval_facts.specs.Claims.{InRanges, AllInRanges}
 use Rattle.converge_laws.proofs.Near.{is_same, in_part}
@@ -21,7 +21,7 @@ use Rattle.converge_laws.proofs.Agreement.{AgreeFor, AgreeIn, leaf_same, local_s
 use Rattle.fc_values.specs.declared.builtins.Builtin.TheVariants as op
 use Rattle.fc_values.specs.declared.builtins.Builtin.TheVariants as op
 use Rattle.fc_values.specs.Types.{TypeLocal, TypeField}
-use Rattle.growth_facts.specs.Variables.{is_own}
+use Rattle.fc_nodes.specs.Variables.{is_own}
 use Rattle.growth_facts.specs.Leads.{least_integer, greatest_integer}
 use Rattle.growth_facts.proofs.Grow.{least_nth, within_of}
 use Rattle.fragment_check.specs.declared.kinds.Pattern.{Pattern}
@@ -29,12 +29,12 @@ use Rattle.fragment_check.specs.Shapes.{HasPattern, constant, acyclic, minimisin
 use Rattle.converge_laws.specs.Stages.{integer_of}
 use Rattle.converge_laws.specs.Fragment.{Analysis, IsFor, InFragment, AllInFragment}
 use Rattle.converge_laws.proofs.Around.{heard_in}
-use Rattle.converge_laws.proofs.Nearest.{some_around}
+use Rattle.interval_facts.proofs.Claims.{some_around}
 use Rattle.converge_laws.proofs.Exact.{HoodTypes, hood_types, head_of, hood_top, last_stage, exact_int}
 use Rattle.converge_laws.proofs.NextStage.{OneOf, next_hood, next_low}
 use Rattle.converge_laws.proofs.Ranged.{lies_of}
 use Rattle.converge_laws.proofs.RiseGoal.{RiseGoal, rise_goal}
-use Rattle.converge_laws.proofs.Whole.{size_some}
+use Rattle.fc_nodes.proofs.Kids.{size_some}
 
 pub own_size : (p : ℕ) (own : Term) → is_own p own ≡ true → size own ≡ 1
 own_size p (Plain t' l') o = refl

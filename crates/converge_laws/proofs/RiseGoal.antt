@@ -16,7 +16,7 @@ use Rattle.interval_facts.specs.Ranges.{RangeValue}
 use Rattle.interval_facts.specs.Solutions.{Devices, In, Map, Maps, near_among, around, at_device, Solves, SolveAll}
 use Rattle.interval_facts.specs.Claims.{InRanges, AllInRanges}
 use Rattle.interval_facts.proofs.Pointwise.{pointwise_nth}
-use Rattle.growth_facts.specs.Variables.{is_own}
+use Rattle.fc_nodes.specs.Variables.{is_own}
 use Rattle.growth_facts.specs.Leads.{lead}
 use Rattle.converge_laws.proofs.Around.{local_back, local_in}
 use Rattle.converge_laws.proofs.Exact.{hood_types}

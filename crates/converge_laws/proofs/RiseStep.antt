@@ -11,7 +11,7 @@ use Rattle.alignment.specs.Environments.{Env, child_env}
 use Rattle.device_eval.specs.Evaluation.{Vars, variable_at, own_or}
 use Rattle.topology.specs.Networks.{Network, IsNetwork}
 use Rattle.interval_facts.specs.Solutions.{Devices, Map, Maps, bind, near_among, around, local_map, evolved, Solves}
-use Rattle.growth_facts.specs.Variables.{occurs}
+use Rattle.fc_nodes.specs.Variables.{occurs}
 use Rattle.fragment_check.specs.Levels.{Lvs, level_of}
 use Rattle.converge_laws.specs.Fragment.{Analysis}
 use Rattle.converge_laws.specs.Stages.{ClimbsBy, lag_of, Stage, StageBy, KeptAt, HeardAt}
@@ -44,7 +44,7 @@ use Rattle.interval_facts.specs.Ranges.{RangeValue, IntRange, BoolRange, PairRan
 use Rattle.fragment_check.specs.Patterns.{is_pair}
 use Rattle.interval_facts.specs.Solutions.{SolveAll, at_device}
 use Rattle.interval_facts.proofs.Pointwise.{pointwise_nth}
-use Rattle.growth_facts.specs.Variables.{is_own, occurs_in}
+use Rattle.fc_nodes.specs.Variables.{is_own, occurs_in}
 use Rattle.growth_facts.specs.Growth.{Grows, growth_of}
 use Rattle.growth_facts.specs.Leads.{least_integer, greatest_integer}
 use Rattle.growth_facts.specs.Turns.{turns_of, rounds_of}
@@ -55,7 +55,7 @@ use Rattle.converge_laws.proofs.Near.{near_kid, own_kid}
 use Rattle.converge_laws.proofs.Step.{all_given, kid_is, or_left, or_right}
 use Rattle.converge_laws.proofs.Seen.{variable_value}
 use Rattle.converge_laws.proofs.Around.{heard_in, around_up, local_back, local_in}
-use Rattle.converge_laws.proofs.Nearest.{some_around}
+use Rattle.interval_facts.proofs.Claims.{some_around}
 use Rattle.converge_laws.proofs.Body.{own_kept, hears_by}
 use Rattle.converge_laws.proofs.Minimise.{grows}
 use Rattle.converge_laws.proofs.Climb.{close_less}

@@ -27,7 +27,7 @@ use Rattle.topology.proofs.Lemmas.{AllNear, near_fits}
 use Rattle.converge_laws.proofs.Near.{NearAre, OwnIs}
 use Rattle.converge_laws.proofs.Given.{Here, Given, StepOf}
 use Rattle.converge_laws.proofs.Step.{level_low}
-use Rattle.converge_laws.proofs.Fresh.{not_behind}
+use Rattle.fc_nodes.proofs.Fresh.{not_behind}
 use Rattle.converge_laws.proofs.Down.{holds_less, holds_none}
 use Rattle.converge_laws.proofs.RisingLevels.{rounds_law, good_start}
 

@@ -17,7 +17,7 @@ use Rattle.device_eval.proofs.Sights.{kids_from, first_kid, rest_kids, devices_w
 use Rattle.fc_nodes.specs.Flat.{KeepsWith, FitsTree, FitTrees}
 use Rattle.topology.specs.Networks.{Network, near, IsNetwork}
 use Rattle.interval_facts.specs.Solutions.{Devices, In, Map, Maps, near_among, around, at_device, Solves, SolveAll}
-use Rattle.growth_facts.specs.Variables.{occurs, occurs_in, is_variable, is_heard}
+use Rattle.fc_nodes.specs.Variables.{occurs, occurs_in, is_variable, is_heard}
 use Rattle.fragment_check.specs.Levels.{Lvs, level_of, level_all}
 use Rattle.converge_laws.specs.Fragment.{Analysis}
 use Rattle.converge_laws.specs.Stages.{Stage, HeardAt}

@@ -7,7 +7,7 @@ use Rattle.fc_values.specs.Fields.{AnyValue, ValueLocal, restricted}
 use Rattle.fc_nodes.specs.Terms.{Leaf, Literal, Variable, Sense, Uid, NbrLink, Evolution, ByRep, ByShare, Term, Terms, Plain, Apply, Nbr, Evolve, If, Let, NoMore, More, size, sizes}
 use Rattle.topology.specs.Networks.{Network, near, IsNetwork}
 use Rattle.interval_facts.specs.Solutions.{Devices, In, Map, Maps, near_among, around, at_device, field_of, evolved, Solves, SolveAll}
-use Rattle.growth_facts.specs.Variables.{occurs, occurs_in, is_variable, is_heard}
+use Rattle.fc_nodes.specs.Variables.{occurs, occurs_in, is_variable, is_heard}
 use Rattle.converge_laws.specs.Fragment.{Analysis}
 use Rattle.converge_laws.specs.Fragment.{InFragment, AllInFragment}
 use Rattle.interval_facts.specs.Claims.{InRanges, AllInRanges}

@@ -65,7 +65,7 @@ module _ (P : Program) (A : Analysis) (N : Network) (program : IsProgram P) (net
   solution : (F : Map) × Solves N 0 U.main (lives N) no_binders F
   solution = exists A N net an.for metric least greatest suits U.main [] [] 0 (lives N) no_binders an.fragment stands (λ q t e. absurd cc)
 
-  one : HasOneSolution U N
+  pub one : HasOneSolution U N
   one = record {
     field = λ d. local_in (solution.0 d);
     solves = solved;

@@ -18,7 +18,7 @@ use Rattle.device_eval.specs.Evaluation.{Vars, variable_at}
 use Rattle.device_eval.specs.Rules.{literal, variable, sense, uid, nbr_link, builtin, nbr, if_true, if_false, binding, none, one_more}
 use Rattle.topology.specs.Networks.{Network, near}
 use Rattle.interval_facts.specs.Solutions.{Devices, In, Map, Maps, bind, near_among, around, where_is, local_map, Solves}
-use Rattle.growth_facts.specs.Variables.{occurs, occurs_in, is_own}
+use Rattle.fc_nodes.specs.Variables.{occurs, occurs_in, is_own}
 use Rattle.fragment_check.specs.Levels.{Lvs, bind_level, leaf_level, reads_level, level_of, level_all}
 use Rattle.converge_laws.specs.Fragment.{Analysis}
 use Rattle.converge_laws.specs.Stages.{Stage}

@@ -1,11 +1,12 @@
 -- A verdict's yes gives an analysis.
-use Rattle.std.proofs.Common.{◌≡◌, ℕ, suc, ◌≤◌, ◌+◌, List, [], ◌∷◌, ◌++◌, length, refl, sym, ◌∙◌, ap, subst, Bool, true, false, Option, Some, None, nat_eq}
+use Rattle.std.proofs.Common.{◌≡◌, ℕ, zero, suc, arith, ◌≤◌, ◌+◌, List, [], ◌∷◌, ◌++◌, length, refl, sym, ◌∙◌, ap, subst, Bool, true, false, Option, Some, None, nat_eq}
 use Rattle.std.specs.Prelude.{if◌then◌else◌}
 use Rattle.std.proofs.lemmas.Bool.{eqb-true}
 use Rattle.std.specs.declared.result.Result.{Result}
 use Rattle.std.specs.declared.result.Result.TheVariants.{Ok, Err}
 use Rattle.fc_values.specs.Types.{ValueType, Declarations}
 use Rattle.fc_values.specs.BuiltinTypes.{inner}
+use Rattle.fc_values.specs.Trees.{TreeExport}
 use Rattle.fc_nodes.specs.declared.verdicts.Reason.{Reason}
 use Rattle.fc_nodes.specs.declared.verdicts.Verdict.TheVariants as verdict
 use Rattle.fc_nodes.specs.Terms.{Leaf, Literal, Variable, Sense, Uid, NbrLink, Term, Terms, Plain, Apply, Nbr, Evolve, If, Let, NoMore, More, type_of, size, term_at, Laid, AllLaid}
@@ -25,11 +26,14 @@ use Rattle.fragment_check.specs.Shapes.{HasPattern}
 use Rattle.fragment_check.specs.Laws.{PatternsHaveShapes}
 use Rattle.fragment_check.specs.Verdicts.{bound_range, variable_range, added_levels, added_by, added_at, judged_of, main_level, verdict_by}
 use Rattle.converge_laws.specs.Fragment.{Analysis, InFragment, AllInFragment}
-use Rattle.converge_laws.specs.Laws.{IsAnalysis}
-use Rattle.converge_laws.specs.Stabilising.{Stabilises}
-use Rattle.converge_laws.specs.Verdicts.{pattern_or, analysis_of, YesStabilises, YesSettles}
+use Rattle.converge_laws.specs.Laws.{IsAnalysis, root_level}
+use Rattle.converge_laws.specs.CoreLevels.{MaybeAt, Raises}
+use Rattle.converge_laws.specs.Stabilising.{HasOneSolution, Stabilises}
+use Rattle.converge_laws.specs.Verdicts.{pattern_or, analysis_of, level_by, YesAnalyses, YesStabilises, YesRaises, YesSettles}
 use Rattle.converge_laws.proofs.Ends.{greatest_within, get_within, nodes_within}
-use Rattle.converge_laws.proofs.Stabilised.{stabilised}
+use Rattle.converge_laws.proofs.RisingLevels.{good_start, levels_of_steps}
+use Rattle.converge_laws.proofs.Step.{level_low}
+use Rattle.converge_laws.proofs.Stabilised.{stabilised, one, raises}
 
 -- none is refused among two lists of judgements
 none_both : (js ks : List Judged) → first_refused (js ++ ks) ≡ None → (first_refused js ≡ None) × (first_refused ks ≡ None)
@@ -153,10 +157,38 @@ yes_says : (o : Option (ℕ × Reason)) (level k : ℕ) → verdict_by o level �
 yes_says None level k h = (refl, cc)
 yes_says (Some j) level k h = absurd cc
 
+pub yes_analyses : PatternsHaveShapes → YesAnalyses
+yes_analyses shapes P N k program net same h =
+    let y = yes_says (first_refused (judged_of P)) (main_level P (length N.devices)) k h in
+    record { analysis = analysed shapes P (length N.devices) program N same refl y.0; level = y.1 }
+
 pub yes_stabilises : PatternsHaveShapes → StepsKeepGood → CopiesFit → RunsCut → YesStabilises
 yes_stabilises shapes keeps fit cuts P N k program net same h =
-    let y = yes_says (first_refused (judged_of P)) (main_level P (length N.devices)) k h in
-    subst (Stabilises (unfolding_of P) N) y.1 (stabilised P (analysis_of P (length N.devices)) N program net same (analysed shapes P (length N.devices) program N same refl y.0) keeps fit cuts)
+    let a = yes_analyses shapes P N k program net same h in
+    subst (Stabilises (unfolding_of P) N) a.level (stabilised P (analysis_of P (length N.devices)) N program net same a.analysis keeps fit cuts)
+
+-- at the level of `main` an export is there, and has the value of the solution
+at_root : (P : Program) (N : Network) (s : HasOneSolution (unfolding_of P) N) (k : ℕ) → root_level P (analysis_of P (length N.devices)) ≡ k
+    → (d : ℕ) (o : Option TreeExport) → MaybeAt (level_by P N s) k d o → (e : TreeExport) × (o ≡ Some e) × (e.value ≡ s.field d)
+at_root P N s k q d (Some e) h = (e, refl, h.value (omega (arith, q)))
+at_root P N s zero q d None h =
+    let low = level_low (analysis_of P (length N.devices)).stages 0 1 (size (unfolding_of P).main) (λ p. 0) (unfolding_of P).main in
+    absurd (omega (arith, q, low))
+at_root P N s (suc k) q d None h = absurd h
+
+pub yes_raises : PatternsHaveShapes → StepsKeepGood → CopiesFit → RunsCut → YesRaises
+yes_raises shapes keeps fit cuts P N k program net same h =
+    let a = yes_analyses shapes P N k program net same h in
+    let A = analysis_of P (length N.devices) in
+    let only = one P A N program net same a.analysis in
+    let r = raises P A N program net same a.analysis keeps fit cuts only.field only.solves in
+    record {
+      one = only;
+      raises = r;
+      begins = good_start keeps fit cuts (level_by P N only) P N program net same r;
+      steps = levels_of_steps keeps fit cuts (level_by P N only) P N program net same r;
+      reached = λ d o i. at_root P N only k a.level d o i;
+    }
 
 pub yes_settles : PatternsHaveShapes → StepsKeepGood → RunsKeepGood → CopiesFit → RunsCut → RunsCutAtEdit → YesSettles
 yes_settles shapes keeps runs fit cuts edits P start last log k program good run h rounds =

@@ -6,6 +6,7 @@ use Rattle.fc_values.specs.Fields.{AnyValue}
 use Rattle.fc_values.specs.BuiltinTypes.{inner}
 use Rattle.fc_values.specs.Trees.{Tree, TreeExport}
 use Rattle.fc_nodes.specs.Terms.{Literal, Variable, Sense, Uid, NbrLink, Evolution, ByRep, ByShare, Term, Terms, Plain, Apply, Nbr, Evolve, If, Let, NoMore, More, type_of, size}
+use Rattle.fc_nodes.proofs.Kids.{size_some}
 use Rattle.fc_nodes.specs.Program.{Program, unfolding_of, IsProgram}
 use Rattle.alignment.specs.Environments.{Env}
 use Rattle.device_eval.specs.Evaluation.{Vars}
@@ -14,7 +15,7 @@ use Rattle.firing_core.specs.Entries.{EntryValue}
 use Rattle.firing_core.specs.Cores.{Core, Run, IsGood}
 use Rattle.firing_core.specs.Rounds.{HasRounds}
 use Rattle.interval_facts.specs.Solutions.{Devices, Map, Maps, bind, around, local_map, evolved, Solves}
-use Rattle.growth_facts.specs.Variables.{is_own, occurs, occurs_in}
+use Rattle.fc_nodes.specs.Variables.{is_own, occurs, occurs_in}
 use Rattle.fragment_check.specs.Levels.{Lvs, level_of, level_all}
 use Rattle.growth_facts.specs.Leads.{Close}
 use Rattle.converge_laws.specs.Stages.{Stage}
@@ -70,14 +71,6 @@ mutual
       by_test : (c : Bool) → occurs x t ≡ c → (c || occurs_in x ts) ≡ true → (occurs x t ≡ true → suc b ≤ level_of K q b x lv t) → (occurs_in x ts ≡ true → suc b ≤ level_all K (q + size t) b x lv ts) → suc b ≤ level_all K q b x lv (More t ts)
       by_test true k o f g = let l = f k in omega (arith, l)
       by_test false k o f g = let l = g o in omega (arith, l)
-
-pub size_some : (t : Term) → 1 ≤ size t
-size_some (Plain t l) = omega arith
-size_some (Apply t o xs) = omega arith
-size_some (Nbr t a) = omega arith
-size_some (Evolve t e a b) = omega arith
-size_some (If t c a b) = omega arith
-size_some (Let t a b) = omega arith
 
 module _ (A : Analysis) (N : Network) (net : IsNetwork N) (for : IsFor A N) (d j : ℕ) where
   abbrev M : ℕ

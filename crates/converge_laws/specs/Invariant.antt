@@ -7,7 +7,7 @@ use Rattle.fc_nodes.specs.Program.{Unfolding}
 use Rattle.fc_nodes.specs.Flat.{IsWellTyped}
 use Rattle.topology.specs.Networks.{Network, lives}
 use Rattle.interval_facts.specs.Solutions.{Devices, Map, Maps, bind, local_map, evolved, where_is, Solves, SolveAll, no_binders, SolvesMain}
-use Rattle.growth_facts.specs.Variables.{is_own}
+use Rattle.fc_nodes.specs.Variables.{is_own}
 use Rattle.fragment_check.specs.Levels.{Lvs, bind_level, level_of}
 use Rattle.converge_laws.specs.Fragment.{Analysis}
 use Rattle.converge_laws.specs.Stages.{Stage, rank_by, lag_of, KeptAt, HeardAt}

@@ -1,5 +1,5 @@
 -- The analysis that a verdict stands on, and what a yes promises.
-use Rattle.std.specs.Prelude.{ℕ, ◌≡◌, List, length, Some}
+use Rattle.std.specs.Prelude.{ℕ, ◌≡◌, List, length, Option, Some}
 use Rattle.std.specs.declared.result.Result.{Result}
 use Rattle.std.specs.declared.result.Result.TheVariants.{Ok, Err}
 use Rattle.fc_values.specs.Trees.{TreeExport}
@@ -15,6 +15,9 @@ use Rattle.fragment_check.specs.declared.kinds.Pattern.{Pattern}
 use Rattle.fragment_check.specs.declared.kinds.Pattern.TheVariants as pattern
 use Rattle.fragment_check.specs.Verdicts.{variable_range, stages_of, pattern_at, verdict_of}
 use Rattle.converge_laws.specs.Fragment.{Analysis}
+use Rattle.converge_laws.specs.Laws.{IsAnalysis, root_level}
+use Rattle.converge_laws.specs.CoreLevels.{ExportLevel, MaybeAt, Raises, LevelsBegin, LevelsOfSteps}
+use Rattle.converge_laws.specs.Invariant.{ExportAt}
 use Rattle.converge_laws.specs.Stabilising.{HasOneSolution, Stabilises}
 
 -- the pattern, where there is one
@@ -32,11 +35,38 @@ analysis_of P n = record {
   stages = stages_of P n;
 }
 
+-- a yes for so many rounds says that this is an analysis of the program, and that so many is the level of `main`
+pub record IsAnalysed (P : Program) (N : Network) (k : ℕ) : Type 0 where
+  pub analysis : IsAnalysis P (analysis_of P (length N.devices)) N
+  pub level : root_level P (analysis_of P (length N.devices)) ≡ k
+
+abbrev pub YesAnalyses : Type 0
+YesAnalyses = (P : Program) (N : Network) (k : ℕ) → IsProgram P → IsNetwork N → N.declared ≡ P.declared
+    → verdict_of P (length N.devices) ≡ verdict.Yes k → IsAnalysed P N k
+
 -- the convergence law: a yes for so many rounds says that the program stabilises within them on each network with its
 -- declarations and so many devices
 abbrev pub YesStabilises : Type 0
 YesStabilises = (P : Program) (N : Network) (k : ℕ) → IsProgram P → IsNetwork N → N.declared ≡ P.declared
     → verdict_of P (length N.devices) ≡ verdict.Yes k → Stabilises (unfolding_of P) N k
+
+-- the levels of exports that agree with the one field that solves a program, node by node
+abbrev pub level_by : (P : Program) (N : Network) → HasOneSolution (unfolding_of P) N → ExportLevel
+level_by P N one = ExportAt (unfolding_of P) (analysis_of P (length N.devices)) N one.field one.solves
+
+-- The same step by step, for whatever tables the devices see: levels of exports that firings raise and steps keep, and
+-- at level k an export is there and has the value of the one field.
+pub record RaisesTo (P : Program) (N : Network) (k : ℕ) : Type 0 where
+  pub one : HasOneSolution (unfolding_of P) N
+  pub raises : Raises (level_by P N one) (unfolding_of P) N
+  pub begins : LevelsBegin (level_by P N one) (unfolding_of P) N
+  pub steps : LevelsOfSteps (level_by P N one) (unfolding_of P) N
+  pub reached : (d : ℕ) (o : Option TreeExport) → MaybeAt (level_by P N one) k d o
+      → (e : TreeExport) × (o ≡ Some e) × (e.value ≡ one.field d)
+
+abbrev pub YesRaises : Type 0
+YesRaises = (P : Program) (N : Network) (k : ℕ) → IsProgram P → IsNetwork N → N.declared ≡ P.declared
+    → verdict_of P (length N.devices) ≡ verdict.Yes k → RaisesTo P N k
 
 -- a core's exports have the values of the one field that solves the program on the core's network
 pub record IsSettled (U : Unfolding) (c : Core) : Type 0 where

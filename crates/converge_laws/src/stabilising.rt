@@ -10,7 +10,7 @@ ghost use Rattle.firing_core.specs.Rounds.{after_edit, HasRounds};
 ghost use Rattle.fragment_check.specs.Verdicts.{verdict_of};
 ghost use Rattle.converge_laws.specs.Laws.{SolutionsAreOne, SolutionsRaiseLevels, AnalysedStabilise};
 ghost use Rattle.converge_laws.specs.Stabilising.{Stabilises};
-ghost use Rattle.converge_laws.specs.Verdicts.{IsSettled};
+ghost use Rattle.converge_laws.specs.Verdicts.{YesAnalyses, YesRaises, YesStabilises, IsSettled};
 
 use fc_nodes::Unfolded;
 use firing_core::{Book, faultless_steps, runs_cut, steps_keep_good};
@@ -43,6 +43,24 @@ pub fn analysed_programs_stabilise()
     runs_cut();
 }
 
+/// A yes gives the analysis of the program by the definitions: each `rep` and `share` outside the first values has its pattern,
+/// and the level of `main` is the number of rounds.
+pub fn yes_analyses()
+    ensures { YesAnalyses }
+{
+    patterns_have_shapes();
+}
+
+/// The convergence law, of all programs and networks.
+pub fn yes_stabilises()
+    ensures { YesStabilises }
+{
+    patterns_have_shapes();
+    steps_keep_good();
+    faultless_steps();
+    runs_cut();
+}
+
 /// The convergence law: where the verdict for a program and so many devices as a network with its declarations has is a yes
 /// for `k` rounds, exactly one field solves the program there, and from every good core each log without an edit with `k`
 /// rounds leads to its values.
@@ -53,6 +71,17 @@ pub fn stabilises(program: &Unfolded, net: &Network)
 {
     program.declared();
     net.declared();
+    patterns_have_shapes();
+    steps_keep_good();
+    faultless_steps();
+    runs_cut();
+}
+
+/// The same step by step, for whatever tables the devices see: levels of exports that firings raise and steps keep, of
+/// which the `k`-th has the values of the field.
+pub fn yes_raises_levels()
+    ensures { YesRaises }
+{
     patterns_have_shapes();
     steps_keep_good();
     faultless_steps();

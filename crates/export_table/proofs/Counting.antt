@@ -1,8 +1,9 @@
 -- What a log with one entry more says of begins.
 use Rattle.std.proofs.Common.{◌≡◌, ℕ, zero, suc, ◌+◌, ◌≤◌, List, [], ◌∷◌, ◌++◌, length, drop, refl, ap, ◌∙◌, arith, Bool, true, false, ◌||◌, if◌then◌else◌}
 use Rattle.firing_core.specs.Entries.{EntryValue}
+use Rattle.firing_core.specs.Stretches.{is_begin, begins}
 use Rattle.export_table.specs.Items.{Opening}
-use Rattle.export_table.specs.Begins.{is_join, has_join, since_join, is_begin, begins, begun_in}
+use Rattle.export_table.specs.Begins.{is_join, has_join, since_join, begun_in}
 
 drop_snoc : (n : ℕ) (xs : List EntryValue) (x : EntryValue) → n ≤ length xs → drop n (xs ++ x ∷ []) ≡ drop n xs ++ x ∷ []
 drop_snoc zero xs x l = refl

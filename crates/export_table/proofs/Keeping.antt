@@ -1,7 +1,9 @@
 -- What the type of the locked value keeps, after each entry.
-use Rattle.std.proofs.Common.{◌≡◌, ℕ, ◌+◌, ◌<◌, ◌≤◌, List, [], ◌∷◌, ◌++◌, length, refl, sym, ap, ◌∙◌, subst, arith, Bool, true, false, ◌||◌, nat_eq, nat_lt, Some, None, if◌then◌else◌, length-append, length-set}
+use Rattle.std.proofs.Common.{◌≡◌, ℕ, ◌+◌, ◌<◌, ◌≤◌, List, [], ◌∷◌, ◌++◌, length, refl, sym, ap, ◌∙◌, subst, arith, Bool, true, false, ◌||◌, nat_eq, nat_lt, Some, None, if◌then◌else◌, length-append, length-set, get_or, set, get_or-set_same, get_or-set_other}
 use Rattle.std.proofs.lemmas.Option.{none-some}
 use Rattle.std.proofs.lemmas.Bool.{false≢true, eqb-true, ltb-true, ltb-false}
+use mathlib.Core.Logic.{dite}
+use native.Mathlib.Decide.{ℕ_discrete}
 use Rattle.fc_values.specs.Trees.{Copy}
 use Rattle.fc_nodes.specs.Program.{Unfolding}
 use Rattle.fc_values.specs.Fields.{is_in}
@@ -14,10 +16,10 @@ use Rattle.firing_core.specs.CoreViews.{CoreValue, core_of, rooms_of, mark}
 use Rattle.firing_core.specs.Books.{BookValue, IsBook, AppendsEntry}
 use Rattle.export_table.specs.Items.{Opening}
 use Rattle.export_table.specs.Begins.{begun_in, IsNext}
-use Rattle.export_table.specs.Agendas.{AgendaValue, IsAgenda, begun_by, is_ready, after_begin, after_end, after_change}
+use Rattle.export_table.specs.Agendas.{AgendaValue, IsAgenda, IsWithin, begun_by, is_ready, after_begin, after_end, after_change}
 use Rattle.export_table.specs.Changes.{NamesDevice, change_by, after_view}
 use Rattle.export_table.proofs.Planning.{can_leave}
-use Rattle.export_table.specs.Holding.{HeldValue, IsHeld, Plans, Turned, NothingLeft, opening_in, log_in}
+use Rattle.export_table.specs.Holding.{HeldValue, IsHeld, Plans, Turned, NothingLeft, BeginsWithin, opening_in, log_in}
 
 -- ---- numbers of devices
 
@@ -53,10 +55,10 @@ module _ (b b' : BookValue) (rounds turns front : ℕ) where
   abbrev Before : HeldValue
   Before = record { book = b; rounds = rounds; turns = turns; front = front }
 
-  pub keeps : (a a' : AgendaValue) (e : Entry) → IsHeld Before a → AppendsEntry b b' e → b'.spare + 1 ≡ b.spare → Roomy b'.core → IsAgenda a' → a'.rounds ≡ rounds
+  pub keeps : (a a' : AgendaValue) (e : Entry) → IsHeld Before a → AppendsEntry b b' e → b'.spare + 1 ≡ b.spare → Roomy b'.core → IsAgenda a' → IsWithin a' → a'.rounds ≡ rounds
       → Plans (opening_in Before) (log_in Before ++ entry_of e ∷ []) (core_of b'.core) a'
       → IsHeld (record { book = b'; rounds = a'.rounds; turns = turns; front = front }) a'
-  keeps a a' e h step spare roomy agenda same plans =
+  keeps a a' e h step spare roomy agenda within same plans =
       let long : length b'.log ≡ length b.log + 1 = ap length step.log ∙ length-append b.log (e ∷ []) in
       let past = h.past in let room = h.room in record {
         past = omega arith;
@@ -65,6 +67,7 @@ module _ (b b' : BookValue) (rounds turns front : ℕ) where
         plans = subst (λ (z : Opening × List EntryValue). Plans z.0 z.1 (core_of b'.core) a')
             (λ i. (record { program = sym step.program i; start = sym step.start i; rounds = sym same i; turns = turns; front = front }, (sym (entries_snoc b.log e) ∙ ap entries_of (sym step.log)) i)) plans;
         agenda = agenda;
+        within = within;
       }
 
   pub turned : (a : AgendaValue) (r : ℕ) (e : Entry) → IsHeld Before a → IsBook b → AppendsEntry b b' e → r ≡ rounds → Turned Before (record { book = b'; rounds = r; turns = turns; front = front }) e
@@ -159,3 +162,28 @@ whole_change a (SetEdit d i v) w = w
 whole_change a (PokeEdit d e) w = w
 whole_change a (JoinEdit y) w = record { begun = length-set a.begun y.id 0 ∙ w.begun; ready = length-set a.ready y.id (nat_lt 0 a.rounds) ∙ w.ready }
 whole_change a (LeaveEdit d) w = record { begun = w.begun; ready = length-set a.ready d false ∙ w.ready }
+
+-- ---- no device begins more than it may
+
+set_within : (xs : List ℕ) (d n most : ℕ) → d < length xs → n ≤ most → ((e : ℕ) → get_or xs e 0 ≤ most) → (e : ℕ) → get_or (set xs d n) e 0 ≤ most
+set_within xs d n most small fits f e = dite (ℕ_discrete e d)
+    (λ same. subst (λ k. get_or (set xs d n) k 0 ≤ most) (sym same) (subst (λ k. k ≤ most) (sym (get_or-set_same xs d n 0 small)) fits))
+    (λ other. subst (λ k. k ≤ most) (sym (get_or-set_other xs d e n 0 other)) (f e))
+
+pub within_begin : (a : AgendaValue) (d : ℕ) → IsAgenda a → d < 65536 → begun_by a d < a.rounds → IsWithin a → IsWithin (after_begin a d)
+within_begin a d k small some w = set_within a.begun d (begun_by a d + 1) a.rounds (omega (arith, k.begun, small)) (omega (arith, some)) w
+
+pub within_change : (U : Unfolding) (a : AgendaValue) (x : EditValue) → EditFits U x → IsAgenda a → IsWithin a → IsWithin (after_change a x)
+within_change U a (LinkEdit b c v) fits k w = w
+within_change U a (UnlinkEdit b c) fits k w = w
+within_change U a (SetEdit d i v) fits k w = w
+within_change U a (PokeEdit d e) fits k w = w
+within_change U a (JoinEdit y) fits k w = set_within a.begun y.id 0 a.rounds (omega (arith, k.begun, fits)) (omega arith) w
+within_change U a (LeaveEdit d) fits k w = w
+
+-- a device that may begin has begun less than it may
+pub may_more : (o : Opening) (log : List EntryValue) (c : Core) (a : AgendaValue) (d : ℕ) → Plans o log c a → (d < 65536) × (is_ready a d ≡ true) → begun_by a d < a.rounds
+may_more o log c a d p some = let m = (p.ready d some.0).0 some.1 in let l = m.some in let b = p.begun d some.0 in let r = p.rounds in omega (arith, l, b, r)
+
+pub begins_within : (h : HeldValue) (a : AgendaValue) → IsHeld h a → BeginsWithin (opening_in h) (log_in h)
+begins_within h a k d small = let p = k.plans in let n = k.within d in let b = p.begun d small in let r = p.rounds in omega (arith, n, b, r)

@@ -9,4 +9,3 @@ mod Passing
 mod Turning
 mod OwnFirings
 mod Calls
-mod Fives

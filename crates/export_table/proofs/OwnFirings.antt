@@ -22,7 +22,7 @@ use Rattle.export_table.specs.Answers.{after_item, begun_from, last_begin, item_
 use Rattle.export_table.specs.Holding.{HeldValue, IsOpenAt, IsTakenAt, opening_in, log_in, core_in, list_of}
 use Rattle.export_table.specs.Firings.{FiringValue}
 use Rattle.export_table.specs.Passing.{TableValue, IsPassOf, on_log, written}
-use Rattle.export_table.specs.Turns.{MayEnd, Ends, Began, IsOwnFiring, CanEnd, FiringsStay, Ended}
+use Rattle.export_table.specs.Turns.{MayEnd, Ends, Began, IsOwnFiring, CanEnd, KeepsFirings, FiringsStay, Ended}
 use Rattle.export_table.proofs.Flying.{begin_not_end, cut_at, take_all, answers_here, open_last}
 use Rattle.turn_lock.proofs.Lists.{in_snoc, in_left, in_last, at_below}
 use Rattle.export_table.proofs.Passing.{own_items, from_items}
@@ -205,3 +205,7 @@ firing_stays o v w before core e place f t other own = record {
 pub own_firings : {Room : Type 0} (o : Opening) (v w : PassView EntryValue) (r : Result FiringValue Room) → IfOk r (Began o v w) → IfOk r (CanEnd o w)
 own_firings o v w (Ok f) ok = record { snap = ok.snap; own = own_firing o v w f ok }
 own_firings o v w (Err m) ok = tt
+
+-- a firing that may be ended may still be, where each such firing stays one
+pub still_ends : (o : Opening) (v w : PassView EntryValue) (f : FiringValue) → CanEnd o v f → KeepsFirings o v w → CanEnd o w f
+still_ends o v w f c keeps = record { snap = c.snap; own = λ e program snap. keeps f.place e (c.own e program snap) }

@@ -14,7 +14,8 @@ use Rattle.firing_core.specs.Cores.{Core}
 use Rattle.firing_core.specs.CoreViews.{CoreValue, core_of}
 use Rattle.firing_core.specs.Books.{BookValue, IsSameBook}
 use Rattle.export_table.specs.Items.{Opening}
-use Rattle.export_table.specs.Begins.{begun_in, begins, since_join}
+use Rattle.export_table.specs.Begins.{begun_in, since_join}
+use Rattle.firing_core.specs.Stretches.{begins}
 use Rattle.export_table.specs.Agendas.{AgendaValue, IsAgenda, Starts, begun_by, is_ready, after_join}
 use Rattle.export_table.specs.Holding.{IsHeld, Plans, opening_of}
 use Rattle.export_table.proofs.Keeping.{entries_length}
@@ -112,6 +113,7 @@ held_first b b' rounds turns a same spare rests starts whole = record {
   plans = plans_first (opening_of b' a.rounds turns (length b.log)) (entries_of b'.log) (core_of b'.core) a (sym long ∙ sym (entries_length b'.log)) still
       (subst (λ (z : CoreValue × ℕ). Starts (numbers z.0.net.devices) z.1 a) (λ i. (sym same.core i, sym starts.rounds_are i)) starts);
   agenda = whole;
+  within = λ d. let none = starts.begun d in omega (arith, none);
 }
   where
     long : length b'.log ≡ length b.log

@@ -1,5 +1,5 @@
 -- What a turn on the locked value says of the pass that took it.
-use Rattle.std.proofs.Common.{◌≡◌, ℕ, suc, ◌<◌, List, [], ◌∷◌, ◌++◌, length, drop, map, refl, sym, ap, ◌∙◌, subst, inl, arith, None}
+use Rattle.std.proofs.Common.{◌≡◌, ℕ, suc, ◌+◌, ◌<◌, ◌≤◌, List, [], ◌∷◌, ◌++◌, length, drop, map, refl, sym, ap, ◌∙◌, subst, inl, arith, None}
 use Rattle.std.proofs.lemmas.List.{same_from_push, map-append}
 use Rattle.fc_nodes.specs.Program.{unfolding_of}
 use Rattle.value_trees.specs.Snaps.{snap_copy, IsSnap}
@@ -61,6 +61,12 @@ module _ (t : TableValue) (v : PassView ItemValue) (x : HeldValue) (k : IsPassOf
   pub has_placed : ArePlaced (log_in x) (on_log v).mine
   has_placed = placed_items (opening_in x) (log_in x) (on_log v).mine (subst (λ m. ArePlaced (list_of x) m) (ap (λ (p : PassView ItemValue). p.mine) k.opening) a.placed)
 
+  has_grown : length (log_in x) + v.left ≤ t.opening.front + t.opening.turns
+  has_grown =
+      let grown = a.grown in let long = items_length (log_in x) in
+      let start = ap (λ (p : PassView ItemValue). p.start) k.opening in let first = k.start in let all = k.turns in
+      omega (arith, grown, long, start, first, all)
+
   pub has_turn : 0 < v.left → HasTurn x
   has_turn some =
       let grown = a.grown in let long = items_length (log_in x) in let log = entries_length x.book.log in
@@ -82,6 +88,7 @@ module _ (t : TableValue) (v : PassView ItemValue) (x : HeldValue) (k : IsPassOf
     took_turn e turned = record {
       begins = has_begun;
       placed = has_placed;
+      grown = has_grown;
       leads = let book = turned.legal in subst (λ (o : Opening). Run (unfolding_of o.program) (core_of o.start) (log_in x) (core_in x)) same_opening book.runs;
       view = (pass_wrote t v w (log_in x) (entry_of e) k (writes e turned)).1;
     }
@@ -147,6 +154,9 @@ closes t v h k c = record {
 
     start : v.start ≡ suc (on_log v).start
     start = ap (λ (p : PassView ItemValue). p.start) k.opening
+
+pub closes_same : (t : TableValue) (v : PassView ItemValue) (h : HeldValue) → IsPassOf t v → Closed list_of v h → opening_in h ≡ t.opening
+closes_same t v h k c = (begins_items t.opening (opening_in h) (log_in h) (on_log v).seen (subst (λ l. StartsWith (list_of h) l) (ap (λ (p : PassView ItemValue). p.seen) k.opening) c.begins)).0
 
 -- ---- the pass that a table begins with
 

@@ -1,5 +1,5 @@
 -- The agenda: what is left to begin.
-use Rattle.std.specs.Prelude.{ℕ, Bool, false, ◌≡◌, ◌+◌, ◌&&◌, List, length, set, get_or, nat_lt}
+use Rattle.std.specs.Prelude.{ℕ, Bool, false, ◌≡◌, ◌+◌, ◌≤◌, ◌&&◌, List, length, set, get_or, nat_lt}
 use Rattle.fc_values.specs.Fields.{is_in}
 use Rattle.firing_core.specs.Entries.{EditValue, LinkEdit, UnlinkEdit, SetEdit, PokeEdit, JoinEdit, LeaveEdit}
 
@@ -19,6 +19,10 @@ is_ready a d = get_or a.ready d false
 pub record IsAgenda (a : AgendaValue) : Type 0 where
   pub begun : length a.begun ≡ 65536
   pub ready : length a.ready ≡ 65536
+
+-- no device has begun more firings than it may
+abbrev pub IsWithin : AgendaValue → Type 0
+IsWithin a = (d : ℕ) → begun_by a d ≤ a.rounds
 
 -- the agenda of the devices with these numbers, where nothing has begun: each of them may begin, where any may
 pub record Starts (ids : List ℕ) (rounds : ℕ) (a : AgendaValue) : Type 0 where

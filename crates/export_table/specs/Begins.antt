@@ -1,8 +1,9 @@
 -- Which device may begin.
-use Rattle.std.specs.Prelude.{ℕ, Bool, false, ◌≡◌, ◌+◌, ◌<◌, ◌||◌, List, [], ◌∷◌, drop, nat_eq, if◌then◌else◌, None}
+use Rattle.std.specs.Prelude.{ℕ, Bool, false, ◌≡◌, ◌<◌, ◌||◌, List, [], ◌∷◌, drop, nat_eq, if◌then◌else◌, None}
 use Rattle.topology.specs.Networks.{Lives}
 use Rattle.firing_core.specs.Entries.{EditValue, LinkEdit, UnlinkEdit, SetEdit, PokeEdit, JoinEdit, LeaveEdit, EntryValue, BeginEntry, EndEntry, IdleEntry, EditEntry}
 use Rattle.firing_core.specs.Cores.{Core}
+use Rattle.firing_core.specs.Stretches.{begins}
 use Rattle.export_table.specs.Items.{Opening}
 
 abbrev pub joins : ℕ → EditValue → Bool
@@ -28,17 +29,6 @@ has_join d (e ∷ es) = is_join d e || has_join d es
 abbrev pub since_join : ℕ → List EntryValue → List EntryValue
 since_join d [] = []
 since_join d (e ∷ es) = if has_join d es then since_join d es else (if is_join d e then es else e ∷ es)
-
-abbrev pub is_begin : ℕ → EntryValue → Bool
-is_begin d (BeginEntry e) = nat_eq e d
-is_begin d (EndEntry e) = false
-is_begin d IdleEntry = false
-is_begin d (EditEntry e) = false
-
--- how many firings of a device a log begins
-abbrev pub begins : ℕ → List EntryValue → ℕ
-begins d [] = 0
-begins d (e ∷ es) = if is_begin d e then begins d es + 1 else begins d es
 
 -- how many firings a device has begun since the opening or since its last join, whichever is later
 abbrev pub begun_in : Opening → List EntryValue → ℕ → ℕ

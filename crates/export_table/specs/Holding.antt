@@ -14,7 +14,7 @@ use Rattle.turn_lock.specs.Logs.{IsUnanswered}
 use Rattle.export_table.specs.Answers.{answers}
 use Rattle.export_table.specs.Items.{Opening, ItemValue, WrittenItem, items_of}
 use Rattle.export_table.specs.Begins.{MayBegin, begun_in}
-use Rattle.export_table.specs.Agendas.{AgendaValue, IsAgenda, begun_by, is_ready}
+use Rattle.export_table.specs.Agendas.{AgendaValue, IsAgenda, IsWithin, begun_by, is_ready}
 
 -- a book, and what the table was opened with
 pub record HeldValue : Type 0 where
@@ -60,6 +60,7 @@ pub record IsHeld (h : HeldValue) (a : AgendaValue) : Type 0 where
   pub rooms : (d : ℕ) (s : Copy) → (core_in h).flying d ≡ Some s → rooms_of h.book.core d ≡ true
   pub plans : Plans (opening_in h) (log_in h) (core_in h) a
   pub agenda : IsAgenda a
+  pub within : IsWithin a
 
 -- a table that was opened with a book: its log has so far only the entries of that book
 pub record Opens (b : BookValue) (rounds turns : ℕ) (h : HeldValue) : Type 0 where
@@ -79,6 +80,10 @@ pub record Turned (old new : HeldValue) (e : Entry) : Type 0 where
   -- the log led to the old core, from a good start
   pub legal : IsBook old.book
   pub past : old.front ≤ length old.book.log
+
+-- no device has begun more firings than it may
+abbrev pub BeginsWithin : Opening → List EntryValue → Type 0
+BeginsWithin o log = (d : ℕ) → d < 65536 → begun_in o log d ≤ o.rounds
 
 -- each device there is in flight or has begun all its firings
 abbrev pub NothingLeft : Opening → List EntryValue → Core → Type 0

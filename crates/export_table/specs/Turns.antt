@@ -1,5 +1,5 @@
 -- What the calls of a shared table promise.
-use Rattle.std.specs.Prelude.{ℕ, ◌≡◌, ◌+◌, ◌-◌, ◌<◌, List, length, drop, map, Some, None}
+use Rattle.std.specs.Prelude.{ℕ, ◌≡◌, ◌+◌, ◌-◌, ◌<◌, ◌≤◌, List, length, drop, map, Some, None}
 use Rattle.fc_nodes.specs.Program.{unfolding_of}
 use Rattle.value_trees.specs.Snaps.{snap_copy, tree_of, IsSnap}
 use Rattle.device_eval.specs.Firing.{FiredValue}
@@ -65,10 +65,11 @@ pub record IsAfterTurn (v w : PassView ItemValue) : Type 0 where
   pub out : w.out ≡ v.out
 
 -- The pass v is w after its turn. The log was `before` then, which leads to `core`; it begins with what the pass had seen,
--- and got the one entry e.
+-- has grown by at most the turns that the pass doesn't have left, and got the one entry e.
 pub record TookTurn (o : Opening) (v w : PassView EntryValue) (before : List EntryValue) (core : Core) (e : EntryValue) : Type 0 where
   pub begins : StartsWith before v.seen
   pub placed : ArePlaced before v.mine
+  pub grown : length before + v.left ≤ o.front + o.turns
   pub leads : Run (unfolding_of o.program) (core_of o.start) before core
   pub view : w ≡ wrote v before e
 

@@ -63,7 +63,7 @@ impl Held {
     ghost use Rattle.firing_core.specs.Refusals.{RefusesEdit, TakesNone};
     ghost use Rattle.firing_core.specs.declared.entries.Entry.TheVariants as entry;
     ghost use Rattle.export_table.specs.Begins.{IsNext};
-    ghost use Rattle.export_table.specs.Holding.{Opens, HasTurn, Turned, IsOpenAt, IsTakenAt, opening_in, log_in, core_in, NothingLeft};
+    ghost use Rattle.export_table.specs.Holding.{Opens, HasTurn, Turned, IsOpenAt, IsTakenAt, opening_in, log_in, core_in, NothingLeft, BeginsWithin};
 
     /// Opens a book for so many turns, in which each device may begin so many firings. A refusal hands the book back.
     pub fn new(alloc: Global, book: Book, rounds: u32, turns: u64) -> Result<Held, (Book, Memory)>
@@ -90,7 +90,8 @@ impl Held {
 
     /// The book.
     pub fn into_book(self) -> Book
-        ensures { result ≡ self.book }
+        ensures book { result ≡ self.book }
+        ensures within { BeginsWithin (opening_in self) (log_in self) }
     {
         let Held {
             book,

@@ -11,7 +11,7 @@ ghost use Rattle.firing_core.specs.Refusals.{RefusesEdit, TakesNone};
 ghost use Rattle.firing_core.specs.declared.entries.Entry.TheVariants as entry;
 ghost use Rattle.turn_lock.specs.Logs.{StartsWith, In, Rises};
 ghost use Rattle.turn_lock.specs.Passes.{IsBelow, opened, kept_part, new_part, joined};
-ghost use Rattle.export_table.specs.Holding.{HasTurn, core_in, opening_of};
+ghost use Rattle.export_table.specs.Holding.{HasTurn, core_in, opening_of, BeginsWithin};
 ghost use Rattle.export_table.specs.Passing.{IsPassOf, on_log};
 ghost use Rattle.export_table.specs.Turns.{Begins, Rests, MayEnd, Ends, Edits, RefusesIn, Began, Rested, IsOwnFiring, CanEnd, Ended, Edited, Refused, Closes, IsAfterTurn, KeepsFirings};
 
@@ -186,7 +186,8 @@ impl Shared {
     pub fn close(self, pass: Pass<Held>) -> Book
         requires own { IsPassOf self pass }
         requires last { (pass.name ≡ []) × (pass.out ≡ []) }
-        ensures { Closes self.opening (on_log pass) result }
+        ensures closes { Closes self.opening (on_log pass) result }
+        ensures within { BeginsWithin self.opening (entries_of result.log) }
     {
         let Shared { lock, opened: _ } = self;
         lock.close(pass).into_book()

@@ -1,24 +1,28 @@
 //! What is left to begin of two devices, and tables over a book of two devices.
 
-ghost use Rattle.std.specs.Prelude.{◌≡◌, ◌<◌, ◌≤◌, ◌+◌, ℕ, [], IfOk, map, None};
-ghost use Rattle.fc_values.specs.Types.{declarations_of};
+ghost use Rattle.std.specs.Prelude.{◌≡◌, ◌<◌, ◌≤◌, ◌+◌, ◌++◌, ◌∷◌, ℕ, [], IfOk, IfSome, map, None};
+ghost use Rattle.fc_values.specs.Types.{declarations_of, type_of, TypeLocal, IntType};
+ghost use Rattle.fc_values.specs.Values.{IntValue};
+ghost use Rattle.fc_nodes.specs.Terms.{view_of, sort_of, Has, OfLeaf, Literal};
 ghost use Rattle.topology.specs.Networks.{device_of};
 ghost use Rattle.topology.specs.Changes.{HaveNumbers, HaveInputs};
+ghost use Rattle.firing_core.specs.Cores.{EditFits};
 ghost use Rattle.firing_core.specs.CoreViews.{core_of};
+ghost use Rattle.firing_core.specs.Entries.{edit_of};
 ghost use Rattle.fc_nodes.specs.Program.{unfolding_of};
 ghost use Rattle.export_table.specs.Passing.{IsPassOf, on_log};
-ghost use Rattle.export_table.specs.Turns.{CanEnd};
+ghost use Rattle.export_table.specs.Turns.{CanEnd, KeepsFirings};
 
 use crate::agenda::Agenda;
 use crate::{Firing, Gate, Held, OpenGate, Shared};
 use device_eval::fire;
 use fc_nodes::{Node, Op, Unfolded};
-use fc_values::{Declared, Local, LocalTy, Memory, Ty};
-use firing_core::{Book, Core, Entry, Room};
+use fc_values::{Builtin, Declared, Local, LocalTy, Memory, Ty};
+use firing_core::{Book, Core, Edit, EditFault, Entry, Room};
 use std::alloc::Global;
 use std::sync::{Arc, Wait};
 use std::test::Fail;
-use topology::{Device, Network};
+use topology::{Device, NetFault, Network};
 use turn_lock::Pass;
 
 // Two devices without inputs.
@@ -51,27 +55,67 @@ fn declared(alloc: Global) -> Declared
     }
 }
 
-// The program `main = 5`.
-fn five(alloc: Global) -> Result<Unfolded, Memory>
+// Puts a node behind others.
+fn put(nodes: &mut Vec<Node>, op: Op, ty: Ty, kids: Vec<u32>) -> Result<(), Memory>
+    ensures { IfOk result (λ done. map view_of nodes.new.items ≡ map view_of nodes.old.items ++ Has (sort_of op) (type_of ty) kids.items ∷ []) }
+{
+    nodes.push(Node { op, ty, kids })?;
+    Ok(())
+}
+
+// Puts a number behind other nodes.
+fn put_number(nodes: &mut Vec<Node>, number: u32, kids: Vec<u32>) -> Result<(), Memory>
+    ensures { IfOk result (λ done. map view_of nodes.new.items ≡ map view_of nodes.old.items ++ Has (OfLeaf (Literal (IntValue number))) (TypeLocal IntType) kids.items ∷ []) }
+{
+    put(
+        nodes,
+        Op::Lit(Local::Int(number)),
+        Ty::Local(LocalTy::Int),
+        kids,
+    )?;
+    Ok(())
+}
+
+// The program `minHoodLoc(nbr{1} + 1, 5)`.
+fn pair(alloc: Global) -> Result<Unfolded, Memory>
     ensures { IfOk result (λ p. p.declared ≡ record { ceiling = 10; inputs = []; least = 1; greatest = 1 }) }
 {
     let mut nodes = Vec::new(alloc);
-    nodes.push(Node {
-        op: Op::Lit(Local::Int(5)),
-        ty: Ty::Local(LocalTy::Int),
-        kids: Vec::new(alloc),
-    })?;
+    put(
+        &mut nodes,
+        Op::Apply(Builtin::MinHoodLoc),
+        Ty::Local(LocalTy::Int),
+        vec![in alloc; 1, 5]?,
+    )?;
+    put(
+        &mut nodes,
+        Op::Apply(Builtin::Add),
+        Ty::Field(LocalTy::Int),
+        vec![in alloc; 2, 4]?,
+    )?;
+    put(
+        &mut nodes,
+        Op::Nbr,
+        Ty::Field(LocalTy::Int),
+        vec![in alloc; 3]?,
+    )?;
+    put_number(&mut nodes, 1, Vec::new(alloc))?;
+    put_number(&mut nodes, 1, Vec::new(alloc))?;
+    put_number(&mut nodes, 5, Vec::new(alloc))?;
     Unfolded::new(alloc, declared(alloc), nodes)
 }
 
-// The book of two devices without exports.
+// The book of two linked devices without exports.
 fn book(alloc: Global, program: &Arc<Unfolded>) -> Result<Book, Fail>
     requires { program.now.value.declared ≡ record { ceiling = 10; inputs = []; least = 1; greatest = 1 } }
     ensures program { IfOk result (λ b. b.program ≡ program.now.value) }
     ensures rests { IfOk result (λ b. (d : ℕ) → (core_of b.core).flying d ≡ None) }
 {
-    let Ok(net) = Network::new(alloc, declared(alloc), two(alloc, 0, 1)?) else {
+    let Ok(mut net) = Network::new(alloc, declared(alloc), two(alloc, 0, 1)?) else {
         return Err(Fail::new("no network"));
+    };
+    let Ok(()) = net.link(0, 1, 1) else {
+        return Err(Fail::new("no link"));
     };
     let core = Core::new(alloc, program, net, Vec::new(alloc), Vec::new(alloc))?;
     match Book::new(alloc, program.clone()?, core) {
@@ -94,6 +138,32 @@ fn the_smallest_device_is_next(rt: HostRuntime) -> Result<(), Fail> {
     agenda.join(2);
     assert_eq!(rt; agenda.next(), Some(2));
     Ok(())
+}
+
+// Begins a firing, where one is left.
+fn begin<W: Wait>(
+    rt: &W,
+    alloc: Global,
+    table: &Shared,
+    program: &Arc<Unfolded>,
+    pass: &mut Pass<Held>,
+) -> Option<Firing>
+    requires own { IsPassOf table.now pass.old }
+    requires turns { 0 < pass.old.left }
+    requires program { program.now.value ≡ table.now.opening.program }
+    ensures may_end { IfSome result (CanEnd table.now.opening (on_log pass.new)) }
+    ensures keeps { KeepsFirings table.now.opening (on_log pass.old) (on_log pass.new) }
+    ensures own { IsPassOf table.now pass.new }
+    ensures same { (pass.new.name ≡ pass.old.name) × (pass.new.out ≡ pass.old.out) }
+    ensures left { pass.old.left ≤ pass.new.left + 1 }
+{
+    let Ok(room) = Room::new(alloc, program) else {
+        return None;
+    };
+    match table.next(rt, pass, room) {
+        Ok(firing) => Some(firing),
+        Err(_) => None,
+    }
 }
 
 // Evaluates what was begun, and ends it.
@@ -137,32 +207,118 @@ fn fire_once<W: Wait>(
     ensures same { (pass.new.name ≡ pass.old.name) × (pass.new.out ≡ pass.old.out) }
     ensures left { pass.old.left ≤ pass.new.left + 2 }
 {
-    let Ok(room) = Room::new(alloc, program) else {
-        return false;
-    };
-    match table.next(rt, pass, room) {
-        Ok(firing) => finish(rt, alloc, table, program, pass, firing),
-        Err(_) => false,
+    match begin(rt, alloc, table, program, pass) {
+        Some(firing) => finish(rt, alloc, table, program, pass, firing),
+        None => false,
+    }
+}
+
+// Edits the book while the pass has a firing to end.
+fn edit_beside<W: Wait>(
+    rt: &W,
+    alloc: Global,
+    table: &Shared,
+    pass: &mut Pass<Held>,
+    edit: Edit,
+    firing: &Firing,
+) -> Result<(), EditFault>
+    requires own { IsPassOf table.now pass.old }
+    requires turns { 0 < pass.old.left }
+    requires fits { EditFits (unfolding_of table.now.opening.program) (edit_of edit) }
+    requires may_end { CanEnd table.now.opening (on_log pass.old) firing.now }
+    ensures may_end { CanEnd table.now.opening (on_log pass.new) firing.now }
+    ensures own { IsPassOf table.now pass.new }
+    ensures same { (pass.new.name ≡ pass.old.name) × (pass.new.out ≡ pass.old.out) }
+    ensures left { pass.old.left ≤ pass.new.left + 1 }
+{
+    table.edit(rt, alloc, pass, edit)
+}
+
+fn is_begin(entry: &Entry, device: u32) -> bool {
+    matches!(entry, Entry::Begin(d) if *d == device)
+}
+
+fn is_end(entry: &Entry, device: u32) -> bool {
+    matches!(entry, Entry::End(d) if *d == device)
+}
+
+// Whether a device has this value.
+fn shows(book: &Book, device: u32, value: u32) -> bool {
+    match book.core().export(device) {
+        Some(export) => matches!(export.value, Local::Int(n) if n == value),
+        None => false,
     }
 }
 
 #[test]
-fn two_passes_fire_once_each(rt: HostRuntime) -> Result<(), Fail> {
+fn two_passes_by_hand(rt: HostRuntime) -> Result<(), Fail> {
     let alloc = rt.alloc();
-    let program = Arc::new(alloc, five(alloc)?)?;
-    let Ok((table, mut pass)) = Shared::over(alloc, book(alloc, &program)?, 1, 4) else {
+    let program = Arc::new(alloc, pair(alloc)?)?;
+    let Ok((table, mut pass)) = Shared::over(alloc, book(alloc, &program)?, 1, 10) else {
         return Err(Fail::new("no table"));
     };
-    let mut other = table.split(&mut pass, 2);
-    let first = fire_once(&rt, alloc, &table, &program, &mut pass);
-    let second = fire_once(&rt, alloc, &table, &program, &mut other);
+    let mut other = table.split(&mut pass, 4);
+    let Some(first) = begin(&rt, alloc, &table, &program, &mut pass) else {
+        panic!(rt; "nothing begun")
+    };
+    let Some(second) = begin(&rt, alloc, &table, &program, &mut other) else {
+        panic!(rt; "nothing begun")
+    };
+    assert!(rt; first.device() == 0 && first.place() == 0);
+    assert!(rt; second.device() == 1 && second.place() == 1);
+    let third = begin(&rt, alloc, &table, &program, &mut pass);
+    assert!(rt; third.is_none());
+    let looped = edit_beside(&rt, alloc, &table, &mut pass, Edit::Link(0, 0, 1), &first);
+    assert_eq!(rt; looped, Err(EditFault::Net(NetFault::SelfLink)));
+    assert!(rt; finish(&rt, alloc, &table, &program, &mut pass, first));
+    assert!(rt; finish(&rt, alloc, &table, &program, &mut other, second));
     table.join(&mut pass, other);
     let book = table.close(pass);
-    assert!(rt; first && second);
     let log = book.log();
-    assert_eq!(rt; log.len(), 4);
-    assert!(rt; matches!(log[0], Entry::Begin(0)) && matches!(log[1], Entry::End(0)));
-    assert!(rt; matches!(log[2], Entry::Begin(1)) && matches!(log[3], Entry::End(1)));
-    assert!(rt; book.core().export(0).is_some() && book.core().export(1).is_some());
+    assert_eq!(rt; log.len(), 6);
+    assert!(rt; is_begin(&log[0], 0) && is_begin(&log[1], 1));
+    assert!(rt; matches!(log[2], Entry::Idle) && matches!(log[3], Entry::Idle));
+    assert!(rt; is_end(&log[4], 0) && is_end(&log[5], 1));
+    assert!(rt; shows(&book, 0, 5) && shows(&book, 1, 5));
+    Ok(())
+}
+
+#[test]
+fn edits_stand_among_firings(rt: HostRuntime) -> Result<(), Fail> {
+    let alloc = rt.alloc();
+    let program = Arc::new(alloc, pair(alloc)?)?;
+    let Ok((table, mut pass)) = Shared::over(alloc, book(alloc, &program)?, 1, 11) else {
+        return Err(Fail::new("no table"));
+    };
+    let Some(first) = begin(&rt, alloc, &table, &program, &mut pass) else {
+        panic!(rt; "nothing begun")
+    };
+    let flies = edit_beside(&rt, alloc, &table, &mut pass, Edit::Leave(0), &first);
+    assert_eq!(rt; flies, Err(EditFault::Net(NetFault::InFlight)));
+    let cut = edit_beside(&rt, alloc, &table, &mut pass, Edit::Unlink(0, 1), &first);
+    assert_eq!(rt; cut, Ok(()));
+    assert!(rt; finish(&rt, alloc, &table, &program, &mut pass, first));
+    assert_eq!(rt; table.edit(&rt, alloc, &mut pass, Edit::Leave(0)), Ok(()));
+    let device = Device {
+        id: 0,
+        inputs: Vec::new(alloc),
+    };
+    assert_eq!(rt;
+        table.edit(&rt, alloc, &mut pass, Edit::Join(device)),
+        Ok(())
+    );
+    assert!(rt; fire_once(&rt, alloc, &table, &program, &mut pass));
+    assert!(rt; fire_once(&rt, alloc, &table, &program, &mut pass));
+    assert!(rt; begin(&rt, alloc, &table, &program, &mut pass).is_none());
+    let book = table.close(pass);
+    let log = book.log();
+    assert_eq!(rt; log.len(), 11);
+    assert!(rt; is_begin(&log[0], 0) && matches!(log[1], Entry::Idle));
+    assert!(rt; matches!(log[2], Entry::Edit(Edit::Unlink(0, 1))) && is_end(&log[3], 0));
+    assert!(rt; matches!(log[4], Entry::Edit(Edit::Leave(0))));
+    assert!(rt; matches!(log[5], Entry::Edit(Edit::Join(_))));
+    assert!(rt; is_begin(&log[6], 0) && is_end(&log[7], 0));
+    assert!(rt; is_begin(&log[8], 1) && is_end(&log[9], 1) && matches!(log[10], Entry::Idle));
+    assert!(rt; shows(&book, 0, 5) && shows(&book, 1, 5));
     Ok(())
 }

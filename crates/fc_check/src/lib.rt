@@ -4,5 +4,5 @@
 mod checks;
 mod laws;
 
-pub use checks::check;
+pub use checks::{check, checked};
 pub use laws::{one_check, some_check};

@@ -32,7 +32,8 @@ mark_of b =
     if b == 42 then Single mark.Star else
     if b == 60 then Single mark.Less else Other
 
--- what a byte begins: a run of spaces, a number, a name or word, a comment (`/`), the two dots (`.`), `=` or `=>`, another mark, or nothing
+-- what a byte begins: a run of spaces, a number, a name or word, a comment (`/`), the two dots (`.`), `=` or `=>`,
+-- another mark, or nothing
 unfoldable pub begins : ℕ → Class
 begins b =
     if is_space b then Space else

@@ -11,6 +11,7 @@ use Rattle.fc_lexer.specs.declared.bytes.Class.{Class}
 use Rattle.fc_lexer.specs.declared.bytes.Class.TheVariants.{Space, Digit, Letter, Slash, Dot, Equals, Single, Other}
 use Rattle.fc_lexer.specs.Bytes.{begins}
 use Rattle.fc_values.specs.Names.{word_of}
+use Rattle.fc_lexer.specs.declared.kinds.TheConstants.{CUT}
 
 -- a number, a word, a name by its bytes, or a mark
 pub data TokenKind : Type 0 where
@@ -44,9 +45,9 @@ abbrev pub written : List ℕ → ℕ
 written [] = 0
 written (d ∷ ds) = (d - 48) * 10 ^ length ds + written ds
 
--- a number's value: the lesser of the written number and 1,000,001
+-- a number's value: the lesser of the written number and one past the greatest of a program
 abbrev pub number_of : List ℕ → ℕ
-number_of ds = min (written ds) 1000001
+number_of ds = min (written ds) CUT
 
 -- letters that are spelled as a word are this word, and else a name
 abbrev pub word_or_name_of : List ℕ → TokenKind

@@ -30,7 +30,8 @@ pub data Blank : List ℕ → Type 0 where
 abbrev pub between : List ℕ → ℕ → ℕ → List ℕ
 between text least most = take (most - least) (drop least text)
 
--- from an index on there are these tokens, one after the other, none of them empty, each of its bytes and line; between them, and after the last, stand spaces and comments alone
+-- from an index on there are these tokens, one after the other, none of them empty, each of its bytes and line; between
+-- them, and after the last, stand spaces and comments alone
 abbrev pub StandFrom : List ℕ → ℕ → List TokenView → Type 0
 StandFrom text least [] = (least ≤ length text) × Blank (between text least (length text))
 StandFrom text least (t ∷ ts) =

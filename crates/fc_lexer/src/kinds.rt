@@ -11,17 +11,17 @@ use crate::tokens::{Kind, Mark};
 use fc_values::{Memory, Name, find_word};
 use std::alloc::Global;
 
-// The greatest value of a number token, which stands for every greater number.
-const GREATEST: u32 = 1_000_001;
+// The greatest value of a number token: it stands for each number past the greatest of a program.
+const CUT: u32 = 1_000_001;
 
-// The lesser of the written number and 1,000,001.
+// The lesser of the written number and the cut.
 fn number(digits: &[u8]) -> u32
     requires { list_all is_digit digits.now ≡ true }
     ensures { result ≡ number_of digits.now }
 {
     let mut value = 0;
     for digit in digits {
-        value = (value * 10 + u32::from(*digit - b'0')).min(GREATEST);
+        value = (value * 10 + u32::from(*digit - b'0')).min(CUT);
     }
     value
 }

@@ -1,7 +1,8 @@
 //! Laws of the definitions.
 
 ghost use Rattle.fc_lexer.specs.Apart.{ReadsBack};
-ghost use Rattle.fc_lexer.specs.Laws.{AlwaysOne, NamesAreTokens, NeverBoth, OneList, OneStop, SpansRise, TokensAreNames};
+ghost use Rattle.fc_lexer.specs.Laws.{AlwaysOne, NamesAreTokens, NeverBoth, OneList, OneStop, SpansRise};
+ghost use Rattle.fc_lexer.specs.Laws.{TokensAreNames};
 
 /// A text has one list of tokens, or one byte at which nothing begins, and not both.
 pub fn one_reading()

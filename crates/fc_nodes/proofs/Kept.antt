@@ -1,7 +1,6 @@
 -- Crates above cite this module: the nodes that keep a value, counted along the list and along the term.
-use Rattle.std.proofs.Common.{◌≡◌, ℕ, zero, suc, ◌<◌, ◌+◌, List, [], ◌∷◌, ◌++◌, length, refl, sym, ◌∙◌, ap, arith, Option, Some, None, take, drop}
+use Rattle.std.proofs.Common.{◌≡◌, ℕ, zero, suc, ◌+◌, List, [], ◌∷◌, ◌++◌, length, refl, sym, ◌∙◌, ap, arith, Option, Some, None, take, drop}
 use Rattle.std.specs.Prelude.{is_some, option_to_list, slice_get}
-use Rattle.std.proofs.lemmas.Option.{slice_get_within}
 use Rattle.std.specs.List.{cons_option}
 use Rattle.std.proofs.lemmas.List.{length-append, append_assoc, drop_all}
 use Rattle.fc_values.specs.Types.{LocalType, BoolType, ValueType}

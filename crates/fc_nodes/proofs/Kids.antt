@@ -3,7 +3,7 @@ use Rattle.std.proofs.Common.{◌≡◌, ℕ, zero, suc, ◌<◌, ◌+◌, List,
 use Rattle.fc_values.specs.declared.builtins.Builtin.{Builtin}
 use Rattle.fc_values.specs.Types.{LocalType, BoolType, ValueType}
 use Rattle.fc_nodes.specs.declared.nodes.Node.{Node}
-use Rattle.fc_nodes.specs.Terms.{Leaf, Evolution, Uid, Term, Terms, Plain, Apply, Nbr, Evolve, If, Let, NoMore, More, size, Sort, OfLeaf, OfApply, OfNbr, OfEvolve, OfIf, OfLet, term_by, terms_by, term_at, HasNode, Laid, AllLaid, places, kept_type, is_branching}
+use Rattle.fc_nodes.specs.Terms.{Evolution, Uid, Term, Terms, Plain, Apply, Nbr, Evolve, If, Let, NoMore, More, size, sizes, Sort, OfLeaf, OfApply, OfNbr, OfEvolve, OfIf, OfLet, of_two, term_by, terms_by, term_at, HasNode, Laid, AllLaid, places, kept_type, is_branching}
 use Rattle.fc_nodes.proofs.Places.{AllAbove, term_is, laid_within}
 use Rattle.fc_values.specs.BuiltinTypes.{inner}
 use Rattle.fc_nodes.specs.Places.{StandsAt, StandAfter}
@@ -22,6 +22,15 @@ module _ (ns : List Node) (ab : AllAbove ns) where
     pub laid_terms : (xs : Terms) (p : ℕ) → AllLaid ns p xs → terms_by (term_at ns) (places p xs) ≡ xs
     laid_terms NoMore p l = refl
     laid_terms (More x xs) p l = let e = laid_term x p l.0 in let f = laid_terms xs (p + size x) l.1 in cc
+
+-- a term has a node
+pub size_some : (t : Term) → 0 < size t
+size_some (Plain t l) = omega arith
+size_some (Apply t o xs) = omega arith
+size_some (Nbr t a) = omega arith
+size_some (Evolve t e a b) = omega arith
+size_some (If t c a b) = omega arith
+size_some (Let t a b) = omega arith
 
 -- a node with one kid
 pub record OneKid (ns : List Node) (p : ℕ) (f : Term → Term) (ks : List ℕ) : Type 0 where
@@ -73,45 +82,36 @@ nbr_laid ns ab p t ks h l = by_kids ks h (term_is ns ab p OfNbr t ks h) (subst (
         let ea : a ≡ suc p = cc in
         record { long = refl; term = e; first_is = ea; first = subst (λ q. Laid ns q (term_at ns a)) (sym ea) l.1 }
 
+-- a `rep`, a `share` or a `let`, of which f is the term
+two_laid : (ns : List Node) (p : ℕ) (s : Sort) (t : ValueType) (f : Term → Term → Term) → (s ≡ OfLeaf Uid → ⊥)
+    → ((a b : Term) → Laid ns p (f a b) → HasNode ns p s t (suc p ∷ (suc p + size a) ∷ []) × Laid ns (suc p) a × Laid ns (suc p + size a) b)
+    → (ks : List ℕ) → HasNode ns p s t ks → term_at ns p ≡ of_two f (term_at ns) t ks → Laid ns p (of_two f (term_at ns) t ks) → TwoKids ns p f ks
+two_laid ns p s t f apart parts [] h e l = absurd (apart cc)
+two_laid ns p s t f apart parts (a ∷ []) h e l = absurd (apart cc)
+two_laid ns p s t f apart parts (a ∷ b ∷ c ∷ ks) h e l = absurd (apart cc)
+two_laid ns p s t f apart parts (a ∷ b ∷ []) h e l =
+    let q = parts (term_at ns a) (term_at ns b) l in
+    let q0 = q.0 in
+    let ea : a ≡ suc p = cc in
+    let eb : b ≡ suc p + size (term_at ns a) = cc in
+    record {
+      long = refl;
+      term = e;
+      first_is = ea;
+      second_is = eb;
+      first = subst (λ q. Laid ns q (term_at ns a)) (sym ea) q.1;
+      second = subst (λ q. Laid ns q (term_at ns b)) (sym eb) q.2;
+    }
+
 pub evolve_laid : (ns : List Node) → AllAbove ns → (p : ℕ) (v : Evolution) (t : ValueType) (ks : List ℕ) → HasNode ns p (OfEvolve v) t ks → Laid ns p (term_at ns p) → TwoKids ns p (Evolve t v) ks
-evolve_laid ns ab p v t ks h l = by_kids ks h (term_is ns ab p (OfEvolve v) t ks h) (subst (Laid ns p) (term_is ns ab p (OfEvolve v) t ks h) l)
-  where
-    by_kids : (ks : List ℕ) → HasNode ns p (OfEvolve v) t ks → term_at ns p ≡ term_by (term_at ns) (OfEvolve v) t ks → Laid ns p (term_by (term_at ns) (OfEvolve v) t ks) → TwoKids ns p (Evolve t v) ks
-    by_kids [] h e l = let x : OfEvolve v ≡ OfLeaf Uid = cc in absurd cc
-    by_kids (a ∷ []) h e l = let x : OfEvolve v ≡ OfLeaf Uid = cc in absurd cc
-    by_kids (a ∷ b ∷ c ∷ ks) h e l = let x : OfEvolve v ≡ OfLeaf Uid = cc in absurd cc
-    by_kids (a ∷ b ∷ []) h e l =
-        let h' = l.0 in
-        let ea : a ≡ suc p = cc in
-        let eb : b ≡ suc p + size (term_at ns a) = cc in
-        record {
-          long = refl;
-          term = e;
-          first_is = ea;
-          second_is = eb;
-          first = subst (λ q. Laid ns q (term_at ns a)) (sym ea) l.1;
-          second = subst (λ q. Laid ns q (term_at ns b)) (sym eb) l.2;
-        }
+evolve_laid ns ab p v t ks h l =
+    let e = term_is ns ab p (OfEvolve v) t ks h in
+    two_laid ns p (OfEvolve v) t (Evolve t v) (λ i. absurd cc) (λ a b k. k) ks h e (subst (Laid ns p) e l)
 
 pub let_laid : (ns : List Node) → AllAbove ns → (p : ℕ) (t : ValueType) (ks : List ℕ) → HasNode ns p OfLet t ks → Laid ns p (term_at ns p) → TwoKids ns p (Let t) ks
-let_laid ns ab p t ks h l = by_kids ks h (term_is ns ab p OfLet t ks h) (subst (Laid ns p) (term_is ns ab p OfLet t ks h) l)
-  where
-    by_kids : (ks : List ℕ) → HasNode ns p OfLet t ks → term_at ns p ≡ term_by (term_at ns) OfLet t ks → Laid ns p (term_by (term_at ns) OfLet t ks) → TwoKids ns p (Let t) ks
-    by_kids [] h e l = let x : OfLet ≡ OfLeaf Uid = cc in absurd cc
-    by_kids (a ∷ []) h e l = let x : OfLet ≡ OfLeaf Uid = cc in absurd cc
-    by_kids (a ∷ b ∷ c ∷ ks) h e l = let x : OfLet ≡ OfLeaf Uid = cc in absurd cc
-    by_kids (a ∷ b ∷ []) h e l =
-        let h' = l.0 in
-        let ea : a ≡ suc p = cc in
-        let eb : b ≡ suc p + size (term_at ns a) = cc in
-        record {
-          long = refl;
-          term = e;
-          first_is = ea;
-          second_is = eb;
-          first = subst (λ q. Laid ns q (term_at ns a)) (sym ea) l.1;
-          second = subst (λ q. Laid ns q (term_at ns b)) (sym eb) l.2;
-        }
+let_laid ns ab p t ks h l =
+    let e = term_is ns ab p OfLet t ks h in
+    two_laid ns p OfLet t (Let t) (λ i. absurd cc) (λ a b k. k) ks h e (subst (Laid ns p) e l)
 
 pub if_laid : (ns : List Node) → AllAbove ns → (p : ℕ) (t : ValueType) (ks : List ℕ) → HasNode ns p OfIf t ks → Laid ns p (term_at ns p) → ThreeKids ns p (If t) ks
 if_laid ns ab p t ks h l = by_kids ks h (term_is ns ab p OfIf t ks h) (subst (Laid ns p) (term_is ns ab p OfIf t ks h) l)
@@ -150,6 +150,14 @@ kids_of (Nbr t a) = More a NoMore
 kids_of (Evolve t e a b) = More a (More b NoMore)
 kids_of (If t c a b) = More c (More a (More b NoMore))
 kids_of (Let t a b) = More a (More b NoMore)
+
+pub size_kids : (u : Term) → size u ≡ suc (sizes (kids_of u))
+size_kids (Plain t l) = refl
+size_kids (Apply t o xs) = refl
+size_kids (Nbr t a) = omega arith
+size_kids (Evolve t e a b) = omega arith
+size_kids (If t c a b) = omega arith
+size_kids (Let t a b) = omega arith
 
 -- the kids of the term at a place are the terms at the places of the node's kids
 pub record KidsAre (ns : List Node) (p : ℕ) (u : Term) (ks : List ℕ) : Type 0 where

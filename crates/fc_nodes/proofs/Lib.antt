@@ -1,5 +1,8 @@
 pub mod Places
 pub mod Kids
+pub mod Standing
+pub mod Fresh
+mod Counted
 pub mod Kept
 pub mod Blanks
 pub mod PairProgram

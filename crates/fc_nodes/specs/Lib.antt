@@ -1,6 +1,9 @@
 pub mod Terms
+pub mod Variables
+pub mod Sorts
 pub mod Typing
 pub mod Program
 pub mod Flat
 pub mod Places
 pub mod Layouts
+pub mod Occurrences

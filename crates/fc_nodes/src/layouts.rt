@@ -74,7 +74,7 @@ impl Layout {
 }
 
 // The node at a place.
-fn node_at(nodes: &[Node], place: u32) -> &Node
+pub(crate) fn node_at(nodes: &[Node], place: u32) -> &Node
     requires { place < length nodes.now }
     ensures { view_at nodes.now place ≡ Some (view_of result.now) }
 {

@@ -6,9 +6,10 @@ mod nodes;
 mod program;
 #[cfg(test)]
 mod tests;
+mod uses;
 mod verdicts;
 
 pub use layouts::Layout;
-pub use nodes::{Node, Op, is_if};
+pub use nodes::{Node, Op, is_deep, is_evolving, is_if, is_let, is_nbr, is_own, is_share};
 pub use program::Unfolded;
 pub use verdicts::{Reason, Verdict};

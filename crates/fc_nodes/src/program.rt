@@ -1,23 +1,28 @@
 //! Unfolded programs.
 
 use crate::layouts::Layout;
-use crate::nodes::Node;
+use crate::nodes::{Node, is_own};
+use crate::uses::{before, ends_of, uses_of};
 use fc_values::{Declared, Memory};
 use std::alloc::Global;
 use std::marker::Model;
 
-/// A program whose calls are unfolded: its declarations, its nodes in preorder, and their layout.
+/// A program whose calls are unfolded: its declarations, its nodes in preorder, and their layout; of each place the first
+/// one behind the term there, and of each binder the places of its variable.
 #[derive(Drop)]
 pub struct Unfolded {
     declared: Declared,
     nodes: Vec<Node>,
     layout: Layout,
+    ends: Vec<u32>,
+    uses: Vec<Vec<u32>>,
 }
 
 impl Model for Unfolded {
     ghost use Rattle.fc_values.specs.Types.{declarations_of};
     ghost use Rattle.fc_nodes.specs.Program.{Program, IsProgram};
     ghost use Rattle.fc_nodes.specs.Layouts.{IsLayout};
+    ghost use Rattle.fc_nodes.specs.Occurrences.{AreEnds, AreUses, lists_of};
     ghost use Rattle.std.specs.Coded.{codes};
     ghost use Rattle.fc_values.specs.contracts.values.Local as local;
     ghost use Rattle.fc_values.specs.contracts.types.LocalTy as local_ty;
@@ -28,15 +33,18 @@ impl Model for Unfolded {
 
     ghost view = { λ u. record { declared = declarations_of u.declared; nodes = u.nodes.items } };
 
-    ghost invariant = { λ u. IsProgram (record { declared = declarations_of u.declared; nodes = u.nodes.items }) × IsLayout u.nodes.items u.layout };
+    ghost invariant = { λ u. IsProgram (record { declared = declarations_of u.declared; nodes = u.nodes.items })
+        × IsLayout u.nodes.items u.layout × AreEnds u.nodes.items u.ends.items × AreUses u.nodes.items (lists_of u.uses.items) };
 }
 
 impl Unfolded {
     ghost use Rattle.std.specs.Prelude.{◌≡◌, ◌<◌, IfOk, length, Some};
     ghost use Rattle.fc_values.specs.Types.{declarations_of};
-    ghost use Rattle.fc_nodes.specs.Terms.{view_at, view_of};
+    ghost use Rattle.fc_nodes.specs.Terms.{term_at, view_at, view_of};
     ghost use Rattle.fc_nodes.specs.Program.{IsProgram};
     ghost use Rattle.fc_nodes.specs.Layouts.{IsLayout};
+    ghost use Rattle.fc_nodes.specs.Places.{StandsAt};
+    ghost use Rattle.fc_nodes.specs.Variables.{occurs as occurs_in_term, is_own as is_own_term};
 
     /// The program with these declarations and nodes.
     pub fn new(alloc: Global, declared: Declared, nodes: Vec<Node>) -> Result<Self, Memory>
@@ -44,10 +52,14 @@ impl Unfolded {
         ensures { IfOk result (λ u. u ≡ record { declared = declarations_of declared; nodes = nodes.items }) }
     {
         let layout = Layout::of(alloc, nodes.as_slice())?;
+        let ends = ends_of(alloc, nodes.as_slice())?;
+        let uses = uses_of(alloc, nodes.as_slice())?;
         Ok(Unfolded {
             declared,
             nodes,
             layout,
+            ends,
+            uses,
         })
     }
 
@@ -82,5 +94,26 @@ impl Unfolded {
         ensures program { IsProgram self.now }
     {
         &self.nodes[place as usize]
+    }
+
+    /// Whether the variable of a binder occurs in the term at a place. It walks over nothing: the uses of the binder before
+    /// the term and before its end are counted by halves.
+    pub fn occurs(&self, binder: u32, place: u32) -> bool
+        requires { StandsAt self.now.nodes place }
+        ensures { result ≡ occurs_in_term binder (term_at self.now.nodes place) }
+    {
+        if binder as usize >= self.uses.len() {
+            return false;
+        }
+        let uses = self.uses[binder as usize].as_slice();
+        before(uses, place) < before(uses, self.ends[place as usize])
+    }
+
+    /// Whether the term at a place is the variable of a binder.
+    pub fn is_own(&self, binder: u32, place: u32) -> bool
+        requires { StandsAt self.now.nodes place }
+        ensures { result ≡ is_own_term binder (term_at self.now.nodes place) }
+    {
+        is_own(self.node(place), binder)
     }
 }

@@ -1,4 +1,5 @@
--- Reading an expression from the front, as a function on the kinds of tokens, and what a function of the code gives of it.
+-- Reading an expression from the front, as a function on the kinds of tokens, and what a function of the code gives of
+-- it.
 use Rattle.std.specs.Prelude.{ℕ, zero, suc, ◌+◌, ◌-◌, ◌<◌, ◌≡◌, ◌==◌, nat_le, Bool, true, false}
 use Rattle.std.specs.Prelude.{if◌then◌else◌, List, [], ◌∷◌, length, map, Option, Some, None, Result, Ok, Err}
 use Rattle.std.specs.Borrow.{Bor}
@@ -19,7 +20,7 @@ use Rattle.fc_syntax.specs.Terms.{SenseTerm, ApplyTerm, NbrTerm, RepTerm, ShareT
 use Rattle.fc_syntax.specs.Terms.{LetTerm, CallTerm, Terms, NoTerms, MoreTerms, term_of, terms}
 use Rattle.fc_syntax.specs.Text.{builtin_strength}
 use Rattle.fc_syntax.specs.Printable.{arity, count}
-use Rattle.fc_parser.specs.declared.forms.TheConstants.{GREATEST}
+use Rattle.fc_values.specs.declared.limits.TheConstants.{GREATEST}
 use Rattle.fc_parser.specs.Grammar.{operator, named, one, two}
 use Rattle.fc_parser.specs.Programs.{kinds}
 use Rattle.fc_parser.specs.Reading.{Read, Got, Not, ◌>>=◌, Reader}

@@ -68,8 +68,8 @@ mutual
         ∷ (ts ++ (WordOf word.In ∷ us))) (LetTerm x e f)
     operation : (ts : List TokenKind) (e : Term) → Operation second 1 ts e → Expression second ts e
 
-  -- An expression at a place that asks this strength: disj 1, conj 2, comp 3, sum 4, prod 5, unary 6, atom 7. What stands
-  -- left of an operator may be of the operator's own strength, but at a comparison it is stronger.
+  -- An expression at a place that asks this strength: disj 1, conj 2, comp 3, sum 4, prod 5, unary 6, atom 7. What
+  -- stands left of an operator may be of the operator's own strength, but at a comparison it is stronger.
   pub data Operation (second : Bool) : ℕ → List TokenKind → Term → Type 0 where
     between : (n : ℕ) (k : TokenKind) (o : Builtin) (ts us : List TokenKind) (e f : Term) → operator k ≡ Some o
         → builtin_strength o ≡ n

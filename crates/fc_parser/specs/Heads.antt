@@ -4,7 +4,7 @@ use Rattle.std.specs.Borrow.{Bor}
 use Rattle.fc_lexer.specs.declared.tokens.Token.{Token}
 use Rattle.fc_lexer.specs.declared.tokens.Mark.TheVariants as mark
 use Rattle.fc_lexer.specs.Kinds.{NumberOf}
-use Rattle.fc_parser.specs.declared.forms.TheConstants.{GREATEST}
+use Rattle.fc_values.specs.declared.limits.TheConstants.{GREATEST}
 use Rattle.fc_parser.specs.declared.refused.Refused.{Refused}
 use Rattle.fc_parser.specs.declared.refused.Refused.TheVariants as refused
 use Rattle.fc_parser.specs.Reading.{Read, Got, Not, Reader, ◌>>=◌}

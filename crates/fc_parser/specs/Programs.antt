@@ -20,7 +20,8 @@ abbrev pub onto_piece : TokenView → List (List TokenView) → List (List Token
 onto_piece t [] = (t ∷ []) ∷ []
 onto_piece t (piece ∷ more) = (t ∷ piece) ∷ more
 
--- The tokens of each declaration: the text is cut after each `;`, and tokens after the last one are one more declaration.
+-- The tokens of each declaration: the text is cut after each `;`, and tokens after the last one are one more
+-- declaration.
 abbrev pub pieces : List TokenView → List (List TokenView)
 pieces [] = []
 pieces (t ∷ ts) = if is_semi t.kind then (t ∷ []) ∷ pieces ts else onto_piece t (pieces ts)

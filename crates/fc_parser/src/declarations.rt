@@ -9,12 +9,12 @@ ghost use Rattle.fc_parser.specs.Declarations.{definition_read, input_read, inpu
 ghost use Rattle.fc_parser.specs.Declarations.{language_read, main_read, metric_read, range_of, range_read};
 
 use crate::expressions::expression;
-use crate::forms::{GREATEST, copy_name, expect, name};
+use crate::forms::{copy_name, expect, name};
 use crate::refused::Refused;
 use crate::types::{parameters, value_type};
 use fc_lexer::{Kind, Mark, Token, Word};
 use fc_syntax::{Decl, Expr};
-use fc_values::InputTy;
+use fc_values::{GREATEST, InputTy};
 use std::alloc::Global;
 
 /// The declaration that the tokens of a piece are, in language 2 or 1.

@@ -10,13 +10,13 @@ ghost use Rattle.fc_parser.specs.Expressions.{enclosed_with, expression_at, expr
 ghost use Rattle.fc_parser.specs.Expressions.{kinds_of, nested, operations_with, unary_with, word_with};
 
 use crate::forms::{
-    GREATEST, after_let, apply_two, arity, binder, builtin_of, copy_name, expect, expect_in,
-    has_builtin, mark, name, negate, nots, operator,
+    after_let, apply_two, arity, binder, builtin_of, copy_name, expect, expect_in, has_builtin,
+    mark, name, negate, nots, operator,
 };
 use crate::refused::Refused;
 use fc_lexer::{Kind, Mark, Token, Word};
 use fc_syntax::Expr;
-use fc_values::{Builtin, Memory, Name};
+use fc_values::{Builtin, GREATEST, Memory, Name};
 use std::alloc::Global;
 
 // The strength of a comparison.

@@ -15,9 +15,6 @@ use fc_syntax::{Expr, builtin_strength};
 use fc_values::{Builtin, Memory, Name};
 use std::alloc::Global;
 
-/// The greatest number of a program.
-pub const GREATEST: u32 = 1_000_000;
-
 /// What follows this mark, if it stands in front.
 #[tactic(auto, unfolding(crate::specs::Expressions::mark_read))]
 pub fn mark(tokens: &[Token], wanted: Mark) -> Option<&[Token]>

@@ -16,6 +16,7 @@ mod types;
 
 pub use faults::ParseFault;
 pub use laws::{derived_is_printable, few_declarations, one_meaning};
+pub use limits::{MOST_BRACKETS, MOST_TOKENS};
 pub use parsing::parse;
 pub use printing::round_trip;
 

@@ -16,7 +16,8 @@ use fc_lexer::Token;
 use fc_syntax::Program;
 use std::alloc::Global;
 
-/// The program that the tokens derive, or the first declaration that passes a limit, or else the first that is at fault.
+/// The program that the tokens derive, or the first declaration that passes a limit, or else the first that is at
+/// fault.
 pub fn parse(alloc: Global, tokens: &[Token]) -> Result<Program, ParseFault>
     requires { length tokens.now < 2 ^ 32 }
     ensures parses { IfOk result (λ p. Parses (tokens_of tokens.now) (program_of p)) }

@@ -12,8 +12,8 @@ use fc_lexer::Token;
 use fc_syntax::Decl;
 use std::alloc::Global;
 
-/// Where a declaration stands: first, after `language 2;`, after the ceiling, or after `main`. The flag says whether the
-/// program is of language 2.
+/// Where a declaration stands: first, after `language 2;`, after the ceiling, or after `main`. The flag says whether
+/// the program is of language 2.
 #[derive(Clone, Copy, Debug, PartialEq, Eq)]
 pub enum Position {
     First,

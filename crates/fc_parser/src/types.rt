@@ -5,7 +5,8 @@ ghost use Rattle.fc_values.specs.Types.{local_type_of, type_of};
 ghost use Rattle.fc_syntax.specs.Terms.{parameter_of};
 ghost use Rattle.fc_parser.specs.Expressions.{kinds_of};
 ghost use Rattle.fc_parser.specs.Heads.{Gives};
-ghost use Rattle.fc_parser.specs.Types.{local_read, pair_with, type_read, parameter_read, parameters_of, parameters_read};
+ghost use Rattle.fc_parser.specs.Types.{local_read, pair_with, type_read, parameter_read, parameters_of};
+ghost use Rattle.fc_parser.specs.Types.{parameters_read};
 
 use crate::forms::{copy_name, expect, mark, name};
 use crate::refused::Refused;

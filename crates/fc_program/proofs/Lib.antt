@@ -1,3 +1,5 @@
 pub mod Answering
+pub mod StableReplies
+pub mod Statuses
 pub mod OneAnswer
 pub mod SomeAnswer

@@ -6,16 +6,20 @@ use Rattle.command_words.specs.declared.commands.Command.{Command}
 use Rattle.command_words.specs.declared.commands.Command.TheVariants.{Check, Stable, Run, Replay, Format, Gen, Trace, Mail}
 use Rattle.command_words.specs.declared.commands.Limit.{Limit}
 use Rattle.command_words.specs.Commands.{limit_of}
+use Rattle.fc_inputs.specs.declared.sources.TheConstants.{MOST_BYTES}
 use Rattle.fc_inputs.specs.Causes.{Judged, Accepted, Refused, judged_map}
+use Rattle.fc_inputs.specs.Refusals.{Reply}
 use Rattle.fc_inputs.specs.Sections.{sections_of, WithOne, WithTwo, WithThree, other_number}
 use Rattle.fc_inputs.specs.Inputs.{OneSource}
+use Rattle.fc_check.specs.Checks.{Checks}
 use Rattle.fc_check.specs.Laws.{OneCheck}
 use Rattle.fc_replay.specs.declared.replays.Options.{Options}
 use Rattle.fc_replay.specs.Replays.{Shown}
 use Rattle.fc_replay.specs.Laws.{Alike, OneReplay}
-use Rattle.fc_inputs.specs.declared.sources.TheConstants.{MOST_BYTES}
 use Rattle.fc_program.specs.Asked.{reads}
-use Rattle.fc_program.specs.Answers.{AnswerValue, written, showing, replied, answer_of, Formats, ShowsCheck, ShowsReplay, options_of, AnswersSections, AnswersInput, AnswersReading, AnswersWithin, AnswersAsked}
+use Rattle.fc_program.specs.Stabilised.{Stabilised}
+use Rattle.fc_program.specs.Answers.{AnswerValue, written, showing, replied, answer_of, Formats, ShowsReplay, WritesReply}
+use Rattle.fc_program.specs.Answers.{options_of, AnswersSections, AnswersInput, AnswersReading, AnswersWithin, AnswersAsked}
 use Rattle.fc_program.specs.Laws.{SameText, threads_of, OneAnswer}
 
 pub record SameAnswer (a b : AnswerValue) : Type 0 where
@@ -26,9 +30,13 @@ abbrev Same : Judged AnswerValue → Judged AnswerValue → Type 0
 Same j k = SameAnswer (answer_of j) (answer_of k)
 
 equal : (i j k : Judged AnswerValue) → j ≡ i → k ≡ i → Same j k
-equal i j k e f = record { status = ap (λ x. (answer_of x).status) (e ∙ sym f); text = ap (λ x. (answer_of x).text) (e ∙ sym f) }
+equal i j k e f = record {
+  status = ap (λ x. (answer_of x).status) (e ∙ sym f);
+  text = ap (λ x. (answer_of x).text) (e ∙ sym f);
+}
 
-alike : (a b : Judged Shown) (j k : Judged AnswerValue) → Alike a b → j ≡ judged_map showing a → k ≡ judged_map showing b → Same j k
+alike : (a b : Judged Shown) (j k : Judged AnswerValue) → Alike a b → j ≡ judged_map showing a
+    → k ≡ judged_map showing b → Same j k
 alike (Accepted a) (Accepted b) j k h e f = record {
   status = ap (λ x. (answer_of x).status) e ∙ sym (ap (λ x. (answer_of x).status) f);
   text = ap (λ x. (answer_of x).text) e ∙ h.text ∙ sym (ap (λ x. (answer_of x).text) f);
@@ -41,7 +49,21 @@ by_threads : (b : Bool) (x y : AnswerValue) → x.text ≡ y.text → SameText b
 by_threads false x y e = e
 by_threads true x y e = λ logs. e
 
-module _ (source : OneSource) (check : OneCheck) (replay : OneReplay) where
+-- texts have one reply
+abbrev OneReply : (List ℕ → List ℕ → Judged Reply → Type 0) → Type 0
+OneReply Makes =
+    (program network : List ℕ) (j k : Judged Reply) → Makes program network j → Makes program network k → j ≡ k
+
+same_reply : (Makes : List ℕ → List ℕ → Judged Reply → Type 0) → OneReply Makes → (ss : List (List ℕ))
+    (j k : Judged AnswerValue) → WithTwo (WritesReply Makes) ss j → WithTwo (WritesReply Makes) ss k → Same j k
+same_reply Makes one [] j k h g = equal (Refused (other_number [])) j k h g
+same_reply Makes one (a ∷ []) j k h g = equal (Refused (other_number (a ∷ []))) j k h g
+same_reply Makes one (a ∷ b ∷ []) j k h g =
+    equal (judged_map replied g.judged) j k
+    (h.writes ∙ ap (judged_map replied) (one a b h.judged g.judged h.makes g.makes)) g.writes
+same_reply Makes one (a ∷ b ∷ c ∷ ss) j k h g = equal (Refused (other_number (a ∷ b ∷ c ∷ ss))) j k h g
+
+module _ (source : OneSource) (check : OneCheck) (stable : OneReply Stabilised) (replay : OneReplay) where
   same_format : (ss : List (List ℕ)) (j k : Judged AnswerValue) → WithOne Formats ss j → WithOne Formats ss k → Same j k
   same_format [] j k h g = equal (Refused (other_number [])) j k h g
   same_format (program ∷ []) j k h g =
@@ -51,51 +73,51 @@ module _ (source : OneSource) (check : OneCheck) (replay : OneReplay) where
       (g.prints ∙ ap (judged_map (λ ds. written (program_text ds))) (one.2 g.judged g.reads))
   same_format (a ∷ b ∷ ss) j k h g = equal (Refused (other_number (a ∷ b ∷ ss))) j k h g
 
-  same_check : (facts : Bool) (ss : List (List ℕ)) (j k : Judged AnswerValue) → WithTwo (ShowsCheck facts) ss j → WithTwo (ShowsCheck facts) ss k → Same j k
-  same_check facts [] j k h g = equal (Refused (other_number [])) j k h g
-  same_check facts (a ∷ []) j k h g = equal (Refused (other_number (a ∷ []))) j k h g
-  same_check facts (a ∷ b ∷ []) j k h g =
-      equal (judged_map replied g.judged) j k (h.shows ∙ ap (judged_map replied) (check facts a b h.judged g.judged h.checks g.checks)) g.shows
-  same_check facts (a ∷ b ∷ c ∷ ss) j k h g = equal (Refused (other_number (a ∷ b ∷ c ∷ ss))) j k h g
-
-  same_replay : (o : Options) (ss : List (List ℕ)) (j k : Judged AnswerValue) → WithThree (ShowsReplay o) ss j → WithThree (ShowsReplay o) ss k → Same j k
+  same_replay : (o : Options) (ss : List (List ℕ)) (j k : Judged AnswerValue) → WithThree (ShowsReplay o) ss j
+      → WithThree (ShowsReplay o) ss k → Same j k
   same_replay o [] j k h g = equal (Refused (other_number [])) j k h g
   same_replay o (a ∷ []) j k h g = equal (Refused (other_number (a ∷ []))) j k h g
   same_replay o (a ∷ b ∷ []) j k h g = equal (Refused (other_number (a ∷ b ∷ []))) j k h g
-  same_replay o (a ∷ b ∷ c ∷ []) j k h g = alike h.judged g.judged j k (replay o a b c h.judged g.judged h.replays g.replays) h.shows g.shows
+  same_replay o (a ∷ b ∷ c ∷ []) j k h g =
+      alike h.judged g.judged j k (replay o a b c h.judged g.judged h.replays g.replays) h.shows g.shows
   same_replay o (a ∷ b ∷ c ∷ d ∷ ss) j k h g = equal (Refused (other_number (a ∷ b ∷ c ∷ d ∷ ss))) j k h g
 
-  same_sections : (command : Command) (ss : List (List ℕ)) (j k : Judged AnswerValue) → AnswersSections command ss j → AnswersSections command ss k → Same j k
+  same_sections : (command : Command) (ss : List (List ℕ)) (j k : Judged AnswerValue) → AnswersSections command ss j
+      → AnswersSections command ss k → Same j k
   same_sections Format ss j k h g = same_format ss j k h g
   same_sections (Replay rounds table) ss j k h g = same_replay (options_of rounds table) ss j k h g
-  same_sections (Check facts) ss j k h g = same_check facts ss j k h g
-  same_sections Stable ss j k h g = absurd h
+  same_sections (Check facts) ss j k h g = same_reply (Checks facts) (check facts) ss j k h g
+  same_sections Stable ss j k h g = same_reply Stabilised stable ss j k h g
   same_sections (Run workers log table) ss j k h g = absurd h
   same_sections (Gen number devices workers) ss j k h g = absurd h
   same_sections Trace ss j k h g = absurd h
   same_sections (Mail number) ss j k h g = absurd h
 
-  same_input : (b : Bool) (command : Command) (input : List ℕ) (j k : Judged AnswerValue) → AnswersInput b command input j → AnswersInput b command input k → Same j k
+  same_input : (b : Bool) (command : Command) (input : List ℕ) (j k : Judged AnswerValue)
+      → AnswersInput b command input j → AnswersInput b command input k → Same j k
   same_input true command input j k h g = equal _ j k h g
   same_input false command input j k h g = same_sections command (sections_of input) j k h g
 
-  same_reading : (b : Bool) (command : Command) (input : List ℕ) (j k : Judged AnswerValue) → AnswersReading b command input j → AnswersReading b command input k → Same j k
+  same_reading : (b : Bool) (command : Command) (input : List ℕ) (j k : Judged AnswerValue)
+      → AnswersReading b command input j → AnswersReading b command input k → Same j k
   same_reading true command input j k h g = same_input (nat_lt MOST_BYTES (length input)) command input j k h g
   same_reading false command input j k h g = absurd h
 
-  same_within : (o : Option (Limit × ℕ)) (command : Command) (input : List ℕ) (j k : Judged AnswerValue) → AnswersWithin o command input j → AnswersWithin o command input k → Same j k
+  same_within : (o : Option (Limit × ℕ)) (command : Command) (input : List ℕ) (j k : Judged AnswerValue)
+      → AnswersWithin o command input j → AnswersWithin o command input k → Same j k
   same_within (Some limit) command input j k h g = equal _ j k h g
   same_within None command input j k h g = same_reading (reads command) command input j k h g
 
-  same_asked : (asked : Option Command) (input : List ℕ) (j k : Judged AnswerValue) → AnswersAsked asked input j → AnswersAsked asked input k → Same j k
+  same_asked : (asked : Option Command) (input : List ℕ) (j k : Judged AnswerValue) → AnswersAsked asked input j
+      → AnswersAsked asked input k → Same j k
   same_asked None input j k h g = equal _ j k h g
   same_asked (Some command) input j k h g = same_within (limit_of command) command input j k h g
 
   pub one_answer : OneAnswer
   one_answer asked input a b h g =
       let same = same_asked asked input h.judged g.judged h.makes g.makes in
-      let text : a.text ≡ b.text = ap (λ (x : AnswerValue). x.text) h.is ∙ same.text ∙ sym (ap (λ (x : AnswerValue). x.text) g.is) in
-      record {
-        status = ap (λ (x : AnswerValue). x.status) h.is ∙ same.status ∙ sym (ap (λ (x : AnswerValue). x.status) g.is);
-        text = by_threads (threads_of asked) a b text;
-      }
+      let status : a.status ≡ b.status =
+      ap (λ (x : AnswerValue). x.status) h.is ∙ same.status ∙ sym (ap (λ (x : AnswerValue). x.status) g.is) in
+      let text : a.text ≡ b.text =
+      ap (λ (x : AnswerValue). x.text) h.is ∙ same.text ∙ sym (ap (λ (x : AnswerValue). x.text) g.is) in
+      record { status = status; text = by_threads (threads_of asked) a b text }

@@ -1,5 +1,6 @@
 -- Each input has an answer.
-use Rattle.std.proofs.Common.{ℕ, ◌≡◌, ◌≤◌, Bool, true, false, List, [], ◌∷◌, length, refl, sym, subst, arith, Option, Some, None}
+use Rattle.std.proofs.Common.{ℕ, ◌≡◌, ◌≤◌, Bool, true, false, List, [], ◌∷◌, length, refl, sym, subst, arith}
+use Rattle.std.proofs.Common.{Option, Some, None}
 use Rattle.std.specs.Prelude.{nat_lt}
 use Rattle.std.proofs.lemmas.Bool.Decides.{nat_tests}
 use Rattle.fc_syntax.specs.Text.{program_text}
@@ -10,13 +11,17 @@ use Rattle.command_words.specs.Commands.{limit_of}
 use Rattle.fc_inputs.specs.declared.refusal.Refusal.TheVariants.{Usage, Bytes}
 use Rattle.fc_inputs.specs.declared.sources.TheConstants.{MOST_BYTES}
 use Rattle.fc_inputs.specs.Causes.{Plainly, Judged, Refused, judged_map}
+use Rattle.fc_inputs.specs.Refusals.{Reply}
 use Rattle.fc_inputs.specs.Sections.{sections_of, AreWithin, SectionsAreWithin, WithOne, WithTwo, WithThree, other_number}
 use Rattle.fc_inputs.specs.Inputs.{OneSource}
+use Rattle.fc_check.specs.Checks.{Checks}
 use Rattle.fc_check.specs.Laws.{SomeCheck}
 use Rattle.fc_replay.specs.declared.replays.Options.{Options}
 use Rattle.fc_replay.specs.Laws.{SomeReplay}
+use Rattle.fc_program.specs.Stabilised.{Stabilised}
 use Rattle.fc_program.specs.Asked.{exists, limit_refusal, MayAsk}
-use Rattle.fc_program.specs.Answers.{AnswerValue, written, showing, replied, answer_of, Formats, ShowsCheck, ShowsReplay, options_of, AnswersSections, AnswersInput, AnswersReading, AnswersWithin, AnswersAsked}
+use Rattle.fc_program.specs.Answers.{AnswerValue, written, showing, replied, answer_of, Formats, ShowsReplay, WritesReply}
+use Rattle.fc_program.specs.Answers.{options_of, AnswersSections, AnswersInput, AnswersReading, AnswersWithin, AnswersAsked}
 use Rattle.fc_program.specs.Laws.{SomeAnswer}
 use Rattle.fc_program.proofs.Answering.{reads_there}
 
@@ -24,21 +29,28 @@ use Rattle.fc_program.proofs.Answering.{reads_there}
 abbrev IsJudgedSo : (Judged AnswerValue → Type 0) → Type 0
 IsJudgedSo P = (j : Judged AnswerValue) × P j
 
-module _ (source : OneSource) (within : SectionsAreWithin) (check : SomeCheck) (replay : SomeReplay) where
+-- texts, of which that of the program is within the limit, have a reply
+abbrev SomeReply : (List ℕ → List ℕ → Judged Reply → Type 0) → Type 0
+SomeReply Makes =
+    (program network : List ℕ) → length program ≤ MOST_BYTES → (j : Judged Reply) × Makes program network j
+
+some_reply : (Makes : List ℕ → List ℕ → Judged Reply → Type 0) → SomeReply Makes → (ss : List (List ℕ))
+    → AreWithin MOST_BYTES ss → IsJudgedSo (WithTwo (WritesReply Makes) ss)
+some_reply Makes some [] w = (Refused (other_number []), refl)
+some_reply Makes some (a ∷ []) w = (Refused (other_number (a ∷ [])), refl)
+some_reply Makes some (a ∷ b ∷ []) w =
+    let r = some a b w.0 in
+    (judged_map replied r.0, record { judged = r.0; makes = r.1; writes = refl })
+some_reply Makes some (a ∷ b ∷ c ∷ ss) w = (Refused (other_number (a ∷ b ∷ c ∷ ss)), refl)
+
+module _ (source : OneSource) (within : SectionsAreWithin) (check : SomeCheck) (stable : SomeReply Stabilised)
+    (replay : SomeReplay) where
   some_format : (ss : List (List ℕ)) → IsJudgedSo (WithOne Formats ss)
   some_format [] = (Refused (other_number []), refl)
   some_format (program ∷ []) =
       let one = source program in
       (judged_map (λ ds. written (program_text ds)) one.0, record { judged = one.0; reads = one.1; prints = refl })
   some_format (a ∷ b ∷ ss) = (Refused (other_number (a ∷ b ∷ ss)), refl)
-
-  some_checked : (facts : Bool) (ss : List (List ℕ)) → AreWithin MOST_BYTES ss → IsJudgedSo (WithTwo (ShowsCheck facts) ss)
-  some_checked facts [] w = (Refused (other_number []), refl)
-  some_checked facts (a ∷ []) w = (Refused (other_number (a ∷ [])), refl)
-  some_checked facts (a ∷ b ∷ []) w =
-      let r = check facts a b w.0 in
-      (judged_map replied r.0, record { judged = r.0; checks = r.1; shows = refl })
-  some_checked facts (a ∷ b ∷ c ∷ ss) w = (Refused (other_number (a ∷ b ∷ c ∷ ss)), refl)
 
   some_shown : (o : Options) (ss : List (List ℕ)) → AreWithin MOST_BYTES ss → IsJudgedSo (WithThree (ShowsReplay o) ss)
   some_shown o [] w = (Refused (other_number []), refl)
@@ -49,17 +61,19 @@ module _ (source : OneSource) (within : SectionsAreWithin) (check : SomeCheck) (
       (judged_map showing r.0, record { judged = r.0; replays = r.1; shows = refl })
   some_shown o (a ∷ b ∷ c ∷ d ∷ ss) w = (Refused (other_number (a ∷ b ∷ c ∷ d ∷ ss)), refl)
 
-  some_sections : (command : Command) → exists command ≡ true → (ss : List (List ℕ)) → AreWithin MOST_BYTES ss → IsJudgedSo (AnswersSections command ss)
+  some_sections : (command : Command) → exists command ≡ true → (ss : List (List ℕ)) → AreWithin MOST_BYTES ss
+      → IsJudgedSo (AnswersSections command ss)
   some_sections Format there ss w = some_format ss
   some_sections (Replay rounds table) there ss w = some_shown (options_of rounds table) ss w
-  some_sections (Check facts) there ss w = some_checked facts ss w
-  some_sections Stable there ss w = absurd cc
+  some_sections (Check facts) there ss w = some_reply (Checks facts) (check facts) ss w
+  some_sections Stable there ss w = some_reply Stabilised stable ss w
   some_sections (Run workers log table) there ss w = absurd cc
   some_sections (Gen number devices workers) there ss w = absurd cc
   some_sections Trace there ss w = absurd cc
   some_sections (Mail number) there ss w = absurd cc
 
-  some_input : (command : Command) (input : List ℕ) → exists command ≡ true → (b : Bool) → nat_lt MOST_BYTES (length input) ≡ b → IsJudgedSo (AnswersInput b command input)
+  some_input : (command : Command) (input : List ℕ) → exists command ≡ true → (b : Bool)
+      → nat_lt MOST_BYTES (length input) ≡ b → IsJudgedSo (AnswersInput b command input)
   some_input command input there true long = (Refused (Plainly Bytes), refl)
   some_input command input there false short =
       some_sections command there (sections_of input) (within input MOST_BYTES (few (length input) short))
@@ -67,7 +81,8 @@ module _ (source : OneSource) (within : SectionsAreWithin) (check : SomeCheck) (
       few : (n : ℕ) → nat_lt MOST_BYTES n ≡ false → n ≤ MOST_BYTES
       few n e = grind (arith, nat_tests)
 
-  some_within : (command : Command) (input : List ℕ) → MayAsk (Some command) → (o : Option (Limit × ℕ)) → limit_of command ≡ o → IsJudgedSo (AnswersWithin o command input)
+  some_within : (command : Command) (input : List ℕ) → MayAsk (Some command) → (o : Option (Limit × ℕ))
+      → limit_of command ≡ o → IsJudgedSo (AnswersWithin o command input)
   some_within command input may (Some limit) past = (Refused (Plainly (limit_refusal limit.0 limit.1)), refl)
   some_within command input may None past =
       subst (λ b. IsJudgedSo (AnswersReading b command input)) (sym (reads_there command (may past)))

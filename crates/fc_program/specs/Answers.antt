@@ -4,7 +4,8 @@ use Rattle.fc_syntax.specs.Terms.{Declaration}
 use Rattle.fc_syntax.specs.Text.{program_text}
 use Rattle.firing_core.specs.declared.entries.Part.{Part}
 use Rattle.command_words.specs.declared.commands.Command.{Command}
-use Rattle.command_words.specs.declared.commands.Command.TheVariants.{Check, Stable, Run, Replay, Format, Gen, Trace, Mail}
+use Rattle.command_words.specs.declared.commands.Command.TheVariants.{Check, Stable, Run, Replay}
+use Rattle.command_words.specs.declared.commands.Command.TheVariants.{Format, Gen, Trace, Mail}
 use Rattle.command_words.specs.declared.commands.Limit.{Limit}
 use Rattle.command_words.specs.Commands.{limit_of}
 use Rattle.fc_inputs.specs.declared.refusal.Refusal.TheVariants.{Usage, Bytes}
@@ -18,6 +19,7 @@ use Rattle.fc_replay.specs.Ledgers.{Ledger}
 use Rattle.fc_replay.specs.Replays.{Shown, Replays}
 use Rattle.fc_inputs.specs.declared.sources.TheConstants.{MOST_BYTES}
 use Rattle.fc_program.specs.Asked.{reads, limit_refusal}
+use Rattle.fc_program.specs.Stabilised.{Stabilised}
 
 pub record AnswerValue : Type 0 where
   pub status : ℕ
@@ -54,11 +56,12 @@ pub record ShowsReplay (options : Options) (program network log : List ℕ) (j :
   pub replays : Replays options program network log judged
   pub shows : j ≡ judged_map showing judged
 
--- `check` writes the verdict on a program and a scene, and its facts where they are asked for
-pub record ShowsCheck (facts : Bool) (program network : List ℕ) (j : Judged AnswerValue) : Type 0 where
+-- a command writes the reply that it makes of a program and a scene
+pub record WritesReply (Makes : List ℕ → List ℕ → Judged Reply → Type 0) (program network : List ℕ)
+    (j : Judged AnswerValue) : Type 0 where
   pub judged : Judged Reply
-  pub checks : Checks facts program network judged
-  pub shows : j ≡ judged_map replied judged
+  pub makes : Makes program network judged
+  pub writes : j ≡ judged_map replied judged
 
 abbrev pub options_of : Bool → Bool → Options
 options_of rounds table = record { rounds = rounds; table = table }
@@ -67,8 +70,8 @@ options_of rounds table = record { rounds = rounds; table = table }
 abbrev pub AnswersSections : Command → List (List ℕ) → Judged AnswerValue → Type 0
 AnswersSections Format sections j = WithOne Formats sections j
 AnswersSections (Replay rounds table) sections j = WithThree (ShowsReplay (options_of rounds table)) sections j
-AnswersSections (Check facts) sections j = WithTwo (ShowsCheck facts) sections j
-AnswersSections Stable sections j = ⊥
+AnswersSections (Check facts) sections j = WithTwo (WritesReply (Checks facts)) sections j
+AnswersSections Stable sections j = WithTwo (WritesReply Stabilised) sections j
 AnswersSections (Run workers log table) sections j = ⊥
 AnswersSections (Gen number devices workers) sections j = ⊥
 AnswersSections Trace sections j = ⊥

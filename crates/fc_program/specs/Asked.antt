@@ -1,7 +1,9 @@
 -- What the words ask for, and what each command does with the outside.
-use Rattle.std.specs.Prelude.{ℕ, ◌≡◌, Bool, true, false, ◌&&◌, is_none, if◌then◌else◌, List, Option, Some, None, option_and_then}
+use Rattle.std.specs.Prelude.{ℕ, ◌≡◌, Bool, true, false, ◌&&◌, is_none, if◌then◌else◌, List, Option, Some, None}
+use Rattle.std.specs.Prelude.{option_and_then}
 use Rattle.command_words.specs.declared.commands.Command.{Command}
-use Rattle.command_words.specs.declared.commands.Command.TheVariants.{Check, Stable, Run, Replay, Format, Gen, Trace, Mail}
+use Rattle.command_words.specs.declared.commands.Command.TheVariants.{Check, Stable, Run, Replay}
+use Rattle.command_words.specs.declared.commands.Command.TheVariants.{Format, Gen, Trace, Mail}
 use Rattle.command_words.specs.declared.commands.Limit.{Limit}
 use Rattle.command_words.specs.declared.commands.Limit.TheVariants.{Workers, Devices}
 use Rattle.command_words.specs.Commands.{limit_of}
@@ -14,7 +16,7 @@ abbrev pub exists : Command → Bool
 exists Format = true
 exists (Replay rounds table) = true
 exists (Check facts) = true
-exists Stable = false
+exists Stable = true
 exists (Run workers log table) = false
 exists (Gen number devices workers) = false
 exists Trace = false

@@ -1,4 +1,5 @@
 pub mod Asked
+pub mod Stabilised
 pub mod Answers
 pub mod Top
 pub mod Laws

@@ -1,20 +1,27 @@
--- What `fc` promises of its sink, its status, its book and its parts.
-use Rattle.std.specs.Prelude.{ℕ, ◌≡◌, ◌≢◌, ◌<◌, List, length, take, IfSome, Option, Some, None, option_map}
-use Rattle.std.specs.Io.KnownBytes.{Appends}
-use Rattle.firing_core.specs.Books.{BookValue}
-use Rattle.firing_core.specs.declared.entries.Part.{Part}
+-- What `fc` promises of its source and its sink, its status, its book and its parts.
+use Rattle.std.specs.Prelude.{ℕ, ◌≡◌, ◌≢◌, ◌<◌, ◌≤◌, ◌⊎◌, true, List, [], length, take, IfSome, IsNone}
+use Rattle.std.specs.Prelude.{Option, Some, None, option_map}
+use Rattle.std.specs.Io.KnownBytes.{Appends, IsAtEnd, Keeps}
 use Rattle.command_words.specs.declared.commands.Command.{Command}
+use Rattle.fc_io.specs.Causes.{Rose}
 use Rattle.fc_inputs.specs.declared.stop.Stop.{Stop}
 use Rattle.fc_inputs.specs.declared.stop.Stop.TheVariants as stop
 use Rattle.fc_inputs.specs.Causes.{Cause, Plainly, reply_to, Judged, Refused}
 use Rattle.fc_inputs.specs.Stops.{WhereCause, cause_of, scene_cause}
 use Rattle.fc_replay.specs.Ledgers.{ledger_of}
 use Rattle.fc_program.specs.declared.answers.Answer.{Answer}
+use Rattle.fc_program.specs.declared.ending.Outcome.{Outcome}
+use Rattle.fc_program.specs.Asked.{reads_source}
 use Rattle.fc_program.specs.Answers.{AnswerValue, AnswersAsked, Answers}
 
 -- an answer in code
 abbrev pub value_of : Answer → AnswerValue
-value_of a = record { status = a.reply.status; text = a.reply.text; book = option_map ledger_of a.book; parts = a.parts.items }
+value_of a = record {
+  status = a.reply.status;
+  text = a.reply.text;
+  book = option_map ledger_of a.book;
+  parts = a.parts.items;
+}
 
 -- an answer to an input, which is what the source has left where it tells that
 pub record IsAnswer (asked : Option Command) (left : Option (List ℕ)) (answer : AnswerValue) : Type 0 where
@@ -33,7 +40,8 @@ abbrev pub StopsAsked : Option Command → Option (List ℕ) → Stop → Type 0
 StopsAsked asked left stop.Read = asked ≢ None
 StopsAsked asked left stop.Memory = Unit {0}
 StopsAsked asked left (stop.Refused refusal) = IsJudged asked left (Refused (Plainly refusal))
-StopsAsked asked left (stop.Scene fault) = WhereCause (λ cause. IsJudged asked left (Refused cause)) (scene_cause fault)
+StopsAsked asked left (stop.Scene fault) =
+    WhereCause (λ cause. IsJudged asked left (Refused cause)) (scene_cause fault)
 
 -- the status of a stop that has a cause
 abbrev pub cause_status : Option Cause → ℕ
@@ -43,28 +51,78 @@ cause_status (Some cause) = (reply_to cause).status
 abbrev pub stop_status : Stop → ℕ
 stop_status s = cause_status (cause_of s)
 
--- an answer with a book and parts, of which these are told
-pub record Tells (answer : AnswerValue) (told : Option BookValue) (stretches : List Part) : Type 0 where
-  pub book : option_map ledger_of told ≡ answer.book
-  pub parts : stretches ≡ answer.parts
+-- ---- how a call ends
 
--- There is an answer with this status, this book and these parts, and the sink took its text and nothing else.
-pub record IsExact
-    (asked : Option Command) (left old new : Option (List ℕ)) (ended : ℕ) (told : Option BookValue)
-    (stretches : List Part) : Type 0 where
+-- a source at a moment: what it has left, where it tells that, and the count of its faults
+pub record SourceAt : Type 0 where
+  pub left : Option (List ℕ)
+  pub faults : ℕ
+
+-- a sink at a moment: what it has taken and what room it has left, where it tells that, and the count of its faults
+pub record SinkAt : Type 0 where
+  pub taken : Option (List ℕ)
+  pub faults : ℕ
+  pub room : Option ℕ
+
+abbrev pub source_at : Option (List ℕ) → ℕ → SourceAt
+source_at left faults = record { left = left; faults = faults }
+
+abbrev pub sink_at : Option (List ℕ) → ℕ → Option ℕ → SinkAt
+sink_at taken faults room = record { taken = taken; faults = faults; room = room }
+
+-- the book and the parts of an outcome are those of an answer
+pub record Tells (answer : AnswerValue) (o : Outcome) : Type 0 where
+  pub book : option_map ledger_of o.book ≡ answer.book
+  pub parts : o.parts.items ≡ answer.parts
+
+-- an outcome without a book
+pub record TellsNothing (o : Outcome) : Type 0 where
+  pub book : IsNone o.book
+  pub parts : o.parts.items ≡ []
+
+-- There is an answer with the outcome's status, book and parts, and the sink took its text and nothing else.
+pub record IsExact (asked : Option Command) (left old new : Option (List ℕ)) (o : Outcome) : Type 0 where
   pub answer : AnswerValue
   pub answers : IsAnswer asked left answer
-  pub status : ended ≡ answer.status
+  pub status : o.status ≡ answer.status
   pub text : Appends old new answer.text
-  pub tells : Tells answer told stretches
+  pub tells : Tells answer o
 
--- There is an answer with this book and these parts, and the sink took a front of its text.
-pub record IsCut
-    (asked : Option Command) (left old new : Option (List ℕ)) (told : Option BookValue) (stretches : List Part)
-    : Type 0 where
+-- There is an answer with the outcome's book and parts, and the sink took a front of its text.
+pub record IsCut (asked : Option Command) (left old new : Option (List ℕ)) (o : Outcome) : Type 0 where
   pub answer : AnswerValue
   pub answers : IsAnswer asked left answer
   pub size : ℕ
   pub short : size < length answer.text
   pub text : Appends old new (take size answer.text)
-  pub tells : Tells answer told stretches
+  pub tells : Tells answer o
+
+-- the source failed, and the sink took nothing
+pub record IsUnread (src src' : SourceAt) (out out' : SinkAt) : Type 0 where
+  pub cause : Rose src.faults src'.faults
+  pub keeps : Keeps out.taken out'.taken
+
+-- how a call ends of what the words ask for: the source and the sink before it and after it, and its outcome
+pub record Ends (asked : Option Command) (src src' : SourceAt) (out out' : SinkAt) (o : Outcome) : Type 0 where
+  -- A status from 0 to 4: an answer to the words and to what the source had left was written, and nothing else.
+  pub exact : o.status ≤ 4 → IsExact asked src.left out.taken out'.taken o
+  -- What reads the source reads it to its end.
+  pub end : reads_source asked ≡ true → o.status ≤ 1 → IsAtEnd src'.left
+  pub refused : reads_source asked ≡ true → o.status ≡ 3 → IsAtEnd src'.left
+  -- Each other answer has its cause: the words for 2, the source for 5, the sink for 6.
+  pub usage : o.status ≡ 2 → asked ≡ None
+  pub outside : asked ≡ None → (o.status ≡ 2) ⊎ (6 ≤ o.status)
+  pub read : o.status ≡ 5 → IsUnread src src' out out'
+  pub unread : o.status ≢ 5 → src'.faults ≡ src.faults
+  pub write : o.status ≡ 6 → Rose out.faults out'.faults
+  pub unwritten : o.status ≢ 6 → out'.faults ≡ out.faults
+  pub cut : o.status ≡ 6 → IsCut asked src.left out.taken out'.taken o
+  pub memory : o.status ≡ 7 → Keeps out.taken out'.taken
+  pub range : o.status ≤ 7
+  pub room : out'.room ≡ out.room
+  -- Nothing is told where nothing was made.
+  pub unread_book : o.status ≡ 5 → TellsNothing o
+  pub memory_book : o.status ≡ 7 → TellsNothing o
+  -- Where no count rose, want of memory is the one answer beside the defined one.
+  pub complete : (Rose src.faults src'.faults → ⊥) → (Rose out.faults out'.faults → ⊥) → o.status ≢ 7
+      → IsExact asked src.left out.taken out'.taken o

@@ -8,6 +8,7 @@ ghost use Rattle.fc_program.specs.Asked.{exists};
 ghost use Rattle.fc_program.specs.Top.{value_of};
 ghost use Rattle.fc_inputs.specs.declared.sources.TheConstants.{MOST_BYTES};
 
+use crate::stabilised::stabilised;
 use command_words::Command;
 use fc_check::check;
 use fc_inputs::{Reply, Stop, one_section, read_source, sections, three_sections, two_sections};
@@ -76,7 +77,8 @@ pub fn answer_to(alloc: Global, command: Command, input: &[u8]) -> Result<Answer
     requires exists { exists command ≡ true }
     requires short { length input.now ≤ MOST_BYTES }
     ensures makes { IfOk result (λ a. AnswersSections command (sections_of input.now) (Accepted (value_of a))) }
-    ensures refused { IfErr result (StopsFor (λ cause. AnswersSections command (sections_of input.now) (Refused cause))) }
+    ensures refused { IfErr result (StopsFor (λ cause.
+        AnswersSections command (sections_of input.now) (Refused cause))) }
 {
     let sections = sections(alloc, input)?;
     match command {
@@ -95,10 +97,12 @@ pub fn answer_to(alloc: Global, command: Command, input: &[u8]) -> Result<Answer
             let reply = check(alloc, facts, program, network)?;
             Ok(Answer::replied(alloc, reply))
         }
-        Command::Stable
-        | Command::Run { .. }
-        | Command::Gen { .. }
-        | Command::Trace
-        | Command::Mail { .. } => unreachable!(),
+        Command::Stable => {
+            let (program, network) = two_sections(&sections)?;
+            let reply = stabilised(alloc, program, network)?;
+            Ok(Answer::replied(alloc, reply))
+        }
+        Command::Run { .. } | Command::Gen { .. } | Command::Trace | Command::Mail { .. } =>
+            unreachable!(),
     }
 }

@@ -14,7 +14,7 @@ fn exists(command: Command) -> bool
 {
     matches!(
         command,
-        Command::Format | Command::Replay { .. } | Command::Check { .. }
+        Command::Format | Command::Replay { .. } | Command::Check { .. } | Command::Stable
     )
 }
 

@@ -1,4 +1,4 @@
-//! Worked rows of `check`.
+//! Worked rows of `check` and `stable`.
 
 use crate::rows::{HOPS, PAIR, SHARED_HOPS, gives};
 use std::alloc::Global;
@@ -23,7 +23,7 @@ const HOP_FACTS: &str = "yes 22
 10 10 int 10..10 1
 ";
 
-/// A program, a network, and the text that `check` writes.
+/// A program, a network, and the text that is written.
 type Check = (&'static str, &'static str, &'static str);
 
 const YES: [Check; 2] = [(HOPS, LINE, "yes 22\n"), (SHARED_HOPS, LINE, "yes 12\n")];
@@ -43,6 +43,21 @@ const NO: [Check; 3] = [
         "ceiling 10; main = rep(9){(d) => let y = nbr{d} in minHoodLoc(y + 1, 5)};",
         PAIR,
         "no 0 nested\n",
+    ),
+];
+
+const FIELDS: [Check; 4] = [
+    (HOPS, LINE, "0 0\n1 1\n2 2\n"),
+    (SHARED_HOPS, LINE, "0 0\n1 1\n2 2\n"),
+    (
+        "ceiling 10; input src: bool; main = if (sense src) {sumHood(nbr{1})} {7};",
+        LINE,
+        "0 0\n1 7\n2 7\n",
+    ),
+    (
+        "ceiling 10; input src: bool; main = let p = uid in rep(0){(x) => 1 + sumHood(mux(nbr{p} < p, nbr{x}, 0))};",
+        LINE,
+        "0 1\n1 2\n2 3\n",
     ),
 ];
 
@@ -68,6 +83,18 @@ fn verdicts(rt: HostRuntime) -> Result<(), Fail> {
     for row in &NO {
         checks(&rt, alloc, &["fc", "check"], row, 1)?;
         checks(&rt, alloc, &["fc", "check", "--facts"], row, 1)?;
+    }
+    Ok(())
+}
+
+#[test]
+fn fields(rt: HostRuntime) -> Result<(), Fail> {
+    let alloc = rt.alloc();
+    for row in &FIELDS {
+        checks(&rt, alloc, &["fc", "stable"], row, 0)?;
+    }
+    for row in &NO {
+        checks(&rt, alloc, &["fc", "stable"], row, 1)?;
     }
     Ok(())
 }

@@ -1,13 +1,17 @@
-//! `fc`: writes a program's canonical text, or says whether a program stabilises and in how many rounds, or replays a log
-//! of firings on a network and writes what each device holds.
+//! `fc`: writes a program's canonical text, or says whether a program stabilises and in how many rounds, or replays a
+//! log of firings on a network and writes what each device holds.
 #![tactic(auto)]
 
 mod answers;
 mod asked;
 #[cfg(test)]
 mod check_rows;
+mod ending;
+mod judging;
+mod laws;
 #[cfg(test)]
 mod rows;
+mod stabilised;
 #[cfg(test)]
 mod tests;
 mod top;

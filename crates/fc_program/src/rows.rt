@@ -26,14 +26,17 @@ const SOURCE: &str =
     "{\"devices\":[{\"id\":0,\"inputs\":{\"src\":true}},{\"id\":1,\"inputs\":{\"src\":false}}],\"links\":[[0,1,1]]}";
 
 const PENDING: &str =
-    "{\"devices\":[{\"id\":0,\"inputs\":{\"src\":true}},{\"id\":1,\"inputs\":{\"src\":false}}],\"links\":[[0,1,1]],\"pending\":[{\"id\":0,\"inputs\":{\"src\":false},\"own\":null,\"near\":[]}]}";
+    "{\"devices\":[{\"id\":0,\"inputs\":{\"src\":true}},{\"id\":1,\"inputs\":{\"src\":false}}],\"links\":[[0,1,1]],\
+    \"pending\":[{\"id\":0,\"inputs\":{\"src\":false},\"own\":null,\"near\":[]}]}";
 
 const TABLE: &str =
-    "{\"devices\":[{\"id\":0,\"inputs\":{\"src\":true}},{\"id\":1,\"inputs\":{\"src\":false}}],\"links\":[[0,1,1]],\"table\":[{\"id\":0,\"value\":3,\"kept\":[3,4]}]}";
+    "{\"devices\":[{\"id\":0,\"inputs\":{\"src\":true}},{\"id\":1,\"inputs\":{\"src\":false}}],\"links\":[[0,1,1]],\
+    \"table\":[{\"id\":0,\"value\":3,\"kept\":[3,4]}]}";
 
 // The scene with the source, with a table that a replay has written.
 const WRITTEN: &str =
-    "{\"devices\":[{\"id\":0,\"inputs\":{\"src\":true}},{\"id\":1,\"inputs\":{\"src\":false}}],\"links\":[[0,1,1]],\"table\":{\"format\":2,\"rows\":[{\"id\":0,\"kept\":[[0,0],[4,10]],\"value\":0},{\"id\":1,\"kept\":[[0,10],[4,10]],\"value\":10}]}}";
+    "{\"devices\":[{\"id\":0,\"inputs\":{\"src\":true}},{\"id\":1,\"inputs\":{\"src\":false}}],\"links\":[[0,1,1]],\
+    \"table\":{\"format\":2,\"rows\":[{\"id\":0,\"kept\":[[0,0],[4,10]],\"value\":0},{\"id\":1,\"kept\":[[0,10],[4,10]],\"value\":10}]}}";
 
 /// A program, a network, a log, and the text that a replay writes.
 type Replay = (&'static str, &'static str, &'static str, &'static str);
@@ -110,7 +113,8 @@ const REFUSED: [(u8, Replay); 16] = [
         3,
         (
             HOPS,
-            "{\"devices\":[{\"id\":0,\"inputs\":{\"src\":true}}],\"links\":[],\"table\":[{\"id\":0,\"value\":3,\"kept\":[4]}]}",
+            "{\"devices\":[{\"id\":0,\"inputs\":{\"src\":true}}],\"links\":[],\
+            \"table\":[{\"id\":0,\"value\":3,\"kept\":[4]}]}",
             "",
             "kept /table/0 4\n",
         ),
@@ -187,7 +191,8 @@ fn rounds_and_tables(rt: HostRuntime) -> Result<(), Fail> {
         HOPS,
         SOURCE,
         "link 0 1 1\nB0\nB1\nE1\nI\nE0",
-        "0 0\n1 10\nrounds 1\n{\"format\":2,\"rows\":[{\"id\":0,\"kept\":[[0,0],[4,10]],\"value\":0},{\"id\":1,\"kept\":[[0,10],[4,10]],\"value\":10}]}\n",
+        "0 0\n1 10\nrounds 1\n\
+        {\"format\":2,\"rows\":[{\"id\":0,\"kept\":[[0,0],[4,10]],\"value\":0},{\"id\":1,\"kept\":[[0,10],[4,10]],\"value\":10}]}\n",
     );
     replays(
         &rt,
@@ -200,7 +205,8 @@ fn rounds_and_tables(rt: HostRuntime) -> Result<(), Fail> {
         HOPS,
         WRITTEN,
         "",
-        "0 0\n1 10\n{\"format\":2,\"rows\":[{\"id\":0,\"kept\":[[0,0],[4,10]],\"value\":0},{\"id\":1,\"kept\":[[0,10],[4,10]],\"value\":10}]}\n",
+        "0 0\n1 10\n\
+        {\"format\":2,\"rows\":[{\"id\":0,\"kept\":[[0,0],[4,10]],\"value\":0},{\"id\":1,\"kept\":[[0,10],[4,10]],\"value\":10}]}\n",
     );
     replays(&rt, alloc, &["fc", "replay", "--table"], &back, 0)?;
     Ok(())
@@ -246,7 +252,8 @@ const OTHER_REFUSALS: [(u8, Replay); 4] = [
         3,
         (
             "ceiling 10; main = 5;",
-            "{\"devices\":[{\"id\":0,\"inputs\":{}},{\"id\":1,\"inputs\":{}},{\"id\":2,\"inputs\":{}}],\"links\":[[1,1,1]]}",
+            "{\"devices\":[{\"id\":0,\"inputs\":{}},{\"id\":1,\"inputs\":{}},{\"id\":2,\"inputs\":{}}],\
+            \"links\":[[1,1,1]]}",
             "",
             "network /links/0 self-link\n",
         ),

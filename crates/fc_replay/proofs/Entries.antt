@@ -20,21 +20,24 @@ log_entries [] (e ∷ es) h = absurd (omega arith)
 log_entries (k ∷ ks) [] h = absurd (omega arith)
 log_entries (k ∷ ks) (e ∷ es) h = ap (λ l. e ∷ l) (log_entries ks es (omega arith))
 
-pub log_lines : (ks : List ℕ) (es : List EntryValue) → length ks ≡ length es → ks ≡ map (λ (x : Logged). x.0) (numbered ks es)
+pub log_lines : (ks : List ℕ) (es : List EntryValue) → length ks ≡ length es
+    → ks ≡ map (λ (x : Logged). x.0) (numbered ks es)
 log_lines [] [] h = refl
 log_lines [] (e ∷ es) h = absurd (omega arith)
 log_lines (k ∷ ks) [] h = absurd (omega arith)
 log_lines (k ∷ ks) (e ∷ es) h = ap (λ l. k ∷ l) (log_lines ks es (omega arith))
 
 -- an index at which a log fails is within it
-within_log : {P : Core → EntryValue → Type 0} (U : Unfolding) (c : Core) (es : List EntryValue) (i : ℕ) → FailsAt U c es i P → i < length es
+within_log : {P : Core → EntryValue → Type 0} (U : Unfolding) (c : Core) (es : List EntryValue) (i : ℕ)
+    → FailsAt U c es i P → i < length es
 within_log U c es i at = omega (arith, at.place, ap length at.cut, length-append at.front (at.entry ∷ at.rest))
 
 same_lengths : (log : List Logged) → length (map (λ (x : Logged). x.0) log) ≡ length (entries_in log)
 same_lengths [] = refl
 same_lengths (x ∷ log) = ap suc (same_lengths log)
 
-pub stops_within : (U : Unfolding) (c : Core) (es : List EntryValue) (n : ℕ) (fault : ReplayFault) → FailsReplay U c es fault → length es ≡ n → StopsWithin n fault
+pub stops_within : (U : Unfolding) (c : Core) (es : List EntryValue) (n : ℕ) (fault : ReplayFault)
+    → FailsReplay U c es fault → length es ≡ n → StopsWithin n fault
 stops_within U c es n (replay_fault.At i f) h e = omega (arith, within_log U c es i h, e)
 stops_within U c es n (replay_fault.EditAt i f) h e = omega (arith, within_log U c es i h, e)
 stops_within U c es n replay_fault.Memory h e = tt
@@ -45,12 +48,16 @@ pub record HasRead (c start : Core) (log : List Logged) (lines : List ℕ) (es :
   pub numbers_read : lines ≡ map (λ (x : Logged). x.0) log
   pub entries_read : es ≡ entries_in log
 
-pub has_read : (c start : Core) (lines : List ℕ) (es : List Entry) → c ≡ start → length lines ≡ length es → HasRead c start (numbered lines (entries_of es)) lines (entries_of es)
+pub has_read : (c start : Core) (lines : List ℕ) (es : List Entry) → c ≡ start → length lines ≡ length es
+    → HasRead c start (numbered lines (entries_of es)) lines (entries_of es)
 has_read c start lines es same many =
     let long : length lines ≡ length (entries_of es) = many ∙ sym (length-map es entry_of) in
-    record { same = same; numbers_read = log_lines lines (entries_of es) long; entries_read = log_entries lines (entries_of es) long }
+    record { same = same; numbers_read = log_lines lines (entries_of es) long; entries_read =
+        log_entries lines (entries_of es) long }
 
-pub lines_within : (U : Unfolding) (c start : Core) (log : List Logged) (lines : List ℕ) (es : List EntryValue) (fault : ReplayFault) → HasRead c start log lines es → FailsReplay U c es fault
+pub lines_within : (U : Unfolding) (c start : Core) (log : List Logged) (lines : List ℕ) (es : List EntryValue)
+    (fault : ReplayFault) → HasRead c start log lines es → FailsReplay U c es fault
     → StopsWithin (length lines) fault
 lines_within U c start log lines es fault r h =
-    stops_within U c es (length lines) fault h (ap length r.entries_read ∙ sym (same_lengths log) ∙ ap length (sym r.numbers_read))
+    stops_within U c es (length lines) fault h (ap length r.entries_read ∙ sym (same_lengths log)
+    ∙ ap length (sym r.numbers_read))

@@ -19,11 +19,13 @@ use Rattle.fc_replay.specs.Resuming.{TablesResume}
 use Rattle.fc_replay.proofs.Rows.{rows_rise}
 
 -- what holds of each export of a core holds of its rows
-all_rows : (P : Row → Type 0) (core : Core) (ds : List NetDevice) → ((d : ℕ) (e : TreeExport) → core.exports d ≡ Some e → P (d, e)) → All P (rows_of core ds)
+all_rows : (P : Row → Type 0) (core : Core) (ds : List NetDevice)
+    → ((d : ℕ) (e : TreeExport) → core.exports d ≡ Some e → P (d, e)) → All P (rows_of core ds)
 all_rows P core [] h = All-nil P
 all_rows P core (d ∷ ds) h = by_export (core.exports d.id) refl (all_rows P core ds h)
   where
-    by_export : (o : Option TreeExport) → core.exports d.id ≡ o → All P (rows_of core ds) → All P (row_of d.id o ++ rows_of core ds)
+    by_export : (o : Option TreeExport) → core.exports d.id ≡ o → All P (rows_of core ds)
+        → All P (row_of d.id o ++ rows_of core ds)
     by_export None is rest = rest
     by_export (Some e) is rest = All-cons P (d.id, e) (rows_of core ds) (h d.id e is) rest
 
@@ -35,21 +37,25 @@ either_none true o none = none
 either_none false o none = refl
 
 -- the rows of some devices have the exports of these devices
-looked : (core : Core) (ds : List NetDevice) (d : ℕ) → look (rows_of core ds) d ≡ (if is_in d (numbers ds) then core.exports d else None)
+looked : (core : Core) (ds : List NetDevice) (d : ℕ)
+    → look (rows_of core ds) d ≡ (if is_in d (numbers ds) then core.exports d else None)
 looked core [] d = refl
 looked core (x ∷ ds) d = by_export (core.exports x.id) refl (nat_eq d x.id) refl (looked core ds d)
   where
-    by_export : (o : Option TreeExport) → core.exports x.id ≡ o → (b : Bool) → nat_eq d x.id ≡ b → look (rows_of core ds) d ≡ (if is_in d (numbers ds) then core.exports d else None)
+    by_export : (o : Option TreeExport) → core.exports x.id ≡ o → (b : Bool) → nat_eq d x.id ≡ b
+        → look (rows_of core ds) d ≡ (if is_in d (numbers ds) then core.exports d else None)
         → look (row_of x.id o ++ rows_of core ds) d ≡ (if b || is_in d (numbers ds) then core.exports d else None)
     by_export None is true here ih =
         let none : core.exports d ≡ None = ap core.exports (eqb-true d x.id here) ∙ is in
         ih ∙ either_none (is_in d (numbers ds)) (core.exports d) none ∙ sym none
     by_export None is false other ih = ih
-    by_export (Some e) is true here ih = ap (λ b. if b then Some e else look (rows_of core ds) d) here ∙ sym is ∙ ap core.exports (sym (eqb-true d x.id here))
+    by_export (Some e) is true here ih = ap (λ b. if b then Some e else look (rows_of core ds) d) here ∙ sym is
+        ∙ ap core.exports (sym (eqb-true d x.id here))
     by_export (Some e) is false other ih = ap (λ b. if b then Some e else look (rows_of core ds) d) other ∙ ih
 
 -- a good core has exports of its devices alone
-no_other : (U : Unfolding) (core : Core) (d : ℕ) → IsGood U core → (b : Bool) → is_in d (numbers core.net.devices) ≡ b → (if b then core.exports d else None) ≡ core.exports d
+no_other : (U : Unfolding) (core : Core) (d : ℕ) → IsGood U core → (b : Bool) → is_in d (numbers core.net.devices) ≡ b
+    → (if b then core.exports d else None) ≡ core.exports d
 no_other U core d good true there = refl
 no_other U core d good false away = by_export (core.exports d) refl
   where
@@ -64,5 +70,6 @@ tables_resume read U core path few net good = record {
     there = all_rows (λ (r : Row). Lives core.net r.0) core core.net.devices (λ d e is. (good.exports d e is).there);
     exports = all_rows (λ (r : Row). IsWellTyped U r.1) core core.net.devices (λ d e is. (good.exports d e is).typed);
   });
-  exports = fun_ext (λ d. looked core core.net.devices d ∙ no_other U core d good (is_in d (numbers core.net.devices)) refl);
+  exports = fun_ext (λ d. looked core core.net.devices d
+      ∙ no_other U core d good (is_in d (numbers core.net.devices)) refl);
 }

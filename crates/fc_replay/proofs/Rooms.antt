@@ -11,12 +11,15 @@ use Rattle.firing_core.proofs.Maps.{put_same}
 some_same : (a b : Copy) → Some a ≡ Some b → a ≡ b
 some_same a b e = cc
 
-pub copy_in_flight : (U : Unfolding) (old new : Core) (d e : ℕ) (taken s : Copy) → Step U old (BeginEntry d) new → taken ≡ copy_of old.net old.exports d → e ≡ taken.device → new.flying e ≡ Some s → s ≡ taken
+pub copy_in_flight : (U : Unfolding) (old new : Core) (d e : ℕ) (taken s : Copy) → Step U old (BeginEntry d) new
+    → taken ≡ copy_of old.net old.exports d → e ≡ taken.device → new.flying e ≡ Some s → s ≡ taken
 copy_in_flight U old new d e taken s step same names h =
     let here : e ≡ d = names ∙ ap (λ (c : Copy). c.device) same in
-    some_same s taken (sym h ∙ ap new.flying here ∙ ap (λ (k : Core). k.flying d) step.2 ∙ put_same old.flying d (Some (copy_of old.net old.exports d)) ∙ ap Some (sym same))
+    some_same s taken (sym h ∙ ap new.flying here ∙ ap (λ (k : Core). k.flying d) step.2
+        ∙ put_same old.flying d (Some (copy_of old.net old.exports d)) ∙ ap Some (sym same))
 
-pub device_there : (old : Core) (d e : ℕ) (taken : Copy) → taken ≡ copy_of old.net old.exports d → e ≡ taken.device → e ≡ d
+pub device_there : (old : Core) (d e : ℕ) (taken : Copy) → taken ≡ copy_of old.net old.exports d → e ≡ taken.device
+    → e ≡ d
 device_there old d e taken same names = names ∙ ap (λ (c : Copy). c.device) same
 
 pub marked : (set : ℕ → Bool) (d e : ℕ) → e ≡ d → mark set d true e ≡ true

@@ -50,13 +50,16 @@ abbrev flown : List Copy → ℕ → Option Copy
 flown copies = look_up (λ (c : Copy). c.device) (λ (c : Copy). c) copies
 
 module _ (U : Unfolding) (n : Network) where
-  export_there : (rows : List Row) (d : ℕ) (e : TreeExport) → exported rows d ≡ Some e → All (λ (r : Row). Lives n r.0) rows → All (λ (r : Row). IsWellTyped U r.1) rows → GoodExport U n d e
+  export_there : (rows : List Row) (d : ℕ) (e : TreeExport) → exported rows d ≡ Some e
+      → All (λ (r : Row). Lives n r.0) rows → All (λ (r : Row). IsWellTyped U r.1) rows → GoodExport U n d e
   export_there [] d e is there typed = absurd cc
   export_there (r ∷ rows) d e is there typed =
       by_key (nat_eq d r.0) refl is
-      (λ later. export_there rows d e later (All-tail (λ (r : Row). Lives n r.0) r rows there) (All-tail (λ (r : Row). IsWellTyped U r.1) r rows typed))
+      (λ later. export_there rows d e later (All-tail (λ (r : Row). Lives n r.0) r rows there)
+      (All-tail (λ (r : Row). IsWellTyped U r.1) r rows typed))
     where
-      by_key : (b : Bool) → nat_eq d r.0 ≡ b → (if b then Some r.1 else exported rows d) ≡ Some e → (exported rows d ≡ Some e → GoodExport U n d e) → GoodExport U n d e
+      by_key : (b : Bool) → nat_eq d r.0 ≡ b → (if b then Some r.1 else exported rows d) ≡ Some e
+          → (exported rows d ≡ Some e → GoodExport U n d e) → GoodExport U n d e
       by_key true key found behind =
           let same : r.1 ≡ e = cc in
           record {
@@ -65,17 +68,21 @@ module _ (U : Unfolding) (n : Network) where
           }
       by_key false other later behind = behind later
 
-  flight_there : (copies : List Copy) (d : ℕ) (s : Copy) → flown copies d ≡ Some s → All (λ (c : Copy). Lives n c.device) copies → All (FitsCopy U) copies → GoodFlight U n d s
+  flight_there : (copies : List Copy) (d : ℕ) (s : Copy) → flown copies d ≡ Some s
+      → All (λ (c : Copy). Lives n c.device) copies → All (FitsCopy U) copies → GoodFlight U n d s
   flight_there [] d s is there fit = absurd cc
   flight_there (c ∷ copies) d s is there fit =
       by_key (nat_eq d c.device) refl is
-      (λ later. flight_there copies d s later (All-tail (λ (c : Copy). Lives n c.device) c copies there) (All-tail (FitsCopy U) c copies fit))
+      (λ later. flight_there copies d s later (All-tail (λ (c : Copy). Lives n c.device) c copies there)
+      (All-tail (FitsCopy U) c copies fit))
     where
-      by_key : (b : Bool) → nat_eq d c.device ≡ b → (if b then Some c else flown copies d) ≡ Some s → (flown copies d ≡ Some s → GoodFlight U n d s) → GoodFlight U n d s
+      by_key : (b : Bool) → nat_eq d c.device ≡ b → (if b then Some c else flown copies d) ≡ Some s
+          → (flown copies d ≡ Some s → GoodFlight U n d s) → GoodFlight U n d s
       by_key true key found behind =
           let same : c ≡ s = cc in
           record {
-            there = subst (Lives n) (sym (eqb-true d c.device key)) (All-head (λ (c : Copy). Lives n c.device) c copies there);
+            there = subst (Lives n) (sym (eqb-true d c.device key))
+                (All-head (λ (c : Copy). Lives n c.device) c copies there);
             names = ap (λ (x : Copy). x.device) (sym same) ∙ sym (eqb-true d c.device key);
             fits = subst (FitsCopy U) same (All-head (FitsCopy U) c copies fit);
           }
@@ -93,7 +100,8 @@ good_start U s h = record {
 begin_told : (b : Bool) (o : Option Copy) (f : StepFault) → begin_fault b o ≡ Some f → step_fault f ≡ None → ⊥
 begin_told false o f is none = let same : step_fault_is.NoDevice ≡ f = cc in let told = ap step_fault same ∙ none in cc
 begin_told true None f is none = cc
-begin_told true (Some s) f is none = let same : step_fault_is.Flying ≡ f = cc in let told = ap step_fault same ∙ none in cc
+begin_told true (Some s) f is none = let same : step_fault_is.Flying ≡ f = cc in let told = ap step_fault same
+    ∙ none in cc
 
 end_told : (b : Bool) (o : Option Copy) (f : StepFault) → end_fault b o ≡ Some f → step_fault f ≡ None → ⊥
 end_told false o f is none = let same : step_fault_is.NoDevice ≡ f = cc in let told = ap step_fault same ∙ none in cc
@@ -107,7 +115,8 @@ fault_told c (EndEntry d) f is none = end_told _ (c.flying d) f is none
 fault_told c IdleEntry f is none = cc
 fault_told c (EditEntry e) f is none = cc
 
-no_fault : (f : Option StepFault) (g : Option NetFault) → ((x : StepFault) → f ≡ Some x → step_fault x ≡ None → ⊥) → no_step f g ≡ None → (f ≡ None) × (g ≡ None)
+no_fault : (f : Option StepFault) (g : Option NetFault) → ((x : StepFault) → f ≡ Some x → step_fault x ≡ None → ⊥)
+    → no_step f g ≡ None → (f ≡ None) × (g ≡ None)
 no_fault (Some x) g told none = absurd (told x refl none)
 no_fault None (Some y) told none = absurd cc
 no_fault None None told none = (refl, refl)
@@ -123,40 +132,53 @@ record Leads (U : Unfolding) (c : Core) (es : List EntryValue) : Type 0 where
   good : IsGood U last
 
 module _ (faultless : FaultlessStep) (agree : StepsAgree) (keep : StepsKeepGood) (P : Program) (is : IsProgram P) where
-  goes_on : (c : Core) (xs : List Logged) → IsGood (unfolding_of P) c → LogFits (unfolding_of P) (entries_in xs) → first_stop (unfolding_of P) c xs ≡ None → Leads (unfolding_of P) c (entries_in xs)
+  goes_on : (c : Core) (xs : List Logged) → IsGood (unfolding_of P) c → LogFits (unfolding_of P) (entries_in xs)
+      → first_stop (unfolding_of P) c xs ≡ None → Leads (unfolding_of P) c (entries_in xs)
   goes_on c [] good fits none = record { last = c; leads = refl; good = good }
   goes_on c (x ∷ xs) good fits none =
       let U : Unfolding = unfolding_of P in
-      let quiet = no_fault (fault_of c x.1) (net_fault_of c x.1) (fault_told c x.1) (not_here x.0 _ (stop_later (step_of U c x.1) (λ next. first_stop U next xs)) none) in
+      let quiet = no_fault (fault_of c x.1) (net_fault_of c x.1) (fault_told c x.1)
+          (not_here x.0 _ (stop_later (step_of U c x.1) (λ next. first_stop U next xs)) none) in
       let does = (faultless P c x.1 is good fits.0).0 quiet in
       let steps : step U c x.1 ≡ Some does.0 = (agree U c does.0 x.1 good fits.0).0 does.1 in
-      let rest = goes_on does.0 xs (keep P c does.0 x.1 is good does.1) fits.1 (sym (later_stop U c does.0 x xs (has_step U c does.0 x.1 steps)) ∙ none) in
-      record { last = rest.last; leads = ap (λ o. and_replay o (λ next. replay U next (entries_in xs))) steps ∙ rest.leads; good = rest.good }
+      let rest = goes_on does.0 xs (keep P c does.0 x.1 is good does.1) fits.1
+          (sym (later_stop U c does.0 x xs (has_step U c does.0 x.1 steps)) ∙ none) in
+      record { last = rest.last; leads = ap (λ o. and_replay o (λ next. replay U next (entries_in xs))) steps
+          ∙ rest.leads; good = rest.good }
 
 -- ---- a book has a text
 module _ (some : SomeGreatest) where
-  rounds_there : (asked : Bool) (live : List ℕ) (log : List EntryValue) → 0 < length live → (text : List ℕ) × RoundsAsked asked live log text
+  rounds_there : (asked : Bool) (live : List ℕ) (log : List EntryValue) → 0 < length live
+      → (text : List ℕ) × RoundsAsked asked live log text
   rounds_there false live log h = ([], refl)
   rounds_there true live log h = let g = some live log h in (rounds_text g.0, (g.0, g.1, refl))
 
-  text_there : (options : Options) (book : Ledger) → 1 ≤ length book.core.net.devices → (text : List ℕ) × IsText options book text
+  text_there : (options : Options) (book : Ledger) → 1 ≤ length book.core.net.devices
+      → (text : List ℕ) × IsText options book text
   text_there options book h =
       let long = length-map book.core.net.devices (λ (d : NetDevice). d.id) in
       let counted = rounds_there options.rounds (numbers book.core.net.devices) book.log (omega (arith, h, long)) in
-      let text : List ℕ = values_text book.core ++ counted.0 ++ where_asked options.table (table_line book.program book.core) in
+      let text : List ℕ = values_text book.core ++ counted.0 ++ where_asked options.table
+          (table_line book.program book.core) in
       (text, record { rounds = counted.0; counted = counted.1; is = refl })
 
 -- ---- a log is replayed to something
-module _ (faultless : FaultlessStep) (agree : StepsAgree) (keep : StepsKeepGood) (some : SomeGreatest) (entries : LogsHaveEntries) (options : Options) (P : Program) (is : IsProgram P) (start : Core) (good : IsGood (unfolding_of P) start) where
-  entries_end : (log : List Logged) → LogFits (unfolding_of P) (entries_in log) → (o : Option (ℕ × LineFault)) → first_stop (unfolding_of P) start log ≡ o → (j : Judged Shown) × ReplaysEntries options (unfolding_of P) start log o j
+module _ (faultless : FaultlessStep) (agree : StepsAgree) (keep : StepsKeepGood) (some : SomeGreatest)
+    (entries : LogsHaveEntries) (options : Options) (P : Program) (is : IsProgram P) (start : Core)
+    (good : IsGood (unfolding_of P) start) where
+  entries_end : (log : List Logged) → LogFits (unfolding_of P) (entries_in log) → (o : Option (ℕ × LineFault))
+      → first_stop (unfolding_of P) start log ≡ o
+      → (j : Judged Shown) × ReplaysEntries options (unfolding_of P) start log o j
   entries_end log fits (Some stop) at = (Refused (Plainly (log_refusal stop.0 stop.1)), refl)
   entries_end log fits None at =
       let l = goes_on faultless agree keep P is start log good fits at in
       let book : Ledger = book_of (unfolding_of P) start (entries_in log) l.last in
       let t = text_there some options book l.good.net.some in
-      (Accepted (record { text = t.0; book = book }), record { core = l.last; leads = l.leads; text = t.0; says = t.1; is = refl })
+      (Accepted (record { text = t.0; book = book }), record { core = l.last; leads = l.leads; text = t.0; says = t.1;
+      is = refl })
 
-  log_ends : (text : List ℕ) (lines : Lines Fault LogLine) → log_of (unfolding_of P) start.net text ≡ lines → (j : Judged Shown) × ReplaysLog options (unfolding_of P) start lines j
+  log_ends : (text : List ℕ) (lines : Lines Fault LogLine) → log_of (unfolding_of P) start.net text ≡ lines
+      → (j : Judged Shown) × ReplaysLog options (unfolding_of P) start lines j
   log_ends text (StopsAt at fault) e = (Refused (Plainly (log_refusal at (fault_in fault))), refl)
   log_ends text (AllLines ls) e =
       let h = entries (unfolding_of P) start.net text ls e in
@@ -169,34 +191,42 @@ record IsInput (program network : List ℕ) (U : Unfolding) (s : SceneValue) : T
   text : IsProgramText program U
   scene_is : scene_of U network ≡ scene.Accepted s
 
-is_input : (program network : List ℕ) (i : InputOf) → ReadsInput program network (Accepted i) → IsInput program network i.0 i.1
+is_input : (program network : List ℕ) (i : InputOf) → ReadsInput program network (Accepted i)
+    → IsInput program network i.0 i.1
 is_input program network i h = by_program h.judged h.reads h.scene
   where
-    by_scene : (U : Unfolding) (k : scene.Judged SceneValue) → IsProgramText program U → scene_of U network ≡ k → Accepted i ≡ with_scene U k → IsInput program network i.0 i.1
+    by_scene : (U : Unfolding) (k : scene.Judged SceneValue) → IsProgramText program U → scene_of U network ≡ k
+        → Accepted i ≡ with_scene U k → IsInput program network i.0 i.1
     by_scene U (scene.Refused r) text at e = absurd cc
     by_scene U (scene.Accepted s) text at e =
         let same : (U, s) ≡ i = cc in
         let Q : InputOf → Type 0 = λ x. IsInput program network x.0 x.1 in
         subst Q same (record { text = text; scene_is = at })
 
-    by_program : (q : Judged Unfolding) → ReadsProgram program q → AndThen q (λ U k. k ≡ with_scene U (scene_of U network)) (Accepted i) → IsInput program network i.0 i.1
+    by_program : (q : Judged Unfolding) → ReadsProgram program q
+        → AndThen q (λ U k. k ≡ with_scene U (scene_of U network)) (Accepted i) → IsInput program network i.0 i.1
     by_program (Refused cause) r e = absurd cc
     by_program (Accepted U) r e = by_scene U (scene_of U network) r refl e
 
-pub some_replay : OneInput → TextsUnfold → AcceptedScenesFit → FaultlessStep → StepsAgree → StepsKeepGood → SomeGreatest → LogsHaveEntries → SomeReplay
+pub some_replay : OneInput → TextsUnfold → AcceptedScenesFit → FaultlessStep → StepsAgree → StepsKeepGood
+    → SomeGreatest → LogsHaveEntries → SomeReplay
 some_replay input unfolds scenes faultless agree keep some entries options program network log short =
     let one = input program network in
     by_input one.0 one.1
   where
     -- under a program and a scene of it
     AtScene : Unfolding → Type 0
-    AtScene U = (s : SceneValue) → scene_of U network ≡ scene.Accepted s → (j : Judged Shown) × ReplaysLog options U (start_of s) (log_of U s.net log) j
+    AtScene U = (s : SceneValue) → scene_of U network ≡ scene.Accepted s
+        → (j : Judged Shown) × ReplaysLog options U (start_of s) (log_of U s.net log) j
 
     at_scene : (P : Program) → IsProgram P → AtScene (unfolding_of P)
     at_scene P is s e =
-        log_ends faultless agree keep some entries options P is (start_of s) (good_start (unfolding_of P) s (scenes (unfolding_of P) network s e)) log (log_of (unfolding_of P) s.net log) refl
+        log_ends faultless agree keep some entries options P is (start_of s)
+        (good_start (unfolding_of P) s (scenes (unfolding_of P) network s e)) log (log_of (unfolding_of P) s.net log)
+        refl
 
-    by_input : (i : Judged InputOf) → ReadsInput program network i → (j : Judged Shown) × Replays options program network log j
+    by_input : (i : Judged InputOf) → ReadsInput program network i
+        → (j : Judged Shown) × Replays options program network log j
     by_input (Refused cause) h = (Refused cause, record { judged = Refused cause; reads = h; ends = refl })
     by_input (Accepted i) h =
         let there = is_input program network i h in

@@ -6,8 +6,8 @@ use Rattle.edit_commands.specs.Agreement.{SameEntries}
 use Rattle.fc_replay.specs.declared.replays.Options.{Options}
 use Rattle.fc_replay.specs.Replays.{Shown, Replays}
 
--- Two replays are alike: refused for one cause, or with one text. The entries of their books may differ in what an export
--- holds at the places of a branch that isn't taken, and in nothing else.
+-- Two replays are alike: refused for one cause, or with one text. The entries of their books may differ in what an
+-- export holds at the places of a branch that isn't taken, and in nothing else.
 pub record ShowAlike (a b : Shown) : Type 0 where
   pub text : a.text ≡ b.text
   pub program : a.book.program ≡ b.book.program

@@ -14,4 +14,9 @@ pub record Ledger : Type 0 where
   pub core : Core
 
 abbrev pub ledger_of : BookValue → Ledger
-ledger_of b = record { program = unfolding_of b.program; start = core_of b.start; log = entries_of b.log; core = core_of b.core }
+ledger_of b = record {
+  program = unfolding_of b.program;
+  start = core_of b.start;
+  log = entries_of b.log;
+  core = core_of b.core;
+}

@@ -74,7 +74,8 @@ pub record Shown : Type 0 where
 abbrev pub book_of : Unfolding → Core → List EntryValue → Core → Ledger
 book_of U start log core = record { program = U; start = start; log = log; core = core }
 
-pub record ShowsBook (options : Options) (U : Unfolding) (start : Core) (log : List EntryValue) (j : Judged Shown) : Type 0 where
+pub record ShowsBook (options : Options) (U : Unfolding) (start : Core) (log : List EntryValue) (j : Judged Shown)
+    : Type 0 where
   pub core : Core
   pub leads : replay U start log ≡ Some core
   pub text : List ℕ
@@ -87,7 +88,8 @@ ReplaysEntries options U start log (Some stop) j = j ≡ Refused (Plainly (log_r
 ReplaysEntries options U start log None j = ShowsBook options U start (entries_in log) j
 
 -- the entries that the lines of a log say
-pub record ReplaysLines (options : Options) (U : Unfolding) (start : Core) (lines : List (ℕ × LogLine)) (j : Judged Shown) : Type 0 where
+pub record ReplaysLines (options : Options) (U : Unfolding) (start : Core) (lines : List (ℕ × LogLine))
+    (j : Judged Shown) : Type 0 where
   pub log : List Logged
   pub are : AreSaid (IsEntry U) lines log
   pub ends : ReplaysEntries options U start log (first_stop U start log) j

@@ -10,8 +10,10 @@ use Rattle.fc_replay.specs.Replays.{rows_of, start_of}
 
 -- a scene of a core's network has the core's written table as the core's rows, and starts from the core's exports
 pub record Resumes (U : Unfolding) (core : Core) (path : List ℕ) : Type 0 where
-  pub rows : table_judged U core.net path (table_data U (rows_of core core.net.devices)) ≡ Accepted (rows_of core core.net.devices)
-  pub exports : (start_of (record { net = core.net; table = rows_of core core.net.devices; pending = [] })).exports ≡ core.exports
+  pub rows : table_judged U core.net path (table_data U (rows_of core core.net.devices))
+      ≡ Accepted (rows_of core core.net.devices)
+  pub exports : (start_of (record { net = core.net; table = rows_of core core.net.devices; pending = [] })).exports
+      ≡ core.exports
 
 -- each good core of a program does so
 abbrev pub TablesResume : Type 0

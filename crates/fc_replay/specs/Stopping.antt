@@ -51,4 +51,5 @@ stop_later (Some core) later = later core
 abbrev pub first_stop : Unfolding → Core → List Logged → Option (ℕ × LineFault)
 first_stop U c [] = None
 first_stop U c (e ∷ es) =
-    stop_here e.0 (no_step (fault_of c e.1) (net_fault_of c e.1)) (stop_later (step_of U c e.1) (λ next. first_stop U next es))
+    stop_here e.0 (no_step (fault_of c e.1) (net_fault_of c e.1))
+    (stop_later (step_of U c e.1) (λ next. first_stop U next es))

@@ -81,8 +81,10 @@ pub fn replay(
 ) -> Result<(Vec<u8>, Book), Stop>
     requires program { length program.now ≤ MOST_BYTES }
     requires log { length log.now ≤ MOST_BYTES }
-    ensures shown { IfOk result (λ r. Replays options program.now network.now log.now (Accepted (shown_of r.0.items r.1))) }
-    ensures refused { IfErr result (StopsFor (λ cause. Replays options program.now network.now log.now (Refused cause))) }
+    ensures shown { IfOk result (λ r.
+        Replays options program.now network.now log.now (Accepted (shown_of r.0.items r.1))) }
+    ensures refused { IfErr result (StopsFor (λ cause.
+        Replays options program.now network.now log.now (Refused cause))) }
 {
     let (program, scene) = read_input(alloc, program, network)?;
     let log = read_entries(alloc, &program, &scene.net, log)?;

@@ -64,7 +64,8 @@ fn table(alloc: Global, core: &Core) -> Result<Vec<(u32, &Export)>, Memory>
 
 // The line of a book's number of rounds.
 fn rounds_text(alloc: Global, book: &Book) -> Result<Vec<u8>, Memory>
-    ensures { IfOk result (λ v. RoundsAsked true (numbers (core_of book.now.core).net.devices) (entries_of book.now.log) v.items) }
+    ensures { IfOk result (λ v.
+        RoundsAsked true (numbers (core_of book.now.core).net.devices) (entries_of book.now.log) v.items) }
 {
     let rounds = rounds_of(alloc, book)?;
     let mut line = Vec::new(alloc);
@@ -75,7 +76,8 @@ fn rounds_text(alloc: Global, book: &Book) -> Result<Vec<u8>, Memory>
 // The same, where it is asked for.
 #[tactic(auto, using(crate::proofs::AskedRounds::asked, crate::proofs::AskedRounds::not_asked))]
 fn rounds_asked(alloc: Global, asked: bool, book: &Book) -> Result<Vec<u8>, Memory>
-    ensures { IfOk result (λ v. RoundsAsked asked (numbers (core_of book.now.core).net.devices) (entries_of book.now.log) v.items) }
+    ensures { IfOk result (λ v.
+        RoundsAsked asked (numbers (core_of book.now.core).net.devices) (entries_of book.now.log) v.items) }
 {
     if asked {
         Ok(rounds_text(alloc, book)?)

@@ -1,6 +1,8 @@
 -- What is left to print of an expression: a stack of pieces, the first of them on top.
 use Rattle.std.specs.Prelude.{ℕ, ◌+◌, List, ◌++◌, codes, map, flat_map, reverse, sum_by, decimal}
-use Rattle.fc_syntax.specs.Terms.{Term, IntTerm, TruthTerm, VarTerm, UidTerm, NbrLinkTerm, SenseTerm, ApplyTerm, NbrTerm, RepTerm, ShareTerm, IfTerm, LetTerm, CallTerm, Terms, NoTerms, MoreTerms, terms, term_of}
+use Rattle.fc_syntax.specs.Terms.{Term, IntTerm, TruthTerm, VarTerm, UidTerm, NbrLinkTerm, SenseTerm, ApplyTerm}
+use Rattle.fc_syntax.specs.Terms.{NbrTerm, RepTerm, ShareTerm, IfTerm, LetTerm, CallTerm, Terms, NoTerms, MoreTerms}
+use Rattle.fc_syntax.specs.Terms.{terms, term_of}
 use Rattle.fc_syntax.specs.Text.{text, placed, written, all_written, behind_commas}
 use Rattle.fc_syntax.specs.declared.pieces.Piece.{Piece}
 use Rattle.fc_syntax.specs.declared.pieces.Piece.TheVariants as piece

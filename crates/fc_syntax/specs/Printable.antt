@@ -1,15 +1,18 @@
 -- The programs that can be printed: those of the grammar's forms.
 use Rattle.std.specs.Prelude.{ℕ, ◌+◌, ◌≤◌, ◌≡◌, Bool, true, false, List, [], ◌∷◌}
 use Rattle.fc_values.specs.Names.{IsName}
+use Rattle.fc_values.specs.declared.limits.TheConstants.{GREATEST}
 use Rattle.fc_values.specs.declared.builtins.Builtin.{Builtin}
 use Rattle.fc_values.specs.declared.builtins.Builtin.TheVariants as b
 use Rattle.fc_values.specs.declared.types.InputTy.{InputTy}
 use Rattle.fc_values.specs.declared.types.InputTy.TheVariants as input
-use Rattle.fc_syntax.specs.Terms.{Term, IntTerm, TruthTerm, VarTerm, UidTerm, NbrLinkTerm, SenseTerm, ApplyTerm, NbrTerm, RepTerm, ShareTerm, IfTerm, LetTerm, CallTerm, Terms, NoTerms, MoreTerms, Parameter, Declaration, LanguageIs, CeilingIs, InputIs, MetricIs, DefIs, MainIs}
+use Rattle.fc_syntax.specs.Terms.{Term, IntTerm, TruthTerm, VarTerm, UidTerm, NbrLinkTerm, SenseTerm, ApplyTerm}
+use Rattle.fc_syntax.specs.Terms.{NbrTerm, RepTerm, ShareTerm, IfTerm, LetTerm, CallTerm, Terms, NoTerms, MoreTerms}
+use Rattle.fc_syntax.specs.Terms.{Parameter, Declaration, LanguageIs, CeilingIs, InputIs, MetricIs, DefIs, MainIs}
 
 -- a number that a program may have
 abbrev pub IsNumber : ℕ → Type 0
-IsNumber n = n ≤ 1000000
+IsNumber n = n ≤ GREATEST
 
 -- how many arguments the grammar gives a builtin
 abbrev pub arity : Builtin → ℕ
@@ -84,8 +87,8 @@ abbrev pub BeginWithCeiling : Bool → List Declaration → Type 0
 BeginWithCeiling second (CeilingIs n ∷ ds) = IsNumber n × EndWithMain second ds
 BeginWithCeiling second _ = ⊥
 
--- A program of the grammar: in its language's order, with numbers and names of the tokens, and with each builtin's number
--- of arguments.
+-- A program of the grammar: in its language's order, with numbers and names of the tokens, and with each builtin's
+-- number of arguments.
 abbrev pub IsPrintable : List Declaration → Type 0
 IsPrintable (LanguageIs n ∷ ds) = (n ≡ 2) × BeginWithCeiling true ds
 IsPrintable ds = BeginWithCeiling false ds

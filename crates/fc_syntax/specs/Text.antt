@@ -1,11 +1,14 @@
 -- The canonical text of a program.
-use Rattle.std.specs.Prelude.{ℕ, ◌+◌, nat_lt, ◌==◌, Bool, true, false, if◌then◌else◌, List, [], ◌∷◌, ◌++◌, map, flat_map, codes, decimal}
+use Rattle.std.specs.Prelude.{ℕ, ◌+◌, nat_lt, ◌==◌, Bool, true, false, if◌then◌else◌, List, [], ◌∷◌, ◌++◌, map}
+use Rattle.std.specs.Prelude.{flat_map, codes, decimal}
 use Rattle.fc_values.specs.declared.builtins.Builtin.{Builtin}
 use Rattle.fc_values.specs.declared.builtins.Builtin.TheVariants as b
 use Rattle.fc_values.specs.declared.types.InputTy.{InputTy}
 use Rattle.fc_values.specs.declared.types.InputTy.TheVariants as input
 use Rattle.fc_values.specs.Types.{LocalType, IntType, BoolType, PairType, ValueType, TypeLocal, TypeField}
-use Rattle.fc_syntax.specs.Terms.{Term, IntTerm, TruthTerm, VarTerm, UidTerm, NbrLinkTerm, SenseTerm, ApplyTerm, NbrTerm, RepTerm, ShareTerm, IfTerm, LetTerm, CallTerm, Terms, NoTerms, MoreTerms, Parameter, Declaration, LanguageIs, CeilingIs, InputIs, MetricIs, DefIs, MainIs}
+use Rattle.fc_syntax.specs.Terms.{Term, IntTerm, TruthTerm, VarTerm, UidTerm, NbrLinkTerm, SenseTerm, ApplyTerm}
+use Rattle.fc_syntax.specs.Terms.{NbrTerm, RepTerm, ShareTerm, IfTerm, LetTerm, CallTerm, Terms, NoTerms, MoreTerms}
+use Rattle.fc_syntax.specs.Terms.{Parameter, Declaration, LanguageIs, CeilingIs, InputIs, MetricIs, DefIs, MainIs}
 
 -- the strength of a builtin's form
 abbrev pub builtin_strength : Builtin → ℕ
@@ -142,7 +145,8 @@ declaration_text (CeilingIs n) = codes "ceiling " ++ decimal n
 declaration_text (InputIs x t) = codes "input " ++ x ++ codes ": " ++ input_type_text t
 declaration_text (MetricIs least greatest) = codes "metric " ++ decimal least ++ codes ".." ++ decimal greatest
 declaration_text (DefIs f params result body) =
-    codes "def " ++ f ++ codes "(" ++ with_commas (map parameter_text params) ++ codes "): " ++ type_text result ++ codes " = " ++ text body
+    codes "def " ++ f ++ codes "(" ++ with_commas (map parameter_text params) ++ codes "): " ++ type_text result
+    ++ codes " = " ++ text body
 declaration_text (MainIs e) = codes "main = " ++ text e
 
 -- the canonical text: each declaration on a line that ends with `;` and a line feed

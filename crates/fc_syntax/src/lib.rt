@@ -6,9 +6,9 @@ mod printer;
 mod tree;
 mod words;
 
-pub use printer::print;
+pub use printer::{print, write_type};
 pub use tree::{Decl, Expr, Param, Program};
-pub use words::builtin_strength;
+pub use words::{builtin_strength, builtin_word};
 
 #[cfg(test)]
 mod tests;

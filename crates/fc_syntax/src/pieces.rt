@@ -69,7 +69,8 @@ fn push_evolution<'a>(
     body: &'a Expr,
 ) -> Result<(), Memory>
     ensures text { IfOk result (λ _. stack_text stack.new.items
-        ≡ evolution_text word.now (term_of first.now) name.now.text.items (term_of body.now) ++ stack_text stack.old.items) }
+        ≡ evolution_text word.now (term_of first.now) name.now.text.items (term_of body.now)
+        ++ stack_text stack.old.items) }
     ensures weight { IfOk result (λ _. pieces_weight stack.new.items
         < 6 + weight (term_of first.now) + weight (term_of body.now) + pieces_weight stack.old.items) }
 {
@@ -97,7 +98,8 @@ fn push_branching<'a>(
     ensures text { IfOk result (λ _. stack_text stack.new.items
         ≡ text (IfTerm (term_of condition.now) (term_of then.now) (term_of other.now)) ++ stack_text stack.old.items) }
     ensures weight { IfOk result (λ _. pieces_weight stack.new.items
-        < weight (IfTerm (term_of condition.now) (term_of then.now) (term_of other.now)) + pieces_weight stack.old.items) }
+        < weight (IfTerm (term_of condition.now) (term_of then.now) (term_of other.now))
+        + pieces_weight stack.old.items) }
 {
     push(
         stack,

@@ -4,7 +4,8 @@ ghost use Rattle.std.specs.Prelude.{◌≡◌, ◌++◌, IfOk, codes, decimal, m
 ghost use Rattle.fc_values.specs.Types.{local_type_of, type_of};
 ghost use Rattle.fc_syntax.specs.Printable.{IsPrintable};
 ghost use Rattle.fc_syntax.specs.Terms.{declaration_of, parameter_of, program_of, term_of};
-ghost use Rattle.fc_syntax.specs.Text.{declaration_text, input_type_text, local_type_text, parameter_text, program_text, text, type_text, with_commas};
+ghost use Rattle.fc_syntax.specs.Text.{declaration_text, input_type_text, local_type_text, parameter_text};
+ghost use Rattle.fc_syntax.specs.Text.{program_text, text, type_text, with_commas};
 
 use crate::pieces::{Piece, push_expression, push_operand, push_rest};
 use crate::tree::{Decl, Expr, Param, Program};
@@ -57,7 +58,7 @@ fn print_declaration(alloc: Global, out: &mut Vec<u8>, decl: &Decl) -> Result<()
             out.extend_from_slice(b"(")?;
             print_parameters(out, params)?;
             out.extend_from_slice(b"): ")?;
-            print_type(out, result)?;
+            write_type(out, result)?;
             out.extend_from_slice(b" = ")?;
             print_expression(alloc, out, body)
         }
@@ -118,23 +119,23 @@ fn print_parameter(out: &mut Vec<u8>, param: &Param) -> Result<(), Memory>
 {
     out.extend_from_slice(&param.name.text)?;
     out.extend_from_slice(b": ")?;
-    print_type(out, &param.ty)
+    write_type(out, &param.ty)
 }
 
-fn print_type(out: &mut Vec<u8>, ty: &Ty) -> Result<(), Memory>
+/// Appends the text of a type. Each of its levels is a bracket, so the limit on brackets bounds the recursion.
+pub fn write_type(out: &mut Vec<u8>, ty: &Ty) -> Result<(), Memory>
     ensures { IfOk result (λ _. out.new.items ≡ out.old.items ++ type_text (type_of ty.now)) }
 {
     match ty {
-        Ty::Local(ty) => print_local_type(out, ty),
+        Ty::Local(ty) => write_local_type(out, ty),
         Ty::Field(ty) => {
             out.extend_from_slice(b"field ")?;
-            print_local_type(out, ty)
+            write_local_type(out, ty)
         }
     }
 }
 
-// Each level is a bracket of the text, so the limit on brackets bounds the recursion.
-fn print_local_type(out: &mut Vec<u8>, ty: &LocalTy) -> Result<(), Memory>
+fn write_local_type(out: &mut Vec<u8>, ty: &LocalTy) -> Result<(), Memory>
     ensures { IfOk result (λ _. out.new.items ≡ out.old.items ++ local_type_text (local_type_of ty.now)) }
 {
     match ty {
@@ -142,9 +143,9 @@ fn print_local_type(out: &mut Vec<u8>, ty: &LocalTy) -> Result<(), Memory>
         LocalTy::Bool => out.extend_from_slice(b"bool")?,
         LocalTy::Pair(first, second) => {
             out.extend_from_slice(b"(")?;
-            print_local_type(out, first)?;
+            write_local_type(out, first)?;
             out.extend_from_slice(b", ")?;
-            print_local_type(out, second)?;
+            write_local_type(out, second)?;
             out.extend_from_slice(b")")?;
         }
     }

@@ -189,7 +189,9 @@ fn declarations(rt: HostRuntime) -> Result<(), Fail> {
     let text = declared(alloc, s, w, definition(alloc)?, call(alloc, b"f")?)?;
     assert_eq!(rt;
         text.as_slice(),
-        b"ceiling 10;\ninput s: bool;\ninput w: int 0..5;\nmetric 1..9;\ndef f(a: (int, bool), g: field int): bool = sense s;\nmain = f(uid, nbrLink);\n".as_slice()
+        b"ceiling 10;\ninput s: bool;\ninput w: int 0..5;\nmetric 1..9;\n\
+            def f(a: (int, bool), g: field int): bool = sense s;\nmain = f(uid, nbrLink);\n"
+            .as_slice()
     );
     Ok(())
 }

@@ -2,12 +2,13 @@
 
 ghost use Rattle.std.specs.Prelude.{◌≡◌};
 ghost use Rattle.fc_syntax.specs.Terms.{term_of};
-ghost use Rattle.fc_syntax.specs.Text.{builtin_strength as strength_of_builtin, builtin_word as word_of, strength as strength_of};
+ghost use Rattle.fc_syntax.specs.Text.{builtin_strength as strength_of_builtin, builtin_word as word_of};
+ghost use Rattle.fc_syntax.specs.Text.{strength as strength_of};
 
 use crate::tree::Expr;
 use fc_values::Builtin;
 
-/// The mark or word of a builtin.
+/// The mark or word of a builtin; a pair has none.
 pub fn builtin_word(builtin: Builtin) -> &'static [u8]
     ensures { result.now ≡ word_of builtin }
 {

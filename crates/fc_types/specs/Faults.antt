@@ -6,11 +6,15 @@ use Rattle.fc_values.specs.declared.types.InputTy.{InputTy}
 use Rattle.fc_values.specs.declared.types.InputTy.TheVariants as input
 use Rattle.fc_values.specs.Types.{LocalType, BoolType, ValueType, TypeLocal, TypeField, Input, leaves}
 use Rattle.fc_values.specs.BuiltinTypes.{HasRule, inner}
-use Rattle.fc_syntax.specs.Terms.{Term, IntTerm, VarTerm, SenseTerm, ApplyTerm, NbrTerm, RepTerm, ShareTerm, IfTerm, LetTerm, CallTerm, Terms, MoreTerms, Parameter, Declaration, CeilingIs, InputIs, MetricIs, DefIs, MainIs}
+use Rattle.fc_syntax.specs.Terms.{Term, IntTerm, VarTerm, SenseTerm, ApplyTerm, NbrTerm, RepTerm, ShareTerm, IfTerm}
+use Rattle.fc_syntax.specs.Terms.{LetTerm, CallTerm, Terms, MoreTerms, Parameter, Declaration, CeilingIs, InputIs}
+use Rattle.fc_syntax.specs.Terms.{MetricIs, DefIs, MainIs}
 use Rattle.fc_types.specs.declared.faults.TypeKind.{TypeKind}
 use Rattle.fc_types.specs.declared.faults.TypeKind.TheVariants as kind
-use Rattle.fc_types.specs.Before.{Function, Before, nothing, and_then, input_named, function_named, Scope, bind, type_in}
-use Rattle.fc_types.specs.Typing.{IsFree, HasType, HaveTypes, parameter_types, AreParameters, IsNarrow, IsTypedDeclaration}
+use Rattle.fc_types.specs.Before.{Function, Before, nothing, and_then, input_named, function_named, Scope, bind}
+use Rattle.fc_types.specs.Before.{type_in}
+use Rattle.fc_types.specs.Typing.{IsFree, HasType, HaveTypes, parameter_types, AreParameters, IsNarrow}
+use Rattle.fc_types.specs.Typing.{IsTypedDeclaration}
 
 -- a parameter or binder in scope has the name
 abbrev pub IsBound : List ℕ → Scope → Type 0

@@ -21,7 +21,12 @@ use Rattle.fc_types.specs.Judging.{Judgement, TypeIs, FaultIs, Judgements, Types
 
 abbrev pub function_of : List ℕ → AFunction → Function
 function_of name f =
-    record { name = name; params = map parameter_of f.params.now; result = type_of f.result.now; body = term_of f.body.now }
+    record {
+      name = name;
+      params = map parameter_of f.params.now;
+      result = type_of f.result.now;
+      body = term_of f.body.now;
+    }
 
 abbrev pub input_entry : Bor (List ℕ) × InputTy → Input
 input_entry e = record { name = e.0.now; type = e.1 }
@@ -31,7 +36,12 @@ function_entry e = function_of e.0.now e.1
 
 abbrev pub known_of : Known → Before
 known_of k =
-    record { ceiling = k.ceiling; inputs = map input_entry k.inputs.entries; metric = k.metric; functions = map function_entry k.functions.entries }
+    record {
+      ceiling = k.ceiling;
+      inputs = map input_entry k.inputs.entries;
+      metric = k.metric;
+      functions = map function_entry k.functions.entries;
+    }
 
 abbrev pub scope_of : AScope → Scope
 scope_of (scope.Params params) = map parameter_of params.now

@@ -4,7 +4,8 @@ ghost use Rattle.std.specs.Prelude.{◌≡◌, false, map};
 ghost use Rattle.fc_values.specs.BuiltinTypes.{has_field as any_field, inners, is_field as field_of, lifted};
 ghost use Rattle.fc_values.specs.Types.{IntType, BoolType, local_type_of, type_of};
 ghost use Rattle.fc_types.specs.declared.faults.TypeKind.TheVariants as kind;
-ghost use Rattle.fc_types.specs.Judging.{all_of as all_type, each_is as all_are, judge_builtin, of_alike, of_choice, of_field, of_field_and_local, of_part, type_or, why_not};
+ghost use Rattle.fc_types.specs.Judging.{all_of as all_type, each_is as all_are, judge_builtin, of_alike, of_choice};
+ghost use Rattle.fc_types.specs.Judging.{of_field, of_field_and_local, of_part, type_or, why_not};
 ghost use Rattle.fc_types.specs.Views.{Gives};
 
 use crate::faults::TypeKind;

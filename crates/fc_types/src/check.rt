@@ -7,7 +7,8 @@ ghost use Rattle.fc_values.specs.Types.{declarations_of, type_of};
 ghost use Rattle.fc_types.specs.declared.faults.TypeKind.{TypeKind as AKind};
 ghost use Rattle.fc_types.specs.Before.{declared_by};
 ghost use Rattle.fc_types.specs.Faults.{FirstFault};
-ghost use Rattle.fc_types.specs.Judging.{body_fault, declaration_fault, judge as judgement, main_fault, parameter_fault, range_fault, width_fault};
+ghost use Rattle.fc_types.specs.Judging.{body_fault, declaration_fault, judge as judgement, main_fault};
+ghost use Rattle.fc_types.specs.Judging.{parameter_fault, range_fault, width_fault};
 ghost use Rattle.fc_types.specs.Typing.{IsTyped};
 ghost use Rattle.fc_types.specs.Views.{IfFault, IsFaultOrMemory, IsMemory, Passes, known_of};
 

@@ -5,7 +5,9 @@ ghost use Rattle.fc_syntax.specs.Terms.{IfTerm, LetTerm, RepTerm, ShareTerm, par
 ghost use Rattle.fc_values.specs.Types.{type_of};
 ghost use Rattle.fc_types.specs.Before.{function_named, input_named, type_in};
 ghost use Rattle.fc_types.specs.Faults.{shared_type as shared};
-ghost use Rattle.fc_types.specs.Judging.{judge as judgement, judge_all as judgements, judge_call, judge_evolving, judge_if, judge_nbr, judge_number, judge_sense, judge_variable, same_types as same_rows, unless_bound};
+ghost use Rattle.fc_types.specs.Judging.{judge as judgement, judge_all as judgements, judge_call, judge_evolving};
+ghost use Rattle.fc_types.specs.Judging.{judge_if, judge_nbr, judge_number, judge_sense, judge_variable};
+ghost use Rattle.fc_types.specs.Judging.{same_types as same_rows, unless_bound};
 ghost use Rattle.fc_types.specs.Views.{Gives, GivesAll, known_of, scope_of};
 
 use crate::builtins::builtin_type;
@@ -18,8 +20,8 @@ use fc_syntax::{Expr, Param};
 use fc_values::{InputTy, LocalTy, Memory, Name, Ty};
 use std::alloc::Global;
 
-/// The type of an expression, or its first fault. Chains of operators may be thousands of levels deep, so the other forms
-/// have functions of their own, and a level takes little of the stack.
+/// The type of an expression, or its first fault. Chains of operators may be thousands of levels deep, so the other
+/// forms have functions of their own, and a level takes little of the stack.
 #[cycle(judge)]
 pub fn judge(
     alloc: Global,

@@ -1,6 +1,7 @@
 //! Laws of the definitions.
 
-ghost use Rattle.fc_types.specs.Laws.{OneType, OneFaultIn, TypeOrFault, NoTypeWithFault, TypedOrAtFault, NotTypedAtFault, OneFirstFault};
+ghost use Rattle.fc_types.specs.Laws.{OneType, OneFaultIn, TypeOrFault, NoTypeWithFault, TypedOrAtFault};
+ghost use Rattle.fc_types.specs.Laws.{NotTypedAtFault, OneFirstFault};
 
 /// An expression has a type or a first fault, and one alone of either.
 pub fn one_type()

@@ -20,3 +20,4 @@ pub mod Settling
 pub mod StepsKeep
 pub mod CoreEdits
 pub mod Flights
+pub mod Crosses

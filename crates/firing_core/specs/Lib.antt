@@ -7,4 +7,5 @@ pub mod CoreViews
 pub mod Starts
 pub mod Books
 pub mod Rounds
+pub mod Stretches
 pub mod Laws

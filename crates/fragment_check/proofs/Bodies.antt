@@ -11,7 +11,7 @@ use Rattle.fc_nodes.specs.declared.verdicts.Reason.TheVariants as reason
 use Rattle.fc_nodes.specs.Typing.{Scope, HasType, evolving_type}
 use Rattle.fc_nodes.specs.Terms.{Evolution, ByRep, ByShare, Term, Terms, Plain, Apply, Nbr, Evolve, If, Let, NoMore, More, size}
 use Rattle.interval_facts.specs.Ranges.{RangeValue}
-use Rattle.growth_facts.specs.Variables.{occurs, is_own}
+use Rattle.fc_nodes.specs.Variables.{occurs, is_own}
 use Rattle.growth_facts.specs.Leads.{least_integer, greatest_integer}
 use Rattle.growth_facts.specs.Growth.{GrowthValue, Grows, Lacks, growth_of}
 use Rattle.fragment_check.specs.declared.kinds.Pattern.{Pattern}

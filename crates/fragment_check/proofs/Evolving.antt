@@ -2,6 +2,7 @@
 use Rattle.std.proofs.Common.{◌≡◌, ℕ, suc, ◌<◌, ◌+◌, List, [], ◌∷◌, length, refl, sym, ◌∙◌, ap, subst, arith, get_or, Bool, Some}
 use Rattle.fc_values.specs.Types.{ValueType}
 use Rattle.fc_nodes.specs.declared.nodes.Node.{Node}
+use Rattle.fc_nodes.specs.Sorts.{evolution_by, is_share_sort}
 use Rattle.fc_nodes.specs.Terms.{Evolution, ByRep, ByShare, Evolve, size, Sort, OfLeaf, OfApply, OfNbr, OfEvolve, OfIf, OfLet, Has, term_at, HasNode, WellFormed}
 use Rattle.fc_nodes.specs.Places.{StandsAt}
 use Rattle.fc_nodes.specs.Program.{Program, unfolding_of}
@@ -9,9 +10,8 @@ use Rattle.fc_nodes.proofs.Places.{formed_above, in_range, laid_within}
 use Rattle.fc_nodes.proofs.Kids.{TwoKids, evolve_laid}
 use Rattle.interval_facts.specs.Ranges.{range_of}
 use Rattle.growth_facts.specs.Facts.{IsEvolving, IsEvolveView, evolution_at, evolution_in}
-use Rattle.growth_facts.proofs.Standing.{each_stands}
+use Rattle.fc_nodes.proofs.Standing.{each_stands}
 use Rattle.fragment_check.specs.Patterns.{pattern_of, body_pattern}
-use Rattle.fragment_check.specs.Facts.{evolution_by, is_share_sort}
 use Rattle.fragment_check.specs.Verdicts.{pattern_at}
 
 abbrev pub evolution_sort : Sort → Evolution

@@ -5,6 +5,7 @@ use Rattle.std.specs.declared.result.Result.{Result}
 use Rattle.std.specs.declared.result.Result.TheVariants.{Ok, Err}
 use Rattle.fc_values.specs.Types.{ValueType}
 use Rattle.fc_nodes.specs.declared.nodes.Node.{Node}
+use Rattle.fc_nodes.specs.Sorts.{is_evolve_sort}
 use Rattle.fc_nodes.specs.declared.verdicts.Reason.{Reason}
 use Rattle.fc_nodes.specs.Terms.{Evolution, Term, Terms, Plain, Apply, Nbr, Evolve, If, Let, NoMore, More, size, Sort, OfLeaf, OfApply, OfNbr, OfEvolve, OfIf, OfLet, Has, term_at, HasNode, Laid, AllLaid, places, WellFormed}
 use Rattle.fc_nodes.specs.Program.{Program, unfolding_of}
@@ -18,7 +19,7 @@ use Rattle.fragment_check.specs.declared.faults.PatternFault.{PatternFault}
 use Rattle.fragment_check.specs.declared.faults.PatternFault.TheVariants as fault
 use Rattle.fragment_check.specs.Patterns.{Judged, pattern_of, judged, all_judged, first_refused, patterns_in}
 use Rattle.fragment_check.specs.Verdicts.{pattern_at}
-use Rattle.fragment_check.specs.Listing.{is_evolve_sort, judged_at, judged_at_all, Finds, Refuses}
+use Rattle.fragment_check.specs.Listing.{judged_at, judged_at_all, Finds, Refuses}
 use Rattle.fragment_check.proofs.Evolving.{body_is, term_is}
 
 -- ---- lists one after the other

@@ -1,6 +1,7 @@
 pub mod Steps
 pub mod Arguments
 mod Evolving
+mod Absent
 mod Judgements
 pub mod Shaped
 pub mod Bodies

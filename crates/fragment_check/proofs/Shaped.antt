@@ -7,7 +7,7 @@ use Rattle.fc_values.specs.declared.builtins.Builtin.TheVariants as op
 use Rattle.fc_values.specs.Types.{LocalType, IntType, BoolType, PairType, ValueType, TypeLocal, TypeField, Declarations}
 use Rattle.fc_nodes.specs.Typing.{Scope, type_at, HasType, HaveTypes, evolving_type}
 use Rattle.fc_nodes.specs.Terms.{Leaf, Literal, Variable, Sense, Uid, NbrLink, Evolution, ByRep, ByShare, Term, Terms, Plain, Apply, Nbr, Evolve, If, Let, NoMore, More, type_of, size}
-use Rattle.growth_facts.specs.Variables.{is_variable, occurs, occurs_in, is_own, is_heard}
+use Rattle.fc_nodes.specs.Variables.{is_variable, occurs, occurs_in, is_own, is_heard}
 use Rattle.growth_facts.specs.Beside.{Shallow, AllShallow}
 use Rattle.fragment_check.specs.declared.facts.Guarding.{Guarding}
 use Rattle.fragment_check.specs.declared.facts.Guarding.TheVariants as guarding

@@ -5,25 +5,18 @@ use Rattle.fc_values.specs.declared.builtins.Builtin.{Builtin}
 use Rattle.fc_values.specs.declared.builtins.Builtin.TheVariants as op
 use Rattle.fc_values.specs.Types.{ValueType}
 use Rattle.fc_nodes.specs.declared.nodes.Node.{Node}
+use Rattle.fc_nodes.specs.Sorts.{evolution_by, is_nbr_sort, is_deep_sort}
 use Rattle.fc_nodes.specs.Terms.{Leaf, Literal, Variable, Sense, Uid, NbrLink, Evolution, ByRep, Term, Terms, Plain, Apply, Nbr, Evolve, If, Let, NoMore, More, size, Sort, OfLeaf, OfApply, OfNbr, OfEvolve, OfIf, OfLet, term_at, term_by, terms_by, HasNode, Laid, AllLaid, places, WellFormed}
 use Rattle.fc_nodes.specs.Places.{StandsAt}
+use Rattle.fragment_check.specs.Facts.{InRow, evolution_of, facts_of, facts_of_all, under_nbr, beneath, variable_facts, no_facts, builtin_by, is_mux, facts_of_apply, is_less_sort, leaf_facts_by}
 use Rattle.fc_nodes.proofs.Places.{AllAbove, formed_above, term_is, laid_within}
-use Rattle.fc_nodes.proofs.Kids.{laid_term, OneKid, nbr_laid, kids_of, KidsAre, kids_are}
-use Rattle.growth_facts.specs.Variables.{is_variable, occurs, is_heard}
+use Rattle.fc_nodes.proofs.Kids.{laid_term, OneKid, nbr_laid, kids_of, KidsAre, kids_are, size_some}
+use Rattle.fc_nodes.specs.Variables.{is_variable, occurs, is_heard}
 use Rattle.fragment_check.specs.declared.facts.Own.{Own}
 use Rattle.fragment_check.specs.declared.facts.Facts.{Facts}
 use Rattle.fragment_check.specs.declared.facts.Guarding.{Guarding}
 use Rattle.fragment_check.specs.declared.facts.Guarding.TheVariants as guarding
 use Rattle.fragment_check.specs.Patterns.{comparison, compared, guard, guard_by, three_of, guarding_or, guarding_in, together, guarding_of, is_bare}
-use Rattle.fragment_check.specs.Facts.{InRow, evolution_by, evolution_of, facts_of, facts_of_all, under_nbr, beneath, variable_facts, no_facts, is_nbr_sort, builtin_by, is_mux, facts_of_apply, is_deep_sort, is_less_sort, leaf_facts_by}
-
-pub size_some : (t : Term) → 0 < size t
-size_some (Plain t l) = omega arith
-size_some (Apply t o xs) = omega arith
-size_some (Nbr t a) = omega arith
-size_some (Evolve t e a b) = omega arith
-size_some (If t c a b) = omega arith
-size_some (Let t a b) = omega arith
 
 pub nbr_sort : (s : Sort) → is_nbr_sort s ≡ true → s ≡ OfNbr
 nbr_sort (OfLeaf l) e = absurd cc
@@ -133,7 +126,7 @@ unheard true b e = refl
 unheard false true e = absurd cc
 unheard false false e = refl
 
-facts_same : (a b : Facts) → a.uses ≡ b.uses → a.nested ≡ b.nested → a.bare ≡ b.bare → a.guarding ≡ b.guarding → a ≡ b
+pub facts_same : (a b : Facts) → a.uses ≡ b.uses → a.nested ≡ b.nested → a.bare ≡ b.bare → a.guarding ≡ b.guarding → a ≡ b
 facts_same a b e f g k =
     ap (λ u. record { uses = u; nested = a.nested; bare = a.bare; guarding = a.guarding }) e
     ∙ ap (λ n. record { uses = b.uses; nested = n; bare = a.bare; guarding = a.guarding }) f
@@ -188,7 +181,7 @@ if_facts own t c a b =
     (ap (λ d. together (guarding_of (evolution_of own) own.place c) (together (guarding_of (evolution_of own) own.place a) d)) (sym g))
 
 -- a builtin that is no guard
-mux_alone : (o : Builtin) → is_mux o ≡ true → o ≡ op.Mux
+pub mux_alone : (o : Builtin) → is_mux o ≡ true → o ≡ op.Mux
 mux_alone op.Mux e = refl
 mux_alone op.Add e = absurd cc
 mux_alone op.Sub e = absurd cc
@@ -210,7 +203,7 @@ mux_alone op.SumHood e = absurd cc
 mux_alone op.AnyHood e = absurd cc
 mux_alone op.AllHood e = absurd cc
 
-no_mux : (e : Evolution) (x : ℕ) (o : Builtin) (xs : Terms) → is_mux o ≡ false → guard e x o xs ≡ None
+pub no_mux : (e : Evolution) (x : ℕ) (o : Builtin) (xs : Terms) → is_mux o ≡ false → guard e x o xs ≡ None
 no_mux e x op.Mux xs z = absurd cc
 no_mux e x op.Add xs z = refl
 no_mux e x op.Sub xs z = refl

@@ -4,9 +4,10 @@ use Rattle.fc_values.specs.declared.builtins.Builtin.{Builtin}
 use Rattle.fc_values.specs.declared.builtins.Builtin.TheVariants as op
 use Rattle.fc_values.specs.Types.{IntType, ValueType, TypeLocal}
 use Rattle.fc_nodes.specs.declared.nodes.Node.{Node}
-use Rattle.fc_nodes.specs.Terms.{Variable, Evolution, ByRep, ByShare, Term, Terms, Sort, OfLeaf, OfApply, OfNbr, OfEvolve, OfIf, OfLet}
+use Rattle.fc_nodes.specs.Terms.{Variable, Evolution, Term, Terms, Sort, OfLeaf, OfApply}
 use Rattle.fc_nodes.specs.Places.{StandsAt}
-use Rattle.growth_facts.specs.Variables.{is_variable, occurs, occurs_in}
+use Rattle.fc_nodes.specs.Variables.{occurs, occurs_in}
+use Rattle.fc_nodes.specs.Sorts.{evolution_by}
 use Rattle.fragment_check.specs.declared.facts.Facts.{Facts}
 use Rattle.fragment_check.specs.declared.facts.Own.{Own}
 use Rattle.fragment_check.specs.declared.facts.Guarding.{Guarding}
@@ -19,10 +20,6 @@ InRow ns p [] = Unit {0}
 InRow ns p (k ∷ ks) = (p < k) × StandsAt ns k × InRow ns k ks
 
 -- how the value of a variable evolves
-abbrev pub evolution_by : Bool → Evolution
-evolution_by true = ByShare
-evolution_by false = ByRep
-
 abbrev pub evolution_of : Own → Evolution
 evolution_of own = evolution_by own.is_share
 
@@ -81,27 +78,9 @@ variable_facts own q = record {
 }
 
 -- the same by what a node is
-abbrev pub is_own_sort : ℕ → Sort → Bool
-is_own_sort x (OfLeaf l) = is_variable x l
-is_own_sort x _ = false
-
 abbrev pub int_variable_by : Sort → ValueType → Option ℕ
 int_variable_by (OfLeaf (Variable q)) (TypeLocal IntType) = Some q
 int_variable_by _ t = None
-
-abbrev pub is_nbr_sort : Sort → Bool
-is_nbr_sort OfNbr = true
-is_nbr_sort _ = false
-
-abbrev pub is_deep_sort : Sort → Bool
-is_deep_sort (OfEvolve e) = true
-is_deep_sort OfIf = true
-is_deep_sort OfLet = true
-is_deep_sort _ = false
-
-abbrev pub is_share_sort : Sort → Bool
-is_share_sort (OfEvolve ByShare) = true
-is_share_sort _ = false
 
 abbrev pub is_less_sort : Sort → Bool
 is_less_sort (OfApply op.Less) = true

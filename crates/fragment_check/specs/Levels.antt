@@ -4,7 +4,7 @@ use Rattle.std.specs.List.{repeat}
 use Rattle.fc_values.specs.Types.{ValueType}
 use Rattle.fc_values.specs.BuiltinTypes.{is_field}
 use Rattle.fc_nodes.specs.Terms.{Leaf, Variable, NbrLink, Term, Terms, Plain, Apply, Nbr, Evolve, If, Let, NoMore, More, size}
-use Rattle.growth_facts.specs.Variables.{occurs, is_own}
+use Rattle.fc_nodes.specs.Variables.{occurs, is_own}
 
 -- of each place of a `rep` or `share`: how many levels it adds to that of its body
 abbrev pub Stages : Type 0

@@ -1,16 +1,12 @@
 -- What the walk over `rep` and `share` finds.
-use Rattle.std.specs.Prelude.{ℕ, Bool, true, false, ◌≡◌, List, [], ◌∷◌, ◌++◌, Some, None}
-use Rattle.fc_nodes.specs.Terms.{Sort, OfEvolve, term_at}
+use Rattle.std.specs.Prelude.{ℕ, ◌≡◌, List, [], ◌∷◌, ◌++◌, Some, None}
+use Rattle.fc_nodes.specs.Terms.{term_at}
 use Rattle.fc_nodes.specs.Program.{Program, unfolding_of}
 use Rattle.interval_facts.specs.Ranges.{range_of}
 use Rattle.fragment_check.specs.declared.kinds.Pattern.{Pattern}
 use Rattle.fragment_check.specs.declared.faults.PatternFault.{PatternFault}
 use Rattle.fragment_check.specs.declared.faults.PatternFault.TheVariants as fault
 use Rattle.fragment_check.specs.Patterns.{Judged, judged, first_refused, patterns_in}
-
-abbrev pub is_evolve_sort : Sort → Bool
-is_evolve_sort (OfEvolve e) = true
-is_evolve_sort _ = false
 
 -- what is said of the `rep` and `share` in the term at a place, and in terms one after another
 abbrev pub judged_at : Program → ℕ → List Judged

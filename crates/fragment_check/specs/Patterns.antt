@@ -9,7 +9,7 @@ use Rattle.fc_nodes.specs.Terms.{Variable, Evolution, ByRep, Term, Terms, Plain,
 use Rattle.fc_nodes.specs.declared.verdicts.Reason.{Reason}
 use Rattle.fc_nodes.specs.declared.verdicts.Reason.TheVariants as reason
 use Rattle.interval_facts.specs.Ranges.{RangeValue, IntRange, BoolRange, PairRange}
-use Rattle.growth_facts.specs.Variables.{is_variable, occurs, is_own, is_heard}
+use Rattle.fc_nodes.specs.Variables.{is_variable, occurs, is_own, is_heard}
 use Rattle.growth_facts.specs.Leads.{least_integer, greatest_integer}
 use Rattle.growth_facts.specs.Growth.{GrowthValue, Grows, Lacks, growth_of}
 use Rattle.fragment_check.specs.declared.facts.Guarding.{Guarding}

@@ -6,7 +6,7 @@ use Rattle.fc_values.specs.BuiltinTypes.{HasRule}
 use Rattle.fc_nodes.specs.Typing.{types_of}
 use Rattle.fc_nodes.specs.Terms.{Variable, Evolution, ByRep, Term, Terms, Plain, Apply, Nbr, Evolve, If, Let, NoMore, More, size}
 use Rattle.interval_facts.specs.Ranges.{RangeValue}
-use Rattle.growth_facts.specs.Variables.{is_variable, occurs, is_own, is_heard}
+use Rattle.fc_nodes.specs.Variables.{is_variable, occurs, is_own, is_heard}
 use Rattle.growth_facts.specs.Leads.{least_integer, greatest_integer}
 use Rattle.growth_facts.specs.Growth.{Grows, growth_of}
 use Rattle.growth_facts.specs.Beside.{Shallow}

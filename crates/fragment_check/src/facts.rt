@@ -5,11 +5,11 @@ ghost use Rattle.fc_values.specs.declared.builtins.Builtin.TheVariants as op;
 ghost use Rattle.fc_values.specs.Types.{type_of};
 ghost use Rattle.fc_nodes.specs.Terms.{term_at, terms_by, sort_of};
 ghost use Rattle.fc_nodes.specs.Places.{StandsAt};
-ghost use Rattle.growth_facts.specs.Variables.{occurs, is_own, is_heard};
+ghost use Rattle.fragment_check.specs.Facts.{InRow, evolution_of, facts_of, facts_of_all, facts_of_apply, guarded_facts, joined as joined_of, variable_facts, under_nbr, beneath, is_less_sort, leaf_facts_by, is_mux, builtin_by, int_variable_by};
+ghost use Rattle.fc_nodes.specs.Variables.{occurs, is_own, is_heard};
 ghost use Rattle.fragment_check.specs.Patterns.{together as together_of, int_variable, same_binder, comparison, compared};
-ghost use Rattle.fragment_check.specs.Facts.{InRow, evolution_of, facts_of, facts_of_all, facts_of_apply, guarded_facts, joined as joined_of, variable_facts, under_nbr, beneath, is_own_sort, is_nbr_sort, is_deep_sort, is_less_sort, leaf_facts_by, is_mux, builtin_by, int_variable_by};
 
-use fc_nodes::{Node, Op, Unfolded};
+use fc_nodes::{Node, Op, Unfolded, is_deep, is_nbr};
 use fc_values::{Builtin, LocalTy, Ty};
 
 /// How the occurrences of a variable are guarded: there is none; each is guarded by the variable of the binder at one
@@ -46,7 +46,7 @@ const NO_FACTS: Facts = Facts {
     guarding: Guarding::Unused,
 };
 
-/// The facts of the term at a place.
+/// The facts of the term at a place. It doesn't walk into a `let`, `if`, `rep` or `share` without the variable.
 #[cycle(gather)]
 pub fn gather(program: &Unfolded, own: Own, place: u32) -> Facts
     requires { StandsAt program.now.nodes place }
@@ -62,6 +62,9 @@ pub fn gather(program: &Unfolded, own: Own, place: u32) -> Facts
         return under_nbr(heard, gather_all(program, own, kids, place));
     }
     if is_deep(node) {
+        if !program.occurs(own.place, place) {
+            return NO_FACTS;
+        }
         return beneath(gather_all(program, own, kids, place));
     }
     leaf_facts(node, own)
@@ -217,64 +220,16 @@ fn beneath(inside: Facts) -> Facts
     }
 }
 
-/// Whether the variable of a binder occurs in the term at a place.
-pub fn occurs(program: &Unfolded, variable: u32, place: u32) -> bool
-    requires { StandsAt program.now.nodes place }
-    ensures { result ≡ occurs variable (term_at program.now.nodes place) }
-{
-    let own = Own {
-        place: variable,
-        is_share: false,
-    };
-    gather(program, own, place).uses
-}
-
-/// Whether the term at a place is the variable.
-pub fn is_own(program: &Unfolded, variable: u32, place: u32) -> bool
-    requires { StandsAt program.now.nodes place }
-    ensures { result ≡ is_own variable (term_at program.now.nodes place) }
-{
-    is_own_node(program.node(place), variable)
-}
-
-fn is_own_node(node: &Node, variable: u32) -> bool
-    ensures { result ≡ is_own_sort variable (sort_of node.now.op) }
-{
-    match &node.op {
-        Op::Var(binder) => *binder == variable,
-        _ => false,
-    }
-}
-
 // Whether the term at a place is what is heard of the variable.
 fn is_heard(program: &Unfolded, own: Own, place: u32) -> bool
     requires { StandsAt program.now.nodes place }
     ensures { result ≡ is_heard (evolution_of own) own.place (term_at program.now.nodes place) }
 {
     if own.is_share {
-        return is_own(program, own.place, place);
+        return program.is_own(own.place, place);
     }
     let node = program.node(place);
-    is_nbr(node) && is_own(program, own.place, node.kids[0])
-}
-
-fn is_nbr(node: &Node) -> bool
-    ensures { result ≡ is_nbr_sort (sort_of node.now.op) }
-{
-    match &node.op {
-        Op::Nbr => true,
-        _ => false,
-    }
-}
-
-// Whether a node is a `let`, `if`, `rep` or `share`.
-fn is_deep(node: &Node) -> bool
-    ensures { result ≡ is_deep_sort (sort_of node.now.op) }
-{
-    match &node.op {
-        Op::Rep | Op::Share | Op::If | Op::Let => true,
-        _ => false,
-    }
+    is_nbr(node) && program.is_own(own.place, node.kids[0])
 }
 
 fn is_less(node: &Node) -> bool

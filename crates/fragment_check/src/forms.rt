@@ -8,7 +8,7 @@ ghost use Rattle.fragment_check.specs.Patterns.{is_bare, is_unguarded};
 ghost use Rattle.fragment_check.specs.Facts.{evolution_of};
 ghost use Rattle.fragment_check.specs.Forms.{is_builtin_sort, HoodKids, RiseKids, SettledKids, IsFormOf, IsRisenFormOf};
 
-use crate::facts::{Own, gather, is_own};
+use crate::facts::{Own, gather};
 use fc_nodes::{Node, Op, Unfolded};
 use fc_values::Builtin;
 
@@ -41,7 +41,7 @@ fn risen_form(program: &Unfolded, own: Own, body: u32) -> Places
     }
     match rise_kids(program, body) {
         Some((a, second, s)) => {
-            if !is_own(program, own.place, second) || gather(program, own, s).uses {
+            if !program.is_own(own.place, second) || program.occurs(own.place, s) {
                 return Places::Other;
             }
             match settled_kids(program, own, a) {
@@ -65,7 +65,7 @@ pub fn unguarded(program: &Unfolded, own: Own, body: u32, bare: bool) -> bool
     }
     match rise_kids(program, body) {
         Some((a, second, s)) => {
-            if is_own(program, own.place, second) {
+            if program.is_own(own.place, second) {
                 gather(program, own, a).bare || gather(program, own, s).bare
             } else {
                 bare
@@ -82,7 +82,7 @@ fn settled_kids(program: &Unfolded, own: Own, place: u32) -> Option<(u32, u32)>
 {
     match hood_kids(program, place) {
         Some((h, l)) => {
-            if gather(program, own, l).uses {
+            if program.occurs(own.place, l) {
                 None
             } else {
                 Some((h, l))

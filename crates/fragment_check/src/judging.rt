@@ -1,20 +1,19 @@
 //! The pattern of a `rep` or `share`, or why it has none.
 
 ghost use Rattle.std.specs.Prelude.{◌≡◌};
-ghost use Rattle.fc_nodes.specs.Terms.{term_at, sort_of};
+ghost use Rattle.fc_nodes.specs.Terms.{term_at};
 ghost use Rattle.fc_nodes.specs.Places.{StandsAt};
 ghost use Rattle.fc_nodes.specs.Program.{unfolding_of};
 ghost use Rattle.interval_facts.specs.Ranges.{range_value, AreRangesOf, range_of};
 ghost use Rattle.growth_facts.specs.Facts.{growth_value, IsEvolving, evolution_at};
 ghost use Rattle.fragment_check.specs.Patterns.{raising as raising_of, minimising as minimising_of, rising as rising_of, no_pattern as no_pattern_of, body_pattern as pattern_of_body, is_pair as is_pair_of, by_form, form_of};
-ghost use Rattle.fragment_check.specs.Facts.{evolution_of, is_share_sort};
-ghost use Rattle.fragment_check.specs.Forms.{IsFormOf};
+ghost use Rattle.fragment_check.specs.Facts.{evolution_of};
 ghost use Rattle.fragment_check.specs.Verdicts.{pattern_at};
 
 use crate::facts::{Guarding, Own, gather};
 use crate::forms::{Places, form, unguarded};
 use crate::kinds::Pattern;
-use fc_nodes::{Node, Op, Reason, Unfolded};
+use fc_nodes::{Reason, Unfolded, is_share};
 use growth_facts::{Growth, greatest_integer, growth, least_integer};
 use interval_facts::{Range, Ranges};
 
@@ -30,16 +29,6 @@ pub fn pattern(program: &Unfolded, ranges: &Ranges, rep: u32) -> Result<Pattern,
         is_share: is_share(node),
     };
     body_pattern(program, ranges, own, node.kids[1])
-}
-
-// Whether a node is a `share`.
-fn is_share(node: &Node) -> bool
-    ensures { result ≡ is_share_sort (sort_of node.now.op) }
-{
-    match &node.op {
-        Op::Share => true,
-        _ => false,
-    }
 }
 
 // The pattern of a body.

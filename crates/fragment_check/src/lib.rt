@@ -9,7 +9,6 @@ mod kinds;
 mod laws;
 mod listing;
 
-pub use facts::{is_own, occurs};
 pub use faults::PatternFault;
 pub use judging::pattern;
 pub use kinds::Pattern;

@@ -1,18 +1,17 @@
 //! The patterns of a program.
 
 ghost use Rattle.std.specs.Prelude.{◌≡◌, IfOk, OnOk, IfErr};
-ghost use Rattle.fc_nodes.specs.Terms.{sort_of};
 ghost use Rattle.fc_nodes.specs.Places.{StandsAt};
+ghost use Rattle.fragment_check.specs.Facts.{InRow};
 ghost use Rattle.fc_nodes.specs.Program.{unfolding_of};
 ghost use Rattle.interval_facts.specs.Ranges.{AreRangesOf};
-ghost use Rattle.fragment_check.specs.Facts.{InRow};
 ghost use Rattle.fragment_check.specs.Verdicts.{judged_of, InFragment, patterns_of};
-ghost use Rattle.fragment_check.specs.Listing.{is_evolve_sort, judged_at, judged_at_all, Finds, Refuses};
+ghost use Rattle.fragment_check.specs.Listing.{judged_at, judged_at_all, Finds, Refuses};
 
 use crate::faults::PatternFault;
 use crate::judging::pattern;
 use crate::kinds::Pattern;
-use fc_nodes::{Node, Op, Unfolded};
+use fc_nodes::{Unfolded, is_evolving};
 use interval_facts::Ranges;
 use std::alloc::Global;
 
@@ -75,13 +74,4 @@ fn judge_all(
     };
     judge(program, ranges, *first, found)?;
     judge_all(program, ranges, rest, *first, found)
-}
-
-fn is_evolving(node: &Node) -> bool
-    ensures { result ≡ is_evolve_sort (sort_of node.now.op) }
-{
-    match &node.op {
-        Op::Rep | Op::Share => true,
-        _ => false,
-    }
 }

@@ -7,6 +7,7 @@ use Rattle.std.specs.declared.cmp.Ordering.TheVariants as ord
 use Rattle.std.proofs.lemmas.Bool.Decides.{nat_tests}
 use Rattle.fc_values.specs.Types.{LocalType, IntType, BoolType, PairType}
 use Rattle.fc_values.specs.Values.{LocalValue, IntValue, BoolValue, PairValue, Fits, SameForm, then_order, compare_values, is_less, lesser, greater}
+use Rattle.fc_nodes.proofs.Standing.{below_or}
 use Rattle.growth_facts.specs.Leads.{lead, Close}
 
 pub fits_form : (m : ℕ) (t : LocalType) (v w : LocalValue) → Fits m t v → Fits m t w → SameForm v w
@@ -93,13 +94,6 @@ greater_lead a b f = by_order (compare_values a b) refl
     by_order ord.Less e = let s : Says ord.Less (lead a) (lead b) = subst (λ o. Says o (lead a) (lead b)) e (compare_says a b f) in omega (arith, s)
     by_order ord.Equal e = let s : Says ord.Equal (lead a) (lead b) = subst (λ o. Says o (lead a) (lead b)) e (compare_says a b f) in omega (arith, s)
     by_order ord.Greater e = let s : Says ord.Greater (lead a) (lead b) = subst (λ o. Says o (lead a) (lead b)) e (compare_says a b f) in omega (arith, s)
-
-pub below_or : (a b : ℕ) → (a < b) ⊎ (b ≤ a)
-below_or a b = by_test (nat_lt a b) refl
-  where
-    by_test : (q : Bool) → nat_lt a b ≡ q → (a < b) ⊎ (b ≤ a)
-    by_test true e = inl (grind (arith, e, nat_tests))
-    by_test false e = inr (grind (arith, e, nat_tests))
 
 module _ (b m : ℕ) (t : LocalType) where
   one_less : (v w x : LocalValue) → Fits m t v → Fits m t w → Fits m t x → b ≤ lead w → b ≤ lead x → Close b (lesser v w) (lesser v x)

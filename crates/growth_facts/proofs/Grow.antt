@@ -15,9 +15,9 @@ use Rattle.fc_nodes.specs.Terms.{Evolution, ByRep, ByShare, Term, Terms, Plain, 
 use Rattle.fc_nodes.specs.Typing.{types_of}
 use Rattle.interval_facts.specs.Ranges.{RangeValue, IntRange, BoolRange, PairRange, InRange, AllInRange, LiesIn}
 use Rattle.interval_facts.proofs.Pointwise.{Within, pointwise_nth}
-use Rattle.growth_facts.specs.Variables.{is_own, occurs, occurs_in, is_heard, is_rest}
+use Rattle.fc_nodes.specs.Variables.{is_own, occurs, occurs_in, is_heard}
 use Rattle.growth_facts.specs.Leads.{lead, leads, least_integer}
-use Rattle.growth_facts.specs.Growth.{GrowthValue, Grows, Lacks, NodeFacts, only_if, on_one_side, raised, lesser_growth, op_growth, growth_apart, growth_heard, node_growth, growth_of, facts_in}
+use Rattle.growth_facts.specs.Growth.{is_rest, GrowthValue, Grows, Lacks, NodeFacts, only_if, on_one_side, raised, lesser_growth, op_growth, growth_apart, growth_heard, node_growth, growth_of, facts_in}
 use Rattle.growth_facts.specs.Beside.{Beside, apart, heard, joined, BesideAll, no_more, one_more}
 use Rattle.growth_facts.proofs.Above.{AllAbove, op_above}
 use Rattle.growth_facts.proofs.Raised.{AllRaised, none_raised, one_raised, op_raised}

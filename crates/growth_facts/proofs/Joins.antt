@@ -10,10 +10,11 @@ use Rattle.fc_nodes.specs.Program.{Program, unfolding_of}
 use Rattle.fc_nodes.proofs.Places.{AllAbove}
 use Rattle.fc_nodes.proofs.Kids.{laid_term, kids_of, kids_are}
 use Rattle.interval_facts.specs.Ranges.{RangeValue, range_of}
-use Rattle.growth_facts.specs.Variables.{is_variable, occurs, occurs_in, is_own, is_heard, is_rest}
+use Rattle.fc_nodes.specs.Variables.{is_variable, occurs, occurs_in, is_own, is_heard}
 use Rattle.growth_facts.specs.Leads.{is_integer, leads, least_integer}
-use Rattle.growth_facts.specs.Growth.{GrowthValue, NodeFacts, growth_by, growth_apart, growth_heard, node_growth, growth_of, facts_in, facts_of}
-use Rattle.growth_facts.specs.Facts.{own_sort, any_uses, heard_sort, rest_sort, sort_growth, joined, facts_at}
+use Rattle.growth_facts.specs.Growth.{is_rest, GrowthValue, NodeFacts, growth_by, growth_apart, growth_heard, node_growth, growth_of, facts_in, facts_of}
+use Rattle.growth_facts.specs.Facts.{any_uses, heard_sort, rest_sort, sort_growth, joined, facts_at}
+use Rattle.fc_nodes.specs.Sorts.{is_own_sort}
 
 -- what a term is, without its kids
 abbrev pub term_sort : Term → Sort
@@ -33,7 +34,7 @@ module _ (m : ℕ) (rs : ℕ → RangeValue) (e : Evolution) (x : ℕ) where
   all_use p NoMore = refl
   all_use p (More t ts) = ap (λ b. occurs x t || b) (all_use (p + size t) ts)
 
-  uses_is : (p : ℕ) (u : Term) → occurs x u ≡ (own_sort x (term_sort u) || any_uses (facts_in m rs e x (suc p) (kids_of u)))
+  uses_is : (p : ℕ) (u : Term) → occurs x u ≡ (is_own_sort x (term_sort u) || any_uses (facts_in m rs e x (suc p) (kids_of u)))
   uses_is p (Plain t l) = or_none (is_variable x l)
   uses_is p (Apply t o xs) = sym (all_use (suc p) xs)
   uses_is p (Nbr t a) = or_none (occurs x a)
@@ -41,7 +42,7 @@ module _ (m : ℕ) (rs : ℕ → RangeValue) (e : Evolution) (x : ℕ) where
   uses_is p (If t c a b) = ap (λ k. occurs x c || (occurs x a || k)) (or_none (occurs x b))
   uses_is p (Let t a b) = ap (λ c. occurs x a || c) (or_none (occurs x b))
 
-  own_is : (u : Term) → is_own x u ≡ own_sort x (term_sort u)
+  own_is : (u : Term) → is_own x u ≡ is_own_sort x (term_sort u)
   own_is (Plain t l) = refl
   own_is (Apply t o xs) = refl
   own_is (Nbr t a) = refl
@@ -104,7 +105,7 @@ joined_is m rs e x p u =
     let q3 = heard_is m rs e x p u in
     let q4 = rest_is m rs e x p u in
     let q5 = growth_is m rs e x p u in
-    with_all (occurs x u) (own_sort x (term_sort u) || any_uses fs) (is_own x u) (own_sort x (term_sort u)) (is_heard e x u) (heard_sort e x (term_sort u) fs) (is_rest e x u) (rest_sort (term_sort u) fs)
+    with_all (occurs x u) (is_own_sort x (term_sort u) || any_uses fs) (is_own x u) (is_own_sort x (term_sort u)) (is_heard e x u) (heard_sort e x (term_sort u) fs) (is_rest e x u) (rest_sort (term_sort u) fs)
     (growth_of m rs e x p u) (sort_growth m p (term_sort u) fs) q1 q2 q3 q4 q5
   where
     with_all : (b b' o o' h h' r r' : Bool) (g g' : GrowthValue) → b ≡ b' → o ≡ o' → h ≡ h' → r ≡ r' → g ≡ growth_by b h (growth_apart m p (least_integer (rs p))) (growth_heard p (leads (inner (type_of u)))) g'

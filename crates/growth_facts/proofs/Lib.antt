@@ -7,5 +7,4 @@ mod Law
 mod Joins
 mod Occurs
 mod KidLists
-pub mod Standing
 mod Ranges

@@ -9,7 +9,7 @@ use Rattle.fc_values.specs.Builtins.{builtin_value}
 use Rattle.fc_nodes.specs.Typing.{types_of}
 use Rattle.fc_nodes.specs.Terms.{Evolution, Term, Terms, Plain, Apply, Nbr, Evolve, If, Let, NoMore, More, type_of, size}
 use Rattle.interval_facts.specs.Ranges.{RangeValue, LiesIn}
-use Rattle.growth_facts.specs.Variables.{occurs, occurs_in, is_variable, is_heard}
+use Rattle.fc_nodes.specs.Variables.{occurs, occurs_in, is_variable, is_heard}
 
 -- two fields over the same devices, entry by entry
 abbrev pub Pairs : (ℕ → LocalValue → LocalValue → Type 0) → Entries → Entries → Type 0

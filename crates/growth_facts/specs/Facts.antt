@@ -1,5 +1,5 @@
 -- The facts of a node from those of its kids.
-use Rattle.std.specs.Prelude.{ℕ, zero, suc, Bool, true, false, ◌≡◌, ◌||◌, List, [], ◌∷◌, length, Option, Some}
+use Rattle.std.specs.Prelude.{ℕ, zero, suc, Bool, false, ◌≡◌, ◌||◌, List, [], ◌∷◌, length, Option, Some}
 use Rattle.fc_values.specs.declared.builtins.Builtin.{Builtin}
 use Rattle.fc_values.specs.declared.builtins.Builtin.TheVariants as op
 use Rattle.fc_values.specs.Types.{LocalType}
@@ -11,7 +11,7 @@ use Rattle.growth_facts.specs.declared.node_facts.Growth.{Growth}
 use Rattle.growth_facts.specs.declared.node_facts.Growth.TheVariants as growth
 use Rattle.growth_facts.specs.declared.node_facts.Facts.{Facts}
 use Rattle.growth_facts.specs.declared.node_facts.Kids.{Kids}
-use Rattle.growth_facts.specs.Variables.{is_variable}
+use Rattle.fc_nodes.specs.Sorts.{is_own_sort}
 use Rattle.growth_facts.specs.Leads.{is_integer, leads}
 use Rattle.growth_facts.specs.Growth.{GrowthValue, Grows, Lacks, NodeFacts, op_growth, growth_by, growth_apart, growth_heard, growth_of, facts_of}
 
@@ -33,14 +33,6 @@ facts_value f = record {
 
 -- ---- one node, from its kids
 
-abbrev pub own_sort : ℕ → Sort → Bool
-own_sort x (OfLeaf l) = is_variable x l
-own_sort x (OfApply o) = false
-own_sort x OfNbr = false
-own_sort x (OfEvolve e) = false
-own_sort x OfIf = false
-own_sort x OfLet = false
-
 abbrev pub any_uses : List NodeFacts → Bool
 any_uses [] = false
 any_uses (f ∷ fs) = f.uses || any_uses fs
@@ -56,7 +48,7 @@ heard_sort ByRep x OfNbr fs = first_own fs
 heard_sort ByRep x (OfEvolve e) fs = false
 heard_sort ByRep x OfIf fs = false
 heard_sort ByRep x OfLet fs = false
-heard_sort ByShare x s fs = own_sort x s
+heard_sort ByShare x s fs = is_own_sort x s
 
 abbrev pub rest_op : Builtin → List NodeFacts → Bool
 rest_op op.Snd (f ∷ []) = f.heard
@@ -81,33 +73,18 @@ sort_growth ceiling p OfLet fs = Lacks p
 -- what a node is, its type and the least integer of its range, and the facts of its kids
 abbrev pub joined : ℕ → Evolution → ℕ → ℕ → Sort → LocalType → ℕ → List NodeFacts → NodeFacts
 joined ceiling e x p s t least fs = record {
-  uses = own_sort x s || any_uses fs;
-  own = own_sort x s;
+  uses = is_own_sort x s || any_uses fs;
+  own = is_own_sort x s;
   heard = heard_sort e x s fs;
   rest = rest_sort s fs;
   integer = is_integer t;
   leads = leads t;
   least = least;
-  growth = growth_by (own_sort x s || any_uses fs) (heard_sort e x s fs) (growth_apart ceiling p least)
+  growth = growth_by (is_own_sort x s || any_uses fs) (heard_sort e x s fs) (growth_apart ceiling p least)
       (growth_heard p (leads t)) (sort_growth ceiling p s fs);
 }
 
 -- ---- nodes of a program
-
-abbrev pub evolution_by : Bool → Evolution
-evolution_by true = ByShare
-evolution_by false = ByRep
-
--- a `rep`, a `share`, an `if` or a `let`
-abbrev pub closed_sort : Sort → Bool
-closed_sort (OfEvolve e) = true
-closed_sort OfIf = true
-closed_sort OfLet = true
-closed_sort _ = false
-
-abbrev pub sort_is_share : Sort → Bool
-sort_is_share (OfEvolve ByShare) = true
-sort_is_share _ = false
 
 -- the kids of a node as the code holds them: facts that aren't there are blank
 abbrev pub blank : NodeFacts

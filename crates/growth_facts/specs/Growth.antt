@@ -5,8 +5,13 @@ use Rattle.fc_values.specs.declared.builtins.Builtin.TheVariants as op
 use Rattle.fc_values.specs.BuiltinTypes.{inner}
 use Rattle.fc_nodes.specs.Terms.{Evolution, Term, Terms, Plain, Apply, Nbr, Evolve, If, Let, NoMore, More, type_of, size}
 use Rattle.interval_facts.specs.Ranges.{RangeValue}
-use Rattle.growth_facts.specs.Variables.{occurs, is_own, is_heard, is_rest}
+use Rattle.fc_nodes.specs.Variables.{occurs, is_own, is_heard}
 use Rattle.growth_facts.specs.Leads.{is_integer, leads, least_integer}
+
+-- whether a term is the second component of what is heard
+abbrev pub is_rest : Evolution → ℕ → Term → Bool
+is_rest e x (Apply t op.Snd (More h NoMore)) = is_heard e x h
+is_rest e x _ = false
 
 -- a growth, or the place of the node that has none
 pub data GrowthValue : Type 0 where

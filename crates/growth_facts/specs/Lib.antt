@@ -1,4 +1,3 @@
-pub mod Variables
 pub mod Leads
 pub mod Growth
 pub mod Beside

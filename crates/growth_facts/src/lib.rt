@@ -4,8 +4,9 @@
 mod laws;
 mod node_facts;
 mod nodes;
-mod occurrences;
 mod tables;
+#[cfg(test)]
+mod tests;
 mod walk;
 
 pub use laws::growth_law;

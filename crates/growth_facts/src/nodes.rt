@@ -8,14 +8,14 @@ ghost use Rattle.interval_facts.specs.Ranges.{range_value};
 ghost use Rattle.growth_facts.specs.Leads.{is_integer as is_integer_type, leads as leads_of};
 ghost use Rattle.growth_facts.specs.Leads.{least_integer as least_integer_of, least_alone as least_alone_of};
 ghost use Rattle.growth_facts.specs.Leads.{greatest_integer as greatest_integer_of, greatest_alone as greatest_alone_of};
-ghost use Rattle.growth_facts.specs.Growth.{NodeFacts, growth_by as growth_by_of, growth_apart, growth_heard};
-ghost use Rattle.growth_facts.specs.Facts.{growth_value, facts_value, AreKids, own_sort, heard_sort, rest_sort};
-ghost use Rattle.growth_facts.specs.Facts.{sort_growth, joined, evolution_by, any_uses, closed_sort};
+ghost use Rattle.growth_facts.specs.Growth.{NodeFacts, growth_apart, growth_heard};
+ghost use Rattle.growth_facts.specs.Facts.{growth_value, facts_value, AreKids, heard_sort, rest_sort};
+ghost use Rattle.fc_nodes.specs.Sorts.{is_own_sort, evolution_by, is_deep_sort};
+ghost use Rattle.growth_facts.specs.Facts.{sort_growth, joined, any_uses};
 
 use crate::node_facts::{Evolving, Facts, Growth, Kids};
-use crate::occurrences::is_own;
 use crate::tables::{only_if, op_growth};
-use fc_nodes::{Node, Op};
+use fc_nodes::{Node, Op, is_own};
 use fc_values::{Builtin, LocalTy, inner};
 use interval_facts::Range;
 
@@ -103,20 +103,13 @@ pub fn no_kids() -> Kids
     }
 }
 
-// Whether one of two is true.
-fn either(a: bool, b: bool) -> bool
-    ensures { result ≡ (a || b) }
-{
-    a || b
-}
-
 // One kid more.
 pub fn with_kid(kids: &Kids, facts: Facts) -> Kids
     requires { kids.now.count < 2 ^ 63 }
     ensures { (fs : List NodeFacts) → AreKids kids.now fs → AreKids result (fs ++ facts_value facts ∷ []) }
 {
     let mut more = *kids;
-    more.uses = either(kids.uses, facts.uses);
+    more.uses = kids.uses | facts.uses;
     more.count = kids.count + 1;
     match kids.count {
         0 => more.first = facts,
@@ -129,7 +122,7 @@ pub fn with_kid(kids: &Kids, facts: Facts) -> Kids
 
 // Whether a node is what is heard of a variable.
 fn is_heard(node: &Node, variable: &Evolving, own: bool, kids: &Kids) -> bool
-    requires { own ≡ own_sort variable.now.place (sort_of node.now.op) }
+    requires { own ≡ is_own_sort variable.now.place (sort_of node.now.op) }
     ensures { (fs : List NodeFacts) → AreKids kids.now fs
         → result ≡ heard_sort (evolution_by variable.now.by_share) variable.now.place (sort_of node.now.op) fs }
 {
@@ -211,19 +204,9 @@ pub fn join(
     }
 }
 
-// Whether a node is a `rep`, a `share`, an `if` or a `let`, in which nothing with the variable grows.
-pub fn is_closed(node: &Node) -> bool
-    ensures { result ≡ closed_sort (sort_of node.now.op) }
-{
-    match &node.op {
-        Op::Rep | Op::Share | Op::If | Op::Let => true,
-        _ => false,
-    }
-}
-
-// The facts of such a node, by whether the variable occurs in it.
+// The facts of a `rep`, a `share`, an `if` or a `let`, in which nothing with the variable grows, by whether the variable occurs in it.
 pub fn closed_facts(node: &Node, uses: bool, least: u32, place: u32, ceiling: u32) -> Facts
-    requires { closed_sort (sort_of node.now.op) ≡ true }
+    requires { is_deep_sort (sort_of node.now.op) ≡ true }
     ensures { (e : Evolution) (x : ℕ) (fs : List NodeFacts) → uses ≡ any_uses fs
         → facts_value result ≡ joined ceiling e x place (sort_of node.now.op) (inner_type (type_of node.now.ty)) least fs }
 {

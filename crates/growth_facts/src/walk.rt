@@ -1,18 +1,18 @@
 //! The walk over a body.
 
 ghost use Rattle.std.specs.Prelude.{◌≡◌, ◌<◌, length};
-ghost use Rattle.fc_nodes.specs.Terms.{term_at, OfEvolve, ByShare, sort_of};
+ghost use Rattle.fc_nodes.specs.Terms.{term_at};
 ghost use Rattle.fc_nodes.specs.Program.{unfolding_of};
 ghost use Rattle.fc_nodes.specs.Places.{StandsAt, StandAfter};
 ghost use Rattle.interval_facts.specs.Ranges.{AreRangesOf, range_of};
 ghost use Rattle.growth_facts.specs.Growth.{facts_of};
-ghost use Rattle.growth_facts.specs.Facts.{growth_value, facts_value, AreKids, facts_at, evolution_by};
-ghost use Rattle.growth_facts.specs.Facts.{sort_is_share, IsEvolving, node_facts, growth_at};
+ghost use Rattle.growth_facts.specs.Facts.{growth_value, facts_value, AreKids, facts_at};
+ghost use Rattle.fc_nodes.specs.Sorts.{evolution_by};
+ghost use Rattle.growth_facts.specs.Facts.{IsEvolving, node_facts, growth_at};
 
 use crate::node_facts::{Evolving, Facts, Growth, Kids};
-use crate::nodes::{closed_facts, is_closed, join, least_integer, no_kids, with_kid};
-use crate::occurrences::occurs_in;
-use fc_nodes::{Node, Op, Unfolded};
+use crate::nodes::{closed_facts, join, least_integer, no_kids, with_kid};
+use fc_nodes::{Unfolded, is_deep, is_share};
 use interval_facts::Ranges;
 
 /// The growth of the node at a place of the body of a `rep` or `share`, or the place of the node that has none.
@@ -41,16 +41,6 @@ fn facts(program: &Unfolded, ranges: &Ranges, rep: u32, place: u32) -> Facts
     facts_below(program, ranges, &variable, place)
 }
 
-// Whether a node is a `share`.
-fn is_share(node: &Node) -> bool
-    ensures { result ≡ sort_is_share (sort_of node.now.op) }
-{
-    match &node.op {
-        Op::Share => true,
-        _ => false,
-    }
-}
-
 // The facts of the node at a place.
 #[cycle(facts_below)]
 fn facts_below(program: &Unfolded, ranges: &Ranges, variable: &Evolving, place: u32) -> Facts
@@ -63,8 +53,8 @@ fn facts_below(program: &Unfolded, ranges: &Ranges, variable: &Evolving, place: 
     let kids = node.kids.as_slice();
     let least = least_integer(ranges.at(place));
     let ceiling = program.declared().ceiling;
-    if is_closed(node) {
-        let uses = occurs_in(program, variable.place, kids, place);
+    if is_deep(node) {
+        let uses = program.occurs(variable.place, place);
         return closed_facts(node, uses, least, place, ceiling);
     }
     let below = kids_below(program, ranges, variable, kids, place);

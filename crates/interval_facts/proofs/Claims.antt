@@ -29,7 +29,8 @@ use Rattle.interval_facts.proofs.Pointwise.{OverThem, AllOver, pointwise_nth}
 use Rattle.interval_facts.proofs.Tables.{Shows, shows_first, shows_second, as_many}
 use Rattle.interval_facts.proofs.Values.{restricted_lies, field_lies, links_lie, sense_lies, lies_by_positions, arguments_lie}
 
-some_around : (d : ℕ) (ns : List ℕ) → 0 < length (with_number d ns)
+-- there is a device around each
+pub some_around : (d : ℕ) (ns : List ℕ) → 0 < length (with_number d ns)
 some_around d [] = omega arith
 some_around d (n ∷ ns) = by_test (nat_lt d n)
   where

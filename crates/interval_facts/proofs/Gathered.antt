@@ -8,7 +8,7 @@ use Rattle.fc_values.specs.BuiltinTypes.{inner}
 use Rattle.fc_nodes.specs.Terms.{Leaf, Literal, Variable, Sense, Uid, NbrLink, Term, Terms, Plain, Apply, Nbr, Evolve, If, Let, NoMore, More, size, sizes, Sort, OfLeaf, OfApply, OfNbr, OfEvolve, OfIf, OfLet, View, Has, view_at, HasNode, places, term_at}
 use Rattle.fc_nodes.specs.Program.{Program, unfolding_of, IsProgram}
 use Rattle.fc_nodes.proofs.Places.{formed_above}
-use Rattle.fc_nodes.proofs.Kids.{kids_of, KidsAre, kids_are, kids_stand}
+use Rattle.fc_nodes.proofs.Kids.{kids_of, size_kids, KidsAre, kids_are, kids_stand, size_some}
 use Rattle.interval_facts.specs.Ranges.{RangeValue, BoolRange, range_value, ranges_of, range_of, hull, builtin_range, full, AreRangesOf}
 use Rattle.interval_facts.specs.declared.intervals.Range.{Range}
 use Rattle.interval_facts.specs.Picks.{AreThere, ranges_at, ranges_in}
@@ -16,22 +16,6 @@ use Rattle.interval_facts.specs.Steps.{range_in, variable_range, step_range, kid
 use Rattle.interval_facts.specs.Gathering.{end_of, Extends, IsNext, AreNext, LeafIsThere, IsThere}
 use Rattle.interval_facts.proofs.Tables.{as_many}
 use Rattle.interval_facts.proofs.Stepped.{StepsAt, program_steps}
-
-size_some : (u : Term) → 0 < size u
-size_some (Plain t l) = omega arith
-size_some (Apply t o xs) = omega arith
-size_some (Nbr t a) = omega arith
-size_some (Evolve t e a b) = omega arith
-size_some (If t c a b) = omega arith
-size_some (Let t a b) = omega arith
-
-size_kids : (u : Term) → size u ≡ suc (sizes (kids_of u))
-size_kids (Plain t l) = refl
-size_kids (Apply t o xs) = refl
-size_kids (Nbr t a) = omega arith
-size_kids (Evolve t e a b) = omega arith
-size_kids (If t c a b) = omega arith
-size_kids (Let t a b) = omega arith
 
 -- places from one on to another
 abbrev Between : ℕ → ℕ → List ℕ → Type 0

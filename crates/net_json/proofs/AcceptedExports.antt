@@ -9,10 +9,11 @@ use Rattle.fc_nodes.specs.Terms.{type_of}
 use Rattle.fc_nodes.specs.Program.{Unfolding}
 use Rattle.value_trees.proofs.ReadBack.{had_type}
 use Rattle.net_json.specs.Judging.{Accepted, Refusal, Misshaped, given, in_turn, at_member, at_index}
-use Rattle.net_json.specs.KeptItems.{KeptItem, kept_judged, Taken, Took, Misfit, take_tree}
+use Rattle.value_trees.specs.KeptItems.{KeptItem, Taken, Took, Misfit, take_tree, values}
+use Rattle.net_json.specs.KeptItems.{kept_judged}
 use Rattle.net_json.specs.Exports.{whole_export, export_judged}
 use Rattle.net_json.specs.AcceptedLists.{item_values, KeepsItems}
-use Rattle.net_json.proofs.TookTrees.{values, took}
+use Rattle.value_trees.proofs.TookTrees.{took}
 use Rattle.net_json.proofs.Accepting.{then_accepted, require_accepted, same_accepted}
 
 given_accepted : {A : Type 0} (r : Refusal) (o : Option A) (a : A) → given r o ≡ Accepted a → o ≡ Some a

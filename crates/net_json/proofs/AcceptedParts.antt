@@ -21,7 +21,8 @@ use Rattle.net_json.specs.Reading.{value_of, two_members}
 use Rattle.net_json.specs.Inputs.{inputs_judged}
 use Rattle.net_json.specs.Devices.{device_form, device_number, live_number, device_judged, number_of, devices_judged}
 use Rattle.net_json.specs.Links.{link_of, link_judged}
-use Rattle.net_json.specs.KeptItems.{KeptItem, item_of_values}
+use Rattle.value_trees.specs.KeptItems.{KeptItem}
+use Rattle.net_json.specs.KeptItems.{item_of_values}
 use Rattle.net_json.specs.Exports.{export_judged}
 use Rattle.net_json.specs.Tables.{Row, row_number, row_form, row_judged, rows_judged, array_or, second_format, second_judged, table_judged}
 use Rattle.net_json.specs.Copies.{own_export, some_export, own_judged, other_number, weight_judged, near_judged, near_number, nears_judged, parts_judged, copy_number, copy_judged, near_form, copy_form, copies_judged, CopyForm}

@@ -6,9 +6,7 @@ mod Gathering
 mod Accepting
 mod Limits
 mod Threes
-mod Takes
-mod TookTrees
-mod PlainLists
+mod WholeExports
 mod Living
 mod InputFacts
 mod AcceptedExports

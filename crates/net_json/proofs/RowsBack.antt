@@ -18,7 +18,8 @@ use Rattle.topology.specs.Networks.{Network, Lives}
 use Rattle.fc_values.specs.Lists.{insert_after}
 use Rattle.net_json.specs.Reading.{value_of}
 use Rattle.net_json.specs.Judging.{Judged, Accepted, and_then, in_turn, gathered, at_index, at_member}
-use Rattle.net_json.specs.KeptItems.{KeptItem, placed_item, take_tree, kept_judged, item_of_places}
+use Rattle.value_trees.specs.KeptItems.{KeptItem, take_tree}
+use Rattle.net_json.specs.KeptItems.{placed_item, kept_judged, item_of_places}
 use Rattle.net_json.specs.Exports.{whole_export, export_judged}
 use Rattle.net_json.specs.Tables.{Row, row_number, row_form, row_judged, rows_judged, second_format}
 use Rattle.net_json.specs.TableTexts.{value_data, placed, placed_data, row_data, table_data}

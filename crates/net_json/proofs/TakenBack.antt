@@ -11,7 +11,8 @@ use Rattle.fc_nodes.specs.Flat.{FitsTree, FitTrees}
 use Rattle.fc_nodes.proofs.NarrowTypes.{Keeps, AllKeep}
 use Rattle.value_trees.specs.SlotFits.{truth_in}
 use Rattle.value_trees.proofs.ReadBack.{type_had}
-use Rattle.net_json.specs.KeptItems.{KeptItem, placed_item, Taken, Took, take_then, take_value, one_kid, two_kids, take_tree, take_trees}
+use Rattle.value_trees.specs.KeptItems.{KeptItem, Taken, Took, take_then, take_value, one_kid, two_kids, take_tree, take_trees}
+use Rattle.net_json.specs.KeptItems.{placed_item}
 use Rattle.net_json.specs.TableTexts.{placed, placed_all}
 
 -- P holds of each value at a place

@@ -7,7 +7,7 @@ use Rattle.fc_nodes.specs.Program.{Unfolding}
 use Rattle.fc_nodes.specs.Flat.{IsWellTyped}
 use Rattle.value_trees.specs.KeptLists.{kept_values}
 use Rattle.net_json.specs.Judging.{Accepted}
-use Rattle.net_json.specs.KeptItems.{KeptItem}
+use Rattle.value_trees.specs.KeptItems.{KeptItem}
 use Rattle.net_json.specs.Exports.{export_judged}
 
 -- the value that each item of a list has, if it has one
@@ -16,7 +16,8 @@ item_values read no_items = []
 item_values read (item d ds) = option_map (λ (x : KeptItem). x.value) (read d) ∷ item_values read ds
 
 -- an export of a program with this value, which keeps the values of these items and no more, in their order
-pub record KeepsItems (U : Unfolding) (read : Data → Option KeptItem) (v : LocalValue) (ds : Items) (e : TreeExport) : Type 0 where
+pub record KeepsItems (U : Unfolding) (read : Data → Option KeptItem) (v : LocalValue) (ds : Items) (e : TreeExport)
+    : Type 0 where
   pub typed : IsWellTyped U e
   pub value : e.value ≡ v
   pub list : map Some (kept_values e) ≡ item_values read ds

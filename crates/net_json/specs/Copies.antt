@@ -1,11 +1,14 @@
 -- The copies of a scene that are in flight.
-use Rattle.std.specs.Prelude.{ℕ, ◌&&◌, List, not, nat_eq, nat_le, codes, Option, Some, None, is_some, if◌then◌else◌, Bool, true, false}
+use Rattle.std.specs.Prelude.{ℕ, ◌&&◌, List, not, nat_eq, nat_le, codes, Option, Some, None, is_some, if◌then◌else◌}
+use Rattle.std.specs.Prelude.{Bool, true, false}
 use Rattle.serde_json.specs.Data.{Data, null, boolean, number, string, array, object, Items}
 use Rattle.serde_json.specs.Find.{as_null, as_array}
 use Rattle.fc_values.specs.Types.{Declarations}
+use Rattle.fc_values.specs.declared.limits.TheConstants.{MOST_LINKS}
 use Rattle.fc_values.specs.Values.{LocalValue}
 use Rattle.fc_values.specs.Trees.{TreeExport, NearCopy, Copy}
 use Rattle.fc_nodes.specs.Program.{Unfolding}
+use Rattle.topology.specs.declared.types.TheConstants.{GREATEST_NUMBER}
 use Rattle.topology.specs.declared.types.NetFault.TheVariants as fault
 use Rattle.topology.specs.Networks.{Network}
 use Rattle.fc_values.specs.Fields.{is_in}
@@ -24,7 +27,8 @@ abbrev pub own_export : Unfolding → List ℕ → Data → Judged TreeExport
 own_export U path d =
     and_then (given (Misshaped path) (two_members (codes "value") (codes "kept") d)) (λ m.
     and_then (given (Misshaped (at_member path (codes "value"))) (value_of m.0)) (λ v.
-    and_then (given (Misshaped (at_member path (codes "kept"))) (as_array m.1)) (λ ds. export_judged U item_of_values path v ds)))
+    and_then (given (Misshaped (at_member path (codes "kept"))) (as_array m.1)) (λ ds.
+    export_judged U item_of_values path v ds)))
 
 abbrev pub some_export : Judged TreeExport → Judged (Option TreeExport)
 some_export e = and_then e (λ x. Accepted (Some x))
@@ -52,17 +56,19 @@ pub record NearForm : Type 0 where
 
 abbrev pub near_form : List ℕ → Data → Judged NearForm
 near_form path d =
-    and_then (given (Misshaped path) (four_members (codes "id") (codes "weight") (codes "value") (codes "kept") d)) (λ m.
+    and_then
+    (given (Misshaped path) (four_members (codes "id") (codes "weight") (codes "value") (codes "kept") d)) (λ m.
     and_then (given (Misshaped (at_member path (codes "id"))) (whole m.0.0)) (λ id.
     and_then (given (Misshaped (at_member path (codes "weight"))) (whole m.0.1)) (λ w.
     and_then (given (Misshaped (at_member path (codes "value"))) (value_of m.1.0)) (λ v.
     and_then (given (Misshaped (at_member path (codes "kept"))) (as_array m.1.1)) (λ ds.
     Accepted (record { id = id; weight = w; value = v; kept = ds }))))))
 
--- The number of a neighbour is at most 65,535, that of another device, and of none before.
+-- The number of a neighbour is one that devices may have, that of another device, and of none before.
 abbrev pub other_number : ℕ → List ℕ → List ℕ → ℕ → Judged ℕ
 other_number device before path id =
-    require (nat_le id 65535 && not (nat_eq id device) && not (is_in id before)) (Misshaped path) (Accepted id)
+    require (nat_le id GREATEST_NUMBER && not (nat_eq id device) && not (is_in id before)) (Misshaped path)
+    (Accepted id)
 
 -- the weight of a neighbour is in the range of the metric
 abbrev pub weight_judged : Declarations → List ℕ → ℕ → Judged ℕ
@@ -74,14 +80,16 @@ near_judged U device before path d =
     and_then (near_form path d) (λ form.
     and_then (other_number device before (at_member path (codes "id")) form.id) (λ id.
     and_then (weight_judged U.declared (at_member path (codes "weight")) form.weight) (λ w.
-    and_then (export_judged U item_of_values path form.value form.kept) (λ e. Accepted (record { device = id; weight = w; export = e })))))
+    and_then (export_judged U item_of_values path form.value form.kept) (λ e.
+    Accepted (record { device = id; weight = w; export = e })))))
 
 abbrev pub near_number : NearCopy → ℕ
 near_number n = n.device
 
--- at most 32 neighbours, each judged in turn
+-- no more neighbours than a device has, each judged in turn
 abbrev pub nears_judged : Unfolding → ℕ → List ℕ → Items → Judged (List NearCopy)
-nears_judged U device path ds = require (nat_le (count_items ds) 32) (Misshaped path) (gather near_number (near_judged U device) path ds)
+nears_judged U device path ds =
+    require (nat_le (count_items ds) MOST_LINKS) (Misshaped path) (gather near_number (near_judged U device) path ds)
 
 -- ---- copies
 

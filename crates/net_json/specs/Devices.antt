@@ -2,10 +2,12 @@
 use Rattle.std.specs.Prelude.{ℕ, ◌&&◌, List, nat_le, nat_eq, not, codes}
 use Rattle.serde_json.specs.Data.{Data, Items}
 use Rattle.fc_values.specs.Types.{Input}
+use Rattle.topology.specs.declared.types.TheConstants.{GREATEST_NUMBER, MOST_DEVICES}
 use Rattle.topology.specs.declared.types.NetFault.TheVariants as fault
 use Rattle.topology.specs.Networks.{NetDevice, Network, lives}
 use Rattle.fc_values.specs.Fields.{is_in}
-use Rattle.net_json.specs.Judging.{Judged, Accepted, Misshaped, BadNetwork, TooManyDevices, and_then, given, require, gather, at_member}
+use Rattle.net_json.specs.Judging.{Judged, Accepted, Misshaped, BadNetwork, TooManyDevices, and_then, given, require}
+use Rattle.net_json.specs.Judging.{gather, at_member}
 use Rattle.net_json.specs.Reading.{whole, two_members, size_of, count_items}
 use Rattle.net_json.specs.Inputs.{inputs_judged}
 
@@ -16,10 +18,11 @@ device_form path d =
     and_then (given (Misshaped (at_member path (codes "id"))) (whole m.0)) (λ id.
     and_then (given (Misshaped (at_member path (codes "inputs"))) (size_of m.1)) (λ size. Accepted (id, m.1))))
 
--- A number is at most 65,535, and it stood in no device before.
+-- A number is one that devices may have, and it stood in no device before.
 abbrev pub device_number : List ℕ → List ℕ → ℕ → Judged ℕ
 device_number before path id =
-    require (nat_le id 65535) (Misshaped path) (require (not (is_in id before)) (BadNetwork path fault.Twice) (Accepted id))
+    require (nat_le id GREATEST_NUMBER) (Misshaped path)
+    (require (not (is_in id before)) (BadNetwork path fault.Twice) (Accepted id))
 
 -- The number of a row or of a copy is that of a device, and it stood in none before.
 abbrev pub live_number : Network → List ℕ → List ℕ → ℕ → Judged ℕ
@@ -30,13 +33,15 @@ abbrev pub device_judged : List Input → List ℕ → List ℕ → Data → Jud
 device_judged is before path d =
     and_then (device_form path d) (λ form.
     and_then (device_number before (at_member path (codes "id")) form.0) (λ id.
-    and_then (inputs_judged is (at_member path (codes "inputs")) form.1) (λ vs. Accepted (record { id = id; inputs = vs }))))
+    and_then (inputs_judged is (at_member path (codes "inputs")) form.1) (λ vs.
+    Accepted (record { id = id; inputs = vs }))))
 
 abbrev pub number_of : NetDevice → ℕ
 number_of n = n.id
 
--- there are devices, and at most 1,024; each is judged in turn
+-- there are devices, and no more than networks have; each is judged in turn
 abbrev pub devices_judged : List Input → List ℕ → Items → Judged (List NetDevice)
 devices_judged is path ds =
     require (not (nat_eq (count_items ds) 0)) (Misshaped path)
-    (require (nat_le (count_items ds) 1024) (TooManyDevices (count_items ds)) (gather number_of (device_judged is) path ds))
+    (require (nat_le (count_items ds) MOST_DEVICES) (TooManyDevices (count_items ds))
+    (gather number_of (device_judged is) path ds))

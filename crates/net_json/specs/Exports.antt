@@ -8,7 +8,8 @@ use Rattle.fc_nodes.specs.Terms.{type_of, size}
 use Rattle.fc_nodes.specs.Program.{Unfolding}
 use Rattle.net_json.specs.Judging.{Judged, Accepted, Refused, Misshaped, BadKept, and_then, require, in_turn, at_member}
 use Rattle.value_trees.specs.KeptReads.{has_type}
-use Rattle.net_json.specs.KeptItems.{KeptItem, kept_judged, Taken, Took, Misfit, take_tree}
+use Rattle.value_trees.specs.KeptItems.{KeptItem, Taken, Took, Misfit, take_main}
+use Rattle.net_json.specs.KeptItems.{kept_judged}
 
 -- an export with this value, whose tree uses all items. Where some are left, the number of nodes is named
 abbrev pub whole_export : Unfolding → List ℕ → LocalValue → Taken Tree → Judged TreeExport
@@ -22,4 +23,4 @@ abbrev pub export_judged : Unfolding → (Data → Option KeptItem) → List ℕ
 export_judged U read path v ds =
     require (has_type U.declared.ceiling (inner (type_of U.main)) v) (Misshaped (at_member path (codes "value")))
     (and_then (in_turn (kept_judged read) (at_member path (codes "kept")) [] 0 ds) (λ xs.
-    whole_export U path v (take_tree U.declared.ceiling U.main 0 xs)))
+    whole_export U path v (take_main U xs)))

@@ -27,7 +27,8 @@ input_judged ty path d =
 abbrev pub values_judged : List ℕ → Data → List LocalValue → List Input → Judged (List LocalValue)
 values_judged path d before [] = Accepted before
 values_judged path d before (i ∷ is) =
-    and_then (input_judged i.type (at_member path i.name) (get i.name d)) (λ v. values_judged path d (before ++ v ∷ []) is)
+    and_then (input_judged i.type (at_member path i.name) (get i.name d)) (λ v.
+    values_judged path d (before ++ v ∷ []) is)
 
 abbrev pub inputs_judged : List Input → List ℕ → Data → Judged (List LocalValue)
 inputs_judged is path d = require (has_exactly is d) (Misshaped path) (values_judged path d [] is)

@@ -1,5 +1,6 @@
 -- Judgements: what is accepted, or the first refusal.
-use Rattle.std.specs.Prelude.{ℕ, Bool, ◌≡◌, ◌+◌, List, [], ◌∷◌, ◌++◌, Option, Some, None, Result, IfOk, IfErr, if◌then◌else◌, decimal, map, nat_lt}
+use Rattle.std.specs.Prelude.{ℕ, Bool, ◌≡◌, ◌+◌, List, [], ◌∷◌, ◌++◌, Option, Some, None, Result, IfOk, IfErr}
+use Rattle.std.specs.Prelude.{if◌then◌else◌, decimal, map, nat_lt}
 use Rattle.serde_json.specs.Data.{Data, Items, no_items, item}
 use Rattle.topology.specs.declared.types.NetFault.{NetFault}
 use Rattle.fc_values.specs.Lists.{insert_after}
@@ -48,13 +49,15 @@ at_index path i = path ++ 47 ∷ decimal i
 -- items one after another, with their paths, each beside what those before have given
 abbrev pub in_turn : {A : Type 0} → (A → List ℕ → Data → Judged A) → List ℕ → A → ℕ → Items → Judged A
 in_turn judge path before i no_items = Accepted before
-in_turn judge path before i (item d ds) = and_then (judge before (at_index path i) d) (λ next. in_turn judge path next (i + 1) ds)
+in_turn judge path before i (item d ds) =
+    and_then (judge before (at_index path i) d) (λ next. in_turn judge path next (i + 1) ds)
 
 -- one thing more beside those before, all by rising numbers. It is judged beside the numbers of those before
 abbrev pub gathered : {X : Type 0} → (X → ℕ) → (List ℕ → List ℕ → Data → Judged X)
     → List X → List ℕ → Data → Judged (List X)
 gathered number judge before path d =
-    and_then (judge (map number before) path d) (λ x. Accepted (insert_after (λ y. nat_lt (number y) (number x)) x before))
+    and_then (judge (map number before) path d) (λ x.
+    Accepted (insert_after (λ y. nat_lt (number y) (number x)) x before))
 
 -- the things that items give, by rising numbers
 abbrev pub gather : {X : Type 0} → (X → ℕ) → (List ℕ → List ℕ → Data → Judged X)

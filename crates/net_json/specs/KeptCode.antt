@@ -1,14 +1,10 @@
--- Items of kept lists in code.
+-- The formats of kept lists in code.
 use Rattle.std.specs.Prelude.{Option}
 use Rattle.serde_json.specs.Data.{Data}
-use Rattle.fc_values.specs.Values.{local_of}
+use Rattle.value_trees.specs.KeptItems.{KeptItem}
 use Rattle.net_json.specs.declared.kept.Format.{Format}
 use Rattle.net_json.specs.declared.kept.Format.TheVariants as format
-use Rattle.net_json.specs.declared.kept.Item.{Item}
-use Rattle.net_json.specs.KeptItems.{KeptItem, item_of_values, item_of_places}
-
-abbrev pub kept_of : Item → KeptItem
-kept_of x = record { place = x.place; value = local_of x.value }
+use Rattle.net_json.specs.KeptItems.{item_of_values, item_of_places}
 
 -- what an item is in a format
 abbrev pub item_by : Format → Data → Option KeptItem

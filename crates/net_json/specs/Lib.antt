@@ -6,7 +6,6 @@ pub mod Devices
 pub mod Links
 pub mod KeptItems
 pub mod KeptCode
-pub mod Leavings
 pub mod Exports
 pub mod Tables
 pub mod Copies

@@ -24,7 +24,8 @@ link_of d = option_and_then three_of (as_array d)
 abbrev pub link_judged : Network → List ℕ → Data → Judged Network
 link_judged n path d =
     and_then (given (Misshaped path) (link_of d)) (λ l.
-    require (not (are_linked n l.0 l.1)) (Misshaped path) (no_fault (link_fault n l.0 l.1 l.2) path (Accepted (linked n l.0 l.1 l.2))))
+    require (not (are_linked n l.0 l.1)) (Misshaped path)
+    (no_fault (link_fault n l.0 l.1 l.2) path (Accepted (linked n l.0 l.1 l.2))))
 
 abbrev pub links_judged : List ℕ → Network → Items → Judged Network
 links_judged path n ds = in_turn link_judged path n 0 ds

@@ -17,7 +17,8 @@ abbrev mutual
   kept_places (Apply t o ts) p = all_kept_places ts (suc p)
   kept_places (Nbr t a) p = p ∷ kept_places a (suc p)
   kept_places (Evolve t e a b) p = p ∷ (kept_places a (suc p) ++ kept_places b (suc p + size a))
-  kept_places (If t x a b) p = p ∷ (kept_places x (suc p) ++ kept_places a (suc p + size x) ++ kept_places b (suc p + size x + size a))
+  kept_places (If t x a b) p =
+      p ∷ (kept_places x (suc p) ++ kept_places a (suc p + size x) ++ kept_places b (suc p + size x + size a))
   kept_places (Let t a b) p = kept_places a (suc p) ++ kept_places b (suc p + size a)
 
   pub all_kept_places : Terms → ℕ → List ℕ

@@ -1,22 +1,25 @@
 -- What JSON values say: whole numbers, local values, and the members of objects.
-use Rattle.std.specs.Prelude.{ℕ, suc, Bool, false, min, List, Option, Some, None, option_map, option_and_then, nat_eq, nat_le, if◌then◌else◌}
-use Rattle.serde_json.specs.Data.{Data, null, boolean, number, string, array, object, Items, no_items, item, Members, no_members, member}
+use Rattle.std.specs.Prelude.{ℕ, suc, Bool, false, min, List, Option, Some, None, option_map, option_and_then, nat_eq}
+use Rattle.std.specs.Prelude.{nat_le, if◌then◌else◌}
+use Rattle.serde_json.specs.Data.{Data, null, boolean, number, string, array, object, Items, no_items, item, Members}
+use Rattle.serde_json.specs.Data.{no_members, member}
 use Rattle.serde_json.specs.Find.{get, as_number, as_u64, as_object}
+use Rattle.fc_values.specs.declared.limits.TheConstants.{GREATEST}
 use Rattle.fc_values.specs.Values.{LocalValue, IntValue, BoolValue, PairValue}
 
 -- a whole number: a JSON number without sign, fraction or exponent
 abbrev pub whole : Data → Option ℕ
 whole d = option_and_then as_u64 (as_number d)
 
--- a whole number of at most 1,000,000
+-- a whole number that a program may have
 abbrev pub if_small : ℕ → Option ℕ
-if_small n = if nat_le n 1000000 then Some n else None
+if_small n = if nat_le n GREATEST then Some n else None
 
 abbrev pub small : Data → Option ℕ
 small d = option_and_then if_small (whole d)
 
--- A whole number as a local value. Integers and ranges of programs end at 1,000,000, so one past 32 bits fits nowhere,
--- and it may stand for the greatest of 32 bits.
+-- A whole number as a local value. Integers and ranges of programs end far below, so one past 32 bits fits nowhere, and
+-- it may stand for the greatest of 32 bits.
 abbrev pub integer_value : ℕ → LocalValue
 integer_value n = IntValue (min n 4294967295)
 

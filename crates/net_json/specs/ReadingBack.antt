@@ -1,6 +1,7 @@
 -- A table that was written is read back.
 use Rattle.std.specs.Prelude.{ℕ, ◌≡◌, ◌≤◌, List, map}
 use Rattle.std.specs.List.{All}
+use Rattle.fc_values.specs.declared.limits.TheConstants.{GREATEST}
 use Rattle.fc_values.specs.Fields.{Rises}
 use Rattle.fc_nodes.specs.Program.{Unfolding}
 use Rattle.fc_nodes.specs.Flat.{IsWellTyped}
@@ -18,4 +19,4 @@ pub record AreTableRows (U : Unfolding) (n : Network) (rows : List Row) : Type 0
 -- where the ceiling is that of a program, a scene has the written table of such rows as these rows
 abbrev pub TablesReadBack : Type 0
 TablesReadBack = (U : Unfolding) (n : Network) (path : List ℕ) (rows : List Row)
-    → U.declared.ceiling ≤ 1000000 → AreTableRows U n rows → table_judged U n path (table_data U rows) ≡ Accepted rows
+    → U.declared.ceiling ≤ GREATEST → AreTableRows U n rows → table_judged U n path (table_data U rows) ≡ Accepted rows

@@ -60,8 +60,14 @@ scene_form d =
     and_then (given (Misshaped (scene_path (codes "devices"))) (as_array m.0)) (λ devices.
     and_then (given (Misshaped (scene_path (codes "links"))) (as_array m.1)) (λ links.
     require (is_table (or_empty (get (codes "table") d))) (Misshaped (scene_path (codes "table")))
-    (and_then (given (Misshaped (scene_path (codes "pending"))) (as_array (or_empty (get (codes "pending") d)))) (λ pending.
-    Accepted (record { devices = devices; links = links; table = or_empty (get (codes "table") d); pending = pending }))))))
+    (and_then
+    (given (Misshaped (scene_path (codes "pending"))) (as_array (or_empty (get (codes "pending") d)))) (λ pending.
+    Accepted (record {
+      devices = devices;
+      links = links;
+      table = or_empty (get (codes "table") d);
+      pending = pending;
+    }))))))
 
 -- the network of a scene: its devices, then its links
 abbrev pub network_judged : Unfolding → Items → Items → Judged Network

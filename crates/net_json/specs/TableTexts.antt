@@ -1,5 +1,6 @@
 -- The text of a table.
-use Rattle.std.specs.Prelude.{ℕ, suc, ◌+◌, Bool, false, List, [], ◌∷◌, ◌++◌, map, codes, Option, Some, None, if◌then◌else◌}
+use Rattle.std.specs.Prelude.{ℕ, suc, ◌+◌, Bool, false, List, [], ◌∷◌, ◌++◌, map, codes, Option, Some, None}
+use Rattle.std.specs.Prelude.{if◌then◌else◌}
 use Rattle.serde_json.specs.Data.{Data, number, unsigned, boolean, array, object, member, no_members}
 use Rattle.serde_json.specs.View.{items_of}
 use Rattle.serde_json.specs.Written.{compact_text}
@@ -41,7 +42,8 @@ abbrev mutual
   placed (Plain t l) p tree = []
   placed (Apply t o ts) p tree = placed_all ts (suc p) (kids_of tree)
   placed (Nbr t a) p tree = kept_at p (kept_of tree) ++ placed a (suc p) (child 0 tree)
-  placed (Evolve t e a b) p tree = kept_at p (kept_of tree) ++ placed a (suc p) (child 0 tree) ++ placed b (suc p + size a) (child 1 tree)
+  placed (Evolve t e a b) p tree =
+      kept_at p (kept_of tree) ++ placed a (suc p) (child 0 tree) ++ placed b (suc p + size a) (child 1 tree)
   placed (If t x a b) p tree =
       kept_at p (kept_of tree) ++ placed x (suc p) (child 0 tree)
       ++ (if takes_first (kept_of tree)

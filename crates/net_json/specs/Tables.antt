@@ -9,7 +9,8 @@ use Rattle.topology.specs.Networks.{Network}
 use Rattle.net_json.specs.Judging.{Judged, Accepted, Misshaped, and_then, given, require, gather, at_member}
 use Rattle.net_json.specs.Reading.{whole, value_of, two_members, three_members, is_exactly}
 use Rattle.net_json.specs.Devices.{live_number}
-use Rattle.net_json.specs.KeptItems.{KeptItem, item_of_values, item_of_places}
+use Rattle.value_trees.specs.KeptItems.{KeptItem}
+use Rattle.net_json.specs.KeptItems.{item_of_values, item_of_places}
 use Rattle.net_json.specs.Exports.{export_judged}
 
 -- a row: a device with its export
@@ -52,7 +53,8 @@ second_format path d =
 
 -- a table of format 2
 abbrev pub second_judged : Unfolding → Network → List ℕ → Data → Judged (List Row)
-second_judged U n path d = and_then (second_format path d) (λ ds. rows_judged U n item_of_places (at_member path (codes "rows")) ds)
+second_judged U n path d =
+    and_then (second_format path d) (λ ds. rows_judged U n item_of_places (at_member path (codes "rows")) ds)
 
 -- a table: an array of rows of format 1, or an object of format 2
 abbrev pub array_or : Unfolding → Network → List ℕ → Option Items → Judged (List Row) → Judged (List Row)

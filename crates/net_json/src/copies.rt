@@ -12,10 +12,12 @@ ghost use Rattle.value_trees.specs.Snaps.{tree_of, near_copy, snap_copy, IsExpor
 ghost use Rattle.topology.specs.Networks.{lives};
 ghost use Rattle.net_json.specs.PlaceCode.{path_of};
 ghost use Rattle.net_json.specs.Judging.{at_member, gather, Accepts, Refuses};
-ghost use Rattle.net_json.specs.Copies.{is_null_or_object, near_form, copy_form, other_number, weight_judged, near_judged, near_number, nears_judged, own_export, own_judged, parts_judged, copy_judged, copies_judged};
+ghost use Rattle.net_json.specs.Copies.{is_null_or_object, near_form, copy_form, other_number, weight_judged};
+ghost use Rattle.net_json.specs.Copies.{near_judged, near_number, nears_judged, own_export, own_judged, parts_judged};
+ghost use Rattle.net_json.specs.Copies.{copy_judged, copies_judged};
 ghost use Rattle.net_json.specs.CopyCode.{form_of};
 ghost use Rattle.net_json.specs.Places.{IsPlace};
-ghost use Rattle.net_json.specs.SceneCode.{AreCopies};
+ghost use Rattle.net_json.specs.SceneCode.{AreCopies, IsCopy};
 
 use crate::copy_forms::{CopyForm, form, near_form};
 use crate::exports::read_export;
@@ -23,18 +25,19 @@ use crate::inputs::read_inputs;
 use crate::kept::Format;
 use crate::numbers::live_number;
 use crate::places::Place;
+use crate::readers::{Found, Reader, gather};
 use crate::rising::room;
 use crate::types::JsonFault;
 use crate::values::{local, two_members};
 use arrayvec::ArrayVec;
 use fc_nodes::Unfolded;
-use fc_values::{Declared, Export};
+use fc_values::{Declared, Export, MOST_LINKS};
 use serde_json::Value;
 use std::alloc::Global;
-use topology::{NetFault, Network};
+use topology::{GREATEST_NUMBER, NetFault, Network};
 use value_trees::{Near, Snap};
 
-/// The export of an object with a value and a kept list.
+// The export of an object with a value and a kept list.
 #[tactic(auto, using(crate::proofs::Judgements::refused_next))]
 fn read_own_export(
     alloc: Global,
@@ -59,7 +62,7 @@ fn read_own_export(
     read_export(alloc, program, Format::Values, here, value, kept)
 }
 
-/// The own export of a copy, if it has one.
+// The own export of a copy, if it has one.
 #[tactic(auto, using(crate::proofs::Judgements::refused_next))]
 fn read_own(
     alloc: Global,
@@ -79,7 +82,7 @@ fn read_own(
     Ok(Some(export))
 }
 
-/// The number of a neighbour of a device, with its place among those before.
+// The number of a neighbour of a device, with its place among those before.
 #[tactic(auto, using(crate::proofs::Judgements::refused_next))]
 fn other_number(
     alloc: Global,
@@ -95,7 +98,7 @@ fn other_number(
     ensures other { IfOk result (λ n. n.1 ≢ device) }
     ensures refused { Refuses result (other_number device numbers.now (at_member (path_of here.now) (codes "id")) id) }
 {
-    if id > 65_535 || id == device as u64 {
+    if id > GREATEST_NUMBER as u64 || id == device as u64 {
         return Err(JsonFault::Shape(here.member(alloc, b"id")?));
     }
     let id = id as u32;
@@ -105,7 +108,7 @@ fn other_number(
     }
 }
 
-/// The weight of a neighbour.
+// The weight of a neighbour.
 fn weight_within(
     alloc: Global,
     declared: &Declared,
@@ -127,7 +130,44 @@ fn weight_within(
     }
 }
 
-/// A neighbour of a device, with the place of its number among those before.
+// What reads the neighbours of a device.
+#[derive(Clone, Copy)]
+struct Nears<'n> {
+    program: &'n Unfolded,
+    device: u32,
+}
+
+impl Reader for Nears<'_> {
+    ghost use Rattle.fc_nodes.specs.Program.{unfolding_of};
+    ghost use Rattle.fc_values.specs.Trees.{NearCopy};
+    ghost use Rattle.value_trees.specs.Fitting.{IsNear};
+    ghost use Rattle.value_trees.specs.Snaps.{near_copy};
+    ghost use Rattle.net_json.specs.Copies.{near_judged, near_number};
+
+    type Thing = Near;
+
+    ghost Meaning = { NearCopy };
+
+    ghost meaning = { λ s n. near_copy (unfolding_of s.program.now) n };
+
+    ghost number = { near_number };
+
+    ghost judge = { λ s. near_judged (unfolding_of s.program.now) s.device };
+
+    ghost fits = { λ s n. IsNear (unfolding_of s.program.now) s.device n };
+
+    fn read(
+        &self,
+        alloc: Global,
+        numbers: &[u32],
+        here: &Place<'_>,
+        value: &Value,
+    ) -> Result<Found<Near>, JsonFault> {
+        read_near(alloc, self.program, self.device, numbers, here, value)
+    }
+}
+
+// A neighbour of a device beside the numbers of those before.
 #[tactic(auto, using(crate::proofs::Judgements::refused_next))]
 fn read_near(
     alloc: Global,
@@ -136,12 +176,13 @@ fn read_near(
     numbers: &[u32],
     here: &Place<'_>,
     value: &Value,
-) -> Result<(usize, Near), JsonFault>
+) -> Result<Found<Near>, JsonFault>
     requires { Rises numbers.now }
-    ensures ok { let U = unfolding_of program.now in Accepts result (λ n. near_copy U n.1)
+    ensures ok { let U = unfolding_of program.now in Accepts result (λ n. near_copy U n.thing)
         (near_judged U device numbers.now (path_of here.now) (view value.now)) }
-    ensures place { IfOk result (λ n. IsPlace numbers.now n.1.device n.0) }
-    ensures near { IfOk result (λ n. IsNear (unfolding_of program.now) device n.1) }
+    ensures place { IfOk result (λ n. IsPlace numbers.now n.number n.at) }
+    ensures number { IfOk result (λ n. n.number ≡ n.thing.device) }
+    ensures near { IfOk result (λ n. IsNear (unfolding_of program.now) device n.thing) }
     ensures refused { Refuses result
         (near_judged (unfolding_of program.now) device numbers.now (path_of here.now) (view value.now)) }
 {
@@ -149,66 +190,71 @@ fn read_near(
     let (at, id) = other_number(alloc, device, numbers, here, form.id)?;
     let weight = weight_within(alloc, program.declared(), here, form.weight)?;
     let export = read_export(alloc, program, Format::Values, here, form.value, form.kept)?;
-    Ok((
+    Ok(Found {
         at,
-        Near {
+        number: id,
+        thing: Near {
             device: id,
             weight,
             export,
         },
-    ))
+    })
 }
 
-/// At most 32 neighbours of a device, by rising numbers.
-#[tactic(auto, using(crate::proofs::Judgements::refused_next))]
+// Neighbours in a list of the room that a copy has for them.
+fn in_room(alloc: Global, list: Vec<Near>) -> ArrayVec<Near, MOST_LINKS, Global>
+    requires { length list.items ≤ MOST_LINKS }
+    ensures { result.items ≡ list.items }
+{
+    let mut nears = ArrayVec::new_in(alloc);
+    for near in list {
+        nears.push(near);
+    }
+    nears
+}
+
+// The neighbours of a device, no more than it can have, by rising numbers.
 fn gather_nears(
     alloc: Global,
     program: &Unfolded,
     device: u32,
     here: &Place<'_>,
     items: &[Value],
-) -> Result<ArrayVec<Near, 32, Global>, JsonFault>
-    requires { length items.now ≤ 32 }
+) -> Result<ArrayVec<Near, MOST_LINKS, Global>, JsonFault>
+    requires { length items.now ≤ MOST_LINKS }
     ensures ok { let U = unfolding_of program.now in Accepts result (λ ns. map (near_copy U) ns.items)
         (gather near_number (near_judged U device) (path_of here.now) (items_view items.now)) }
     ensures near { IfOk result (λ ns. NearRises (unfolding_of program.now) device ns.items) }
-    ensures few { IfOk result (λ ns. length ns.items ≤ 32) }
+    ensures few { IfOk result (λ ns. length ns.items ≤ MOST_LINKS) }
     ensures refused { Refuses result
         (gather near_number (near_judged (unfolding_of program.now) device) (path_of here.now) (items_view items.now)) }
 {
-    let mut numbers = Vec::new(alloc);
-    let mut nears = ArrayVec::new_in(alloc);
-    for (i, item) in items.iter().enumerate() {
-        let place = Place::Item(&*here, i);
-        let (at, near) = read_near(alloc, program, device, &numbers, &place, item)?;
-        numbers.insert(at, near.device)?;
-        nears.insert(at, near);
-    }
-    Ok(nears)
+    let list = gather(alloc, &Nears { program, device }, here, items)?;
+    Ok(in_room(alloc, list))
 }
 
-/// The neighbours of a device, by rising numbers.
+// The neighbours of a device, by rising numbers.
 fn read_nears(
     alloc: Global,
     program: &Unfolded,
     device: u32,
     here: &Place<'_>,
     items: &[Value],
-) -> Result<ArrayVec<Near, 32, Global>, JsonFault>
+) -> Result<ArrayVec<Near, MOST_LINKS, Global>, JsonFault>
     ensures ok { let U = unfolding_of program.now in Accepts result (λ ns. map (near_copy U) ns.items)
         (nears_judged U device (path_of here.now) (items_view items.now)) }
     ensures near { IfOk result (λ ns. NearRises (unfolding_of program.now) device ns.items) }
-    ensures few { IfOk result (λ ns. length ns.items ≤ 32) }
+    ensures few { IfOk result (λ ns. length ns.items ≤ MOST_LINKS) }
     ensures refused { Refuses result
         (nears_judged (unfolding_of program.now) device (path_of here.now) (items_view items.now)) }
 {
-    if items.len() > 32 {
+    if items.len() > MOST_LINKS {
         return Err(JsonFault::Shape(here.path(alloc)?));
     }
     gather_nears(alloc, program, device, here, items)
 }
 
-/// The copy of a device, out of what it holds by its form.
+// The copy of a device, out of what it holds by its form.
 #[tactic(auto, using(crate::proofs::Judgements::refused_next))]
 fn read_parts(
     alloc: Global,
@@ -239,7 +285,44 @@ fn read_parts(
     })
 }
 
-/// A copy, with the place of its number among those before.
+// What reads the copies of a scene.
+#[derive(Clone, Copy)]
+struct Copies<'c> {
+    program: &'c Unfolded,
+    net: &'c Network,
+}
+
+impl Reader for Copies<'_> {
+    ghost use Rattle.fc_nodes.specs.Program.{unfolding_of};
+    ghost use Rattle.fc_values.specs.Trees.{Copy};
+    ghost use Rattle.value_trees.specs.Snaps.{snap_copy};
+    ghost use Rattle.net_json.specs.Copies.{copy_judged, copy_number};
+    ghost use Rattle.net_json.specs.SceneCode.{IsCopy};
+
+    type Thing = Snap;
+
+    ghost Meaning = { Copy };
+
+    ghost meaning = { λ s c. snap_copy (unfolding_of s.program.now) c };
+
+    ghost number = { copy_number };
+
+    ghost judge = { λ s. copy_judged (unfolding_of s.program.now) s.net.now };
+
+    ghost fits = { λ s c. IsCopy (unfolding_of s.program.now) s.net.now c };
+
+    fn read(
+        &self,
+        alloc: Global,
+        numbers: &[u32],
+        here: &Place<'_>,
+        value: &Value,
+    ) -> Result<Found<Snap>, JsonFault> {
+        read_copy(alloc, self.program, self.net, numbers, here, value)
+    }
+}
+
+// A copy beside the numbers of those before.
 #[tactic(auto, using(crate::proofs::Judgements::refused_next))]
 fn read_copy(
     alloc: Global,
@@ -248,24 +331,27 @@ fn read_copy(
     numbers: &[u32],
     here: &Place<'_>,
     value: &Value,
-) -> Result<(usize, Snap), JsonFault>
+) -> Result<Found<Snap>, JsonFault>
     requires { Rises numbers.now }
-    ensures ok { let U = unfolding_of program.now in Accepts result (λ s. snap_copy U s.1)
+    ensures ok { let U = unfolding_of program.now in Accepts result (λ s. snap_copy U s.thing)
         (copy_judged U net.now numbers.now (path_of here.now) (view value.now)) }
-    ensures place { IfOk result (λ s. IsPlace numbers.now s.1.device s.0) }
-    ensures there { IfOk result (λ s. lives net.now s.1.device ≡ true) }
-    ensures snap { IfOk result (λ s. IsSnap (unfolding_of program.now) s.1) }
+    ensures place { IfOk result (λ s. IsPlace numbers.now s.number s.at) }
+    ensures number { IfOk result (λ s. s.number ≡ s.thing.device) }
+    ensures copy { IfOk result (λ s. IsCopy (unfolding_of program.now) net.now s.thing) }
     ensures refused { Refuses result
         (copy_judged (unfolding_of program.now) net.now numbers.now (path_of here.now) (view value.now)) }
 {
     let form = form(alloc, here, value)?;
     let (at, device) = live_number(alloc, net, numbers, here, form.id)?;
     let copy = read_parts(alloc, program, here, device, form)?;
-    Ok((at, copy))
+    Ok(Found {
+        at,
+        number: device,
+        thing: copy,
+    })
 }
 
 /// The copies of a list, by rising numbers.
-#[tactic(auto, using(crate::proofs::Judgements::refused_next))]
 pub(crate) fn read_copies(
     alloc: Global,
     program: &Unfolded,
@@ -279,13 +365,6 @@ pub(crate) fn read_copies(
     ensures refused { Refuses result
         (copies_judged (unfolding_of program.now) net.now (path_of here.now) (items_view items.now)) }
 {
-    let mut numbers = Vec::new(alloc);
-    let mut copies = Vec::new(alloc);
-    for (i, item) in items.iter().enumerate() {
-        let place = Place::Item(&*here, i);
-        let (at, copy) = read_copy(alloc, program, net, &numbers, &place, item)?;
-        numbers.insert(at, copy.device)?;
-        copies.insert(at, copy)?;
-    }
+    let copies = gather(alloc, &Copies { program, net }, here, items)?;
     Ok(copies)
 }

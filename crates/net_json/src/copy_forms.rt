@@ -15,7 +15,7 @@ use fc_values::Local;
 use serde_json::Value;
 use std::alloc::Global;
 
-/// Whether a value is null or an object.
+// Whether a value is null or an object.
 fn is_null_or_object(value: &Value) -> bool
     ensures { result ≡ is_null_or_object (view value.now) }
 {

@@ -1,26 +1,27 @@
 //! The devices of a scene.
 
-ghost use Rattle.std.specs.Prelude.{IfOk, map, codes};
+ghost use Rattle.std.specs.Prelude.{◌≡◌, IfOk, map, codes};
 ghost use Rattle.serde_json.specs.View.{view, items_view};
 ghost use Rattle.fc_values.specs.Types.{input_of};
 ghost use Rattle.fc_values.specs.Fields.{Rises};
 ghost use Rattle.topology.specs.Networks.{device_of, numbers};
 ghost use Rattle.net_json.specs.PlaceCode.{path_of};
-ghost use Rattle.net_json.specs.Judging.{at_member, gather, Accepts, Refuses};
+ghost use Rattle.net_json.specs.Judging.{at_member, Accepts, Refuses};
 ghost use Rattle.net_json.specs.Devices.{device_form, device_number, device_judged, number_of, devices_judged};
 ghost use Rattle.net_json.specs.Places.{IsPlace};
 
 use crate::inputs::read_inputs;
 use crate::places::Place;
+use crate::readers::{Found, Reader, gather};
 use crate::rising::room;
 use crate::types::JsonFault;
 use crate::values::{two_members, whole};
 use fc_values::InputDecl;
 use serde_json::Value;
 use std::alloc::Global;
-use topology::{Device, NetFault};
+use topology::{Device, GREATEST_NUMBER, MOST_DEVICES, NetFault};
 
-/// The number and the inputs of a device, by its form.
+// The number and the inputs of a device, by its form.
 #[tactic(auto, using(crate::proofs::Judgements::refused_next))]
 fn form<'v>(
     alloc: Global,
@@ -42,7 +43,7 @@ fn form<'v>(
     Ok((id, inputs))
 }
 
-/// The number of a device, with its place among those of the devices before.
+// The number of a device, with its place among those of the devices before.
 #[tactic(auto, using(crate::proofs::Judgements::refused_next))]
 fn number(
     alloc: Global,
@@ -55,7 +56,7 @@ fn number(
     ensures place { IfOk result (λ d. IsPlace numbers.now d.1 d.0) }
     ensures refused { Refuses result (device_number numbers.now (at_member (path_of here.now) (codes "id")) id) }
 {
-    if id > 65_535 {
+    if id > GREATEST_NUMBER as u64 {
         return Err(JsonFault::Shape(here.member(alloc, b"id")?));
     }
     let id = id as u32;
@@ -65,7 +66,42 @@ fn number(
     }
 }
 
-/// A device, with the place of its number among those of the devices before.
+// What reads the devices of a scene.
+#[derive(Clone, Copy)]
+struct Devices<'d> {
+    inputs: &'d [InputDecl],
+}
+
+impl Reader for Devices<'_> {
+    ghost use Rattle.std.specs.Prelude.{map};
+    ghost use Rattle.fc_values.specs.Types.{input_of};
+    ghost use Rattle.topology.specs.Networks.{NetDevice, device_of};
+    ghost use Rattle.net_json.specs.Devices.{device_judged, number_of};
+
+    type Thing = Device;
+
+    ghost Meaning = { NetDevice };
+
+    ghost meaning = { λ _ d. device_of d };
+
+    ghost number = { number_of };
+
+    ghost judge = { λ s. device_judged (map input_of s.inputs.now) };
+
+    ghost fits = { λ _ _. Unit {0} };
+
+    fn read(
+        &self,
+        alloc: Global,
+        numbers: &[u32],
+        here: &Place<'_>,
+        value: &Value,
+    ) -> Result<Found<Device>, JsonFault> {
+        read_device(alloc, self.inputs, numbers, here, value)
+    }
+}
+
+// A device beside the numbers of those before.
 #[tactic(auto, using(crate::proofs::Judgements::refused_next))]
 fn read_device(
     alloc: Global,
@@ -73,11 +109,12 @@ fn read_device(
     numbers: &[u32],
     here: &Place<'_>,
     value: &Value,
-) -> Result<(usize, Device), JsonFault>
+) -> Result<Found<Device>, JsonFault>
     requires { Rises numbers.now }
-    ensures ok { Accepts result (λ d. device_of d.1)
+    ensures ok { Accepts result (λ d. device_of d.thing)
         (device_judged (map input_of inputs.now) numbers.now (path_of here.now) (view value.now)) }
-    ensures place { IfOk result (λ d. IsPlace numbers.now d.1.id d.0) }
+    ensures place { IfOk result (λ d. IsPlace numbers.now d.number d.at) }
+    ensures number { IfOk result (λ d. d.number ≡ d.thing.id) }
     ensures refused { Refuses result
         (device_judged (map input_of inputs.now) numbers.now (path_of here.now) (view value.now)) }
 {
@@ -85,31 +122,11 @@ fn read_device(
     let (at, id) = number(alloc, numbers, here, id)?;
     let inner = Place::Member(here, b"inputs");
     let inputs = read_inputs(alloc, inputs, &inner, members)?;
-    Ok((at, Device { id, inputs }))
-}
-
-/// The devices of a list, by rising numbers.
-#[tactic(auto, using(crate::proofs::Judgements::refused_next))]
-fn gather_devices(
-    alloc: Global,
-    inputs: &[InputDecl],
-    here: &Place<'_>,
-    items: &[Value],
-) -> Result<Vec<Device>, JsonFault>
-    ensures ok { Accepts result (λ ds. map device_of ds.items)
-        (gather number_of (device_judged (map input_of inputs.now)) (path_of here.now) (items_view items.now)) }
-    ensures refused { Refuses result
-        (gather number_of (device_judged (map input_of inputs.now)) (path_of here.now) (items_view items.now)) }
-{
-    let mut numbers = Vec::new(alloc);
-    let mut devices = Vec::new(alloc);
-    for (i, item) in items.iter().enumerate() {
-        let place = Place::Item(&*here, i);
-        let (at, device) = read_device(alloc, inputs, &numbers, &place, item)?;
-        numbers.insert(at, device.id)?;
-        devices.insert(at, device)?;
-    }
-    Ok(devices)
+    Ok(Found {
+        at,
+        number: id,
+        thing: Device { id, inputs },
+    })
 }
 
 /// The devices of a scene, by rising numbers.
@@ -127,8 +144,8 @@ pub(crate) fn read_devices(
     if items.is_empty() {
         return Err(JsonFault::Shape(here.path(alloc)?));
     }
-    if items.len() > 1024 {
+    if items.len() > MOST_DEVICES {
         return Err(JsonFault::Devices(items.len()));
     }
-    gather_devices(alloc, inputs, here, items)
+    gather(alloc, &Devices { inputs }, here, items)
 }

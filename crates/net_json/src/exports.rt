@@ -11,19 +11,18 @@ ghost use Rattle.value_trees.specs.Snaps.{tree_of, IsExportOf};
 ghost use Rattle.value_trees.specs.Walks.{FitsMain};
 ghost use Rattle.net_json.specs.PlaceCode.{path_of};
 ghost use Rattle.net_json.specs.Judging.{Accepts, Refuses};
-ghost use Rattle.net_json.specs.KeptItems.{take_tree};
-ghost use Rattle.net_json.specs.KeptCode.{kept_of, item_by};
+ghost use Rattle.value_trees.specs.KeptItems.{kept_of, take_main};
+ghost use Rattle.net_json.specs.KeptCode.{item_by};
 ghost use Rattle.net_json.specs.Exports.{whole_export, export_judged};
 
-use crate::kept::{Format, Item, read_items};
-use crate::misfits::misfit;
+use crate::kept::{Format, read_items};
 use crate::places::Place;
 use crate::types::JsonFault;
 use fc_nodes::Unfolded;
-use fc_values::{Export, Local, Memory};
+use fc_values::{Export, Local};
 use serde_json::Value;
 use std::alloc::Global;
-use value_trees::{KeptFault, fits_main, from_kept};
+use value_trees::{Item, KeptFault, fits_main, from_items};
 
 /// The export with a value and a kept list, both of the object at a path.
 #[tactic(auto, using(crate::proofs::Judgements::refused_next))]
@@ -39,7 +38,8 @@ pub(crate) fn read_export(
         (export_judged U (item_by format) (path_of here.now) (local_of value) (items_view kept.now)) }
     ensures export { IfOk result (λ e. IsExportOf (unfolding_of program.now) e) }
     ensures refused { Refuses result
-        (export_judged (unfolding_of program.now) (item_by format) (path_of here.now) (local_of value) (items_view kept.now)) }
+        (export_judged (unfolding_of program.now) (item_by format) (path_of here.now) (local_of value)
+        (items_view kept.now)) }
 {
     if !value_fits(program, &value) {
         return Err(JsonFault::Shape(here.member(alloc, b"value")?));
@@ -49,7 +49,7 @@ pub(crate) fn read_export(
     export_of_items(alloc, program, here, value, items)
 }
 
-/// The export with a value and the items of a kept list.
+// The export with a value and the items of a kept list.
 fn export_of_items(
     alloc: Global,
     program: &Unfolded,
@@ -59,31 +59,16 @@ fn export_of_items(
 ) -> Result<Export, JsonFault>
     requires { FitsMain (unfolding_of program.now) (local_of value) }
     ensures ok { let U = unfolding_of program.now in Accepts result (tree_of U)
-        (whole_export U (path_of here.now) (local_of value) (take_tree program.now.declared.ceiling U.main 0 (map kept_of items.items))) }
+        (whole_export U (path_of here.now) (local_of value) (take_main U (map kept_of items.items))) }
     ensures export { IfOk result (λ e. IsExportOf (unfolding_of program.now) e) }
     ensures refused { let U = unfolding_of program.now in Refuses result
-        (whole_export U (path_of here.now) (local_of value) (take_tree program.now.declared.ceiling U.main 0 (map kept_of items.items))) }
+        (whole_export U (path_of here.now) (local_of value) (take_main U (map kept_of items.items))) }
 {
-    if let Some(place) = misfit(program, &items) {
-        return Err(JsonFault::Kept(here.path(alloc)?, place));
-    }
-    let list = values_of(alloc, items)?;
-    match from_kept(alloc, program, value, list) {
+    match from_items(alloc, program, value, &items) {
         Ok(export) => Ok(export),
+        Err(KeptFault::At(place)) => Err(JsonFault::Kept(here.path(alloc)?, place)),
         Err(KeptFault::Memory) => Err(JsonFault::Memory),
-        Err(KeptFault::At(_)) => unreachable!(),
     }
-}
-
-/// The values of items.
-fn values_of(alloc: Global, items: Vec<Item>) -> Result<Vec<Local>, Memory>
-    ensures { IfOk result (λ list. map local_of list.items ≡ map (λ x. local_of x.value) items.items) }
-{
-    let mut list = Vec::new(alloc);
-    for item in items {
-        list.push(item.value)?;
-    }
-    Ok(list)
 }
 
 // The test of a value against the type of `main`, as the definitions have it.

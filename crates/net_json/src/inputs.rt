@@ -18,7 +18,7 @@ use serde_json::Value;
 use std::alloc::Global;
 use topology::input_fault;
 
-/// The member of a declared name.
+// The member of a declared name.
 fn member<'v>(value: &'v Value, name: &Name) -> Option<&'v Value>
     ensures { option_map (λ v. view v.now) result ≡ get name.now.text.items (view value.now) }
 {
@@ -29,7 +29,7 @@ fn member<'v>(value: &'v Value, name: &Name) -> Option<&'v Value>
     }
 }
 
-/// Whether the declared names are members of an object.
+// Whether the declared names are members of an object.
 fn has_names(inputs: &[InputDecl], value: &Value) -> bool
     ensures { result ≡ has_names (map input_of inputs.now) (view value.now) }
 {
@@ -41,7 +41,7 @@ fn has_names(inputs: &[InputDecl], value: &Value) -> bool
     true
 }
 
-/// The value of an input of an object.
+// The value of an input of an object.
 #[tactic(auto, using(crate::proofs::Judgements::refused_next))]
 fn input(
     alloc: Global,

@@ -5,27 +5,22 @@ ghost use Rattle.serde_json.specs.View.{view, items_view};
 ghost use Rattle.net_json.specs.PlaceCode.{path_of};
 ghost use Rattle.net_json.specs.Judging.{in_turn, Accepts, Refuses};
 ghost use Rattle.net_json.specs.KeptItems.{item_of_values, item_of_places, kept_judged};
-ghost use Rattle.net_json.specs.KeptCode.{kept_of, item_by};
+ghost use Rattle.value_trees.specs.KeptItems.{kept_of};
+ghost use Rattle.net_json.specs.KeptCode.{item_by};
 
 use crate::places::Place;
 use crate::types::JsonFault;
 use crate::values::{local, whole};
-use fc_values::{Local, Memory};
+use fc_values::Memory;
 use serde_json::Value;
 use std::alloc::Global;
+use value_trees::Item;
 
 /// How the items of a kept list are written: as values, or each with its place.
 #[derive(Clone, Copy)]
 pub(crate) enum Format {
     Values,
     Places,
-}
-
-/// An item of a kept list: its value, and the place that it names, if it names one.
-#[derive(Drop)]
-pub(crate) struct Item {
-    pub(crate) place: Option<u64>,
-    pub(crate) value: Local,
 }
 
 /// The items of a kept list in a format.
@@ -51,7 +46,7 @@ pub(crate) fn read_items(
     Ok(found)
 }
 
-/// The item that a value is in a format.
+// The item that a value is in a format.
 fn read_item(alloc: Global, format: Format, value: &Value) -> Result<Option<Item>, Memory>
     ensures { IfOk result (λ x. option_map kept_of x ≡ item_by format (view value.now)) }
 {
@@ -61,7 +56,7 @@ fn read_item(alloc: Global, format: Format, value: &Value) -> Result<Option<Item
     }
 }
 
-/// The item that a local value is.
+// The item that a local value is.
 fn plain_item(alloc: Global, value: &Value) -> Result<Option<Item>, Memory>
     ensures { IfOk result (λ x. option_map kept_of x ≡ item_of_values (view value.now)) }
 {
@@ -71,7 +66,7 @@ fn plain_item(alloc: Global, value: &Value) -> Result<Option<Item>, Memory>
     Ok(Some(Item { place: None, value }))
 }
 
-/// The item that an array of a place and a local value is.
+// The item that an array of a place and a local value is.
 fn placed_item(alloc: Global, value: &Value) -> Result<Option<Item>, Memory>
     ensures { IfOk result (λ x. option_map kept_of x ≡ item_of_places (view value.now)) }
 {

@@ -9,10 +9,10 @@ mod inputs;
 mod kept;
 mod laws;
 mod links;
-mod misfits;
 mod networks;
 mod numbers;
 mod places;
+mod readers;
 mod rising;
 mod rows;
 mod scenes;
@@ -21,9 +21,7 @@ mod texts;
 mod types;
 mod values;
 
-pub use laws::{
-    accepted_lists_are_kept, accepted_scenes_fit, plain_lists_misfit_as_values, tables_read_back,
-};
+pub use laws::{accepted_lists_are_kept, accepted_scenes_fit, tables_read_back};
 pub use scenes::read_scene;
 pub use texts::write_table;
 pub use types::{JsonFault, Path, Scene};

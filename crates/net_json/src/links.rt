@@ -13,7 +13,7 @@ use serde_json::Value;
 use std::alloc::Global;
 use topology::{Draft, Network};
 
-/// Two devices and a weight.
+// Two devices and a weight.
 fn link_of(value: &Value) -> Option<(u32, u32, u32)>
     ensures { result ≡ link_of (view value.now) }
 {
@@ -27,7 +27,7 @@ fn link_of(value: &Value) -> Option<(u32, u32, u32)>
     Some((a, b, weight))
 }
 
-/// Adds a link that no link before has the pair of.
+// Adds a link that no link before has the pair of.
 #[tactic(auto, using(crate::proofs::Judgements::refused_next))]
 fn add_link(
     alloc: Global,

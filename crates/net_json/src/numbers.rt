@@ -14,7 +14,7 @@ use crate::types::JsonFault;
 use std::alloc::Global;
 use topology::Network;
 
-/// The number of a device, if this is one. None has a number past 65,535.
+// The number of a device, if this is one. None has a number past 65,535.
 fn device(net: &Network, id: u64) -> Option<u32>
     ensures number { IfSome result (λ d. d ≡ id) }
     ensures lives { IfSome result (λ d. lives net.now d ≡ true) }

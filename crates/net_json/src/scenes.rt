@@ -7,7 +7,8 @@ ghost use Rattle.fc_nodes.specs.Program.{unfolding_of};
 ghost use Rattle.net_json.specs.PlaceCode.{path_of};
 ghost use Rattle.net_json.specs.Judging.{Accepts, Refuses};
 ghost use Rattle.net_json.specs.SceneCode.{row_of, value_of_scene, AreRows, AreCopies};
-ghost use Rattle.net_json.specs.Scenes.{or_empty, one_if_there, scene_members, is_table, scene_form, scene_judged, scene_of, scene_path};
+ghost use Rattle.net_json.specs.Scenes.{or_empty, one_if_there, scene_members, is_table, scene_form, scene_judged};
+ghost use Rattle.net_json.specs.Scenes.{scene_of, scene_path};
 ghost use Rattle.net_json.specs.Tables.{table_judged};
 
 use crate::copies::read_copies;
@@ -38,7 +39,7 @@ pub fn read_scene(alloc: Global, program: &Unfolded, text: &[u8]) -> Result<Scen
     }
 }
 
-/// The scene of a JSON value.
+// The scene of a JSON value.
 #[tactic(auto, using(crate::proofs::Judgements::refused_next))]
 fn read_value(alloc: Global, program: &Unfolded, value: &Value) -> Result<Scene, JsonFault>
     ensures ok { let U = unfolding_of program.now in Accepts result (value_of_scene U)
@@ -62,7 +63,7 @@ fn read_value(alloc: Global, program: &Unfolded, value: &Value) -> Result<Scene,
     })
 }
 
-/// The rows of a table, none where it is missing.
+// The rows of a table, none where it is missing.
 fn read_rows(
     alloc: Global,
     program: &Unfolded,
@@ -74,7 +75,8 @@ fn read_rows(
         (table_judged U net.now (path_of here.now) (or_empty (option_map (λ v. view v.now) table.entry))) }
     ensures rows { IfOk result (λ rows. AreRows (unfolding_of program.now) net.now rows.items) }
     ensures refused { Refuses result
-        (table_judged (unfolding_of program.now) net.now (path_of here.now) (or_empty (option_map (λ v. view v.now) table.entry))) }
+        (table_judged (unfolding_of program.now) net.now (path_of here.now)
+        (or_empty (option_map (λ v. view v.now) table.entry))) }
 {
     match table {
         Some(table) => read_table(alloc, program, net, here, table),
@@ -82,7 +84,7 @@ fn read_rows(
     }
 }
 
-/// The parts of a scene: three lists, and a table if there is one.
+// The parts of a scene: three lists, and a table if there is one.
 #[derive(Clone, Copy)]
 struct SceneForm<'v> {
     devices: &'v [Value],
@@ -91,7 +93,7 @@ struct SceneForm<'v> {
     pending: &'v [Value],
 }
 
-/// The parts of a scene, by its form.
+// The parts of a scene, by its form.
 #[tactic(auto, using(crate::proofs::Judgements::refused_next))]
 fn form<'v>(alloc: Global, value: &'v Value) -> Result<SceneForm<'v>, JsonFault>
     ensures ok { Accepts result
@@ -129,7 +131,7 @@ fn form<'v>(alloc: Global, value: &'v Value) -> Result<SceneForm<'v>, JsonFault>
     })
 }
 
-/// The members `devices` and `links` of an object that has both, at most beside `table` and `pending`.
+// The members `devices` and `links` of an object that has both, at most beside `table` and `pending`.
 fn scene_members(value: &Value) -> Option<(&Value, &Value)>
     ensures { option_map (λ m. (view m.0.now, view m.1.now)) result ≡ scene_members (view value.now) }
 {
@@ -142,7 +144,7 @@ fn scene_members(value: &Value) -> Option<(&Value, &Value)>
     Some((devices, links))
 }
 
-/// How many members have a name: one or none.
+// How many members have a name: one or none.
 fn one_if_there(value: &Value, name: &str) -> usize
     ensures value { result ≡ one_if_there (get name.now (view value.now)) }
     ensures most { result ≤ 1 }
@@ -153,7 +155,7 @@ fn one_if_there(value: &Value, name: &str) -> usize
     }
 }
 
-/// Whether a table is missing, an array or an object.
+// Whether a table is missing, an array or an object.
 fn is_table(table: Option<&Value>) -> bool
     ensures { result ≡ is_table (or_empty (option_map (λ v. view v.now) table.entry)) }
 {
@@ -163,7 +165,7 @@ fn is_table(table: Option<&Value>) -> bool
     }
 }
 
-/// The items of an array, none where it is missing.
+// The items of an array, none where it is missing.
 fn list_or_none(value: Option<&Value>) -> Option<&[Value]>
     ensures { option_map (λ v. items_view v.now) result ≡ as_array
         (or_empty (option_map (λ v. view v.now) value.entry)) }

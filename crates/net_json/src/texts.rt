@@ -38,7 +38,7 @@ pub fn write_table(
     Ok(text)
 }
 
-/// A table in format 2.
+// A table in format 2.
 fn table_value(alloc: Global, program: &Unfolded, table: &[(u32, &Export)]) -> Result<Value, Memory>
     requires { All (λ r. IsExportOf (unfolding_of program.now) r.1.now) table.now }
     ensures data { let U = unfolding_of program.now in IfOk result
@@ -54,7 +54,7 @@ fn table_value(alloc: Global, program: &Unfolded, table: &[(u32, &Export)]) -> R
     Ok(value)
 }
 
-/// The object of a table in format 2.
+// The object of a table in format 2.
 fn table_object(alloc: Global, rows: Vec<Value>) -> Result<Value, AllocError>
     ensures { IfOk result
         (λ v. view v ≡ object (member (codes "format") (whole_data 2)
@@ -63,7 +63,7 @@ fn table_object(alloc: Global, rows: Vec<Value>) -> Result<Value, AllocError>
     json!(in alloc; {"format": 2_u32, "rows": Value::Array(rows)})
 }
 
-/// The places of the nodes that keep a value.
+// The places of the nodes that keep a value.
 fn places_of(alloc: Global, program: &Unfolded) -> Result<Vec<u32>, Memory>
     ensures places { IfOk result (λ ps. ps.items ≡ kept_places (unfolding_of program.now).main 0) }
     ensures program { IsProgram program.now }
@@ -75,7 +75,7 @@ fn places_of(alloc: Global, program: &Unfolded) -> Result<Vec<u32>, Memory>
     Ok(places)
 }
 
-/// Puts the place of a node behind others, if the node keeps a value.
+// Puts the place of a node behind others, if the node keeps a value.
 fn push_place(places: &mut Vec<u32>, node: &Node, place: u32) -> Result<(), Memory>
     ensures { OnOk result (places.new.items ≡ places.old.items ++ more_if (is_some (node_keeps node.now)) place []) }
 {
@@ -85,7 +85,7 @@ fn push_place(places: &mut Vec<u32>, node: &Node, place: u32) -> Result<(), Memo
     Ok(())
 }
 
-/// Whether a node keeps a value.
+// Whether a node keeps a value.
 fn keeps(node: &Node) -> bool
     ensures { result ≡ is_some (node_keeps node.now) }
 {
@@ -95,7 +95,7 @@ fn keeps(node: &Node) -> bool
     }
 }
 
-/// A row: a device, what its export keeps, by places, and its value.
+// A row: a device, what its export keeps, by places, and its value.
 fn row_value(
     alloc: Global,
     program: &Unfolded,
@@ -114,7 +114,7 @@ fn row_value(
     Ok(row)
 }
 
-/// The object of a row.
+// The object of a row.
 fn row_object(alloc: Global, id: u32, kept: Value, value: Value) -> Result<Value, AllocError>
     ensures { IfOk result
         (λ v. view v ≡ object (member (codes "id") (whole_data id)
@@ -123,7 +123,7 @@ fn row_object(alloc: Global, id: u32, kept: Value, value: Value) -> Result<Value
     json!(in alloc; {"id": id, "kept": kept, "value": value})
 }
 
-/// The values of the slots that are kept, each with the place of its slot.
+// The values of the slots that are kept, each with the place of its slot.
 fn kept_value(alloc: Global, places: &[u32], slots: &[Slot]) -> Result<Value, Memory>
     requires { length places.now ≡ length slots.now }
     ensures { IfOk result
@@ -136,10 +136,11 @@ fn kept_value(alloc: Global, places: &[u32], slots: &[Slot]) -> Result<Value, Me
     Ok(Value::Array(list))
 }
 
-/// Puts the value of a slot behind others, with a place, if it is kept.
+// Puts the value of a slot behind others, with a place, if it is kept.
 fn push_kept(alloc: Global, list: &mut Vec<Value>, place: u32, slot: &Slot) -> Result<(), Memory>
     ensures { OnOk result
-        (map view list.new.items ≡ map view list.old.items ++ more_if slot.now.kept (placed_data (place, local_of slot.now.value)) []) }
+        (map view list.new.items
+        ≡ map view list.old.items ++ more_if slot.now.kept (placed_data (place, local_of slot.now.value)) []) }
 {
     if slot.kept {
         list.push(placed_value(alloc, place, &slot.value)?)?;
@@ -147,7 +148,7 @@ fn push_kept(alloc: Global, list: &mut Vec<Value>, place: u32, slot: &Slot) -> R
     Ok(())
 }
 
-/// A place and what is kept there.
+// A place and what is kept there.
 fn placed_value(alloc: Global, place: u32, value: &Local) -> Result<Value, Memory>
     ensures { IfOk result (λ v. view v ≡ placed_data (place, local_of value.now)) }
 {
@@ -156,7 +157,7 @@ fn placed_value(alloc: Global, place: u32, value: &Local) -> Result<Value, Memor
     Ok(pair)
 }
 
-/// A local value.
+// A local value.
 fn local_value(alloc: Global, value: &Local) -> Result<Value, Memory>
     ensures { IfOk result (λ v. view v ≡ value_data (local_of value.now)) }
 {

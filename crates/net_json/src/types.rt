@@ -11,8 +11,9 @@ pub struct Path {
     pub text: Vec<u8>,
 }
 
-/// Why a text is no scene: the text is no JSON; at a path something has another shape, networks have a fault to name, or
-/// a kept list is none of an export, with the place of its first misfit; there are too many devices, with their number.
+/// Why a text is no scene: the text is no JSON; at a path something has another shape, networks have a fault to name,
+/// or a kept list is none of an export, with the place of its first misfit; there are too many devices, with their
+/// number.
 #[derive(Drop)]
 pub enum JsonFault {
     Json,

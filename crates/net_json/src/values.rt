@@ -4,7 +4,8 @@ ghost use Rattle.std.specs.Prelude.{◌≡◌, IfOk, option_map, option_and_then
 ghost use Rattle.serde_json.specs.Find.{as_object};
 ghost use Rattle.serde_json.specs.View.{view, items_view};
 ghost use Rattle.fc_values.specs.Values.{local_of};
-ghost use Rattle.net_json.specs.Reading.{whole, small, value_of, integer_value, size_of, has_size, two_members, three_members, four_members};
+ghost use Rattle.net_json.specs.Reading.{whole, small, value_of, integer_value, size_of, has_size, two_members};
+ghost use Rattle.net_json.specs.Reading.{three_members, four_members};
 ghost use Rattle.serde_json.specs.Data.{array};
 
 use fc_values::{Local, Memory};
@@ -26,7 +27,7 @@ pub(crate) fn small(value: &Value) -> Option<u32>
     if n <= 1_000_000 { Some(n as u32) } else { None }
 }
 
-/// A whole number as a local value. One past 32 bits fits nowhere, as the greatest of 32 bits.
+// A whole number as a local value. One past 32 bits fits nowhere, as the greatest of 32 bits.
 fn integer(n: u64) -> Local
     ensures { local_of result ≡ integer_value n }
 {
@@ -46,7 +47,7 @@ pub(crate) fn local(alloc: Global, value: &Value) -> Result<Option<Local>, Memor
     }
 }
 
-/// The pair that an array of two values is.
+// The pair that an array of two values is.
 #[cycle(local)]
 fn pair(alloc: Global, items: &[Value]) -> Result<Option<Local>, Memory>
     ensures { IfOk result (λ v. option_map local_of v ≡ value_of (array (items_view items.now))) }

@@ -3,7 +3,7 @@ use Rattle.std.proofs.Common.{◌≡◌, ℕ, zero, suc, ◌≤◌, ◌<◌, ◌
 use Rattle.std.proofs.Math.Nat.{mod-lt}
 use Rattle.std.proofs.lemmas.Nat.{div-add-mod'}
 use Rattle.growth_facts.specs.Turns.{turns_of}
-use Rattle.growth_facts.proofs.Closeness.{below_or}
+use Rattle.fc_nodes.proofs.Standing.{below_or}
 use Rattle.rise.specs.Stages.{Near, stage, climbed}
 use Rattle.rise.specs.Laws.{StepInAStage, StageBegins, StageIsReached, StageByTurns}
 

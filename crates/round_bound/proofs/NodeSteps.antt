@@ -1,5 +1,5 @@
 -- The level of the node at a place, from those of its kids.
-use Rattle.std.proofs.Common.{◌≡◌, ℕ, zero, suc, ◌≤◌, ◌<◌, ◌+◌, ◌-◌, ◌*◌, ◌||◌, List, [], ◌∷◌, ◌++◌, length, refl, sym, ◌∙◌, ap, subst, arith, get_or, Bool, true, false, not, Option, Some, None, max, nat_eq}
+use Rattle.std.proofs.Common.{◌≡◌, ℕ, zero, suc, ◌≤◌, ◌<◌, ◌+◌, ◌-◌, ◌||◌, List, [], ◌∷◌, ◌++◌, length, refl, sym, ◌∙◌, ap, subst, arith, get_or, Bool, true, false, not, Option, Some, None, max, nat_eq}
 use Rattle.std.specs.Prelude.{if◌then◌else◌}
 use Rattle.std.specs.List.{repeat}
 use Rattle.std.specs.Prelude.{slice_set, IfOk}
@@ -8,20 +8,20 @@ use Rattle.std.specs.declared.result.Result.TheVariants.{Ok, Err}
 use Rattle.std.proofs.lemmas.List.{append_assoc}
 use Rattle.fc_values.specs.Types.{ValueType}
 use Rattle.fc_nodes.specs.declared.nodes.Node.{Node}
+use Rattle.fc_nodes.specs.Sorts.{is_nbr_sort, is_evolve_sort, is_own_sort, is_let_sort}
 use Rattle.fc_nodes.specs.Terms.{Evolution, Term, Terms, Plain, Apply, Nbr, Evolve, If, Let, NoMore, More, size, sizes, Sort, OfLeaf, OfApply, OfNbr, OfEvolve, OfIf, OfLet, term_at, terms_by, HasNode, Laid, AllLaid, places, is_branching}
 use Rattle.fc_nodes.specs.Program.{IsProgram}
 use Rattle.fc_nodes.specs.Places.{StandsAt}
+use Rattle.fragment_check.specs.Facts.{InRow}
 use Rattle.fc_nodes.proofs.Places.{AllAbove, formed_above, in_range, term_is}
 use Rattle.fc_nodes.proofs.Kids.{laid_term, OneKid, TwoKids, ThreeKids, apply_laid, nbr_laid, if_laid, let_laid, evolve_laid, if_sort}
-use Rattle.growth_facts.specs.Variables.{occurs, occurs_in, is_own}
+use Rattle.fc_nodes.specs.Variables.{occurs, occurs_in, is_own}
 use Rattle.fragment_check.specs.Levels.{Lvs, bind_level, level_unless, level_of, level_all, node_levels, all_node_levels}
-use Rattle.fragment_check.specs.Facts.{InRow, is_nbr_sort}
-use Rattle.fragment_check.specs.Listing.{is_evolve_sort}
 use Rattle.fragment_check.proofs.Steps.{nbr_sort, kids_row}
 use Rattle.round_bound.specs.declared.scopes.Context.{Context}
 use Rattle.round_bound.specs.declared.scopes.Sight.{Sight}
 use Rattle.round_bound.specs.declared.scopes.Found.{Found}
-use Rattle.round_bound.specs.Walks.{FoundAll, FoundBelow, most_added, level_before, levels_in, Ready, stages_in, level_at, greatest_at, node_levels_at, levels_at, behind, leaf_level_by, is_used_leaf, is_let_sort, is_apply_sort}
+use Rattle.round_bound.specs.Walks.{FoundAll, FoundBelow, most_added, level_before, levels_in, Ready, stages_in, level_at, greatest_at, node_levels_at, levels_at, behind, leaf_level_by, is_apply_sort}
 use Rattle.round_bound.proofs.Small.{stages_few}
 use Rattle.round_bound.proofs.LevelBounds.{level_few}
 
@@ -244,11 +244,11 @@ module _ (c : Context) (prog : IsProgram c.program.now) (p : ℕ) (sight : Sight
         by_sort OfLet z h = absurd cc
 
     pub leaf_levels : is_nbr_sort s ≡ false → is_branching s ≡ false → is_let_sort s ≡ false → is_evolve_sort s ≡ false → is_apply_sort s ≡ false
-        → ([] ≡ behind (node_levels_at c p sight)) × (is_used_leaf sight.own s ≡ occurs sight.own (term_at c.program.now.nodes p))
+        → ([] ≡ behind (node_levels_at c p sight)) × (is_own_sort sight.own s ≡ occurs sight.own (term_at c.program.now.nodes p))
     leaf_levels a b d e f = by_sort s a b d e f h
       where
         by_sort : (s : Sort) → is_nbr_sort s ≡ false → is_branching s ≡ false → is_let_sort s ≡ false → is_evolve_sort s ≡ false → is_apply_sort s ≡ false → HasNode c.program.now.nodes p s t ks
-            → ([] ≡ behind (node_levels_at c p sight)) × (is_used_leaf sight.own s ≡ occurs sight.own (term_at c.program.now.nodes p))
+            → ([] ≡ behind (node_levels_at c p sight)) × (is_own_sort sight.own s ≡ occurs sight.own (term_at c.program.now.nodes p))
         by_sort (OfLeaf l) a b d e f h =
             let k = term_is c.program.now.nodes above p (OfLeaf l) t ks h in
             (sym (ap (λ u. behind (node_levels (stages_in c) p sight.branch sight.own (levels_in sight.scope.now) u)) k), sym (ap (occurs sight.own) k))

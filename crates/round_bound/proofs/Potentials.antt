@@ -4,6 +4,7 @@ use Rattle.std.specs.declared.result.Result.TheVariants.{Ok}
 use Rattle.fc_values.specs.Types.{LocalType, IntType, BoolType, PairType, ValueType, TypeLocal}
 use Rattle.fc_values.specs.BuiltinTypes.{inner}
 use Rattle.fc_nodes.specs.declared.nodes.Node.{Node}
+use Rattle.fc_nodes.specs.Sorts.{is_evolve_sort, is_let_sort}
 use Rattle.fc_nodes.specs.Terms.{Evolution, Uid, Term, Plain, Apply, Nbr, Evolve, If, Let, Sort, OfLeaf, OfApply, OfNbr, OfEvolve, OfIf, OfLet, View, view_at, term_to, term_at, HasNode, Laid}
 use Rattle.fc_nodes.specs.Program.{Program, Unfolding, unfolding_of}
 use Rattle.fc_nodes.specs.Places.{StandsAt}
@@ -13,9 +14,8 @@ use Rattle.growth_facts.specs.Leads.{least_integer, greatest_integer}
 use Rattle.growth_facts.specs.Facts.{IsEvolveView, IsEvolving, evolution_in, evolution_at}
 use Rattle.fragment_check.specs.declared.kinds.Pattern.{Pattern}
 use Rattle.fragment_check.specs.Patterns.{pattern_of}
-use Rattle.fragment_check.specs.Listing.{is_evolve_sort}
 use Rattle.fragment_check.specs.Verdicts.{added_levels, added_by, added_at, bound_range, variable_range, stages_of, pattern_at}
-use Rattle.round_bound.specs.Walks.{is_let_sort, greatest_full}
+use Rattle.round_bound.specs.Walks.{greatest_full}
 
 past_term : (ns : List Node) (q : ℕ) → length ns ≤ q → term_at ns q ≡ Plain (TypeLocal IntType) Uid
 unfolding term_at term_to

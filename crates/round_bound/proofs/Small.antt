@@ -13,7 +13,7 @@ use Rattle.fc_nodes.specs.declared.verdicts.Reason.TheVariants as reason
 use Rattle.fc_nodes.specs.Terms.{Evolution, ByRep, ByShare, Term, Terms, Plain, Apply, Nbr, Evolve, If, Let, NoMore, More, size, type_of, term_at}
 use Rattle.fc_nodes.specs.Program.{Program, IsProgram, unfolding_of}
 use Rattle.interval_facts.specs.Ranges.{RangeValue, IntRange, BoolRange, PairRange, range_of}
-use Rattle.growth_facts.specs.Variables.{occurs, is_heard}
+use Rattle.fc_nodes.specs.Variables.{occurs, is_heard}
 use Rattle.growth_facts.specs.Leads.{leads, least_integer, greatest_integer}
 use Rattle.growth_facts.specs.Growth.{GrowthValue, Grows, Lacks, NodeFacts, only_if, on_one_side, raised, lesser_growth, op_growth, growth_by, growth_apart, growth_heard, node_growth, growth_of, facts_in}
 use Rattle.growth_facts.specs.Turns.{steps_of, turns_of, rounds_of}

@@ -1,10 +1,10 @@
 -- Levels by the places of a program.
-use Rattle.std.specs.Prelude.{ℕ, suc, Bool, true, false, ◌≡◌, ◌≤◌, ◌+◌, ◌*◌, List, [], ◌∷◌, ◌++◌, max, Option, Some, None}
+use Rattle.std.specs.Prelude.{ℕ, suc, Bool, true, false, ◌≡◌, ◌≤◌, ◌+◌, ◌*◌, List, [], ◌∷◌, ◌++◌, max, Option}
 use Rattle.fc_values.specs.Types.{LocalType, IntType, PairType, ValueType}
-use Rattle.fc_nodes.specs.Terms.{Sort, OfLeaf, OfApply, OfLet, term_at, terms_by}
+use Rattle.fc_nodes.specs.Terms.{Sort, OfLeaf, OfApply, term_at, terms_by}
 use Rattle.fc_nodes.specs.Program.{unfolding_of}
 use Rattle.interval_facts.specs.Ranges.{AreRangesOf}
-use Rattle.growth_facts.specs.Variables.{is_variable, occurs, occurs_in}
+use Rattle.fc_nodes.specs.Variables.{occurs, occurs_in}
 use Rattle.fragment_check.specs.Levels.{Stages, Lvs, bind_level, leaf_level, level_of, node_levels}
 use Rattle.fragment_check.specs.Verdicts.{stages_of}
 use Rattle.fragment_check.specs.declared.kinds.Pattern.{Pattern}
@@ -88,10 +88,6 @@ greatest_full m IntType = m
 greatest_full m (PairType IntType t) = m
 greatest_full m _ = 0
 
-abbrev pub is_let_sort : Sort → Bool
-is_let_sort OfLet = true
-is_let_sort _ = false
-
 -- the numbers of a pattern are from 1, or 0, to the ceiling
 abbrev pub PatternFew : ℕ → Pattern → Type 0
 PatternFew m pattern.Constant = Unit {0}
@@ -102,7 +98,3 @@ PatternFew m (pattern.Rising greatest growth rise) = (greatest ≤ m) × (1 ≤ 
 abbrev pub is_apply_sort : Sort → Bool
 is_apply_sort (OfApply o) = true
 is_apply_sort _ = false
-
-abbrev pub is_used_leaf : ℕ → Sort → Bool
-is_used_leaf x (OfLeaf l) = is_variable x l
-is_used_leaf x _ = false

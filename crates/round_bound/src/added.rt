@@ -2,19 +2,17 @@
 
 ghost use Rattle.std.specs.Prelude.{◌≡◌, ◌≤◌, ◌-◌, ◌*◌};
 ghost use Rattle.fc_values.specs.Types.{local_type_of};
-ghost use Rattle.fc_nodes.specs.Terms.{sort_of};
+ghost use Rattle.fc_nodes.specs.Sorts.{evolution_by};
 ghost use Rattle.fc_nodes.specs.Places.{StandsAt};
 ghost use Rattle.fc_nodes.specs.Program.{unfolding_of, IsProgram};
 ghost use Rattle.interval_facts.specs.Ranges.{AreRangesOf};
 ghost use Rattle.growth_facts.specs.Facts.{IsEvolving, evolution_at};
 ghost use Rattle.growth_facts.specs.Leads.{greatest_integer as greatest_of, least_integer as least_of};
-ghost use Rattle.fragment_check.specs.Facts.{evolution_by, is_share_sort};
-ghost use Rattle.fragment_check.specs.Listing.{is_evolve_sort};
 ghost use Rattle.fragment_check.specs.Verdicts.{added_levels, ranks as ranks_of, stage_rounds, stages_of, variable_range};
-ghost use Rattle.round_bound.specs.Walks.{PatternFew, greatest_full, is_let_sort};
+ghost use Rattle.round_bound.specs.Walks.{PatternFew, greatest_full};
 
 use crate::scopes::Context;
-use fc_nodes::{Node, Op};
+use fc_nodes::{is_evolving, is_let};
 use fc_values::{LocalTy, inner};
 use fragment_check::{Pattern, pattern};
 use growth_facts::{greatest_integer, least_integer};
@@ -113,35 +111,5 @@ fn full_greatest(ty: &LocalTy, ceiling: u32) -> u32
                 _ => 0,
             }
         }
-    }
-}
-
-/// Whether a node is a `let`.
-pub fn is_let(node: &Node) -> bool
-    ensures { result ≡ is_let_sort (sort_of node.now.op) }
-{
-    match &node.op {
-        Op::Let => true,
-        _ => false,
-    }
-}
-
-/// Whether a node is a `rep` or a `share`.
-pub fn is_evolving(node: &Node) -> bool
-    ensures { result ≡ is_evolve_sort (sort_of node.now.op) }
-{
-    match &node.op {
-        Op::Rep | Op::Share => true,
-        _ => false,
-    }
-}
-
-/// Whether a node is a `share`.
-pub fn is_share(node: &Node) -> bool
-    ensures { result ≡ is_share_sort (sort_of node.now.op) }
-{
-    match &node.op {
-        Op::Share => true,
-        _ => false,
     }
 }

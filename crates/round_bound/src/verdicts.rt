@@ -1,6 +1,6 @@
 //! The verdict on a program.
 
-ghost use Rattle.std.specs.Prelude.{ℕ, ◌≡◌, ◌≤◌, ◌<◌, ◌^◌, IfOk};
+ghost use Rattle.std.specs.Prelude.{ℕ, ◌≡◌, ◌≤◌, ◌<◌, ◌^◌, IfOk, None, Some, slice_index_or as get_or};
 ghost use Rattle.fc_nodes.specs.declared.verdicts.Verdict.TheVariants as verdict;
 ghost use Rattle.fc_nodes.specs.Program.{unfolding_of};
 ghost use Rattle.interval_facts.specs.Ranges.{AreRangesOf};
@@ -46,7 +46,8 @@ pub fn levels(
 ) -> Result<Vec<Option<u64>>, Memory>
     requires ranges { AreRangesOf (unfolding_of program.now) ranges.now }
     requires devices { 1 ≤ devices }
-    ensures { IfOk result (λ l. l.items ≡ levels_of program.now devices) }
+    ensures levels { IfOk result (λ l. l.items ≡ levels_of program.now devices) }
+    ensures few { IfOk result (λ l. (place level : ℕ) → get_or l.items place None ≡ Some level → level < 2 ^ 33) }
 {
     let found = main_levels(alloc, program, ranges, devices)?;
     Ok(found.0)
@@ -64,6 +65,7 @@ fn main_levels(
     ensures levels { IfOk result (λ f. f.0.items ≡ levels_of program.now devices) }
     ensures main { IfOk result (λ f. f.1 ≡ main_level program.now devices) }
     ensures few { IfOk result (λ f. f.1 < 2 ^ 33) }
+    ensures each { IfOk result (λ f. (place level : ℕ) → get_or f.0.items place None ≡ Some level → level < 2 ^ 33) }
 {
     let context = Context {
         program,

@@ -1,22 +1,21 @@
 //! The walk over a program's nodes.
 
-ghost use Rattle.std.specs.Prelude.{◌≡◌, ◌<◌, ◌^◌, ◌||◌, ◌++◌, ◌-◌, if◌then◌else◌, IfOk, OnOk, None, Some, true};
+ghost use Rattle.std.specs.Prelude.{◌≡◌, ◌<◌, ◌^◌, ◌++◌, ◌-◌, if◌then◌else◌, IfOk, OnOk, None, Some, true};
 ghost use Rattle.std.specs.List.{repeat};
 ghost use Rattle.std.specs.Prelude.{[], ◌∷◌};
 ghost use Rattle.fc_values.specs.Types.{type_of};
 ghost use Rattle.fc_values.specs.BuiltinTypes.{is_field};
 ghost use Rattle.fc_nodes.specs.Terms.{sort_of, view_at, view_of, is_branching};
+ghost use Rattle.fc_nodes.specs.Sorts.{is_nbr_sort, is_evolve_sort, is_own_sort, is_let_sort};
 ghost use Rattle.fc_nodes.specs.Places.{StandsAt};
+ghost use Rattle.fragment_check.specs.Facts.{InRow};
 ghost use Rattle.fc_nodes.specs.Program.{IsProgram};
-ghost use Rattle.fragment_check.specs.Facts.{InRow, is_nbr_sort};
-ghost use Rattle.fragment_check.specs.Listing.{is_evolve_sort};
-ghost use Rattle.round_bound.specs.Walks.{Ready, FoundAt, FoundAll, FoundBelow, leaf_level_by, is_used_leaf, is_let_sort, is_apply_sort};
+ghost use Rattle.round_bound.specs.Walks.{Ready, FoundAt, FoundAll, FoundBelow, leaf_level_by, is_apply_sort};
 
-use crate::added::{added, is_evolving, is_let, is_share};
+use crate::added::added;
 use crate::scopes::{Context, Found, Scope, Sight, bound_level};
-use fc_nodes::{Node, Op, is_if};
+use fc_nodes::{Node, Op, is_evolving, is_if, is_let, is_nbr, is_own, is_share};
 use fc_values::{Memory, Ty};
-use fragment_check::{is_own, occurs};
 
 /// Puts the levels of all nodes of the term at a place behind others, and finds the term's own.
 #[cycle(walk)]
@@ -96,7 +95,7 @@ fn walk_all(
     let others = walk_all(context, rest, *first, sight, levels)?;
     Ok(Found {
         level: here.level.max(others.level),
-        uses: either(here.uses, others.uses),
+        uses: here.uses | others.uses,
     })
 }
 
@@ -117,7 +116,7 @@ fn below_nbr(
 {
     let inside = node.kids[0];
     let found = walk(context, inside, sight, levels)?;
-    let own = is_own(context.program, sight.own, inside);
+    let own = context.program.is_own(sight.own, inside);
     Ok(Found {
         level: chosen(own, sight.branch, found.level) + 1,
         uses: found.uses,
@@ -149,7 +148,7 @@ fn below_if(
     let second = walk(context, node.kids[2], &taken, levels)?;
     Ok(Found {
         level: condition.level.max(first.level.max(second.level)),
-        uses: either(condition.uses, either(first.uses, second.uses)),
+        uses: condition.uses | (first.uses | second.uses),
     })
 }
 
@@ -178,7 +177,7 @@ fn below_let(
     let body = walk(context, node.kids[1], &inner, levels)?;
     Ok(Found {
         level: body.level,
-        uses: either(bound.uses, body.uses),
+        uses: bound.uses | body.uses,
     })
 }
 
@@ -207,7 +206,7 @@ fn below_evolving(
     let found = walk(context, body, &inner, levels)?;
     Ok(Found {
         level: found.level + added(context, place, is_share(node)),
-        uses: occurs(context.program, sight.own, place),
+        uses: context.program.occurs(sight.own, place),
     })
 }
 
@@ -230,31 +229,15 @@ fn chosen(own: bool, branch: u64, inside: u64) -> u64
     if own { branch } else { inside }
 }
 
-// Whether one of two is true.
-fn either(a: bool, b: bool) -> bool
-    ensures { result ≡ (a || b) }
-{
-    a || b
-}
-
 // What is found of a node without kids.
 fn leaf(node: &Node, sight: &Sight<'_>) -> Found
     requires { sight.now.branch < 2 ^ 63 }
     ensures level { result.level ≡ leaf_level_by sight.now (type_of node.now.ty) (sort_of node.now.op) }
-    ensures uses { result.uses ≡ is_used_leaf sight.now.own (sort_of node.now.op) }
+    ensures uses { result.uses ≡ is_own_sort sight.now.own (sort_of node.now.op) }
 {
     Found {
         level: leaf_level(node, sight),
-        uses: is_used(node, sight.own),
-    }
-}
-
-fn is_used(node: &Node, variable: u32) -> bool
-    ensures { result ≡ is_used_leaf variable (sort_of node.now.op) }
-{
-    match &node.op {
-        Op::Var(binder) => *binder == variable,
-        _ => false,
+        uses: is_own(node, sight.own),
     }
 }
 
@@ -287,15 +270,6 @@ fn is_field(ty: &Ty) -> bool
     match ty {
         Ty::Field(_) => true,
         Ty::Local(_) => false,
-    }
-}
-
-fn is_nbr(node: &Node) -> bool
-    ensures { result ≡ is_nbr_sort (sort_of node.now.op) }
-{
-    match &node.op {
-        Op::Nbr => true,
-        _ => false,
     }
 }
 

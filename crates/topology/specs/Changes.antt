@@ -4,6 +4,8 @@ use Rattle.std.specs.Prelude.{length, filter, nat_eq, nat_lt, nat_le, if◌then�
 use Rattle.std.specs.Prelude.{slice_set}
 use Rattle.fc_values.specs.Types.{Declarations, Input}
 use Rattle.fc_values.specs.Values.{LocalValue}
+use Rattle.fc_values.specs.declared.limits.TheConstants.{MOST_LINKS}
+use Rattle.topology.specs.declared.types.TheConstants.{GREATEST_NUMBER, MOST_DEVICES}
 use Rattle.topology.specs.declared.types.NetFault.{NetFault}
 use Rattle.topology.specs.declared.types.NetFault.TheVariants as fault
 use Rattle.topology.specs.declared.types.MakeFault.{MakeFault}
@@ -60,7 +62,7 @@ are_linked n a b = has_pair (min a b) (max a b) n.links
 
 -- whether a device has as many links as it can have
 abbrev pub is_full : Network → ℕ → Bool
-is_full n d = nat_le 32 (length (near n d))
+is_full n d = nat_le MOST_LINKS (length (near n d))
 
 -- ---- devices
 
@@ -79,7 +81,8 @@ drop_device d ns = filter (λ (n : NetDevice). not (nat_eq d n.id)) ns
 -- a value in the place of an input of a device
 abbrev pub put_input : ℕ → ℕ → LocalValue → List NetDevice → List NetDevice
 put_input d i v [] = []
-put_input d i v (n ∷ ns) = (if nat_eq d n.id then record n { inputs = slice_set n.inputs i v } else n) ∷ put_input d i v ns
+put_input d i v (n ∷ ns) =
+    (if nat_eq d n.id then record n { inputs = slice_set n.inputs i v } else n) ∷ put_input d i v ns
 
 -- ---- changes
 
@@ -122,7 +125,7 @@ abbrev pub join_fault : Network → NetDevice → Option NetFault
 join_fault n x = or_fault
     (first_fault (
     (lives n x.id, fault.Twice)
-    ∷ (nat_le 1024 (length n.devices), fault.Devices)
+    ∷ (nat_le MOST_DEVICES (length n.devices), fault.Devices)
     ∷ (not (nat_eq (length x.inputs) (length n.declared.inputs)), fault.NoInput)
     ∷ []))
     (inputs_fault n.declared.inputs x.inputs)
@@ -144,7 +147,8 @@ left n d = record n { devices = drop_device d n.devices; links = drop_links d n.
 -- the first device, by its index, whose number stands before it
 abbrev pub twice_fault : ℕ → List ℕ → List ℕ → Option MakeFault
 twice_fault i before [] = None
-twice_fault i before (d ∷ ds) = if is_in d before then Some (make.Net i fault.Twice) else twice_fault (i + 1) (before ++ d ∷ []) ds
+twice_fault i before (d ∷ ds) =
+    if is_in d before then Some (make.Net i fault.Twice) else twice_fault (i + 1) (before ++ d ∷ []) ds
 
 -- the first device, by its index, that has a value that is none of its input
 abbrev pub at_index : ℕ → Option NetFault → Option MakeFault → Option MakeFault
@@ -156,7 +160,7 @@ devices_fault i is [] = None
 devices_fault i is (n ∷ ns) = at_index i (inputs_fault is n.inputs) (devices_fault (i + 1) is ns)
 
 abbrev pub make_fault : Declarations → List NetDevice → Option MakeFault
-make_fault D ns = if nat_eq (length ns) 0 || nat_lt 1024 (length ns)
+make_fault D ns = if nat_eq (length ns) 0 || nat_lt MOST_DEVICES (length ns)
     then Some (make.Devices (length ns))
     else or_fault (twice_fault 0 [] (numbers ns)) (devices_fault 0 D.inputs ns)
 
@@ -179,7 +183,7 @@ abbrev pub HaveInputs : ℕ → List NetDevice → Type 0
 HaveInputs count [] = Unit {0}
 HaveInputs count (n ∷ ns) = (length n.inputs ≡ count) × HaveInputs count ns
 
--- each device has a number of at most 65,535
+-- each device has a number that devices may have
 abbrev pub HaveNumbers : List NetDevice → Type 0
 HaveNumbers [] = Unit {0}
-HaveNumbers (n ∷ ns) = (n.id ≤ 65535) × HaveNumbers ns
+HaveNumbers (n ∷ ns) = (n.id ≤ GREATEST_NUMBER) × HaveNumbers ns

@@ -12,7 +12,8 @@ abbrev pub input_fault : InputTy → LocalValue → Option NetFault
 input_fault input.Truth (IntValue n) = Some fault.InputType
 input_fault input.Truth (BoolValue b) = None
 input_fault input.Truth (PairValue a b) = Some fault.InputType
-input_fault (input.Whole least greatest) (IntValue n) = if nat_le least n && nat_le n greatest then None else Some fault.InputRange
+input_fault (input.Whole least greatest) (IntValue n) =
+    if nat_le least n && nat_le n greatest then None else Some fault.InputRange
 input_fault (input.Whole least greatest) (BoolValue b) = Some fault.InputType
 input_fault (input.Whole least greatest) (PairValue a b) = Some fault.InputType
 

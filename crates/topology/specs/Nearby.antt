@@ -3,6 +3,7 @@ use Rattle.std.specs.Prelude.{ℕ, ◌≡◌, ◌≤◌, ◌<◌, ◌*◌, nat_e
 use Rattle.std.specs.Prelude.{List, [], ◌∷◌, ◌++◌, map, length, filter, slice_index}
 use Rattle.arrayvec.specs.ArrayVec.{ArrayVec}
 use Rattle.fc_values.specs.Types.{Declarations}
+use Rattle.fc_values.specs.declared.limits.TheConstants.{MOST_LINKS}
 use Rattle.topology.specs.Networks.{Network, NetDevice, Edge, IsNetwork, numbers, near_in}
 use Rattle.fc_values.specs.Lists.{insert_after}
 
@@ -28,7 +29,8 @@ items_of v = v.items
 -- the links that the neighbours of a device tell of, of which it is the lesser end
 abbrev pub links_from : ℕ → List (ℕ × ℕ) → List Edge
 links_from d [] = []
-links_from d (n ∷ ns) = if nat_lt d n.0 then record { a = d; b = n.0; weight = n.1 } ∷ links_from d ns else links_from d ns
+links_from d (n ∷ ns) =
+    if nat_lt d n.0 then record { a = d; b = n.0; weight = n.1 } ∷ links_from d ns else links_from d ns
 
 -- the links that the neighbours of devices tell of
 abbrev pub links_in : List ℕ → List (List (ℕ × ℕ)) → List Edge
@@ -52,7 +54,7 @@ IsDraft D ns lists = IsDrawn (drawn D ns lists) lists
 -- these are the links of a network, and there is room for as many as its devices can have
 pub record IsWritten (n : Network) (ls : List Edge) (capacity : ℕ) : Type 0 where
   pub links : ls ≡ n.links
-  pub room : 32 * length n.devices ≤ capacity
+  pub room : MOST_LINKS * length n.devices ≤ capacity
 
 -- a place is that of a device
 pub record AtPlace (n : Network) (d at : ℕ) : Type 0 where

@@ -4,8 +4,10 @@ use Rattle.fc_values.specs.Types.{Declarations}
 use Rattle.fc_values.specs.Values.{LocalValue, local_of}
 use Rattle.fc_values.specs.Fields.{Rises, is_in}
 use Rattle.fc_values.specs.Inputs.{InputsFit}
+use Rattle.fc_values.specs.declared.limits.TheConstants.{MOST_LINKS}
 use Rattle.topology.specs.declared.types.Device.{Device}
 use Rattle.topology.specs.declared.types.Link.{Link}
+use Rattle.topology.specs.declared.types.TheConstants.{GREATEST_NUMBER, MOST_DEVICES}
 
 -- a device: its number and its inputs
 pub record NetDevice : Type 0 where
@@ -58,10 +60,10 @@ near_in d (l ∷ ls) =
 abbrev pub near : Network → ℕ → List (ℕ × ℕ)
 near n d = near_in d n.links
 
--- each device has a number of at most 65,535, and the declared inputs
+-- each device has a number that devices may have, and the declared inputs
 abbrev pub DevicesFit : Declarations → List NetDevice → Type 0
 DevicesFit D [] = Unit {0}
-DevicesFit D (n ∷ ns) = (n.id ≤ 65535) × InputsFit D.inputs n.inputs × DevicesFit D ns
+DevicesFit D (n ∷ ns) = (n.id ≤ GREATEST_NUMBER) × InputsFit D.inputs n.inputs × DevicesFit D ns
 
 -- a link comes before another: by the first device, then by the second
 pub record Before (l m : Edge) : Type 0 where
@@ -92,8 +94,8 @@ LinksFit D ds (l ∷ ls) = LinkFits D ds l × BeforeAll l ls × LinksFit D ds ls
 
 pub record IsNetwork (n : Network) : Type 0 where
   pub some : 1 ≤ length n.devices
-  pub few : length n.devices ≤ 1024
+  pub few : length n.devices ≤ MOST_DEVICES
   pub rising : Rises (numbers n.devices)
   pub devices : DevicesFit n.declared n.devices
   pub links : LinksFit n.declared (numbers n.devices) n.links
-  pub degree : (d : ℕ) → length (near n d) ≤ 32
+  pub degree : (d : ℕ) → length (near n d) ≤ MOST_LINKS

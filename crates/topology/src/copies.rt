@@ -7,8 +7,8 @@ ghost use Rattle.topology.specs.Nearby.{items_of, links_from, links_in};
 
 use crate::edits::make_room;
 use crate::nearby::{Nearby, copy_near};
-use crate::types::{Device, Link};
-use fc_values::{Memory, copy_locals};
+use crate::types::{Device, Link, MOST_DEVICES};
+use fc_values::{MOST_LINKS, Memory, copy_locals};
 use std::alloc::Global;
 
 /// A copy of a device.
@@ -53,19 +53,21 @@ pub(crate) fn copy_nearby(alloc: Global, near: &[Nearby]) -> Result<Vec<Nearby>,
     Ok(copies)
 }
 
-/// The links that the neighbours of devices tell of, in a list with room for 32 of each device.
+/// The links that the neighbours of devices tell of, in a list with room for as many as the devices can have.
 pub(crate) fn links_of(
     alloc: Global,
     devices: &[Device],
     near: &[Nearby],
 ) -> Result<Vec<Link>, Memory>
     requires long { length near.now ≡ length devices.now }
-    requires few { length (links_in (numbers (map device_of devices.now)) (map items_of near.now)) ≤ 32 * length devices.now }
-    requires most { length devices.now ≤ 1024 }
-    ensures links { IfOk result (λ v. map edge_of v.items ≡ links_in (numbers (map device_of devices.now)) (map items_of near.now)) }
-    ensures room { IfOk result (λ v. 32 * length devices.now ≤ vec_capacity v) }
+    requires few { length (links_in (numbers (map device_of devices.now)) (map items_of near.now))
+        ≤ MOST_LINKS * length devices.now }
+    requires most { length devices.now ≤ MOST_DEVICES }
+    ensures links { IfOk result (λ v. map edge_of v.items
+        ≡ links_in (numbers (map device_of devices.now)) (map items_of near.now)) }
+    ensures room { IfOk result (λ v. MOST_LINKS * length devices.now ≤ vec_capacity v) }
 {
-    let room = 32 * devices.len();
+    let room = MOST_LINKS * devices.len();
     let mut links = Vec::with_capacity(alloc, room)?;
     for (i, device) in devices.iter().enumerate() {
         push_links(&mut links, device.id, &near[i])?;
@@ -76,7 +78,8 @@ pub(crate) fn links_of(
 
 // Puts the links that the neighbours of a device tell of behind others.
 fn push_links(links: &mut Vec<Link>, device: u32, near: &Nearby) -> Result<(), Memory>
-    ensures { OnOk result (map edge_of links.new.items ≡ map edge_of links.old.items ++ links_from device near.now.items) }
+    ensures { OnOk result (map edge_of links.new.items
+        ≡ map edge_of links.old.items ++ links_from device near.now.items) }
 {
     for one in near.as_slice() {
         if device < one.0 {

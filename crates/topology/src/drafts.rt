@@ -6,9 +6,9 @@ use crate::inputs::{in_metric, inputs_fault, nth_fault};
 use crate::nearby::{Nearby, copy_near, drop_near, is_near, put_near};
 use crate::networks::Network;
 use crate::places::{place, room_for_device};
-use crate::types::{Device, NetFault};
+use crate::types::{Device, GREATEST_NUMBER, MOST_DEVICES, NetFault};
 use arrayvec::ArrayVec;
-use fc_values::{Declared, Local, Memory, copy_declared};
+use fc_values::{Declared, Local, MOST_LINKS, Memory, copy_declared};
 use std::alloc::Global;
 use std::marker::Model;
 
@@ -33,9 +33,11 @@ impl Model for Draft {
 
     ghost coded = { Prim.hlevel (codes, local_value_code) };
 
-    ghost view = { λ n. drawn (declarations_of n.declared) (map device_of n.devices.items) (map items_of n.near.items) };
+    ghost view = { λ n.
+        drawn (declarations_of n.declared) (map device_of n.devices.items) (map items_of n.near.items) };
 
-    ghost invariant = { λ n. IsDraft (declarations_of n.declared) (map device_of n.devices.items) (map items_of n.near.items) };
+    ghost invariant = { λ n.
+        IsDraft (declarations_of n.declared) (map device_of n.devices.items) (map items_of n.near.items) };
 }
 
 impl Draft {
@@ -98,7 +100,7 @@ impl Draft {
     }
 
     /// The numbers of the devices that are linked to a device, rising, with the weights of the links.
-    pub(crate) fn neighbours(&self, device: u32) -> ArrayVec<(u32, u32), 32>
+    pub(crate) fn neighbours(&self, device: u32) -> ArrayVec<(u32, u32), MOST_LINKS>
         ensures value { result.items ≡ near_of self.now device }
         ensures rising { Rises (near_numbers result.items) }
         ensures none { lives self.now device ≡ false → result.items ≡ [] }
@@ -160,7 +162,7 @@ impl Draft {
         requires { AtPlace self.now device at }
         ensures { result ≡ is_full self.now device }
     {
-        self.near[at].len() >= 32
+        self.near[at].len() >= MOST_LINKS
     }
 
     /// Links two devices, or changes the weight of their link. It takes no memory.
@@ -288,7 +290,7 @@ impl Draft {
         if self.place(device.id).is_some() {
             return Some(NetFault::Twice);
         }
-        if self.devices.len() >= 1024 {
+        if self.devices.len() >= MOST_DEVICES {
             return Some(NetFault::Devices);
         }
         if device.inputs.len() != self.declared.inputs.len() {
@@ -299,7 +301,7 @@ impl Draft {
 
     /// Adds a device that can join.
     pub(crate) fn add(&mut self, device: Device) -> Result<(), Memory>
-        requires small { device.id ≤ 65535 }
+        requires small { device.id ≤ GREATEST_NUMBER }
         requires fault { join_fault self.old (device_of device) ≡ None }
         ensures ok { OnOk result (self.new ≡ joined self.old (device_of device)) }
         ensures err { OnErr result (self.new ≡ self.old) }

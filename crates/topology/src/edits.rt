@@ -56,7 +56,8 @@ pub(crate) fn put_link(links: &mut Vec<Link>, link: Link)
 pub(crate) fn put_input(device: &mut Device, input: usize, value: Local)
     requires { input < length device.old.inputs.items }
     ensures id { device.new.id ≡ device.old.id }
-    ensures inputs { map local_of device.new.inputs.items ≡ slice_set (map local_of device.old.inputs.items) input (local_of value) }
+    ensures inputs { map local_of device.new.inputs.items
+        ≡ slice_set (map local_of device.old.inputs.items) input (local_of value) }
 {
     device.inputs[input] = value;
 }

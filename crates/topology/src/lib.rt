@@ -17,7 +17,7 @@ pub use drafts::Draft;
 pub use inputs::input_fault;
 pub use laws::{changes_keep_networks, neighbours_are_mutual, order_keeps_devices};
 pub use networks::Network;
-pub use types::{Device, JoinFault, Link, MakeFault, NetFault};
+pub use types::{Device, GREATEST_NUMBER, JoinFault, Link, MOST_DEVICES, MakeFault, NetFault};
 
 #[cfg(test)]
 mod tests;

@@ -6,9 +6,10 @@ ghost use Rattle.fc_values.specs.Fields.{is_in};
 ghost use Rattle.topology.specs.Nearby.{near_numbers, drop_near, insert_near};
 
 use arrayvec::ArrayVec;
+use fc_values::MOST_LINKS;
 
 /// The neighbours of a device, rising, with the weights of the links.
-pub(crate) type Nearby = ArrayVec<(u32, u32), 32>;
+pub(crate) type Nearby = ArrayVec<(u32, u32), MOST_LINKS>;
 
 /// The same neighbours.
 pub(crate) fn copy_near(near: &Nearby) -> Nearby
@@ -48,7 +49,7 @@ pub(crate) fn drop_near(near: &Nearby, device: u32) -> Nearby
 
 /// The neighbours with this one, in place of that of its number or as one more.
 pub(crate) fn put_near(near: &Nearby, device: u32, weight: u32) -> Nearby
-    requires { length (drop_near device near.now.items) < 32 }
+    requires { length (drop_near device near.now.items) < MOST_LINKS }
     ensures { result.items ≡ insert_near device weight (drop_near device near.now.items) }
 {
     let mut kept = drop_near(near, device);

@@ -5,13 +5,13 @@ use crate::drafts::Draft;
 use crate::edits::{drop_link, drop_links, make_room, put_link};
 use crate::makes::{first_misfit, first_twice, in_order};
 use crate::places::room_for_device;
-use crate::types::{Device, JoinFault, Link, MakeFault, NetFault};
+use crate::types::{Device, GREATEST_NUMBER, JoinFault, Link, MOST_DEVICES, MakeFault, NetFault};
 use arrayvec::ArrayVec;
-use fc_values::{Declared, Local, Memory};
+use fc_values::{Declared, Local, MOST_LINKS, Memory};
 use std::alloc::Global;
 use std::marker::Model;
 
-/// A network of at most 1,024 devices, by rising number, with at most 32 links each, by rising pairs.
+/// A network: devices by rising number, with links by rising pairs.
 #[derive(Drop)]
 pub struct Network {
     pub(crate) draft: Draft,
@@ -41,7 +41,8 @@ impl Network {
     ghost use Rattle.fc_values.specs.Types.{declarations_of};
     ghost use Rattle.fc_values.specs.Values.{local_of};
     ghost use Rattle.fc_values.specs.Fields.{Rises};
-    ghost use Rattle.topology.specs.Networks.{NetDevice, IsNetwork, device_of, edge_of, near as near_of, lives, numbers, network_of};
+    ghost use Rattle.topology.specs.Networks.{NetDevice, IsNetwork, device_of, edge_of, near as near_of};
+    ghost use Rattle.topology.specs.Networks.{lives, numbers, network_of};
     ghost use Rattle.topology.specs.Changes.{HaveNumbers, HaveInputs, RefusesMake, make_fault, made, are_linked};
     ghost use Rattle.topology.specs.Changes.{link_fault, linked, unlink_fault, unlinked, set_fault, with_input};
     ghost use Rattle.topology.specs.Changes.{RefusesJoin, join_fault, joined, leave_fault, left};
@@ -56,7 +57,7 @@ impl Network {
         ensures refused { IfErr result (RefusesMake (declarations_of declared) (map device_of devices.items)) }
     {
         let count = devices.len();
-        if count == 0 || count > 1024 {
+        if count == 0 || count > MOST_DEVICES {
             return Err(MakeFault::Devices(count));
         }
         if let Some(fault) = first_twice(&devices) {
@@ -89,11 +90,13 @@ impl Network {
         devices: Vec<Device>,
         links: Vec<Link>,
     ) -> Result<Self, Memory>
-        requires { IsNetwork (network_of (declarations_of declared) (map device_of devices.items) (map edge_of links.items)) }
-        ensures { IfOk result (λ n. n ≡ network_of (declarations_of declared) (map device_of devices.items) (map edge_of links.items)) }
+        requires { IsNetwork
+            (network_of (declarations_of declared) (map device_of devices.items) (map edge_of links.items)) }
+        ensures { IfOk result (λ n. n
+            ≡ network_of (declarations_of declared) (map device_of devices.items) (map edge_of links.items)) }
     {
         let mut links = links;
-        make_room(&mut links, 32 * devices.len())?;
+        make_room(&mut links, MOST_LINKS * devices.len())?;
         let mut draft = Draft::new(alloc, declared, devices)?;
         for link in &links {
             let _ = draft.link(link.a, link.b, link.weight);
@@ -138,7 +141,7 @@ impl Network {
     }
 
     /// The numbers of the devices that are linked to a device, rising, with the weights of the links.
-    pub fn neighbours(&self, device: u32) -> ArrayVec<(u32, u32), 32>
+    pub fn neighbours(&self, device: u32) -> ArrayVec<(u32, u32), MOST_LINKS>
         ensures value { result.items ≡ near_of self.now device }
         ensures rising { Rises (near_numbers result.items) }
         ensures none { lives self.now device ≡ false → result.items ≡ [] }
@@ -151,7 +154,7 @@ impl Network {
     pub fn copy(&self, alloc: Global) -> Result<Self, Memory>
         ensures { IfOk result (λ n. n ≡ self.now) }
     {
-        let links = copy_links(alloc, &self.links, 32 * self.devices().len())?;
+        let links = copy_links(alloc, &self.links, MOST_LINKS * self.devices().len())?;
         let draft = self.draft.copy(alloc)?;
         Ok(Network { draft, links })
     }
@@ -221,7 +224,7 @@ impl Network {
 
     /// Adds a device with its inputs and without links.
     pub fn join(&mut self, device: Device) -> Result<(), JoinFault>
-        requires { device.id ≤ 65535 }
+        requires { device.id ≤ GREATEST_NUMBER }
         ensures ok { OnOk result (self.new ≡ joined self.old (device_of device)) }
         ensures accepted { OnOk result (join_fault self.old (device_of device) ≡ None) }
         ensures refused { IfErr result (RefusesJoin self.old (device_of device)) }
@@ -230,7 +233,7 @@ impl Network {
         if let Some(fault) = self.draft.join_fault(&device) {
             return Err(JoinFault::Net(fault));
         }
-        let room = 32 * (self.devices().len() + 1);
+        let room = MOST_LINKS * (self.devices().len() + 1);
         if make_room(&mut self.links, room).is_err() || self.draft.add(device).is_err() {
             return Err(JoinFault::Memory);
         }

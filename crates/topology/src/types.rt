@@ -2,6 +2,12 @@
 
 use fc_values::Local;
 
+/// How many devices a network has at most.
+pub const MOST_DEVICES: usize = 1024;
+
+/// The greatest number that a device may have.
+pub const GREATEST_NUMBER: u32 = 65_535;
+
 /// A device: its number, and its inputs in declared order.
 #[derive(Drop)]
 pub struct Device {

@@ -5,6 +5,9 @@ pub mod OneShape
 pub mod WalkSteps
 pub mod Fits
 pub mod ReadBack
+pub mod Takes
+pub mod TookTrees
+pub mod PlainLists
 pub mod FillSteps
 pub mod ReadTrees
 pub mod FilledLists

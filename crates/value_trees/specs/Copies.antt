@@ -2,6 +2,7 @@
 use Rattle.std.specs.Prelude.{ℕ, ◌≢◌, ◌≤◌, List, [], ◌∷◌, map, length, Option, Some, None}
 use Rattle.fc_values.specs.Inputs.{InputsFit}
 use Rattle.fc_values.specs.Fields.{Rises}
+use Rattle.fc_values.specs.declared.limits.TheConstants.{MOST_LINKS}
 use Rattle.fc_values.specs.Trees.{NearCopy, Copy}
 use Rattle.fc_nodes.specs.Program.{Unfolding}
 use Rattle.fc_nodes.specs.Flat.{IsWellTyped}
@@ -30,4 +31,4 @@ pub record FitsCopy (U : Unfolding) (s : Copy) : Type 0 where
   pub own : WhereSome (IsWellTyped U) s.own
   pub near : AllNearFit U s.device s.near
   pub rising : Rises (near_devices s.near)
-  pub few : length s.near ≤ 32
+  pub few : length s.near ≤ MOST_LINKS

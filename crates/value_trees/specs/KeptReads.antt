@@ -1,5 +1,6 @@
 -- A list read along a term, as what its nodes keep: which values are left, or the place that finds none that fits.
-use Rattle.std.specs.Prelude.{ℕ, suc, Bool, true, false, ◌≡◌, ◌+◌, ◌&&◌, List, [], ◌∷◌, Option, Some, None, nat_le, if◌then◌else◌}
+use Rattle.std.specs.Prelude.{ℕ, suc, Bool, true, false, ◌≡◌, ◌+◌, ◌&&◌, List, [], ◌∷◌, Option, Some, None, nat_le}
+use Rattle.std.specs.Prelude.{if◌then◌else◌}
 use Rattle.fc_values.specs.Types.{LocalType, IntType, BoolType, PairType}
 use Rattle.fc_values.specs.Values.{LocalValue, IntValue, BoolValue, PairValue}
 use Rattle.fc_values.specs.BuiltinTypes.{inner}
@@ -30,14 +31,18 @@ abbrev pub own_left : ℕ → LocalType → ℕ → List LocalValue → (LocalVa
 own_left ceiling s p [] f = Off p
 own_left ceiling s p (v ∷ vs) f = if has_type ceiling s v then f v vs else Off p
 
--- the term at place p: first its own value, then those of its kids in order, in an `if` those of the branch that is named
+-- the term at place p: first its own value, then those of its kids in order, in an `if` those of the branch that is
+-- named
 abbrev mutual
   pub left_by : ℕ → ℕ → Term → List LocalValue → Left
   left_by c p (Plain t l) vs = Rest vs
   left_by c p (Apply t o xs) vs = left_by_all c (suc p) xs vs
   left_by c p (Nbr t a) vs = own_left c (inner t) p vs (λ v us. left_by c (suc p) a us)
-  left_by c p (Evolve t e a b) vs = own_left c (inner t) p vs (λ v us. and_left (left_by c (suc p) a us) (λ ws. left_by c (suc p + size a) b ws))
-  left_by c p (If t x a b) vs = own_left c BoolType p vs (λ v us. and_left (left_by c (suc p) x us) (λ ws. by_truth v (left_by c (suc p + size x) a ws) (left_by c (suc p + size x + size a) b ws)))
+  left_by c p (Evolve t e a b) vs =
+      own_left c (inner t) p vs (λ v us. and_left (left_by c (suc p) a us) (λ ws. left_by c (suc p + size a) b ws))
+  left_by c p (If t x a b) vs =
+      own_left c BoolType p vs (λ v us. and_left (left_by c (suc p) x us) (λ ws.
+      by_truth v (left_by c (suc p + size x) a ws) (left_by c (suc p + size x + size a) b ws)))
   left_by c p (Let t a b) vs = and_left (left_by c (suc p) a vs) (λ ws. left_by c (suc p + size a) b ws)
 
   pub left_by_all : ℕ → ℕ → Terms → List LocalValue → Left

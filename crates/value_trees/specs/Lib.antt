@@ -6,5 +6,7 @@ pub mod Shapes
 pub mod Walks
 pub mod Fitting
 pub mod KeptReads
+pub mod KeptItems
+pub mod Leavings
 pub mod Filling
 pub mod KeptExports

@@ -33,8 +33,12 @@ abbrev mutual
   SlotsFit g c (Plain t l) k xs = Unit {0}
   SlotsFit g c (Apply t o ts) k xs = AllSlotsFit g c ts k xs
   SlotsFit g c (Nbr t a) k xs = SlotFits g c (inner t) k xs × (SlotsFit g c a (suc k) xs × Unit {0})
-  SlotsFit g c (Evolve t e a b) k xs = SlotFits g c (inner t) k xs × (SlotsFit g c a (suc k) xs × (SlotsFit g c b (suc k + kept a) xs × Unit {0}))
-  SlotsFit g c (If t x a b) k xs = SlotFits g c BoolType k xs × (SlotsFit g c x (suc k) xs × (SlotsFit (g && truth_in (slot_at k xs).1) c a (suc k + kept x) xs × SlotsFit (g && not (truth_in (slot_at k xs).1)) c b (suc k + kept x + kept a) xs))
+  SlotsFit g c (Evolve t e a b) k xs =
+      SlotFits g c (inner t) k xs × (SlotsFit g c a (suc k) xs × (SlotsFit g c b (suc k + kept a) xs × Unit {0}))
+  SlotsFit g c (If t x a b) k xs =
+      SlotFits g c BoolType k xs × (SlotsFit g c x (suc k) xs
+      × (SlotsFit (g && truth_in (slot_at k xs).1) c a (suc k + kept x) xs
+      × SlotsFit (g && not (truth_in (slot_at k xs).1)) c b (suc k + kept x + kept a) xs))
   SlotsFit g c (Let t a b) k xs = SlotsFit g c a k xs × (SlotsFit g c b (k + kept a) xs × Unit {0})
 
   pub AllSlotsFit : Bool → ℕ → Terms → ℕ → List SlotValue → Type 0

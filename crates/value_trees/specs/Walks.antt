@@ -25,7 +25,8 @@ WalksTerm P p g slots at r =
 -- the same for the terms at some places, one after another
 abbrev pub WalksTerms : Program → List ℕ → Bool → List Slot → ℕ → Option ℕ → Type 0
 WalksTerms P ks g slots at r =
-    WalkIs (AllSlotsFit g P.declared.ceiling (terms_by (term_at P.nodes) ks) at (slots_of slots)) (at + kept_all (terms_by (term_at P.nodes) ks)) r
+    WalkIs (AllSlotsFit g P.declared.ceiling (terms_by (term_at P.nodes) ks) at (slots_of slots))
+    (at + kept_all (terms_by (term_at P.nodes) ks)) r
 
 -- the same for what a node keeps itself
 abbrev pub WalksOwn : Program → Option LocalType → Bool → List Slot → ℕ → Option ℕ → Type 0

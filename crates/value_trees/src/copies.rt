@@ -1,7 +1,7 @@
 //! What a firing reads.
 
 use arrayvec::ArrayVec;
-use fc_values::{Export, Local, Slots};
+use fc_values::{Export, Local, MOST_LINKS, Slots};
 use std::alloc::Global;
 use std::default::MadeWith;
 
@@ -33,5 +33,5 @@ pub struct Snap {
     pub device: u32,
     pub inputs: Vec<Local>,
     pub own: Option<Export>,
-    pub near: ArrayVec<Near, 32, Global>,
+    pub near: ArrayVec<Near, MOST_LINKS, Global>,
 }

@@ -21,7 +21,7 @@ pub fn kept(alloc: Global, program: &Unfolded, e: &Export) -> Result<Vec<Local>,
     Ok(list)
 }
 
-/// The values of the slots that are kept.
+// The values of the slots that are kept.
 fn kept_slots(alloc: Global, slots: &[Slot]) -> Result<Vec<Local>, Memory>
     ensures { IfOk result (λ list. map local_of list.items ≡ kept_only (slots_of slots.now)) }
 {

@@ -27,7 +27,7 @@ pub fn snap_fits(program: &Unfolded, s: &Snap) -> bool
     near_fit(program, s.device, s.near.as_slice())
 }
 
-/// Whether the inputs of a copy fit the declared ones.
+// Whether the inputs of a copy fit the declared ones.
 fn inputs_fit(declared: &[InputDecl], inputs: &[Local]) -> bool
     ensures { IsTrue result ↔ InputsFit (map input_of declared.now) (map local_of inputs.now) }
 {
@@ -40,7 +40,7 @@ fn inputs_fit(declared: &[InputDecl], inputs: &[Local]) -> bool
     input_fits(&first.ty, value) && inputs_fit(rest, others)
 }
 
-/// Whether a value is one of a declared input.
+// Whether a value is one of a declared input.
 fn input_fits(ty: &InputTy, value: &Local) -> bool
     ensures { IsTrue result ↔ InputFits ty.now (local_of value.now) }
 {
@@ -60,7 +60,7 @@ fn own_fits(program: &Unfolded, own: &Option<Export>) -> bool
     }
 }
 
-/// Whether the neighbours of a copy of a device fit, with rising numbers.
+// Whether the neighbours of a copy of a device fit, with rising numbers.
 fn near_fit(program: &Unfolded, device: u32, near: &[Near]) -> bool
     ensures { IsTrue result ↔ NearRises (unfolding_of program.now) device near.now }
 {
@@ -72,7 +72,7 @@ fn near_fit(program: &Unfolded, device: u32, near: &[Near]) -> bool
         && near_fit(program, device, rest)
 }
 
-/// Whether a number is below that of the first of some neighbours.
+// Whether a number is below that of the first of some neighbours.
 fn comes_before(device: u32, rest: &[Near]) -> bool
     ensures { IsTrue result ↔ ComesBefore device rest.now }
 {
@@ -82,7 +82,7 @@ fn comes_before(device: u32, rest: &[Near]) -> bool
     }
 }
 
-/// Whether a neighbour in a copy of a device fits.
+// Whether a neighbour in a copy of a device fits.
 fn one_fits(program: &Unfolded, device: u32, near: &Near) -> bool
     ensures { IsTrue result ↔ IsNear (unfolding_of program.now) device near.now }
 {

@@ -4,6 +4,7 @@
 mod copies;
 mod exports;
 mod fitting;
+mod items;
 mod laws;
 mod reading;
 #[cfg(test)]
@@ -13,6 +14,7 @@ mod walks;
 pub use copies::{Near, Snap};
 pub use exports::{kept, one_shape, overwrite_export};
 pub use fitting::snap_fits;
-pub use laws::lists_have_exports;
-pub use reading::{KeptFault, from_kept};
+pub use items::Item;
+pub use laws::{lists_have_exports, plain_lists_misfit_as_values};
+pub use reading::{KeptFault, from_items, from_kept};
 pub use walks::{fits_main, well_typed};

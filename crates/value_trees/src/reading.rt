@@ -1,15 +1,18 @@
 //! Exports out of their kept values.
 
-ghost use Rattle.std.specs.Prelude.{◌≡◌, MatchResult, IfErr, IfOk, Some, true};
+ghost use Rattle.std.specs.Prelude.{◌≡◌, ◌↔◌, IsTrue, MatchResult, IfErr, IfOk, Some, true};
 ghost use Rattle.fc_values.specs.Types.{local_type_of};
 ghost use Rattle.fc_values.specs.Values.{local_of};
 ghost use Rattle.fc_nodes.specs.Terms.{is_branching, node_keeps, sort_of, view_at, view_of};
 ghost use Rattle.fc_nodes.specs.Program.{unfolding_of, IsProgram};
 ghost use Rattle.value_trees.specs.Walks.{FitsMain};
 ghost use Rattle.fc_nodes.specs.Places.{StandsAt, StandAfter};
-ghost use Rattle.value_trees.specs.Filling.{FillsOwn, FillsSlot, FillsTerm, FillsTerms, IsFaultOf, IsReadFrom, IsTaken, OwnFault, TermFault, TermsFault};
+ghost use Rattle.value_trees.specs.KeptItems.{MayStand, kept_of};
+ghost use Rattle.value_trees.specs.Filling.{FillsOwn, FillsSlot, FillsTerm, FillsTerms, IsFaultOf, IsFaultOfItems};
+ghost use Rattle.value_trees.specs.Filling.{IsReadFrom, IsReadOffItems, IsTaken, OwnFault, TermFault, TermsFault};
 ghost use Rattle.value_trees.specs.declared.reading.KeptFault.TheVariants as kept_fault;
 
+use crate::items::{Item, names, plain_items};
 use crate::walks::{both, truth_at};
 use fc_nodes::{Node, Op, Unfolded, is_if};
 use fc_values::{Export, Local, LocalTy, Memory, Slot, Slots, blank_of, copy, fits, inner};
@@ -65,6 +68,21 @@ pub fn from_kept(
     requires { FitsMain (unfolding_of program.now) (local_of value) }
     ensures { MatchResult result (IsReadFrom program.now value list.items) (IsFaultOf program.now list.items) }
 {
+    let items = plain_items(alloc, list)?;
+    let export = from_items(alloc, program, value, &items)?;
+    Ok(export)
+}
+
+/// The export with a value and the values of these items in preorder, each of which stands where it says that it does.
+pub fn from_items(
+    alloc: Global,
+    program: &Unfolded,
+    value: Local,
+    items: &[Item],
+) -> Result<Export, KeptFault>
+    requires { FitsMain (unfolding_of program.now) (local_of value) }
+    ensures { MatchResult result (IsReadOffItems program.now value items.now) (IsFaultOfItems program.now items.now) }
+{
     let size = program.size();
     let mut slots = Vec::new(alloc);
     let root = Visit {
@@ -72,7 +90,7 @@ pub fn from_kept(
         place: 0,
         taken: true,
     };
-    let rest = fill(alloc, &root, list.as_slice(), &mut slots)?;
+    let rest = fill(alloc, &root, items, &mut slots)?;
     if !rest.is_empty() {
         return Err(KeptFault::At(size));
     }
@@ -87,11 +105,12 @@ pub fn from_kept(
 fn fill<'a>(
     alloc: Global,
     visit: &Visit<'_>,
-    list: &'a [Local],
+    list: &'a [Item],
     slots: &mut Vec<Slot>,
-) -> Result<&'a [Local], KeptFault>
+) -> Result<&'a [Item], KeptFault>
     requires { StandsAt visit.now.program.now.nodes visit.now.place }
-    ensures { MatchResult result (FillsTerm visit.now list.now slots.old.items slots.new.items) (TermFault visit.now list.now) }
+    ensures { MatchResult result
+        (FillsTerm visit.now list.now slots.old.items slots.new.items) (TermFault visit.now list.now) }
 {
     let node = visit.program.node(visit.place);
     if is_if(node) {
@@ -110,14 +129,15 @@ fn fill_if<'a>(
     alloc: Global,
     visit: &Visit<'_>,
     node: &Node,
-    list: &'a [Local],
+    list: &'a [Item],
     slots: &mut Vec<Slot>,
-) -> Result<&'a [Local], KeptFault>
+) -> Result<&'a [Item], KeptFault>
     requires formed { IsProgram visit.now.program.now }
     requires stands { StandsAt visit.now.program.now.nodes visit.now.place }
     requires node { view_at visit.now.program.now.nodes visit.now.place ≡ Some (view_of node.now) }
     requires branching { is_branching (sort_of node.now.op) ≡ true }
-    ensures { MatchResult result (FillsTerm visit.now list.now slots.old.items slots.new.items) (TermFault visit.now list.now) }
+    ensures { MatchResult result
+        (FillsTerm visit.now list.now slots.old.items slots.new.items) (TermFault visit.now list.now) }
 {
     let at = slots.len();
     let own = fill_slot(alloc, visit, &LocalTy::Bool, list, slots)?;
@@ -149,11 +169,13 @@ fn fill_kids<'a>(
     alloc: Global,
     visit: &Visit<'_>,
     kids: &[u32],
-    list: &'a [Local],
+    list: &'a [Item],
     slots: &mut Vec<Slot>,
-) -> Result<&'a [Local], KeptFault>
+) -> Result<&'a [Item], KeptFault>
     requires { StandAfter visit.now.program.now.nodes visit.now.place kids.now }
-    ensures { MatchResult result (FillsTerms visit.now kids.now list.now slots.old.items slots.new.items) (TermsFault visit.now kids.now list.now) }
+    ensures { MatchResult result
+        (FillsTerms visit.now kids.now list.now slots.old.items slots.new.items)
+        (TermsFault visit.now kids.now list.now) }
 {
     let mut left = list;
     for kid in kids {
@@ -172,10 +194,11 @@ fn fill_own<'a>(
     alloc: Global,
     visit: &Visit<'_>,
     node: &Node,
-    list: &'a [Local],
+    list: &'a [Item],
     slots: &mut Vec<Slot>,
-) -> Result<&'a [Local], KeptFault>
-    ensures filled { IfOk result (FillsOwn visit.now (node_keeps node.now) list.now slots.old.items slots.new.items) }
+) -> Result<&'a [Item], KeptFault>
+    ensures filled { IfOk result
+        (FillsOwn visit.now (node_keeps node.now) list.now slots.old.items slots.new.items) }
     ensures fault { IfErr result (OwnFault visit.now (node_keeps node.now) list.now) }
 {
     match &node.op {
@@ -196,10 +219,11 @@ fn fill_slot<'a>(
     alloc: Global,
     visit: &Visit<'_>,
     ty: &LocalTy,
-    list: &'a [Local],
+    list: &'a [Item],
     slots: &mut Vec<Slot>,
-) -> Result<&'a [Local], KeptFault>
-    ensures filled { IfOk result (FillsSlot visit.now (local_type_of ty.now) list.now slots.old.items slots.new.items) }
+) -> Result<&'a [Item], KeptFault>
+    ensures filled { IfOk result
+        (FillsSlot visit.now (local_type_of ty.now) list.now slots.old.items slots.new.items) }
     ensures fault { IfErr result (OwnFault visit.now (Some (local_type_of ty.now)) list.now) }
     ensures first { IfOk result (IsTaken visit.now list.now slots.old.items slots.new.items) }
 {
@@ -212,12 +236,19 @@ fn fill_slot<'a>(
         return Err(KeptFault::At(visit.place));
     };
     let ceiling = ceiling_of(visit.program);
-    if !fits(ty, first, ceiling) {
+    if !may_stand(visit.place, ceiling, ty, first) {
         return Err(KeptFault::At(visit.place));
     }
-    let value = copy(alloc, first)?;
+    let value = copy(alloc, &first.value)?;
     slots.push(Slot { kept: true, value })?;
     Ok(rest)
+}
+
+// Whether an item may stand at a place that keeps a value of a type.
+fn may_stand(place: u32, ceiling: u32, ty: &LocalTy, item: &Item) -> bool
+    ensures { IsTrue result ↔ MayStand place ceiling (local_type_of ty.now) (kept_of item.now) }
+{
+    names(place, item.place) && fits(ty, &item.value, ceiling)
 }
 
 // The greatest integer of a program.

@@ -32,7 +32,7 @@ pub fn fits_main(program: &Unfolded, value: &Local) -> bool
     fits(inner(&main.ty), value, ceiling)
 }
 
-/// Whether a walk ends at a slot.
+// Whether a walk ends at a slot.
 fn ends_with(end: Option<usize>, slot: usize) -> bool
     ensures { result ≡ ends_at slot end }
 {
@@ -42,7 +42,7 @@ fn ends_with(end: Option<usize>, slot: usize) -> bool
     }
 }
 
-/// Walks over the slots of the term at a place, from slot `at` on: the slot after them, or none where one doesn't fit.
+// Walks over the slots of the term at a place, from slot `at` on: the slot after them, or none where one doesn't fit.
 #[cycle(walk)]
 fn walk(program: &Unfolded, slots: &[Slot], place: u32, at: usize, taken: bool) -> Option<usize>
     requires { StandsAt program.now.nodes place }
@@ -58,7 +58,7 @@ fn walk(program: &Unfolded, slots: &[Slot], place: u32, at: usize, taken: bool) 
     }
 }
 
-/// The slots of the kids of an `if` whose own slot fits.
+// The slots of the kids of an `if` whose own slot fits.
 #[cycle(walk)]
 fn walk_if(
     program: &Unfolded,
@@ -82,7 +82,7 @@ fn walk_if(
     Some(third)
 }
 
-/// The slots of nodes one after another, all of them kids of the node at a place.
+// The slots of nodes one after another, all of them kids of the node at a place.
 #[cycle(walk)]
 fn walk_kids(
     program: &Unfolded,
@@ -102,7 +102,7 @@ fn walk_kids(
     Some(next)
 }
 
-/// The slot of a node itself, if it keeps something: the slot after it, or none where it doesn't fit.
+// The slot of a node itself, if it keeps something: the slot after it, or none where it doesn't fit.
 fn own_slot(
     program: &Unfolded,
     node: &Node,
@@ -120,7 +120,7 @@ fn own_slot(
     }
 }
 
-/// The slot after one that fits.
+// The slot after one that fits.
 fn one_slot(ty: &LocalTy, slots: &[Slot], at: usize, taken: bool, ceiling: u32) -> Option<usize>
     ensures { WalkIs (SlotFits taken ceiling (local_type_of ty.now) at (slots_of slots.now)) (at + 1) result }
 {
@@ -134,14 +134,14 @@ fn one_slot(ty: &LocalTy, slots: &[Slot], at: usize, taken: bool, ceiling: u32) 
     }
 }
 
-/// Whether a slot is kept or not, as asked, and its value fits.
+// Whether a slot is kept or not, as asked, and its value fits.
 fn slot_fits(ty: &LocalTy, slot: &Slot, taken: bool, ceiling: u32) -> bool
     ensures { IsTrue result ↔ ValueSlotFits taken ceiling (local_type_of ty.now) (slot_of slot.now) }
 {
     slot.kept == taken && slot_value_fits(ty, &slot.value, taken, ceiling)
 }
 
-/// Whether the value of a slot fits: one that is kept by its type and the ceiling, any other by its form.
+// Whether the value of a slot fits: one that is kept by its type and the ceiling, any other by its form.
 fn slot_value_fits(ty: &LocalTy, value: &Local, taken: bool, ceiling: u32) -> bool
     ensures { IsTrue result ↔ ValueFits taken ceiling (local_type_of ty.now) (local_of value.now) }
 {
@@ -152,7 +152,7 @@ fn slot_value_fits(ty: &LocalTy, value: &Local, taken: bool, ceiling: u32) -> bo
     }
 }
 
-/// Whether a value has the form of a type.
+// Whether a value has the form of a type.
 fn has_form(ty: &LocalTy, value: &Local) -> bool
     ensures { IsTrue result ↔ (form_of (local_of value.now) ≡ local_type_of ty.now) }
 {

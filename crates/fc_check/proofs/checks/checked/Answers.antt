@@ -4,4 +4,4 @@ use Rattle.fc_check.proofs.checks.checked.Goals as goal
 
 pub facts-requires-clause-levels : goal.facts-requires-clause-levels
 facts-requires-clause-levels c =
-    ap length (c.deref.ensures.value ∙ c.in_ok-levels-in-Yes.ensures) ∙ all_levels c.args.program.now c.args.devices c.requires.program
+    ap length (c.deref.ensures.value ∙ c.in_ok-levels-in-Yes.ensures.levels) ∙ all_levels c.args.program.now c.args.devices c.requires.program

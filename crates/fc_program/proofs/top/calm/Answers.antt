@@ -4,5 +4,7 @@ use Rattle.fc_program.proofs.top.calm.Goals as goal
 
 pub returns-clause-exact : goal.returns-clause-exact
 returns-clause-exact c = λ enough.
+    let ends = c.ended-outcome.ensures.ends in
     let low : c.ended-outcome.result.status ≤ 4 = search rules in
-    exact_named c.in-Ok.asked _ _ _ _ _ _ _ _ _ c.in-Ok.ensures.asked (ap Some c.new-source.ensures.fresh) (ap Some c.requires.empty) (c.ended-outcome.ensures.exact low)
+    exact_named c.in-Ok.asked _ _ _ _ _ _ _ c.in-Ok.ensures.asked (ap Some c.new-source.ensures.fresh)
+    (ap Some c.requires.empty) (ends.exact low)

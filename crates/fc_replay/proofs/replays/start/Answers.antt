@@ -4,7 +4,9 @@ use Rattle.fc_replay.proofs.Starting.{is_table, is_pending, starts_from}
 use Rattle.fc_replay.proofs.replays.start.Goals as goal
 
 pub returns-clause-core : goal.returns-clause-core
-returns-clause-core c = c.in_ok-start.ensures.core ∙ starts_from (unfolding_of c.args.program.now.value) c.args.scene.net c.args.scene.table.items c.args.scene.pending.items
+returns-clause-core c = c.in_ok-start.ensures.core
+    ∙ starts_from (unfolding_of c.args.program.now.value) c.args.scene.net c.args.scene.table.items
+    c.args.scene.pending.items
 
 pub new-requires-clause-table : goal.new-requires-clause-table
 new-requires-clause-table c = is_table _ _ _ c.requires.rows

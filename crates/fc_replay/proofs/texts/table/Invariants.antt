@@ -10,5 +10,6 @@ use Rattle.fc_replay.proofs.texts.table.Given as goal
 
 abbrev pub invariant-loop-device : goal.invariant-loop-device
 invariant-loop-device l =
-    IsTo (program_of l.core) (core_of l.core) l.device-items (map (borrowed_row (program_of l.core)) l.rows.items) l.device-index
+    IsTo (program_of l.core) (core_of l.core) l.device-items (map (borrowed_row (program_of l.core)) l.rows.items)
+    l.device-index
     × All (λ (r : ℕ × Bor Export). IsExportOf (program_of l.core) r.1.now) l.rows.items

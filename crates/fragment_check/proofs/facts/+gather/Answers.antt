@@ -2,6 +2,7 @@ use Rattle.std.proofs.Common.{◌∙◌, sym, ap, subst, arith}
 use Rattle.fc_nodes.specs.Terms.{term_at, terms_by}
 use Rattle.fragment_check.specs.Facts.{InRow, facts_of_all, facts_of_apply, under_nbr, beneath}
 use Rattle.fragment_check.proofs.Steps.{kids_row, kids_terms, first_later, apply_done, leaf_done, deep_done, nbr_done, other_facts}
+use Rattle.fragment_check.proofs.Absent.{absent_facts}
 use Rattle.fragment_check.proofs.facts.+gather.Goals as goal
 
 pub gather-apply_facts-requires : goal.gather-apply_facts-requires
@@ -33,6 +34,10 @@ gather-returns-then-is_nbr t c =
     ∙ ap (under_nbr c.is_heard-heard.result) (c.gather_all.ensures ∙ ap (λ ks. facts_of_all c.args.own (terms_by (term_at c.args.program.now.nodes) ks)) c.as_slice-kids.ensures.value)
     ∙ ap (λ b. under_nbr b (facts_of_all c.args.own (terms_by (term_at c.args.program.now.nodes) c.node-node.result.now.kids.items))) e
     ∙ sym (nbr_done c.args.program.now.nodes c.node-node.ensures.program.formed c.args.own c.args.place _ _ _ c.node-node.ensures.node c.requires.laid k (sym c.is_nbr.ensures ∙ c.if-is_nbr.true))
+
+pub gather-returns-then-not-occurs : goal.gather-returns-then-not-occurs
+gather-returns-then-not-occurs t c =
+    sym (absent_facts c.args.own (term_at c.args.program.now.nodes c.args.place) (sym c.occurs.ensures ∙ c.if-not-occurs.true))
 
 pub gather-gather_all-requires-then-is_deep : goal.gather-gather_all-requires-then-is_deep
 gather-gather_all-requires-then-is_deep t c =

@@ -1,6 +1,7 @@
 use Rattle.std.proofs.Common.{◌≡◌, ◌+◌, ◌-◌, ◌*◌, ◌++◌, List, drop, length}
 use Rattle.growth_facts.specs.Growth.{NodeFacts}
-use Rattle.growth_facts.specs.Facts.{AreKids, facts_at, evolution_by}
+use Rattle.growth_facts.specs.Facts.{AreKids, facts_at}
+use Rattle.fc_nodes.specs.Sorts.{evolution_by}
 use Rattle.fc_nodes.specs.Places.{StandAfter}
 use Rattle.growth_facts.proofs.walk.+facts_below.Given as goal
 

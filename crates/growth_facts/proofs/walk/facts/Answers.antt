@@ -1,4 +1,4 @@
-use Rattle.growth_facts.proofs.Standing.{each_stands}
+use Rattle.fc_nodes.proofs.Standing.{each_stands}
 use Rattle.growth_facts.proofs.walk.facts.Goals as goal
 
 pub facts_below-requires-clause-stands : goal.facts_below-requires-clause-stands

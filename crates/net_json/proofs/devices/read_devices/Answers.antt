@@ -11,24 +11,24 @@ use Rattle.net_json.proofs.Shapes.{count_values}
 use Rattle.net_json.proofs.Limits.{within, beyond}
 use Rattle.net_json.proofs.devices.read_devices.Goals as goal
 
-pub returns-then-items-gt1024-clause-refused : goal.returns-then-items-gt1024-clause-refused
-returns-then-items-gt1024-clause-refused c =
+pub returns-then-items-gt-MOST_DEVICES-clause-refused : goal.returns-then-items-gt-MOST_DEVICES-clause-refused
+returns-then-items-gt-MOST_DEVICES-clause-refused c =
     beyond (Misshaped (path_of c.args.here.now)) (TooManyDevices (count_items (items_view c.args.items.now))) (gather number_of (device_judged (map input_of c.args.inputs.now)) (path_of c.args.here.now) (items_view c.args.items.now))
-    (count_items (items_view c.args.items.now)) (length c.args.items.now) (count_values c.args.items.now) c.if-items-gt1024.true
+    (count_items (items_view c.args.items.now)) (length c.args.items.now) (count_values c.args.items.now) c.if-items-gt-MOST_DEVICES.true
     ∙ ap (λ n. Refused (TooManyDevices n)) (count_values c.args.items.now)
 
 pub returns-clause-ok : goal.returns-clause-ok
 returns-clause-ok c =
     let u = eqb-false (length c.args.items.now) 0 (sym c.if-is_empty.ensures) in
-    subst (λ j. IfOk c.gather_devices.result (λ ds. j ≡ Accepted (map device_of ds.items)))
+    subst (λ j. IfOk c.gather.result (λ ds. j ≡ Accepted (map device_of ds.items)))
     (sym (within (Misshaped (path_of c.args.here.now)) (TooManyDevices (count_items (items_view c.args.items.now))) (gather number_of (device_judged (map input_of c.args.inputs.now)) (path_of c.args.here.now) (items_view c.args.items.now))
-    (count_items (items_view c.args.items.now)) (length c.args.items.now) (count_values c.args.items.now) (omega (arith, u)) c.if-items-gt1024.false))
-    c.gather_devices.ensures.ok
+    (count_items (items_view c.args.items.now)) (length c.args.items.now) (count_values c.args.items.now) (omega (arith, u)) c.if-items-gt-MOST_DEVICES.false))
+    c.gather.ensures.ok
 
 pub returns-clause-refused : goal.returns-clause-refused
 returns-clause-refused c =
     let u = eqb-false (length c.args.items.now) 0 (sym c.if-is_empty.ensures) in
-    subst (λ j. IfErr c.gather_devices.result (RefusedWith j))
+    subst (λ j. IfErr c.gather.result (RefusedWith j))
     (sym (within (Misshaped (path_of c.args.here.now)) (TooManyDevices (count_items (items_view c.args.items.now))) (gather number_of (device_judged (map input_of c.args.inputs.now)) (path_of c.args.here.now) (items_view c.args.items.now))
-    (count_items (items_view c.args.items.now)) (length c.args.items.now) (count_values c.args.items.now) (omega (arith, u)) c.if-items-gt1024.false))
-    c.gather_devices.ensures.refused
+    (count_items (items_view c.args.items.now)) (length c.args.items.now) (count_values c.args.items.now) (omega (arith, u)) c.if-items-gt-MOST_DEVICES.false))
+    c.gather.ensures.refused

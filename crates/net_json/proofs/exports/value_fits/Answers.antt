@@ -1,5 +1,5 @@
 use Rattle.fc_values.specs.Values.{local_of}
-use Rattle.net_json.proofs.TookTrees.{test_is}
+use Rattle.net_json.proofs.WholeExports.{test_is}
 use Rattle.net_json.proofs.exports.value_fits.Goals as goal
 
 pub returns-clause-test : goal.returns-clause-test

@@ -3,7 +3,8 @@ use Rattle.serde_json.specs.View.{view, items_of}
 use Rattle.net_json.specs.PlaceCode.{path_of}
 use Rattle.net_json.specs.Judging.{in_turn}
 use Rattle.net_json.specs.KeptItems.{kept_judged}
-use Rattle.net_json.specs.KeptCode.{kept_of, item_by}
+use Rattle.value_trees.specs.KeptItems.{kept_of}
+use Rattle.net_json.specs.KeptCode.{item_by}
 use Rattle.net_json.proofs.kept.read_items.Given as goal
 
 abbrev pub invariant-loop-i : goal.invariant-loop-i

@@ -1,6 +1,6 @@
 use Rattle.std.proofs.Common.{◌∙◌, sym, ap, subst}
+use Rattle.fc_nodes.specs.Sorts.{evolution_by}
 use Rattle.growth_facts.specs.Facts.{evolution_at}
-use Rattle.fragment_check.specs.Facts.{evolution_by}
 use Rattle.fragment_check.specs.Verdicts.{added_by, variable_range}
 use Rattle.round_bound.proofs.Small.{ResultFew, pattern_at_few}
 use Rattle.round_bound.proofs.Potentials.{added_is, adds}

@@ -3,7 +3,7 @@ use Rattle.fc_values.specs.BuiltinTypes.{inner}
 use Rattle.fc_values.specs.Types.{Declarations, local_type_of, type_of}
 use Rattle.fc_nodes.specs.Program.{unfolding_of}
 use Rattle.growth_facts.specs.Leads.{least_integer, greatest_integer}
-use Rattle.growth_facts.proofs.Standing.{each_stands}
+use Rattle.fc_nodes.proofs.Standing.{each_stands}
 use Rattle.interval_facts.proofs.Lengths.{place_there}
 use Rattle.round_bound.specs.Walks.{greatest_full}
 use Rattle.round_bound.proofs.Potentials.{past_range, let_range, let_within, evolve_range, other_range, full_greatest, full_least, range_behind}

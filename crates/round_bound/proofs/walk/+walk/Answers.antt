@@ -1,13 +1,13 @@
-use Rattle.std.proofs.Common.{◌≡◌, ◌∙◌, ℕ, None, suc, true, false, List, [], ◌∷◌, ◌++◌, refl, sym, ap, subst, arith, length, get_or, max, ◌+◌}
-use Rattle.std.proofs.lemmas.List.{append-nil, append_assoc}
+use Rattle.std.proofs.Common.{◌≡◌, ◌∙◌, None, suc, [], ◌∷◌, ◌++◌, sym, ap, subst, arith, get_or, ◌+◌}
+use Rattle.std.proofs.lemmas.List.{append-nil}
 use Rattle.std.specs.Prelude.{if◌then◌else◌}
 use Rattle.fc_nodes.specs.Terms.{term_at}
 use Rattle.fragment_check.specs.Levels.{bind_level, level_of, node_levels}
 use Rattle.fragment_check.specs.Facts.{InRow}
 use Rattle.fragment_check.proofs.Steps.{first_later}
-use Rattle.round_bound.specs.Walks.{behind, levels_in, greatest_at, levels_at, stages_in, level_at}
-use Rattle.growth_facts.specs.Variables.{is_own}
-use Rattle.round_bound.proofs.NodeSteps.{used, unused, set_found, own_some, own_none, two_behind, three_behind, set_there, if_suc, all_below, row_at, later_ready, other_ready, small, branch_small, row, apply_level, apply_levels, apply_uses, leaf_level_is, leaf_levels, nbr_some, nbr_level, nbr_rest, if_long, if_level, if_ready, if_done, if_rest, let_long, let_level, let_bound, let_later, let_rest, evolve_long, evolve_level, evolve_later, evolve_rest, third_there, own_level}
+use Rattle.round_bound.specs.Walks.{behind, levels_in, stages_in, level_at}
+use Rattle.fc_nodes.specs.Variables.{is_own}
+use Rattle.round_bound.proofs.NodeSteps.{used, unused, set_found, own_some, own_none, two_behind, three_behind, if_suc, all_below, row_at, later_ready, other_ready, small, row, apply_level, apply_levels, apply_uses, leaf_level_is, leaf_levels, nbr_some, nbr_level, nbr_rest, if_long, if_ready, if_done, if_rest, let_long, let_level, let_bound, let_rest, evolve_long, evolve_level, evolve_rest, third_there}
 use Rattle.round_bound.proofs.walk.+walk.Goals as goal
 
 pub below-walk_all-requires : goal.below-walk_all-requires
@@ -124,7 +124,7 @@ below_if-returns t c =
     record {
       level = if_done c.args.context.now c.requires.program c.args.place c.args.sight.now c.requires.ready c.requires.stands _ _ _ c.requires.node c.requires.branching c.index.result.now c.index-2.result.now c.index-3.result.now c.index.ensures c.index-2.ensures c.index-3.ensures
           c.in_ok-condition.condition.level c.max.result c.max-2.result c.in_ok-first.first.level c.in_ok-second.second.level c.max-2.ensures c.max.ensures c.in_ok-condition.ensures.level c.in_ok-first.ensures.level c.in_ok-second.ensures.level;
-      uses = rw (c.either-2.ensures, c.either.ensures, c.in_ok-condition.ensures.uses, c.in_ok-first.ensures.uses, c.in_ok-second.ensures.uses) (sym r.1);
+      uses = rw (c.in_ok-condition.ensures.uses, c.in_ok-first.ensures.uses, c.in_ok-second.ensures.uses) (sym r.1);
       levels = three_behind _ _ _ _ _ _ _ c.in_ok-condition.ensures.levels c.in_ok-first.ensures.levels c.in_ok-second.ensures.levels ∙ ap (λ l. c.args.levels.now.items ++ l) (sym r.0);
     }
 
@@ -174,7 +174,7 @@ below_let-returns t c =
       level = c.in_ok-body.ensures.level
           ∙ ap (λ k. level_of (stages_in c.args.context.now) c.index-2.result.now c.args.sight.now.branch c.args.sight.now.own (bind_level c.args.place k (levels_in c.args.sight.now.scope.now)) (term_at c.args.context.now.program.now.nodes c.index-2.result.now)) c.in_ok-bound.ensures.level
           ∙ sym (let_level c.args.context.now c.requires.program c.args.place c.args.sight.now c.requires.ready c.requires.stands _ _ _ c.requires.node c.requires.binding c.index.result.now c.index-2.result.now c.index.ensures c.index-2.ensures);
-      uses = rw (c.either.ensures, c.in_ok-bound.ensures.uses, c.in_ok-body.ensures.uses) (sym r.1);
+      uses = rw (c.in_ok-bound.ensures.uses, c.in_ok-body.ensures.uses) (sym r.1);
       levels = two_behind _ _ _ _ _ c.in_ok-bound.ensures.levels c.in_ok-body.ensures.levels ∙ ap (λ l. c.args.levels.now.items ++ l) (sym r.0);
     }
 

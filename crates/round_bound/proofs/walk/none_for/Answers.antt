@@ -1,4 +1,4 @@
-use Rattle.std.proofs.Common.{◌≡◌, ◌∙◌, ap, ◌++◌, ◌-◌, None, [], ◌∷◌, List, Option, ℕ}
+use Rattle.std.proofs.Common.{◌∙◌, ap, ◌++◌, ◌-◌, None, [], ◌∷◌, List, Option, ℕ}
 use Rattle.std.specs.List.{repeat}
 use Rattle.round_bound.proofs.NodeSteps.{one_none}
 use Rattle.round_bound.proofs.walk.none_for.Goals as goal

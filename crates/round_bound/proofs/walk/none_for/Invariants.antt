@@ -1,4 +1,4 @@
-use Rattle.std.proofs.Common.{◌≡◌, ◌++◌, None, [], ◌∷◌, Option, ℕ}
+use Rattle.std.proofs.Common.{◌≡◌, ◌++◌, None, [], ◌∷◌}
 use Rattle.std.specs.List.{repeat}
 use Rattle.round_bound.proofs.walk.none_for.Given as goal
 

@@ -1,36 +1,21 @@
-use Rattle.std.proofs.Common.{◌≡◌, ◌<◌, length, ap, sym, ◌∙◌, map, refl, arith}
+use Rattle.std.proofs.Common.{◌≡◌, ap, sym, ◌∙◌, map, subst}
 use Rattle.std.proofs.lemmas.Result.{err_from_is_err_and}
-use Rattle.std.proofs.lemmas.Bool.Decides.{nat_tests}
-use Rattle.std.proofs.lemmas.List.{length-map}
 use Rattle.fc_values.specs.Values.{local_of}
-use Rattle.fc_values.specs.Exports.{slots_of, export_of}
 use Rattle.fc_nodes.specs.Program.{unfolding_of}
-use Rattle.value_trees.proofs.FillSteps.{whole_fault, surplus_fault, whole_filled, none_of}
-use Rattle.value_trees.proofs.ReadTrees.{one_export}
+use Rattle.value_trees.specs.KeptItems.{kept_of, plain_item}
+use Rattle.value_trees.specs.Filling.{IsItemFault, IsReadOff}
+use Rattle.value_trees.proofs.FillSteps.{plain_fault, plain_read}
 use Rattle.value_trees.proofs.reading.from_kept.Goals as goal
 
-pub returns-in_err-rest : goal.returns-in_err-rest
-returns-in_err-rest c =
-    let p = err_from_is_err_and c.from_residual.result c.from_residual.ensures.1 in
-    rw (p.1, p.2) (whole_fault (unfolding_of c.args.program.now) (map local_of c.args.list.items) c.in_err-rest.field-0.0 (rw c.as_slice.ensures.value at c.in_err-rest.ensures))
-
-pub returns-then-not-is_empty : goal.returns-then-not-is_empty
-returns-then-not-is_empty c =
-    let f = rw c.as_slice.ensures.value at c.in_ok-rest.ensures in
-    let test = c.is_empty.ensures in
-    let none = c.if-not-is_empty.true in
-    let some : 0 < length c.in_ok-rest.rest.now = grind (arith, nat_tests) in
-    let program = c.size-size.ensures.program in
-    let size = c.size-size.ensures.value in
-    surplus_fault (unfolding_of c.args.program.now) (map local_of c.args.list.items) (map local_of c.in_ok-rest.rest.now) c.size-size.result f.left (omega (arith, some, length-map c.in_ok-rest.rest.now local_of)) (size ∙ program.formed.whole)
+pub returns-in_err-export : goal.returns-in_err-export
+returns-in_err-export c =
+    let p = err_from_is_err_and c.from_residual-in_err-export.result c.from_residual-in_err-export.ensures.1 in
+    let U = unfolding_of c.args.program.now in
+    let vs = map local_of c.args.list.items in
+    rw (p.1, p.2) (plain_fault U vs c.in_err-export.field-0.0 (subst (λ xs. IsItemFault U xs c.in_err-export.field-0.0) (ap (map kept_of) c.deref.ensures.value ∙ c.in_ok-items.ensures) c.in_err-export.ensures))
 
 pub returns : goal.returns
 returns c =
-    let f = rw c.as_slice.ensures.value at c.in_ok-rest.ensures in
-    let test = c.is_empty.ensures in
-    let none = c.if-not-is_empty.false in
-    let all : length c.in_ok-rest.rest.now ≡ 0 = grind (arith, nat_tests) in
-    let left = none_of (map local_of c.in_ok-rest.rest.now) (omega (arith, all, length-map c.in_ok-rest.rest.now local_of)) in
-    let read = whole_filled (unfolding_of c.args.program.now) (map local_of c.args.list.items) (export_of (record { value = c.args.value; slots = record { list = c.fill.new.slots } })) (map local_of c.in_ok-rest.rest.now) (slots_of c.new-slots.result.items) (ap slots_of c.new-slots.ensures.items) left c.requires f in
-    let export = read.0 in
-    record { export = export; value = refl; list = read.1; only = λ x h e f. one_export (unfolding_of c.args.program.now) x _ h export.typed e (f ∙ sym read.1) }
+    let U = unfolding_of c.args.program.now in
+    let vs = map local_of c.args.list.items in
+    plain_read U vs (local_of c.args.value) c.in_ok-export.export c.requires (subst (λ xs. IsReadOff U (local_of c.args.value) xs c.in_ok-export.export) (ap (map kept_of) c.deref.ensures.value ∙ c.in_ok-items.ensures) c.in_ok-export.ensures)

@@ -8,7 +8,7 @@ use Rattle.firing_core.specs.Cores.{Map, IsGood}
 use Rattle.firing_core.specs.CoreViews.{CoreValue, core_of, program_of}
 use Rattle.firing_core.specs.Entries.{EndEntry, entries_of}
 use Rattle.firing_core.specs.declared.entries.Entry.TheVariants as entry
-use Rattle.export_table.specs.Agendas.{AgendaValue, IsAgenda, after_end}
+use Rattle.export_table.specs.Agendas.{AgendaValue, IsAgenda, IsWithin, after_end}
 use Rattle.export_table.specs.Holding.{HeldValue, Plans, opening_of}
 use Rattle.export_table.proofs.Planning.{plans_end, put_same}
 use Rattle.export_table.proofs.Keeping.{keeps, past_in, roomy_end, whole_end, lives_below}
@@ -34,7 +34,7 @@ invariant_of-self c = let h = c.self.inside in let i = c.self.invariant in let d
     let is = c.rest.ensures ∙ ap (λ (f : Snap). after_end h.agenda f.device) c.snap.ensures.value in
     keeps h.book c.end_with.new.self h.agenda.rounds h.turns h.front h.agenda c.rest.new.self (entry.End d) i s ok.spare
     (roomy_end (unfolding_of h.book.program) h.book.core c.end_with.new.self.core d i.rooms s.step ok.rooms)
-    (subst (λ (a : AgendaValue). IsAgenda a) (sym is) (whole_end h.agenda d i.agenda)) (ap (λ (a : AgendaValue). a.rounds) is)
+    (subst (λ (a : AgendaValue). IsAgenda a) (sym is) (whole_end h.agenda d i.agenda)) (subst (λ (a : AgendaValue). IsWithin a) (sym is) i.within) (ap (λ (a : AgendaValue). a.rounds) is)
     (subst (λ (a : AgendaValue). Plans (opening_of h.book h.agenda.rounds h.turns h.front) (entries_of h.book.log ++ EndEntry d ∷ []) (core_of c.end_with.new.self.core) a) (sym is)
     (plans_end (unfolding_of h.book.program) _ _ _ (core_of c.end_with.new.self.core) h.agenda d i.plans i.agenda (past_in _ h.agenda i) (lives_below h.book.core.net d net there) there s.step))
 

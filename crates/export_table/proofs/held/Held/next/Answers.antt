@@ -5,16 +5,16 @@ use Rattle.firing_core.specs.CoreViews.{CoreValue, core_of}
 use Rattle.firing_core.specs.Entries.{BeginEntry, entries_of}
 use Rattle.firing_core.specs.declared.entries.Entry.TheVariants as entry
 use Rattle.export_table.specs.Begins.{IsNext}
-use Rattle.export_table.specs.Agendas.{AgendaValue, IsAgenda}
+use Rattle.export_table.specs.Agendas.{AgendaValue, IsAgenda, IsWithin}
 use Rattle.export_table.specs.Holding.{HeldValue, opening_of, Turned, NothingLeft, Plans, opening_in, log_in, core_in}
 use Rattle.export_table.proofs.Planning.{plans_begin, plans_idle}
-use Rattle.export_table.proofs.Keeping.{keeps, past_in, turned, roomy_begin, roomy_idle, next_is, none_left, whole_begin}
+use Rattle.export_table.proofs.Keeping.{keeps, past_in, turned, roomy_begin, roomy_idle, next_is, none_left, whole_begin, within_begin, may_more}
 use Rattle.export_table.proofs.held.Held.next.Goals as goal
 
 pub invariant_of-self : goal.invariant_of-self
 invariant_of-self c = let h = c.self.inside in let i = c.self.invariant in let s = c.idle.ensures.appended in
     keeps h.book c.idle.new.self h.agenda.rounds h.turns h.front h.agenda h.agenda entry.Idle i s c.idle.ensures.room
-    (roomy_idle (unfolding_of h.book.program) h.book.core c.idle.new.self.core i.rooms s.step c.idle.ensures.rooms) i.agenda refl
+    (roomy_idle (unfolding_of h.book.program) h.book.core c.idle.new.self.core i.rooms s.step c.idle.ensures.rooms) i.agenda i.within refl
     (plans_idle (unfolding_of h.book.program) _ _ _ _ h.agenda i.plans (past_in _ h.agenda i) s.step)
 
 pub returns-in_default-clause-idle : goal.returns-in_default-clause-idle
@@ -32,7 +32,8 @@ invariant_of-self-in-Ok c = let h = c.self.inside in let i = c.self.invariant in
     let small = c.in-Some.ensures.some.0 in
     keeps h.book c.begin_with.new.self h.agenda.rounds h.turns h.front h.agenda c.begin.new.self (entry.Begin d) i s ok.spare
     (roomy_begin (unfolding_of h.book.program) h.book.core c.begin_with.new.self.core d i.rooms s.step ok.rooms)
-    (subst (λ (a : AgendaValue). IsAgenda a) (sym is) (whole_begin h.agenda d i.agenda)) (ap (λ (a : AgendaValue). a.rounds) is)
+    (subst (λ (a : AgendaValue). IsAgenda a) (sym is) (whole_begin h.agenda d i.agenda))
+    (subst (λ (a : AgendaValue). IsWithin a) (sym is) (within_begin h.agenda d i.agenda small (may_more _ _ (core_of h.book.core) h.agenda d i.plans c.in-Some.ensures.some) i.within)) (ap (λ (a : AgendaValue). a.rounds) is)
     (subst (λ (a : AgendaValue). Plans (opening_of h.book h.agenda.rounds h.turns h.front) (entries_of h.book.log ++ BeginEntry d ∷ []) (core_of c.begin_with.new.self.core) a) (sym is) (plans_begin (unfolding_of h.book.program) _ _ _ (core_of c.begin_with.new.self.core) h.agenda d i.plans i.agenda (past_in _ h.agenda i) small s.step))
 
 pub returns-clause-turned : goal.returns-clause-turned

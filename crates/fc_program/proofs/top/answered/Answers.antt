@@ -1,7 +1,0 @@
-use Rattle.fc_program.specs.Top.{value_of}
-use Rattle.fc_program.proofs.Answering.{stop_answers}
-use Rattle.fc_program.proofs.top.answered.Goals as goal
-
-pub returns-in_ok-rendered-in-Err-clause-answers : goal.returns-in_ok-rendered-in-Err-clause-answers
-returns-in_ok-rendered-in-Err-clause-answers g = λ c.
-    stop_answers c.args.asked _ c.in-Err.stop c.in_ok-rendered-in-Err.field-0 (value_of c.replied.result) c.in-Err.ensures.refused c.in_ok-rendered-in-Err.ensures.reply c.replied.ensures

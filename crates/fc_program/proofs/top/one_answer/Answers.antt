@@ -1,5 +1,0 @@
-use Rattle.fc_program.proofs.OneAnswer.{one_answer}
-use Rattle.fc_program.proofs.top.one_answer.Goals as goal
-
-pub returns : goal.returns
-returns c = one_answer c.one_source.ensures c.one_check.ensures c.one_replay.ensures

@@ -1,5 +1,0 @@
-use Rattle.fc_program.proofs.SomeAnswer.{some_answer}
-use Rattle.fc_program.proofs.top.some_answer.Goals as goal
-
-pub returns : goal.returns
-returns c = some_answer c.one_source.ensures c.sections_are_within.ensures c.some_check.ensures c.some_replay.ensures

@@ -1,0 +1,66 @@
+//! All that is done for what the words ask for, and how it ends.
+ghost use Rattle.std.specs.Prelude.{◌≡◌, false};
+ghost use Rattle.fc_program.specs.Asked.{reads_source, MayAsk};
+ghost use Rattle.fc_program.specs.Top.{Ends, TellsNothing, sink_at, source_at};
+
+use crate::judging::answered;
+use command_words::Command;
+use fc_inputs::Failure;
+use fc_io::{Sink, Source, write_all};
+use firing_core::{Book, Part};
+use std::alloc::Global;
+
+/// What a run leaves beside its text.
+#[derive(Drop)]
+pub struct Outcome {
+    /// The status that the program ends with.
+    pub status: u8,
+    /// The program, the start, the log and the last core of a replay.
+    pub book: Option<Book>,
+    /// The stretches of the log that the lines of a script made.
+    pub parts: Vec<Part>,
+}
+
+/// What is left where nothing was made.
+pub fn without_book(alloc: Global, status: u8) -> Outcome
+    ensures status { result.status ≡ status }
+    ensures nothing { TellsNothing result }
+{
+    Outcome {
+        status,
+        book: None,
+        parts: Vec::new(alloc),
+    }
+}
+
+/// All that is done for what the words ask for. It waits for nothing.
+pub fn ended<S: Source, K: Sink>(
+    alloc: Global,
+    asked: Option<Command>,
+    src: &mut S,
+    out: &mut K,
+) -> Outcome
+    requires { MayAsk asked }
+    ensures ends { Ends asked
+        (source_at (S.left src.old) (S.faults src.old)) (source_at (S.left src.new) (S.faults src.new))
+        (sink_at (K.taken out.old) (K.faults out.old) (K.room out.old))
+        (sink_at (K.taken out.new) (K.faults out.new) (K.room out.new)) result }
+    ensures untouched { reads_source asked ≡ false → src.new ≡ src.old }
+{
+    match answered(alloc, asked, src) {
+        Ok(answer) => match write_all(out, answer.reply.text()) {
+            Ok(()) => Outcome {
+                status: answer.reply.status(),
+                book: answer.book,
+                parts: answer.parts,
+            },
+            Err(_) => Outcome {
+                status: 6,
+                book: answer.book,
+                parts: answer.parts,
+            },
+        },
+        Err(Failure::Read) => without_book(alloc, 5),
+        Err(Failure::Memory) => without_book(alloc, 7),
+    }
+}

@@ -1,0 +1,80 @@
+//! What is made of what the words ask for.
+ghost use Rattle.std.specs.Prelude.{◌≡◌, ◌≢◌, ◌≤◌, IfErr, IfOk, IsErrOf, None, Some, true, false};
+ghost use Rattle.std.specs.Io.KnownBytes.{IsAtEnd};
+ghost use Rattle.command_words.specs.Commands.{limit_of};
+ghost use Rattle.fc_io.specs.Causes.{Rose};
+ghost use Rattle.fc_inputs.specs.Causes.{Accepted};
+ghost use Rattle.fc_inputs.specs.declared.stop.Stop.TheVariants as stop;
+ghost use Rattle.fc_inputs.specs.declared.reply.Failure.TheVariants as failure;
+ghost use Rattle.fc_program.specs.Asked.{exists, reads_source, MayAsk};
+ghost use Rattle.fc_program.specs.Top.{IsAnswer, IsJudged, StopsAsked, stop_status, value_of};
+
+use crate::answers::{Answer, answer_to};
+use crate::asked::past_limit;
+use command_words::Command;
+use fc_inputs::{Failure, MOST_BYTES, Refusal, Stop, rendered};
+use fc_io::{ReadAll, Source, read_all};
+use std::alloc::Global;
+
+// What a command that reads makes of what the source has left.
+fn read_and_judged<S: Source>(alloc: Global, command: Command, src: &mut S) -> Result<Answer, Stop>
+    requires within { limit_of command ≡ None }
+    requires exists { exists command ≡ true }
+    ensures makes { IfOk result (λ a. IsJudged (Some command) (S.left src.old) (Accepted (value_of a))) }
+    ensures refused { IfErr result (StopsAsked (Some command) (S.left src.old)) }
+    ensures end { IfOk result (λ a. IsAtEnd (S.left src.new)) }
+    ensures read { IfErr result (λ s. stop_status s ≡ 3 → IsAtEnd (S.left src.new)) }
+    ensures fault { IsErrOf result Stop.Read → Rose (S.faults src.old) (S.faults src.new) }
+    ensures quiet { (IsErrOf result Stop.Read → ⊥) → S.faults src.new ≡ S.faults src.old }
+{
+    match read_all(alloc, src, MOST_BYTES) {
+        Ok(input) => Ok(answer_to(alloc, command, &input)?),
+        Err(ReadAll::TooLong) => Err(Stop::Refused(Refusal::Bytes)),
+        Err(ReadAll::ReadFault) => Err(Stop::Read),
+        Err(ReadAll::Memory) => Err(Stop::Memory),
+    }
+}
+
+// What is made of what the words ask for. A number past its limit is refused before anything is read.
+fn judged<S: Source>(alloc: Global, asked: Option<Command>, src: &mut S) -> Result<Answer, Stop>
+    requires { MayAsk asked }
+    ensures makes { IfOk result (λ a. IsJudged asked (S.left src.old) (Accepted (value_of a))) }
+    ensures refused { IfErr result (StopsAsked asked (S.left src.old)) }
+    ensures end { reads_source asked ≡ true → IfOk result (λ a. IsAtEnd (S.left src.new)) }
+    ensures read { IfErr result (λ s. stop_status s ≡ 3 → IsAtEnd (S.left src.new)) }
+    ensures untouched { reads_source asked ≡ false → src.new ≡ src.old }
+    ensures fault { IsErrOf result Stop.Read → Rose (S.faults src.old) (S.faults src.new) }
+    ensures quiet { (IsErrOf result Stop.Read → ⊥) → S.faults src.new ≡ S.faults src.old }
+{
+    let Some(command) = asked else {
+        return Err(Stop::Refused(Refusal::Usage));
+    };
+    if let Some(refusal) = past_limit(command) {
+        return Err(Stop::Refused(refusal));
+    }
+    read_and_judged(alloc, command, src)
+}
+
+/// The answer to what the words ask for: what stops with a cause is a reply.
+pub fn answered<S: Source>(
+    alloc: Global,
+    asked: Option<Command>,
+    src: &mut S,
+) -> Result<Answer, Failure>
+    requires { MayAsk asked }
+    ensures answers { IfOk result (λ a. IsAnswer asked (S.left src.old) (value_of a)) }
+    ensures usage { IfOk result (λ a. a.reply.status ≡ 2 → asked ≡ None) }
+    ensures outside { IfOk result (λ a. asked ≡ None → a.reply.status ≡ 2) }
+    ensures status { IfOk result (λ a. a.reply.status ≤ 4) }
+    ensures end { reads_source asked ≡ true → IfOk result (λ a. a.reply.status ≤ 1 → IsAtEnd (S.left src.new)) }
+    ensures refused { IfOk result (λ a. a.reply.status ≡ 3 → IsAtEnd (S.left src.new)) }
+    ensures untouched { reads_source asked ≡ false → src.new ≡ src.old }
+    ensures fault { IsErrOf result Failure.Read → Rose (S.faults src.old) (S.faults src.new) }
+    ensures inside { IsErrOf result Failure.Read → asked ≢ None }
+    ensures quiet { (IsErrOf result Failure.Read → ⊥) → S.faults src.new ≡ S.faults src.old }
+{
+    match judged(alloc, asked, src) {
+        Ok(answer) => Ok(answer),
+        Err(stop) => Ok(Answer::replied(alloc, rendered(alloc, &stop)?)),
+    }
+}

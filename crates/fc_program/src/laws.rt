@@ -1,0 +1,30 @@
+//! Laws of the answers.
+ghost use Rattle.fc_program.specs.Laws.{OneAnswer, SomeAnswer};
+
+use converge_laws::yes_stabilises;
+use fc_check::{one_check, some_check};
+use fc_inputs::{one_input, one_source, sections_are_within};
+use fc_replay::{one_replay, some_replay};
+use net_json::accepted_scenes_fit;
+
+/// Two answers to one input have one status and one text; where threads make the log, one text for logs that agree.
+pub fn one_answer()
+    ensures { OneAnswer }
+{
+    one_source();
+    one_input();
+    one_check();
+    one_replay();
+}
+
+/// Each input has an answer, whatever the words ask for.
+pub fn some_answer()
+    ensures { SomeAnswer }
+{
+    one_source();
+    sections_are_within();
+    yes_stabilises();
+    accepted_scenes_fit();
+    some_check();
+    some_replay();
+}

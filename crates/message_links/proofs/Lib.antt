@@ -1,0 +1,4 @@
+mod Posts
+mod Firings
+mod MailLevels
+mod Rounds

@@ -1,0 +1,3 @@
+pub mod MailCores
+pub mod MailRounds
+pub mod Laws

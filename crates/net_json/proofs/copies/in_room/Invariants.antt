@@ -1,0 +1,5 @@
+use Rattle.std.proofs.Common.{◌≡◌}
+use Rattle.net_json.proofs.copies.in_room.Given as goal
+
+abbrev pub invariant-loop-near : goal.invariant-loop-near
+invariant-loop-near l = l.nears.items ≡ l.yielded

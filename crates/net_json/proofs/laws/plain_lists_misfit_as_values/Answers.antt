@@ -1,5 +1,0 @@
-use Rattle.net_json.proofs.PlainLists.{plain_misfit}
-use Rattle.net_json.proofs.laws.plain_lists_misfit_as_values.Goals as goal
-
-pub returns : goal.returns
-returns c = λ U vs. plain_misfit U vs

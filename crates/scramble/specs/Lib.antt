@@ -1,0 +1,5 @@
+pub mod Words
+pub mod Draws
+pub mod Drawing
+pub mod Rubbish
+pub mod Rings

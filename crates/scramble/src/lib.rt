@@ -1,0 +1,11 @@
+//! What is made from a number: rubbish tables, and scenarios on rings.
+#![tactic(auto)]
+
+mod draws;
+mod rings;
+mod tables;
+mod words;
+
+pub use rings::scenario;
+pub use tables::rubbish;
+pub use words::{generator, next_word};

@@ -1,0 +1,105 @@
+-- The copy with which a device begins, before it has heard its neighbours.
+use Rattle.std.proofs.Common.{◌≡◌, ℕ, zero, suc, ◌<◌, List, [], ◌∷◌, ◌++◌, length, map, get_or, refl, sym, ◌∙◌, ap, subst, arith, Bool, true, false, nat_eq, if◌then◌else◌, Option, None}
+use Rattle.std.specs.Prelude.{slice_set, option_map, ◌||◌}
+use Rattle.std.proofs.lemmas.Bool.{eqb-true, eq-eqb}
+use Rattle.std.proofs.lemmas.List.{length-map}
+use Rattle.fc_values.specs.declared.exports.Export.{Export}
+use Rattle.fc_values.specs.Values.{local_of}
+use Rattle.fc_values.specs.Fields.{Rises, is_in}
+use Rattle.fc_nodes.specs.Program.{Unfolding}
+use Rattle.value_trees.specs.declared.copies.Snap.{Snap}
+use Rattle.value_trees.specs.Copies.{WhereSome, FitsCopy}
+use Rattle.value_trees.specs.Snaps.{tree_of, near_copy, IsExportOf, NearAreExports}
+use Rattle.topology.specs.declared.types.Device.{Device}
+use Rattle.topology.specs.Networks.{NetDevice, Network, device_of, numbers, Lives, inputs_in, near, IsNetwork}
+use Rattle.topology.specs.Nearby.{near_numbers}
+use Rattle.firing_core.specs.Cores.{Core, near_copies, copy_of, IsGood}
+use Rattle.firing_core.specs.CoreViews.{slot_at}
+use Rattle.firing_core.specs.Laws.{CopiesFit}
+use Rattle.stable_field.specs.Tables.{IsTable, table_of, heard_from, all_heard, copy_with, MayHear}
+use Rattle.stable_field.proofs.Slots.{Distinct, rises_distinct, slot_read, slot_map, set_length}
+use Rattle.stable_field.proofs.Hearing.{AllOther, neighbours_other, heard_away, heard_copies, heard_exports, slot_export}
+use Rattle.stable_field.proofs.Levels.{good_table}
+
+-- the inputs of the device at a place
+pub inputs_at : (xs : List Device) (p d : ℕ) (x : Device) → Distinct (numbers (map device_of xs)) → p < length xs → x ≡ get_or xs p x → get_or (numbers (map device_of xs)) p 0 ≡ d
+    → map local_of x.inputs.items ≡ inputs_in d (map device_of xs)
+inputs_at [] p d x n h q e = absurd (omega arith)
+inputs_at (y ∷ ys) zero d x n h q e = let t = eq-eqb d y.id (sym e) in rw t (ap (λ (z : Device). map local_of z.inputs.items) q)
+inputs_at (y ∷ ys) (suc p) d x n h q e = by_test (nat_eq d y.id) refl (inputs_at ys p d x n.1 (omega arith) q e)
+  where
+    by_test : (b : Bool) → nat_eq d y.id ≡ b → map local_of x.inputs.items ≡ inputs_in d (map device_of ys) → map local_of x.inputs.items ≡ (if b then map local_of y.inputs.items else inputs_in d (map device_of ys))
+    by_test true t ih =
+        let z = eqb-true d y.id t in
+        let l = length-map ys device_of in
+        let m = length-map (map device_of ys) (λ (w : NetDevice). w.id) in
+        absurd (n.0 p (omega (arith, h, l, m)) (e ∙ z))
+    by_test false t ih = ih
+
+-- a number at a place is among the numbers
+in_at : (is : List ℕ) (p d : ℕ) → p < length is → get_or is p 0 ≡ d → is_in d is ≡ true
+in_at [] p d h e = absurd (omega arith)
+in_at (i ∷ is) zero d h e = let t = eq-eqb d i (sym e) in rw t refl
+in_at (i ∷ is) (suc p) d h e = let r = in_at is p d (omega arith) e in rw r (or_true (nat_eq d i))
+  where
+    or_true : (b : Bool) → (b || true) ≡ true
+    or_true true = refl
+    or_true false = refl
+
+-- of a network whose devices are these
+module _ (N : Network) (ds : List Device) (k : ℕ) (x : Device) (all : map device_of ds ≡ N.devices) where
+  pub number_at : k < length N.devices → x ≡ get_or ds k x → get_or (numbers N.devices) k 0 ≡ x.id
+  number_at h q = subst (λ (ns : List NetDevice). get_or (numbers ns) k 0 ≡ x.id) all (at ds k (let l = length-map ds device_of in omega (arith, h, l, ap length all)) q)
+    where
+      at : (es : List Device) (i : ℕ) → i < length es → x ≡ get_or es i x → get_or (numbers (map device_of es)) i 0 ≡ x.id
+      at [] i h q = absurd (omega arith)
+      at (e ∷ es) zero h q = rw q refl
+      at (e ∷ es) (suc i) h q = at es i (omega arith) q
+
+  pub device_inputs : IsNetwork N → k < length N.devices → x ≡ get_or ds k x → map local_of x.inputs.items ≡ inputs_in x.id N.devices
+  device_inputs net h q =
+      let n : Distinct (numbers (map device_of ds)) = subst (λ (ns : List NetDevice). Distinct (numbers ns)) (sym all) (rises_distinct (numbers N.devices) net.rising) in
+      let l = length-map ds device_of in
+      let at : get_or (numbers (map device_of ds)) k 0 ≡ x.id = subst (λ (ns : List NetDevice). get_or (numbers ns) k 0 ≡ x.id) (sym all) (number_at h q) in
+      inputs_at ds k x.id x n (omega (arith, h, l, ap length all)) q at ∙ ap (inputs_in x.id) all
+
+module _ (U : Unfolding) (N : Network) (xs ys : List (Option Export)) (t : IsTable U N xs) (net : IsNetwork N) (same : N.declared ≡ U.declared) (k d : ℕ) (h : k < length N.devices) (at : get_or (numbers N.devices) k 0 ≡ d)
+    (s : Snap) (ns : List (ℕ × ℕ)) (cleared : ys ≡ slice_set xs k None) (heard : ns ≡ near N d) (device : s.device ≡ d) (inputs : map local_of s.inputs.items ≡ inputs_in d N.devices)
+    (own : s.own ≡ get_or xs k None) (empty : s.near.items ≡ []) where
+  all_is : all_heard N ys ns s ≡ heard_from (numbers N.devices) xs (near N d)
+  all_is =
+      ap (λ ms. ms ++ heard_from (numbers N.devices) ys ns) empty
+      ∙ ap (λ zs. heard_from (numbers N.devices) zs ns) cleared
+      ∙ ap (heard_from (numbers N.devices) (slice_set xs k None)) heard
+      ∙ heard_away (numbers N.devices) xs k None (near N d) (subst (λ e. AllOther e (near N d)) (sym at) (neighbours_other N d net))
+
+  own_is : slot_at (numbers N.devices) xs d ≡ s.own
+  own_is = slot_read N net xs k d s.own t.many h at own
+
+  pub begun_copy : copy_with U s (all_heard N ys ns s) ≡ copy_of N (table_of U N xs) d
+  begun_copy =
+      let a = device in
+      let b = inputs in
+      let o : option_map (tree_of U) s.own ≡ table_of U N xs d = ap (option_map (tree_of U)) (sym own_is) ∙ sym (slot_map (tree_of U) (numbers N.devices) xs d) in
+      let n : map (near_copy U) (all_heard N ys ns s) ≡ near_copies (table_of U N xs) (near N d) = ap (map (near_copy U)) all_is ∙ heard_copies U (numbers N.devices) xs (near N d) in
+      cc
+
+  core : Core
+  core = record { net = N; exports = table_of U N xs; flying = λ e. None }
+
+  good : IsGood U core
+  unfolding core
+  good = record { net = net; declared = same; exports = good_table U N xs t; flying = λ e z q. absurd cc }
+
+  live : Lives N d
+  live = in_at (numbers N.devices) k d (let m = length-map N.devices (λ (n : NetDevice). n.id) in omega (arith, h, m)) at
+
+  pub may_begin : CopiesFit → Rises (near_numbers ns) → MayHear U N ys ns s
+  unfolding core
+  may_begin fit rising = record {
+    fits = subst (FitsCopy U) (sym begun_copy) (fit U core d good live);
+    own = subst (WhereSome (IsExportOf U)) own_is (slot_export U (numbers N.devices) xs d t.exports);
+    near = subst (NearAreExports U) (sym all_is) (heard_exports U (numbers N.devices) xs (near N d) t.exports);
+    rising = rising;
+    many = ap length cleared ∙ set_length xs k None ∙ t.many;
+  }

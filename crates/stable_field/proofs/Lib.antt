@@ -1,0 +1,6 @@
+mod Slots
+mod Hearing
+mod Levels
+mod Gathering
+mod Firings
+mod Beginning

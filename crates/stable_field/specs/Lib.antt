@@ -1,0 +1,3 @@
+pub mod Stable
+pub mod Tables
+pub mod Levels

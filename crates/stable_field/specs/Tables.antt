@@ -1,0 +1,95 @@
+-- Tables of exports in code, and rounds in which each device fires from one table.
+use Rattle.std.specs.Prelude.{ℕ, ◌≡◌, List, [], ◌∷◌, ◌++◌, map, length, Option, Some, None, option_map}
+use Rattle.fc_values.specs.declared.exports.Export.{Export}
+use Rattle.fc_values.specs.Values.{LocalValue, local_of}
+use Rattle.fc_values.specs.Fields.{Rises}
+use Rattle.fc_values.specs.Exports.{export_of}
+use Rattle.fc_values.specs.Trees.{TreeExport, Copy}
+use Rattle.fc_nodes.specs.Program.{Unfolding}
+use Rattle.value_trees.specs.declared.copies.Near.{Near}
+use Rattle.value_trees.specs.declared.copies.Snap.{Snap}
+use Rattle.value_trees.specs.Copies.{WhereSome, FitsCopy}
+use Rattle.value_trees.specs.Snaps.{tree_of, near_copy, IsExportOf, NearAreExports}
+use Rattle.device_eval.specs.Copies.{EvaluatesCopy}
+use Rattle.topology.specs.Networks.{Network, numbers}
+use Rattle.topology.specs.Nearby.{near_numbers}
+use Rattle.firing_core.specs.Cores.{Map as Table, copy_of}
+use Rattle.firing_core.specs.CoreViews.{slot_at, AllExports}
+use Rattle.interval_facts.specs.Solutions.{SolvesMain}
+
+-- the table that slots stand for, one for each device in the order of the network
+abbrev pub table_of : Unfolding → Network → List (Option Export) → Table TreeExport
+table_of U N xs = slot_at (numbers N.devices) (map (option_map (tree_of U)) xs)
+
+-- a slot for each device, with exports of the program
+pub record IsTable (U : Unfolding) (N : Network) (xs : List (Option Export)) : Type 0 where
+  pub many : length xs ≡ length N.devices
+  pub exports : AllExports U xs
+
+-- ---- firings
+
+-- an export of the program is that of a copy
+pub record IsExportOfCopy (U : Unfolding) (s : Copy) (e : Export) : Type 0 where
+  pub export : IsExportOf U e
+  pub evaluates : EvaluatesCopy U s (tree_of U e)
+
+-- an export is that of a device that fires and sees a table
+abbrev pub IsFiring : Unfolding → Network → List (Option Export) → ℕ → Export → Type 0
+IsFiring U N xs d e = IsExportOfCopy U (copy_of N (table_of U N xs) d) e
+
+-- each of some devices has fired, and sees a table
+abbrev pub AreFirings : Unfolding → Network → List (Option Export) → List ℕ → List (Option Export) → Type 0
+AreFirings U N xs [] [] = Unit {0}
+AreFirings U N xs (d ∷ ds) (Some e ∷ ys) = IsFiring U N xs d e × AreFirings U N xs ds ys
+AreFirings U N xs _ _ = ⊥
+
+-- ---- a copy that is being gathered
+
+-- a neighbour, if it has an export
+abbrev pub heard_with : ℕ × ℕ → Option Export → List Near → List Near
+heard_with n None ns = ns
+heard_with n (Some e) ns = record { device = n.0; weight = n.1; export = e } ∷ ns
+
+-- the neighbours that have an export, with it
+abbrev pub heard_from : List ℕ → List (Option Export) → List (ℕ × ℕ) → List Near
+heard_from is xs [] = []
+heard_from is xs (n ∷ ns) = heard_with n (slot_at is xs n.0) (heard_from is xs ns)
+
+-- the neighbours of a copy with those that it still hears
+abbrev pub all_heard : Network → List (Option Export) → List (ℕ × ℕ) → Snap → List Near
+all_heard N xs ns s = s.near.items ++ heard_from (numbers N.devices) xs ns
+
+-- a copy with other neighbours
+abbrev pub copy_with : Unfolding → Snap → List Near → Copy
+copy_with U s ns = record {
+  device = s.device;
+  inputs = map local_of s.inputs.items;
+  own = option_map (tree_of U) s.own;
+  near = map (near_copy U) ns;
+}
+
+-- a copy that may hear these neighbours of a table
+pub record MayHear (U : Unfolding) (N : Network) (xs : List (Option Export)) (ns : List (ℕ × ℕ)) (s : Snap) : Type 0 where
+  pub fits : FitsCopy U (copy_with U s (all_heard N xs ns s))
+  pub own : WhereSome (IsExportOf U) s.own
+  pub near : NearAreExports U (all_heard N xs ns s)
+  pub rising : Rises (near_numbers ns)
+  pub many : length xs ≡ length N.devices
+
+-- ---- what rounds lead to
+
+-- slots with the same exports
+abbrev pub SameExports : List (Option Export) → List (Option Export) → Type 0
+SameExports [] [] = Unit {0}
+SameExports (x ∷ xs) (y ∷ ys) = (option_map export_of x ≡ option_map export_of y) × SameExports xs ys
+SameExports _ _ = ⊥
+
+-- the exports of some devices have a field's values
+abbrev pub AllHave : (ℕ → LocalValue) → List ℕ → List (Option Export) → Type 0
+AllHave F [] [] = Unit {0}
+AllHave F (d ∷ ds) (Some e ∷ xs) = (local_of e.value ≡ F d) × AllHave F ds xs
+AllHave F _ _ = ⊥
+
+-- they have those of each field that solves the program
+abbrev pub HaveSolution : Unfolding → Network → List (Option Export) → Type 0
+HaveSolution U N xs = (F : ℕ → LocalValue) → SolvesMain N U.main F → AllHave F (numbers N.devices) xs

@@ -1,0 +1,70 @@
+//! A table that rounds begin with.
+
+ghost use Rattle.std.specs.Prelude.{IfOk};
+ghost use Rattle.fc_nodes.specs.Program.{unfolding_of};
+ghost use Rattle.interval_facts.specs.Ranges.{AreRangesOf};
+ghost use Rattle.value_trees.specs.Copies.{WhereSome};
+ghost use Rattle.value_trees.specs.Snaps.{IsExportOf};
+ghost use Rattle.stable_field.specs.Tables.{IsTable};
+
+use crate::firing::Slots;
+use candidate_field::candidate;
+use fc_nodes::Unfolded;
+use fc_values::{Export, Memory};
+use fragment_check::{Pattern, PatternFault, patterns};
+use interval_facts::Ranges;
+use std::alloc::Global;
+use topology::Network;
+use value_trees::well_typed;
+
+/// The exports that are guessed for a program, where they are well-typed.
+pub fn guessed(
+    alloc: Global,
+    program: &Unfolded,
+    net: &Network,
+    ranges: &Ranges,
+) -> Result<Slots, Memory>
+    requires { AreRangesOf (unfolding_of program.now) ranges.now }
+    ensures { IfOk result (λ v. IsTable (unfolding_of program.now) net.now v.items) }
+{
+    let potentials = potentials(alloc, program, ranges)?;
+    let mut guess = candidate(alloc, program, net, &potentials)?;
+    let count = net.devices().len();
+    let mut table = Vec::with_capacity(alloc, count)?;
+    for place in 0..count {
+        let slot = typed_at(program, &mut guess, place);
+        table.push(slot)?;
+    }
+    Ok(table)
+}
+
+// The export at a place, if it is a well-typed one.
+fn typed_at(program: &Unfolded, guess: &mut Slots, place: usize) -> Option<Export>
+    ensures { WhereSome (IsExportOf (unfolding_of program.now)) result }
+{
+    let export = guess.get_mut(place)?.take()?;
+    if well_typed(program, &export) {
+        Some(export)
+    } else {
+        None
+    }
+}
+
+// The binders by whose variables the guards of a `rep` or `share` compare, each with the place of that `rep` or `share`.
+fn potentials(alloc: Global, program: &Unfolded, ranges: &Ranges) -> Result<Vec<(u32, u32)>, Memory>
+    requires { AreRangesOf (unfolding_of program.now) ranges.now }
+{
+    let mut list = Vec::new(alloc);
+    match patterns(alloc, program, ranges) {
+        Ok(found) => {
+            for (place, pattern) in &found {
+                if let Pattern::Acyclic { potential } = pattern {
+                    list.push((*place, *potential))?;
+                }
+            }
+            Ok(list)
+        }
+        Err(PatternFault::Refused { .. }) => Ok(list),
+        Err(PatternFault::Memory) => Err(Memory),
+    }
+}

@@ -1,0 +1,13 @@
+//! The stabilised field of a program on a network, without running it.
+#![tactic(auto)]
+
+mod faults;
+mod fields;
+mod firing;
+mod guesses;
+mod rounds;
+mod sameness;
+mod stabilised;
+
+pub use faults::StableFault;
+pub use stabilised::stable;

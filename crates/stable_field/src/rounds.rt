@@ -1,0 +1,69 @@
+//! Rounds in which each device fires once and sees the exports of the round before.
+
+ghost use Rattle.std.specs.Prelude.{◌≡◌, ◌≤◌, IfOk, OnOk, length};
+ghost use Rattle.fc_nodes.specs.Program.{unfolding_of};
+ghost use Rattle.topology.specs.Networks.{numbers};
+ghost use Rattle.converge_laws.specs.Laws.{IsAnalysis, root_level};
+ghost use Rattle.converge_laws.specs.Verdicts.{analysis_of};
+ghost use Rattle.stable_field.specs.Tables.{IsTable, AreFirings, HaveSolution};
+
+use crate::firing::{Slots, fired};
+use crate::sameness::same_exports;
+use converge_laws::solutions_raise_levels;
+use fc_nodes::Unfolded;
+use fc_values::Memory;
+use std::alloc::Global;
+use topology::Network;
+
+/// Exports with the values of the solution: those to which rounds from a table lead, until a round changes nothing or so
+/// many are done.
+pub fn settled(
+    alloc: Global,
+    program: &Unfolded,
+    net: &Network,
+    start: Slots,
+    rounds: u64,
+) -> Result<Slots, Memory>
+    requires declared { net.now.declared ≡ program.now.declared }
+    requires table { IsTable (unfolding_of program.now) net.now start.items }
+    requires analysis { IsAnalysis program.now (analysis_of program.now (length net.now.devices)) net.now }
+    requires level { root_level program.now (analysis_of program.now (length net.now.devices)) ≤ rounds }
+    ensures { IfOk result (λ v. HaveSolution (unfolding_of program.now) net.now v.items) }
+{
+    let _program = program.declared();
+    let _network = net.declared();
+    solutions_raise_levels();
+    let mut table = start;
+    for done in 0..rounds {
+        let next = round(alloc, program, net, &mut table)?;
+        let stays = same_exports(&table, &next);
+        table = next;
+        if stays {
+            return Ok(table);
+        }
+    }
+    Ok(round(alloc, program, net, &mut table)?)
+}
+
+// The exports of all devices, which fire once and see a table.
+fn round(
+    alloc: Global,
+    program: &Unfolded,
+    net: &Network,
+    table: &mut Slots,
+) -> Result<Slots, Memory>
+    requires declared { net.now.declared ≡ program.now.declared }
+    requires table { IsTable (unfolding_of program.now) net.now table.old.items }
+    ensures fired { IfOk result (λ v. AreFirings (unfolding_of program.now) net.now table.old.items
+        (numbers net.now.devices) v.items) }
+    ensures table { OnOk result (table.new.items ≡ table.old.items) }
+    ensures network { OnOk result (length table.new.items ≡ length net.now.devices) }
+{
+    let count = net.devices().len();
+    let mut next = Vec::with_capacity(alloc, count)?;
+    for place in 0..count {
+        let export = fired(alloc, program, net, table, place)?;
+        next.push(Some(export))?;
+    }
+    Ok(next)
+}

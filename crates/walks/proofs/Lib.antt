@@ -1,0 +1,11 @@
+pub mod Goes
+pub mod Least
+pub mod Fixed
+pub mod Best
+pub mod Spans
+pub mod Claims
+pub mod Parents
+pub mod Gathered
+pub mod Growing
+pub mod Costing
+pub mod Settling

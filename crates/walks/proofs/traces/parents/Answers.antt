@@ -1,0 +1,24 @@
+use Rattle.std.proofs.Common.{◌≡◌, ℕ, ◌-◌, List, length, get_or, vec_len, refl, sym, ◌∙◌, ap, subst, arith, map}
+use Rattle.std.proofs.lemmas.List.{get_or_default}
+use Rattle.fc_values.specs.Fields.{Rises}
+use Rattle.walks.specs.Walks.{costs_of}
+use Rattle.walks.specs.Tables.{IsParent}
+use Rattle.walks.proofs.Growing.{more_values, more_short}
+use Rattle.walks.proofs.traces.parents.Goals as goal
+
+pub loop-one-preserved : goal.loop-one-preserved
+loop-one-preserved c =
+    let C = costs_of c.args.costs.now in
+    let xs = c.deref-one-items.result.now in
+    let i = c.loop-one.one-index in
+    let d = (get_or xs i (0, 0)).0 in
+    let s = c.parent-parent.result in
+    let rises = subst (λ (ys : List (ℕ × ℕ)). Rises (map (λ (x : ℕ × ℕ). x.0) ys)) (sym c.deref-one-items.ensures.value) c.requires.costs.rising in
+    let long : length c.resize.new.self.items ≡ d = omega (arith, c.in_ok-resize.ensures.len, c.resize.new.self.ok) in
+    record {
+      parents = more_values (λ x v. IsParent C x.0 v) xs c.loop-one.parents.items c.resize.new.self.items c.push.new.self.items i d s (d - vec_len c.loop-one.parents) rises c.loop-one-test.true refl
+          c.in_ok-resize.ensures.items long c.in_ok-push.ensures.items c.loop-one.invariant.short
+          (λ x e. subst (λ y. IsParent C y s) (ap (λ (y : ℕ × ℕ). y.0) (get_or_default xs i (0, 0) x c.loop-one-test.true ∙ sym e)) c.parent-parent.ensures) c.loop-one.invariant.parents;
+      short = more_short (λ x v. IsParent C x.0 v) xs c.loop-one.parents.items c.resize.new.self.items c.push.new.self.items i d s (d - vec_len c.loop-one.parents) rises c.loop-one-test.true refl
+          c.in_ok-resize.ensures.items long c.in_ok-push.ensures.items c.loop-one.invariant.short;
+    }

@@ -1,0 +1,4 @@
+pub mod Walks
+pub mod Gathering
+pub mod Tables
+pub mod Laws
