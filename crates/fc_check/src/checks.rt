@@ -15,7 +15,12 @@ use round_bound::{levels, recognise};
 use std::alloc::Global;
 
 /// The verdict on a program for so many devices, and behind a yes the facts of each node, where they are asked for.
-pub fn checked(alloc: Global, facts: bool, program: &Unfolded, devices: u32) -> Result<Reply, Memory>
+pub fn checked(
+    alloc: Global,
+    facts: bool,
+    program: &Unfolded,
+    devices: u32,
+) -> Result<Reply, Memory>
     requires program { IsProgram program.now }
     requires devices { 1 ≤ devices }
     ensures { IfOk result (λ r. r ≡ checked_of facts program.now devices) }

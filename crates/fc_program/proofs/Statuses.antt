@@ -269,4 +269,4 @@ pub answer_usage : (asked : Option Command) (left : Option (List ℕ)) (a : Answ
     → a.status ≡ 2 → asked ≡ None
 answer_usage asked left a h two =
     status_usage asked h.input h.answers.judged h.answers.makes (sym (ap (λ (x : AnswerValue). x.status) h.answers.is)
-        ∙ two)
+    ∙ two)

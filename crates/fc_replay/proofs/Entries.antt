@@ -52,8 +52,12 @@ pub has_read : (c start : Core) (lines : List ℕ) (es : List Entry) → c ≡ s
     → HasRead c start (numbered lines (entries_of es)) lines (entries_of es)
 has_read c start lines es same many =
     let long : length lines ≡ length (entries_of es) = many ∙ sym (length-map es entry_of) in
-    record { same = same; numbers_read = log_lines lines (entries_of es) long; entries_read =
-        log_entries lines (entries_of es) long }
+    record {
+      same = same;
+      numbers_read = log_lines lines (entries_of es) long;
+      entries_read =
+          log_entries lines (entries_of es) long;
+    }
 
 pub lines_within : (U : Unfolding) (c start : Core) (log : List Logged) (lines : List ℕ) (es : List EntryValue)
     (fault : ReplayFault) → HasRead c start log lines es → FailsReplay U c es fault

@@ -50,8 +50,8 @@ module _ (readings : ReadingsAgree) (steps : StepsAgree) (replays : ReplaysAgree
   one_book U start es fs j k same h g =
       let one : h.core ≡ g.core = one_core h.core g.core (sym h.leads ∙ replays U es fs same start ∙ g.leads) in
       let rounds = one_count options.rounds (numbers h.core.net.devices) (numbers g.core.net.devices) es fs
-          h.says.rounds g.says.rounds (ap (λ (c : Core). numbers c.net.devices) one)
-          (parts U es fs same) h.says.counted g.says.counted in
+      h.says.rounds g.says.rounds (ap (λ (c : Core). numbers c.net.devices) one)
+      (parts U es fs same) h.says.counted g.says.counted in
       let table : List ℕ → List ℕ = λ l. l ++ where_asked options.table (table_line U g.core) in
       let text : h.text ≡ g.text =
       h.says.is
@@ -59,7 +59,7 @@ module _ (readings : ReadingsAgree) (steps : StepsAgree) (replays : ReplaysAgree
       ∙ ap (λ l. table (values_text g.core ++ l)) rounds
       ∙ sym g.says.is in
       subst (λ x. Alike x k) (sym h.is)
-          (subst (Alike (Accepted (record { text = h.text; book = book_of U start es h.core }))) (sym g.is)
+      (subst (Alike (Accepted (record { text = h.text; book = book_of U start es h.core }))) (sym g.is)
       (record { text = text; program = refl; start = refl; log = same; core = one }))
 
   one_ending : (U : Unfolding) (start : Core) (a b : List Logged) (o : Option (ℕ × LineFault)) (j k : Judged Shown)
@@ -74,7 +74,7 @@ module _ (readings : ReadingsAgree) (steps : StepsAgree) (replays : ReplaysAgree
   one_log i log (StopsAt at fault) j k is h g = both_refused j k _ h g
   one_log i log (AllLines ls) j k is h g =
       let both = readings i.0 i.1.net log h.log g.log (subst (SaidBy (IsEntry i.0) h.log) is h.are)
-          (subst (SaidBy (IsEntry i.0) g.log) is g.are) in
+      (subst (SaidBy (IsEntry i.0) g.log) is g.are) in
       one_ending i.0 (start_of i.1) h.log g.log (first_stop i.0 (start_of i.1) g.log) j k both.1
       (subst (λ o. ReplaysEntries options i.0 (start_of i.1) h.log o j)
       (same_stop steps i.0 (start_of i.1) h.log g.log both.0 both.1) h.ends) g.ends

@@ -145,8 +145,12 @@ module _ (options : Options) (program network log : List ℕ) (U : Unfolding) (s
         says = subst (λ b. IsText options b text) h.is says;
         is = ap (λ b. Accepted (shown text b)) h.is;
       } in
-      record { log = es; are = are; ends = subst (λ o. ReplaysEntries options U (start_of s) es o j)
-          (sym (never_stops U (start_of s) book.core es h.leads)) there }
+      record {
+        log = es;
+        are = are;
+        ends = subst (λ o. ReplaysEntries options U (start_of s) es o j)
+            (sym (never_stops U (start_of s) book.core es h.leads)) there;
+      }
     where
       shown : List ℕ → Ledger → Shown
       shown t b = record { text = t; book = b }

@@ -16,7 +16,7 @@ pub copy_in_flight : (U : Unfolding) (old new : Core) (d e : ℕ) (taken s : Cop
 copy_in_flight U old new d e taken s step same names h =
     let here : e ≡ d = names ∙ ap (λ (c : Copy). c.device) same in
     some_same s taken (sym h ∙ ap new.flying here ∙ ap (λ (k : Core). k.flying d) step.2
-        ∙ put_same old.flying d (Some (copy_of old.net old.exports d)) ∙ ap Some (sym same))
+    ∙ put_same old.flying d (Some (copy_of old.net old.exports d)) ∙ ap Some (sym same))
 
 pub device_there : (old : Core) (d e : ℕ) (taken : Copy) → taken ≡ copy_of old.net old.exports d → e ≡ taken.device
     → e ≡ d

@@ -138,13 +138,17 @@ module _ (faultless : FaultlessStep) (agree : StepsAgree) (keep : StepsKeepGood)
   goes_on c (x ∷ xs) good fits none =
       let U : Unfolding = unfolding_of P in
       let quiet = no_fault (fault_of c x.1) (net_fault_of c x.1) (fault_told c x.1)
-          (not_here x.0 _ (stop_later (step_of U c x.1) (λ next. first_stop U next xs)) none) in
+      (not_here x.0 _ (stop_later (step_of U c x.1) (λ next. first_stop U next xs)) none) in
       let does = (faultless P c x.1 is good fits.0).0 quiet in
       let steps : step U c x.1 ≡ Some does.0 = (agree U c does.0 x.1 good fits.0).0 does.1 in
       let rest = goes_on does.0 xs (keep P c does.0 x.1 is good does.1) fits.1
-          (sym (later_stop U c does.0 x xs (has_step U c does.0 x.1 steps)) ∙ none) in
-      record { last = rest.last; leads = ap (λ o. and_replay o (λ next. replay U next (entries_in xs))) steps
-          ∙ rest.leads; good = rest.good }
+      (sym (later_stop U c does.0 x xs (has_step U c does.0 x.1 steps)) ∙ none) in
+      record {
+        last = rest.last;
+        leads = ap (λ o. and_replay o (λ next. replay U next (entries_in xs))) steps
+            ∙ rest.leads;
+        good = rest.good;
+      }
 
 -- ---- a book has a text
 module _ (some : SomeGreatest) where
@@ -159,7 +163,7 @@ module _ (some : SomeGreatest) where
       let long = length-map book.core.net.devices (λ (d : NetDevice). d.id) in
       let counted = rounds_there options.rounds (numbers book.core.net.devices) book.log (omega (arith, h, long)) in
       let text : List ℕ = values_text book.core ++ counted.0 ++ where_asked options.table
-          (table_line book.program book.core) in
+      (table_line book.program book.core) in
       (text, record { rounds = counted.0; counted = counted.1; is = refl })
 
 -- ---- a log is replayed to something
@@ -173,9 +177,16 @@ module _ (faultless : FaultlessStep) (agree : StepsAgree) (keep : StepsKeepGood)
   entries_end log fits None at =
       let l = goes_on faultless agree keep P is start log good fits at in
       let book : Ledger = book_of (unfolding_of P) start (entries_in log) l.last in
-      let t = text_there some options book l.good.net.some in
-      (Accepted (record { text = t.0; book = book }), record { core = l.last; leads = l.leads; text = t.0; says = t.1;
-      is = refl })
+      let t = text_there some options book l.good.net.some in (
+        Accepted (record { text = t.0; book = book }),
+        record {
+          core = l.last;
+          leads = l.leads;
+          text = t.0;
+          says = t.1;
+          is = refl;
+        },
+      )
 
   log_ends : (text : List ℕ) (lines : Lines Fault LogLine) → log_of (unfolding_of P) start.net text ≡ lines
       → (j : Judged Shown) × ReplaysLog options (unfolding_of P) start lines j

@@ -30,7 +30,7 @@ core_with n f g = record { net = n; exports = f; flying = g }
 -- the core that the code starts from is the one of the scene
 pub starts_from : (U : Unfolding) (n : Network) (table : List (ℕ × Export)) (pending : List Snap) →
     started U n table pending ≡ start_of
-        (record { net = n; table = map (row_in U) table; pending = map (snap_copy U) pending })
+    (record { net = n; table = map (row_in U) table; pending = map (snap_copy U) pending })
 starts_from U n table pending =
     ap (λ f. core_with n f (look_up (λ (s : Snap). s.device) (snap_copy U) pending))
     (fun_ext (λ d. looked_up (row_in U) (λ (r : Row). r.0) (λ (r : Row). r.1) table d))
@@ -47,18 +47,27 @@ all_live n key (x ∷ xs) h =
 table_exports : (U : Unfolding) (rows : List (ℕ × Export)) → All (λ (r : ℕ × Export). IsExportOf U r.1) rows
     → TableExports U rows
 table_exports U [] h = tt
-table_exports U (r ∷ rows) h =
-    (All-head (λ (r : ℕ × Export). IsExportOf U r.1) r rows h,
-    table_exports U rows (All-tail (λ (r : ℕ × Export). IsExportOf U r.1) r rows h))
+table_exports U (r ∷ rows) h = (
+  All-head (λ (r : ℕ × Export). IsExportOf U r.1) r rows h,
+  table_exports U rows (All-tail (λ (r : ℕ × Export). IsExportOf U r.1) r rows h),
+)
 
 pending_snaps : (U : Unfolding) (ss : List Snap) → All (IsSnap U) ss → PendingSnaps U ss
 pending_snaps U [] h = tt
 pending_snaps U (s ∷ ss) h = (All-head (IsSnap U) s ss h, pending_snaps U ss (All-tail (IsSnap U) s ss h))
 
 pub is_table : (U : Unfolding) (n : Network) (rows : List (ℕ × Export)) → AreRows U n rows → IsTable U n rows
-is_table U n rows a = record { rising = a.rising; there = all_live n (λ (r : ℕ × Export). r.0) rows a.there; exports =
-    table_exports U rows a.exports }
+is_table U n rows a = record {
+  rising = a.rising;
+  there = all_live n (λ (r : ℕ × Export). r.0) rows a.there;
+  exports =
+      table_exports U rows a.exports;
+}
 
 pub is_pending : (U : Unfolding) (n : Network) (ss : List Snap) → AreCopies U n ss → IsPending U n ss
-is_pending U n ss a = record { rising = a.rising; there = all_live n (λ (s : Snap). s.device) ss a.there; snaps =
-    pending_snaps U ss a.fit }
+is_pending U n ss a = record {
+  rising = a.rising;
+  there = all_live n (λ (s : Snap). s.device) ss a.there;
+  snaps =
+      pending_snaps U ss a.fit;
+}

@@ -16,12 +16,12 @@ use Rattle.fc_replay.proofs.replays.replayed.Goals as goal
 pub replay-requires-clause-fits : goal.replay-requires-clause-fits
 replay-requires-clause-fits c =
     subst (λ (p : Program). LogFits (unfolding_of p) (entries_of c.args.log.entries.items))
-        (sym c.in_ok-program.ensures.ok) c.requires.fits
+    (sym c.in_ok-program.ensures.ok) c.requires.fits
 
 pub returns-in-Ok-clause-book : goal.returns-in-Ok-clause-book
 returns-in-Ok-clause-book c =
     subst (λ (p : Program). IsReplayed (unfolding_of p) (start_of (value_of_scene (unfolding_of p) c.args.scene))
-        (logged c.args.log) (ledger_of c.in-Ok.book)) c.in_ok-program.ensures.ok
+    (logged c.args.log) (ledger_of c.in-Ok.book)) c.in_ok-program.ensures.ok
     (is_replayed (unfolding_of c.in_ok-program.program.value) (core_of c.in_ok-start.start)
     (start_of (value_of_scene (unfolding_of c.in_ok-program.program.value) c.args.scene))
     (logged c.args.log) c.args.log.lines.items
@@ -42,8 +42,8 @@ stop-requires c =
 pub returns-clause-refused : goal.returns-clause-refused
 returns-clause-refused c =
     subst (λ (p : Program). StopsFor
-        (IsStopped (unfolding_of p) (start_of (value_of_scene (unfolding_of p) c.args.scene)) (logged c.args.log))
-        c.stop.result) c.in_ok-program.ensures.ok
+    (IsStopped (unfolding_of p) (start_of (value_of_scene (unfolding_of p) c.args.scene)) (logged c.args.log))
+    c.stop.result) c.in_ok-program.ensures.ok
     (subst (StopsFor
     (IsStopped (unfolding_of c.in_ok-program.program.value)
     (start_of (value_of_scene (unfolding_of c.in_ok-program.program.value) c.args.scene)) (logged c.args.log)))

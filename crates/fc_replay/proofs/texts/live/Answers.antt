@@ -11,5 +11,5 @@ returns-clause-live c = live_numbers _ _ c.args.core.now.net c.in_ok-live.ensure
 pub returns-clause-rising : goal.returns-clause-rising
 returns-clause-rising c =
     subst Rises
-        (sym (live_numbers _ _ c.args.core.now.net c.in_ok-live.ensures (c.devices.ensures.value
-        ∙ ap (λ (n : Network). n.devices) c.net.ensures.value))) c.net.ensures.core.net.rising
+    (sym (live_numbers _ _ c.args.core.now.net c.in_ok-live.ensures (c.devices.ensures.value
+    ∙ ap (λ (n : Network). n.devices) c.net.ensures.value))) c.net.ensures.core.net.rising
