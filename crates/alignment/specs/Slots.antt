@@ -28,4 +28,5 @@ slot_keeps k b xs = (slot_at k xs).0 && keeps_truth b (Some (slot_at k xs).1)
 
 -- the exports that keep this truth value in a slot, the own one too
 abbrev pub flat_branch : ℕ → Bool → FlatEnv → FlatEnv
-flat_branch k b env = record { own = own_where (slot_keeps k b) env.own; near = filter (λ (n : NearSlots). slot_keeps k b n.2) env.near }
+flat_branch k b env =
+    record { own = own_where (slot_keeps k b) env.own; near = filter (λ (n : NearSlots). slot_keeps k b n.2) env.near }

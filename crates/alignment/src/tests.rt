@@ -21,7 +21,8 @@ fn one(alloc: Global, kept: bool, truth: bool) -> Result<Slots, Memory>
     Ok(Slots { list })
 }
 
-/// The neighbours whose branch is the same: of 1, 2 and 3 the first keeps true, the second false, and the third nothing.
+/// The neighbours whose branch is the same: of 1, 2 and 3 the first keeps true, the second false, and the third
+/// nothing.
 fn of_three(alloc: Global, truth: bool) -> Result<(bool, Vec<u32>), Memory> {
     let own = one(alloc, true, true)?;
     let first = one(alloc, true, true)?;

@@ -5,8 +5,8 @@ use fc_values::Memory;
 use std::alloc::Global;
 use std::cmp::Ordering;
 
-/// A value for each place of the network, or for a field one for each link. A truth value is 0 or 1, and a pair has a part
-/// for each of its components.
+/// A value for each place of the network, or for a field one for each link. A truth value is 0 or 1, and a pair has a
+/// part for each of its components.
 #[derive(Drop)]
 pub struct Column {
     pub is_field: bool,

@@ -5,8 +5,8 @@ use fc_values::{LocalTy, Memory, Ty, inner};
 use std::alloc::Global;
 use topology::Network;
 
-/// A program with its layout, a network with the numbers of its devices and links, where the term of each node ends, and
-/// for the `rep`s and `share`s with a potential the places of its binder.
+/// A program with its layout, a network with the numbers of its devices and links, where the term of each node ends,
+/// and for the `rep`s and `share`s with a potential the places of its binder.
 #[derive(Drop)]
 pub struct Context<'a> {
     pub program: &'a Unfolded,

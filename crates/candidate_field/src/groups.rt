@@ -4,8 +4,8 @@ use fc_values::Memory;
 use std::alloc::Global;
 use topology::Network;
 
-/// A link as one of its devices hears it: that device, the one that is heard, the link's number, its number as the other
-/// device hears it, and its weight.
+/// A link as one of its devices hears it: that device, the one that is heard, the link's number, its number as the
+/// other device hears it, and its weight.
 #[derive(Clone, Copy, Debug, PartialEq, Eq)]
 pub struct Ear {
     pub device: u32,
@@ -22,8 +22,8 @@ pub struct Spot {
     pub link: u32,
 }
 
-/// Devices, rising, the links among them by the devices that hear them, and for each place of the network where its links
-/// begin and end among these.
+/// Devices, rising, the links among them by the devices that hear them, and for each place of the network where its
+/// links begin and end among these.
 #[derive(Drop)]
 pub struct Group {
     pub members: Vec<u32>,

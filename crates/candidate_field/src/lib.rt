@@ -1,5 +1,5 @@
-//! A guess at the stabilised field: the exports that devices would have once a program has stabilised. Nothing is claimed of
-//! it, so no function says what it gives: who takes a guess tests it.
+//! A guess at the stabilised field: the exports that devices would have once a program has stabilised. Nothing is
+//! claimed of it, so no function says what it gives: who takes a guess tests it.
 #![tactic(auto)]
 
 mod columns;

@@ -12,8 +12,8 @@ use fc_values::{Builtin, Export, Local, LocalTy, Memory, inner};
 use std::alloc::Global;
 use topology::{Device, Network};
 
-/// Exports that the devices of a network might have once a program has stabilised, in the order of the network. Potentials
-/// are pairs of the place of a `rep` or `share` and that of the binder whose variable its guards compare.
+/// Exports that the devices of a network might have once a program has stabilised, in the order of the network.
+/// Potentials are pairs of the place of a `rep` or `share` and that of the binder whose variable its guards compare.
 pub fn candidate(
     alloc: Global,
     program: &Unfolded,

@@ -7,8 +7,8 @@ use fc_values::{Builtin, Memory};
 use std::alloc::Global;
 use std::cmp::Ordering;
 
-/// What a builtin's value depends on beside its arguments: the ceiling, whether it is a field, how many parts it and its
-/// first argument have, and the length of its column.
+/// What a builtin's value depends on beside its arguments: the ceiling, whether it is a field, how many parts it and
+/// its first argument have, and the length of its column.
 #[derive(Clone, Copy, Debug, PartialEq, Eq)]
 pub struct Shape {
     pub ceiling: u32,

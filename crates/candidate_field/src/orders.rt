@@ -1,5 +1,5 @@
-//! A `rep` or `share` whose variable occurs in its body, solved device by device: the device with the least value that isn't
-//! settled is settled, or devices go by rising potential.
+//! A `rep` or `share` whose variable occurs in its body, solved device by device: the device with the least value that
+//! isn't settled is settled, or devices go by rising potential.
 
 use crate::columns::{Column, read};
 use crate::context::{Context, kid};

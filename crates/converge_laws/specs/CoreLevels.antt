@@ -1,5 +1,5 @@
--- Levels of cores: levels of exports, and what they give for tables of exports, copies in flight and cores. A copy that is
--- in flight is one level behind the exports from which it was taken.
+-- Levels of cores: levels of exports, and what they give for tables of exports, copies in flight and cores. A copy that
+-- is in flight is one level behind the exports from which it was taken.
 use Rattle.std.specs.Prelude.{ℕ, zero, suc, ◌≡◌, ◌+◌, List, Option, Some, None, false}
 use Rattle.fc_values.specs.Trees.{TreeExport, Copy}
 use Rattle.fc_nodes.specs.Program.{Unfolding}
@@ -29,11 +29,12 @@ TableAt P N j table = (d : ℕ) → Lives N d → MaybeAt P j d (table d)
 abbrev pub GoodTable : Unfolding → Network → Table TreeExport → Type 0
 GoodTable U N table = (d : ℕ) (e : TreeExport) → table d ≡ Some e → GoodExport U N d e
 
--- Copies are counted from 0. At 0 a copy fits the program and says nothing more: it may hold inputs, weights and neighbours
--- that the network doesn't have. From 1 on it is the one that a begin takes from some table one level below.
+-- Copies are counted from 0. At 0 a copy fits the program and says nothing more: it may hold inputs, weights and
+-- neighbours that the network doesn't have. From 1 on it is the one that a begin takes from some table one level below.
 abbrev pub CopyAt : ExportLevel → Unfolding → Network → ℕ → ℕ → Copy → Type 0
 CopyAt P U N zero d s = FitsCopy U s
-CopyAt P U N (suc j) d s = (table : Table TreeExport) × GoodTable U N table × TableAt P N j table × (s ≡ copy_of N table d)
+CopyAt P U N (suc j) d s =
+    (table : Table TreeExport) × GoodTable U N table × TableAt P N j table × (s ≡ copy_of N table d)
 
 -- a good core on a network is at a level where its exports are, and its copies in flight with the same count
 pub record AtLevel (P : ExportLevel) (U : Unfolding) (N : Network) (j : ℕ) (c : Core) : Type 0 where
@@ -42,8 +43,8 @@ pub record AtLevel (P : ExportLevel) (U : Unfolding) (N : Network) (j : ℕ) (c 
   pub exports : TableAt P N j c.exports
   pub copies : (d : ℕ) → Lives N d → (s : Copy) → c.flying d ≡ Some s → CopyAt P U N j d s
 
--- What levels of exports have to meet: each implies the one below it, a well-typed export is at 0, and a copy from a table
--- at a level has its export one level up.
+-- What levels of exports have to meet: each implies the one below it, a well-typed export is at 0, and a copy from a
+-- table at a level has its export one level up.
 pub record Raises (P : ExportLevel) (U : Unfolding) (N : Network) : Type 0 where
   pub down : (j d : ℕ) (e : TreeExport) → Lives N d → P (suc j) d e → P j d e
   pub first : (d : ℕ) (e : TreeExport) → Lives N d → IsWellTyped U e → P 0 d e
@@ -64,14 +65,16 @@ IsFresh P U N j d c = (s : Copy) → c.flying d ≡ Some s → CopyAt P U N (suc
 abbrev pub HasFired : ExportLevel → Unfolding → Network → ℕ → ℕ → Core → Type 0
 HasFired P U N j d c = MaybeAt P (suc j) d (c.exports d) × IsFresh P U N j d c
 
--- Each step without an edit, where a begin takes its copy from any table at the level, keeps the level. It keeps a device
--- fresh, and fired; a begin makes its device fresh, and an end of a fresh device makes it fired.
-pub record StepsRaise (P : ExportLevel) (U : Unfolding) (N : Network) (j : ℕ) (sees : ℕ → Table TreeExport) (c next : Core)
+-- Each step without an edit, where a begin takes its copy from any table at the level, keeps the level. It keeps a
+-- device fresh, and fired; a begin makes its device fresh, and an end of a fresh device makes it fired.
+pub record StepsRaise (P : ExportLevel) (U : Unfolding) (N : Network) (j : ℕ) (sees : ℕ → Table TreeExport)
+    (c next : Core)
     : Type 0 where
   pub level : (e : EntryValue) → is_edit e ≡ false → IsGood U next → StepSeeing U sees c e next → AtLevel P U N j next
   pub fresh : (d : ℕ) (e : EntryValue) → is_edit e ≡ false → StepSeeing U sees c e next → IsFresh P U N j d c
       → IsFresh P U N j d next
-  pub fired : (d : ℕ) (e : EntryValue) → is_edit e ≡ false → Lives N d → StepSeeing U sees c e next → HasFired P U N j d c
+  pub fired : (d : ℕ) (e : EntryValue) → is_edit e ≡ false → Lives N d → StepSeeing U sees c e next
+      → HasFired P U N j d c
       → HasFired P U N j d next
   pub begins : (d : ℕ) → StepSeeing U sees c (BeginEntry d) next → IsFresh P U N j d next
   pub ends : (d : ℕ) → Lives N d → StepSeeing U sees c (EndEntry d) next → IsFresh P U N j d c → HasFired P U N j d next

@@ -9,8 +9,8 @@ use Rattle.fragment_check.specs.declared.kinds.Pattern.{Pattern}
 use Rattle.fragment_check.specs.Shapes.{HasPattern}
 use Rattle.fragment_check.specs.Verdicts.{added_levels}
 
--- what is said of a program by places: of each node its range, of each binder the range of its variable, of each `rep` and
--- `share` its pattern and how many levels it adds to that of its body, for so many devices
+-- what is said of a program by places: of each node its range, of each binder the range of its variable, of each `rep`
+-- and `share` its pattern and how many levels it adds to that of its body, for so many devices
 pub record Analysis : Type 0 where
   pub devices : ℕ
   pub ranges : ℕ → RangeValue
@@ -36,7 +36,8 @@ abbrev mutual
   InFragment A m p (Nbr t a) = InFragment A m (suc p) a
   InFragment A m p (Evolve t e a u) = HasPattern m A.ranges e p (suc p + size a) (inner t) u (A.pattern p)
       × (A.stages p ≡ added_levels A.devices A.bounds e (A.pattern p)) × InFragment A m (suc p + size a) u
-  InFragment A m p (If t c u w) = InFragment A m (suc p) c × InFragment A m (suc p + size c) u × InFragment A m (suc p + size c + size u) w
+  InFragment A m p (If t c u w) =
+      InFragment A m (suc p) c × InFragment A m (suc p + size c) u × InFragment A m (suc p + size c + size u) w
   InFragment A m p (Let t a u) = InFragment A m (suc p) a × InFragment A m (suc p + size a) u
 
   pub AllInFragment : Analysis → ℕ → ℕ → Terms → Type 0

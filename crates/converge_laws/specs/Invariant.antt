@@ -23,10 +23,11 @@ stage_of A N p b lv e a u D V = record {
   rank = rank_by (A.pattern p) N D V;
 }
 
--- The tree of device n at level j, against the parts of a solution. b is the level of the branch, st the `rep` or `share`
--- around, lv the levels of the binders.
+-- The tree of device n at level j, against the parts of a solution. b is the level of the branch, st the `rep` or
+-- `share` around, lv the levels of the binders.
 abbrev mutual
-  pub Holds : (A : Analysis) (N : Network) (j p b : ℕ) (st : Stage) (lv : Lvs) (t : Term) (D : Devices) (V : Maps) (F : Map)
+  pub Holds : (A : Analysis) (N : Network) (j p b : ℕ) (st : Stage) (lv : Lvs) (t : Term) (D : Devices)
+      (V : Maps) (F : Map)
       → Solves N p t D V F → ℕ → Tree → Type 0
   Holds A N j p b st lv (Plain t l) D V F s n T = Unit {0}
   Holds A N j p b st lv (Apply t o xs) D V F s n T = HoldAll A N j (suc p) 0 b st lv xs D V s.1 s.2 n T
@@ -37,19 +38,23 @@ abbrev mutual
   Holds A N j p b st lv (Evolve t e a u) D V F s n T =
       (level_of A.stages p b st.var lv (Evolve t e a u) ≤ j → kept_of T ≡ Some (s.1 n))
       × KeptAt N.declared.ceiling (stage_of A N p b lv e a u D V) j n (kept_of T) (s.1 n)
-      × Holds A N j (suc p + size a) b (stage_of A N p b lv e a u D V) lv u D (bind p (evolved e N D s.1) V) (local_map s.1) s.2 n
+      × Holds A N j (suc p + size a) b (stage_of A N p b lv e a u D V) lv u D (bind p (evolved e N D s.1) V)
+      (local_map s.1) s.2 n
       (child 1 T)
   Holds A N j p b st lv (If t c u v) D V F s n T =
       (level_of A.stages (suc p) b st.var lv c ≤ j → kept_of T ≡ Some (BoolValue (s.1 n)))
       × Holds A N j (suc p) b st lv c D V (local_map (λ d. BoolValue (s.1 d))) s.2 n (child 0 T)
       × (level_of A.stages (suc p) b st.var lv c ≤ j → s.1 n ≡ true
-      → Holds A N j (suc p + size c) (level_of A.stages (suc p) b st.var lv c) st lv u (where_is true D s.1) V F s.3 n (child 1 T))
+      → Holds A N j (suc p + size c) (level_of A.stages (suc p) b st.var lv c) st lv u (where_is true D s.1) V F s.3
+      n (child 1 T))
       × (level_of A.stages (suc p) b st.var lv c ≤ j → s.1 n ≡ false
-      → Holds A N j (suc p + size c + size u) (level_of A.stages (suc p) b st.var lv c) st lv v (where_is false D s.1) V F s.4 n
+      → Holds A N j (suc p + size c + size u) (level_of A.stages (suc p) b st.var lv c) st lv v
+      (where_is false D s.1) V F s.4 n
       (child 1 T))
   Holds A N j p b st lv (Let t a u) D V F s n T =
       Holds A N j (suc p) b st lv a D V s.1 s.2 n (child 0 T)
-      × Holds A N j (suc p + size a) b st (bind_level p (level_of A.stages (suc p) b st.var lv a) lv) u D (bind p s.1 V) F s.3 n
+      × Holds A N j (suc p + size a) b st (bind_level p (level_of A.stages (suc p) b st.var lv a) lv) u D
+      (bind p s.1 V) F s.3 n
       (child 1 T)
 
   pub HoldAll : (A : Analysis) (N : Network) (j p i b : ℕ) (st : Stage) (lv : Lvs) (xs : Terms) (D : Devices) (V : Maps)
@@ -64,7 +69,8 @@ abbrev pub no_stage : Term → Stage
 no_stage t = record { var = size t; base = 1; lag = 0; pattern = pattern.Constant; rank = λ n. 0 }
 
 -- an export of device d at level j
-pub record ExportAt (U : Unfolding) (A : Analysis) (N : Network) (F : ℕ → LocalValue) (s : SolvesMain N U.main F) (j d : ℕ) (e : TreeExport)
+pub record ExportAt (U : Unfolding) (A : Analysis) (N : Network) (F : ℕ → LocalValue) (s : SolvesMain N U.main F)
+    (j d : ℕ) (e : TreeExport)
     : Type 0 where
   pub typed : IsWellTyped U e
   pub value : level_of A.stages 0 1 (size U.main) (λ q. 0) U.main ≤ j → e.value ≡ F d

@@ -26,17 +26,20 @@ root_level P A = level_of A.stages 0 1 (size (unfolding_of P).main) (λ q. 0) (u
 -- One level a round: the levels of exports that agree with a solution meet what levels have to meet, so that each round
 -- raises the level of a core by one.
 abbrev pub SolutionsRaiseLevels : Type 0
-SolutionsRaiseLevels = (P : Program) (A : Analysis) (N : Network) → IsProgram P → IsNetwork N → N.declared ≡ P.declared → IsAnalysis P A N
-    → (F : ℕ → LocalValue) (s : SolvesMain N (unfolding_of P).main F) → Raises (ExportAt (unfolding_of P) A N F s) (unfolding_of P) N
+SolutionsRaiseLevels =
+    (P : Program) (A : Analysis) (N : Network) → IsProgram P → IsNetwork N → N.declared ≡ P.declared → IsAnalysis P A N
+    → (F : ℕ → LocalValue) (s : SolvesMain N (unfolding_of P).main F)
+    → Raises (ExportAt (unfolding_of P) A N F s) (unfolding_of P) N
 
 -- the program stabilises within as many rounds as its level
 abbrev pub AnalysedStabilise : Type 0
-AnalysedStabilise = (P : Program) (A : Analysis) (N : Network) → IsProgram P → IsNetwork N → N.declared ≡ P.declared → IsAnalysis P A N
+AnalysedStabilise =
+    (P : Program) (A : Analysis) (N : Network) → IsProgram P → IsNetwork N → N.declared ≡ P.declared → IsAnalysis P A N
     → Stabilises (unfolding_of P) N (root_level P A)
 
--- One solution at each place: where a term that stands at place p over devices D is in the fragment, two maps that solve it
--- with the same maps of its binders are equal over D, if one of them lies in the ranges. It does where the binders' maps lie
--- in the ranges of their variables; without this it would be false.
+-- One solution at each place: where a term that stands at place p over devices D is in the fragment, two maps that
+-- solve it with the same maps of its binders are equal over D, if one of them lies in the ranges. It does where the
+-- binders' maps lie in the ranges of their variables; without this it would be false.
 abbrev pub SolutionsAreOne : Type 0
 SolutionsAreOne = (A : Analysis) (N : Network) → IsNetwork N → IsFor A N
     → (t : Term) (p : ℕ) (D : Devices) (V : Maps) (F G : Map) → InFragment A N.declared.ceiling p t

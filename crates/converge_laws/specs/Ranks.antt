@@ -21,7 +21,8 @@ rank_of N D potential d = rank (potentials N D potential) (potential d)
 -- The rank of a device of a set: a device of the set with a lower potential has a lower rank, and the rank is below the
 -- number of the network's devices and below the number of values that the potential may have.
 pub record IsRank (N : Network) (D : Devices) (potential : ℕ → ℕ) (d : ℕ) : Type 0 where
-  pub lower : (n : ℕ) → In D n → Lives N n → potential n < potential d → rank_of N D potential n < rank_of N D potential d
+  pub lower : (n : ℕ) → In D n → Lives N n → potential n < potential d
+      → rank_of N D potential n < rank_of N D potential d
   pub few : rank_of N D potential d < length N.devices
   pub narrow : (least greatest : ℕ) → ((n : ℕ) → In D n → Lives N n → (least ≤ potential n) × (potential n ≤ greatest))
       → rank_of N D potential d ≤ greatest - least

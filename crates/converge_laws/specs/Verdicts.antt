@@ -73,9 +73,10 @@ pub record IsSettled (U : Unfolding) (c : Core) : Type 0 where
   pub one : HasOneSolution U c.net
   pub values : (d : ℕ) → Lives c.net d → (e : TreeExport) × (c.exports d ≡ Some e) × (e.value ≡ one.field d)
 
--- Where the verdict for the network at the end of a log is a yes for so many rounds, and the part after the last edit has
--- them, the core to which the log leads from a good one is settled.
+-- Where the verdict for the network at the end of a log is a yes for so many rounds, and the part after the last edit
+-- has them, the core to which the log leads from a good one is settled.
 abbrev pub YesSettles : Type 0
-YesSettles = (P : Program) (start last : Core) (log : List EntryValue) (k : ℕ) → IsProgram P → IsGood (unfolding_of P) start
+YesSettles =
+    (P : Program) (start last : Core) (log : List EntryValue) (k : ℕ) → IsProgram P → IsGood (unfolding_of P) start
     → Run (unfolding_of P) start log last → verdict_of P (length last.net.devices) ≡ verdict.Yes k
     → HasRounds (numbers last.net.devices) (after_edit log) k → IsSettled (unfolding_of P) last

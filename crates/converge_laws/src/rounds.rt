@@ -7,8 +7,8 @@ ghost use Rattle.converge_laws.specs.CoreLevels.{ExportLevel, Raises, LevelsOfSt
 
 use firing_core::{faultless_steps, runs_cut, steps_keep_good};
 
-/// Levels of the exports of a program's firings on a network: each implies the one below it, a well-typed export is at 0, and
-/// a copy from exports at a level has its export one level up.
+/// Levels of the exports of a program's firings on a network: each implies the one below it, a well-typed export is at
+/// 0, and a copy from exports at a level has its export one level up.
 pub trait Levels {
     ghost program: { Program };
 
@@ -25,9 +25,9 @@ pub trait Levels {
     ghost raises: { Raises level (unfolding_of program) network };
 }
 
-/// A good core is at level 0. A step without an edit keeps the level, whatever tables at the level the devices see, and each
-/// round raises it by one: a device's begin in the round comes after the end of any older firing of it, so that each older
-/// copy is published by then.
+/// A good core is at level 0. A step without an edit keeps the level, whatever tables at the level the devices see, and
+/// each round raises it by one: a device's begin in the round comes after the end of any older firing of it, so that
+/// each older copy is published by then.
 pub fn rounds_raise_levels<L: Levels>()
     ensures start { LevelsBegin L.level (unfolding_of L.program) L.network }
     ensures step { LevelsOfSteps L.level (unfolding_of L.program) L.network }

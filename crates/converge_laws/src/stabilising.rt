@@ -17,8 +17,8 @@ use firing_core::{Book, faultless_steps, runs_cut, steps_keep_good};
 use fragment_check::patterns_have_shapes;
 use topology::Network;
 
-/// One level a round: the levels of exports that agree with a solution, node by node, are `Levels`. A copy from exports at a
-/// level has its export one level up, whatever trees stand where the solution's branches don't lead.
+/// One level a round: the levels of exports that agree with a solution, node by node, are `Levels`. A copy from exports
+/// at a level has its export one level up, whatever trees stand where the solution's branches don't lead.
 pub fn solutions_raise_levels()
     ensures { SolutionsRaiseLevels }
 {
@@ -27,14 +27,14 @@ pub fn solutions_raise_levels()
     runs_cut();
 }
 
-/// Two maps that solve a term of the fragment, over one set of devices and with the same maps of its binders, are equal there,
-/// if one lies in the ranges of the term's nodes.
+/// Two maps that solve a term of the fragment, over one set of devices and with the same maps of its binders, are equal
+/// there, if one lies in the ranges of the term's nodes.
 pub fn solutions_are_one()
     ensures { SolutionsAreOne }
 {}
 
-/// Where each `rep` and `share` outside the first values has a pattern, exactly one field solves the program, and from every
-/// good core each log without an edit that has as many rounds as the level of `main` leads to its values.
+/// Where each `rep` and `share` outside the first values has a pattern, exactly one field solves the program, and from
+/// every good core each log without an edit that has as many rounds as the level of `main` leads to its values.
 pub fn analysed_programs_stabilise()
     ensures { AnalysedStabilise }
 {
@@ -43,8 +43,8 @@ pub fn analysed_programs_stabilise()
     runs_cut();
 }
 
-/// A yes gives the analysis of the program by the definitions: each `rep` and `share` outside the first values has its pattern,
-/// and the level of `main` is the number of rounds.
+/// A yes gives the analysis of the program by the definitions: each `rep` and `share` outside the first values has its
+/// pattern, and the level of `main` is the number of rounds.
 pub fn yes_analyses()
     ensures { YesAnalyses }
 {
@@ -61,9 +61,9 @@ pub fn yes_stabilises()
     runs_cut();
 }
 
-/// The convergence law: where the verdict for a program and so many devices as a network with its declarations has is a yes
-/// for `k` rounds, exactly one field solves the program there, and from every good core each log without an edit with `k`
-/// rounds leads to its values.
+/// The convergence law: where the verdict for a program and so many devices as a network with its declarations has is a
+/// yes for `k` rounds, exactly one field solves the program there, and from every good core each log without an edit
+/// with `k` rounds leads to its values.
 pub fn stabilises(program: &Unfolded, net: &Network)
     requires declared { net.now.declared ≡ program.now.declared }
     ensures { (k : ℕ) → verdict_of program.now (length net.now.devices) ≡ verdict.Yes k
@@ -88,8 +88,8 @@ pub fn yes_raises_levels()
     runs_cut();
 }
 
-/// Where the verdict for the network at the end of a book's log is a yes for `k` rounds, and the part of the log after its
-/// last edit has them, each device's export has the value of the one field that solves the program on that network.
+/// Where the verdict for the network at the end of a book's log is a yes for `k` rounds, and the part of the log after
+/// its last edit has them, each device's export has the value of the one field that solves the program on that network.
 pub fn settled(book: &Book)
     ensures { (k : ℕ) → verdict_of book.now.program (length (core_of book.now.core).net.devices) ≡ verdict.Yes k
         → HasRounds (numbers (core_of book.now.core).net.devices) (after_edit (entries_of book.now.log)) k

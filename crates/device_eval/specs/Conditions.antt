@@ -42,7 +42,8 @@ VariableFits ceiling device ds _ _ = ⊥
 
 abbrev pub VarsFit : ℕ → ℕ → List ℕ → Scope → Vars → Type 0
 VarsFit ceiling device ds [] [] = Unit {0}
-VarsFit ceiling device ds (b ∷ bs) (v ∷ vs) = (b.0 ≡ v.0) × VariableFits ceiling device ds b.1 v.1 × VarsFit ceiling device ds bs vs
+VarsFit ceiling device ds (b ∷ bs) (v ∷ vs) =
+    (b.0 ≡ v.0) × VariableFits ceiling device ds b.1 v.1 × VarsFit ceiling device ds bs vs
 VarsFit ceiling device ds _ _ = ⊥
 
 -- an input of a type
@@ -98,4 +99,5 @@ pub record HasOutcome (n : NodeIn) : Type 0 where
   pub evaluates : Evaluates n.situation n.place n.term n.vars n.env value tree
   pub fits : FitsOver n.situation.ceiling (with_number n.situation.device n.neighbours) (type_of n.term) value
   pub formed : FitsTree n.situation.ceiling n.term tree
-  pub only : (v : AnyValue) (t : Tree) → Evaluates n.situation n.place n.term n.vars n.env v t → (v ≡ value) × (t ≡ tree)
+  pub only : (v : AnyValue) (t : Tree) → Evaluates n.situation n.place n.term n.vars n.env v t
+      → (v ≡ value) × (t ≡ tree)

@@ -33,7 +33,8 @@ vars_of (scope.Bind' n v p rest) = (n, value_of v.now) ∷ vars_of rest
 
 -- at this place evaluation may begin, with what is seen there and this draft
 abbrev pub ReadyIn : Context → ℕ → Sight → List Slot → Type 0
-ReadyIn c p s xs = Ready (situation_in c) c.program.now.nodes c.layout.now p (vars_of s.vars.now) (flat_of s.env.now) (slots_of xs)
+ReadyIn c p s xs =
+    Ready (situation_in c) c.program.now.nodes c.layout.now p (vars_of s.vars.now) (flat_of s.env.now) (slots_of xs)
 
 -- the same, and this node stands there
 abbrev pub ReadyFor : Context → ℕ → Sight → Node → Sort → List Slot → Type 0
@@ -44,11 +45,13 @@ ReadyFor c p s n o xs =
 -- what the evaluation makes of a draft, and the value that it gives
 abbrev pub Evaluated : Context → ℕ → Sight → List Slot → List Slot → Value → Type 0
 Evaluated c p s old new v =
-    DidAt (situation_in c) c.program.now.nodes p (vars_of s.vars.now) (flat_of s.env.now) (slots_of old) (value_of v) (slots_of new)
+    DidAt (situation_in c) c.program.now.nodes p (vars_of s.vars.now) (flat_of s.env.now) (slots_of old) (value_of v)
+    (slots_of new)
 
 -- the same for places one after another, whose values are added to others
 abbrev pub ReadyKids : Context → List ℕ → Sight → List Slot → Type 0
-ReadyKids c ks s xs = ReadyEach (situation_in c) c.program.now.nodes c.layout.now ks (vars_of s.vars.now) (flat_of s.env.now) (slots_of xs)
+ReadyKids c ks s xs = ReadyEach (situation_in c) c.program.now.nodes c.layout.now ks (vars_of s.vars.now)
+    (flat_of s.env.now) (slots_of xs)
 
 abbrev pub EvaluatedKids : Context → List ℕ → Sight → List Slot → List Slot → List Value → List Value → Type 0
 EvaluatedKids c ks s old new before behind =

@@ -90,10 +90,12 @@ abbrev mutual
   pub eval_of : Situation → ℕ → Term → Vars → Env → Outcome
   eval_of S p (Plain t l) vars env = on_some (leaf_value S l vars env) (λ v. Some (v, leaf))
   eval_of S p (Apply t o xs) vars env =
-      after_all (eval_all S (suc p) 0 xs vars env) (λ vs ts. on_some (builtin_value o S.ceiling S.device vs) (λ v. Some (v, Keep None ts)))
+      after_all (eval_all S (suc p) 0 xs vars env) (λ vs ts.
+      on_some (builtin_value o S.ceiling S.device vs) (λ v. Some (v, Keep None ts)))
   eval_of S p (Nbr t a) vars env =
       after (eval_of S (suc p) a vars (child_env 0 env)) (λ r ta.
-      on_local r (λ v. on_some (heard S.device (Some v) (kept_there env.near)) (λ f. Some (f, Keep (Some v) (Then ta Done)))))
+      on_local r (λ v. on_some (heard S.device (Some v) (kept_there env.near))
+      (λ f. Some (f, Keep (Some v) (Then ta Done)))))
   eval_of S p (Evolve t e a b) vars env =
       after (eval_of S (suc p) a vars (child_env 0 env)) (λ r ta.
       on_local r (λ first. on_some (evolving e S.device env first) (λ x.
@@ -113,4 +115,5 @@ abbrev mutual
 
   pub eval_all : Situation → ℕ → ℕ → Terms → Vars → Env → Outcomes
   eval_all S p i NoMore vars env = Some ([], Done)
-  eval_all S p i (More x xs) vars env = and_then (eval_of S p x vars (child_env i env)) (eval_all S (p + size x) (suc i) xs vars env)
+  eval_all S p i (More x xs) vars env =
+      and_then (eval_of S p x vars (child_env i env)) (eval_all S (p + size x) (suc i) xs vars env)

@@ -16,7 +16,8 @@ use Rattle.device_eval.specs.Walks.{Room, SameOut, Still}
 abbrev pub outcomes_at : Situation → List Node → List ℕ → Vars → FlatEnv → Outcomes
 outcomes_at S ns [] vars env = Some ([], Done)
 outcomes_at S ns (k ∷ ks) vars env =
-    and_then (eval_of S k (term_at ns k) vars (env_at (term_at ns k) (kept_before ns k) env)) (outcomes_at S ns ks vars env)
+    and_then (eval_of S k (term_at ns k) vars (env_at (term_at ns k) (kept_before ns k) env))
+    (outcomes_at S ns ks vars env)
 
 -- the trees that slots stand for, one for each place
 abbrev pub row_trees : List Node → List ℕ → List SlotValue → Trees
@@ -48,7 +49,8 @@ abbrev pub first_of : List ℕ → ℕ
 first_of ks = get_or ks 0 0
 
 -- what their evaluation needs
-pub record CanEach (S : Situation) (ns : List Node) (ks : List ℕ) (vars : Vars) (env : FlatEnv) (xs : List SlotValue) : Type 0 where
+pub record CanEach (S : Situation) (ns : List Node) (ks : List ℕ) (vars : Vars) (env : FlatEnv) (xs : List SlotValue)
+    : Type 0 where
   pub row : Row ns (first_of ks) ks
   pub fits : FitEach ns ks env
   pub room : Room (kept_before ns (first_of ks)) (row_kept ns ks) xs

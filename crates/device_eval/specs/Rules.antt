@@ -29,9 +29,11 @@ mutual
         → Evaluates S p (Plain t Uid) vars env (ValueLocal (IntValue (min S.device S.ceiling))) leaf
     -- the weight of each aligned neighbour, and the least weight at the device itself
     nbr_link : {p : ℕ} {vars : Vars} {env : Env} (t : ValueType)
-        → Evaluates S p (Plain t NbrLink) vars env (ValueField (with_entry S.device (IntValue S.least) (weights env.near))) leaf
+        → Evaluates S p (Plain t NbrLink) vars env (ValueField
+        (with_entry S.device (IntValue S.least) (weights env.near))) leaf
     -- the arguments in order, and then the builtin
-    builtin : {p : ℕ} {vars : Vars} {env : Env} (t : ValueType) (o : Builtin) (xs : Terms) (vs : List AnyValue) (ts : Trees) (v : AnyValue)
+    builtin : {p : ℕ} {vars : Vars} {env : Env} (t : ValueType) (o : Builtin) (xs : Terms) (vs : List AnyValue)
+        (ts : Trees) (v : AnyValue)
         → EvaluateAll S (suc p) 0 xs vars env vs ts → builtin_value o S.ceiling S.device vs ≡ Some v
         → Evaluates S p (Apply t o xs) vars env v (Keep None ts)
     -- each neighbour's kept value, and the new value at the device; it is what is kept
@@ -44,9 +46,12 @@ mutual
         → Evaluates S (suc p + size a) b ((p, ValueLocal x) ∷ vars) (child_env 1 env) (ValueLocal v) tb
         → Evaluates S p (Evolve t ByRep a b) vars env (ValueLocal v) (Keep (Some v) (Then ta (Then tb Done)))
     -- the same, but the variable is the field of that and of what each neighbour keeps
-    share : {p : ℕ} {vars : Vars} {env : Env} (t : ValueType) (a b : Term) (first x v : LocalValue) (es : Entries) (ta tb : Tree)
-        → Evaluates S (suc p) a vars (child_env 0 env) (ValueLocal first) ta → own_or env.own first ≡ Some x → kept_there env.near ≡ Some es
-        → Evaluates S (suc p + size a) b ((p, ValueField (with_entry S.device x es)) ∷ vars) (child_env 1 env) (ValueLocal v) tb
+    share : {p : ℕ} {vars : Vars} {env : Env} (t : ValueType) (a b : Term) (first x v : LocalValue) (es : Entries)
+        (ta tb : Tree)
+        → Evaluates S (suc p) a vars (child_env 0 env) (ValueLocal first) ta → own_or env.own first ≡ Some x
+        → kept_there env.near ≡ Some es
+        → Evaluates S (suc p + size a) b ((p, ValueField (with_entry S.device x es)) ∷ vars) (child_env 1 env)
+        (ValueLocal v) tb
         → Evaluates S p (Evolve t ByShare a b) vars env (ValueLocal v) (Keep (Some v) (Then ta (Then tb Done)))
     -- the branch that the condition names, in the environment of those that took the same branch
     if_true : {p : ℕ} {vars : Vars} {env : Env} (t : ValueType) (c a b : Term) (v : AnyValue) (tc tk : Tree)
@@ -59,12 +64,14 @@ mutual
         → Evaluates S p (If t c a b) vars env v (Keep (Some (BoolValue false)) (Then tc (Then tk Done)))
     -- the body with the value bound
     binding : {p : ℕ} {vars : Vars} {env : Env} (t : ValueType) (a b : Term) (r v : AnyValue) (ta tb : Tree)
-        → Evaluates S (suc p) a vars (child_env 0 env) r ta → Evaluates S (suc p + size a) b ((p, r) ∷ vars) (child_env 1 env) v tb
+        → Evaluates S (suc p) a vars (child_env 0 env) r ta
+        → Evaluates S (suc p + size a) b ((p, r) ∷ vars) (child_env 1 env) v tb
         → Evaluates S p (Let t a b) vars env v (Keep None (Then ta (Then tb Done)))
 
   -- terms one after another from place p, the first of them the i-th kid
   pub data EvaluateAll (S : Situation) : ℕ → ℕ → Terms → Vars → Env → List AnyValue → Trees → Type 0 where
     none : {p i : ℕ} {vars : Vars} {env : Env} → EvaluateAll S p i NoMore vars env [] Done
-    one_more : {p i : ℕ} {vars : Vars} {env : Env} (x : Term) (xs : Terms) (v : AnyValue) (vs : List AnyValue) (t : Tree) (ts : Trees)
+    one_more : {p i : ℕ} {vars : Vars} {env : Env} (x : Term) (xs : Terms) (v : AnyValue) (vs : List AnyValue)
+        (t : Tree) (ts : Trees)
         → Evaluates S p x vars (child_env i env) v t → EvaluateAll S (p + size x) (suc i) xs vars env vs ts
         → EvaluateAll S p i (More x xs) vars env (v ∷ vs) (Then t ts)

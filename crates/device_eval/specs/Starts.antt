@@ -8,4 +8,5 @@ use Rattle.share_op.specs.Hearing.{own_slot_or, slot_entries}
 
 abbrev pub started : Evolution → ℕ → FlatEnv → ℕ → LocalValue → AnyValue
 started ByRep device env k first = ValueLocal (own_slot_or k first env.own)
-started ByShare device env k first = ValueField (with_entry device (own_slot_or k first env.own) (slot_entries k env.near))
+started ByShare device env k first =
+    ValueField (with_entry device (own_slot_or k first env.own) (slot_entries k env.near))

@@ -33,7 +33,8 @@ pub record Still (xs ys : List SlotValue) : Type 0 where
 
 -- what the evaluation of a term at place p with first slot k needs: exports that have its slots, room in the draft, and
 -- that the definition isn't stuck
-pub record Can (S : Situation) (p : ℕ) (t : Term) (k : ℕ) (vars : Vars) (env : FlatEnv) (xs : List SlotValue) : Type 0 where
+pub record Can (S : Situation) (p : ℕ) (t : Term) (k : ℕ) (vars : Vars) (env : FlatEnv) (xs : List SlotValue)
+    : Type 0 where
   pub fits : EnvFits t k env
   pub room : Room k (kept t) xs
   pub runs : IsSome (eval_of S p t vars (env_at t k env))

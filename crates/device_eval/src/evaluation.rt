@@ -108,7 +108,8 @@ fn eval_kids(
     args: &mut Vec<Value>,
 ) -> Result<(), Memory>
     requires { ReadyKids context.now kids.now sight.now draft.old }
-    ensures { OnOk result (EvaluatedKids context.now kids.now sight.now draft.old draft.new args.old.items args.new.items) }
+    ensures { OnOk result (EvaluatedKids context.now kids.now sight.now draft.old draft.new args.old.items
+        args.new.items) }
 {
     let Some((first, rest)) = kids.split_first() else {
         return Ok(());
@@ -260,7 +261,8 @@ fn lookup<'a>(vars: &Scope<'a>, binder: u32) -> &'a Value
 
 // What a variable's value is for the device and the aligned neighbours.
 fn aligned(alloc: Global, value: &Value, device: u32, env: &Env<'_>) -> Result<Value, Memory>
-    ensures { IfOk result (λ v. value_of v ≡ restricted device (near_numbers (flat_of env.now).near) (value_of value.now)) }
+    ensures { IfOk result (λ v. value_of v ≡ restricted device (near_numbers (flat_of env.now).near)
+        (value_of value.now)) }
 {
     match value {
         Value::Local(local) => Ok(Value::Local(copy(alloc, local)?)),

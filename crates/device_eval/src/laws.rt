@@ -23,7 +23,8 @@ pub fn one_export()
 /// most one value and one tree.
 pub fn rules_agree()
     ensures node { (S : Situation) (p : ℕ) (t : Term) (vars : Vars) (env : Env) → RulesAgree S p t vars env }
-    ensures nodes { (S : Situation) (p i : ℕ) (xs : Terms) (vars : Vars) (env : Env) → RulesAgreeOnAll S p i xs vars env }
+    ensures nodes { (S : Situation) (p i : ℕ) (xs : Terms) (vars : Vars) (env : Env)
+        → RulesAgreeOnAll S p i xs vars env }
     ensures one { (S : Situation) (p : ℕ) (t : Term) (vars : Vars) (env : Env) → HasOneAtMost S p t vars env }
 {}
 
@@ -31,12 +32,14 @@ pub fn rules_agree()
 /// over exactly the device and the aligned neighbours. The conditions hold of `main` in a copy that fits.
 pub fn nodes_have_outcomes()
     ensures node { (n : NodeIn) → MayEvaluate n → HasOutcome n }
-    ensures main { (p : Program) (s : Copy) → IsProgram p → FitsCopy (unfolding_of p) s → MayEvaluate (main_in (unfolding_of p) s) }
+    ensures main { (p : Program) (s : Copy) → IsProgram p → FitsCopy (unfolding_of p) s
+        → MayEvaluate (main_in (unfolding_of p) s) }
 {}
 
 /// What code reads of slots is what the rules read of the trees that the slots stand for.
 pub fn slots_stand_for_trees()
-    ensures branch { (t : ValueType) (c a b : Term) (k : ℕ) (truth : Bool) (env : FlatEnv) → BranchStands t c a b k truth env }
+    ensures branch { (t : ValueType) (c a b : Term) (k : ℕ) (truth : Bool) (env : FlatEnv)
+        → BranchStands t c a b k truth env }
     ensures nbr { (t : ValueType) (a : Term) (k : ℕ) (env : FlatEnv) → NbrStands t a k env }
     ensures rep { (t : ValueType) (a b : Term) (k : ℕ) (env : FlatEnv) → RepStands t a b k env }
     ensures share { (t : ValueType) (a b : Term) (k : ℕ) (env : FlatEnv) → ShareStands t a b k env }

@@ -20,7 +20,8 @@ after_is : (d n p : ℕ) (was : Option ℕ) (x : ItemValue) → after_item d n w
 after_is d n p was (OpeningItem o) is = inl is
 after_is d n p was (WrittenItem x) is = entry_is d n p was x is
 
-begun_below : (d n p : ℕ) (was : Option ℕ) (xs : List ItemValue) → begun_from d n was xs ≡ Some p → (was ≡ Some p) ⊎ (p < n + length xs)
+begun_below : (d n p : ℕ) (was : Option ℕ) (xs : List ItemValue) → begun_from d n was xs ≡ Some p
+    → (was ≡ Some p) ⊎ (p < n + length xs)
 begun_below d n p was [] e = inl e
 begun_below d n p was (x ∷ xs) e = ⊎_elim
     (λ h. ⊎_elim (λ w. inl w) (λ (t : p ≡ n). inr (omega (arith, t))) (after_is d n p was x h))
@@ -28,7 +29,8 @@ begun_below d n p was (x ∷ xs) e = ⊎_elim
     (begun_below d (n + 1) p (after_item d n was x) xs e)
 
 last_below : (d p : ℕ) (xs : List ItemValue) → last_begin d xs ≡ Some p → p < length xs
-last_below d p xs e = ⊎_elim (λ n. absurd (none-some p n)) (λ (l : p < 0 + length xs). omega (arith, l)) (begun_below d 0 p None xs e)
+last_below d p xs e =
+    ⊎_elim (λ n. absurd (none-some p n)) (λ (l : p < 0 + length xs). omega (arith, l)) (begun_below d 0 p None xs e)
 
 item_append : (xs ys : List ItemValue) (j : ℕ) → j < length xs → item_at (xs ++ ys) j ≡ item_at xs j
 item_append [] ys j l = absurd (omega (arith, l))
@@ -41,15 +43,18 @@ item_below (z ∷ zs) zero x e = omega arith
 item_below (z ∷ zs) (suc j) x e = let b = item_below zs j x e in omega (arith, b)
 
 taken_below : (d p j : ℕ) (xs : List ItemValue) → j < length xs → last_begin d (take j xs) ≡ Some p → p < j
-taken_below d p j xs l e = let b = last_below d p (take j xs) e in let n = length-take-le j xs (omega (arith, l)) in omega (arith, b, n)
+taken_below d p j xs l e =
+    let b = last_below d p (take j xs) e in let n = length-take-le j xs (omega (arith, l)) in omega (arith, b, n)
 
-entry_earlier : (xs : List ItemValue) (j p : ℕ) (e : EntryValue) → j < length xs → entry_answers (take j xs) e ≡ Some p → p < j
+entry_earlier : (xs : List ItemValue) (j p : ℕ) (e : EntryValue) → j < length xs
+    → entry_answers (take j xs) e ≡ Some p → p < j
 entry_earlier xs j p (BeginEntry d) l is = absurd (none-some p is)
 entry_earlier xs j p (EndEntry d) l is = taken_below d p j xs l is
 entry_earlier xs j p IdleEntry l is = absurd (none-some p is)
 entry_earlier xs j p (EditEntry e) l is = absurd (none-some p is)
 
-earlier_by : (xs : List ItemValue) (j p : ℕ) (o : Option ItemValue) → item_at xs j ≡ o → item_answers (take j xs) o ≡ Some p → p < j
+earlier_by : (xs : List ItemValue) (j p : ℕ) (o : Option ItemValue) → item_at xs j ≡ o
+    → item_answers (take j xs) o ≡ Some p → p < j
 earlier_by xs j p None at is = absurd (none-some p is)
 earlier_by xs j p (Some (OpeningItem o)) at is = absurd (none-some p is)
 earlier_by xs j p (Some (WrittenItem e)) at is = entry_earlier xs j p e (item_below xs j (WrittenItem e) at) is
@@ -57,5 +62,7 @@ earlier_by xs j p (Some (WrittenItem e)) at is = entry_earlier xs j p e (item_be
 pub answers_earlier : (xs : List ItemValue) (j p : ℕ) → answers xs j ≡ Some p → p < j
 answers_earlier xs j p e = earlier_by xs j p (item_at xs j) refl e
 
-pub answers_stay : (xs : List ItemValue) (x : ItemValue) (j : ℕ) → j < length xs → answers (xs ++ x ∷ []) j ≡ answers xs j
-answers_stay xs x j l = λ i. item_answers (take-append-le j xs (x ∷ []) (omega (arith, l)) i) (item_append xs (x ∷ []) j l i)
+pub answers_stay : (xs : List ItemValue) (x : ItemValue) (j : ℕ) → j < length xs
+    → answers (xs ++ x ∷ []) j ≡ answers xs j
+answers_stay xs x j l =
+    λ i. item_answers (take-append-le j xs (x ∷ []) (omega (arith, l)) i) (item_append xs (x ∷ []) j l i)

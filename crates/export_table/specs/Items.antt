@@ -4,8 +4,8 @@ use Rattle.fc_nodes.specs.Program.{Program}
 use Rattle.firing_core.specs.Entries.{EntryValue}
 use Rattle.firing_core.specs.CoreViews.{CoreValue}
 
--- What a table is opened with: a program, the core that the log starts from, how many firings each device may begin, how
--- many turns there are, and the length of the log then.
+-- What a table is opened with: a program, the core that the log starts from, how many firings each device may begin,
+-- how many turns there are, and the length of the log then.
 pub record Opening : Type 0 where
   pub program : Program
   pub start : CoreValue

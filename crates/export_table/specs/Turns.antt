@@ -64,9 +64,10 @@ pub record IsAfterTurn (v w : PassView ItemValue) : Type 0 where
   pub made : w.made ≡ v.made
   pub out : w.out ≡ v.out
 
--- The pass v is w after its turn. The log was `before` then, which leads to `core`; it begins with what the pass had seen,
--- has grown by at most the turns that the pass doesn't have left, and got the one entry e.
-pub record TookTurn (o : Opening) (v w : PassView EntryValue) (before : List EntryValue) (core : Core) (e : EntryValue) : Type 0 where
+-- The pass v is w after its turn. The log was `before` then, which leads to `core`; it begins with what the pass had
+-- seen, has grown by at most the turns that the pass doesn't have left, and got the one entry e.
+pub record TookTurn (o : Opening) (v w : PassView EntryValue) (before : List EntryValue) (core : Core) (e : EntryValue)
+    : Type 0 where
   pub begins : StartsWith before v.seen
   pub placed : ArePlaced before v.mine
   pub grown : length before + v.left ≤ o.front + o.turns
@@ -109,8 +110,10 @@ KeepsFirings o v w = (place : ℕ) (f : FiredValue) → IsOwnFiring o v place f 
 
 -- a firing that a pass may end stays one at each other turn of the pass
 abbrev pub FiringsStay : Type 0
-FiringsStay = (o : Opening) (v w : PassView EntryValue) (before : List EntryValue) (core : Core) (e : EntryValue) (place : ℕ) (f : FiredValue)
-    → TookTurn o v w before core e → (e ≡ EndEntry f.snap.device → ⊥) → IsOwnFiring o v place f → IsOwnFiring o w place f
+FiringsStay = (o : Opening) (v w : PassView EntryValue) (before : List EntryValue) (core : Core) (e : EntryValue)
+    (place : ℕ) (f : FiredValue)
+    → TookTurn o v w before core e → (e ≡ EndEntry f.snap.device → ⊥) → IsOwnFiring o v place f
+    → IsOwnFiring o w place f
 
 -- it ended this firing, and so published its export
 pub record Ended (o : Opening) (v w : PassView EntryValue) (f : FiredValue) : Type 0 where

@@ -3,7 +3,8 @@
 use firing_core::Entry;
 use std::marker::Model;
 
-/// An item of the lock's list. Contracts see the opening or an entry; no value of it is made, and one would be an entry.
+/// An item of the lock's list. Contracts see the opening or an entry; no value of it is made, and one would be an
+/// entry.
 #[derive(Drop)]
 pub struct Item {
     entry: Entry,

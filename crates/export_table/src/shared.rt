@@ -26,7 +26,8 @@ use std::snapshot::Snapshot;
 use std::sync::Wait;
 use turn_lock::{Pass, TurnLock};
 
-/// A book under a lock. Contracts see its lock and what it was opened with, and a pass to it as one over the book's log.
+/// A book under a lock. Contracts see its lock and what it was opened with, and a pass to it as one over the book's
+/// log.
 pub struct Shared {
     lock: TurnLock<Held>,
     opened: Snapshot<Held>,

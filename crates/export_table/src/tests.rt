@@ -57,7 +57,8 @@ fn declared(alloc: Global) -> Declared
 
 // Puts a node behind others.
 fn put(nodes: &mut Vec<Node>, op: Op, ty: Ty, kids: Vec<u32>) -> Result<(), Memory>
-    ensures { IfOk result (λ done. map view_of nodes.new.items ≡ map view_of nodes.old.items ++ Has (sort_of op) (type_of ty) kids.items ∷ []) }
+    ensures { IfOk result (λ done. map view_of nodes.new.items ≡ map view_of nodes.old.items
+        ++ Has (sort_of op) (type_of ty) kids.items ∷ []) }
 {
     nodes.push(Node { op, ty, kids })?;
     Ok(())
@@ -65,7 +66,8 @@ fn put(nodes: &mut Vec<Node>, op: Op, ty: Ty, kids: Vec<u32>) -> Result<(), Memo
 
 // Puts a number behind other nodes.
 fn put_number(nodes: &mut Vec<Node>, number: u32, kids: Vec<u32>) -> Result<(), Memory>
-    ensures { IfOk result (λ done. map view_of nodes.new.items ≡ map view_of nodes.old.items ++ Has (OfLeaf (Literal (IntValue number))) (TypeLocal IntType) kids.items ∷ []) }
+    ensures { IfOk result (λ done. map view_of nodes.new.items ≡ map view_of nodes.old.items
+        ++ Has (OfLeaf (Literal (IntValue number))) (TypeLocal IntType) kids.items ∷ []) }
 {
     put(
         nodes,

@@ -1,4 +1,5 @@
--- What `check` makes of a program and a scene: its verdict, and behind a yes the facts of each node, where they are asked for.
+-- What `check` makes of a program and a scene: its verdict, and behind a yes the facts of each node, where they are
+-- asked for.
 use Rattle.std.specs.Prelude.{ℕ, Bool, true, false, ◌≡◌, List, [], ◌++◌, length}
 use Rattle.fc_nodes.specs.Program.{IsProgram, Program, Unfolding, unfolding_of}
 use Rattle.fc_nodes.specs.declared.verdicts.Verdict.{Verdict}
@@ -27,7 +28,8 @@ facts_behind false v text = []
 abbrev pub checked_of : Bool → Program → ℕ → Reply
 checked_of facts P n = record {
   status = verdict_status (verdict_of P n);
-  text = verdict_text (verdict_of P n) ++ facts_behind facts (verdict_of P n) (facts_text P (ranges_of (unfolding_of P)) (levels_of P n));
+  text = verdict_text (verdict_of P n) ++ facts_behind facts (verdict_of P n)
+      (facts_text P (ranges_of (unfolding_of P)) (levels_of P n));
 }
 
 -- a program and a scene of it: the program is unfolded, and the devices are those of the scene's network

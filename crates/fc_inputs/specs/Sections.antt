@@ -17,7 +17,8 @@ onto_section text (section ∷ sections) = (text ++ section) ∷ sections
 -- the sections of a list of lines
 abbrev pub sections_from : List (List ℕ) → List (List ℕ)
 sections_from [] = [] ∷ []
-sections_from (line ∷ lines) = cond (is_separator line) ([] ∷ sections_from lines) (onto_section line (sections_from lines))
+sections_from (line ∷ lines) =
+    cond (is_separator line) ([] ∷ sections_from lines) (onto_section line (sections_from lines))
 
 -- the sections of an input: what stands between the lines that separate
 abbrev pub sections_of : List ℕ → List (List ℕ)

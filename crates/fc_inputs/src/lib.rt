@@ -1,5 +1,5 @@
-//! What the commands share before they do their work: the sections of an input, the program and the scene that they are read
-//! to, and the refusals with their statuses and lines.
+//! What the commands share before they do their work: the sections of an input, the program and the scene that they are
+//! read to, and the refusals with their statuses and lines.
 #![tactic(auto)]
 
 mod cutting;

@@ -46,7 +46,8 @@ abbrev mutual
   FitsTree ceiling (Plain t l) tree = HasKids NoKid tree
   FitsTree ceiling (Apply t o xs) tree = HasKids (FitTrees ceiling xs) tree
   FitsTree ceiling (Nbr t a) tree = KeepsWith (Fits ceiling (inner t)) (OneKid (FitsTree ceiling a)) tree
-  FitsTree ceiling (Evolve t e a b) tree = KeepsWith (Fits ceiling (inner t)) (TwoKids (FitsTree ceiling a) (FitsTree ceiling b)) tree
+  FitsTree ceiling (Evolve t e a b) tree =
+      KeepsWith (Fits ceiling (inner t)) (TwoKids (FitsTree ceiling a) (FitsTree ceiling b)) tree
   FitsTree ceiling (If t c a b) tree = KeepsTruth (FitsTree ceiling c) (FitsTree ceiling a) (FitsTree ceiling b) tree
   FitsTree ceiling (Let t a b) tree = HasKids (TwoKids (FitsTree ceiling a) (FitsTree ceiling b)) tree
 
@@ -78,8 +79,11 @@ abbrev mutual
   tree_at (Plain t l) k xs = leaf
   tree_at (Apply t o ts) k xs = Keep None (trees_at ts k xs)
   tree_at (Nbr t a) k xs = Keep (Some (slot_at k xs).1) (Then (tree_at a (suc k) xs) Done)
-  tree_at (Evolve t e a b) k xs = Keep (Some (slot_at k xs).1) (Then (tree_at a (suc k) xs) (Then (tree_at b (suc k + kept a) xs) Done))
-  tree_at (If t c a b) k xs = Keep (Some (slot_at k xs).1) (Then (tree_at c (suc k) xs) (Then (by_truth (slot_at k xs).1 (tree_at a (suc k + kept c) xs) (tree_at b (suc k + kept c + kept a) xs)) Done))
+  tree_at (Evolve t e a b) k xs =
+      Keep (Some (slot_at k xs).1) (Then (tree_at a (suc k) xs) (Then (tree_at b (suc k + kept a) xs) Done))
+  tree_at (If t c a b) k xs = Keep (Some (slot_at k xs).1)
+      (Then (tree_at c (suc k) xs) (Then (by_truth (slot_at k xs).1 (tree_at a (suc k + kept c) xs)
+      (tree_at b (suc k + kept c + kept a) xs)) Done))
   tree_at (Let t a b) k xs = Keep None (Then (tree_at a k xs) (Then (tree_at b (k + kept a) xs) Done))
 
   pub trees_at : Terms → ℕ → List SlotValue → Trees

@@ -153,9 +153,12 @@ abbrev mutual
   Laid ns p (Plain t l) = HasNode ns p (OfLeaf l) t []
   Laid ns p (Apply t o xs) = HasNode ns p (OfApply o) t (places (suc p) xs) × AllLaid ns (suc p) xs
   Laid ns p (Nbr t a) = HasNode ns p OfNbr t (suc p ∷ []) × Laid ns (suc p) a
-  Laid ns p (Evolve t e a b) = HasNode ns p (OfEvolve e) t (suc p ∷ (suc p + size a) ∷ []) × Laid ns (suc p) a × Laid ns (suc p + size a) b
-  Laid ns p (If t c a b) = HasNode ns p OfIf t (suc p ∷ (suc p + size c) ∷ (suc p + size c + size a) ∷ []) × Laid ns (suc p) c × Laid ns (suc p + size c) a × Laid ns (suc p + size c + size a) b
-  Laid ns p (Let t a b) = HasNode ns p OfLet t (suc p ∷ (suc p + size a) ∷ []) × Laid ns (suc p) a × Laid ns (suc p + size a) b
+  Laid ns p (Evolve t e a b) =
+      HasNode ns p (OfEvolve e) t (suc p ∷ (suc p + size a) ∷ []) × Laid ns (suc p) a × Laid ns (suc p + size a) b
+  Laid ns p (If t c a b) = HasNode ns p OfIf t (suc p ∷ (suc p + size c) ∷ (suc p + size c + size a) ∷ [])
+      × Laid ns (suc p) c × Laid ns (suc p + size c) a × Laid ns (suc p + size c + size a) b
+  Laid ns p (Let t a b) =
+      HasNode ns p OfLet t (suc p ∷ (suc p + size a) ∷ []) × Laid ns (suc p) a × Laid ns (suc p + size a) b
 
   pub AllLaid : List Node → ℕ → Terms → Type 0
   AllLaid ns p NoMore = Unit {0}

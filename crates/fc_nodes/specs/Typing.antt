@@ -43,12 +43,16 @@ abbrev mutual
   pub HasType : Declarations → Scope → ℕ → Term → Type 0
   HasType D scope p (Plain t l) = LeafHasType D scope t l
   HasType D scope p (Apply t o xs) = HasRule o (types_of xs) t × HaveTypes D scope (suc p) xs
-  HasType D scope p (Nbr t a) = (s : LocalType) × (t ≡ TypeField s) × (type_of a ≡ TypeLocal s) × HasType D scope (suc p) a
-  HasType D scope p (Evolve t e a b) = (s : LocalType) × (t ≡ TypeLocal s) × (type_of a ≡ TypeLocal s) × (type_of b ≡ TypeLocal s)
+  HasType D scope p (Nbr t a) =
+      (s : LocalType) × (t ≡ TypeField s) × (type_of a ≡ TypeLocal s) × HasType D scope (suc p) a
+  HasType D scope p (Evolve t e a b) =
+      (s : LocalType) × (t ≡ TypeLocal s) × (type_of a ≡ TypeLocal s) × (type_of b ≡ TypeLocal s)
       × HasType D scope (suc p) a × HasType D ((p, evolving_type e s) ∷ scope) (suc p + size a) b
-  HasType D scope p (If t c a b) = (s : LocalType) × (t ≡ TypeLocal s) × (type_of c ≡ TypeLocal BoolType) × (type_of a ≡ TypeLocal s) × (type_of b ≡ TypeLocal s)
+  HasType D scope p (If t c a b) = (s : LocalType) × (t ≡ TypeLocal s) × (type_of c ≡ TypeLocal BoolType)
+      × (type_of a ≡ TypeLocal s) × (type_of b ≡ TypeLocal s)
       × HasType D scope (suc p) c × HasType D scope (suc p + size c) a × HasType D scope (suc p + size c + size a) b
-  HasType D scope p (Let t a b) = (t ≡ type_of b) × HasType D scope (suc p) a × HasType D ((p, type_of a) ∷ scope) (suc p + size a) b
+  HasType D scope p (Let t a b) =
+      (t ≡ type_of b) × HasType D scope (suc p) a × HasType D ((p, type_of a) ∷ scope) (suc p + size a) b
 
   pub HaveTypes : Declarations → Scope → ℕ → Terms → Type 0
   HaveTypes D scope p NoMore = Unit {0}

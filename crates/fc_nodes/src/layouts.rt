@@ -89,7 +89,8 @@ fn add(
     blanks: &mut Vec<Local>,
 ) -> Result<(), Memory>
     requires { length blanks.old.items < 2 ^ 32 }
-    ensures numbers { OnOk result (numbers.new.items ≡ numbers.old.items ++ next_number blanks.old.items node.now ∷ []) }
+    ensures numbers { OnOk result (numbers.new.items ≡ numbers.old.items
+        ++ next_number blanks.old.items node.now ∷ []) }
     ensures blanks { OnOk result (forms_of blanks.new.items ≡ forms_of blanks.old.items ++ forms_kept node.now) }
 {
     match blank(alloc, node)? {

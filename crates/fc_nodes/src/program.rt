@@ -7,8 +7,8 @@ use fc_values::{Declared, Memory};
 use std::alloc::Global;
 use std::marker::Model;
 
-/// A program whose calls are unfolded: its declarations, its nodes in preorder, and their layout; of each place the first
-/// one behind the term there, and of each binder the places of its variable.
+/// A program whose calls are unfolded: its declarations, its nodes in preorder, and their layout; of each place the
+/// first one behind the term there, and of each binder the places of its variable.
 #[derive(Drop)]
 pub struct Unfolded {
     declared: Declared,
@@ -34,7 +34,8 @@ impl Model for Unfolded {
     ghost view = { λ u. record { declared = declarations_of u.declared; nodes = u.nodes.items } };
 
     ghost invariant = { λ u. IsProgram (record { declared = declarations_of u.declared; nodes = u.nodes.items })
-        × IsLayout u.nodes.items u.layout × AreEnds u.nodes.items u.ends.items × AreUses u.nodes.items (lists_of u.uses.items) };
+        × IsLayout u.nodes.items u.layout × AreEnds u.nodes.items u.ends.items
+        × AreUses u.nodes.items (lists_of u.uses.items) };
 }
 
 impl Unfolded {
@@ -96,8 +97,8 @@ impl Unfolded {
         &self.nodes[place as usize]
     }
 
-    /// Whether the variable of a binder occurs in the term at a place. It walks over nothing: the uses of the binder before
-    /// the term and before its end are counted by halves.
+    /// Whether the variable of a binder occurs in the term at a place. It walks over nothing: the uses of the binder
+    /// before the term and before its end are counted by halves.
     pub fn occurs(&self, binder: u32, place: u32) -> bool
         requires { StandsAt self.now.nodes place }
         ensures { result ≡ occurs_in_term binder (term_at self.now.nodes place) }

@@ -14,7 +14,8 @@ use std::thread;
 
 /// Puts a node behind others.
 fn put(nodes: &mut Vec<Node>, op: Op, ty: Ty, kids: Vec<u32>) -> Result<(), Memory>
-    ensures { IfOk result (λ done. map view_of nodes.new.items ≡ map view_of nodes.old.items ++ Has (sort_of op) (type_of ty) kids.items ∷ []) }
+    ensures { IfOk result (λ done. map view_of nodes.new.items ≡ map view_of nodes.old.items
+        ++ Has (sort_of op) (type_of ty) kids.items ∷ []) }
 {
     nodes.push(Node { op, ty, kids })?;
     Ok(())
@@ -22,7 +23,8 @@ fn put(nodes: &mut Vec<Node>, op: Op, ty: Ty, kids: Vec<u32>) -> Result<(), Memo
 
 /// Puts a number behind other nodes.
 fn put_number(nodes: &mut Vec<Node>, number: u32, kids: Vec<u32>) -> Result<(), Memory>
-    ensures { IfOk result (λ done. map view_of nodes.new.items ≡ map view_of nodes.old.items ++ Has (OfLeaf (Literal (IntValue number))) (TypeLocal IntType) kids.items ∷ []) }
+    ensures { IfOk result (λ done. map view_of nodes.new.items ≡ map view_of nodes.old.items
+        ++ Has (OfLeaf (Literal (IntValue number))) (TypeLocal IntType) kids.items ∷ []) }
 {
     put(
         nodes,
@@ -47,7 +49,12 @@ fn pair_program(
     requires added { added ≤ ceiling }
     requires local { local ≤ ceiling }
     ensures ceiling { IfOk result (λ program. program.declared.ceiling ≡ ceiling) }
-    ensures main { IfOk result (λ program. term_at program.nodes 0 ≡ Apply (TypeLocal IntType) builtin.MinHoodLoc (More (Apply (TypeField IntType) builtin.Add (More (Nbr (TypeField IntType) (Plain (TypeLocal IntType) (Literal (IntValue shared)))) (More (Plain (TypeLocal IntType) (Literal (IntValue added))) NoMore))) (More (Plain (TypeLocal IntType) (Literal (IntValue local))) NoMore))) }
+    ensures main { IfOk result (λ program. term_at program.nodes 0
+        ≡ Apply (TypeLocal IntType) builtin.MinHoodLoc
+        (More (Apply (TypeField IntType) builtin.Add
+        (More (Nbr (TypeField IntType) (Plain (TypeLocal IntType) (Literal (IntValue shared))))
+        (More (Plain (TypeLocal IntType) (Literal (IntValue added))) NoMore)))
+        (More (Plain (TypeLocal IntType) (Literal (IntValue local))) NoMore))) }
 {
     let mut nodes = Vec::new(alloc);
     put(

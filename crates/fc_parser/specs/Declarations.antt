@@ -55,7 +55,8 @@ metric_read ts = range_read ts >>= λ r a. finish_read a >>= λ _ rest. Got (Met
 unfoldable pub definition_read : Bool → Reader Declaration
 definition_read second ts =
     name_read ts >>= λ f a. mark_read mark.OpenRound a >>= λ _ b. parameters_read b >>= λ ps c.
-    mark_read mark.CloseRound c >>= λ _ d. mark_read mark.Colon d >>= λ _ e. type_read e >>= λ t g. body_read second g >>= λ body rest. Got
+    mark_read mark.CloseRound c >>= λ _ d. mark_read mark.Colon d >>= λ _ e. type_read e >>= λ t g.
+    body_read second g >>= λ body rest. Got
     (DefIs f ps t body) rest
 
 unfoldable pub main_read : Bool → Reader Declaration

@@ -115,7 +115,8 @@ of_field f _ = None
 abbrev pub hood_value : Builtin → ℕ → ℕ → List AnyValue → Option LocalValue
 hood_value op.MinHoodLoc ceiling device xs = of_field_and_local (λ es l. least_of l (others device es)) xs
 hood_value op.MaxHoodLoc ceiling device xs = of_field_and_local (λ es l. greatest_of l (others device es)) xs
-hood_value op.SumHood ceiling device xs = of_field (λ es. option_map (λ sum. IntValue (min ceiling sum)) (sum_of (others device es))) xs
+hood_value op.SumHood ceiling device xs =
+    of_field (λ es. option_map (λ sum. IntValue (min ceiling sum)) (sum_of (others device es))) xs
 hood_value op.AnyHood ceiling device xs = of_field (λ es. option_map BoolValue (any_of (others device es))) xs
 hood_value op.AllHood ceiling device xs = of_field (λ es. option_map BoolValue (all_of (others device es))) xs
 hood_value _ ceiling device xs = None
@@ -158,7 +159,8 @@ field_over f (d ∷ ds) = put_before (option_map (λ v. (d, v)) (f d)) (field_ov
 -- an operator at each device of the fields among its arguments, which are over one set of devices
 abbrev pub pointwise_over : (List LocalValue → Option LocalValue) → Option (List ℕ) → List AnyValue → Option AnyValue
 pointwise_over f None xs = option_map ValueLocal (option_and_then f (arguments_at 0 xs))
-pointwise_over f (Some ds) xs = if rises ds && are_over ds xs then option_map ValueField (field_over (λ d. option_and_then f (arguments_at d xs)) ds) else None
+pointwise_over f (Some ds) xs = if rises ds && are_over ds xs
+    then option_map ValueField (field_over (λ d. option_and_then f (arguments_at d xs)) ds) else None
 
 abbrev pub pointwise : (List LocalValue → Option LocalValue) → List AnyValue → Option AnyValue
 pointwise f xs = pointwise_over f (field_devices xs) xs
@@ -166,4 +168,5 @@ pointwise f xs = pointwise_over f (field_devices xs) xs
 -- the value of a builtin at a device
 abbrev pub builtin_value : Builtin → ℕ → ℕ → List AnyValue → Option AnyValue
 builtin_value builtin ceiling device xs =
-    if is_hood builtin then option_map ValueLocal (hood_value builtin ceiling device xs) else pointwise (local_value builtin ceiling) xs
+    if is_hood builtin then option_map ValueLocal (hood_value builtin ceiling device xs)
+    else pointwise (local_value builtin ceiling) xs

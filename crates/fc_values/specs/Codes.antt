@@ -39,10 +39,13 @@ pub truth_back : (b : Bool) → number_truth (truth_number b) ≡ b
 truth_back false = refl
 truth_back true = refl
 
-pub read_back : (v : LocalValue) (rest : List (ℕ × ℕ)) (stack : List LocalValue) → read_on (written v rest) stack ≡ read_on rest (v ∷ stack)
+pub read_back : (v : LocalValue) (rest : List (ℕ × ℕ)) (stack : List LocalValue)
+    → read_on (written v rest) stack ≡ read_on rest (v ∷ stack)
 read_back (IntValue n) rest stack = refl
 read_back (BoolValue b) rest stack = ap (λ c. read_on rest (BoolValue c ∷ stack)) (truth_back b)
-read_back (PairValue a b) rest stack = read_back a (written b ((2, 0) ∷ rest)) stack ∙ read_back b ((2, 0) ∷ rest) (a ∷ stack)
+read_back (PairValue a b) rest stack =
+    read_back a (written b ((2, 0) ∷ rest)) stack ∙ read_back b ((2, 0) ∷ rest) (a ∷ stack)
 
 abbrev pub local_value_code : Coded LocalValue
-local_value_code = code_by (List (ℕ × ℕ)) (coded_list (coded× coded_ℕ coded_ℕ)) (λ v. written v []) (λ ts. top (read_on ts [])) (λ v. ap top (read_back v [] []))
+local_value_code = code_by (List (ℕ × ℕ)) (coded_list (coded× coded_ℕ coded_ℕ)) (λ v. written v [])
+    (λ ts. top (read_on ts [])) (λ v. ap top (read_back v [] []))

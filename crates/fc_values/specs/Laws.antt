@@ -37,16 +37,19 @@ pub record IsGreatest (vs : List LocalValue) (v : LocalValue) : Type 0 where
 
 -- the least and the greatest of values of one form are what their names say
 abbrev pub LeastIsLeast : Type 0
-LeastIsLeast = (t : LocalType) (v : LocalValue) (vs : List LocalValue) → All (λ w. form_of w ≡ t) (v ∷ vs) → IsLeast (v ∷ vs) (least_of v vs)
+LeastIsLeast = (t : LocalType) (v : LocalValue) (vs : List LocalValue) → All (λ w. form_of w ≡ t) (v ∷ vs)
+    → IsLeast (v ∷ vs) (least_of v vs)
 
 abbrev pub GreatestIsGreatest : Type 0
 GreatestIsGreatest =
-    (t : LocalType) (v : LocalValue) (vs : List LocalValue) → All (λ w. form_of w ≡ t) (v ∷ vs) → IsGreatest (v ∷ vs) (greatest_of v vs)
+    (t : LocalType) (v : LocalValue) (vs : List LocalValue) → All (λ w. form_of w ≡ t) (v ∷ vs)
+    → IsGreatest (v ∷ vs) (greatest_of v vs)
 
 -- `==` of two values of one form says that they are equal
 abbrev pub EqualSaysSame : Type 0
 EqualSaysSame =
-    (ceiling : ℕ) (v w : LocalValue) → SameForm v w → (local_value op.Equal ceiling (v ∷ w ∷ []) ≡ Some (BoolValue true)) ↔ (v ≡ w)
+    (ceiling : ℕ) (v w : LocalValue) → SameForm v w → (local_value op.Equal ceiling (v ∷ w ∷ [])
+    ≡ Some (BoolValue true)) ↔ (v ≡ w)
 
 -- ---- a field, read at a device
 

@@ -56,4 +56,5 @@ pub record Declarations : Type 0 where
   pub greatest : ℕ
 
 abbrev pub declarations_of : Declared → Declarations
-declarations_of d = record { ceiling = d.ceiling; inputs = map input_of d.inputs.items; least = d.metric.0; greatest = d.metric.1 }
+declarations_of d =
+    record { ceiling = d.ceiling; inputs = map input_of d.inputs.items; least = d.metric.0; greatest = d.metric.1 }

@@ -14,7 +14,8 @@ use std::alloc::Global;
 
 /// The first field among some values.
 pub fn first_field(args: &[Value]) -> Option<&FieldVal>
-    ensures { MatchOption result (field_devices (values_of args.now) ≡ None) (λ field. field_devices (values_of args.now) ≡ Some (devices (entries_of field.now))) }
+    ensures { MatchOption result (field_devices (values_of args.now) ≡ None)
+        (λ field. field_devices (values_of args.now) ≡ Some (devices (entries_of field.now))) }
 {
     for arg in args {
         if let Value::Field(field) = arg {
@@ -45,7 +46,8 @@ pub fn apply_at(
 ) -> Result<Local, Memory>
     requires have { HavePosition position (values_of args.now) }
     requires has_value { IsSome (local_value builtin ceiling (arguments_nth position (values_of args.now))) }
-    ensures { IfOk result (λ v. local_value builtin ceiling (arguments_nth position (values_of args.now)) ≡ Some (local_of v)) }
+    ensures { IfOk result (λ v. local_value builtin ceiling (arguments_nth position (values_of args.now))
+        ≡ Some (local_of v)) }
 {
     match args {
         [a] => apply_local(alloc, builtin, &[nth(a, position)], ceiling),
@@ -71,8 +73,10 @@ pub fn apply_over(
 ) -> Result<FieldVal, Memory>
     requires rising { rises (devices (entries_of field.now)) ≡ true }
     requires over { are_over (devices (entries_of field.now)) (values_of args.now) ≡ true }
-    requires has_value { IsSome (field_over (value_over builtin ceiling (values_of args.now)) (devices (entries_of field.now))) }
-    ensures { IfOk result (λ f. field_over (value_over builtin ceiling (values_of args.now)) (devices (entries_of field.now)) ≡ Some (entries_of f)) }
+    requires has_value { IsSome (field_over (value_over builtin ceiling (values_of args.now))
+        (devices (entries_of field.now))) }
+    ensures { IfOk result (λ f. field_over (value_over builtin ceiling (values_of args.now))
+        (devices (entries_of field.now)) ≡ Some (entries_of f)) }
 {
     let mut entries = Vec::with_capacity(alloc, field.entries.len())?;
     for (position, entry) in field.entries.iter().enumerate() {

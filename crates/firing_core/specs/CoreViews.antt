@@ -22,7 +22,8 @@ pub record CoreValue : Type 0 where
   pub flying : List (Option Snap)
   pub rooms : List (Option SpareValue)
 
-abbrev pub core_with : Program → Network → List (Option Export) → List (Option Snap) → List (Option SpareValue) → CoreValue
+abbrev pub core_with : Program → Network → List (Option Export) → List (Option Snap)
+    → List (Option SpareValue) → CoreValue
 core_with p n xs ss rs = record { program = p; net = n; exports = xs; flying = ss; rooms = rs }
 
 -- a neighbour in a copy, as plain values

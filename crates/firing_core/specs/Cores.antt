@@ -36,7 +36,8 @@ near_copies table (n ∷ ns) = near_with n (table n.0) (near_copies table ns)
 
 -- the copy that a begin of a device takes, from a network and a table of exports
 abbrev pub copy_of : Network → Map TreeExport → ℕ → Copy
-copy_of n table d = record { device = d; inputs = inputs_in d n.devices; own = table d; near = near_copies table (near n d) }
+copy_of n table d =
+    record { device = d; inputs = inputs_in d n.devices; own = table d; near = near_copies table (near n d) }
 
 -- the core after a begin that takes its copy from a table, and after an end
 abbrev pub begun : Map TreeExport → Core → ℕ → Core
@@ -85,8 +86,10 @@ abbrev pub edited : Unfolding → Core → EditValue → Core
 edited U c (LinkEdit a b w) = on_net c (linked c.net a b w)
 edited U c (UnlinkEdit a b) = on_net c (unlinked c.net a b)
 edited U c (SetEdit d i v) = on_net c (with_input c.net d i v)
-edited U c (PokeEdit d e) = record { net = c.net; exports = put c.exports d (Some (tree_export U e)); flying = c.flying }
-edited U c (JoinEdit x) = record { net = joined c.net x; exports = put c.exports x.id None; flying = put c.flying x.id None }
+edited U c (PokeEdit d e) =
+    record { net = c.net; exports = put c.exports d (Some (tree_export U e)); flying = c.flying }
+edited U c (JoinEdit x) =
+    record { net = joined c.net x; exports = put c.exports x.id None; flying = put c.flying x.id None }
 edited U c (LeaveEdit d) = record { net = left c.net d; exports = put c.exports d None; flying = c.flying }
 
 -- an edit that the core allows

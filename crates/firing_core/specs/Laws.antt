@@ -20,7 +20,8 @@ RunsKeepGood = (P : Program) (c last : Core) (log : List EntryValue) → IsProgr
     → Run (unfolding_of P) c log last → IsGood (unfolding_of P) last
 
 abbrev pub StepsKeepNetworks : Type 0
-StepsKeepNetworks = (U : Unfolding) (c next : Core) (e : EntryValue) → IsNetwork c.net → Step U c e next → IsNetwork next.net
+StepsKeepNetworks =
+    (U : Unfolding) (c next : Core) (e : EntryValue) → IsNetwork c.net → Step U c e next → IsNetwork next.net
 
 -- a log without an edit keeps the network
 abbrev pub PlainRunsKeepNet : Type 0

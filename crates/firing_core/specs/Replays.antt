@@ -92,7 +92,8 @@ replay U c [] = Some c
 replay U c (e ∷ es) = and_replay (step U c e) (λ next. replay U next es)
 
 -- the entry at an index is the first that has no step, and this is so of the core before it
-pub record FailsAt (U : Unfolding) (c : Core) (log : List EntryValue) (index : ℕ) (refused : Core → EntryValue → Type 0) : Type 0 where
+pub record FailsAt (U : Unfolding) (c : Core) (log : List EntryValue) (index : ℕ)
+    (refused : Core → EntryValue → Type 0) : Type 0 where
   pub front : List EntryValue
   pub entry : EntryValue
   pub rest : List EntryValue

@@ -41,8 +41,8 @@ IsMixed (PokeEdit d x) = Unit {0}
 IsMixed (JoinEdit x) = ⊥
 IsMixed (LeaveEdit d) = ⊥
 
--- A line `run` with so many rounds: a run from a core without an edit, in which each device begins so many firings. It has
--- so many rounds, and nothing is in flight after it.
+-- A line `run` with so many rounds: a run from a core without an edit, in which each device begins so many firings. It
+-- has so many rounds, and nothing is in flight after it.
 pub record RunStretch (U : Unfolding) (c : Core) (rounds : ℕ) (part : List EntryValue) (last : Core) : Type 0 where
   pub leads : Run U c part last
   pub plain : has_edit part ≡ false
@@ -50,10 +50,11 @@ pub record RunStretch (U : Unfolding) (c : Core) (rounds : ℕ) (part : List Ent
   pub covers : HasRounds (numbers c.net.devices) part rounds
   pub rests : NoneFlies last
 
--- A line `mix` with so many rounds and an edit: a run from a core with this one edit, in which each device begins one firing
--- more than there are rounds. The first begin is of the smallest device, and the edit stands between it and the next end of
--- that device. What follows the edit has so many rounds, and nothing is in flight after it.
-pub record MixStretch (U : Unfolding) (c : Core) (rounds : ℕ) (edit : EditValue) (part : List EntryValue) (last : Core) : Type 0 where
+-- A line `mix` with so many rounds and an edit: a run from a core with this one edit, in which each device begins one
+-- firing more than there are rounds. The first begin is of the smallest device, and the edit stands between it and the
+-- next end of that device. What follows the edit has so many rounds, and nothing is in flight after it.
+pub record MixStretch (U : Unfolding) (c : Core) (rounds : ℕ) (edit : EditValue) (part : List EntryValue) (last : Core)
+    : Type 0 where
   pub leads : Run U c part last
   pub before : List EntryValue
   pub first : ℕ

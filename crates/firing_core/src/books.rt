@@ -124,7 +124,8 @@ impl Book {
         ensures rooms { rooms_of self.new.core ≡ rooms_of self.old.core }
         ensures no_device { IsErrOf result StepFault.NoDevice
             ↔ (fault_of (core_of self.old.core) (BeginEntry device) ≡ Some fault.NoDevice) }
-        ensures flying { IsErrOf result StepFault.Flying ↔ (fault_of (core_of self.old.core) (BeginEntry device) ≡ Some fault.Flying) }
+        ensures flying { IsErrOf result StepFault.Flying
+            ↔ (fault_of (core_of self.old.core) (BeginEntry device) ≡ Some fault.Flying) }
         ensures never { IsErrOf result StepFault.NotFlying → ⊥ }
         ensures err { OnErr result (self.new ≡ self.old) }
     {
@@ -160,7 +161,8 @@ impl Book {
         requires copy { FiresFlight (unfolding_of self.old.program) (core_of self.old.core) fired }
         requires room { FliesInRoom self.old.core fired }
         ensures ok { OnOk result (AppendsEntry self.old self.new (entry.End fired.snap.device)) }
-        ensures publishes { OnOk result (Publishes (unfolding_of self.old.program) (core_of self.old.core) fired (core_of self.new.core)) }
+        ensures publishes { OnOk result (Publishes (unfolding_of self.old.program) (core_of self.old.core) fired
+            (core_of self.new.core)) }
         ensures spare { OnOk result (self.new.spare + 1 ≡ self.old.spare) }
         ensures room { IfOk result (IsRoom (unfolding_of self.old.program)) }
         ensures rooms { OnOk result (rooms_of self.new.core ≡ mark (rooms_of self.old.core) fired.snap.device false) }
@@ -181,7 +183,8 @@ impl Book {
         requires program { fired.program ≡ self.old.program }
         requires copy { FiresFlight (unfolding_of self.old.program) (core_of self.old.core) fired }
         ensures ok { OnOk result (AppendsEntry self.old self.new (entry.End fired.snap.device)) }
-        ensures publishes { OnOk result (Publishes (unfolding_of self.old.program) (core_of self.old.core) fired (core_of self.new.core)) }
+        ensures publishes { OnOk result (Publishes (unfolding_of self.old.program) (core_of self.old.core) fired
+            (core_of self.new.core)) }
         ensures room { OnOk result (self.new.spare + 1 ≡ self.old.spare) }
         ensures rooms { OnOk result (rooms_of self.new.core ≡ mark (rooms_of self.old.core) fired.snap.device false) }
         ensures refused { IfErr result (λ e. fault_of (core_of self.old.core) (EndEntry fired.snap.device) ≡ Some e.1) }
@@ -221,8 +224,8 @@ impl Book {
         self.log.push_reserved(Entry::Idle);
     }
 
-    /// Applies one entry, an end by evaluating the copy in flight, and appends it. A refusal changes nothing but the room
-    /// in the log.
+    /// Applies one entry, an end by evaluating the copy in flight, and appends it. A refusal changes nothing but the
+    /// room in the log.
     pub fn step(&mut self, alloc: Global, entry: Entry) -> Result<(), ReplayFault>
         requires { EntryFits (unfolding_of self.old.program) (entry_of entry) }
         ensures ok { OnOk result (AppendsEntry self.old self.new entry) }
@@ -238,7 +241,8 @@ impl Book {
         self.apply(alloc, entry)
     }
 
-    /// Ends each flight, that of the smallest device first. For want of memory some flights, the first of these, are ended.
+    /// Ends each flight, that of the smallest device first. For want of memory some flights, the first of these, are
+    /// ended.
     pub fn settle(&mut self, alloc: Global) -> Result<(), Memory>
         ensures ok { OnOk result (EndsFlights self.old self.new (in_flight (core_of self.old.core))) }
         ensures rests { OnOk result ((d : ℕ) → (core_of self.new.core).flying d ≡ None) }
@@ -306,8 +310,10 @@ pub fn replay(
     ensures rooms { IfOk result (λ b. rooms_of b.core ≡ rooms_along (entries_of log.items) (rooms_of start)) }
     ensures core { IfOk result (λ b.
         replay_of (unfolding_of program.now.value) (core_of start) (entries_of log.items) ≡ Some (core_of b.core)) }
-    ensures refused { IfErr result (FailsReplay (unfolding_of program.now.value) (core_of start) (entries_of log.items)) }
-    ensures stuck { IfErr result (IsStuckReplay (unfolding_of program.now.value) (core_of start) (entries_of log.items)) }
+    ensures refused { IfErr result (FailsReplay (unfolding_of program.now.value) (core_of start)
+        (entries_of log.items)) }
+    ensures stuck { IfErr result (IsStuckReplay (unfolding_of program.now.value) (core_of start)
+        (entries_of log.items)) }
 {
     let Ok(program) = program.clone() else {
         return Err(ReplayFault::Memory);

@@ -74,7 +74,8 @@ impl Core {
         requires table { IsTable (unfolding_of program.now.value) net table.items }
         requires pending { IsPending (unfolding_of program.now.value) net pending.items }
         ensures program { IfOk result (λ c. c.program ≡ program.now.value) }
-        ensures core { IfOk result (λ c. core_of c ≡ started (unfolding_of program.now.value) net table.items pending.items) }
+        ensures core { IfOk result (λ c. core_of c ≡ started (unfolding_of program.now.value) net table.items
+            pending.items) }
         ensures rooms { IfOk result (λ c. (d : ℕ) → rooms_of c d ≡ false) }
     {
         let program = program.clone()?;
@@ -109,7 +110,8 @@ impl Core {
 
     /// The export of a device.
     pub fn export(&self, device: u32) -> Option<&Export>
-        ensures value { option_map (λ e. tree_of (program_of self.now) e.now) result ≡ (core_of self.now).exports device }
+        ensures value { option_map (λ e. tree_of (program_of self.now) e.now) result
+            ≡ (core_of self.now).exports device }
         ensures export { IfSome result (λ e. IsExportOf (program_of self.now) e.now) }
         ensures core { IsCore self.now }
     {
@@ -119,7 +121,8 @@ impl Core {
 
     /// The copy with which a device flies.
     pub fn flying(&self, device: u32) -> Option<&Snap>
-        ensures value { option_map (λ s. snap_copy (program_of self.now) s.now) result ≡ (core_of self.now).flying device }
+        ensures value { option_map (λ s. snap_copy (program_of self.now) s.now) result
+            ≡ (core_of self.now).flying device }
         ensures snap { IfSome result (λ s. IsSnap (program_of self.now) s.now) }
         ensures core { IsCore self.now }
     {
@@ -157,7 +160,8 @@ impl Core {
     ) -> Result<Snap, Memory>
         requires within { place < length self.now.net.devices }
         requires device { slice_index (numbers self.now.net.devices) place ≡ device }
-        ensures copy { IfOk result (λ s. snap_copy (program_of self.now) s ≡ copy_of self.now.net (core_of self.now).exports device) }
+        ensures copy { IfOk result (λ s. snap_copy (program_of self.now) s
+            ≡ copy_of self.now.net (core_of self.now).exports device) }
         ensures snap { IfOk result (λ s. IsSnap (program_of self.now) s) }
     {
         let inputs = copy_locals(alloc, &self.net.devices()[place].inputs)?;
@@ -194,9 +198,12 @@ impl Core {
 
     /// Puts the copy of a device's closed neighbourhood in flight.
     pub fn begin(&mut self, alloc: Global, device: u32) -> Result<(), StepFault>
-        ensures ok { OnOk result (Step (program_of self.old) (core_of self.old) (BeginEntry device) (core_of self.new)) }
-        ensures no_device { IsErrOf result StepFault.NoDevice ↔ (fault_of (core_of self.old) (BeginEntry device) ≡ Some fault.NoDevice) }
-        ensures flying { IsErrOf result StepFault.Flying ↔ (fault_of (core_of self.old) (BeginEntry device) ≡ Some fault.Flying) }
+        ensures ok { OnOk result (Step (program_of self.old) (core_of self.old) (BeginEntry device)
+            (core_of self.new)) }
+        ensures no_device { IsErrOf result StepFault.NoDevice
+            ↔ (fault_of (core_of self.old) (BeginEntry device) ≡ Some fault.NoDevice) }
+        ensures flying { IsErrOf result StepFault.Flying
+            ↔ (fault_of (core_of self.old) (BeginEntry device) ≡ Some fault.Flying) }
         ensures never { IsErrOf result StepFault.NotFlying → ⊥ }
         ensures err { OnErr result (self.new ≡ self.old) }
         ensures same { IsSameCore self.old self.new }
@@ -215,12 +222,13 @@ impl Core {
         Ok(())
     }
 
-    /// Publishes the export of a firing and ends it. It takes no memory, and drops what is left of a room. What was fired
-    /// comes back with a refusal.
+    /// Publishes the export of a firing and ends it. It takes no memory, and drops what is left of a room. What was
+    /// fired comes back with a refusal.
     pub fn end(&mut self, fired: Fired) -> Result<(), (Fired, StepFault)>
         requires program { fired.program ≡ self.old.program }
         requires copy { FiresFlight (program_of self.old) (core_of self.old) fired }
-        ensures ok { OnOk result (Step (program_of self.old) (core_of self.old) (EndEntry fired.snap.device) (core_of self.new)) }
+        ensures ok { OnOk result (Step (program_of self.old) (core_of self.old) (EndEntry fired.snap.device)
+            (core_of self.new)) }
         ensures publishes { OnOk result (Publishes (program_of self.old) (core_of self.old) fired (core_of self.new)) }
         ensures refused { IfErr result (λ e. fault_of (core_of self.old) (EndEntry fired.snap.device) ≡ Some e.1) }
         ensures accepted { OnOk result (fault_of (core_of self.old) (EndEntry fired.snap.device) ≡ None) }

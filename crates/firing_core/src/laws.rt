@@ -4,8 +4,8 @@ ghost use Rattle.firing_core.specs.Laws.{StepsKeepGood, RunsKeepGood, StepsKeepN
 ghost use Rattle.firing_core.specs.Laws.{FaultlessStep, StepsAgree, RunsAgree, CopiesFit};
 ghost use Rattle.firing_core.specs.Laws.{LogsLeadToOne, FlightsStay, RunsCut, RunsCutAtEdit};
 
-/// Steps keep a core good: its network is one, its exports are well-typed, and its copies in flight fit. Without an edit
-/// the network stays.
+/// Steps keep a core good: its network is one, its exports are well-typed, and its copies in flight fit. Without an
+/// edit the network stays.
 pub fn steps_keep_good()
     ensures step { StepsKeepGood }
     ensures run { RunsKeepGood }

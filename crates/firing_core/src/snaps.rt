@@ -72,7 +72,8 @@ fn copy_near(
 /// A copy of a copy, for a program that it fits.
 pub fn copy_snap(alloc: Global, program: &Unfolded, snap: &Snap) -> Result<Snap, Memory>
     requires { IsSnap (unfolding_of program.now) snap.now }
-    ensures same { IfOk result (λ s. snap_copy (unfolding_of program.now) s ≡ snap_copy (unfolding_of program.now) snap.now) }
+    ensures same { IfOk result (λ s. snap_copy (unfolding_of program.now) s
+        ≡ snap_copy (unfolding_of program.now) snap.now) }
     ensures snap { IfOk result (λ s. IsSnap (unfolding_of program.now) s) }
 {
     let inputs = copy_locals(alloc, &snap.inputs)?;

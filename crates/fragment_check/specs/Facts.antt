@@ -63,7 +63,8 @@ facts_of_apply own o ts = record {
 
 -- the facts of what stands under `nbr`, and of what stands under `let`, `if`, `rep` or `share`
 abbrev pub under_nbr : Bool → Facts → Facts
-under_nbr heard f = record { uses = f.uses; nested = not heard && f.uses; bare = not heard && f.bare; guarding = f.guarding }
+under_nbr heard f =
+    record { uses = f.uses; nested = not heard && f.uses; bare = not heard && f.bare; guarding = f.guarding }
 
 abbrev pub beneath : Facts → Facts
 beneath f = record { uses = f.uses; nested = f.uses; bare = f.bare; guarding = f.guarding }

@@ -72,5 +72,6 @@ IsRisenFormOf ns own p = PartsOf ns p (risen_form (evolution_of own) own.place (
 
 -- the arguments of a `minHoodLoc` whose second one is without the variable
 abbrev pub SettledKids : List Node → ℕ → ℕ → Option (ℕ × ℕ) → Type 0
-SettledKids ns x p (Some (h, l)) = (hood_of x (term_at ns p) ≡ Some (term_at ns h, term_at ns l)) × (size (term_at ns p) ≡ suc (size (term_at ns h) + size (term_at ns l))) × HoodParts ns p h l
+SettledKids ns x p (Some (h, l)) = (hood_of x (term_at ns p) ≡ Some (term_at ns h, term_at ns l))
+    × (size (term_at ns p) ≡ suc (size (term_at ns h) + size (term_at ns l))) × HoodParts ns p h l
 SettledKids ns x p None = hood_of x (term_at ns p) ≡ None

@@ -11,5 +11,7 @@ use Rattle.fragment_check.specs.Shapes.{HasPattern}
 
 -- a well-typed body whose pattern is found has the shape that the pattern names
 abbrev pub PatternsHaveShapes : Type 0
-PatternsHaveShapes = (D : Declarations) (scope : Scope) (m : ℕ) (R : ℕ → RangeValue) (e : Evolution) (x p : ℕ) (s : LocalType)
-    → (u : Term) (a : Pattern) → HasType D ((x, evolving_type e s) ∷ scope) p u → body_pattern m R e x p u ≡ Ok a → HasPattern m R e x p s u a
+PatternsHaveShapes =
+    (D : Declarations) (scope : Scope) (m : ℕ) (R : ℕ → RangeValue) (e : Evolution) (x p : ℕ) (s : LocalType)
+    → (u : Term) (a : Pattern) → HasType D ((x, evolving_type e s) ∷ scope) p u → body_pattern m R e x p u ≡ Ok a
+    → HasPattern m R e x p s u a

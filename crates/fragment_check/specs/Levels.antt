@@ -26,9 +26,9 @@ leaf_level b x lv t (Variable q) = if nat_eq q x then suc b else reads_level (is
 leaf_level b x lv t NbrLink = suc b
 leaf_level b x lv t _ = b
 
--- The level of the term at place p in a branch of level b. x is the place of the nearest `rep` or `share` in whose body it
--- is: x and `nbr` of x count as b + 1, so a body has the greatest of b + 1 and the levels of its parts, which are its
--- greatest subterms without x.
+-- The level of the term at place p in a branch of level b. x is the place of the nearest `rep` or `share` in whose body
+-- it is: x and `nbr` of x count as b + 1, so a body has the greatest of b + 1 and the levels of its parts, which are
+-- its greatest subterms without x.
 abbrev mutual
   pub level_of : Stages → ℕ → ℕ → ℕ → Lvs → Term → ℕ
   level_of K p b x lv (Plain t l) = leaf_level b x lv t l
@@ -36,7 +36,8 @@ abbrev mutual
   level_of K p b x lv (Nbr t a) = if is_own x a then suc b else suc (level_of K (suc p) b x lv a)
   level_of K p b x lv (Evolve t e a u) = level_of K (suc p + size a) b p lv u + K p
   level_of K p b x lv (If t c u v) = max (level_of K (suc p) b x lv c)
-      (max (level_of K (suc p + size c) (level_of K (suc p) b x lv c) x lv u) (level_of K (suc p + size c + size u) (level_of K (suc p) b x lv c) x lv v))
+      (max (level_of K (suc p + size c) (level_of K (suc p) b x lv c) x lv u)
+      (level_of K (suc p + size c + size u) (level_of K (suc p) b x lv c) x lv v))
   level_of K p b x lv (Let t a u) = level_of K (suc p + size a) b x (bind_level p (level_of K (suc p) b x lv a) lv) u
 
   pub level_all : Stages → ℕ → ℕ → ℕ → Lvs → Terms → ℕ
@@ -48,20 +49,25 @@ abbrev pub level_unless : Bool → ℕ → Option ℕ
 level_unless true l = None
 level_unless false l = Some l
 
--- The levels of all nodes of a term, in preorder. There are none in first values of `rep` and `share`, and none where the
--- variable of the nearest `rep` or `share` around occurs. In a program of the fragment no variable of one further out does.
+-- The levels of all nodes of a term, in preorder. There are none in first values of `rep` and `share`, and none where
+-- the variable of the nearest `rep` or `share` around occurs. In a program of the fragment no variable of one further
+-- out does.
 abbrev mutual
   pub node_levels : Stages → ℕ → ℕ → ℕ → Lvs → Term → List (Option ℕ)
   node_levels K p b x lv (Plain t l) = level_unless (occurs x (Plain t l)) (level_of K p b x lv (Plain t l)) ∷ []
-  node_levels K p b x lv (Apply t o xs) = level_unless (occurs x (Apply t o xs)) (level_of K p b x lv (Apply t o xs)) ∷ all_node_levels K (suc p) b x lv xs
-  node_levels K p b x lv (Nbr t a) = level_unless (occurs x (Nbr t a)) (level_of K p b x lv (Nbr t a)) ∷ node_levels K (suc p) b x lv a
-  node_levels K p b x lv (Evolve t e a u) = level_unless (occurs x (Evolve t e a u)) (level_of K p b x lv (Evolve t e a u))
+  node_levels K p b x lv (Apply t o xs) =
+      level_unless (occurs x (Apply t o xs)) (level_of K p b x lv (Apply t o xs)) ∷ all_node_levels K (suc p) b x lv xs
+  node_levels K p b x lv (Nbr t a) =
+      level_unless (occurs x (Nbr t a)) (level_of K p b x lv (Nbr t a)) ∷ node_levels K (suc p) b x lv a
+  node_levels K p b x lv (Evolve t e a u) =
+      level_unless (occurs x (Evolve t e a u)) (level_of K p b x lv (Evolve t e a u))
       ∷ (repeat (size a) (None ∷ []) ++ node_levels K (suc p + size a) b p lv u)
   node_levels K p b x lv (If t c u v) = level_unless (occurs x (If t c u v)) (level_of K p b x lv (If t c u v))
       ∷ (node_levels K (suc p) b x lv c ++ (node_levels K (suc p + size c) (level_of K (suc p) b x lv c) x lv u
       ++ node_levels K (suc p + size c + size u) (level_of K (suc p) b x lv c) x lv v))
   node_levels K p b x lv (Let t a u) = level_unless (occurs x (Let t a u)) (level_of K p b x lv (Let t a u))
-      ∷ (node_levels K (suc p) b x lv a ++ node_levels K (suc p + size a) b x (bind_level p (level_of K (suc p) b x lv a) lv) u)
+      ∷ (node_levels K (suc p) b x lv a ++ node_levels K (suc p + size a) b x
+      (bind_level p (level_of K (suc p) b x lv a) lv) u)
 
   pub all_node_levels : Stages → ℕ → ℕ → ℕ → Lvs → Terms → List (Option ℕ)
   all_node_levels K p b x lv NoMore = []

@@ -1,4 +1,5 @@
--- Patterns: which `rep` and `share` stabilise, by the forms of their bodies. The variable has the place of its binder, x.
+-- Patterns: which `rep` and `share` stabilise, by the forms of their bodies. The variable has the place of its binder,
+-- x.
 use Rattle.std.specs.Prelude.{ℕ, suc, Bool, true, false, ◌+◌, ◌&&◌, ◌||◌, not, List, [], ◌∷◌, ◌++◌, nat_eq, if◌then◌else◌, Option, Some, None}
 use Rattle.std.specs.declared.result.Result.{Result}
 use Rattle.std.specs.declared.result.Result.TheVariants.{Ok, Err}
@@ -20,7 +21,8 @@ use Rattle.fragment_check.specs.declared.kinds.Pattern.TheVariants as pattern
 -- ---- where the variable occurs. `is_heard e x` says of a term that it is what is heard of the variable: `nbr` of it in a
 -- `rep`, and itself in a `share`
 
--- some occurrence stands beneath a `let`, an `if`, a `rep`, a `share`, or an `nbr` that is not the `nbr` of what is heard
+-- some occurrence stands beneath a `let`, an `if`, a `rep`, a `share`, or an `nbr` that is not the `nbr` of what is
+-- heard
 abbrev mutual
   pub is_nested : Evolution → ℕ → Term → Bool
   is_nested e x (Plain t l) = false
@@ -106,8 +108,8 @@ abbrev pub guarding_or : Option Guarding → Guarding → Guarding
 guarding_or (Some g) kids = g
 guarding_or None kids = kids
 
--- How the occurrences of x in a term are guarded: there is none; each is guarded, and each a and b is the variable of the
--- binder at one place, of type int; each is guarded, in another way; not each is guarded.
+-- How the occurrences of x in a term are guarded: there is none; each is guarded, and each a and b is the variable of
+-- the binder at one place, of type int; each is guarded, in another way; not each is guarded.
 abbrev mutual
   pub guarding_of : Evolution → ℕ → Term → Guarding
   guarding_of e x (Plain t l) = if is_variable x l then guarding.Missing else guarding.Unused
@@ -158,7 +160,8 @@ form_by None other = other
 abbrev pub form_of : Evolution → ℕ → Term → Form
 form_of e x u = form_by (hood_of x u) (risen_form e x (rise_of u))
 
--- some occurrence of a body is neither that of what is heard nor, in a `rep`, the second argument of a body rise(a, x, s)
+-- some occurrence of a body is neither that of what is heard nor, in a `rep`, the second argument of a body rise(a, x,
+-- s)
 abbrev pub bare_beside : Evolution → ℕ → Option (Term × Term × Term) → Bool → Bool
 bare_beside ByRep x (Some (a, own, s)) bare = if is_own x own then is_bare ByRep x a || is_bare ByRep x s else bare
 bare_beside _ x _ bare = bare
@@ -182,7 +185,8 @@ raising (Grows c) = if nat_eq c 0 then Err reason.GrowthZero else Ok c
 abbrev pub minimising_by : ℕ → RangeValue → Result ℕ Reason → Result Pattern Reason
 minimising_by m l (Err r) = Err r
 minimising_by m l (Ok c) =
-    if is_pair l && nat_eq (greatest_integer l) m then Err reason.LeadAtCeiling else Ok (pattern.Minimising (greatest_integer l) c)
+    if is_pair l && nat_eq (greatest_integer l) m then Err reason.LeadAtCeiling
+    else Ok (pattern.Minimising (greatest_integer l) c)
 
 abbrev pub minimising : ℕ → GrowthValue → RangeValue → Result Pattern Reason
 minimising m g l = minimising_by m l (raising g)
@@ -191,7 +195,8 @@ minimising m g l = minimising_by m l (raising g)
 abbrev pub rising_by : RangeValue → RangeValue → Result ℕ Reason → Result Pattern Reason
 rising_by l s (Err r) = Err r
 rising_by l s (Ok c) =
-    if nat_eq (least_integer s) 0 then Err reason.RiseZero else Ok (pattern.Rising (greatest_integer l) c (least_integer s))
+    if nat_eq (least_integer s) 0 then Err reason.RiseZero
+    else Ok (pattern.Rising (greatest_integer l) c (least_integer s))
 
 abbrev pub rising : GrowthValue → RangeValue → RangeValue → Result Pattern Reason
 rising g l s = rising_by l s (raising g)
@@ -204,7 +209,8 @@ no_pattern _ = reason.Potential
 -- a body at place p by its form; R has the ranges by places
 abbrev pub by_form : ℕ → (ℕ → RangeValue) → Evolution → ℕ → ℕ → Guarding → Form → Result Pattern Reason
 by_form m R e x p g (IsHood h l) = minimising m (growth_of m R e x (suc p) h) (R (suc p + size h))
-by_form m R e x p g (IsRise h l s) = rising (growth_of m R e x (suc (suc p)) h) (R (suc (suc p) + size h)) (R (suc (suc (suc p + size h + size l))))
+by_form m R e x p g (IsRise h l s) =
+    rising (growth_of m R e x (suc (suc p)) h) (R (suc (suc p) + size h)) (R (suc (suc (suc p + size h + size l))))
 by_form m R e x p g IsOther = Err (no_pattern g)
 
 abbrev pub by_guarding : Guarding → Result Pattern Reason → Result Pattern Reason
@@ -237,7 +243,8 @@ abbrev mutual
   judged m R p (Apply t o xs) = all_judged m R (suc p) xs
   judged m R p (Nbr t a) = judged m R (suc p) a
   judged m R p (Evolve t e a b) = (p, pattern_of m R p (Evolve t e a b)) ∷ judged m R (suc p + size a) b
-  judged m R p (If t c a b) = judged m R (suc p) c ++ (judged m R (suc p + size c) a ++ judged m R (suc p + size c + size a) b)
+  judged m R p (If t c a b) =
+      judged m R (suc p) c ++ (judged m R (suc p + size c) a ++ judged m R (suc p + size c + size a) b)
   judged m R p (Let t a b) = judged m R (suc p) a ++ judged m R (suc p + size a) b
 
   pub all_judged : ℕ → (ℕ → RangeValue) → ℕ → Terms → List Judged

@@ -20,8 +20,10 @@ int_of q = Plain (TypeLocal IntType) (Variable q)
 
 -- `mux(nbr{q} < q, h, s)`, where h is what is heard of x, and q and s are without x
 pub data IsGuard (e : Evolution) (x q : ℕ) : Term → Type 0 where
-  guards : (t u v : ValueType) (h s : Term) → is_heard e x h ≡ true → is_variable x (Variable q) ≡ false → occurs x s ≡ false
-      → IsGuard e x q (Apply t op.Mux (More (Apply u op.Less (More (Nbr v (int_of q)) (More (int_of q) NoMore))) (More h (More s NoMore))))
+  guards : (t u v : ValueType) (h s : Term) → is_heard e x h ≡ true → is_variable x (Variable q) ≡ false
+      → occurs x s ≡ false
+      → IsGuard e x q (Apply t op.Mux (More (Apply u op.Less (More (Nbr v (int_of q)) (More (int_of q) NoMore)))
+      (More h (More s NoMore))))
 
 -- each occurrence of x is guarded by q, under builtins alone
 abbrev mutual
@@ -37,20 +39,27 @@ abbrev mutual
   AllGuarded e x q NoMore = Unit {0}
   AllGuarded e x q (More t ts) = Guarded e x q t × AllGuarded e x q ts
 
--- The body at place p of a `rep` or `share` with the variable x and values of type s has a pattern. m is the ceiling, and R
--- has the ranges by places.
-pub data HasPattern (m : ℕ) (R : ℕ → RangeValue) (e : Evolution) (x p : ℕ) (s : LocalType) : Term → Pattern → Type 0 where
+-- The body at place p of a `rep` or `share` with the variable x and values of type s has a pattern. m is the ceiling,
+-- and R has the ranges by places.
+pub data HasPattern (m : ℕ) (R : ℕ → RangeValue) (e : Evolution) (x p : ℕ) (s : LocalType) : Term → Pattern
+    → Type 0 where
   constant : (u : Term) → occurs x u ≡ false → HasPattern m R e x p s u pattern.Constant
-  acyclic : (u : Term) (q : ℕ) → occurs x u ≡ true → Shallow e x s u → Guarded e x q u → HasPattern m R e x p s u (pattern.Acyclic q)
+  acyclic : (u : Term) (q : ℕ) → occurs x u ≡ true → Shallow e x s u → Guarded e x q u
+      → HasPattern m R e x p s u (pattern.Acyclic q)
   minimising : (t : ValueType) (h l : Term) (c : ℕ)
       → occurs x (Apply t op.MinHoodLoc (More h (More l NoMore))) ≡ true → occurs x l ≡ false
       → Shallow e x s (Apply t op.MinHoodLoc (More h (More l NoMore)))
       → growth_of m R e x (suc p) h ≡ Grows c → 1 ≤ c
       → (is_pair (R (suc p + size h)) ≡ true → greatest_integer (R (suc p + size h)) ≡ m → ⊥)
-      → HasPattern m R e x p s (Apply t op.MinHoodLoc (More h (More l NoMore))) (pattern.Minimising (greatest_integer (R (suc p + size h))) c)
+      → HasPattern m R e x p s (Apply t op.MinHoodLoc (More h (More l NoMore)))
+      (pattern.Minimising (greatest_integer (R (suc p + size h))) c)
   rising : (t u : ValueType) (h l own w : Term) (c : ℕ) → e ≡ ByRep
       → HasRule op.Rise (types_of (More (Apply u op.MinHoodLoc (More h (More l NoMore))) (More own (More w NoMore)))) t
-      → is_own x own ≡ true → occurs x l ≡ false → occurs x w ≡ false → Shallow e x s (Apply u op.MinHoodLoc (More h (More l NoMore))) → Shallow e x s w
-      → growth_of m R e x (suc (suc p)) h ≡ Grows c → 1 ≤ c → 1 ≤ least_integer (R (suc (suc (suc p + size h + size l))))
-      → HasPattern m R e x p s (Apply t op.Rise (More (Apply u op.MinHoodLoc (More h (More l NoMore))) (More own (More w NoMore))))
-      (pattern.Rising (greatest_integer (R (suc (suc p) + size h))) c (least_integer (R (suc (suc (suc p + size h + size l))))))
+      → is_own x own ≡ true → occurs x l ≡ false → occurs x w ≡ false
+      → Shallow e x s (Apply u op.MinHoodLoc (More h (More l NoMore))) → Shallow e x s w
+      → growth_of m R e x (suc (suc p)) h ≡ Grows c → 1 ≤ c
+      → 1 ≤ least_integer (R (suc (suc (suc p + size h + size l))))
+      → HasPattern m R e x p s (Apply t op.Rise (More (Apply u op.MinHoodLoc (More h (More l NoMore)))
+      (More own (More w NoMore))))
+      (pattern.Rising (greatest_integer (R (suc (suc p) + size h))) c
+      (least_integer (R (suc (suc (suc p + size h + size l))))))

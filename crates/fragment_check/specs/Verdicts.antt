@@ -40,7 +40,8 @@ added_by n W e (Err r) = 0
 
 -- ---- the same by the places of a program
 
--- the range of the variable of the binder at a place: for a `let` that of what it binds, for a `rep` all values of the type
+-- the range of the variable of the binder at a place: for a `let` that of what it binds, for a `rep` all values of the
+-- type
 abbrev pub bound_range : ℕ → (ℕ → RangeValue) → ℕ → Term → RangeValue
 bound_range m R q (Let t a b) = R (suc q)
 bound_range m R q (Evolve t e a b) = full m (inner t)

@@ -29,8 +29,8 @@ pub struct Own {
     pub is_share: bool,
 }
 
-/// What is gathered of a term: whether the variable occurs, whether some occurrence is nested, whether some occurrence is
-/// not that of what is heard, and how the occurrences are guarded.
+/// What is gathered of a term: whether the variable occurs, whether some occurrence is nested, whether some occurrence
+/// is not that of what is heard, and how the occurrences are guarded.
 #[derive(Clone, Copy, Debug, PartialEq, Eq)]
 pub struct Facts {
     pub uses: bool,
@@ -119,7 +119,8 @@ fn mux_facts(
     other: u32,
 ) -> Facts
     requires { InRow program.now.nodes place (condition ∷ heard ∷ other ∷ []) }
-    ensures { result ≡ facts_of_apply own op.Mux (terms_by (term_at program.now.nodes) (condition ∷ heard ∷ other ∷ [])) }
+    ensures { result ≡ facts_of_apply own op.Mux (terms_by (term_at program.now.nodes)
+        (condition ∷ heard ∷ other ∷ [])) }
 {
     let first = gather(program, own, condition);
     let last = gather(program, own, other);

@@ -69,7 +69,8 @@ fn formed_pattern(
     requires evolution { evolution_at program.now.nodes own.place ≡ evolution_of own }
     requires stands { StandsAt program.now.nodes body }
     ensures { result ≡ by_form program.now.declared.ceiling (range_of (unfolding_of program.now))
-        (evolution_of own) own.place body guarding (form_of (evolution_of own) own.place (term_at program.now.nodes body)) }
+        (evolution_of own) own.place body guarding (form_of (evolution_of own) own.place
+        (term_at program.now.nodes body)) }
 {
     let ceiling = program.declared().ceiling;
     match form(program, own, body) {

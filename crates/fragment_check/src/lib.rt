@@ -1,4 +1,5 @@
-//! Patterns: which `rep` and `share` stabilise, by the forms of their bodies; and the definitions of levels and verdict.
+//! Patterns: which `rep` and `share` stabilise, by the forms of their bodies; and the definitions of levels and
+//! verdict.
 #![tactic(auto)]
 
 mod facts;

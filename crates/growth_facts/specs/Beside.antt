@@ -23,25 +23,29 @@ FieldPair P (ValueField es) (ValueField fs) = Pairs P es fs
 FieldPair P (ValueField es) (ValueLocal w) = ⊥
 FieldPair P (ValueLocal v) w = ⊥
 
--- The values v and w that the term at place p has at device d, over the devices ds. A part without the variable x has one
--- value, of which Part holds. What is heard of x is a pair of values of which Near holds. Builtins join these.
+-- The values v and w that the term at place p has at device d, over the devices ds. A part without the variable x has
+-- one value, of which Part holds. What is heard of x is a pair of values of which Near holds. Builtins join these.
 mutual
   pub data Beside (m d : ℕ) (ds : List ℕ) (e : Evolution) (x : ℕ) (Near : AnyValue → AnyValue → Type 0)
       (Part : ℕ → Term → AnyValue → Type 0)
       : ℕ → Term → AnyValue → AnyValue → Type 0 where
-    apart : {v w : AnyValue} (p : ℕ) (h : Term) → occurs x h ≡ false → v ≡ w → Part p h w → Beside m d ds e x Near Part p h v w
+    apart : {v w : AnyValue} (p : ℕ) (h : Term) → occurs x h ≡ false → v ≡ w → Part p h w
+        → Beside m d ds e x Near Part p h v w
     heard : {v w : AnyValue} (p : ℕ) (h : Term) → is_heard e x h ≡ true → Near v w
         → FitsOver m ds (type_of h) v → FitsOver m ds (type_of h) w
         → Beside m d ds e x Near Part p h v w
-    joined : {v w : AnyValue} (p : ℕ) (t : ValueType) (o : Builtin) (xs : Terms) (vs ws : List AnyValue) → HasRule o (types_of xs) t
+    joined : {v w : AnyValue} (p : ℕ) (t : ValueType) (o : Builtin) (xs : Terms) (vs ws : List AnyValue)
+        → HasRule o (types_of xs) t
         → occurs_in x xs ≡ true → BesideAll m d ds e x Near Part (suc p) xs vs ws
-        → builtin_value o m d vs ≡ Some v → builtin_value o m d ws ≡ Some w → Beside m d ds e x Near Part p (Apply t o xs) v w
+        → builtin_value o m d vs ≡ Some v → builtin_value o m d ws ≡ Some w
+        → Beside m d ds e x Near Part p (Apply t o xs) v w
 
   pub data BesideAll (m d : ℕ) (ds : List ℕ) (e : Evolution) (x : ℕ) (Near : AnyValue → AnyValue → Type 0)
       (Part : ℕ → Term → AnyValue → Type 0)
       : ℕ → Terms → List AnyValue → List AnyValue → Type 0 where
     no_more : (p : ℕ) → BesideAll m d ds e x Near Part p NoMore [] []
-    one_more : (p : ℕ) (t : Term) (ts : Terms) (v w : AnyValue) (vs ws : List AnyValue) → Beside m d ds e x Near Part p t v w
+    one_more : (p : ℕ) (t : Term) (ts : Terms) (v w : AnyValue) (vs ws : List AnyValue)
+        → Beside m d ds e x Near Part p t v w
         → BesideAll m d ds e x Near Part (p + size t) ts vs ws
         → BesideAll m d ds e x Near Part p (More t ts) (v ∷ vs) (w ∷ ws)
 

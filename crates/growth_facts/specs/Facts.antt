@@ -142,4 +142,5 @@ node_facts P rep place =
 
 abbrev pub growth_at : Program → ℕ → ℕ → GrowthValue
 growth_at P rep place =
-    growth_of P.declared.ceiling (range_of (unfolding_of P)) (evolution_at P.nodes rep) rep place (term_at P.nodes place)
+    growth_of P.declared.ceiling (range_of (unfolding_of P)) (evolution_at P.nodes rep) rep place
+    (term_at P.nodes place)

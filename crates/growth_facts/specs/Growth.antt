@@ -1,4 +1,5 @@
--- Growth: by how much an expression of a body is raised above what is heard of the body's variable, by the program alone.
+-- Growth: by how much an expression of a body is raised above what is heard of the body's variable, by the program
+-- alone.
 use Rattle.std.specs.Prelude.{ℕ, suc, Bool, true, false, not, ◌+◌, ◌&&◌, ◌||◌, List, [], ◌∷◌, min, nat_eq, nat_le, if◌then◌else◌}
 use Rattle.fc_values.specs.declared.builtins.Builtin.{Builtin}
 use Rattle.fc_values.specs.declared.builtins.Builtin.TheVariants as op
@@ -18,9 +19,9 @@ pub data GrowthValue : Type 0 where
   Grows : ℕ → GrowthValue
   Lacks : ℕ → GrowthValue
 
--- what is known of a node of a body: whether the variable occurs in it, whether it is the variable itself, what is heard
--- of the variable, or the second component of that; whether its entries are integers, or are led by an integer; the least
--- of these integers; and its growth
+-- what is known of a node of a body: whether the variable occurs in it, whether it is the variable itself, what is
+-- heard of the variable, or the second component of that; whether its entries are integers, or are led by an integer;
+-- the least of these integers; and its growth
 pub record NodeFacts : Type 0 where
   pub uses : Bool
   pub own : Bool
@@ -118,7 +119,8 @@ abbrev mutual
   -- the facts of terms that stand one after another
   pub facts_in : ℕ → (ℕ → RangeValue) → Evolution → ℕ → ℕ → Terms → List NodeFacts
   facts_in ceiling rs e x p NoMore = []
-  facts_in ceiling rs e x p (More t ts) = facts_with rs e x p t (growth_of ceiling rs e x p t) ∷ facts_in ceiling rs e x (p + size t) ts
+  facts_in ceiling rs e x p (More t ts) =
+      facts_with rs e x p t (growth_of ceiling rs e x p t) ∷ facts_in ceiling rs e x (p + size t) ts
 
 -- the facts of a term at a place
 abbrev pub facts_of : ℕ → (ℕ → RangeValue) → Evolution → ℕ → ℕ → Term → NodeFacts

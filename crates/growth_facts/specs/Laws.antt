@@ -10,8 +10,8 @@ use Rattle.growth_facts.specs.Growth.{Grows, growth_of}
 use Rattle.growth_facts.specs.Beside.{Beside, Hears, IsPart}
 
 -- Where an expression grows by c, and a and b are heard of the variable at a device, the expression's entries v and w
--- there are at least that much more, or the ceiling. What is heard led by more gives an entry led by no less, and what is
--- the same gives the same. A pair stands for the integer that leads it.
+-- there are at least that much more, or the ceiling. What is heard led by more gives an entry led by no less, and what
+-- is the same gives the same. A pair stands for the integer that leads it.
 pub record GrowsBy (ceiling c : ℕ) (a b v w : LocalValue) : Type 0 where
   pub first : min ceiling (lead a + c) ≤ lead v
   pub second : min ceiling (lead b + c) ≤ lead w

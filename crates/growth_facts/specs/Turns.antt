@@ -16,4 +16,5 @@ pub record IsLeastOfTurns (growth least m : ℕ) : Type 0 where
 
 -- the rounds of all steps: each step hears of the one before one round later
 abbrev pub rounds_of : ℕ → ℕ → ℕ → ℕ
-rounds_of greatest growth least = (turns_of growth least - 1) + (steps_of greatest growth - 1) * (turns_of growth least + 1)
+rounds_of greatest growth least =
+    (turns_of growth least - 1) + (steps_of greatest growth - 1) * (turns_of growth least + 1)

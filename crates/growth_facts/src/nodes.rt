@@ -204,11 +204,13 @@ pub fn join(
     }
 }
 
-// The facts of a `rep`, a `share`, an `if` or a `let`, in which nothing with the variable grows, by whether the variable occurs in it.
+// The facts of a `rep`, a `share`, an `if` or a `let`, in which nothing with the variable grows, by whether the
+// variable occurs in it.
 pub fn closed_facts(node: &Node, uses: bool, least: u32, place: u32, ceiling: u32) -> Facts
     requires { is_deep_sort (sort_of node.now.op) ≡ true }
     ensures { (e : Evolution) (x : ℕ) (fs : List NodeFacts) → uses ≡ any_uses fs
-        → facts_value result ≡ joined ceiling e x place (sort_of node.now.op) (inner_type (type_of node.now.ty)) least fs }
+        → facts_value result ≡ joined ceiling e x place (sort_of node.now.op)
+        (inner_type (type_of node.now.ty)) least fs }
 {
     let ty = inner(&node.ty);
     let growth = if uses {

@@ -21,7 +21,8 @@ pub fn only_if(condition: bool, place: u32, growth: Growth) -> Growth
 
 // The growth where the variable is in one of two arguments alone.
 fn on_one_side(a: &Facts, b: &Facts, place: u32, first: Growth, second: Growth) -> Growth
-    ensures { growth_value result ≡ on_one_side_of a.now.uses b.now.uses place (growth_value first) (growth_value second) }
+    ensures { growth_value result ≡ on_one_side_of a.now.uses b.now.uses place (growth_value first)
+        (growth_value second) }
 {
     match (a.uses, b.uses) {
         (true, false) => first,
@@ -85,7 +86,8 @@ fn of_two(builtin: Builtin, a: &Facts, b: &Facts, place: u32, ceiling: u32) -> G
 
 // The growth of a builtin of three arguments.
 fn of_three(builtin: Builtin, a: &Facts, b: &Facts, c: &Facts, place: u32, ceiling: u32) -> Growth
-    ensures { growth_value result ≡ op_growth_of ceiling place builtin (facts_value a.now ∷ facts_value b.now ∷ facts_value c.now ∷ []) }
+    ensures { growth_value result ≡ op_growth_of ceiling place builtin
+        (facts_value a.now ∷ facts_value b.now ∷ facts_value c.now ∷ []) }
 {
     match builtin {
         Builtin::Mux => only_if(!a.uses, place, lesser(b.growth, c.growth)),
@@ -95,7 +97,8 @@ fn of_three(builtin: Builtin, a: &Facts, b: &Facts, c: &Facts, place: u32, ceili
 
 // The growth of a builtin by its arguments.
 pub fn op_growth(builtin: Builtin, kids: &Kids, place: u32, ceiling: u32) -> Growth
-    ensures { (fs : List NodeFacts) → AreKids kids.now fs → growth_value result ≡ op_growth_of ceiling place builtin fs }
+    ensures { (fs : List NodeFacts) → AreKids kids.now fs
+        → growth_value result ≡ op_growth_of ceiling place builtin fs }
 {
     match kids.count {
         1 => of_one(builtin, &kids.first, place, ceiling),

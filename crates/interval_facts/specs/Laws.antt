@@ -11,7 +11,8 @@ use Rattle.interval_facts.specs.Steps.{range_in}
 -- each solution of a program, over all devices of a network with its declarations, lies in these ranges of its nodes
 abbrev pub SolutionsLieIn : Program → List RangeValue → Type 0
 SolutionsLieIn p rs = (N : Network) (F : ℕ → LocalValue) → IsNetwork N → N.declared ≡ p.declared
-    → (s : SolvesMain N (unfolding_of p).main F) → InRanges (range_in rs) N 0 (unfolding_of p).main (lives N) no_binders (local_map F) s
+    → (s : SolvesMain N (unfolding_of p).main F) → InRanges (range_in rs) N 0 (unfolding_of p).main (lives N)
+    no_binders (local_map F) s
 
 -- and in the program's ranges
 abbrev pub SolutionsLieInRanges : Type 0

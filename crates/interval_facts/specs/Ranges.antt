@@ -117,7 +117,8 @@ abbrev pub builtin_range : ℕ → RangeValue → Builtin → List RangeValue �
 builtin_range ceiling other op.Add rs = of_two (both_ends (sum_cut ceiling) other) other rs
 builtin_range ceiling other op.Sub rs = of_two (difference other) other rs
 builtin_range ceiling other op.Mul rs = of_two (both_ends (product_cut ceiling) other) other rs
-builtin_range ceiling other op.Rise rs = of_three (λ a b s. both_ends min other a (both_ends (sum_cut ceiling) other b s)) other rs
+builtin_range ceiling other op.Rise rs =
+    of_three (λ a b s. both_ends min other a (both_ends (sum_cut ceiling) other b s)) other rs
 builtin_range ceiling other op.Min rs = of_two least_range other rs
 builtin_range ceiling other op.Max rs = of_two greatest_range other rs
 builtin_range ceiling other op.Less rs = BoolRange
@@ -169,10 +170,12 @@ leaf_range D bounds t NbrLink = IntRange D.least D.greatest
 abbrev mutual
   pub term_range : Declarations → Bounds → ℕ → Term → RangeValue
   term_range D bounds p (Plain t l) = leaf_range D bounds t l
-  term_range D bounds p (Apply t o xs) = builtin_range D.ceiling (full D.ceiling (inner t)) o (term_ranges D bounds (suc p) xs)
+  term_range D bounds p (Apply t o xs) =
+      builtin_range D.ceiling (full D.ceiling (inner t)) o (term_ranges D bounds (suc p) xs)
   term_range D bounds p (Nbr t a) = term_range D bounds (suc p) a
   term_range D bounds p (Evolve t e a b) = term_range D ((p, full D.ceiling (inner t)) ∷ bounds) (suc p + size a) b
-  term_range D bounds p (If t c a b) = hull (term_range D bounds (suc p + size c) a) (term_range D bounds (suc p + size c + size a) b)
+  term_range D bounds p (If t c a b) =
+      hull (term_range D bounds (suc p + size c) a) (term_range D bounds (suc p + size c + size a) b)
   term_range D bounds p (Let t a b) = term_range D ((p, term_range D bounds (suc p) a) ∷ bounds) (suc p + size a) b
 
   pub term_ranges : Declarations → Bounds → ℕ → Terms → List RangeValue
@@ -188,9 +191,11 @@ abbrev mutual
   node_ranges D bounds p (Evolve t e a b) = term_range D bounds p (Evolve t e a b)
       ∷ (node_ranges D bounds (suc p) a ++ node_ranges D ((p, full D.ceiling (inner t)) ∷ bounds) (suc p + size a) b)
   node_ranges D bounds p (If t c a b) = term_range D bounds p (If t c a b)
-      ∷ (node_ranges D bounds (suc p) c ++ (node_ranges D bounds (suc p + size c) a ++ node_ranges D bounds (suc p + size c + size a) b))
+      ∷ (node_ranges D bounds (suc p) c ++ (node_ranges D bounds (suc p + size c) a
+      ++ node_ranges D bounds (suc p + size c + size a) b))
   node_ranges D bounds p (Let t a b) = term_range D bounds p (Let t a b)
-      ∷ (node_ranges D bounds (suc p) a ++ node_ranges D ((p, term_range D bounds (suc p) a) ∷ bounds) (suc p + size a) b)
+      ∷ (node_ranges D bounds (suc p) a ++ node_ranges D ((p, term_range D bounds (suc p) a) ∷ bounds)
+      (suc p + size a) b)
 
   pub all_node_ranges : Declarations → Bounds → ℕ → Terms → List RangeValue
   all_node_ranges D bounds p NoMore = []

@@ -80,10 +80,14 @@ abbrev mutual
   Solves N p (Nbr t a) D V F = FitsOn N D t F × (g : ℕ → LocalValue) × Solves N (suc p) a D V (local_map g)
       × ((d : ℕ) → In D d → F d ≡ field_of N D g d)
   Solves N p (Evolve t e a b) D V F = FitsOn N D t F × (f : ℕ → LocalValue)
-      × Solves N (suc p + size a) b D (bind p (evolved e N D f) V) (local_map f) × ((d : ℕ) → In D d → F d ≡ ValueLocal (f d))
-  Solves N p (If t c a b) D V F = FitsOn N D t F × (k : ℕ → Bool) × Solves N (suc p) c D V (local_map (λ d. BoolValue (k d)))
-      × Solves N (suc p + size c) a (where_is true D k) V F × Solves N (suc p + size c + size a) b (where_is false D k) V F
-  Solves N p (Let t a b) D V F = FitsOn N D t F × (G : Map) × Solves N (suc p) a D V G × Solves N (suc p + size a) b D (bind p G V) F
+      × Solves N (suc p + size a) b D (bind p (evolved e N D f) V) (local_map f)
+      × ((d : ℕ) → In D d → F d ≡ ValueLocal (f d))
+  Solves N p (If t c a b) D V F =
+      FitsOn N D t F × (k : ℕ → Bool) × Solves N (suc p) c D V (local_map (λ d. BoolValue (k d)))
+      × Solves N (suc p + size c) a (where_is true D k) V F
+      × Solves N (suc p + size c + size a) b (where_is false D k) V F
+  Solves N p (Let t a b) D V F =
+      FitsOn N D t F × (G : Map) × Solves N (suc p) a D V G × Solves N (suc p + size a) b D (bind p G V) F
 
   pub SolveAll : Network → ℕ → Terms → Devices → Maps → List Map → Type 0
   SolveAll N p NoMore D V [] = Unit {0}

@@ -26,7 +26,8 @@ leaf_step P rs t NbrLink = IntRange P.declared.least P.declared.greatest
 
 abbrev pub step_range : Program → List RangeValue → View → RangeValue
 step_range P rs (Has (OfLeaf l) t ks) = leaf_step P rs t l
-step_range P rs (Has (OfApply o) t ks) = builtin_range P.declared.ceiling (full P.declared.ceiling (inner t)) o (ranges_at rs ks)
+step_range P rs (Has (OfApply o) t ks) =
+    builtin_range P.declared.ceiling (full P.declared.ceiling (inner t)) o (ranges_at rs ks)
 step_range P rs (Has OfNbr t ks) = range_in rs (get_or ks 0 0)
 step_range P rs (Has (OfEvolve e) t ks) = range_in rs (get_or ks 1 0)
 step_range P rs (Has OfIf t ks) = hull (range_in rs (get_or ks 1 0)) (range_in rs (get_or ks 2 0))

@@ -44,7 +44,8 @@ level_at c p s = level_of (stages_in c) p s.branch s.own (levels_in s.scope.now)
 
 -- the levels of all nodes of the term at a place
 abbrev pub node_levels_at : Context → ℕ → Sight → List (Option ℕ)
-node_levels_at c p s = node_levels (stages_in c) p s.branch s.own (levels_in s.scope.now) (term_at c.program.now.nodes p)
+node_levels_at c p s =
+    node_levels (stages_in c) p s.branch s.own (levels_in s.scope.now) (term_at c.program.now.nodes p)
 
 -- what is found there: the level, whether the variable around occurs, and the levels that are put behind others
 pub record FoundAt (c : Context) (p : ℕ) (s : Sight) (f : Found) (old new : List (Option ℕ)) : Type 0 where
@@ -93,7 +94,8 @@ abbrev pub PatternFew : ℕ → Pattern → Type 0
 PatternFew m pattern.Constant = Unit {0}
 PatternFew m (pattern.Acyclic q) = Unit {0}
 PatternFew m (pattern.Minimising greatest growth) = (greatest ≤ m) × (1 ≤ growth) × (growth ≤ m)
-PatternFew m (pattern.Rising greatest growth rise) = (greatest ≤ m) × (1 ≤ growth) × (growth ≤ m) × (1 ≤ rise) × (rise ≤ m)
+PatternFew m (pattern.Rising greatest growth rise) =
+    (greatest ≤ m) × (1 ≤ growth) × (growth ≤ m) × (1 ≤ rise) × (rise ≤ m)
 
 abbrev pub is_apply_sort : Sort → Bool
 is_apply_sort (OfApply o) = true

@@ -40,7 +40,8 @@ fn levels_of_pattern(context: &Context<'_>, pattern: Pattern, is_share: bool) ->
     requires devices { 1 ≤ context.now.devices }
     requires program { IsProgram context.now.program.now }
     requires few { PatternFew context.now.program.now.declared.ceiling pattern }
-    ensures { result ≡ added_levels context.now.devices (variable_range context.now.program.now) (evolution_by is_share) pattern }
+    ensures { result ≡ added_levels context.now.devices (variable_range context.now.program.now)
+        (evolution_by is_share) pattern }
 {
     match pattern {
         Pattern::Constant => 0,

@@ -14,8 +14,8 @@ use fragment_check::{PatternFault, patterns};
 use interval_facts::Ranges;
 use std::alloc::Global;
 
-/// The verdict on a program for so many devices: yes, with the level of `main`, where each `rep` and `share` outside first
-/// values has a pattern; else no, with the first place that has none, and its reason.
+/// The verdict on a program for so many devices: yes, with the level of `main`, where each `rep` and `share` outside
+/// first values has a pattern; else no, with the first place that has none, and its reason.
 pub fn recognise(
     alloc: Global,
     program: &Unfolded,

@@ -72,7 +72,8 @@ fn below(
     Ok(leaf(node, sight))
 }
 
-// Puts the levels of terms one after another behind others, and finds the greatest, which is at least that of the branch.
+// Puts the levels of terms one after another behind others, and finds the greatest, which is at least that of the
+// branch.
 #[cycle(walk)]
 fn walk_all(
     context: &Context<'_>,

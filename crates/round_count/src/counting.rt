@@ -83,7 +83,8 @@ fn advance(live: &[u32], marks: &mut [u8], device: u32, from: u8, to: u8) -> boo
     requires marks { length marks.old ≡ length live.now }
     ensures marks { marks.new ≡ moved device from to live.now marks.old }
     ensures same { result ≡ false → marks.new ≡ marks.old }
-    ensures set { result ≡ true → (at : ℕ) × (at < length marks.old) × (slice_index marks.old at ≡ from) × (marks.new ≡ slice_set marks.old at to) }
+    ensures set { result ≡ true → (at : ℕ) × (at < length marks.old) × (slice_index marks.old at ≡ from)
+        × (marks.new ≡ slice_set marks.old at to) }
 {
     match live.binary_search(&device) {
         Ok(at) if marks[at] == from => {

@@ -69,7 +69,8 @@ copy_with U s ns = record {
 }
 
 -- a copy that may hear these neighbours of a table
-pub record MayHear (U : Unfolding) (N : Network) (xs : List (Option Export)) (ns : List (ℕ × ℕ)) (s : Snap) : Type 0 where
+pub record MayHear (U : Unfolding) (N : Network) (xs : List (Option Export)) (ns : List (ℕ × ℕ)) (s : Snap)
+    : Type 0 where
   pub fits : FitsCopy U (copy_with U s (all_heard N xs ns s))
   pub own : WhereSome (IsExportOf U) s.own
   pub near : NearAreExports U (all_heard N xs ns s)

@@ -20,7 +20,8 @@ use value_trees::{Near, Snap};
 /// A table of exports: a slot for each device, in the order of the network.
 pub type Slots = Vec<Option<Export>>;
 
-/// The export of the device at a place that fires and sees a table. The exports that it sees are moved into a copy and back.
+/// The export of the device at a place that fires and sees a table. The exports that it sees are moved into a copy and
+/// back.
 pub fn fired(
     alloc: Global,
     program: &Unfolded,

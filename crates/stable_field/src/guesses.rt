@@ -50,7 +50,8 @@ fn typed_at(program: &Unfolded, guess: &mut Slots, place: usize) -> Option<Expor
     }
 }
 
-// The binders by whose variables the guards of a `rep` or `share` compare, each with the place of that `rep` or `share`.
+// The binders by whose variables the guards of a `rep` or `share` compare, each with the place of that `rep` or
+// `share`.
 fn potentials(alloc: Global, program: &Unfolded, ranges: &Ranges) -> Result<Vec<(u32, u32)>, Memory>
     requires { AreRangesOf (unfolding_of program.now) ranges.now }
 {

@@ -15,8 +15,8 @@ use fc_values::Memory;
 use std::alloc::Global;
 use topology::Network;
 
-/// Exports with the values of the solution: those to which rounds from a table lead, until a round changes nothing or so
-/// many are done.
+/// Exports with the values of the solution: those to which rounds from a table lead, until a round changes nothing or
+/// so many are done.
 pub fn settled(
     alloc: Global,
     program: &Unfolded,

@@ -21,8 +21,8 @@ use round_bound::recognise;
 use std::alloc::Global;
 use topology::Network;
 
-/// The one field that solves a program on a network: the value of `main` at each device, by rising devices. `Unrecognised`
-/// comes exactly where the verdict is a no, with its place.
+/// The one field that solves a program on a network: the value of `main` at each device, by rising devices.
+/// `Unrecognised` comes exactly where the verdict is a no, with its place.
 pub fn stable(
     alloc: Global,
     program: &Unfolded,

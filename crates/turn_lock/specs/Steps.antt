@@ -28,8 +28,8 @@ Entered {T} list answers v m = (y : T) × SeatAgrees list answers v y × (m ≡ 
 abbrev pub draws : {T E : Type 0} → Telling T E
 draws st m n w = w ≡ (staged m.0 (Waits n), m.1)
 
--- to look at the number that is served: at the seat's own number it has the turn and the slot, and has seen the list that
--- lies there
+-- to look at the number that is served: at the seat's own number it has the turn and the slot, and has seen the list
+-- that lies there
 abbrev pub looks : {T E : Type 0} → (T → List E) → (List E → ℕ → Option ℕ) → Telling T E
 looks {T} list answers st m n w =
     ((m.0.stage ≡ Waits n) × Entered list answers m.0 w)

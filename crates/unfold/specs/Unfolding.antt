@@ -116,8 +116,8 @@ body_of (Some m) given p = m.body given p
 abbrev pub more_terms : ℕ → Term → (ℕ → Terms) → Terms
 more_terms p a next = More a (next (p + size a))
 
--- An expression that stands at a place, in a scope, with the inputs of the program and what the functions before are. An
--- argument of a call is read in the scope of the call, and the body in that of the parameters alone.
+-- An expression that stands at a place, in a scope, with the inputs of the program and what the functions before are.
+-- An argument of a call is read in the scope of the call, and the body in that of the parameters alone.
 abbrev mutual
   pub unfolded : List Input → List Meaning → Scope → ℕ → Expression → Term
   unfolded is ms scope p (IntTerm n) = Plain (TypeLocal IntType) (Literal (IntValue n))
@@ -143,7 +143,8 @@ abbrev mutual
       → Expressions → Term
   unfolded_call is ms scope params given p body NoTerms = body given p
   unfolded_call is ms scope params given p body (MoreTerms e es) =
-      argument_term params given p (unfolded is ms scope (suc p) e) (λ more q. unfolded_call is ms scope (behind_first params) more q body es)
+      argument_term params given p (unfolded is ms scope (suc p) e)
+      (λ more q. unfolded_call is ms scope (behind_first params) more q body es)
 
   pub unfolded_all : List Input → List Meaning → Scope → ℕ → Expressions → Terms
   unfolded_all is ms scope p NoTerms = NoMore
@@ -171,4 +172,5 @@ main_expression (DefIs f params result body ∷ ds) = main_expression ds
 -- `main`, unfolded
 abbrev pub main_term : List Declaration → Term
 main_term ds =
-    unfolded (and_all nothing ds).inputs (meanings (and_all nothing ds).inputs [] (and_all nothing ds).functions) [] 0 (main_expression ds)
+    unfolded (and_all nothing ds).inputs (meanings (and_all nothing ds).inputs [] (and_all nothing ds).functions) [] 0
+    (main_expression ds)

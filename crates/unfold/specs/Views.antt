@@ -23,4 +23,5 @@ body_count B n (Some f) = count (counted B n) f.body
 
 -- the numbers of nodes of the first functions, each at most 1,000,000
 abbrev pub AreCapped : Before → List ℕ → Type 0
-AreCapped B ns = (j : ℕ) → j < length ns → slice_index ns j ≡ min MOST_COUNTED (body_count B j (slice_get B.functions j))
+AreCapped B ns =
+    (j : ℕ) → j < length ns → slice_index ns j ≡ min MOST_COUNTED (body_count B j (slice_get B.functions j))

@@ -65,7 +65,8 @@ call_by ms B scope params body given p es =
 
 abbrev pub call_in : Before → ℕ → Scope → List ℕ → List (ℕ × ValueType) → ℕ → Expressions → Term
 call_in B n scope f given p es =
-    call_by (first_meanings B n) B scope (params_of (meaning_of f (first_meanings B n))) (body_of (meaning_of f (first_meanings B n))) given p es
+    call_by (first_meanings B n) B scope (params_of (meaning_of f (first_meanings B n)))
+    (body_of (meaning_of f (first_meanings B n))) given p es
 
 -- what an expression is read in: what the program declares, how many of its functions are seen, and the names in scope
 pub record Sight : Type 0 where

@@ -23,12 +23,14 @@ fn add(a: u32, b: u32) -> u32
     MOST_COUNTED.min(a + b)
 }
 
-/// The number of nodes of an expression, or the greatest number where it is greater, from those of the functions before.
+/// The number of nodes of an expression, or the greatest number where it is greater, from those of the functions
+/// before.
 #[cycle(count)]
 pub fn count(known: &Known<'_>, counts: &[u32], expr: &Expr) -> u32
     requires visible { length counts.now ≤ length (known_of known.now).functions }
     requires capped { AreCapped (known_of known.now) counts.now }
-    ensures { result ≡ min MOST_COUNTED (count_of (counted (known_of known.now) (length counts.now)) (term_of expr.now)) }
+    ensures { result ≡ min MOST_COUNTED (count_of (counted (known_of known.now) (length counts.now))
+        (term_of expr.now)) }
 {
     match expr {
         Expr::Int(_) | Expr::Truth(_) | Expr::Var(_) => 1,
@@ -74,7 +76,8 @@ fn count_all(known: &Known<'_>, counts: &[u32], args: &[Expr]) -> u32
     requires visible { length counts.now ≤ length (known_of known.now).functions }
     requires capped { AreCapped (known_of known.now) counts.now }
     ensures { result
-        ≡ min MOST_COUNTED (all_counted (counted (known_of known.now) (length counts.now)) (terms (map term_of args.now))) }
+        ≡ min MOST_COUNTED (all_counted (counted (known_of known.now) (length counts.now))
+        (terms (map term_of args.now))) }
 {
     match args {
         [] => 0,
@@ -88,7 +91,8 @@ fn count_arguments(known: &Known<'_>, counts: &[u32], args: &[Expr]) -> u32
     requires visible { length counts.now ≤ length (known_of known.now).functions }
     requires capped { AreCapped (known_of known.now) counts.now }
     ensures { result
-        ≡ min MOST_COUNTED (arguments_counted (counted (known_of known.now) (length counts.now)) (terms (map term_of args.now))) }
+        ≡ min MOST_COUNTED (arguments_counted (counted (known_of known.now) (length counts.now))
+        (terms (map term_of args.now))) }
 {
     match args {
         [] => 0,
@@ -103,7 +107,8 @@ fn count_arguments(known: &Known<'_>, counts: &[u32], args: &[Expr]) -> u32
 fn count_named(known: &Known<'_>, counts: &[u32], name: &Name) -> u32
     requires visible { length counts.now ≤ length (known_of known.now).functions }
     requires capped { AreCapped (known_of known.now) counts.now }
-    ensures { result ≡ min MOST_COUNTED (size_of name.now.text.items (counted (known_of known.now) (length counts.now))) }
+    ensures { result ≡ min MOST_COUNTED (size_of name.now.text.items
+        (counted (known_of known.now) (length counts.now))) }
 {
     match find(known, counts.len(), name) {
         Some((number, _)) => counts[number],

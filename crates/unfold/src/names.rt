@@ -38,8 +38,8 @@ fn bare_call<'k>(known: &Known<'k>, visible: usize, name: &Name) -> Option<(usiz
     }
 }
 
-/// What a call without arguments comes to, where the body is such a call again, and so on: these chains may be longer than
-/// the stack is deep.
+/// What a call without arguments comes to, where the body is such a call again, and so on: these chains may be longer
+/// than the stack is deep.
 pub fn last_call<'a>(known: &'a Known<'_>, visible: usize, name: &'a Name) -> (usize, &'a Name)
     ensures same { SameCall (known_of known.now) visible name.now.text.items result.0 result.1.now.text.items }
     ensures fewer { result.0 ≤ visible }

@@ -16,15 +16,16 @@ pub struct Argument {
     pub ty: Ty,
 }
 
-/// The names in scope, each with the place of the node that binds it and its type: those of binders, the nearest first, and
-/// then the parameters of the function with its arguments.
+/// The names in scope, each with the place of the node that binds it and its type: those of binders, the nearest first,
+/// and then the parameters of the function with its arguments.
 #[derive(Clone, Copy)]
 pub enum Scope<'a> {
     Arguments(&'a [Param], &'a [Argument]),
     Bind(&'a Name, u32, &'a Ty, &'a Scope<'a>),
 }
 
-/// What an expression is read in: what the program declares, how many of its functions are seen, and the names in scope.
+/// What an expression is read in: what the program declares, how many of its functions are seen, and the names in
+/// scope.
 #[derive(Clone, Copy)]
 pub struct Sight<'a, 'k> {
     pub known: &'a Known<'k>,

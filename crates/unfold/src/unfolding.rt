@@ -25,11 +25,15 @@ use std::alloc::Global;
 // The greatest number of nodes of a program.
 pub const MOST_NODES: u32 = 2_048;
 
-/// The nodes of a typed program: `main`, with each call replaced by one `let` per argument around the function's body. A
-/// program with more than 2,048 nodes is refused before one is made.
+/// The nodes of a typed program: `main`, with each call replaced by one `let` per argument around the function's body.
+/// A program with more than 2,048 nodes is refused before one is made.
 pub fn unfold(alloc: Global, typed: &Typed) -> Result<Unfolded, UnfoldFault>
     ensures unfolding { IfOk result (λ u. unfolding_of u
-        ≡ record { declared = declared_by (program_of typed.now.program); main = main_term (program_of typed.now.program) }) }
+        ≡ record {
+          declared = declared_by (program_of typed.now.program);
+          main = main_term
+              (program_of typed.now.program);
+        }) }
     ensures nodes { IfOk result (λ u. map view_of u.nodes ≡ Nodes (program_of typed.now.program)) }
     ensures small { IfOk result (λ u. length (Nodes (program_of typed.now.program)) ≤ MOST_NODES) }
     ensures large { IfErr result (λ fault. IfTooLarge fault (λ size.

@@ -22,8 +22,8 @@ use fc_types::{Known, copy_type, shared_type};
 use fc_values::{Builtin, Local, LocalTy, Memory, Name, Ty};
 use std::alloc::Global;
 
-/// The nodes of an expression behind others, with its type. Expressions may be thousands of levels deep, so each form has
-/// a function of its own, and a level takes little of the stack.
+/// The nodes of an expression behind others, with its type. Expressions may be thousands of levels deep, so each form
+/// has a function of its own, and a level takes little of the stack.
 #[cycle(write)]
 pub fn write(
     alloc: Global,

@@ -52,7 +52,8 @@ left values waiting = 2 * sum values + length waiting
 
 -- what a step makes of the values and of the devices that wait: it lowers the value of the device to which it leads,
 -- which then waits, or it is settled
-pub data IsTaken (C : CostsValue) (s : Step) (values : List ℕ) (waiting : Queue) (after : List ℕ) (wait : Queue) : Type 0 where
+pub data IsTaken (C : CostsValue) (s : Step) (values : List ℕ) (waiting : Queue) (after : List ℕ) (wait : Queue)
+    : Type 0 where
   settled : IsSettled C values s → after ≡ values → wait ≡ waiting → IsTaken C s values waiting after wait
   lowered : (v : ℕ) → v ≡ min (slice_index values s.from + s.cost) C.ceiling → v < slice_index values s.to
       → after ≡ slice_set values s.to v → IsPermutation (record { 0 = (v, s.to) } ∷ waiting) wait

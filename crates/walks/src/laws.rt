@@ -22,8 +22,8 @@ pub fn walks_are_one()
     ensures some { SomeTrace }
 {}
 
-/// Values are least costs where each is the lesser of its device's start and the least that a step to the device makes of
-/// the value of a neighbour.
+/// Values are least costs where each is the lesser of its device's start and the least that a step to the device makes
+/// of the value of a neighbour.
 pub fn fixed_values_are_least()
     ensures { FixedValuesAreLeast }
 {}

@@ -21,7 +21,8 @@ impl Core {
         entry: &Entry,
     ) -> Result<(), ReplayFault>
         requires { EntryFits (program_of self.old) (entry_of entry.now) }
-        ensures ok { OnOk result (Step (program_of self.old) (core_of self.old) (entry_of entry.now) (core_of self.new)) }
+        ensures ok { OnOk result (Step (program_of self.old) (core_of self.old) (entry_of entry.now)
+            (core_of self.new)) }
         ensures rooms { OnOk result (rooms_of self.new ≡ rooms_after (entry_of entry.now) (rooms_of self.old)) }
         ensures refused { IfErr result (RefusesAt index (core_of self.old) (entry_of entry.now)) }
         ensures accepted { OnOk result (fault_of (core_of self.old) (entry_of entry.now) ≡ None) }

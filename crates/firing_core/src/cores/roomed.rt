@@ -23,8 +23,10 @@ impl Core {
     /// refusal.
     pub fn begin_with(&mut self, device: u32, room: Room) -> Result<Snap, (Room, StepFault)>
         requires { IsRoom (program_of self.old) room }
-        ensures ok { OnOk result (Step (program_of self.old) (core_of self.old) (BeginEntry device) (core_of self.new)) }
-        ensures copy { IfOk result (λ s. snap_copy (program_of self.old) s ≡ copy_of self.old.net (core_of self.old).exports device) }
+        ensures ok { OnOk result (Step (program_of self.old) (core_of self.old) (BeginEntry device)
+            (core_of self.new)) }
+        ensures copy { IfOk result (λ s. snap_copy (program_of self.old) s
+            ≡ copy_of self.old.net (core_of self.old).exports device) }
         ensures snap { IfOk result (IsSnap (program_of self.old)) }
         ensures rooms { OnOk result (rooms_of self.new ≡ mark (rooms_of self.old) device true) }
         ensures refused { IfErr result (λ e. fault_of (core_of self.old) (BeginEntry device) ≡ Some e.1) }
@@ -105,7 +107,8 @@ impl Core {
         requires program { fired.program ≡ self.old.program }
         requires copy { FiresFlight (program_of self.old) (core_of self.old) fired }
         requires room { FliesInRoom self.old fired }
-        ensures ok { OnOk result (Step (program_of self.old) (core_of self.old) (EndEntry fired.snap.device) (core_of self.new)) }
+        ensures ok { OnOk result (Step (program_of self.old) (core_of self.old) (EndEntry fired.snap.device)
+            (core_of self.new)) }
         ensures publishes { OnOk result (Publishes (program_of self.old) (core_of self.old) fired (core_of self.new)) }
         ensures room { IfOk result (IsRoom (program_of self.old)) }
         ensures rooms { OnOk result (rooms_of self.new ≡ mark (rooms_of self.old) fired.snap.device false) }
