@@ -8,7 +8,7 @@ use Rattle.edit_commands.specs.declared.types.Fault.{Fault}
 use Rattle.edit_commands.specs.declared.types.LineFault.{LineFault}
 use Rattle.edit_commands.specs.declared.types.LineFault.TheVariants as line_fault
 use Rattle.edit_commands.specs.EditLines.{EditLine, edit_line}
-use Rattle.edit_commands.specs.LineByLine.{Faulty, unless, WhereAccepted}
+use Rattle.edit_commands.specs.LineByLine.{Refused, unless, WhereAccepted}
 use Rattle.edit_commands.specs.Judging.{edit_fault, DoesEdit, words_judged}
 use Rattle.edit_commands.specs.Logs.{OfEdit, text_judged, DoesEntry}
 use Rattle.edit_commands.specs.Code.{HasFault}
@@ -30,7 +30,7 @@ entry_refused U n o line_fault.Memory h = tt
 entry_refused U n None (line_fault.Bad f) h = let g : _ = h in cc
 entry_refused U n (Some l) (line_fault.Bad f) h = by_case (edit_fault U n none_flies l) h
   where
-    by_case : (g : Option Fault) → unless g l ≡ Faulty f → unless g (OfEdit l) ≡ Faulty f
+    by_case : (g : Option Fault) → unless g l ≡ Refused f → unless g (OfEdit l) ≡ Refused f
     by_case None k = absurd cc
     by_case (Some g) k = cc
 

@@ -2,7 +2,7 @@
 use Rattle.std.proofs.Common.{ℕ, ◌≡◌, ◌+◌, ◌≤◌, Bool, true, false, ◌==◌, List, [], ◌∷◌, ◌++◌, length, refl, sym, ap, subst, ◌∙◌, arith, append_assoc, append-nil, if◌then◌else◌}
 use Rattle.std.proofs.lemmas.Bool.Decides.{nat_tests}
 use Rattle.fc_io.specs.Lines.{lines_of}
-use Rattle.edit_commands.specs.LineByLine.{Judged, Accepted, Faulty, WhereAccepted, Lines, AllLines, StopsAt, onto, and_lines, lines_from, Does, AreSaid, SaidBy}
+use Rattle.edit_commands.specs.LineByLine.{Judgement, Accepted, Refused, WhereAccepted, Lines, AllLines, StopsAt, onto, and_lines, lines_from, Does, AreSaid, SaidBy}
 use Rattle.edit_commands.proofs.CutLines.{IsCut}
 
 -- lines that were read, and then those that are read of the rest
@@ -36,7 +36,7 @@ no_length : (rest : List ℕ) → (length rest == 0) ≡ true → rest ≡ []
 no_length [] h = refl
 no_length (b ∷ bs) h = grind (arith, nat_tests)
 
-module _ {S R A B : Type 0} (judge : S → List ℕ → Judged R A) (next : S → A → S) (Says : A → B → Type 0) (Fits : B → Type 0) (Keeps : S → Type 0) where
+module _ {S R A B : Type 0} (judge : S → List ℕ → Judgement R A) (next : S → A → S) (Says : A → B → Type 0) (Fits : B → Type 0) (Keeps : S → Type 0) where
   -- what was read, and the rest of the text, beside the state and the number of the lines before it
   pub record IsReadTo (start : S) (text : List ℕ) (now : S) (number : ℕ) (rest : List ℕ) (xs : List (ℕ × B)) : Type 0 where
     pub lines : List (ℕ × A)
@@ -95,9 +95,9 @@ module _ {S R A B : Type 0} (judge : S → List ℕ → Judged R A) (next : S �
         → IsReadTo start text after (number + 1) back pushed
     read after x pushed some does keeps grown = by_case (judge now line) (on some) does
       where
-        by_case : (j : Judged R A) → behind r.lines (and_lines (number + 1) j (λ l. lines_from judge next (next now l) (number + 1 + 1) (lines_of back))) ≡ lines_from judge next start 1 (lines_of text)
+        by_case : (j : Judgement R A) → behind r.lines (and_lines (number + 1) j (λ l. lines_from judge next (next now l) (number + 1 + 1) (lines_of back))) ≡ lines_from judge next start 1 (lines_of text)
             → WhereAccepted (Does next Says Fits now after x) j → IsReadTo start text after (number + 1) back pushed
-        by_case (Faulty f) g d = absurd d
+        by_case (Refused f) g d = absurd d
         by_case (Accepted l) g d = record {
           lines = r.lines ++ (number + 1, l) ∷ [];
           so_far = ap (λ s. behind (r.lines ++ (number + 1, l) ∷ []) (lines_from judge next s (number + 1 + 1) (lines_of back))) d.after_is
@@ -110,7 +110,7 @@ module _ {S R A B : Type 0} (judge : S → List ℕ → Judged R A) (next : S �
         }
 
     -- a line has a fault
-    pub stopped : (f : R) → t ≡ false → judge now line ≡ Faulty f → lines_from judge next start 1 (lines_of text) ≡ StopsAt (number + 1) f
+    pub stopped : (f : R) → t ≡ false → judge now line ≡ Refused f → lines_from judge next start 1 (lines_of text) ≡ StopsAt (number + 1) f
     stopped f some h = sym (on some) ∙ ap (λ j. behind r.lines (and_lines (number + 1) j (λ l. lines_from judge next (next now l) (number + 1 + 1) (lines_of back)))) h
 
   pub all_read : (start : S) (text : List ℕ) (now : S) (number : ℕ) (rest : List ℕ) (xs : List (ℕ × B)) (t : Bool) → IsReadTo start text now number rest xs

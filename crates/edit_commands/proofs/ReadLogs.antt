@@ -10,7 +10,7 @@ use Rattle.edit_commands.specs.declared.types.Fault.{Fault}
 use Rattle.edit_commands.specs.declared.types.ScriptFault.{ScriptFault}
 use Rattle.edit_commands.specs.declared.types.ScriptFault.TheVariants as script
 use Rattle.edit_commands.specs.EditLines.{EditLine, LinkLine, UnlinkLine, SetLine, PokeLine, JoinLine, LeaveLine}
-use Rattle.edit_commands.specs.LineByLine.{Judged, Accepted, Faulty, WhereAccepted, StopsAt}
+use Rattle.edit_commands.specs.LineByLine.{Judgement, Accepted, Refused, WhereAccepted, StopsAt}
 use Rattle.edit_commands.specs.Judging.{after_edit}
 use Rattle.edit_commands.specs.Logs.{LogLine, BeginLine, EndLine, IdleLine, OfEdit, after_line, line_judged, log_of, IsEntry, DoesEntry, IsLog, RefusesLog, numbered}
 use Rattle.edit_commands.specs.Code.{HasFaultAt}
@@ -53,9 +53,9 @@ module _ (U : Unfolding) (start : Network) (text : List ℕ) (now : Network) (nu
   read after e pushed some does grown =
       lines.read (line_judged U) after_line (IsEntry U) (EntryFits U) (HasDeclared start) start text now number rest front back line es r c t is after e pushed some does (declared (line_judged U now line) does) grown
     where
-      declared : (j : Judged Fault LogLine) → WhereAccepted (DoesEntry U now after e) j → after.declared ≡ start.declared
+      declared : (j : Judgement Fault LogLine) → WhereAccepted (DoesEntry U now after e) j → after.declared ≡ start.declared
       declared (Accepted l) d = ap (λ (n : Network). n.declared) d.after_is ∙ line_declared now l ∙ r.keeps
-      declared (Faulty f) d = absurd d
+      declared (Refused f) d = absurd d
 
   pub refused : (f : ScriptFault) → t ≡ false → HasFaultAt (number + 1) (line_judged U now line) f → RefusesLog U start text f
   unfolding log_of

@@ -6,7 +6,7 @@ use Rattle.firing_core.specs.Cores.{Core}
 use Rattle.edit_commands.specs.declared.types.Line.{Line}
 use Rattle.edit_commands.specs.declared.types.ScriptFault.{ScriptFault}
 use Rattle.edit_commands.specs.declared.types.ScriptFault.TheVariants as script
-use Rattle.edit_commands.specs.LineByLine.{Judged, Accepted, Faulty, WhereAccepted, StopsAt}
+use Rattle.edit_commands.specs.LineByLine.{Judgement, Accepted, Refused, WhereAccepted, StopsAt}
 use Rattle.edit_commands.specs.Scripts.{ScriptLine, RunLine, DoLine, ScrambleLine, ShowLine, MixLine, Progress, at_start, LineFault, OfLine, OfScrambles, OfFirings, after_line, text_judged, lines_in, CommandValue, IsCommand, CommandFits, AllCommandsFit, DoesCommand, AreCommands, RefusesLines, numbered}
 use Rattle.edit_commands.specs.ScriptCode.{IsWithin, HasLineFaultAt}
 use Rattle.edit_commands.proofs.CutLines.{IsCut}
@@ -46,11 +46,11 @@ module _ (U : Unfolding) (start : Core) (text : List ℕ) (now : Progress) (numb
       lines.read (text_judged U start) after_line (IsCommand U) (CommandFits U) (Keeps start) (at_start start.net) text now number rest front back line cs r c t is after x pushed some does
       (record { declared = declared (text_judged U start now line) does; within = within }) grown
     where
-      declared : (j : Judged LineFault ScriptLine) → WhereAccepted (DoesCommand U now after x) j → after.net.declared ≡ start.net.declared
+      declared : (j : Judgement LineFault ScriptLine) → WhereAccepted (DoesCommand U now after x) j → after.net.declared ≡ start.net.declared
       declared (Accepted l) d = ap (λ (p : Progress). p.net.declared) d.after_is ∙ line_declared now l ∙ r.keeps.declared
-      declared (Faulty f) d = absurd d
+      declared (Refused f) d = absurd d
 
-  stopped : (f : LineFault) → t ≡ false → text_judged U start now line ≡ Faulty f → lines_in U start text ≡ StopsAt (number + 1) f
+  stopped : (f : LineFault) → t ≡ false → text_judged U start now line ≡ Refused f → lines_in U start text ≡ StopsAt (number + 1) f
   unfolding lines_in
   stopped f some h = lines.stopped (text_judged U start) after_line (IsCommand U) (CommandFits U) (Keeps start) (at_start start.net) text now number rest front back line cs r c t is f some h
 

@@ -13,7 +13,7 @@ use Rattle.edit_commands.specs.declared.types.ScriptFault.TheVariants as script
 use Rattle.edit_commands.specs.EditLines.{EditLine, LinkLine, UnlinkLine, SetLine, PokeLine, JoinLine, LeaveLine}
 use Rattle.edit_commands.specs.Narrow.{narrow_line}
 use Rattle.edit_commands.specs.Code.{line_of}
-use Rattle.edit_commands.specs.LineByLine.{Accepted, Faulty, unless, WhereAccepted}
+use Rattle.edit_commands.specs.LineByLine.{Accepted, Refused, unless, WhereAccepted}
 use Rattle.edit_commands.specs.Judging.{edit_fault, IsEdit}
 use Rattle.edit_commands.specs.Scripts.{DoLine, MixLine, Progress, flies, LineFault, OfLine, OfFirings, firings_fault, with_firings, with_edit, line_judged, EditCommand, MixCommand, DoesCommand, if_mixed}
 use Rattle.edit_commands.specs.ScriptCode.{IsFaultAt, HasLineFaultAt, IsWithin}
@@ -59,7 +59,7 @@ module _ (p : Program) (h : IsProgram p) (start : Core) (s : Progress) (o : Opti
         ∙ ap (λ x. unless (option_or x (option_map OfLine (edit_fault (unfolding_of p) s.net (λ d. false) r.line))) (MixLine rounds r.line)) e
         ∙ ap (λ x. unless (option_or f (option_map OfLine x)) (MixLine rounds r.line)) (fault_same s.net (λ d. false) ∙ k)
 
-    pub mix_past : (count : ℕ) → firings_fault s (rounds + 1) ≡ Some (OfFirings count) → line_judged (unfolding_of p) start s (option_map (MixLine rounds) o) ≡ Faulty (OfFirings count)
+    pub mix_past : (count : ℕ) → firings_fault s (rounds + 1) ≡ Some (OfFirings count) → line_judged (unfolding_of p) start s (option_map (MixLine rounds) o) ≡ Refused (OfFirings count)
     mix_past count e = judged (Some (OfFirings count)) (edit_fault (unfolding_of p) s.net (λ d. false) read) e refl
 
     pub mix_ok : (e : EditValue) (counted after : Progress) → firings_fault s (rounds + 1) ≡ None → counted ≡ with_firings s (rounds + 1) → IsEdit (unfolding_of p) read e → EditFits (unfolding_of p) e

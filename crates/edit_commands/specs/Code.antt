@@ -13,7 +13,7 @@ use Rattle.edit_commands.specs.declared.types.ScriptFault.{ScriptFault}
 use Rattle.edit_commands.specs.declared.types.ScriptFault.TheVariants as script
 use Rattle.edit_commands.specs.EditLines.{EditLine, LinkLine, UnlinkLine, SetLine, PokeLine, JoinLine, LeaveLine}
 use Rattle.edit_commands.specs.Narrow.{narrow_line}
-use Rattle.edit_commands.specs.LineByLine.{Judged, Faulty}
+use Rattle.edit_commands.specs.LineByLine.{Judgement, Refused}
 
 -- words of a text
 abbrev pub texts : List (Bor (List ℕ)) → List (List ℕ)
@@ -53,13 +53,13 @@ abbrev pub IsFaultOf : Option Fault → LineFault → Type 0
 IsFaultOf fault (line_fault.Bad f) = fault ≡ Some f
 IsFaultOf fault line_fault.Memory = Unit {0}
 
-abbrev pub HasFault : {A : Type 0} → Judged Fault A → LineFault → Type 0
-HasFault judged (line_fault.Bad f) = judged ≡ Faulty f
+abbrev pub HasFault : {A : Type 0} → Judgement Fault A → LineFault → Type 0
+HasFault judged (line_fault.Bad f) = judged ≡ Refused f
 HasFault judged line_fault.Memory = Unit {0}
 
 -- the same, of the line of a number
-abbrev pub HasFaultAt : {A : Type 0} → ℕ → Judged Fault A → ScriptFault → Type 0
-HasFaultAt number judged (script.At k f) = (k ≡ number) × (judged ≡ Faulty f)
+abbrev pub HasFaultAt : {A : Type 0} → ℕ → Judgement Fault A → ScriptFault → Type 0
+HasFaultAt number judged (script.At k f) = (k ≡ number) × (judged ≡ Refused f)
 HasFaultAt number judged (script.Lines count) = ⊥
 HasFaultAt number judged (script.Scrambles count) = ⊥
 HasFaultAt number judged (script.Firings count) = ⊥

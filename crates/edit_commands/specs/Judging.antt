@@ -15,7 +15,7 @@ use Rattle.firing_core.specs.Entries.{EditValue, LinkEdit, UnlinkEdit, SetEdit, 
 use Rattle.firing_core.specs.Cores.{EditFits}
 use Rattle.edit_commands.specs.declared.types.Fault.{Fault}
 use Rattle.edit_commands.specs.declared.types.Fault.TheVariants as fault
-use Rattle.edit_commands.specs.LineByLine.{Judged, Faulty, unless, Does}
+use Rattle.edit_commands.specs.LineByLine.{Judgement, Refused, unless, Does}
 use Rattle.edit_commands.specs.EditLines.{EditLine, LinkLine, UnlinkLine, SetLine, PokeLine, JoinLine, LeaveLine}
 
 -- a value and a list that are those of an export of a program
@@ -75,8 +75,8 @@ IsEdit U (JoinLine x) e = e ≡ JoinEdit x
 IsEdit U (LeaveLine d) e = e ≡ LeaveEdit d
 
 -- the edit that words say, judged
-abbrev pub words_judged : Unfolding → Network → (ℕ → Bool) → Option EditLine → Judged Fault EditLine
-words_judged U n flies None = Faulty fault.Form
+abbrev pub words_judged : Unfolding → Network → (ℕ → Bool) → Option EditLine → Judgement Fault EditLine
+words_judged U n flies None = Refused fault.Form
 words_judged U n flies (Some l) = unless (edit_fault U n flies l) l
 
 -- an edit that a line says, with the network after it

@@ -1,19 +1,15 @@
 -- Texts that are read line by line: each line is judged by what the lines before leave.
 use Rattle.std.specs.Prelude.{ℕ, ◌≡◌, ◌+◌, if◌then◌else◌, List, [], ◌∷◌, Option, Some, None}
+pub use Rattle.fc_values.specs.Judgements.{Judgement, Accepted, Refused}
 use Rattle.fc_io.specs.Lines.{line_text, is_empty}
 
--- what is accepted, or its fault
-pub data Judged (R A : Type 0) : Type 0 where
-  Accepted : A → Judged R A
-  Faulty : R → Judged R A
-
-abbrev pub unless : {R A : Type 0} → Option R → A → Judged R A
+abbrev pub unless : {R A : Type 0} → Option R → A → Judgement R A
 unless None x = Accepted x
-unless (Some r) x = Faulty r
+unless (Some r) x = Refused r
 
-abbrev pub WhereAccepted : {R A : Type 0} → (A → Type 0) → Judged R A → Type 0
+abbrev pub WhereAccepted : {R A : Type 0} → (A → Type 0) → Judgement R A → Type 0
 WhereAccepted P (Accepted x) = P x
-WhereAccepted P (Faulty r) = ⊥
+WhereAccepted P (Refused r) = ⊥
 
 -- lines with their numbers, or the number of the first line that has a fault, and its fault
 pub data Lines (R A : Type 0) : Type 0 where
@@ -25,12 +21,12 @@ onto x (AllLines xs) = AllLines (x ∷ xs)
 onto x (StopsAt k r) = StopsAt k r
 
 -- a judged line of a number, and then the lines after it
-abbrev pub and_lines : {R A : Type 0} → ℕ → Judged R A → (A → Lines R A) → Lines R A
+abbrev pub and_lines : {R A : Type 0} → ℕ → Judgement R A → (A → Lines R A) → Lines R A
 and_lines k (Accepted l) rest = onto (k, l) (rest l)
-and_lines k (Faulty r) rest = StopsAt k r
+and_lines k (Refused r) rest = StopsAt k r
 
 -- the lines from a number on, of which the empty ones are skipped and counted; each leads from one state to the next
-abbrev pub lines_from : {S R A : Type 0} → (S → List ℕ → Judged R A) → (S → A → S) → S → ℕ → List (List ℕ) → Lines R A
+abbrev pub lines_from : {S R A : Type 0} → (S → List ℕ → Judgement R A) → (S → A → S) → S → ℕ → List (List ℕ) → Lines R A
 lines_from judge next s k [] = AllLines []
 lines_from judge next s k (line ∷ lines) =
     if is_empty line then lines_from judge next s (k + 1) lines

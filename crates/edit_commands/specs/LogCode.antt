@@ -8,7 +8,7 @@ use Rattle.firing_core.specs.declared.entries.Entry.{Entry}
 use Rattle.firing_core.specs.Entries.{edit_of, entry_of}
 use Rattle.edit_commands.specs.declared.types.Fault.{Fault}
 use Rattle.edit_commands.specs.declared.types.LineFault.{LineFault}
-use Rattle.edit_commands.specs.LineByLine.{Judged, WhereAccepted}
+use Rattle.edit_commands.specs.LineByLine.{Judgement, WhereAccepted}
 use Rattle.edit_commands.specs.Judging.{DoesEdit}
 use Rattle.edit_commands.specs.Logs.{LogLine, DoesEntry, edit_judged, edit_text_judged, line_judged}
 use Rattle.edit_commands.specs.Code.{texts, HasFault}
@@ -22,12 +22,12 @@ abbrev pub IsEditFault : Program → Network → List (Bor (List ℕ)) → LineF
 IsEditFault p n words f = HasFault (edit_judged (unfolding_of p) n (texts words)) f
 
 -- the entry of a judged line, with the network after it
-abbrev pub IsEntryOf : Program → Network → Network → Judged Fault LogLine → Entry → Type 0
+abbrev pub IsEntryOf : Program → Network → Network → Judgement Fault LogLine → Entry → Type 0
 IsEntryOf p n after judged e = WhereAccepted (DoesEntry (unfolding_of p) n after (entry_of e)) judged
 
 -- a line, and one that is an edit, judged
-abbrev pub line_in : Program → Network → List ℕ → Judged Fault LogLine
+abbrev pub line_in : Program → Network → List ℕ → Judgement Fault LogLine
 line_in p n text = line_judged (unfolding_of p) n text
 
-abbrev pub edit_text_in : Program → Network → List ℕ → Judged Fault LogLine
+abbrev pub edit_text_in : Program → Network → List ℕ → Judgement Fault LogLine
 edit_text_in p n text = edit_text_judged (unfolding_of p) n text

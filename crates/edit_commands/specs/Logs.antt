@@ -14,7 +14,7 @@ use Rattle.fc_io.specs.Lines.{lines_of}
 use Rattle.edit_commands.specs.Lines.{words_of}
 use Rattle.fc_values.specs.Numbers.{number_of}
 use Rattle.edit_commands.specs.EditLines.{EditLine, edit_line}
-use Rattle.edit_commands.specs.LineByLine.{Judged, Faulty, unless, Lines, StopsAt, lines_from, Does, SaidBy}
+use Rattle.edit_commands.specs.LineByLine.{Judgement, Refused, unless, Lines, StopsAt, lines_from, Does, SaidBy}
 use Rattle.edit_commands.specs.Judging.{edit_fault, after_edit, IsEdit, words_judged}
 
 -- a line of a log
@@ -54,18 +54,18 @@ after_line n IdleLine = n
 after_line n (OfEdit l) = after_edit n l
 
 -- the text of a line, judged
-abbrev pub text_judged : Unfolding → Network → Option LogLine → Judged Fault LogLine
-text_judged U n None = Faulty fault.Form
+abbrev pub text_judged : Unfolding → Network → Option LogLine → Judgement Fault LogLine
+text_judged U n None = Refused fault.Form
 text_judged U n (Some l) = unless (line_fault U n l) l
 
-abbrev pub line_judged : Unfolding → Network → List ℕ → Judged Fault LogLine
+abbrev pub line_judged : Unfolding → Network → List ℕ → Judgement Fault LogLine
 line_judged U n text = text_judged U n (log_line n.declared.inputs text)
 
 -- the edit that words say, judged, and that of a text. That no device that leaves flies isn't judged
-abbrev pub edit_judged : Unfolding → Network → List (List ℕ) → Judged Fault EditLine
+abbrev pub edit_judged : Unfolding → Network → List (List ℕ) → Judgement Fault EditLine
 edit_judged U n words = words_judged U n (λ d. false) (edit_line n.declared.inputs words)
 
-abbrev pub edit_text_judged : Unfolding → Network → List ℕ → Judged Fault LogLine
+abbrev pub edit_text_judged : Unfolding → Network → List ℕ → Judgement Fault LogLine
 edit_text_judged U n text = text_judged U n (edit_in n.declared.inputs text)
 
 -- the lines of a log

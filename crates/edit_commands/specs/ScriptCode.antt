@@ -13,7 +13,7 @@ use Rattle.edit_commands.specs.declared.types.ScriptFault.{ScriptFault}
 use Rattle.edit_commands.specs.declared.types.ScriptFault.TheVariants as script
 use Rattle.edit_commands.specs.Lines.{words_of}
 use Rattle.edit_commands.specs.EditLines.{EditLine}
-use Rattle.edit_commands.specs.LineByLine.{Judged, Faulty, WhereAccepted}
+use Rattle.edit_commands.specs.LineByLine.{Judgement, Refused, WhereAccepted}
 use Rattle.edit_commands.specs.Judging.{edit_fault}
 use Rattle.edit_commands.specs.Code.{texts}
 use Rattle.edit_commands.specs.Scripts.{Progress, ScriptLine, LineFault, OfLine, OfScrambles, OfFirings, DoesCommand}
@@ -40,7 +40,7 @@ pub record IsReady (s : Sight) (p : ProgressCode) : Type 0 where
   pub within : IsWithin (progress_of p)
 
 -- a line, judged
-abbrev pub seen : Sight → ProgressCode → Option ScriptLine → Judged LineFault ScriptLine
+abbrev pub seen : Sight → ProgressCode → Option ScriptLine → Judgement LineFault ScriptLine
 seen s p line = line_judged (program_in s) (start_in s) (progress_of p) line
 
 -- the command of a line that has no fault, with what it leaves
@@ -70,11 +70,11 @@ abbrev pub fault_in : Sight → ProgressCode → EditLine → Option Fault
 fault_in s p line = edit_fault (program_in s) p.net (flies (start_in s) p.quiet) line
 
 -- a fault in code is that of a judged line of a number. Want of memory is free
-abbrev pub HasLineFaultAt : {A : Type 0} → ℕ → Judged LineFault A → ScriptFault → Type 0
-HasLineFaultAt number judged (script.At k f) = (k ≡ number) × (judged ≡ Faulty (OfLine f))
+abbrev pub HasLineFaultAt : {A : Type 0} → ℕ → Judgement LineFault A → ScriptFault → Type 0
+HasLineFaultAt number judged (script.At k f) = (k ≡ number) × (judged ≡ Refused (OfLine f))
 HasLineFaultAt number judged (script.Lines count) = ⊥
-HasLineFaultAt number judged (script.Scrambles count) = judged ≡ Faulty (OfScrambles count)
-HasLineFaultAt number judged (script.Firings count) = judged ≡ Faulty (OfFirings count)
+HasLineFaultAt number judged (script.Scrambles count) = judged ≡ Refused (OfScrambles count)
+HasLineFaultAt number judged (script.Firings count) = judged ≡ Refused (OfFirings count)
 HasLineFaultAt number judged script.Memory = Unit {0}
 
 abbrev pub IsAtFault : Sight → ProgressCode → Option ScriptLine → ScriptFault → Type 0

@@ -22,7 +22,7 @@ use Rattle.fc_io.specs.Lines.{lines_of}
 use Rattle.edit_commands.specs.Lines.{words_of}
 use Rattle.fc_values.specs.Numbers.{number_of}
 use Rattle.edit_commands.specs.EditLines.{EditLine, LinkLine, UnlinkLine, SetLine, PokeLine, JoinLine, LeaveLine, with_two, edit_line}
-use Rattle.edit_commands.specs.LineByLine.{Judged, Faulty, unless, Lines, StopsAt, lines_from, Does, SaidBy}
+use Rattle.edit_commands.specs.LineByLine.{Judgement, Refused, unless, Lines, StopsAt, lines_from, Does, SaidBy}
 use Rattle.edit_commands.specs.Judging.{edit_fault, after_edit, IsEdit}
 
 -- a line of a script: rounds, an edit, the rubbish of a number, the values, or an edit among firings and then rounds
@@ -154,11 +154,11 @@ after_line p ShowLine = p
 after_line p (MixLine r l) = with_edit (with_firings p (r + 1)) l
 
 -- the words of a line, judged
-abbrev pub line_judged : Unfolding → Core → Progress → Option ScriptLine → Judged LineFault ScriptLine
-line_judged U start p None = Faulty (OfLine fault.Form)
+abbrev pub line_judged : Unfolding → Core → Progress → Option ScriptLine → Judgement LineFault ScriptLine
+line_judged U start p None = Refused (OfLine fault.Form)
 line_judged U start p (Some l) = unless (line_fault U start p l) l
 
-abbrev pub text_judged : Unfolding → Core → Progress → List ℕ → Judged LineFault ScriptLine
+abbrev pub text_judged : Unfolding → Core → Progress → List ℕ → Judgement LineFault ScriptLine
 text_judged U start p text = line_judged U start p (script_line p.net.declared.inputs (words_of text))
 
 -- a script: too many lines, or its lines up to the first that has a fault

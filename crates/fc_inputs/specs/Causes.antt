@@ -1,6 +1,8 @@
 -- Why an input is refused, and what is judged: accepted, or refused for a cause.
 use Rattle.std.specs.Prelude.{ℕ, ◌≡◌, List, [], ◌∷◌, ◌++◌, codes, Option, Some, None}
 use Rattle.std.specs.Fmt.{decimal}
+use Rattle.fc_values.specs.Judgements.{Judgement}
+pub use Rattle.fc_values.specs.Judgements.{Accepted, Refused}
 use Rattle.topology.specs.declared.types.NetFault.{NetFault}
 use Rattle.net_json.specs.Judging as scene
 use Rattle.net_json.specs.Judging.{NotJson, Misshaped, BadNetwork, BadKept, TooManyDevices}
@@ -41,9 +43,8 @@ reply_to (Plainly refusal) = refused refusal
 reply_to (InScene refusal) = scene_refused refusal
 
 -- what texts are read to and what a command makes of them, or why they are refused
-pub data Judged (A : Type 0) : Type 0 where
-  Accepted : A → Judged A
-  Refused : Cause → Judged A
+abbrev pub Judged : Type 0 → Type 0
+Judged A = Judgement Cause A
 
 -- what comes after something that is judged: its refusal stays
 abbrev pub AndThen : {A B : Type 0} → Judged A → (A → Judged B → Type 0) → Judged B → Type 0

@@ -1,3 +1,4 @@
+pub mod Judgements
 pub mod Lists
 pub mod Types
 pub mod Values

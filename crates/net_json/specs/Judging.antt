@@ -3,6 +3,8 @@ use Rattle.std.specs.Prelude.{ℕ, Bool, ◌≡◌, ◌+◌, List, [], ◌∷◌
 use Rattle.std.specs.Prelude.{if◌then◌else◌, decimal, map, nat_lt}
 use Rattle.serde_json.specs.Data.{Data, Items, no_items, item}
 use Rattle.topology.specs.declared.types.NetFault.{NetFault}
+use Rattle.fc_values.specs.Judgements.{Judgement}
+pub use Rattle.fc_values.specs.Judgements.{Accepted, Refused}
 use Rattle.fc_values.specs.Lists.{insert_after}
 use Rattle.net_json.specs.declared.types.JsonFault.{JsonFault}
 use Rattle.net_json.specs.declared.types.JsonFault.TheVariants as fault
@@ -16,9 +18,8 @@ pub data Refusal : Type 0 where
   BadKept : List ℕ → ℕ → Refusal
   TooManyDevices : ℕ → Refusal
 
-pub data Judged (A : Type 0) : Type 0 where
-  Accepted : A → Judged A
-  Refused : Refusal → Judged A
+abbrev pub Judged : Type 0 → Type 0
+Judged A = Judgement Refusal A
 
 -- one check after another: the first refusal counts
 abbrev pub and_then : {A B : Type 0} → Judged A → (A → Judged B) → Judged B

@@ -1,8 +1,6 @@
 //! The lines of facts of a program's nodes.
 
 ghost use Rattle.std.specs.Prelude.{◌≡◌, ◌++◌, IfOk, OnOk, OnErr, Some, length};
-ghost use Rattle.fc_values.specs.Types.{local_type_of, type_of};
-ghost use Rattle.fc_syntax.specs.Text.{local_type_text, type_text};
 ghost use Rattle.fc_nodes.specs.Terms.{sort_of, view_of};
 ghost use Rattle.fc_nodes.specs.Program.{unfolding_of};
 ghost use Rattle.interval_facts.specs.Ranges.{AreRangesOf, range_value};
@@ -10,7 +8,8 @@ ghost use Rattle.report.specs.Facts.{fact_line, facts_text, level_text, mark_tex
 
 use crate::writing::{write_number, write_value};
 use fc_nodes::{Node, Op, Unfolded};
-use fc_values::{Builtin, LocalTy, Memory, Ty};
+use fc_syntax::{builtin_word, write_type};
+use fc_values::{Builtin, Memory};
 use interval_facts::{Range, Ranges};
 use std::alloc::Global;
 
@@ -115,58 +114,9 @@ fn mark(builtin: Builtin) -> &'static [u8]
     ensures { result.now ≡ mark_text builtin }
 {
     match builtin {
-        Builtin::Add => b"+",
-        Builtin::Sub => b"-",
-        Builtin::Mul => b"*",
-        Builtin::Rise => b"rise",
-        Builtin::Min => b"min",
-        Builtin::Max => b"max",
-        Builtin::Less => b"<",
-        Builtin::Equal => b"=",
-        Builtin::And => b"and",
-        Builtin::Or => b"or",
-        Builtin::Not => b"not",
-        Builtin::Mux => b"mux",
         Builtin::Pair => b"pair",
-        Builtin::Fst => b"fst",
-        Builtin::Snd => b"snd",
-        Builtin::MinHoodLoc => b"minHoodLoc",
-        Builtin::MaxHoodLoc => b"maxHoodLoc",
-        Builtin::SumHood => b"sumHood",
-        Builtin::AnyHood => b"anyHood",
-        Builtin::AllHood => b"allHood",
+        _ => builtin_word(builtin),
     }
-}
-
-// Appends a type.
-fn write_type(out: &mut Vec<u8>, ty: &Ty) -> Result<(), Memory>
-    ensures { OnOk result (out.new.items ≡ out.old.items ++ type_text (type_of ty.now)) }
-{
-    match ty {
-        Ty::Local(ty) => write_local_type(out, ty),
-        Ty::Field(ty) => {
-            out.extend_from_slice(b"field ")?;
-            write_local_type(out, ty)
-        }
-    }
-}
-
-// Appends a local type.
-fn write_local_type(out: &mut Vec<u8>, ty: &LocalTy) -> Result<(), Memory>
-    ensures { OnOk result (out.new.items ≡ out.old.items ++ local_type_text (local_type_of ty.now)) }
-{
-    match ty {
-        LocalTy::Int => out.extend_from_slice(b"int")?,
-        LocalTy::Bool => out.extend_from_slice(b"bool")?,
-        LocalTy::Pair(a, b) => {
-            out.push(b'(')?;
-            write_local_type(out, a)?;
-            out.extend_from_slice(b", ")?;
-            write_local_type(out, b)?;
-            out.push(b')')?;
-        }
-    }
-    Ok(())
 }
 
 // Appends a range.
