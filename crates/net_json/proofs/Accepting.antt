@@ -29,7 +29,7 @@ pub no_fault_accepted : {A : Type 0} {f : Option NetFault} {rest : Judged A} {a 
 no_fault_accepted {f = None} path e = (refl, e)
 no_fault_accepted {f = Some x} path e = absurd cc
 
-pub same_accepted : {A : Type 0} {a b : A} → Accepted a ≡ Accepted b → a ≡ b
+pub same_accepted : {A : Type 0} {a b : A} → ◌≡◌ {A = Judged A} (Accepted a) (Accepted b) → a ≡ b
 same_accepted e = cc
 
 -- ---- items in turn
