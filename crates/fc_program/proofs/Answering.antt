@@ -23,7 +23,8 @@ use Rattle.fc_inputs.proofs.Stopping.{stops_map}
 use Rattle.fc_program.specs.declared.ending.Outcome.{Outcome}
 use Rattle.fc_program.specs.Asked.{exists, reads, limit_refusal}
 use Rattle.fc_program.specs.Answers.{AnswerValue, written, replied, answer_of, Formats, AnswersInput, AnswersReading}
-use Rattle.fc_program.specs.Answers.{AnswersWithin, AnswersAsked}
+use Rattle.fc_program.specs.Answers.{AnswersWithin, AnswersAsked, Answers}
+use Rattle.fc_program.specs.Headline.{AnswersKeep}
 use Rattle.fc_program.specs.Top.{IsAnswer, IsExact, IsJudged, StopsAsked}
 
 -- ---- `format`
@@ -112,25 +113,27 @@ for_limit asked command left r e h =
     (unread (Some command) left (Refused (Plainly r)) (limited (limit_of command) command (left_or_none left) r h))
 
 -- ---- answers
-pub answer_judged : (asked : Option Command) (left : Option (List ℕ)) (j : Judged AnswerValue) (a : AnswerValue)
-    → IsJudged asked left j → a ≡ answer_of j → IsAnswer asked left a
-answer_judged asked left j a h e =
-    record { input = h.input; there = h.there; answers = record { judged = j; makes = h.makes; is = e } }
+module _ (keep : AnswersKeep) where
+  pub answer_judged : (asked : Option Command) (left : Option (List ℕ)) (j : Judged AnswerValue) (a : AnswerValue)
+      → IsJudged asked left j → a ≡ answer_of j → IsAnswer asked left a
+  answer_judged asked left j a h e =
+      let answers : Answers asked h.input a = record { judged = j; makes = h.makes; is = e } in
+      record { input = h.input; there = h.there; answers = answers; kept = keep asked h.input a answers }
 
--- what stops with a cause is a reply
-where_answers : (asked : Option Command) (left : Option (List ℕ)) (o : Option Cause) (r : Reply) (a : AnswerValue)
-    → WhereCause (λ cause. IsJudged asked left (Refused cause)) o → IsReplyFor o r → a ≡ replied r
-    → IsAnswer asked left a
-where_answers asked left None r a h is e = absurd is
-where_answers asked left (Some cause) r a h is e = answer_judged asked left (Refused cause) a h (e ∙ ap replied is)
+  -- what stops with a cause is a reply
+  where_answers : (asked : Option Command) (left : Option (List ℕ)) (o : Option Cause) (r : Reply) (a : AnswerValue)
+      → WhereCause (λ cause. IsJudged asked left (Refused cause)) o → IsReplyFor o r → a ≡ replied r
+      → IsAnswer asked left a
+  where_answers asked left None r a h is e = absurd is
+  where_answers asked left (Some cause) r a h is e = answer_judged asked left (Refused cause) a h (e ∙ ap replied is)
 
-pub stop_answers : (asked : Option Command) (left : Option (List ℕ)) (s : Stop) (r : Reply) (a : AnswerValue)
-    → StopsAsked asked left s → IsReplyFor (cause_of s) r → a ≡ replied r → IsAnswer asked left a
-stop_answers asked left stop.Read r a h is e = absurd is
-stop_answers asked left stop.Memory r a h is e = absurd is
-stop_answers asked left (stop.Refused refused) r a h is e =
-    answer_judged asked left (Refused (Plainly refused)) a h (e ∙ ap replied is)
-stop_answers asked left (stop.Scene f) r a h is e = where_answers asked left (scene_cause f) r a h is e
+  pub stop_answers : (asked : Option Command) (left : Option (List ℕ)) (s : Stop) (r : Reply) (a : AnswerValue)
+      → StopsAsked asked left s → IsReplyFor (cause_of s) r → a ≡ replied r → IsAnswer asked left a
+  stop_answers asked left stop.Read r a h is e = absurd is
+  stop_answers asked left stop.Memory r a h is e = absurd is
+  stop_answers asked left (stop.Refused refused) r a h is e =
+      answer_judged asked left (Refused (Plainly refused)) a h (e ∙ ap replied is)
+  stop_answers asked left (stop.Scene f) r a h is e = where_answers asked left (scene_cause f) r a h is e
 
 -- what was written is an answer to what is asked for by another name
 pub exact_named : (asked named : Option Command) (left left' old old' new : Option (List ℕ)) (o : Outcome)

@@ -3,3 +3,4 @@ pub mod StableReplies
 pub mod Statuses
 pub mod OneAnswer
 pub mod SomeAnswer
+pub mod Headline

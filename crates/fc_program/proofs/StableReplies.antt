@@ -36,7 +36,7 @@ same_entries f g (n ∷ ns) h =
     ap₂ (λ v es. (n, v) ∷ es) (h n (here n ns))
     (same_entries f g ns (λ d k. h d (or_true (nat_eq d n) (is_in d ns) k)))
 
-one_field : (U : Unfolding) (N : Network) (es fs : Entries) → IsStableField U N es → IsStableField U N fs → es ≡ fs
+pub one_field : (U : Unfolding) (N : Network) (es fs : Entries) → IsStableField U N es → IsStableField U N fs → es ≡ fs
 one_field U N es fs h g =
     h.values
     ∙ same_entries h.one.field g.one.field (numbers N.devices) (λ d lives. g.one.only h.one.field h.one.solves d lives)
@@ -65,7 +65,7 @@ module _ (P Q : Program) (N : Network) (r q : Reply) (same : unfolding_of P ≡ 
       absurd (cc none)
   one_reply (verdict.No place why) (verdict.No other because) e f h g = h ∙ alike ∙ sym g
 
-accepted_one : (a b : Reply) → Accepted a ≡ Accepted b → a ≡ b
+accepted_one : (a b : Reply) → ◌≡◌ {A = Judged Reply} (Accepted a) (Accepted b) → a ≡ b
 accepted_one a b e = cc
 
 module _ (check : OneCheck) (program network : List ℕ) (U : Unfolding) (s : SceneValue)
@@ -102,7 +102,7 @@ one_stable check input program network j k h g =
 
 -- ---- something
 -- an accepted scene fits its program
-scene_fits : AcceptedScenesFit → (program network : List ℕ) (i : InputOf) → ReadsInput program network (Accepted i)
+pub scene_fits : AcceptedScenesFit → (program network : List ℕ) (i : InputOf) → ReadsInput program network (Accepted i)
     → SceneFits i.0 i.1
 scene_fits fit program network i h = by_program h.judged h.scene
   where

@@ -40,25 +40,33 @@ use Rattle.fc_program.specs.Asked.{reads, limit_refusal}
 use Rattle.fc_program.specs.Answers.{AnswerValue, showing, replied, answer_of, Formats, ShowsReplay, WritesReply, options_of, AnswersSections, AnswersInput, AnswersReading, AnswersWithin, AnswersAsked}
 use Rattle.fc_program.specs.Top.{IsAnswer}
 
--- a cause whose status is that of a judgement: at most 4, and not that of the usage line
+-- the status of an answer that is none to words outside: at most 4, and not that of the usage line
 pub record JudgesBy (status : ℕ) : Type 0 where
   pub no_usage : status ≢ 2
   pub few : status ≤ 4
 
-abbrev by_three : JudgesBy 3
-by_three = record { no_usage = omega arith; few = omega arith }
+-- that of a refusal is 3 or 4
+pub record RefusesBy (status : ℕ) : Type 0 where
+  pub many : 3 ≤ status
+  pub few : status ≤ 4
 
-abbrev by_four : JudgesBy 4
-by_four = record { no_usage = omega arith; few = omega arith }
+judges : (status : ℕ) → RefusesBy status → JudgesBy status
+judges status h = let many = h.many in record { no_usage = omega (arith, many); few = h.few }
 
-limit_judges : (o : Option Refusal) (other : Refusal) → JudgesBy (status_of other)
-    → ((r : Refusal) → o ≡ Some r → JudgesBy (status_of r)) → JudgesBy (status_of (or_refusal o other))
+abbrev by_three : RefusesBy 3
+by_three = record { many = omega arith; few = omega arith }
+
+abbrev by_four : RefusesBy 4
+by_four = record { many = omega arith; few = omega arith }
+
+limit_judges : (o : Option Refusal) (other : Refusal) → RefusesBy (status_of other)
+    → ((r : Refusal) → o ≡ Some r → RefusesBy (status_of r)) → RefusesBy (status_of (or_refusal o other))
 limit_judges None other h k = h
 limit_judges (Some r) other h k = k r refl
 
-net_limit : (fault : NetFault) (r : Refusal) → limit_of_net fault ≡ Some r → JudgesBy (status_of r)
-net_limit net.Degree r e = let is : refusal.Degree ≡ r = cc in subst (λ x. JudgesBy (status_of x)) is by_four
-net_limit net.Devices r e = let is : refusal.Devices 1025 ≡ r = cc in subst (λ x. JudgesBy (status_of x)) is by_four
+net_limit : (fault : NetFault) (r : Refusal) → limit_of_net fault ≡ Some r → RefusesBy (status_of r)
+net_limit net.Degree r e = let is : refusal.Degree ≡ r = cc in subst (λ x. RefusesBy (status_of x)) is by_four
+net_limit net.Devices r e = let is : refusal.Devices 1025 ≡ r = cc in subst (λ x. RefusesBy (status_of x)) is by_four
 net_limit net.Twice r e = absurd cc
 net_limit net.NoDevice r e = absurd cc
 net_limit net.SelfLink r e = absurd cc
@@ -70,7 +78,7 @@ net_limit net.InputRange r e = absurd cc
 net_limit net.InFlight r e = absurd cc
 net_limit net.Last r e = absurd cc
 
-line_limit : (fault : LineFault) (r : Refusal) → limit_in fault ≡ Some r → JudgesBy (status_of r)
+line_limit : (fault : LineFault) (r : Refusal) → limit_in fault ≡ Some r → RefusesBy (status_of r)
 line_limit line_fault.Form r e = absurd cc
 line_limit (line_fault.Net fault) r e = net_limit fault r e
 line_limit line_fault.Kept r e = absurd cc
@@ -78,28 +86,28 @@ line_limit line_fault.Flying r e = absurd cc
 line_limit line_fault.NotFlying r e = absurd cc
 line_limit line_fault.Empty r e = absurd cc
 
-log_judges : (at : ℕ) (fault : LineFault) → JudgesBy (status_of (log_refusal at fault))
+log_judges : (at : ℕ) (fault : LineFault) → RefusesBy (status_of (log_refusal at fault))
 log_judges at fault = limit_judges (limit_in fault) (refusal.Log at fault) by_three (line_limit fault)
 
 network_judges : (o : Option Refusal) (path : List ℕ) (fault : NetFault)
-    → ((r : Refusal) → o ≡ Some r → JudgesBy (status_of r)) → JudgesBy (or_network o path fault).status
+    → ((r : Refusal) → o ≡ Some r → RefusesBy (status_of r)) → RefusesBy (or_network o path fault).status
 network_judges None path fault k = by_three
 network_judges (Some r) path fault k = k r refl
 
-scene_judges : (r : scene.Refusal) → JudgesBy (scene_refused r).status
+scene_judges : (r : scene.Refusal) → RefusesBy (scene_refused r).status
 scene_judges scene.NotJson = by_three
 scene_judges (scene.Misshaped path) = by_three
 scene_judges (scene.BadNetwork path fault) = network_judges (limit_of_net fault) path fault (net_limit fault)
 scene_judges (scene.BadKept path place) = by_three
 scene_judges (scene.TooManyDevices count) = by_four
 
-source_judges : (text : List ℕ) (r : Refusal) → IsNoSource text r → JudgesBy (status_of r)
+source_judges : (text : List ℕ) (r : Refusal) → IsNoSource text r → RefusesBy (status_of r)
 source_judges text r (lexical at s) = by_three
 source_judges text r (tokens ts n c l e) = by_four
 source_judges text r (depth ts n l e) = by_four
 source_judges text r (syntax ts n l x e f) = by_three
 
-program_judges : (text : List ℕ) (r : Refusal) → IsNoProgram text r → JudgesBy (status_of r)
+program_judges : (text : List ℕ) (r : Refusal) → IsNoProgram text r → RefusesBy (status_of r)
 program_judges text r (no_source s h) = source_judges text s h
 program_judges text r (ill_typed ds n k s f) = by_three
 program_judges text r (too_large ds s t l) = by_four
@@ -108,10 +116,10 @@ program_judges text r (too_large ds s t l) = by_four
 abbrev pub JudgesWell : Judged AnswerValue → Type 0
 JudgesWell j = JudgesBy (answer_of j).status
 
-abbrev CauseJudges : Cause → Type 0
-CauseJudges cause = JudgesBy (reply_to cause).status
+abbrev pub CauseJudges : Cause → Type 0
+CauseJudges cause = RefusesBy (reply_to cause).status
 
-abbrev IfRefused : {A : Type 0} → (Cause → Type 0) → Judged A → Type 0
+abbrev pub IfRefused : {A : Type 0} → (Cause → Type 0) → Judged A → Type 0
 IfRefused P (Accepted x) = Unit {0}
 IfRefused P (Refused cause) = P cause
 
@@ -129,7 +137,7 @@ with_scene_causes : (U : Unfolding) (s : scene.Judged SceneValue) → IfRefused 
 with_scene_causes U (scene.Accepted s) = tt
 with_scene_causes U (scene.Refused r) = scene_judges r
 
-input_causes : (program network : List ℕ) (j : Judged InputOf) → ReadsInput program network j → IfRefused CauseJudges j
+pub input_causes : (program network : List ℕ) (j : Judged InputOf) → ReadsInput program network j → IfRefused CauseJudges j
 input_causes program network j h = by_program h.judged (program_causes program h.judged h.reads) h.scene
   where
     by_program : (i : Judged Unfolding) → IfRefused CauseJudges i
@@ -161,10 +169,10 @@ by_zero = record { no_usage = omega arith; few = omega arith }
 written_judges : {A : Type 0} (f : A → AnswerValue) → ((x : A) → (f x).status ≡ 0) → (i : Judged A)
     → IfRefused CauseJudges i → (j : Judged AnswerValue) → j ≡ judged_map f i → JudgesWell j
 written_judges f zero (Accepted x) c j e = subst JudgesWell (sym e) (subst JudgesBy (sym (zero x)) by_zero)
-written_judges f zero (Refused cause) c j e = subst JudgesWell (sym e) c
+written_judges f zero (Refused cause) c j e = subst JudgesWell (sym e) (judges _ c)
 
 other_judges : (ss : List (List ℕ)) (j : Judged AnswerValue) → j ≡ Refused (other_number ss) → JudgesWell j
-other_judges ss j e = subst JudgesWell (sym e) by_three
+other_judges ss j e = subst JudgesWell (sym e) (judges _ by_three)
 
 format_judges : (ss : List (List ℕ)) (j : Judged AnswerValue) → WithOne Formats ss j → JudgesWell j
 format_judges [] j h = other_judges [] j h
@@ -208,7 +216,7 @@ stable_replies program network j h = by_input h.judged (input_causes program net
 
 replied_judges : (i : Judged Reply) → ReplyJudges i → (j : Judged AnswerValue) → j ≡ judged_map replied i → JudgesWell j
 replied_judges (Accepted r) h j e = subst JudgesWell (sym e) h
-replied_judges (Refused cause) h j e = subst JudgesWell (sym e) h
+replied_judges (Refused cause) h j e = subst JudgesWell (sym e) (judges _ h)
 
 reply_judges : (Makes : List ℕ → List ℕ → Judged Reply → Type 0)
     → ((program network : List ℕ) (j : Judged Reply) → Makes program network j → ReplyJudges j)
@@ -238,7 +246,7 @@ sections_judge (Gen number devices workers) ss j h = absurd h
 sections_judge Trace ss j h = absurd h
 sections_judge (Mail number) ss j h = absurd h
 
-limit_judge : (limit : Limit) (count : ℕ) → JudgesBy (status_of (limit_refusal limit count))
+limit_judge : (limit : Limit) (count : ℕ) → RefusesBy (status_of (limit_refusal limit count))
 limit_judge Workers count = by_four
 limit_judge Devices count = by_four
 
@@ -247,7 +255,7 @@ command_judges : (command : Command) (input : List ℕ) (j : Judged AnswerValue)
 command_judges command input j h = by_limit (limit_of command) h
   where
     by_length : (b : Bool) → AnswersInput b command input j → JudgesWell j
-    by_length true e = subst JudgesWell (sym e) by_four
+    by_length true e = subst JudgesWell (sym e) (judges _ by_four)
     by_length false k = sections_judge command (sections_of input) j k
 
     by_reading : (b : Bool) → AnswersReading b command input j → JudgesWell j
@@ -255,7 +263,7 @@ command_judges command input j h = by_limit (limit_of command) h
     by_reading false k = absurd k
 
     by_limit : (o : Option (Limit × ℕ)) → AnswersWithin o command input j → JudgesWell j
-    by_limit (Some l) e = subst JudgesWell (sym e) (limit_judge l.0 l.1)
+    by_limit (Some l) e = subst JudgesWell (sym e) (judges _ (limit_judge l.0 l.1))
     by_limit None k = by_reading (reads command) k
 
 -- ---- of answers

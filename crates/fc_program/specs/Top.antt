@@ -13,6 +13,7 @@ use Rattle.fc_program.specs.declared.answers.Answer.{Answer}
 use Rattle.fc_program.specs.declared.ending.Outcome.{Outcome}
 use Rattle.fc_program.specs.Asked.{reads_source}
 use Rattle.fc_program.specs.Answers.{AnswerValue, AnswersAsked, Answers}
+use Rattle.fc_program.specs.Headline.{IsKept}
 
 -- an answer in code
 abbrev pub value_of : Answer → AnswerValue
@@ -23,11 +24,12 @@ value_of a = record {
   parts = a.parts.items;
 }
 
--- an answer to an input, which is what the source has left where it tells that
+-- an answer to an input, which is what the source has left where it tells that; what a yes in it promises is kept
 pub record IsAnswer (asked : Option Command) (left : Option (List ℕ)) (answer : AnswerValue) : Type 0 where
   pub input : List ℕ
   pub there : IfSome left (λ bytes. input ≡ bytes)
   pub answers : Answers asked input answer
+  pub kept : IsKept asked input answer
 
 -- the same of what is judged
 pub record IsJudged (asked : Option Command) (left : Option (List ℕ)) (j : Judged AnswerValue) : Type 0 where

@@ -11,6 +11,7 @@ ghost use Rattle.fc_program.specs.Top.{IsAnswer, IsJudged, StopsAsked, stop_stat
 
 use crate::answers::{Answer, answer_to};
 use crate::asked::past_limit;
+use crate::laws::answers_keep;
 use command_words::Command;
 use fc_inputs::{Failure, MOST_BYTES, Refusal, Stop, rendered};
 use fc_io::{ReadAll, Source, read_all};
@@ -73,6 +74,7 @@ pub fn answered<S: Source>(
     ensures inside { IsErrOf result Failure.Read → asked ≢ None }
     ensures quiet { (IsErrOf result Failure.Read → ⊥) → S.faults src.new ≡ S.faults src.old }
 {
+    answers_keep();
     match judged(alloc, asked, src) {
         Ok(answer) => Ok(answer),
         Err(stop) => Ok(Answer::replied(alloc, rendered(alloc, &stop)?)),

@@ -1,4 +1,5 @@
 //! Laws of the answers.
+ghost use Rattle.fc_program.specs.Headline.{AnswersKeep};
 ghost use Rattle.fc_program.specs.Laws.{OneAnswer, SomeAnswer};
 
 use converge_laws::yes_stabilises;
@@ -27,4 +28,13 @@ pub fn some_answer()
     accepted_scenes_fit();
     some_check();
     some_replay();
+}
+
+/// Where `check` or `stable` answers with status 0, the verdict on its input is a yes, and within the rounds of that yes
+/// the program stabilises on the scene's network: `check` writes these rounds, and `stable` the one field.
+pub fn answers_keep()
+    ensures { AnswersKeep }
+{
+    yes_stabilises();
+    accepted_scenes_fit();
 }

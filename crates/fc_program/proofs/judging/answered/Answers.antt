@@ -5,11 +5,11 @@ use Rattle.fc_program.proofs.judging.answered.Goals as goal
 
 pub returns-in_ok-rendered-in-Err-clause-answers : goal.returns-in_ok-rendered-in-Err-clause-answers
 returns-in_ok-rendered-in-Err-clause-answers g = λ c.
-    stop_answers c.args.asked _ c.in-Err.stop c.in_ok-rendered-in-Err.field-0 (value_of c.replied.result)
+    stop_answers c.answers_keep.ensures c.args.asked _ c.in-Err.stop c.in_ok-rendered-in-Err.field-0 (value_of c.replied.result)
     c.in-Err.ensures.refused c.in_ok-rendered-in-Err.ensures.reply c.replied.ensures
 
 pub returns-in_ok-rendered-in-Err-clause-usage : goal.returns-in_ok-rendered-in-Err-clause-usage
 returns-in_ok-rendered-in-Err-clause-usage g = λ c.
     answer_usage c.args.asked _ (value_of c.replied.result)
-    (stop_answers c.args.asked _ c.in-Err.stop c.in_ok-rendered-in-Err.field-0 (value_of c.replied.result)
+    (stop_answers c.answers_keep.ensures c.args.asked _ c.in-Err.stop c.in_ok-rendered-in-Err.field-0 (value_of c.replied.result)
     c.in-Err.ensures.refused c.in_ok-rendered-in-Err.ensures.reply c.replied.ensures)

@@ -1,0 +1,72 @@
+-- What a yes promises: within its rounds the program stabilises on the scene's network.
+use Rattle.std.specs.Prelude.{ℕ, ◌≡◌, ◌++◌, List, [], ◌∷◌, length, map, Option, Some, None}
+use Rattle.fc_values.specs.Fields.{Entries}
+use Rattle.fc_nodes.specs.Program.{IsProgram, Program, unfolding_of}
+use Rattle.fc_nodes.specs.declared.verdicts.Verdict.TheVariants as verdict
+use Rattle.topology.specs.Networks.{numbers}
+use Rattle.fragment_check.specs.Verdicts.{verdict_of}
+use Rattle.converge_laws.specs.Stabilising.{Stabilises}
+use Rattle.net_json.specs.Scenes.{SceneValue}
+use Rattle.report.specs.Texts.{field_text}
+use Rattle.report.specs.Verdicts.{verdict_text}
+use Rattle.command_words.specs.declared.commands.Command.{Command}
+use Rattle.command_words.specs.declared.commands.Command.TheVariants.{Check, Stable, Run, Replay}
+use Rattle.command_words.specs.declared.commands.Command.TheVariants.{Format, Gen, Trace, Mail}
+use Rattle.fc_inputs.specs.Causes.{Accepted}
+use Rattle.fc_inputs.specs.Inputs.{ReadsInput}
+use Rattle.fc_inputs.specs.Sections.{sections_of}
+use Rattle.fc_program.specs.Answers.{AnswerValue, Answers}
+
+-- The texts of a program and a scene, on which the verdict is a yes for so many rounds: exactly one field solves the
+-- program on the scene's network, and from every good core each log without an edit that has so many rounds leads to
+-- its values.
+pub record HasYes (program network : List ℕ) : Type 0 where
+  pub nodes : Program
+  pub is_program : IsProgram nodes
+  pub scene : SceneValue
+  pub reads : ReadsInput program network (Accepted (unfolding_of nodes, scene))
+  pub rounds : ℕ
+  pub yes : verdict_of nodes (length scene.net.devices) ≡ verdict.Yes rounds
+  pub stabilises : Stabilises (unfolding_of nodes) scene.net rounds
+
+-- the values of the one field at all devices, rising
+abbrev pub stable_entries : (program network : List ℕ) → HasYes program network → Entries
+stable_entries program network y = map (λ (d : ℕ). (d, y.stabilises.one.field d)) (numbers y.scene.net.devices)
+
+-- `check` writes the line of a yes, and facts behind it
+pub record ChecksYes (program network text : List ℕ) : Type 0 where
+  pub yes : HasYes program network
+  pub facts : List ℕ
+  pub writes : text ≡ verdict_text (verdict.Yes yes.rounds) ++ facts
+
+-- `stable` writes the one field
+pub record SolvesYes (program network text : List ℕ) : Type 0 where
+  pub yes : HasYes program network
+  pub writes : text ≡ field_text (stable_entries program network yes)
+
+abbrev pub OfTwo : (List ℕ → List ℕ → Type 0) → List (List ℕ) → Type 0
+OfTwo P [] = ⊥
+OfTwo P (one ∷ []) = ⊥
+OfTwo P (one ∷ two ∷ []) = P one two
+OfTwo P (one ∷ two ∷ three ∷ more) = ⊥
+
+-- what a command promises of an answer of status 0 to these sections
+abbrev pub Promises : Command → List (List ℕ) → List ℕ → Type 0
+Promises (Check facts) sections text = OfTwo (λ program network. ChecksYes program network text) sections
+Promises Stable sections text = OfTwo (λ program network. SolvesYes program network text) sections
+Promises Format sections text = Unit {0}
+Promises (Replay rounds table) sections text = Unit {0}
+Promises (Run workers log table) sections text = Unit {0}
+Promises (Gen number devices workers) sections text = Unit {0}
+Promises Trace sections text = Unit {0}
+Promises (Mail number) sections text = Unit {0}
+
+abbrev pub IsKept : Option Command → List ℕ → AnswerValue → Type 0
+IsKept None input answer = Unit {0}
+IsKept (Some command) input answer = answer.status ≡ 0 → Promises command (sections_of input) answer.text
+
+-- each answer keeps what its command promises
+abbrev pub AnswersKeep : Type 0
+AnswersKeep =
+    (asked : Option Command) (input : List ℕ) (answer : AnswerValue) → Answers asked input answer
+    → IsKept asked input answer
