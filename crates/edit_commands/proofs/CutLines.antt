@@ -1,4 +1,4 @@
--- A text that is cut after its first line.
+-- Crates above cite this module: a text that is cut after its first line.
 use Rattle.std.proofs.Common.{ℕ, ◌≡◌, ◌+◌, ◌≤◌, ◌<◌, Bool, false, ◌==◌, List, ◌∷◌, length, take, drop, sym, ap, ◌∙◌, arith, length-drop}
 use Rattle.std.proofs.lemmas.Bool.Decides.{nat_tests}
 use Rattle.fc_io.specs.Lines.{lines_of, line_size, line_text}

@@ -1,3 +1,4 @@
 pub mod MailCores
 pub mod MailRounds
 pub mod Laws
+pub mod MailEntries

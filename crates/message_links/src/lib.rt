@@ -2,6 +2,8 @@
 //! them late.
 #![tactic(auto)]
 
+mod entries;
 mod laws;
 
+pub use entries::{MailEntry, MailFault, MailReplay};
 pub use laws::mail_stabilises;

@@ -1,0 +1,2 @@
+pub mod DrivenLogs
+pub mod Covering

@@ -1,0 +1,9 @@
+//! The lines of mail logs.
+#![tactic(auto)]
+
+mod logs;
+
+pub use logs::{MailLineFault, MailLines, read_mail};
+
+#[cfg(test)]
+mod tests;

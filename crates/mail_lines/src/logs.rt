@@ -1,0 +1,182 @@
+//! Mail logs: each line is an entry.
+
+ghost use Rattle.std.specs.Prelude.{◌≡◌, ◌<◌, ◌^◌, length, map, option_map, IfOk, IfErr};
+ghost use Rattle.edit_commands.specs.Code.{texts};
+ghost use Rattle.edit_commands.specs.Lines.{words_of};
+ghost use Rattle.fc_values.specs.Numbers.{number_of};
+ghost use Rattle.message_links.specs.MailCores.{MailBegin, MailEnd};
+ghost use Rattle.message_links.specs.MailEntries.{mail_entry};
+ghost use Rattle.mail_lines.specs.MailLines.{mail_line, message_line, two_words, idle};
+ghost use Rattle.mail_lines.specs.MailLines.{IsMailLog, RefusesMailLog, mailed};
+
+use fc_io::{first_line, line_text};
+use fc_values::{Memory, number};
+use message_links::MailEntry;
+use std::alloc::{AllocError, AllocFailed, Global};
+
+/// The entries of a mail log, and the numbers of their lines.
+#[derive(Drop)]
+pub struct MailLines {
+    pub lines: Vec<u32>,
+    pub entries: Vec<MailEntry>,
+}
+
+/// The number of the first line that is no entry, or want of memory.
+#[derive(Clone, Copy, Debug, PartialEq, Eq)]
+pub enum MailLineFault {
+    Form(u32),
+    Memory,
+}
+
+impl From<Memory> for MailLineFault {
+    ghost use Rattle.std.specs.Prelude.{◌≡◌};
+    ghost use Rattle.mail_lines.specs.declared.logs.MailLineFault.TheVariants as line_fault;
+
+    ghost from_gives = { λ _ e. e ≡ line_fault.Memory };
+
+    fn from(_: Memory) -> Self {
+        MailLineFault::Memory
+    }
+}
+
+impl From<AllocError> for MailLineFault {
+    ghost use Rattle.std.specs.Prelude.{◌≡◌};
+    ghost use Rattle.mail_lines.specs.declared.logs.MailLineFault.TheVariants as line_fault;
+
+    ghost from_gives = { λ _ e. e ≡ line_fault.Memory };
+
+    fn from(_: AllocError) -> Self {
+        MailLineFault::Memory
+    }
+}
+
+impl<T: Drop> From<AllocFailed<T>> for MailLineFault {
+    ghost use Rattle.std.specs.Prelude.{◌≡◌};
+    ghost use Rattle.mail_lines.specs.declared.logs.MailLineFault.TheVariants as line_fault;
+
+    ghost from_gives = { λ _ e. e ≡ line_fault.Memory };
+
+    fn from(_: AllocFailed<T>) -> Self {
+        MailLineFault::Memory
+    }
+}
+
+// The two devices that words number.
+fn two(from: &[u8], to: &[u8]) -> Option<(u32, u32)>
+    ensures { result ≡ two_words from.now to.now }
+{
+    let from = number(from)?;
+    let to = number(to)?;
+    Some((from, to))
+}
+
+// The entry of a message that words say.
+fn message(words: &[&[u8]]) -> Option<MailEntry>
+    ensures { option_map mail_entry result ≡ message_line (texts words.now) }
+{
+    match words {
+        [word, from, to] => {
+            let (from, to) = two(from, to)?;
+            if *word == b"deliver".as_slice() {
+                Some(MailEntry::Deliver(from, to))
+            } else if *word == b"again".as_slice() {
+                Some(MailEntry::Again(from, to))
+            } else {
+                None
+            }
+        }
+        [word, from, to, place] => {
+            let (from, to) = two(from, to)?;
+            let place = number(place)?;
+            if *word == b"lose".as_slice() {
+                Some(MailEntry::Lose(from, to, place))
+            } else {
+                None
+            }
+        }
+        _ => None,
+    }
+}
+
+// The words of a line.
+fn words(alloc: Global, line: &[u8]) -> Result<Vec<&[u8]>, AllocError>
+    ensures { IfOk result (λ ws. map (λ w. w.now) ws.items ≡ words_of line.now) }
+{
+    line.split(|byte| *byte == b' ').collect(alloc)
+}
+
+// What happens to a message, in the words of a text.
+fn read_words(alloc: Global, text: &[u8]) -> Result<Option<MailEntry>, Memory>
+    ensures { IfOk result (λ e. option_map mail_entry e ≡ message_line (words_of text.now)) }
+{
+    let words = words(alloc, text)?;
+    Ok(message(&words))
+}
+
+// The entry that the text of a line says, if it says one.
+fn read_line(alloc: Global, text: &[u8]) -> Result<Option<MailEntry>, Memory>
+    ensures { IfOk result (λ e. option_map mail_entry e ≡ mail_line text.now) }
+{
+    let Some((first, rest)) = text.split_first() else {
+        return Ok(None);
+    };
+    if *first == b'B' {
+        return Ok(begin(rest));
+    }
+    if *first == b'E' {
+        return Ok(end(rest));
+    }
+    if *first == b'I' {
+        return Ok(idle(rest));
+    }
+    read_words(alloc, text)
+}
+
+fn begin(digits: &[u8]) -> Option<MailEntry>
+    ensures { option_map mail_entry result ≡ option_map MailBegin (number_of digits.now) }
+{
+    Some(MailEntry::Begin(number(digits)?))
+}
+
+fn end(digits: &[u8]) -> Option<MailEntry>
+    ensures { option_map mail_entry result ≡ option_map MailEnd (number_of digits.now) }
+{
+    Some(MailEntry::End(number(digits)?))
+}
+
+fn idle(more: &[u8]) -> Option<MailEntry>
+    ensures { option_map mail_entry result ≡ idle more.now }
+{
+    if more.is_empty() {
+        Some(MailEntry::Idle)
+    } else {
+        None
+    }
+}
+
+/// The entries of a mail log with the numbers of their lines. `Form` is the first line that is no entry.
+pub fn read_mail(alloc: Global, text: &[u8]) -> Result<MailLines, MailLineFault>
+    requires short { length text.now < 2 ^ 32 }
+    ensures log { IfOk result (λ l. IsMailLog text.now (mailed l)) }
+    ensures many { IfOk result (λ l. length l.lines.items ≡ length l.entries.items) }
+    ensures refused { IfErr result (RefusesMailLog text.now) }
+{
+    let mut lines = Vec::new(alloc);
+    let mut entries = Vec::new(alloc);
+    let mut number = 0;
+    let mut rest = text;
+    'lines: while !rest.is_empty() {
+        let (front, back) = rest.split_at(first_line(rest));
+        let line = line_text(front);
+        number += 1;
+        if !line.is_empty() {
+            let Some(entry) = read_line(alloc, line)? else {
+                return Err(MailLineFault::Form(number));
+            };
+            lines.push(number)?;
+            entries.push(entry)?;
+        }
+        rest = back;
+    }
+    Ok(MailLines { lines, entries })
+}
