@@ -1,12 +1,13 @@
 //! What a guess is of.
 
-use fc_nodes::{Layout, Node, Op, Unfolded};
-use fc_values::{LocalTy, Memory, Ty, inner};
-use std::alloc::Global;
+ghost use Rattle.std.specs.Prelude.{◌<◌, length};
+
+use fc_nodes::{Layout, Node, Unfolded};
+use fc_values::{LocalTy, Ty, inner};
 use topology::Network;
 
-/// A program with its layout, a network with the numbers of its devices and links, where the term of each node ends,
-/// and for the `rep`s and `share`s with a potential the places of its binder.
+/// A program with its layout, a network with the numbers of its devices and links, and for the `rep`s and `share`s
+/// with a potential the places of its binder.
 #[derive(Drop)]
 pub struct Context<'a> {
     pub program: &'a Unfolded,
@@ -16,7 +17,6 @@ pub struct Context<'a> {
     pub ceiling: u32,
     pub devices: u32,
     pub links: u32,
-    pub ends: Vec<u32>,
 }
 
 impl<'a> Context<'a> {
@@ -25,12 +25,9 @@ impl<'a> Context<'a> {
         node_at(self.program, place)
     }
 
-    /// Where the term at a place ends.
-    pub fn end(&self, place: u32) -> u32 {
-        match self.ends.get(place as usize) {
-            Some(end) => *end,
-            None => 0,
-        }
+    /// Whether the variable of a binder occurs in the term at a place.
+    pub fn occurs(&self, binder: u32, place: u32) -> bool {
+        place < self.program.size() && occurs_at(self.program, binder, place)
     }
 
     /// How many parts the values of a node have.
@@ -91,49 +88,10 @@ pub fn kid(node: &Node, index: usize) -> u32 {
     }
 }
 
-/// Where the term of each node ends.
-pub fn ends(alloc: Global, program: &Unfolded) -> Result<Vec<u32>, Memory> {
-    let size = program.size();
-    let mut ends = vec![in alloc; 0u32; size as usize]?;
-    for back in 0..size {
-        let place = size - 1 - back;
-        let end = end_by(program.node(place), place, &ends);
-        if let Some(cell) = ends.get_mut(place as usize) {
-            *cell = end;
-        }
-    }
-    Ok(ends)
-}
-
-fn end_by(node: &Node, place: u32, ends: &[u32]) -> u32 {
-    match node.kids.last() {
-        Some(last) => {
-            match ends.get(*last as usize) {
-                Some(end) => *end,
-                None => 0,
-            }
-        }
-        None => place.saturating_add(1),
-    }
-}
-
-/// The places at which the variable of a binder stands.
-pub fn occurrences(alloc: Global, context: &Context<'_>, binder: u32) -> Result<Vec<u32>, Memory> {
-    let mut found = Vec::new(alloc);
-    for place in binder..context.end(binder) {
-        if let Some(node) = context.node(place) {
-            if is_variable(node, binder) {
-                found.push(place)?;
-            }
-        }
-    }
-    Ok(found)
-}
-
-/// Whether a node is the variable of a binder.
-pub fn is_variable(node: &Node, binder: u32) -> bool {
-    match &node.op {
-        Op::Var(place) => *place == binder,
-        _ => false,
-    }
+// Whether the variable of a binder occurs in the term at a place of a program.
+fn occurs_at(program: &Unfolded, binder: u32, place: u32) -> bool
+    requires { place < length program.now.nodes }
+{
+    let _node = program.node(place);
+    program.occurs(binder, place)
 }

@@ -1,7 +1,7 @@
 //! A column for each node, one after another.
 
 use crate::columns::{Column, carry, heard, write};
-use crate::context::{Context, ends, is_field, kid, occurrences, width};
+use crate::context::{Context, is_field, kid, width};
 use crate::exports::{blank, exports, keep};
 use crate::groups::{Group, count};
 use crate::operators::{Shape, apply, spots};
@@ -30,7 +30,6 @@ pub fn candidate(
         ceiling: program.declared().ceiling,
         devices: count(group.members.len()),
         links: count(group.ears.len()),
-        ends: ends(alloc, program)?,
     };
     let slots = blank(alloc, context.layout.blanks(), context.devices)?;
     let mut work = Work {
@@ -237,12 +236,10 @@ fn evolved(
 ) -> Result<Column, Memory> {
     let _first = column(alloc, context, work, group, kid(node, 0), depth)?;
     let body = kid(node, 1);
-    let found = occurrences(alloc, context, place)?;
-    if !found.is_empty() {
+    if context.occurs(place, body) {
         let own = Own {
             binder: place,
             is_share,
-            found,
         };
         prepare(alloc, context, work, group, &own, body, depth)?;
         let values = solve(alloc, context, work, group, &own, body)?;
@@ -287,7 +284,7 @@ fn prepare(
     place: u32,
     depth: u32,
 ) -> Result<(), Memory> {
-    if !own.is_in(context, place) {
+    if !context.occurs(own.binder, place) {
         let ahead = column(alloc, context, work, group, place, depth)?;
         work.keep(place, ahead);
         return Ok(());

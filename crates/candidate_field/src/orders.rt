@@ -13,25 +13,11 @@ use std::alloc::Global;
 use std::cmp::Ordering;
 use std::collections::BinaryHeap;
 
-/// A `rep` or `share`: the place of its binder, and where its variable stands.
-#[derive(Drop)]
+/// A `rep` or `share`: the place of its binder.
+#[derive(Clone, Copy, Debug, PartialEq, Eq)]
 pub struct Own {
     pub binder: u32,
     pub is_share: bool,
-    pub found: Vec<u32>,
-}
-
-impl Own {
-    /// Whether the variable stands in the term at a place.
-    pub fn is_in(&self, context: &Context<'_>, place: u32) -> bool {
-        let end = context.end(place);
-        for at in &self.found {
-            if place <= *at && *at < end {
-                return true;
-            }
-        }
-        false
-    }
 }
 
 /// What a single value is evaluated in. The terms without the variable have columns.

@@ -4,3 +4,4 @@ mod Levels
 mod Gathering
 mod Firings
 mod Beginning
+mod Joined

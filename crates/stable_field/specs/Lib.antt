@@ -1,3 +1,4 @@
 pub mod Stable
 pub mod Tables
 pub mod Levels
+pub mod Columns

@@ -5,9 +5,12 @@ mod faults;
 mod fields;
 mod firing;
 mod guesses;
+mod joining;
 mod rounds;
 mod sameness;
 mod stabilised;
+mod terms;
+mod whole;
 
 pub use faults::StableFault;
 pub use stabilised::stable;

@@ -4,20 +4,20 @@ ghost use Rattle.std.specs.Prelude.{ℕ, ◌≡◌, IfErr, IfOk, OnOk, length, m
 ghost use Rattle.fc_values.specs.Fields.{Rises, devices, entry_of};
 ghost use Rattle.fc_nodes.specs.declared.verdicts.Verdict.TheVariants as verdict;
 ghost use Rattle.fc_nodes.specs.Program.{unfolding_of};
+ghost use Rattle.interval_facts.specs.Ranges.{AreRangesOf};
 ghost use Rattle.fragment_check.specs.Verdicts.{verdict_of};
+ghost use Rattle.value_trees.specs.Copies.{WhereSome};
+ghost use Rattle.stable_field.specs.Columns.{IsColumn};
 ghost use Rattle.stable_field.specs.Stable.{IsStableField, IsFaultOf};
-ghost use Rattle.stable_field.specs.Tables.{IsTable};
 
 use crate::faults::StableFault;
-use crate::fields::values;
-use crate::firing::Slots;
 use crate::guesses::guessed;
-use crate::rounds::settled;
-use converge_laws::{yes_analyses, yes_stabilises};
-use fc_nodes::{Unfolded, Verdict};
+use crate::terms::{Column, join_at, term_column};
+use crate::whole::{judged, solved};
+use converge_laws::yes_stabilises;
+use fc_nodes::Unfolded;
 use fc_values::{Local, Memory};
-use interval_facts::ranges;
-use round_bound::recognise;
+use interval_facts::{Ranges, ranges};
 use std::alloc::Global;
 use topology::Network;
 
@@ -35,34 +35,43 @@ pub fn stable(
     ensures refused { IfErr result (IsFaultOf program.now (length net.now.devices)) }
 {
     let ranges = ranges(alloc, program)?;
-    let devices = net.devices().len() as u32;
-    match recognise(alloc, program, &ranges, devices)? {
-        Verdict::No { place, .. } => Err(StableFault::Unrecognised(place)),
-        Verdict::Yes(rounds) => {
-            let start = guessed(alloc, program, net, &ranges)?;
-            Ok(solved(alloc, program, net, start, rounds)?)
-        }
-    }
+    let rounds = judged(alloc, program, net, &ranges)?;
+    Ok(field(alloc, program, net, &ranges, rounds)?)
 }
 
-// The field, where the verdict is a yes for so many rounds, by rounds that begin with a table.
-fn solved(
+// The field, where the verdict is a yes for so many rounds.
+fn field(
     alloc: Global,
     program: &Unfolded,
     net: &Network,
-    start: Slots,
+    ranges: &Ranges,
     rounds: u64,
-) -> Result<Vec<(u32, Local)>, Memory>
+) -> Result<Column, Memory>
     requires declared { net.now.declared ≡ program.now.declared }
-    requires table { IsTable (unfolding_of program.now) net.now start.items }
+    requires ranges { AreRangesOf (unfolding_of program.now) ranges.now }
     requires yes { verdict_of program.now (length net.now.devices) ≡ verdict.Yes rounds }
     ensures field { IfOk result (λ v. IsStableField (unfolding_of program.now) net.now (map entry_of v.items)) }
     ensures rises { IfOk result (λ v. Rises (devices (map entry_of v.items))) }
 {
     let _program = program.declared();
     let _network = net.declared();
-    yes_analyses();
     yes_stabilises();
-    let table = settled(alloc, program, net, start, rounds)?;
-    Ok(values(alloc, net, &table)?)
+    if let Some(values) = by_terms(alloc, program, net)? {
+        return Ok(values);
+    }
+    let start = guessed(alloc, program, net, ranges)?;
+    Ok(solved(alloc, program, net, start, rounds)?)
+}
+
+// The values of `main` from those of its terms, where it is a builtin of two.
+fn by_terms(alloc: Global, program: &Unfolded, net: &Network) -> Result<Option<Column>, Memory>
+    requires { net.now.declared ≡ program.now.declared }
+    ensures { IfOk result (WhereSome (λ v. IsColumn net.now 0 (unfolding_of program.now).main (map entry_of v.items))) }
+{
+    let size = program.size();
+    if join_at(program, 0).is_none() {
+        return Ok(None);
+    }
+    let mut known = Vec::new(alloc);
+    Ok(term_column(alloc, program, net, 0, size, &mut known)?)
 }

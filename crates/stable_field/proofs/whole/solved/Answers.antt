@@ -7,7 +7,7 @@ use Rattle.converge_laws.specs.Stabilising.{Stabilises}
 use Rattle.converge_laws.specs.Verdicts.{IsAnalysed}
 use Rattle.stable_field.specs.Tables.{AllHave}
 use Rattle.stable_field.proofs.Firings.{devices_are}
-use Rattle.stable_field.proofs.stabilised.solved.Goals as goal
+use Rattle.stable_field.proofs.whole.solved.Goals as goal
 
 module _ (c : goal.After-yes_stabilises) where
   pub analysed : IsAnalysed c.args.program.now c.args.net.now c.args.rounds

@@ -1,0 +1,4 @@
+mod Shifting
+mod Typed
+mod Laying
+mod Whole

@@ -1,0 +1,82 @@
+//! The stabilised field of a program that isn't taken apart.
+
+ghost use Rattle.std.specs.Prelude.{◌≡◌, IfErr, IfOk, length, map};
+ghost use Rattle.fc_values.specs.Fields.{Rises, devices, entry_of};
+ghost use Rattle.fc_nodes.specs.declared.verdicts.Verdict.TheVariants as verdict;
+ghost use Rattle.fc_nodes.specs.Program.{unfolding_of};
+ghost use Rattle.interval_facts.specs.Ranges.{AreRangesOf};
+ghost use Rattle.fragment_check.specs.Verdicts.{verdict_of};
+ghost use Rattle.value_trees.specs.Copies.{WhereSome};
+ghost use Rattle.stable_field.specs.Columns.{IsColumn};
+ghost use Rattle.stable_field.specs.Stable.{IsStableField, IsFaultOf};
+ghost use Rattle.stable_field.specs.Tables.{IsTable};
+
+use crate::faults::StableFault;
+use crate::fields::values;
+use crate::firing::Slots;
+use crate::guesses::guessed;
+use crate::rounds::settled;
+use crate::terms::Column;
+use converge_laws::{yes_analyses, yes_stabilises};
+use fc_nodes::{Unfolded, Verdict};
+use fc_values::Memory;
+use interval_facts::{Ranges, ranges};
+use round_bound::recognise;
+use std::alloc::Global;
+use topology::Network;
+
+/// The rounds of a yes, or the place of a no.
+pub fn judged(
+    alloc: Global,
+    program: &Unfolded,
+    net: &Network,
+    ranges: &Ranges,
+) -> Result<u64, StableFault>
+    requires { AreRangesOf (unfolding_of program.now) ranges.now }
+    ensures yes { IfOk result (λ k. verdict_of program.now (length net.now.devices) ≡ verdict.Yes k) }
+    ensures no { IfErr result (IsFaultOf program.now (length net.now.devices)) }
+{
+    let devices = net.devices().len() as u32;
+    match recognise(alloc, program, ranges, devices)? {
+        Verdict::No { place, .. } => Err(StableFault::Unrecognised(place)),
+        Verdict::Yes(rounds) => Ok(rounds),
+    }
+}
+
+/// The values of a program's `main`, where the program is recognised.
+pub fn whole(alloc: Global, program: &Unfolded, net: &Network) -> Result<Option<Column>, Memory>
+    requires { net.now.declared ≡ program.now.declared }
+    ensures { IfOk result (WhereSome (λ v. IsColumn net.now 0 (unfolding_of program.now).main (map entry_of v.items))) }
+{
+    let ranges = ranges(alloc, program)?;
+    match judged(alloc, program, net, &ranges) {
+        Ok(rounds) => {
+            let start = guessed(alloc, program, net, &ranges)?;
+            Ok(Some(solved(alloc, program, net, start, rounds)?))
+        }
+        Err(StableFault::Unrecognised(_)) => Ok(None),
+        Err(StableFault::Memory) => Err(Memory),
+    }
+}
+
+/// The field, where the verdict is a yes for so many rounds, by rounds that begin with a table.
+pub fn solved(
+    alloc: Global,
+    program: &Unfolded,
+    net: &Network,
+    start: Slots,
+    rounds: u64,
+) -> Result<Column, Memory>
+    requires declared { net.now.declared ≡ program.now.declared }
+    requires table { IsTable (unfolding_of program.now) net.now start.items }
+    requires yes { verdict_of program.now (length net.now.devices) ≡ verdict.Yes rounds }
+    ensures field { IfOk result (λ v. IsStableField (unfolding_of program.now) net.now (map entry_of v.items)) }
+    ensures rises { IfOk result (λ v. Rises (devices (map entry_of v.items))) }
+{
+    let _program = program.declared();
+    let _network = net.declared();
+    yes_analyses();
+    yes_stabilises();
+    let table = settled(alloc, program, net, start, rounds)?;
+    Ok(values(alloc, net, &table)?)
+}
