@@ -1,4 +1,4 @@
--- Values that are made of a start or of a neighbour's value and a step are least costs, and there are such values.
+-- Crates above cite this module: values that are made of a start or of a neighbour's value and a step are least costs, and there are such values.
 use Rattle.std.proofs.Common.{◌≡◌, ℕ, zero, suc, ◌+◌, ◌<◌, ◌≤◌, ◌⊎◌, inl, inr, min, List, [], ◌∷◌, ◌++◌, length, get_or, map, refl, sym, ap, subst, arith, Bool, true, false, cond, nat_eq, nat_lt}
 use Rattle.std.specs.List.{All, Contains}
 use Rattle.std.proofs.lemmas.List.Elements.{All-head, All-tail}

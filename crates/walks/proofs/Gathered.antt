@@ -1,4 +1,4 @@
--- The gathered steps are those of a network's links, in order.
+-- Crates above cite this module: the gathered steps are those of a network's links, in order.
 use Rattle.std.proofs.Common.{◌≡◌, ℕ, zero, suc, ◌+◌, ◌<◌, ◌≤◌, inl, inr, List, [], ◌∷◌, ◌++◌, length, get_or, map, drop, refl, sym, ◌∙◌, ap, subst, arith, Bool, true, false, nat_eq, ◌||◌, append_assoc}
 use Rattle.std.specs.List.{All, AllPairs, Contains}
 use Rattle.std.proofs.lemmas.Bool.{eqb-true}

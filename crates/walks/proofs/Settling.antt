@@ -1,4 +1,4 @@
--- A step that is taken keeps what is known of the values, and falls.
+-- Crates above cite this module: a step that is taken keeps what is known of the values, and falls.
 use Rattle.std.proofs.Common.{◌≡◌, ◌≢◌, ℕ, zero, suc, ◌+◌, ◌<◌, ◌≤◌, ◌⊎◌, inl, inr, min, List, [], ◌∷◌, ◌++◌, length, get_or, set, drop, refl, sym, ◌∙◌, ap, subst, arith, Bool, true, false, nat_eq, length-set, get_or-set_same, get_or-set_other}
 use Rattle.std.specs.List.{All, AllWithin, Contains, sum}
 use Rattle.std.specs.List.Sorted.{IsPermutation}

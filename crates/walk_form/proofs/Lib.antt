@@ -1,0 +1,14 @@
+mod Inverted
+mod Under
+mod Agreement
+mod Gradients
+mod Laying
+mod Judging
+mod Parts
+mod Fielding
+mod Equation
+mod Soloing
+mod Costing
+mod Neighbouring
+mod Asking
+mod Reading

@@ -1,0 +1,38 @@
+-- The costs of walks that a program of the walk form has on a network, and why there are none.
+use Rattle.std.specs.Prelude.{ℕ, ◌≡◌, List, length, Some, None}
+use Rattle.fc_nodes.specs.declared.verdicts.Reason.{Reason}
+use Rattle.fc_nodes.specs.declared.verdicts.Verdict.TheVariants as verdict
+use Rattle.fc_nodes.specs.Program.{Program, Unfolding, unfolding_of}
+use Rattle.topology.specs.Networks.{Network}
+use Rattle.fragment_check.specs.Verdicts.{verdict_of}
+use Rattle.walks.specs.Walks.{CostsValue}
+use Rattle.walks.specs.Gathering.{Added, AddEach, AddWeights, gathered}
+use Rattle.walk_form.specs.declared.faults.CostFault.{CostFault}
+use Rattle.walk_form.specs.declared.faults.CostFault.TheVariants as fault
+use Rattle.walk_form.specs.Fields.{IsFieldAt}
+use Rattle.walk_form.specs.Forms.{StepTerm, StepValue, StepWeight, WalkTerms, walk_terms}
+
+-- what steps add on a network: what the one field of a term has, or the weights of the links
+abbrev pub AddsAre : Network → StepTerm → Added → Type 0
+AddsAre N (StepValue p s) (AddEach xs) = IsFieldAt N p s xs
+AddsAre N StepWeight AddWeights = Unit {0}
+AddsAre N _ _ = ⊥
+
+-- walks start with what the local argument has, and steps cost what is added; they are stopped at the ceiling
+pub record AreCostsFor (U : Unfolding) (N : Network) (w : WalkTerms) (C : CostsValue) : Type 0 where
+  pub start : List (ℕ × ℕ)
+  pub added : Added
+  pub starts : IsFieldAt N w.place w.local start
+  pub adds : AddsAre N w.step added
+  pub is : C ≡ gathered U.declared.ceiling N start added
+
+pub record AreCostsOf (U : Unfolding) (N : Network) (C : CostsValue) : Type 0 where
+  pub terms : WalkTerms
+  pub form : walk_terms U ≡ Some terms
+  pub costs : AreCostsFor U N terms C
+
+-- the verdict for so many devices is a no at the place, or a yes without the walk form; want of memory comes freely
+abbrev pub IsCostFault : Program → ℕ → CostFault → Type 0
+IsCostFault P n (fault.Unrecognised place) = (why : Reason) × (verdict_of P n ≡ verdict.No place why)
+IsCostFault P n fault.NotWalks = ((k : ℕ) × (verdict_of P n ≡ verdict.Yes k)) × (walk_terms (unfolding_of P) ≡ None)
+IsCostFault P n fault.Memory = Unit {0}
