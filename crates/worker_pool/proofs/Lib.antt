@@ -1,0 +1,11 @@
+mod Parts
+mod Passes
+mod Turns
+mod Captures
+mod Crossed
+mod Closing
+mod Flights
+mod Stretching
+mod OneByOne
+mod Mixing
+mod Mixed

@@ -1,0 +1,170 @@
+-- What a table with an edit, what is fired after it, and the rounds behind it make of a book.
+use Rattle.std.proofs.Common.{◌≡◌, ℕ, ◌+◌, ◌≤◌, List, [], ◌∷◌, ◌++◌, map, drop, length, refl, sym, ap, ◌∙◌, subst, arith, true, Result, Ok, Err, IfOk, IfErr}
+use Rattle.std.proofs.lemmas.List.{append_assoc, length-map}
+use Rattle.std.proofs.Math.Seq.{drop-append_seam}
+use Rattle.fc_values.specs.Fields.{is_in}
+use Rattle.fc_nodes.specs.Program.{Program, Unfolding, unfolding_of}
+use Rattle.topology.specs.Networks.{Network, numbers}
+use Rattle.firing_core.specs.Entries.{EditValue, EntryValue, BeginEntry, EditEntry, entry_of, entries_of}
+use Rattle.firing_core.specs.Cores.{Run}
+use Rattle.firing_core.specs.CoreViews.{core_of}
+use Rattle.firing_core.specs.Books.{BookValue, EndsFlights, ends_of}
+use Rattle.firing_core.specs.Rounds.{HasRounds}
+use Rattle.firing_core.specs.Stretches.{begins, EachBegins, IsSmallest, MixedEdit, RanRounds, GrewFrom}
+use Rattle.turn_lock.specs.Logs.{StartsWith}
+use Rattle.turn_lock.specs.Passes.{PassView, opened, kept_part}
+use Rattle.atomic_table.specs.Seated.{TableId}
+use Rattle.export_table.specs.Firings.{FiringValue}
+use Rattle.export_table.specs.Holding.{opening_of}
+use Rattle.export_table.specs.Turns.{Began, Closes}
+use Rattle.worker_pool.specs.Rounding.{RanOn, AtMostOnce, Completes}
+use Rattle.worker_pool.specs.Mixing.{WentOn, MixedTogether}
+use Rattle.worker_pool.proofs.Passes.{starts_trans}
+use Rattle.worker_pool.proofs.Parts.{run_join, plain_join, begins_join, rounds_front}
+use Rattle.worker_pool.proofs.Closing.{closed_log}
+use Rattle.worker_pool.proofs.Stretching.{ran_ends, ran_net, ends_begin, grew_ran, grew_more}
+
+pub grew_mixed : (old new : BookValue) (e : EditValue) → MixedTogether old e new → GrewFrom old new
+grew_mixed old new e m = record { program = m.program; start = m.start; more = BeginEntry m.first ∷ m.among ++ EditEntry e ∷ m.after; log = m.log }
+
+pub grew_closed : (turns : ℕ) (v : PassView EntryValue) (old new : BookValue) → Closes (opening_of old 1 turns (length old.log)) v new → StartsWith v.seen (entries_of old.log) → GrewFrom old new
+grew_closed turns v old new c s = record { program = c.program; start = c.start; more = map (λ (z : ℕ × EntryValue). z.1) v.mine; log = closed_log (opening_of old 1 turns (length old.log)) v old new c refl s }
+
+pub grew_caller : (lock : TableId) (turns share : ℕ) (old new : BookValue) (v1 v2 v3 v4 : PassView EntryValue) (f : FiringValue)
+    → Began (opening_of old 1 turns (length old.log)) (opened lock (entries_of old.log) turns) v1 f → v2 ≡ kept_part share v1 → WentOn v2 v3 → StartsWith v4.seen v3.seen
+    → Closes (opening_of old 1 turns (length old.log)) v4 new → GrewFrom old new
+grew_caller lock turns share old new v1 v2 v3 v4 f b kept went seen c =
+    let first : StartsWith v1.seen (entries_of old.log) = starts_trans v1.seen b.before (entries_of old.log) (BeginEntry f.device ∷ [], ap (λ (u : PassView EntryValue). u.seen) b.turn.view) b.turn.begins in
+    let after : StartsWith v3.seen v1.seen = subst (λ (u : PassView EntryValue). StartsWith v3.seen u.seen) kept went.begins in
+    grew_closed turns v4 old new c (starts_trans v4.seen v3.seen (entries_of old.log) seen (starts_trans v3.seen v1.seen (entries_of old.log) after first))
+
+behind_mixed : (old new : BookValue) (part : List EntryValue) → entries_of new.log ≡ entries_of old.log ++ part → drop (length old.log) (entries_of new.log) ≡ part
+behind_mixed old new part e = (λ i. drop (sym (length-map old.log entry_of) i) (e i)) ∙ drop-append_seam (entries_of old.log) part
+
+pub once_mixed : (old new : BookValue) (e : EditValue) → MixedTogether old e new → AtMostOnce (core_of new.core).net (drop (length old.log) (entries_of new.log))
+once_mixed old new e m d live = subst (λ (l : List EntryValue). begins d l ≤ 1) (sym (behind_mixed old new _ m.log)) (m.once d (subst (λ ns. is_in d ns ≡ true) m.devices live))
+
+pub front_mixed : (old new : BookValue) (e : EditValue) → MixedTogether old e new → length old.log ≤ length new.log
+front_mixed old new e m =
+    let a = sym (length-map new.log entry_of) ∙ (ap length m.log ∙ length_join (entries_of old.log) _) in
+    let k = length-map old.log entry_of in
+    omega (arith, a, k)
+  where
+    length_join : (xs ys : List EntryValue) → length (xs ++ ys) ≡ length xs + length ys
+    length_join [] ys = omega arith
+    length_join (x ∷ xs) ys = let ih = length_join xs ys in omega (arith, ih)
+
+glue : (A M P Q R : List EntryValue) (x y : EntryValue) → (A ++ (x ∷ M ++ y ∷ P)) ++ (Q ++ R) ≡ A ++ x ∷ M ++ y ∷ ((P ++ Q) ++ R)
+glue [] M P Q R x y = ap (λ (l : List EntryValue). x ∷ l) (inner M)
+  where
+    inner : (M : List EntryValue) → (M ++ y ∷ P) ++ (Q ++ R) ≡ M ++ y ∷ ((P ++ Q) ++ R)
+    inner [] = ap (λ (l : List EntryValue). y ∷ l) (sym (append_assoc P Q R))
+    inner (m ∷ ms) = ap (λ (l : List EntryValue). m ∷ l) (inner ms)
+glue (a ∷ more) M P Q R x y = ap (λ (l : List EntryValue). a ∷ l) (glue more M P Q R x y)
+
+module _ (old mid mix done new : BookValue) (ds : List ℕ) (e : EditValue) (rounds : ℕ)
+    (f : EndsFlights old mid ds) (m : MixedTogether mid e mix) (c : Completes (length mid.log) mix done) (g : RanRounds done rounds new) where
+  abbrev U : Unfolding
+  U = unfolding_of old.program
+
+  abbrev ends : List EntryValue
+  ends = entries_of (ends_of ds)
+
+  abbrev table : List EntryValue
+  table = BeginEntry m.first ∷ m.among ++ EditEntry e ∷ m.after
+
+  ran : RanOn old mid ends
+  ran = ran_ends old mid ds f
+
+  net_mid : (core_of mid.core).net ≡ (core_of old.core).net
+  net_mid = ran_net old mid ends ran
+
+  numbers_mix : numbers (core_of mix.core).net.devices ≡ numbers (core_of old.core).net.devices
+  numbers_mix = m.devices ∙ ap (λ (n : Network). numbers n.devices) net_mid
+
+  net_done : (core_of done.core).net ≡ (core_of mix.core).net
+  net_done = ran_net mix done c.part c.ran
+
+  numbers_done : numbers (core_of done.core).net.devices ≡ numbers (core_of old.core).net.devices
+  numbers_done = ap (λ (n : Network). numbers n.devices) net_done ∙ numbers_mix
+
+  abbrev rest : List EntryValue
+  rest = (m.after ++ c.part) ++ g.part
+
+  abbrev part : List EntryValue
+  part = ends ++ BeginEntry m.first ∷ m.among ++ EditEntry e ∷ rest
+
+  cut : (ends ++ table) ++ (c.part ++ g.part) ≡ part
+  cut = glue ends m.among m.after c.part g.part (BeginEntry m.first) (EditEntry e)
+
+  program_mix : mix.program ≡ old.program
+  program_mix = m.program ∙ ran.program
+
+  log : entries_of new.log ≡ entries_of old.log ++ part
+  log = g.log ∙ (ap (λ (l : List EntryValue). l ++ g.part) (c.ran.log ∙ ap (λ (l : List EntryValue). l ++ c.part) (m.log ∙ ap (λ (l : List EntryValue). l ++ table) ran.log))
+      ∙ (ap (λ (l : List EntryValue). (l ++ c.part) ++ g.part) (append_assoc (entries_of old.log) ends table)
+      ∙ (append_assoc (entries_of old.log ++ (ends ++ table)) c.part g.part
+      ∙ (append_assoc (entries_of old.log) (ends ++ table) (c.part ++ g.part) ∙ ap (λ (l : List EntryValue). entries_of old.log ++ l) cut))))
+
+  leads : Run U (core_of old.core) part (core_of new.core)
+  leads = subst (λ (l : List EntryValue). Run U (core_of old.core) l (core_of new.core)) cut
+      (run_join U (core_of old.core) (core_of mix.core) (core_of new.core) (ends ++ table) (c.part ++ g.part)
+      (run_join U (core_of old.core) (core_of mid.core) (core_of mix.core) ends table ran.leads
+      (subst (λ (p : Program). Run (unfolding_of p) (core_of mid.core) table (core_of mix.core)) ran.program m.leads))
+      (run_join U (core_of mix.core) (core_of done.core) (core_of new.core) c.part g.part
+      (subst (λ (p : Program). Run (unfolding_of p) (core_of mix.core) c.part (core_of done.core)) program_mix c.ran.leads)
+      (subst (λ (p : Program). Run (unfolding_of p) (core_of done.core) g.part (core_of new.core)) (c.ran.program ∙ program_mix) g.stretch.leads)))
+
+  behind : drop (length mid.log) (entries_of done.log) ≡ table ++ c.part
+  behind = ap (drop (length mid.log)) (c.ran.log ∙ (ap (λ (l : List EntryValue). l ++ c.part) m.log ∙ append_assoc (entries_of mid.log) table c.part))
+      ∙ ((λ i. drop (sym (length-map mid.log entry_of) i) (entries_of mid.log ++ (table ++ c.part))) ∙ drop-append_seam (entries_of mid.log) (table ++ c.part))
+
+  begun : EachBegins (core_of old.core).net part (rounds + 1)
+  begun d live =
+      let one = c.begun d (subst (λ ns. is_in d ns ≡ true) (sym numbers_mix) live) in
+      let in_table = sym (ap (begins d) behind) ∙ one in
+      let more = g.stretch.begun d (subst (λ ns. is_in d ns ≡ true) (sym numbers_done) live) in
+      let none = ends_begin d ds in
+      let a = begins_join d (ends ++ table) (c.part ++ g.part) in
+      let b = begins_join d ends table in
+      let k = begins_join d c.part g.part in
+      let t = begins_join d table c.part in
+      sym (ap (begins d) cut) ∙ omega (arith, in_table, more, none, a, b, k, t)
+
+  pub mixed_edit : MixedEdit old rounds e new
+  mixed_edit = record {
+    program = g.program ∙ (c.ran.program ∙ program_mix);
+    start = g.start ∙ (c.ran.start ∙ (m.start ∙ ran.start));
+    part = part;
+    log = log;
+    stretch = record {
+      leads = leads;
+      before = ends;
+      first = m.first;
+      among = m.among;
+      after = rest;
+      cut = refl;
+      smallest = subst (λ (n : Network). IsSmallest n m.first) net_mid m.smallest;
+      none_before = λ d. ends_begin d ds;
+      flies = m.flies;
+      plain_before = ran.plain;
+      plain_among = m.plain_among;
+      plain_after = plain_join (m.after ++ c.part) g.part (plain_join m.after c.part m.plain_after c.ran.plain) g.stretch.plain;
+      begun = begun;
+      covers = rounds_front (numbers (core_of old.core).net.devices) (m.after ++ c.part) g.part rounds (plain_join m.after c.part m.plain_after c.ran.plain)
+          (subst (λ ns. HasRounds ns g.part rounds) numbers_done g.stretch.covers);
+      rests = g.stretch.rests;
+    };
+  }
+
+pub grew_done : (old mid mix done : BookValue) (ds : List ℕ) (e : EditValue) (front : ℕ) → EndsFlights old mid ds → MixedTogether mid e mix → Completes front mix done → GrewFrom old done
+grew_done old mid mix done ds e front f m c =
+    grew_more old mid done (grew_ran old mid (entries_of (ends_of ds)) (ran_ends old mid ds f)) (grew_more mid mix done (grew_mixed mid mix e m) (grew_ran mix done c.part c.ran))
+
+pub ok_each : {A E : Type 0} {P Q : A → Type 0} (r : Result A E) → ((x : A) → P x → Q x) → IfOk r P → IfOk r Q
+ok_each (Ok x) f p = f x p
+ok_each (Err e) f p = tt
+
+pub err_each : {A E : Type 0} {P Q : E → Type 0} (r : Result A E) → ((e : E) → P e → Q e) → IfErr r P → IfErr r Q
+err_each (Ok x) f p = tt
+err_each (Err e) f p = f e p

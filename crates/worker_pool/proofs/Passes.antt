@@ -1,0 +1,89 @@
+-- What a worker does to its pass, turn after turn, and two workers.
+use Rattle.std.proofs.Common.{◌≡◌, ℕ, ◌+◌, ◌*◌, ◌-◌, ◌/◌, ◌≤◌, List, [], ◌∷◌, ◌++◌, length, refl, sym, ap, ◌∙◌, subst, arith, inl, inr, ◌⊎◌, ⊎_elim, ◌≢◌, true, false, cond, eqb, eq-eqb}
+use Rattle.std.proofs.Math.Nat.{add-mul, mul-le-mul_right}
+use Rattle.std.proofs.lemmas.Bool.Decides.{eqb_tells}
+use Rattle.std.proofs.lemmas.List.{append_assoc}
+use Rattle.firing_core.specs.Entries.{EntryValue}
+use Rattle.firing_core.specs.Cores.{Core}
+use Rattle.firing_core.specs.Rounds.{is_edit}
+use Rattle.turn_lock.specs.Logs.{StartsWith, In, without, last_of}
+use Rattle.turn_lock.specs.Passes.{PassView, IsBelow, kept_part, new_part, joined}
+use Rattle.turn_lock.proofs.Lists.{in_snoc, in_last, last_snoc, from_merged}
+use Rattle.export_table.specs.Items.{Opening}
+use Rattle.export_table.specs.Turns.{TookTurn}
+use Rattle.worker_pool.specs.Working.{FiredOn}
+
+-- what begins the beginning begins the whole
+pub starts_trans : (xs ys zs : List EntryValue) → StartsWith xs ys → StartsWith ys zs → StartsWith xs zs
+starts_trans xs ys zs p q = (q.0 ++ p.0, p.1 ∙ (ap (λ (l : List EntryValue). l ++ p.0) q.1 ∙ append_assoc zs q.0 p.0))
+
+starts_same : (xs : List EntryValue) → StartsWith xs xs
+starts_same xs = ([], none xs)
+  where
+    none : (l : List EntryValue) → l ≡ l ++ []
+    none [] = refl
+    none (x ∷ xs) = ap (λ (t : List EntryValue). x ∷ t) (none xs)
+
+pub fired_none : (v : PassView EntryValue) → FiredOn v v
+fired_none v = record { name = refl; out = refl; begins = starts_same v.seen; plain = λ p e i. inl i }
+
+pub fired_more : (u v w : PassView EntryValue) → FiredOn u v → FiredOn v w → FiredOn u w
+fired_more u v w f g = record {
+  name = g.name ∙ f.name;
+  out = g.out ∙ f.out;
+  begins = starts_trans w.seen v.seen u.seen g.begins f.begins;
+  plain = λ p e i. ⊎_elim (λ m. f.plain p e m) (λ t. inr t) (g.plain p e i);
+}
+
+-- a turn that writes no edit
+pub fired_turn : (o : Opening) (v w : PassView EntryValue) (before : List EntryValue) (core : Core) (e : EntryValue) → TookTurn o v w before core e → is_edit e ≡ false → FiredOn v w
+fired_turn o v w before core e t plain = record {
+  name = ap (λ (u : PassView EntryValue). u.name) t.view;
+  out = ap (λ (u : PassView EntryValue). u.out) t.view;
+  begins = starts_trans w.seen before v.seen (e ∷ [], ap (λ (u : PassView EntryValue). u.seen) t.view) t.begins;
+  plain = λ p x i. ⊎_elim (λ m. inl m) (λ s. inr (ap (λ (z : ℕ × EntryValue). is_edit z.1) s ∙ plain))
+      (in_snoc (p, x) (length before, e) v.mine (subst (In (p, x)) (ap (λ (u : PassView EntryValue). u.mine) t.view) i));
+}
+
+-- ---- a pass that was split off comes back
+
+without_by : (k x : ℕ) (xs : List ℕ) → ((eqb k x ≡ true) × (k ≡ x)) ⊎ ((eqb k x ≡ false) × (k ≢ x)) → k ≢ x → without k (xs ++ k ∷ []) ≡ xs → cond (eqb k x) (without k (xs ++ k ∷ [])) (x ∷ without k (xs ++ k ∷ [])) ≡ x ∷ xs
+without_by k x xs (inl t) n e = absurd (n t.1)
+without_by k x xs (inr t) n e = ap (λ b. cond b (without k (xs ++ k ∷ [])) (x ∷ without k (xs ++ k ∷ []))) t.0 ∙ ap (λ l. x ∷ l) e
+
+-- a new number that is taken out again
+without_last : (k : ℕ) (xs : List ℕ) → ((j : ℕ) → In j xs → k ≢ j) → without k (xs ++ k ∷ []) ≡ xs
+without_last k [] n = ap (λ b. cond b [] (k ∷ [])) (eq-eqb k k refl)
+without_last k (x ∷ xs) n = without_by k x xs (eqb_tells k x) (n x (inl refl)) (without_last k xs (λ j i. n j (inr i)))
+
+pub out_joined : (v w1 w2 w : PassView EntryValue) (b : ℕ) → IsBelow v → w1.out ≡ (kept_part b v).out → w2.name ≡ (new_part b v).name → w ≡ joined w1 w2 → w.out ≡ v.out
+out_joined v w1 w2 w b below out name is =
+    ap (λ (u : PassView EntryValue). u.out) is
+    ∙ ((λ i. without (last_of (name i)) (out i))
+    ∙ (ap (λ k. without k (v.out ++ v.made ∷ [])) (last_snoc v.name v.made)
+    ∙ without_last v.made v.out (λ j i e. let l = below j i in absurd (omega (arith, l, e)))))
+
+pub fired_joined : (v w1 w2 w : PassView EntryValue) (b : ℕ) → IsBelow v → StartsWith w.seen w1.seen → FiredOn (kept_part b v) w1 → FiredOn (new_part b v) w2 → w ≡ joined w1 w2 → FiredOn v w
+fired_joined v w1 w2 w b below seen one other is = record {
+  name = ap (λ (u : PassView EntryValue). u.name) is ∙ one.name;
+  out = out_joined v w1 w2 w b below one.out other.name is;
+  begins = starts_trans w.seen w1.seen v.seen seen one.begins;
+  plain = λ p e i. ⊎_elim (λ m. one.plain p e m) (λ m. ⊎_elim (λ t. absurd t) (λ t. inr t) (other.plain p e m)) (from_merged (p, e) w1.mine w2.mine (subst (In (p, e)) (ap (λ (u : PassView EntryValue). u.mine) is) i));
+}
+
+pub comes_back : (v w1 w2 : PassView EntryValue) (b : ℕ) → w1.name ≡ v.name → w1.out ≡ v.out ++ v.made ∷ [] → FiredOn (new_part b v) w2 → (k : ℕ) × (w2.name ≡ w1.name ++ k ∷ []) × In k w1.out
+comes_back v w1 w2 b name out other = (v.made, other.name ∙ ap (λ l. l ++ v.made ∷ []) (sym name), subst (In v.made) (sym out) (in_last v.made v.out))
+
+pub brings_back : (v w : PassView EntryValue) (b : ℕ) → FiredOn (new_part b v) w → w.out ≡ []
+brings_back v w b other = other.out
+
+-- ---- shares
+
+pub shares : (w h s : ℕ) → h ≤ w → (w - h) * s + h * s ≡ w * s
+shares w h s l = sym (add-mul (w - h) h s) ∙ ap (λ k. k * s) (omega (arith, l))
+
+pub share_of_half : (w s : ℕ) → w / 2 * s ≤ w * s
+share_of_half w s = let l : w / 2 ≤ w = omega arith in mul-le-mul_right s l
+
+pub share_of_rest : (w s : ℕ) → (w - w / 2) * s ≤ w * s
+share_of_rest w s = let l : w - w / 2 ≤ w = omega arith in mul-le-mul_right s l

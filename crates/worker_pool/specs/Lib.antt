@@ -1,0 +1,3 @@
+pub mod Working
+pub mod Rounding
+pub mod Mixing

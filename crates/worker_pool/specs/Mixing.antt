@@ -1,0 +1,46 @@
+-- An edit among the firings of a round.
+use Rattle.std.specs.Prelude.{ℕ, ◌≡◌, List, ◌∷◌, ◌++◌, false}
+use Rattle.fc_nodes.specs.Program.{unfolding_of}
+use Rattle.topology.specs.Networks.{numbers}
+use Rattle.firing_core.specs.Entries.{EditValue, EntryValue, BeginEntry, EndEntry, EditEntry, entries_of}
+use Rattle.firing_core.specs.Cores.{Core, Run}
+use Rattle.firing_core.specs.CoreViews.{core_of}
+use Rattle.firing_core.specs.Books.{BookValue}
+use Rattle.firing_core.specs.Rounds.{has_edit, HasEnd}
+use Rattle.firing_core.specs.Stretches.{IsSmallest}
+use Rattle.turn_lock.specs.Logs.{StartsWith}
+use Rattle.turn_lock.specs.Passes.{PassView}
+use Rattle.export_table.specs.Items.{Opening}
+use Rattle.export_table.specs.Turns.{TookTurn, Edited}
+use Rattle.worker_pool.specs.Rounding.{AtMostOnce}
+
+-- the pass v is w after turns. It has seen more, and every pass that was split off came back
+pub record WentOn (v w : PassView EntryValue) : Type 0 where
+  pub name : w.name ≡ v.name
+  pub out : w.out ≡ v.out
+  pub begins : StartsWith w.seen v.seen
+
+-- the pass v took two turns: it edited the book, and then ended a firing of a device
+pub record EditedThenEnded (o : Opening) (v w : PassView EntryValue) (e : EditValue) (d : ℕ) : Type 0 where
+  pub middle : PassView EntryValue
+  pub edited : Edited o v middle e
+  pub before : List EntryValue
+  pub core : Core
+  pub ended : TookTurn o middle w before core (EndEntry d)
+
+-- A table let workers fire, with an edit between the begin of the smallest device, which is the first, and that device's
+-- next end. Each device began at most one firing.
+pub record MixedTogether (old : BookValue) (e : EditValue) (new : BookValue) : Type 0 where
+  pub program : new.program ≡ old.program
+  pub start : new.start ≡ old.start
+  pub first : ℕ
+  pub among : List EntryValue
+  pub after : List EntryValue
+  pub log : entries_of new.log ≡ entries_of old.log ++ (BeginEntry first ∷ among ++ EditEntry e ∷ after)
+  pub leads : Run (unfolding_of old.program) (core_of old.core) (BeginEntry first ∷ among ++ EditEntry e ∷ after) (core_of new.core)
+  pub smallest : IsSmallest (core_of old.core).net first
+  pub flies : HasEnd first among → ⊥
+  pub plain_among : has_edit among ≡ false
+  pub plain_after : has_edit after ≡ false
+  pub once : AtMostOnce (core_of old.core).net (BeginEntry first ∷ among ++ EditEntry e ∷ after)
+  pub devices : numbers (core_of new.core).net.devices ≡ numbers (core_of old.core).net.devices
