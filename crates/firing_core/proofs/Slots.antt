@@ -1,8 +1,8 @@
--- One slot for each device: reading one, and writing one.
-use Rattle.std.proofs.Common.{◌≡◌, ◌≢◌, ℕ, zero, suc, ◌<◌, List, [], ◌∷◌, length, get_or, refl, sym, ◌∙◌, arith, Bool, true, false, nat_eq, if◌then◌else◌, Option, None}
+-- Crates above cite this module: one slot for each device, reading one, and writing one.
+use Rattle.std.proofs.Common.{◌≡◌, ◌≢◌, ℕ, zero, suc, ◌<◌, List, [], ◌∷◌, length, map, get_or, refl, sym, ◌∙◌, arith, Bool, true, false, nat_eq, if◌then◌else◌, Option, None}
 use Rattle.std.proofs.Math.Path.{fun_ext}
 use Rattle.std.proofs.lemmas.Bool.{eqb-true, eq-eqb}
-use Rattle.std.specs.Prelude.{slice_set, ◌||◌}
+use Rattle.std.specs.Prelude.{slice_set, option_map, ◌||◌}
 use Rattle.fc_values.specs.Fields.{Rises, is_in}
 use Rattle.firing_core.specs.Cores.{put}
 use Rattle.firing_core.specs.CoreViews.{slot_at}
@@ -37,6 +37,16 @@ slot_none {X} (i ∷ is) (x ∷ xs) d e = by_test (nat_eq d i) e (slot_none is x
     by_test : (b : Bool) → (b || is_in d is) ≡ false → (is_in d is ≡ false → slot_at is xs d ≡ None) → (if b then x else slot_at is xs d) ≡ None
     by_test true q ih = absurd (cc)
     by_test false q ih = ih q
+
+-- one slot of a map over what slots hold
+pub slot_map : {X Y : Type 0} (f : X → Y) (is : List ℕ) (xs : List (Option X)) (d : ℕ) → slot_at is (map (option_map f) xs) d ≡ option_map f (slot_at is xs d)
+slot_map f [] xs d = refl
+slot_map f (i ∷ is) [] d = refl
+slot_map f (i ∷ is) (x ∷ xs) d = by_test (nat_eq d i) (slot_map f is xs d)
+  where
+    by_test : (b : Bool) → slot_at is (map (option_map f) xs) d ≡ option_map f (slot_at is xs d) → (if b then option_map f x else slot_at is (map (option_map f) xs) d) ≡ option_map f (if b then x else slot_at is xs d)
+    by_test true ih = refl
+    by_test false ih = ih
 
 -- one slot written is one put
 slot_put : {X : Type 0} (is : List ℕ) (xs : List (Option X)) (k : ℕ) (v : Option X) (d : ℕ) → Distinct is → k < length is → length is ≡ length xs → slot_at is (slice_set xs k v) d ≡ put (slot_at is xs) (get_or is k 0) v d

@@ -16,7 +16,7 @@ use Rattle.firing_core.specs.CoreViews.{core_of, slot_at, AllExports, AllFlights
 use Rattle.firing_core.specs.Starts.{look_up, AllLive, TableExports, PendingSnaps, IsTable, IsPending, started}
 use Rattle.firing_core.specs.Rooms.{SpareValue}
 use Rattle.firing_core.proofs.RoomSlots.{no_rooms}
-use Rattle.firing_core.proofs.Slots.{Distinct, rises_distinct, slot_here, slot_set}
+use Rattle.firing_core.proofs.Slots.{Distinct, rises_distinct, slot_here, slot_map, slot_set}
 use Rattle.firing_core.proofs.Views.{many_numbers}
 
 empty_at : {X : Type 0} (is : List ℕ) (n d : ℕ) → slot_at is (replicate {A = Option X} n None) d ≡ None
@@ -107,15 +107,6 @@ module _ {X Y : Type 0} (key : X → ℕ) (value : X → Y) where
           → option_map f (if b then Some (value x) else look_up key value xs d) ≡ (if b then Some (f (value x)) else look_up key (λ (z : X). f (value z)) xs d)
       by_test true ih = refl
       by_test false ih = ih
-
-pub slot_map : {X Y : Type 0} (f : X → Y) (is : List ℕ) (xs : List (Option X)) (d : ℕ) → slot_at is (map (option_map f) xs) d ≡ option_map f (slot_at is xs d)
-slot_map f [] xs d = refl
-slot_map f (i ∷ is) [] d = refl
-slot_map f (i ∷ is) (x ∷ xs) d = by_test (nat_eq d i) (slot_map f is xs d)
-  where
-    by_test : (b : Bool) → slot_at is (map (option_map f) xs) d ≡ option_map f (slot_at is xs d) → (if b then option_map f x else slot_at is (map (option_map f) xs) d) ≡ option_map f (if b then x else slot_at is xs d)
-    by_test true ih = refl
-    by_test false ih = ih
 
 export_found : (U : Unfolding) (es : List (ℕ × Export)) (d : ℕ) → TableExports U es → WhereSome (IsExportOf U) (look_up (λ (e : ℕ × Export). e.0) (λ (e : ℕ × Export). e.1) es d)
 export_found U [] d h = tt

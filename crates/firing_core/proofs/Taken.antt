@@ -1,4 +1,4 @@
--- The copy that a begin takes, from its parts.
+-- Crates above cite this module: the copy that a begin takes, from its parts.
 use Rattle.std.proofs.Common.{◌≡◌, ℕ, zero, suc, ◌<◌, List, [], ◌∷◌, length, map, get_or, refl, sym, ◌∙◌, ap, subst, arith, Bool, true, false, nat_eq, if◌then◌else◌, Option}
 use Rattle.std.specs.Prelude.{option_map, ◌||◌}
 use Rattle.std.proofs.lemmas.Bool.{eqb-true, eq-eqb}

@@ -15,6 +15,7 @@ use Rattle.value_trees.specs.Filling.{IsFaultOf, IsReadFrom}
 use Rattle.value_trees.specs.declared.reading.KeptFault.{KeptFault}
 use Rattle.value_trees.specs.declared.reading.KeptFault.TheVariants as fault
 use Rattle.value_trees.proofs.ReadBack.{type_had}
+use Rattle.value_trees.proofs.WalkSteps.{type_is}
 use Rattle.scramble.specs.Words.{Words, next}
 use Rattle.std.specs.Prelude.{if◌then◌else◌}
 use Rattle.scramble.specs.Drawing.{Draws}
@@ -91,14 +92,6 @@ no_misfit U w =
     rw r' refl
 
 -- ---- one export
-
-type_is : (ns : List Node) (s : Sort) (t : ValueType) (ks : List ℕ) (u : Term) (p : ℕ) → HasNode ns p s t ks → Laid ns p u → type_of u ≡ t
-type_is ns s t ks (Plain t' v) p h l = let e : t' ≡ t = cc in e
-type_is ns s t ks (Apply t' o ts) p h l = let l0 = l.0 in let e : t' ≡ t = cc in e
-type_is ns s t ks (Nbr t' a) p h l = let l0 = l.0 in let e : t' ≡ t = cc in e
-type_is ns s t ks (Evolve t' v a b) p h l = let l0 = l.0 in let e : t' ≡ t = cc in e
-type_is ns s t ks (If t' x a b) p h l = let l0 = l.0 in let e : t' ≡ t = cc in e
-type_is ns s t ks (Let t' a b) p h l = let l0 = l.0 in let e : t' ≡ t = cc in e
 
 module _ (P : Program) (p : IsProgram P) (s : Sort) (t : ValueType) (ks : List ℕ) (h : HasNode P.nodes 0 s t ks) (c : ℕ) (e : c ≡ P.declared.ceiling) (u : LocalType) (f : u ≡ inner t) (w v : Words) (x : LocalValue) (drawn : (x, v) ≡ draw_value c u w) where
   value_is : (x, v) ≡ value_from (unfolding_of P) w

@@ -1,11 +1,10 @@
 -- The copy with which a device begins, before it has heard its neighbours.
-use Rattle.std.proofs.Common.{◌≡◌, ℕ, zero, suc, ◌<◌, List, [], ◌∷◌, ◌++◌, length, map, get_or, refl, sym, ◌∙◌, ap, subst, arith, Bool, true, false, nat_eq, if◌then◌else◌, Option, None}
-use Rattle.std.specs.Prelude.{slice_set, option_map, ◌||◌}
-use Rattle.std.proofs.lemmas.Bool.{eqb-true, eq-eqb}
+use Rattle.std.proofs.Common.{◌≡◌, ℕ, zero, suc, ◌<◌, List, [], ◌∷◌, ◌++◌, length, length-set, map, get_or, refl, sym, ◌∙◌, ap, subst, arith, Option, None}
+use Rattle.std.specs.Prelude.{slice_set, option_map}
 use Rattle.std.proofs.lemmas.List.{length-map}
 use Rattle.fc_values.specs.declared.exports.Export.{Export}
 use Rattle.fc_values.specs.Values.{local_of}
-use Rattle.fc_values.specs.Fields.{Rises, is_in}
+use Rattle.fc_values.specs.Fields.{Rises}
 use Rattle.fc_nodes.specs.Program.{Unfolding}
 use Rattle.value_trees.specs.declared.copies.Snap.{Snap}
 use Rattle.value_trees.specs.Copies.{WhereSome, FitsCopy}
@@ -17,34 +16,11 @@ use Rattle.firing_core.specs.Cores.{Core, near_copies, copy_of, IsGood}
 use Rattle.firing_core.specs.CoreViews.{slot_at}
 use Rattle.firing_core.specs.Laws.{CopiesFit}
 use Rattle.stable_field.specs.Tables.{IsTable, table_of, heard_from, all_heard, copy_with, MayHear}
-use Rattle.stable_field.proofs.Slots.{Distinct, rises_distinct, slot_read, slot_map, set_length}
+use Rattle.firing_core.proofs.Slots.{Distinct, rises_distinct, slot_map}
+use Rattle.firing_core.proofs.Taken.{inputs_at, in_at}
+use Rattle.stable_field.proofs.Slots.{slot_read}
 use Rattle.stable_field.proofs.Hearing.{AllOther, neighbours_other, heard_away, heard_copies, heard_exports, slot_export}
 use Rattle.stable_field.proofs.Levels.{good_table}
-
--- the inputs of the device at a place
-pub inputs_at : (xs : List Device) (p d : ℕ) (x : Device) → Distinct (numbers (map device_of xs)) → p < length xs → x ≡ get_or xs p x → get_or (numbers (map device_of xs)) p 0 ≡ d
-    → map local_of x.inputs.items ≡ inputs_in d (map device_of xs)
-inputs_at [] p d x n h q e = absurd (omega arith)
-inputs_at (y ∷ ys) zero d x n h q e = let t = eq-eqb d y.id (sym e) in rw t (ap (λ (z : Device). map local_of z.inputs.items) q)
-inputs_at (y ∷ ys) (suc p) d x n h q e = by_test (nat_eq d y.id) refl (inputs_at ys p d x n.1 (omega arith) q e)
-  where
-    by_test : (b : Bool) → nat_eq d y.id ≡ b → map local_of x.inputs.items ≡ inputs_in d (map device_of ys) → map local_of x.inputs.items ≡ (if b then map local_of y.inputs.items else inputs_in d (map device_of ys))
-    by_test true t ih =
-        let z = eqb-true d y.id t in
-        let l = length-map ys device_of in
-        let m = length-map (map device_of ys) (λ (w : NetDevice). w.id) in
-        absurd (n.0 p (omega (arith, h, l, m)) (e ∙ z))
-    by_test false t ih = ih
-
--- a number at a place is among the numbers
-in_at : (is : List ℕ) (p d : ℕ) → p < length is → get_or is p 0 ≡ d → is_in d is ≡ true
-in_at [] p d h e = absurd (omega arith)
-in_at (i ∷ is) zero d h e = let t = eq-eqb d i (sym e) in rw t refl
-in_at (i ∷ is) (suc p) d h e = let r = in_at is p d (omega arith) e in rw r (or_true (nat_eq d i))
-  where
-    or_true : (b : Bool) → (b || true) ≡ true
-    or_true true = refl
-    or_true false = refl
 
 -- of a network whose devices are these
 module _ (N : Network) (ds : List Device) (k : ℕ) (x : Device) (all : map device_of ds ≡ N.devices) where
@@ -101,5 +77,5 @@ module _ (U : Unfolding) (N : Network) (xs ys : List (Option Export)) (t : IsTab
     own = subst (WhereSome (IsExportOf U)) own_is (slot_export U (numbers N.devices) xs d t.exports);
     near = subst (NearAreExports U) (sym all_is) (heard_exports U (numbers N.devices) xs (near N d) t.exports);
     rising = rising;
-    many = ap length cleared ∙ set_length xs k None ∙ t.many;
+    many = ap length cleared ∙ length-set xs k None ∙ t.many;
   }

@@ -1,5 +1,5 @@
 -- A copy that hears its neighbours one after another.
-use Rattle.std.proofs.Common.{◌≡◌, ℕ, ◌<◌, ◌≤◌, List, [], ◌∷◌, ◌++◌, length, map, get_or, refl, sym, ◌∙◌, ap, subst, arith, Option, Some, None, append_assoc, length-append}
+use Rattle.std.proofs.Common.{◌≡◌, ℕ, ◌<◌, ◌≤◌, List, [], ◌∷◌, ◌++◌, length, map, get_or, refl, sym, ◌∙◌, ap, subst, arith, Option, Some, None, append_assoc, length-append, length-set}
 use Rattle.std.specs.Prelude.{slice_set}
 use Rattle.std.proofs.lemmas.List.{length-map}
 use Rattle.std.proofs.Common.{Vec, Global}
@@ -17,7 +17,6 @@ use Rattle.topology.specs.Networks.{Network, numbers}
 use Rattle.topology.specs.Nearby.{near_numbers}
 use Rattle.firing_core.specs.CoreViews.{slot_at}
 use Rattle.stable_field.specs.Tables.{IsExportOfCopy, heard_with, heard_from, all_heard, copy_with, MayHear}
-use Rattle.stable_field.proofs.Slots.{set_length}
 use Rattle.stable_field.proofs.Hearing.{AllOther, rises_other, heard_away}
 
 nothing_behind : {X : Type 0} (xs : List X) → xs ++ [] ≡ xs
@@ -86,7 +85,7 @@ module _ (U : Unfolding) (N : Network) (xs ys : List (Option Export)) (s t : Sna
         own = rw own m.own;
         near = subst (NearAreExports U) (sym (more rising)) m.near;
         rising = rises_tail n.0 (near_numbers ns) rising;
-        many = ap length rest ∙ set_length xs k None ∙ m.many;
+        many = ap length rest ∙ length-set xs k None ∙ m.many;
       }
 
   pub fired_more : (x : Export) → MayHear U N xs ms s → IsExportOfCopy U (copy_with U t (all_heard N ys ns t)) x → IsExportOfCopy U (copy_with U s (all_heard N xs ms s)) x

@@ -13,7 +13,8 @@ use Rattle.topology.proofs.Lemmas.{AllNear, near_fits}
 use Rattle.firing_core.specs.Cores.{near_with, near_copies}
 use Rattle.firing_core.specs.CoreViews.{slot_at, AllExports}
 use Rattle.stable_field.specs.Tables.{heard_with, heard_from}
-use Rattle.stable_field.proofs.Slots.{slot_away, slot_map}
+use Rattle.firing_core.proofs.Slots.{slot_map}
+use Rattle.stable_field.proofs.Slots.{slot_away}
 
 -- none of the neighbours is the device
 abbrev pub AllOther : ℕ → List (ℕ × ℕ) → Type 0

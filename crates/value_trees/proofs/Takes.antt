@@ -16,21 +16,9 @@ use Rattle.value_trees.specs.Filling.{own_at}
 
 -- ---- what is left
 
-pub and_all : (l : Leaving) → and_leaving l (λ xs. Leaves xs) ≡ l
-and_all (Leaves xs) = refl
-and_all (Misses p) = refl
-
 pub and_same : (l : Leaving) (f g : List KeptItem → Leaving) → ((xs : List KeptItem) → f xs ≡ g xs) → and_leaving l f ≡ and_leaving l g
 and_same (Leaves xs) f g h = h xs
 and_same (Misses p) f g h = refl
-
-pub and_leaves : (l : Leaving) (xs : List KeptItem) (f : List KeptItem → Leaving) → l ≡ Leaves xs → and_leaving l f ≡ f xs
-and_leaves (Leaves ys) xs f e = let s : ys ≡ xs = cc in ap f s
-and_leaves (Misses p) xs f e = absurd cc
-
-pub and_misses : (l : Leaving) (p : ℕ) (f : List KeptItem → Leaving) → l ≡ Misses p → and_leaving l f ≡ Misses p
-and_misses (Leaves xs) p f e = absurd cc
-and_misses (Misses q) p f e = e
 
 module _ {A B : Type 0} where
   pub then_leaving : (t : Taken A) (f : A → List KeptItem → Taken B) (g : List KeptItem → Leaving) → ((a : A) (xs : List KeptItem) → leaving (f a xs) ≡ g xs) → leaving (take_then t f) ≡ and_leaving (leaving t) g

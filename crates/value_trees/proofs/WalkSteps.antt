@@ -72,7 +72,7 @@ module _ (g : Bool) (c : ℕ) (k : ℕ) (xs : List SlotValue) where
   kept_whole (If t x a b) = omega arith
   kept_whole (Let t a b) = omega arith
 
-type_is : (ns : List Node) (s : Sort) (t : ValueType) (ks : List ℕ) (u : Term) (p : ℕ) → HasNode ns p s t ks → Laid ns p u → type_of u ≡ t
+pub type_is : (ns : List Node) (s : Sort) (t : ValueType) (ks : List ℕ) (u : Term) (p : ℕ) → HasNode ns p s t ks → Laid ns p u → type_of u ≡ t
 type_is ns s t ks (Plain t' v) p h l = let e : t' ≡ t = cc in e
 type_is ns s t ks (Apply t' o ts) p h l = let l0 = l.0 in let e : t' ≡ t = cc in e
 type_is ns s t ks (Nbr t' a) p h l = let l0 = l.0 in let e : t' ≡ t = cc in e

@@ -1,7 +1,8 @@
 use Rattle.std.proofs.Common.{◌∙◌, sym, arith, None, Some}
 use Rattle.std.proofs.lemmas.List.{get_or_read}
 use Rattle.topology.specs.Networks.{numbers}
-use Rattle.stable_field.proofs.Slots.{slot_none, slot_read}
+use Rattle.firing_core.proofs.Slots.{slot_none}
+use Rattle.stable_field.proofs.Slots.{slot_read}
 use Rattle.stable_field.proofs.firing.taken.Goals as goal
 
 pub returns-in_err-place-clause-none : goal.returns-in_err-place-clause-none
