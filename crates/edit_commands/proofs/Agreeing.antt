@@ -46,7 +46,7 @@ same_pokes U d v ks (LeaveEdit a) f h k = absurd h
 along : (U : Unfolding) (e f g : EditValue) → SameEdit U g g → e ≡ g → f ≡ g → SameEdit U e f
 along U e f g s h k = subst (λ x. SameEdit U x f) (sym h) (subst (SameEdit U g) (sym k) s)
 
-same_edits : (U : Unfolding) (l : EditLine) (e f : EditValue) → IsEdit U l e → IsEdit U l f → SameEdit U e f
+pub same_edits : (U : Unfolding) (l : EditLine) (e f : EditValue) → IsEdit U l e → IsEdit U l f → SameEdit U e f
 same_edits U (LinkLine a b w) e f h k = along U e f (LinkEdit a b w) refl h k
 same_edits U (UnlinkLine a b) e f h k = along U e f (UnlinkEdit a b) refl h k
 same_edits U (SetLine d i v) e f h k = along U e f (SetEdit d i v) refl h k

@@ -87,7 +87,7 @@ by_word is (Some first.Leave) [] = tt
 by_word is (Some first.Leave) (d ∷ []) = leave_fits (number_of d)
 by_word is (Some first.Leave) (d ∷ e ∷ words) = tt
 
-edit_fits : (is : List Input) (words : List (List ℕ)) → IfSome (edit_line is words) LineFits
+pub edit_fits : (is : List Input) (words : List (List ℕ)) → IfSome (edit_line is words) LineFits
 edit_fits is [] = tt
 edit_fits is (word ∷ words) = by_word is (edit_word word) words
 
@@ -125,10 +125,10 @@ line_may is (b ∷ bs) = by_tests (b == 66) (b == 69) (b == 73)
 
 -- ---- entries
 
-record AnEdit (U : Unfolding) (l : EditLine) : Type 0 where
-  edit : EditValue
-  says : IsEdit U l edit
-  fits : EditFits U edit
+pub record AnEdit (U : Unfolding) (l : EditLine) : Type 0 where
+  pub edit : EditValue
+  pub says : IsEdit U l edit
+  pub fits : EditFits U edit
 
 record AnEntry (U : Unfolding) (l : LogLine) : Type 0 where
   entry : EntryValue
@@ -150,7 +150,7 @@ no_misfit None h = refl
 no_misfit (Some p) h = absurd cc
 
 module _ (lists : ListsHaveExports) (U : Unfolding) where
-  an_edit : (n : Network) (flies : ℕ → Bool) (l : EditLine) → LineFits l → edit_fault U n flies l ≡ None → AnEdit U l
+  pub an_edit : (n : Network) (flies : ℕ → Bool) (l : EditLine) → LineFits l → edit_fault U n flies l ≡ None → AnEdit U l
   an_edit n flies (LinkLine a b w) m h = record { edit = LinkEdit a b w; says = refl; fits = tt }
   an_edit n flies (UnlinkLine a b) m h = record { edit = UnlinkEdit a b; says = refl; fits = tt }
   an_edit n flies (SetLine d i v) m h = record { edit = SetEdit d i v; says = refl; fits = tt }

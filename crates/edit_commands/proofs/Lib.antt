@@ -17,5 +17,7 @@ pub mod ScriptEdits
 pub mod ScriptWords
 pub mod ReadScripts
 pub mod Agreeing
+pub mod CommandsAgreeing
 pub mod ScriptsJudged
 pub mod EntriesOfLogs
+pub mod CommandsOfScripts

@@ -10,6 +10,7 @@ use Rattle.topology.specs.Changes.{first_fault, link_fault, unlink_fault, set_fa
 use Rattle.topology.specs.declared.types.NetFault.TheVariants as net
 use Rattle.firing_core.specs.Entries.{EditValue, LinkEdit, UnlinkEdit, SetEdit, PokeEdit, JoinEdit, LeaveEdit}
 use Rattle.firing_core.specs.Cores.{Core, edit_fault as core_fault}
+use Rattle.firing_core.specs.Stretches.{IsMixed}
 use Rattle.fc_values.specs.Numbers.{number_of}
 use Rattle.edit_commands.specs.declared.scripts.ScriptWord.{ScriptWord}
 use Rattle.edit_commands.specs.declared.scripts.ScriptWord.TheVariants as first
@@ -21,7 +22,7 @@ use Rattle.edit_commands.specs.EditLines.{EditLine, LinkLine, UnlinkLine, SetLin
 use Rattle.edit_commands.specs.LineByLine.{unless, Lines, AllLines, StopsAt, onto, and_lines, lines_from, SaidBy}
 use Rattle.edit_commands.specs.Judging.{edit_fault, after_edit, IsEdit, fits_kept}
 use Rattle.edit_commands.specs.Scripts.{ScriptLine, RunLine, DoLine, ScrambleLine, ShowLine, MixLine, Progress, at_start, flies, firings_after, LineFault, OfLine, OfFirings, OfScrambles, firings_fault, line_fault, after_line, line_judged, text_judged, if_some, rounds_of, if_mixed, mixed_edit, script_word, line_by, script_line, lines_in, Within, TooManyLines, CommandValue, RunCommand, EditCommand, ScrambleCommand, ShowCommand, MixCommand, IsCommand, CommandFits, AllCommandsFit, SaidByScript}
-use Rattle.edit_commands.specs.JudgedCommands.{net_after, IsLeftBy, IsMixed, MayCome, with_net, after_command, AreJudged, ScriptsAreJudged}
+use Rattle.edit_commands.specs.JudgedCommands.{net_after, IsLeftBy, MayCome, with_net, after_command, AreJudged, ScriptsAreJudged}
 
 -- ---- what a line that is read may be
 

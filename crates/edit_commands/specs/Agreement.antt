@@ -12,7 +12,9 @@ use Rattle.firing_core.specs.Cores.{Core}
 use Rattle.firing_core.specs.Replays.{fault_of, net_fault_of, step_of, replay}
 use Rattle.firing_core.specs.Rounds.{after_edit}
 use Rattle.firing_core.specs.Books.{FailsReplay}
+use Rattle.edit_commands.specs.LineByLine.{AreSaid}
 use Rattle.edit_commands.specs.Logs.{IsLog}
+use Rattle.edit_commands.specs.Scripts.{ScriptLine, CommandValue, RunCommand, EditCommand, ScrambleCommand, ShowCommand, MixCommand, IsCommand}
 
 -- two exports of a program that stand for one tree
 pub record SameExport (U : Unfolding) (x y : FlatExport) : Type 0 where
@@ -86,3 +88,38 @@ FaultsAgree =
 -- after their last edit they are equal
 abbrev pub PartsAgree : Type 0
 PartsAgree = (U : Unfolding) (es fs : List EntryValue) → SameEntries U es fs → after_edit es ≡ after_edit fs
+
+-- ---- commands of a script
+
+abbrev pub SameChange : Unfolding → EditValue → CommandValue → Type 0
+SameChange U e (RunCommand r) = ⊥
+SameChange U e (EditCommand f) = SameEdit U e f
+SameChange U e (ScrambleCommand n) = ⊥
+SameChange U e ShowCommand = ⊥
+SameChange U e (MixCommand r f) = ⊥
+
+abbrev pub SameMix : Unfolding → ℕ → EditValue → CommandValue → Type 0
+SameMix U rounds e (RunCommand r) = ⊥
+SameMix U rounds e (EditCommand f) = ⊥
+SameMix U rounds e (ScrambleCommand n) = ⊥
+SameMix U rounds e ShowCommand = ⊥
+SameMix U rounds e (MixCommand r f) = (r ≡ rounds) × SameEdit U e f
+
+-- two commands that ask for the same
+abbrev pub SameCommand : Unfolding → CommandValue → CommandValue → Type 0
+SameCommand U (RunCommand r) k = k ≡ RunCommand r
+SameCommand U (EditCommand e) k = SameChange U e k
+SameCommand U (ScrambleCommand n) k = k ≡ ScrambleCommand n
+SameCommand U ShowCommand k = k ≡ ShowCommand
+SameCommand U (MixCommand r e) k = SameMix U r e k
+
+abbrev pub SameCommands : Unfolding → List (ℕ × CommandValue) → List (ℕ × CommandValue) → Type 0
+SameCommands U [] [] = Unit {0}
+SameCommands U (x ∷ xs) (y ∷ ys) = (y.0 ≡ x.0) × SameCommand U x.1 y.1 × SameCommands U xs ys
+SameCommands U _ _ = ⊥
+
+-- two readings of a script ask for the same
+abbrev pub CommandsAgree : Type 0
+CommandsAgree =
+    (U : Unfolding) (lines : List (ℕ × ScriptLine)) (xs ys : List (ℕ × CommandValue))
+    → AreSaid (IsCommand U) lines xs → AreSaid (IsCommand U) lines ys → SameCommands U xs ys

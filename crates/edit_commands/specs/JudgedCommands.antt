@@ -5,6 +5,7 @@ use Rattle.topology.specs.Networks.{Network}
 use Rattle.topology.specs.Changes.{linked, unlinked, with_input, joined, left}
 use Rattle.firing_core.specs.Entries.{EditValue, LinkEdit, UnlinkEdit, SetEdit, PokeEdit, JoinEdit, LeaveEdit}
 use Rattle.firing_core.specs.Cores.{Core, EditFits, edit_fault}
+use Rattle.firing_core.specs.Stretches.{IsMixed}
 use Rattle.edit_commands.specs.declared.scripts.TheConstants.{MOST_SCRAMBLES, MOST_FIRINGS}
 use Rattle.edit_commands.specs.Scripts.{Progress, at_start, flies, firings_after, with_firings}
 use Rattle.edit_commands.specs.Scripts.{CommandValue, RunCommand, EditCommand, ScrambleCommand}
@@ -29,15 +30,6 @@ pub record IsLeftBy (start : Core) (p : Progress) (c : Core) : Type 0 where
 pub record IsAllowed (U : Unfolding) (start : Core) (p : Progress) (e : EditValue) : Type 0 where
   pub fits : EditFits U e
   pub allowed : (c : Core) → IsLeftBy start p c → edit_fault c e ≡ None
-
--- an edit that may stand among firings
-abbrev pub IsMixed : EditValue → Type 0
-IsMixed (LinkEdit a b w) = Unit {0}
-IsMixed (UnlinkEdit a b) = Unit {0}
-IsMixed (SetEdit d i v) = Unit {0}
-IsMixed (PokeEdit d x) = Unit {0}
-IsMixed (JoinEdit x) = ⊥
-IsMixed (LeaveEdit d) = ⊥
 
 -- at least one round, and the firings of all lines stay within the limit
 pub record MayRun (p : Progress) (rounds : ℕ) : Type 0 where

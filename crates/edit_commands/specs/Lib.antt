@@ -13,3 +13,4 @@ pub mod LogEntries
 pub mod Scripts
 pub mod ScriptCode
 pub mod JudgedCommands
+pub mod ScriptCommands

@@ -1,8 +1,9 @@
 //! Laws of the definitions.
 
-ghost use Rattle.edit_commands.specs.Agreement.{FaultsAgree, PartsAgree, ReadingsAgree, ReplaysAgree, StepsAgree};
+ghost use Rattle.edit_commands.specs.Agreement.{CommandsAgree, FaultsAgree, PartsAgree, ReadingsAgree, ReplaysAgree, StepsAgree};
 ghost use Rattle.edit_commands.specs.JudgedCommands.{ScriptsAreJudged};
 ghost use Rattle.edit_commands.specs.LogEntries.{LogsHaveEntries};
+ghost use Rattle.edit_commands.specs.ScriptCommands.{ScriptsHaveCommands};
 ghost use Rattle.edit_commands.specs.Values.{ValuesAreRead};
 
 use value_trees::lists_have_exports;
@@ -13,13 +14,14 @@ pub fn values_are_read()
 {}
 
 /// Two readings of a log have the same lines and lead to the same core, or are refused at the same line for the same
-/// reason; after their last edit they are equal.
+/// reason; after their last edit they are equal. Two readings of a script ask for the same.
 pub fn readings_agree()
     ensures readings { ReadingsAgree }
     ensures steps { StepsAgree }
     ensures replays { ReplaysAgree }
     ensures faults { FaultsAgree }
     ensures parts { PartsAgree }
+    ensures commands { CommandsAgree }
 {}
 
 /// The commands of a script may be given to the cores to which those before them lead: edits are allowed, a device that
@@ -31,6 +33,13 @@ pub fn scripts_are_judged()
 /// A log in which no line has a fault has entries, and they may be replayed.
 pub fn logs_have_entries()
     ensures { LogsHaveEntries }
+{
+    lists_have_exports();
+}
+
+/// A script in which no line has a fault has commands, and they may be done.
+pub fn scripts_have_commands()
+    ensures { ScriptsHaveCommands }
 {
     lists_have_exports();
 }

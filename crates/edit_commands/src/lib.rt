@@ -11,7 +11,9 @@ mod types;
 mod values;
 mod words;
 
-pub use laws::{logs_have_entries, readings_agree, scripts_are_judged, values_are_read};
+pub use laws::{
+    logs_have_entries, readings_agree, scripts_are_judged, scripts_have_commands, values_are_read,
+};
 pub use logs::read_log;
 pub use scripts::read_script;
 pub use types::{Command, Fault, Line, Log, ScriptFault};

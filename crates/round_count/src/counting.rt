@@ -40,8 +40,8 @@ pub fn rounds(live: &[u32], log: &[Entry], marks: &mut [u8]) -> u64
     count
 }
 
-// The part of a log after its last edit.
-fn after_last_edit(log: &[Entry]) -> &[Entry]
+/// The part of a log after its last edit.
+pub fn after_last_edit(log: &[Entry]) -> &[Entry]
     ensures { entries_of result.now ≡ after_edit (entries_of log.now) }
 {
     let mut start = 0;

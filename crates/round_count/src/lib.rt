@@ -4,7 +4,7 @@
 mod counting;
 mod laws;
 
-pub use counting::rounds;
+pub use counting::{after_last_edit, rounds};
 pub use laws::{rounds_grow, some_greatest};
 
 #[cfg(test)]

@@ -1,14 +1,15 @@
 -- What is drawn has the types that are asked, and is read along its term with nothing left.
-use Rattle.std.proofs.Common.{◌≡◌, ℕ, suc, ◌≤◌, ◌+◌, ◌%◌, List, [], ◌++◌, map, refl, sym, ◌∙◌, ap, subst, Bool, true, false, None, arith, append_assoc, append-nil}
+use Rattle.std.proofs.Common.{◌≡◌, ℕ, suc, ◌≤◌, ◌+◌, ◌%◌, List, [], ◌∷◌, ◌++◌, map, refl, sym, ◌∙◌, ap, subst, Bool, true, false, None, arith, append_assoc, append-nil}
 use Rattle.fc_values.specs.declared.exports.Export.{Export}
 use Rattle.fc_values.specs.declared.values.Local.{Local}
-use Rattle.fc_values.specs.Exports.{export_of}
+use Rattle.fc_values.specs.Exports.{FlatExport, export_of}
 use Rattle.fc_values.specs.Types.{LocalType, IntType, BoolType, PairType, ValueType}
 use Rattle.fc_values.specs.Values.{LocalValue, Fits, local_of}
 use Rattle.fc_values.specs.BuiltinTypes.{inner}
 use Rattle.fc_nodes.specs.Terms.{Term, Terms, Plain, Apply, Nbr, Evolve, If, Let, NoMore, More, size, Sort, type_of, term_at, HasNode, Laid}
 use Rattle.fc_nodes.specs.declared.nodes.Node.{Node}
 use Rattle.fc_nodes.specs.Program.{Program, Unfolding, unfolding_of, IsProgram}
+use Rattle.value_trees.specs.KeptExports.{ListsHaveExports}
 use Rattle.value_trees.specs.KeptReads.{Rest, left_by, left_by_all, misfit_of}
 use Rattle.value_trees.specs.Walks.{FitsMain}
 use Rattle.value_trees.specs.Filling.{IsFaultOf, IsReadFrom}
@@ -20,7 +21,7 @@ use Rattle.scramble.specs.Words.{Words, next}
 use Rattle.std.specs.Prelude.{if◌then◌else◌}
 use Rattle.scramble.specs.Drawing.{Draws}
 use Rattle.scramble.specs.Draws.{Drawn, after_truth, and_then, draw_truth, draw_value, draw_kept, draw_all_kept}
-use Rattle.scramble.specs.Rubbish.{value_from, kept_from, after_export, IsDrawn}
+use Rattle.scramble.specs.Rubbish.{value_from, kept_from, after_export, IsDrawn, SomeRubbish}
 
 pub value_fits : (c : ℕ) (s : LocalType) (w : Words) → Fits c s (draw_value c s w).0
 value_fits c IntType w = below c (next w).0
@@ -90,6 +91,20 @@ no_misfit U w =
     let r = read U.declared.ceiling U.main 0 (value_from U w).1 [] in
     let r' : left_by U.declared.ceiling 0 U.main (kept_from U w).0 ≡ Rest [] = ap (left_by U.declared.ceiling 0 U.main) (sym n) ∙ r in
     rw r' refl
+
+-- ---- rubbish that is there
+
+drawn_export : ListsHaveExports → (U : Unfolding) (w : Words) → (x : FlatExport) × IsDrawn U w x
+drawn_export lists U w =
+    let k = lists U (value_from U w).0 (kept_from U w).0 (type_had U.declared.ceiling _ _ (main_fits U w)) (no_misfit U w) in
+    (k.0, record { export = k.1.export; value = k.1.value; kept = k.1.list })
+
+pub some_rubbish : ListsHaveExports → SomeRubbish
+some_rubbish lists U w [] = ([], tt)
+some_rubbish lists U w (d ∷ ds) =
+    let x = drawn_export lists U w in
+    let rest = some_rubbish lists U (after_export U w) ds in
+    ((d, x.0) ∷ rest.0, (refl, x.1, rest.1))
 
 -- ---- one export
 

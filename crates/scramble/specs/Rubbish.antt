@@ -41,3 +41,7 @@ of_device e = (e.0, export_of e.1)
 
 abbrev pub of_devices : List (ℕ × Export) → List (ℕ × FlatExport)
 of_devices es = map of_device es
+
+-- there is rubbish for each program and all devices
+abbrev pub SomeRubbish : Type 0
+SomeRubbish = (U : Unfolding) (words : Words) (ds : List ℕ) → (xs : List (ℕ × FlatExport)) × AreDrawn U words ds xs

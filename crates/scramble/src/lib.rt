@@ -2,10 +2,12 @@
 #![tactic(auto)]
 
 mod draws;
+mod laws;
 mod rings;
 mod tables;
 mod words;
 
+pub use laws::some_rubbish;
 pub use rings::scenario;
 pub use tables::rubbish;
 pub use words::{generator, next_word};

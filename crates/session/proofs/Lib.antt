@@ -1,0 +1,11 @@
+mod Lines
+mod Progress
+mod Runs
+mod Pokes
+mod Places
+mod Sweeps
+mod Mixing
+mod SomeRuns
+mod OneRuns
+mod Rows
+mod Folding

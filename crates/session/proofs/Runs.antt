@@ -1,0 +1,56 @@
+-- Script runs, line by line.
+use Rattle.std.proofs.Common.{ℕ, ◌≡◌, ◌+◌, ◌≤◌, ◌<◌, suc, List, [], ◌∷◌, ◌++◌, length, map, take, drop, get_or, refl, sym, ap, subst, ◌∙◌, arith, append_assoc, append-nil}
+use Rattle.std.proofs.lemmas.List.{length-map}
+use Rattle.std.proofs.lemmas.Grind.{flat_map-append}
+use Rattle.fc_nodes.specs.declared.verdicts.Verdict.{Verdict}
+use Rattle.fc_nodes.specs.Program.{Program}
+use Rattle.firing_core.specs.declared.entries.Entry.{Entry}
+use Rattle.firing_core.specs.Books.{BookValue}
+use Rattle.firing_core.specs.Cores.{Core}
+use Rattle.firing_core.specs.CoreViews.{CoreValue, core_of}
+use Rattle.firing_core.specs.Entries.{entry_of, entries_of}
+use Rattle.report.specs.Verdicts.{verdict_text}
+use Rattle.edit_commands.specs.Scripts.{CommandValue}
+use Rattle.session.specs.Shown.{shown_text, all_shown, script_text, verdict_in}
+use Rattle.session.specs.ScriptRuns.{DoesLine, DoesLines, nothing}
+use Rattle.session.specs.Sessions.{SessionValue, Opens, AfterLine, HasRun}
+use Rattle.session.proofs.Lines.{one_more}
+
+module _ (P : Program) (start : CoreValue) where
+  -- before the first line
+  pub opened : (s : SessionValue) (book : BookValue) (v : Verdict) → Opens book v s → v ≡ verdict_in P (core_of start) → book.program ≡ P
+      → core_of book.start ≡ core_of start → book.log ≡ [] → book.core ≡ start → HasRun P start [] s
+  opened s book v o w p q e c =
+      let log : entries_of s.book.log ≡ [] = ap (λ (b : BookValue). entries_of b.log) o.book ∙ ap entries_of e in
+      let core : core_of s.book.core ≡ core_of start = ap (λ (b : BookValue). core_of b.core) o.book ∙ ap core_of c in
+      let none = o.none in
+      record {
+        program = ap (λ (b : BookValue). b.program) o.book ∙ p;
+        start = ap (λ (b : BookValue). core_of b.start) o.book ∙ q;
+        run = record {
+          shown = [];
+          does = (cc, core);
+          says = o.says ∙ ap verdict_text w ∙ sym (append-nil (verdict_text (verdict_in P (core_of start))));
+        };
+      }
+
+  -- one more line
+  pub run_on : (s t : SessionValue) (lines : List (ℕ × CommandValue)) (line : ℕ × CommandValue) → HasRun P start lines s → AfterLine line s t
+      → HasRun P start (lines ++ line ∷ []) t
+  run_on s t lines line h a =
+      let at : length s.book.log ≡ 0 + length (entries_of s.book.log) = omega (arith, length-map s.book.log entry_of) in
+      let row : DoesLine P (core_of s.book.core) (length s.book.log) line a.added (core_of t.book.core) =
+      subst (λ (Q : Program). DoesLine Q (core_of s.book.core) (length s.book.log) line a.added (core_of t.book.core)) h.program a.does in
+      let does = one_more P (core_of start) (core_of s.book.core) (core_of t.book.core) lines line _ a.added h.run.does
+      (subst (λ (n : ℕ). DoesLine P (core_of s.book.core) n line a.added (core_of t.book.core)) at row) in
+      record {
+        program = a.program ∙ h.program;
+        start = ap core_of a.start ∙ h.start;
+        run = record {
+          shown = h.run.shown ++ a.added.shown;
+          does = subst (λ x. DoesLines P (core_of start) 0 (lines ++ line ∷ []) x (core_of t.book.core)) (let e = a.log in let f = a.parts in cc) does;
+          says = a.text ∙ ap (λ l. l ++ all_shown a.added.shown) h.run.says
+              ∙ append_assoc (verdict_text (verdict_in P (core_of start))) (all_shown h.run.shown) (all_shown a.added.shown)
+              ∙ ap (λ l. verdict_text (verdict_in P (core_of start)) ++ l) (sym (flat_map-append shown_text h.run.shown a.added.shown));
+        };
+      }

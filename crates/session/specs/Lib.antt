@@ -1,0 +1,6 @@
+pub mod Shown
+pub mod ScriptRuns
+pub mod Growing
+pub mod Conditions
+pub mod Sessions
+pub mod Laws

@@ -1,0 +1,15 @@
+//! Sessions: a script is folded over a core. Each line takes the next stretch of the log, and the text is made of what the
+//! lines show.
+#![tactic(auto)]
+
+mod edits;
+mod laws;
+mod runner;
+mod scripts;
+mod sessions;
+mod showing;
+
+pub use laws::{lines_cut, one_script_run, some_script_run};
+pub use runner::Runner;
+pub use scripts::run_script;
+pub use sessions::Session;

@@ -1,0 +1,56 @@
+//! Whole scripts.
+
+ghost use Rattle.std.specs.Prelude.{◌≡◌, [], IfOk, map};
+ghost use Rattle.fc_nodes.specs.Program.{unfolding_of};
+ghost use Rattle.firing_core.specs.CoreViews.{core_of};
+ghost use Rattle.edit_commands.specs.Scripts.{at_start, numbered};
+ghost use Rattle.edit_commands.specs.JudgedCommands.{AreJudged};
+ghost use Rattle.session.specs.Sessions.{HasRun};
+
+use crate::runner::Runner;
+use crate::sessions::Session;
+use crate::showing::verdict_on;
+use edit_commands::Line;
+use fc_nodes::Unfolded;
+use fc_values::Memory;
+use firing_core::{Book, Core, runs_cut, steps_keep_good};
+use std::alloc::Global;
+use std::sync::Arc;
+
+// The session of a core before the first line.
+fn start(alloc: Global, program: Arc<Unfolded>, core: Core) -> Result<Session, Memory>
+    requires { program.value ≡ core.program }
+    ensures { IfOk result (λ s. HasRun program.value core [] s) }
+{
+    let verdict = verdict_on(alloc, &core)?;
+    let Ok(book) = Book::new(alloc, program, core) else {
+        return Err(Memory);
+    };
+    match Session::new(alloc, book, &verdict) {
+        Ok(session) => Ok(session),
+        Err((_, memory)) => Err(memory),
+    }
+}
+
+/// Does what the lines of a script ask for, one after another, from a core on.
+pub fn run_script<R: Runner>(
+    alloc: Global,
+    program: Arc<Unfolded>,
+    core: Core,
+    lines: &[Line],
+    runner: &mut R,
+) -> Result<Session, Memory>
+    requires program { program.value ≡ core.program }
+    requires judged { AreJudged (unfolding_of program.value) (core_of core) (at_start (core_of core).net) (map numbered lines.now) }
+    ensures { IfOk result (HasRun program.value core (map numbered lines.now)) }
+{
+    steps_keep_good();
+    runs_cut();
+    let mut session = start(alloc, program, core)?;
+    for line in lines {
+        // Its clause: the core is good.
+        let _net = session.book().core().net();
+        session = session.command(alloc, line, runner)?;
+    }
+    Ok(session)
+}

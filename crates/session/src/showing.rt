@@ -1,0 +1,64 @@
+//! What lines show.
+
+ghost use Rattle.std.specs.Prelude.{ℕ, ◌≡◌, ◌++◌, IfOk, OnOk};
+ghost use Rattle.firing_core.specs.CoreViews.{core_of};
+ghost use Rattle.firing_core.specs.Entries.{edit_of};
+ghost use Rattle.session.specs.Shown.{ShowsValues, all_shown, shown_text, verdict_in};
+ghost use Rattle.session.specs.ScriptRuns.{changes_devices, shown_after};
+
+use fc_nodes::Verdict;
+use fc_values::Memory;
+use firing_core::{Core, Edit};
+use interval_facts::ranges;
+use report::{values, verdict as write_verdict};
+use round_bound::recognise;
+use std::alloc::Global;
+
+/// The verdict on a core's program for its network.
+pub(crate) fn verdict_on(alloc: Global, core: &Core) -> Result<Verdict, Memory>
+    ensures { IfOk result (λ v. v ≡ verdict_in core.now.program (core_of core.now)) }
+{
+    // Their clauses: the nodes are a program, and the network has devices.
+    let program = core.program();
+    let _size = program.size();
+    let devices = core.net().devices().len() as u32;
+    let ranges = ranges(alloc, program)?;
+    recognise(alloc, program, &ranges, devices)
+}
+
+// Whether a line with this edit shows the verdict.
+fn changes_devices(edit: &Edit) -> bool
+    ensures { result ≡ changes_devices (edit_of edit.now) }
+{
+    matches!(edit, Edit::Join(_) | Edit::Leave(_))
+}
+
+/// Appends what a line with an edit shows of the core after it.
+pub(crate) fn show_edit(
+    alloc: Global,
+    text: &mut Vec<u8>,
+    edit: &Edit,
+    core: &Core,
+) -> Result<(), Memory>
+    ensures { OnOk result ((line : ℕ) → text.new.items
+        ≡ text.old.items ++ all_shown (shown_after core.now.program line (edit_of edit.now) (core_of core.now))) }
+{
+    if changes_devices(edit) {
+        let verdict = verdict_on(alloc, core)?;
+        write_verdict(alloc, text, &verdict)?;
+    }
+    Ok(())
+}
+
+/// Appends what a line `show` shows of a core.
+pub(crate) fn show_values(
+    alloc: Global,
+    text: &mut Vec<u8>,
+    line: u32,
+    core: &Core,
+) -> Result<(), Memory>
+    ensures { OnOk result (text.new.items ≡ text.old.items ++ shown_text (ShowsValues line (core_of core.now))) }
+{
+    text.extend_from_slice(format!(in alloc; "@{line}\n")?.as_bytes())?;
+    values(alloc, text, core)
+}
