@@ -108,7 +108,7 @@ abbrev stages : ℕ → Unfolding → (ℕ → Term) → Stages
 stages n U T p = added_at U.declared.ceiling (range_of U) (λ q. bound_range U.declared.ceiling (range_of U) q (T q)) n p (T p)
 
 module _ (P Q : Program) (h : Alike P Q) (n : ℕ) where
-  one_verdict : verdict_of P n ≡ verdict_of Q n
+  pub one_verdict : verdict_of P n ≡ verdict_of Q n
   one_verdict =
       ap₂ (λ (U : Unfolding) (T : ℕ → Term).
       verdict_by (first_refused (judged U.declared.ceiling (range_of U) 0 (T 0))) (level_of (stages n U T) 0 1 (size (T 0)) (λ q. 0) (T 0)))

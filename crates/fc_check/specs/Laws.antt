@@ -1,5 +1,7 @@
 -- Texts are checked to something, and to one thing.
 use Rattle.std.specs.Prelude.{ℕ, Bool, ◌≡◌, ◌≤◌, List, length}
+use Rattle.fc_nodes.specs.Program.{IsProgram, Program, unfolding_of}
+use Rattle.fragment_check.specs.Verdicts.{verdict_of}
 use Rattle.fc_inputs.specs.declared.sources.TheConstants.{MOST_BYTES}
 use Rattle.fc_inputs.specs.Causes.{Judged}
 use Rattle.fc_inputs.specs.Refusals.{Reply}
@@ -15,3 +17,9 @@ abbrev pub SomeCheck : Type 0
 SomeCheck =
     (facts : Bool) (program network : List ℕ) → length program ≤ MOST_BYTES
     → (j : Judged Reply) × Checks facts program network j
+
+-- programs of nodes that unfold one program have one verdict
+abbrev pub OneVerdict : Type 0
+OneVerdict =
+    (P Q : Program) → IsProgram P → IsProgram Q → unfolding_of P ≡ unfolding_of Q
+    → (n : ℕ) → verdict_of P n ≡ verdict_of Q n

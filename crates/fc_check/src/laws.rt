@@ -1,6 +1,6 @@
 //! Laws of the definitions.
 
-ghost use Rattle.fc_check.specs.Laws.{OneCheck, SomeCheck};
+ghost use Rattle.fc_check.specs.Laws.{OneCheck, OneVerdict, SomeCheck};
 
 use fc_inputs::{one_input, texts_unfold};
 
@@ -18,3 +18,8 @@ pub fn some_check()
     one_input();
     texts_unfold();
 }
+
+/// Programs of nodes that unfold one program have one verdict: they differ at most in how memory holds them.
+pub fn one_verdict()
+    ensures { OneVerdict }
+{}
