@@ -46,7 +46,7 @@ reads_there (Check facts) e = refl
 reads_there Stable e = refl
 reads_there (Run workers log table) e = absurd cc
 reads_there (Gen number devices workers) e = absurd cc
-reads_there Trace e = absurd cc
+reads_there Trace e = refl
 reads_there (Mail number) e = absurd cc
 
 module _ (command : Command) (within : limit_of command ≡ None) (there : exists command ≡ true) where

@@ -28,8 +28,14 @@ use Rattle.fc_program.specs.Stabilised.{Stabilised, StabilisedBy, StabilisesScen
 use Rattle.fc_program.specs.Asked.{reads}
 use Rattle.fc_program.specs.Answers.{AnswerValue, Answers, AnswersAsked, AnswersInput, AnswersReading, AnswersSections}
 use Rattle.fc_program.specs.Answers.{AnswersWithin, WritesReply, answer_of, replied}
-use Rattle.fc_program.specs.Headline.{AnswersKeep, ChecksYes, HasYes, OfTwo, Promises, SolvesYes, stable_entries}
-use Rattle.fc_program.proofs.StableReplies.{scene_fits, one_field}
+use Rattle.fc_program.specs.Headline.{AnswersKeep, ChecksYes, HasYes, OfTwo, Promises, SolvesYes, TracesYes, stable_entries}
+use Rattle.fc_program.proofs.StableReplies.{one_field}
+use Rattle.fc_trace.proofs.Scenes.{scene_fits}
+use Rattle.fc_trace.specs.Texts.{walks_text}
+use Rattle.fc_trace.specs.Traces.{TracedBy, Traces, TracesScene}
+use Rattle.walk_form.specs.Costs.{AreCostsOf}
+use Rattle.walk_form.specs.Forms.{WalkTerms, walk_terms}
+use Rattle.walk_form.specs.Laws.{SolutionsAreLeast}
 use Rattle.fc_program.proofs.Statuses.{CauseJudges, IfRefused, RefusesBy, input_causes}
 
 -- what is replied: a reply, or that of a refusal
@@ -119,6 +125,52 @@ module _ (law : YesStabilises) (fit : AcceptedScenesFit) (program network : List
           subst (λ j. Keeps SolvesYes program network (reply_of j)) (sym e)
           (refused_keeps SolvesYes program network (reply_to cause) c)
 
+module _ (law : YesStabilises) (fit : AcceptedScenesFit) (least : SolutionsAreLeast) (program network : List ℕ) where
+  -- a reply with status 1 is none of a yes
+  one_keeps : (k : Judged Reply) (r : Reply) → k ≡ Accepted r → r.status ≡ 1
+      → Keeps TracesYes program network (reply_of k)
+  one_keeps k r e one zero =
+      let none : 0 ≡ 1 = sym zero ∙ ap (λ j. (reply_of j).status) e ∙ one in
+      absurd (cc none)
+
+  trace_by : (U : Unfolding) (s : SceneValue) (k : Judged Reply) (e : TracesScene U s k)
+      → ReadsInput program network (Accepted (U, s)) → (v : Verdict)
+      → verdict_of e.nodes (length s.net.devices) ≡ v → (o : Option WalkTerms) → walk_terms U ≡ o
+      → TracedBy v o U s.net e.reply → Keeps TracesYes program network (reply_of k)
+  trace_by U s k e reads (verdict.Yes rounds) said (Some w) form h zero =
+      let y = has_yes law fit program network U s e.nodes reads e.is_program e.unfolded rounds said in
+      let fits = scene_fits fit program network (U, s) reads in
+      let declared : s.net.declared ≡ e.nodes.declared =
+      fits.declared ∙ ap (λ (V : Unfolding). V.declared) (sym e.unfolded) in
+      let are : AreCostsOf (unfolding_of e.nodes) s.net h.costs =
+      subst (λ (V : Unfolding). AreCostsOf V s.net h.costs) (sym e.unfolded)
+      (record { terms = w; form = form; costs = h.are }) in
+      record {
+        yes = y;
+        costs = h.costs;
+        are = are;
+        claim = h.claim;
+        traced = h.traced;
+        least = least e.nodes s.net rounds h.costs y.stabilises.one.field e.is_program fits.net declared said are
+            y.stabilises.one.solves;
+        writes = ap (λ j. (reply_of j).text) e.is ∙ ap (λ (r : Reply). r.text) h.is;
+      }
+  trace_by U s k e reads (verdict.Yes rounds) said None form h zero =
+      one_keeps k e.reply e.is (ap (λ (r : Reply). r.status) h) zero
+  trace_by U s k e reads (verdict.No place why) said o form h zero =
+      one_keeps k e.reply e.is (ap (λ (r : Reply). r.status) h) zero
+
+  trace_keeps : (k : Judged Reply) → Traces program network k → Keeps TracesYes program network (reply_of k)
+  trace_keeps k h = by_input h.judged h.reads (input_causes program network h.judged h.reads) h.ends
+    where
+      by_input : (i : Judged InputOf) → ReadsInput program network i → IfRefused CauseJudges i
+          → AndThen i (λ i k. TracesScene i.0 i.1 k) k → Keeps TracesYes program network (reply_of k)
+      by_input (Accepted i) r c e =
+          trace_by i.0 i.1 k e r (verdict_of e.nodes (length i.1.net.devices)) refl (walk_terms i.0) refl e.writes
+      by_input (Refused cause) r c e =
+          subst (λ j. Keeps TracesYes program network (reply_of j)) (sym e)
+          (refused_keeps TracesYes program network (reply_to cause) c)
+
 -- ---- answers
 answer_keeps : (P : List ℕ → List ℕ → List ℕ → Type 0) (program network : List ℕ) (k : Judged Reply)
     → Keeps P program network (reply_of k) → (answer_of (judged_map replied k)).status ≡ 0
@@ -152,7 +204,7 @@ module _ (Makes : List ℕ → List ℕ → Judged Reply → Type 0) (P : List �
   input_keeps input j true h k zero = refused_zero j (Plainly Bytes) (h refl) (omega arith) zero
   input_keeps input j false h k zero = sections_keep (sections_of input) j (k refl) zero
 
-module _ (law : YesStabilises) (fit : AcceptedScenesFit) where
+module _ (law : YesStabilises) (fit : AcceptedScenesFit) (least : SolutionsAreLeast) where
   command_keeps : (command : Command) (input : List ℕ) (j : Judged AnswerValue)
       → AnswersWithin (limit_of command) command input j → (answer_of j).status ≡ 0
       → Promises command (sections_of input) (answer_of j).text
@@ -168,7 +220,10 @@ module _ (law : YesStabilises) (fit : AcceptedScenesFit) where
   command_keeps (Replay rounds table) input j h zero = tt
   command_keeps (Run workers log table) input j h zero = tt
   command_keeps (Gen number devices workers) input j h zero = tt
-  command_keeps Trace input j h zero = tt
+  command_keeps Trace input j h zero =
+      input_keeps Traces TracesYes (trace_keeps law fit least) input j
+      (nat_lt MOST_BYTES (length input)) (λ e. subst (λ b. AnswersInput b Trace input j) e h)
+      (λ e. subst (λ b. AnswersInput b Trace input j) e h) zero
   command_keeps (Mail number) input j h zero = tt
 
   pub answers_keep : AnswersKeep

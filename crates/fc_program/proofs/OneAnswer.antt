@@ -17,6 +17,7 @@ use Rattle.fc_replay.specs.declared.replays.Options.{Options}
 use Rattle.fc_replay.specs.Replays.{Shown}
 use Rattle.fc_replay.specs.Laws.{Alike, OneReplay}
 use Rattle.fc_program.specs.Asked.{reads}
+use Rattle.fc_trace.specs.Traces.{Traces}
 use Rattle.fc_program.specs.Stabilised.{Stabilised}
 use Rattle.fc_program.specs.Answers.{AnswerValue, written, showing, replied, answer_of, Formats, ShowsReplay, WritesReply}
 use Rattle.fc_program.specs.Answers.{options_of, AnswersSections, AnswersInput, AnswersReading, AnswersWithin, AnswersAsked}
@@ -63,7 +64,7 @@ same_reply Makes one (a ∷ b ∷ []) j k h g =
     (h.writes ∙ ap (judged_map replied) (one a b h.judged g.judged h.makes g.makes)) g.writes
 same_reply Makes one (a ∷ b ∷ c ∷ ss) j k h g = equal (Refused (other_number (a ∷ b ∷ c ∷ ss))) j k h g
 
-module _ (source : OneSource) (check : OneCheck) (stable : OneReply Stabilised) (replay : OneReplay) where
+module _ (source : OneSource) (check : OneCheck) (stable : OneReply Stabilised) (trace : OneReply Traces) (replay : OneReplay) where
   same_format : (ss : List (List ℕ)) (j k : Judged AnswerValue) → WithOne Formats ss j → WithOne Formats ss k → Same j k
   same_format [] j k h g = equal (Refused (other_number [])) j k h g
   same_format (program ∷ []) j k h g =
@@ -90,7 +91,7 @@ module _ (source : OneSource) (check : OneCheck) (stable : OneReply Stabilised) 
   same_sections Stable ss j k h g = same_reply Stabilised stable ss j k h g
   same_sections (Run workers log table) ss j k h g = absurd h
   same_sections (Gen number devices workers) ss j k h g = absurd h
-  same_sections Trace ss j k h g = absurd h
+  same_sections Trace ss j k h g = same_reply Traces trace ss j k h g
   same_sections (Mail number) ss j k h g = absurd h
 
   same_input : (b : Bool) (command : Command) (input : List ℕ) (j k : Judged AnswerValue)

@@ -18,6 +18,7 @@ use Rattle.fc_check.specs.Checks.{Checks}
 use Rattle.fc_check.specs.Laws.{SomeCheck}
 use Rattle.fc_replay.specs.declared.replays.Options.{Options}
 use Rattle.fc_replay.specs.Laws.{SomeReplay}
+use Rattle.fc_trace.specs.Traces.{Traces}
 use Rattle.fc_program.specs.Stabilised.{Stabilised}
 use Rattle.fc_program.specs.Asked.{exists, limit_refusal, MayAsk}
 use Rattle.fc_program.specs.Answers.{AnswerValue, written, showing, replied, answer_of, Formats, ShowsReplay, WritesReply}
@@ -44,7 +45,7 @@ some_reply Makes some (a ∷ b ∷ []) w =
 some_reply Makes some (a ∷ b ∷ c ∷ ss) w = (Refused (other_number (a ∷ b ∷ c ∷ ss)), refl)
 
 module _ (source : OneSource) (within : SectionsAreWithin) (check : SomeCheck) (stable : SomeReply Stabilised)
-    (replay : SomeReplay) where
+    (trace : SomeReply Traces) (replay : SomeReplay) where
   some_format : (ss : List (List ℕ)) → IsJudgedSo (WithOne Formats ss)
   some_format [] = (Refused (other_number []), refl)
   some_format (program ∷ []) =
@@ -69,7 +70,7 @@ module _ (source : OneSource) (within : SectionsAreWithin) (check : SomeCheck) (
   some_sections Stable there ss w = some_reply Stabilised stable ss w
   some_sections (Run workers log table) there ss w = absurd cc
   some_sections (Gen number devices workers) there ss w = absurd cc
-  some_sections Trace there ss w = absurd cc
+  some_sections Trace there ss w = some_reply Traces trace ss w
   some_sections (Mail number) there ss w = absurd cc
 
   some_input : (command : Command) (input : List ℕ) → exists command ≡ true → (b : Bool)

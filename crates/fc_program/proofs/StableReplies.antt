@@ -13,16 +13,16 @@ use Rattle.fragment_check.specs.Verdicts.{verdict_of}
 use Rattle.converge_laws.specs.Stabilising.{HasOneSolution}
 use Rattle.converge_laws.specs.Verdicts.{YesStabilises}
 use Rattle.stable_field.specs.Stable.{IsStableField}
-use Rattle.net_json.specs.FittingScenes.{SceneFits, AcceptedScenesFit}
-use Rattle.net_json.specs.Judging as scene
-use Rattle.net_json.specs.Scenes.{SceneValue, scene_of}
+use Rattle.net_json.specs.FittingScenes.{AcceptedScenesFit}
+use Rattle.net_json.specs.Scenes.{SceneValue}
 use Rattle.report.specs.Texts.{field_text}
 use Rattle.fc_inputs.specs.declared.sources.TheConstants.{MOST_BYTES}
 use Rattle.fc_inputs.specs.Refusals.{Reply}
 use Rattle.fc_inputs.specs.Causes.{Cause, Judged, Accepted, Refused, AndThen}
-use Rattle.fc_inputs.specs.Inputs.{InputOf, OneInput, ReadsInput, with_scene}
+use Rattle.fc_inputs.specs.Inputs.{InputOf, OneInput, ReadsInput}
 use Rattle.fc_check.specs.Checks.{Checks, ChecksScene, checked_of, verdict_status}
 use Rattle.fc_check.specs.Laws.{OneCheck, SomeCheck}
+use Rattle.fc_trace.proofs.Scenes.{scene_fits}
 use Rattle.fc_program.specs.Stabilised.{StabilisedBy, StabilisesScene, Stabilised}
 
 -- ---- one field
@@ -101,24 +101,6 @@ one_stable check input program network j k h g =
     by_input (Accepted i) r e f = one_scene check program network i.0 i.1 r j k e f
 
 -- ---- something
--- an accepted scene fits its program
-pub scene_fits : AcceptedScenesFit → (program network : List ℕ) (i : InputOf) → ReadsInput program network (Accepted i)
-    → SceneFits i.0 i.1
-scene_fits fit program network i h = by_program h.judged h.scene
-  where
-    by_scene : (U : Unfolding) (k : scene.Judged SceneValue) → scene_of U network ≡ k → Accepted i ≡ with_scene U k
-        → SceneFits i.0 i.1
-    by_scene U (scene.Refused r) read e = absurd cc
-    by_scene U (scene.Accepted s) read e =
-        let same : (U, s) ≡ i = cc in
-        let Q : InputOf → Type 0 = λ x. SceneFits x.0 x.1 in
-        subst Q same (fit U network s read)
-
-    by_program : (q : Judged Unfolding) → AndThen q (λ U k. k ≡ with_scene U (scene_of U network)) (Accepted i)
-        → SceneFits i.0 i.1
-    by_program (Refused cause) e = absurd cc
-    by_program (Accepted U) e = by_scene U (scene_of U network) refl e
-
 module _ (law : YesStabilises) (P : Program) (is : IsProgram P) (N : Network) where
   some_reply : IsNetwork N → N.declared ≡ P.declared → (v : Verdict) → verdict_of P (length N.devices) ≡ v
       → (r : Reply) × StabilisedBy v P N r

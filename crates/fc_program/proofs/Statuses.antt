@@ -26,6 +26,8 @@ use Rattle.fc_nodes.specs.declared.verdicts.Verdict.TheVariants as verdict
 use Rattle.topology.specs.Networks.{Network}
 use Rattle.fragment_check.specs.Verdicts.{verdict_of}
 use Rattle.fc_check.specs.Checks.{Checks, ChecksScene, verdict_status}
+use Rattle.walk_form.specs.Forms.{WalkTerms, walk_terms}
+use Rattle.fc_trace.specs.Traces.{TracedBy, TracesScene, Traces}
 use Rattle.fc_program.specs.Stabilised.{StabilisedBy, StabilisesScene, Stabilised}
 use Rattle.fc_inputs.specs.Refusals.{Reply, status_of, limit_of as limit_of_net, limit_in, or_refusal, log_refusal}
 use Rattle.fc_inputs.specs.Causes.{Cause, Plainly, InScene, reply_to, or_network, scene_refused, Judged, Accepted, Refused, judged_map, AndThen}
@@ -38,7 +40,7 @@ use Rattle.fc_replay.specs.Replays.{start_of, Shown, ReplaysEntries, ReplaysLog,
 use Rattle.fc_inputs.specs.declared.sources.TheConstants.{MOST_BYTES}
 use Rattle.fc_program.specs.Asked.{reads, limit_refusal}
 use Rattle.fc_program.specs.Answers.{AnswerValue, showing, replied, answer_of, Formats, ShowsReplay, WritesReply, options_of, AnswersSections, AnswersInput, AnswersReading, AnswersWithin, AnswersAsked}
-use Rattle.fc_program.specs.Top.{IsAnswer}
+use Rattle.fc_program.specs.Top.{IsAnswer, IsJudged}
 
 -- the status of an answer that is none to words outside: at most 4, and not that of the usage line
 pub record JudgesBy (status : ℕ) : Type 0 where
@@ -214,6 +216,24 @@ stable_replies program network j h = by_input h.judged (input_causes program net
         (stable_by (verdict_of e.nodes (length i.1.net.devices)) e.nodes i.1.net e.reply e.writes)
     by_input (Refused cause) c e = subst ReplyJudges (sym e) c
 
+by_one : JudgesBy 1
+by_one = record { no_usage = omega arith; few = omega arith }
+
+trace_by : (v : Verdict) (o : Option WalkTerms) (U : Unfolding) (N : Network) (r : Reply) → TracedBy v o U N r → JudgesBy r.status
+trace_by (verdict.Yes rounds) None U N r h = subst (λ (x : Reply). JudgesBy x.status) (sym h) by_one
+trace_by (verdict.Yes rounds) (Some w) U N r h = subst (λ (x : Reply). JudgesBy x.status) (sym h.is) by_zero
+trace_by (verdict.No place why) o U N r h = subst (λ (x : Reply). JudgesBy x.status) (sym h) by_one
+
+trace_replies : (program network : List ℕ) (j : Judged Reply) → Traces program network j → ReplyJudges j
+trace_replies program network j h = by_input h.judged (input_causes program network h.judged h.reads) h.ends
+  where
+    by_input : (i : Judged InputOf) → IfRefused CauseJudges i → AndThen i (λ i k. TracesScene i.0 i.1 k) j
+        → ReplyJudges j
+    by_input (Accepted i) c e =
+        subst ReplyJudges (sym e.is)
+        (trace_by (verdict_of e.nodes (length i.1.net.devices)) (walk_terms i.0) i.0 i.1.net e.reply e.writes)
+    by_input (Refused cause) c e = subst ReplyJudges (sym e) c
+
 replied_judges : (i : Judged Reply) → ReplyJudges i → (j : Judged AnswerValue) → j ≡ judged_map replied i → JudgesWell j
 replied_judges (Accepted r) h j e = subst JudgesWell (sym e) h
 replied_judges (Refused cause) h j e = subst JudgesWell (sym e) (judges _ h)
@@ -243,7 +263,7 @@ sections_judge (Check facts) ss j h = reply_judges (Checks facts) (check_replies
 sections_judge Stable ss j h = reply_judges Stabilised stable_replies ss j h
 sections_judge (Run workers log table) ss j h = absurd h
 sections_judge (Gen number devices workers) ss j h = absurd h
-sections_judge Trace ss j h = absurd h
+sections_judge Trace ss j h = reply_judges Traces trace_replies ss j h
 sections_judge (Mail number) ss j h = absurd h
 
 limit_judge : (limit : Limit) (count : ℕ) → RefusesBy (status_of (limit_refusal limit count))
@@ -278,3 +298,16 @@ pub answer_usage : (asked : Option Command) (left : Option (List ℕ)) (a : Answ
 answer_usage asked left a h two =
     status_usage asked h.input h.answers.judged h.answers.makes (sym (ap (λ (x : AnswerValue). x.status) h.answers.is)
     ∙ two)
+
+-- the same of what is judged, and its status is at most 4
+pub judged_usage : (asked : Option Command) (left : Option (List ℕ)) (j : Judged AnswerValue) → IsJudged asked left j
+    → (answer_of j).status ≡ 2 → asked ≡ None
+judged_usage asked left j h = status_usage asked h.input j h.makes
+
+pub judged_few : (asked : Option Command) (left : Option (List ℕ)) (j : Judged AnswerValue) → IsJudged asked left j
+    → (answer_of j).status ≤ 4
+judged_few asked left j h = by_asked asked h.makes
+  where
+    by_asked : (o : Option Command) → AnswersAsked o h.input j → (answer_of j).status ≤ 4
+    by_asked None e = let same : (answer_of j).status ≡ 2 = ap (λ k. (answer_of k).status) e in omega (arith, same)
+    by_asked (Some command) m = (command_judges command h.input j m).few

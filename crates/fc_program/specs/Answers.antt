@@ -19,6 +19,7 @@ use Rattle.fc_replay.specs.Ledgers.{Ledger}
 use Rattle.fc_replay.specs.Replays.{Shown, Replays}
 use Rattle.fc_inputs.specs.declared.sources.TheConstants.{MOST_BYTES}
 use Rattle.fc_program.specs.Asked.{reads, limit_refusal}
+use Rattle.fc_trace.specs.Traces.{Traces}
 use Rattle.fc_program.specs.Stabilised.{Stabilised}
 
 pub record AnswerValue : Type 0 where
@@ -74,7 +75,7 @@ AnswersSections (Check facts) sections j = WithTwo (WritesReply (Checks facts)) 
 AnswersSections Stable sections j = WithTwo (WritesReply Stabilised) sections j
 AnswersSections (Run workers log table) sections j = ⊥
 AnswersSections (Gen number devices workers) sections j = ⊥
-AnswersSections Trace sections j = ⊥
+AnswersSections Trace sections j = WithTwo (WritesReply Traces) sections j
 AnswersSections (Mail number) sections j = ⊥
 
 -- a command over an input that is longer than the limit, and over one that isn't

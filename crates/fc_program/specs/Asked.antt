@@ -19,7 +19,7 @@ exists (Check facts) = true
 exists Stable = true
 exists (Run workers log table) = false
 exists (Gen number devices workers) = false
-exists Trace = false
+exists Trace = true
 exists (Mail number) = false
 
 -- the commands that read the source: all but `gen`

@@ -3,7 +3,10 @@ use Rattle.std.specs.Prelude.{ℕ, ◌≡◌, ◌++◌, List, [], ◌∷◌, len
 use Rattle.fc_values.specs.Fields.{Entries}
 use Rattle.fc_nodes.specs.Program.{IsProgram, Program, unfolding_of}
 use Rattle.fc_nodes.specs.declared.verdicts.Verdict.TheVariants as verdict
-use Rattle.topology.specs.Networks.{numbers}
+use Rattle.topology.specs.Networks.{Lives, numbers}
+use Rattle.walks.specs.Walks.{AreTraced, CostsValue, EvidenceValue}
+use Rattle.walk_form.specs.Costs.{AreCostsOf}
+use Rattle.walk_form.specs.Laws.{IsLeastAt}
 use Rattle.fragment_check.specs.Verdicts.{verdict_of}
 use Rattle.converge_laws.specs.Stabilising.{Stabilises}
 use Rattle.net_json.specs.Scenes.{SceneValue}
@@ -13,6 +16,7 @@ use Rattle.command_words.specs.declared.commands.Command.{Command}
 use Rattle.command_words.specs.declared.commands.Command.TheVariants.{Check, Stable, Run, Replay}
 use Rattle.command_words.specs.declared.commands.Command.TheVariants.{Format, Gen, Trace, Mail}
 use Rattle.fc_inputs.specs.Causes.{Accepted}
+use Rattle.fc_trace.specs.Texts.{walks_text}
 use Rattle.fc_inputs.specs.Inputs.{ReadsInput}
 use Rattle.fc_inputs.specs.Sections.{sections_of}
 use Rattle.fc_program.specs.Answers.{AnswerValue, Answers}
@@ -44,6 +48,17 @@ pub record SolvesYes (program network text : List ℕ) : Type 0 where
   pub yes : HasYes program network
   pub writes : text ≡ field_text (stable_entries program network yes)
 
+-- `trace` writes behind the line of a yes, for each device, the least of the costs of all walks that end in it and the
+-- best of these walks, where the costs are those of the program on the network; and the one field has these least costs
+pub record TracesYes (program network text : List ℕ) : Type 0 where
+  pub yes : HasYes program network
+  pub costs : CostsValue
+  pub are : AreCostsOf (unfolding_of yes.nodes) yes.scene.net costs
+  pub claim : List EvidenceValue
+  pub traced : AreTraced costs claim
+  pub least : (d : ℕ) → Lives yes.scene.net d → IsLeastAt costs d (yes.stabilises.one.field d)
+  pub writes : text ≡ verdict_text (verdict.Yes yes.rounds) ++ walks_text claim
+
 abbrev pub OfTwo : (List ℕ → List ℕ → Type 0) → List (List ℕ) → Type 0
 OfTwo P [] = ⊥
 OfTwo P (one ∷ []) = ⊥
@@ -58,7 +73,7 @@ Promises Format sections text = Unit {0}
 Promises (Replay rounds table) sections text = Unit {0}
 Promises (Run workers log table) sections text = Unit {0}
 Promises (Gen number devices workers) sections text = Unit {0}
-Promises Trace sections text = Unit {0}
+Promises Trace sections text = OfTwo (λ program network. TracesYes program network text) sections
 Promises (Mail number) sections text = Unit {0}
 
 abbrev pub IsKept : Option Command → List ℕ → AnswerValue → Type 0

@@ -14,6 +14,7 @@ use fc_check::check;
 use fc_inputs::{Reply, Stop, one_section, read_source, sections, three_sections, two_sections};
 use fc_replay::{Options, replay};
 use fc_syntax::print;
+use fc_trace::traced;
 use firing_core::{Book, Part};
 use std::alloc::Global;
 
@@ -102,7 +103,11 @@ pub fn answer_to(alloc: Global, command: Command, input: &[u8]) -> Result<Answer
             let reply = stabilised(alloc, program, network)?;
             Ok(Answer::replied(alloc, reply))
         }
-        Command::Run { .. } | Command::Gen { .. } | Command::Trace | Command::Mail { .. } =>
-            unreachable!(),
+        Command::Trace => {
+            let (program, network) = two_sections(&sections)?;
+            let reply = traced(alloc, program, network)?;
+            Ok(Answer::replied(alloc, reply))
+        }
+        Command::Run { .. } | Command::Gen { .. } | Command::Mail { .. } => unreachable!(),
     }
 }

@@ -14,7 +14,11 @@ fn exists(command: Command) -> bool
 {
     matches!(
         command,
-        Command::Format | Command::Replay { .. } | Command::Check { .. } | Command::Stable
+        Command::Format
+            | Command::Replay { .. }
+            | Command::Check { .. }
+            | Command::Stable
+            | Command::Trace
     )
 }
 

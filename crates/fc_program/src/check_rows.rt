@@ -1,4 +1,4 @@
-//! Worked rows of `check` and `stable`.
+//! Worked rows of `check`, `stable` and `trace`.
 
 use crate::rows::{HOPS, PAIR, SHARED_HOPS, gives};
 use std::alloc::Global;
@@ -95,6 +95,19 @@ fn fields(rt: HostRuntime) -> Result<(), Fail> {
     }
     for row in &NO {
         checks(&rt, alloc, &["fc", "stable"], row, 1)?;
+    }
+    Ok(())
+}
+
+#[test]
+fn walks(rt: HostRuntime) -> Result<(), Fail> {
+    let alloc = rt.alloc();
+    let row = (HOPS, LINE, "yes 22\n0 0 0\n1 1 0 1\n2 2 0 1 2\n");
+    checks(&rt, alloc, &["fc", "trace"], &row, 0)?;
+    let row = ("ceiling 10; main = 5;", PAIR, "yes 1\nno walks\n");
+    checks(&rt, alloc, &["fc", "trace"], &row, 1)?;
+    for row in &NO {
+        checks(&rt, alloc, &["fc", "trace"], row, 1)?;
     }
     Ok(())
 }

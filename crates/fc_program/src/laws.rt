@@ -6,7 +6,9 @@ use converge_laws::yes_stabilises;
 use fc_check::{one_check, some_check};
 use fc_inputs::{one_input, one_source, sections_are_within};
 use fc_replay::{one_replay, some_replay};
+use fc_trace::{one_traced, some_traced};
 use net_json::accepted_scenes_fit;
+use walk_form::solutions_are_least;
 
 /// Two answers to one input have one status and one text; where threads make the log, one text for logs that agree.
 pub fn one_answer()
@@ -15,6 +17,7 @@ pub fn one_answer()
     one_source();
     one_input();
     one_check();
+    one_traced();
     one_replay();
 }
 
@@ -27,14 +30,17 @@ pub fn some_answer()
     yes_stabilises();
     accepted_scenes_fit();
     some_check();
+    some_traced();
     some_replay();
 }
 
-/// Where `check` or `stable` answers with status 0, the verdict on its input is a yes, and within the rounds of that yes
-/// the program stabilises on the scene's network: `check` writes these rounds, and `stable` the one field.
+/// Where `check`, `stable` or `trace` answers with status 0, the verdict on its input is a yes, and within the rounds of
+/// that yes the program stabilises on the scene's network: `check` writes these rounds, `stable` the one field, and
+/// `trace` the least costs, which are the values of that field, with the best walks.
 pub fn answers_keep()
     ensures { AnswersKeep }
 {
     yes_stabilises();
     accepted_scenes_fit();
+    solutions_are_least();
 }

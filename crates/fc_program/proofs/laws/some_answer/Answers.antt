@@ -5,4 +5,5 @@ use Rattle.fc_program.proofs.laws.some_answer.Goals as goal
 pub returns : goal.returns
 returns c =
     some_answer c.one_source.ensures c.sections_are_within.ensures c.some_check.ensures
-    (some_stable c.yes_stabilises.ensures c.accepted_scenes_fit.ensures c.some_check.ensures) c.some_replay.ensures
+    (some_stable c.yes_stabilises.ensures c.accepted_scenes_fit.ensures c.some_check.ensures) c.some_traced.ensures
+    c.some_replay.ensures

@@ -1,0 +1,3 @@
+pub mod Scenes
+mod Tracing
+pub mod WalkTexts

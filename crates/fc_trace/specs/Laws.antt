@@ -1,0 +1,13 @@
+-- Texts are traced to something, and to one thing.
+use Rattle.std.specs.Prelude.{ℕ, ◌≡◌, ◌≤◌, List, length}
+use Rattle.fc_inputs.specs.declared.sources.TheConstants.{MOST_BYTES}
+use Rattle.fc_inputs.specs.Causes.{Judged}
+use Rattle.fc_inputs.specs.Refusals.{Reply}
+use Rattle.fc_trace.specs.Traces.{Traces}
+
+abbrev pub OneTraced : Type 0
+OneTraced = (program network : List ℕ) (j k : Judged Reply) → Traces program network j → Traces program network k → j ≡ k
+
+-- texts, of which that of the program is within the limit, are traced to something
+abbrev pub SomeTraced : Type 0
+SomeTraced = (program network : List ℕ) → length program ≤ MOST_BYTES → (j : Judged Reply) × Traces program network j

@@ -1,0 +1,48 @@
+-- What `trace` makes of a program and a scene: the verdict's line, and behind a yes a walk for each device, or `no walks`.
+-- What the scene's table and copies hold is judged and then not used.
+use Rattle.std.specs.Prelude.{ℕ, ◌≡◌, List, ◌++◌, codes, length, Option, Some, None}
+use Rattle.fc_nodes.specs.Program.{IsProgram, Program, Unfolding, unfolding_of}
+use Rattle.fc_nodes.specs.declared.verdicts.Verdict.{Verdict}
+use Rattle.fc_nodes.specs.declared.verdicts.Verdict.TheVariants as verdict
+use Rattle.topology.specs.Networks.{Network}
+use Rattle.fragment_check.specs.Verdicts.{verdict_of}
+use Rattle.walks.specs.Walks.{CostsValue, EvidenceValue, IsCosts, AreTraced}
+use Rattle.walk_form.specs.Costs.{AreCostsFor}
+use Rattle.walk_form.specs.Forms.{WalkTerms, walk_terms}
+use Rattle.net_json.specs.Scenes.{SceneValue}
+use Rattle.report.specs.Verdicts.{verdict_text}
+use Rattle.fc_inputs.specs.Refusals.{Reply}
+use Rattle.fc_inputs.specs.Causes.{Judged, Accepted, AndThen}
+use Rattle.fc_inputs.specs.Inputs.{InputOf, ReadsInput}
+use Rattle.fc_trace.specs.Texts.{walks_text}
+
+-- behind a line, for each device its least cost and its best walk
+pub record WritesWalks (U : Unfolding) (N : Network) (w : WalkTerms) (line : List ℕ) (reply : Reply) : Type 0 where
+  pub costs : CostsValue
+  pub are : AreCostsFor U N w costs
+  pub lawful : IsCosts costs
+  pub claim : List EvidenceValue
+  pub traced : AreTraced costs claim
+  pub is : reply ≡ record { status = 0; text = line ++ walks_text claim }
+
+-- what is written where this is the verdict, and these are the terms of the walk form. The status is 1 where there are no walks
+abbrev pub TracedBy : Verdict → Option WalkTerms → Unfolding → Network → Reply → Type 0
+TracedBy (verdict.No place why) o U N reply = reply ≡ record { status = 1; text = verdict_text (verdict.No place why) }
+TracedBy (verdict.Yes rounds) None U N reply =
+    reply ≡ record { status = 1; text = verdict_text (verdict.Yes rounds) ++ codes "no walks\n" }
+TracedBy (verdict.Yes rounds) (Some w) U N reply = WritesWalks U N w (verdict_text (verdict.Yes rounds)) reply
+
+-- a program and a scene of it: the program is unfolded
+pub record TracesScene (U : Unfolding) (s : SceneValue) (j : Judged Reply) : Type 0 where
+  pub nodes : Program
+  pub is_program : IsProgram nodes
+  pub unfolded : unfolding_of nodes ≡ U
+  pub reply : Reply
+  pub writes : TracedBy (verdict_of nodes (length s.net.devices)) (walk_terms U) U s.net reply
+  pub is : j ≡ Accepted reply
+
+-- the texts of a program and of a scene
+pub record Traces (program network : List ℕ) (j : Judged Reply) : Type 0 where
+  pub judged : Judged InputOf
+  pub reads : ReadsInput program network judged
+  pub ends : AndThen judged (λ i k. TracesScene i.0 i.1 k) j

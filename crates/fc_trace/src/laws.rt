@@ -1,0 +1,29 @@
+//! Laws of the definitions.
+
+ghost use Rattle.fc_trace.specs.Laws.{OneTraced, SomeTraced};
+
+use fc_check::{one_check, some_check};
+use fc_inputs::one_input;
+use net_json::accepted_scenes_fit;
+use walk_form::{forms_have_costs, one_costs};
+use walks::walks_are_one;
+
+/// Texts are traced to one thing.
+pub fn one_traced()
+    ensures { OneTraced }
+{
+    one_input();
+    one_check();
+    one_costs();
+    walks_are_one();
+}
+
+/// Texts are traced to something.
+pub fn some_traced()
+    ensures { SomeTraced }
+{
+    some_check();
+    accepted_scenes_fit();
+    forms_have_costs();
+    walks_are_one();
+}

@@ -1,0 +1,98 @@
+//! What `trace` makes of a program and a scene.
+
+ghost use Rattle.std.specs.Prelude.{◌≡◌, ◌≤◌, ◌++◌, IfErr, IfOk, codes, length};
+ghost use Rattle.fc_nodes.specs.Program.{IsProgram, unfolding_of};
+ghost use Rattle.fragment_check.specs.Verdicts.{verdict_of};
+ghost use Rattle.report.specs.Verdicts.{verdict_text};
+ghost use Rattle.walks.specs.Walks.{AreTraced, IsCosts, claim_of, costs_of};
+ghost use Rattle.walk_form.specs.Forms.{walk_terms};
+ghost use Rattle.fc_inputs.specs.Causes.{Accepted, Refused};
+ghost use Rattle.fc_inputs.specs.Stops.{StopsFor};
+ghost use Rattle.fc_inputs.specs.declared.sources.TheConstants.{MOST_BYTES};
+ghost use Rattle.fc_trace.specs.Texts.{walks_text};
+ghost use Rattle.fc_trace.specs.Traces.{TracedBy, Traces};
+
+use crate::writing::write_walks;
+use fc_inputs::{Reply, Stop, read_input};
+use fc_nodes::Unfolded;
+use fc_values::Memory;
+use interval_facts::ranges;
+use report::verdict as write_verdict;
+use round_bound::recognise;
+use std::alloc::Global;
+use topology::Network;
+use walk_form::{CostFault, costs};
+use walks::{Costs, Evidence, check_walks, trace, traced_claims_hold};
+
+// The verdict's line, for so many devices.
+fn verdict_line(alloc: Global, program: &Unfolded, devices: u32) -> Result<Vec<u8>, Memory>
+    requires { 1 ≤ devices }
+    ensures { IfOk result (λ v. v.items ≡ verdict_text (verdict_of program.now devices)) }
+{
+    let ranges = ranges(alloc, program)?;
+    let verdict = recognise(alloc, program, &ranges, devices)?;
+    let mut text = Vec::new(alloc);
+    write_verdict(alloc, &mut text, &verdict)?;
+    Ok(text)
+}
+
+// For each device its least cost and its best walk, which are checked by themselves.
+fn checked_walks(alloc: Global, costs: &Costs) -> Result<Vec<Evidence>, Memory>
+    requires { IsCosts (costs_of costs.now) }
+    ensures { IfOk result (λ v. AreTraced (costs_of costs.now) (claim_of v.items)) }
+{
+    traced_claims_hold();
+    let claim = trace(alloc, costs)?;
+    let holds = check_walks(costs, &claim);
+    prove!(holds);
+    Ok(claim)
+}
+
+// A line, and behind it walks.
+fn walks_reply(alloc: Global, mut text: Vec<u8>, claim: &[Evidence]) -> Result<Reply, Memory>
+    ensures { IfOk result (λ r. r ≡ record { status = 0; text = text.items ++ walks_text (claim_of claim.now) }) }
+{
+    write_walks(alloc, &mut text, claim)?;
+    Ok(Reply::new(0, text))
+}
+
+// A line, and behind it that there are no walks.
+fn no_walks(mut text: Vec<u8>) -> Result<Reply, Memory>
+    ensures { IfOk result (λ r. r ≡ record { status = 1; text = text.items ++ codes "no walks\n" }) }
+{
+    text.extend_from_slice(b"no walks\n")?;
+    Ok(Reply::new(1, text))
+}
+
+// The walks of a program on a network, or that there are none.
+fn of_network(alloc: Global, program: &Unfolded, net: &Network) -> Result<Reply, Memory>
+    requires program { IsProgram program.now }
+    requires declared { net.now.declared ≡ program.now.declared }
+    ensures { IfOk result (TracedBy (verdict_of program.now (length net.now.devices))
+        (walk_terms (unfolding_of program.now)) (unfolding_of program.now) net.now) }
+{
+    // Its clause: the network has devices.
+    let devices = net.devices().len() as u32;
+    let text = verdict_line(alloc, program, devices)?;
+    match costs(alloc, program, net) {
+        Ok(costs) => {
+            let claim = checked_walks(alloc, &costs)?;
+            walks_reply(alloc, text, &claim)
+        }
+        Err(CostFault::Unrecognised(_)) => Ok(Reply::new(1, text)),
+        Err(CostFault::NotWalks) => no_walks(text),
+        Err(CostFault::Memory) => Err(Memory),
+    }
+}
+
+/// What `trace` writes of the texts of a program and a scene, and its status.
+pub fn traced(alloc: Global, program: &[u8], network: &[u8]) -> Result<Reply, Stop>
+    requires { length program.now ≤ MOST_BYTES }
+    ensures writes { IfOk result (λ r. Traces program.now network.now (Accepted r)) }
+    ensures refused { IfErr result (StopsFor (λ cause. Traces program.now network.now (Refused cause))) }
+{
+    let (program, scene) = read_input(alloc, program, network)?;
+    // Its clause: the nodes are a program.
+    let _size = program.size();
+    Ok(of_network(alloc, &program, &scene.net)?)
+}
