@@ -1,4 +1,4 @@
--- Maps, fields and binders that agree.
+-- Crates above cite this module: maps, fields and binders that agree.
 use Rattle.std.proofs.Common.{◌≡◌, ℕ, List, [], ◌∷◌, map, refl, sym, ◌∙◌, ap, subst, arith, Bool, true, false, ◌&&◌, Some, nat_eq}
 use Rattle.std.proofs.Math.Path.{fun_ext}
 use Rattle.std.specs.Prelude.{if◌then◌else◌}

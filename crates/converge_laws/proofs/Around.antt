@@ -1,4 +1,4 @@
--- A device and its neighbours in a set: what fits over them.
+-- Crates above cite this module: a device and its neighbours in a set: what fits over them.
 use Rattle.std.proofs.Common.{◌≡◌, ◌≢◌, ℕ, List, [], ◌∷◌, map, refl, ◌∙◌, ap, subst, arith, Bool, true, false, Option, Some, None, nat_eq}
 use Rattle.std.specs.Prelude.{if◌then◌else◌, filter}
 use Rattle.std.proofs.lemmas.Bool.Decides.{nat_tests}

@@ -1,4 +1,4 @@
--- Solutions of a node from solutions of its kids.
+-- Crates above cite this module: solutions of a node from solutions of its kids.
 use Rattle.std.proofs.Common.{◌≡◌, ℕ, suc, ◌≤◌, ◌+◌, List, [], ◌∷◌, map, refl, sym, ◌∙◌, ap, arith, Bool, true, false, ◌||◌, ◌&&◌, Option, Some, None, min}
 use Rattle.std.specs.Prelude.{if◌then◌else◌, filter, slice_get}
 use Rattle.fc_values.specs.declared.builtins.Builtin.{Builtin}

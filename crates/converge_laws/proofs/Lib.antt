@@ -6,10 +6,10 @@ mod Step
 mod Evolve
 mod Down
 mod Root
-mod Around
+pub mod Around
 mod Seen
 mod Minimise
-mod Agreement
+pub mod Agreement
 mod Ranged
 mod Body
 mod Climb
@@ -26,7 +26,7 @@ mod RiseGoal
 mod NextStage
 mod One
 mod Standing
-mod Existing
+pub mod Existing
 mod Iterated
 mod Exists
 mod Stabilised

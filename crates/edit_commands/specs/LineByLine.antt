@@ -26,7 +26,8 @@ and_lines k (Accepted l) rest = onto (k, l) (rest l)
 and_lines k (Refused r) rest = StopsAt k r
 
 -- the lines from a number on, of which the empty ones are skipped and counted; each leads from one state to the next
-abbrev pub lines_from : {S R A : Type 0} → (S → List ℕ → Judgement R A) → (S → A → S) → S → ℕ → List (List ℕ) → Lines R A
+abbrev pub lines_from : {S R A : Type 0} → (S → List ℕ → Judgement R A) → (S → A → S) → S → ℕ
+    → List (List ℕ) → Lines R A
 lines_from judge next s k [] = AllLines []
 lines_from judge next s k (line ∷ lines) =
     if is_empty line then lines_from judge next s (k + 1) lines

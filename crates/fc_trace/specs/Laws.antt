@@ -6,7 +6,8 @@ use Rattle.fc_inputs.specs.Refusals.{Reply}
 use Rattle.fc_trace.specs.Traces.{Traces}
 
 abbrev pub OneTraced : Type 0
-OneTraced = (program network : List ℕ) (j k : Judged Reply) → Traces program network j → Traces program network k → j ≡ k
+OneTraced =
+    (program network : List ℕ) (j k : Judged Reply) → Traces program network j → Traces program network k → j ≡ k
 
 -- texts, of which that of the program is within the limit, are traced to something
 abbrev pub SomeTraced : Type 0

@@ -1,5 +1,5 @@
--- What `trace` makes of a program and a scene: the verdict's line, and behind a yes a walk for each device, or `no walks`.
--- What the scene's table and copies hold is judged and then not used.
+-- What `trace` makes of a program and a scene: the verdict's line, and behind a yes a walk for each device, or `no
+-- walks`. What the scene's table and copies hold is judged and then not used.
 use Rattle.std.specs.Prelude.{ℕ, ◌≡◌, List, ◌++◌, codes, length, Option, Some, None}
 use Rattle.fc_nodes.specs.Program.{IsProgram, Program, Unfolding, unfolding_of}
 use Rattle.fc_nodes.specs.declared.verdicts.Verdict.{Verdict}
@@ -25,7 +25,8 @@ pub record WritesWalks (U : Unfolding) (N : Network) (w : WalkTerms) (line : Lis
   pub traced : AreTraced costs claim
   pub is : reply ≡ record { status = 0; text = line ++ walks_text claim }
 
--- what is written where this is the verdict, and these are the terms of the walk form. The status is 1 where there are no walks
+-- what is written where this is the verdict, and these are the terms of the walk form. The status is 1 where there are
+-- no walks
 abbrev pub TracedBy : Verdict → Option WalkTerms → Unfolding → Network → Reply → Type 0
 TracedBy (verdict.No place why) o U N reply = reply ≡ record { status = 1; text = verdict_text (verdict.No place why) }
 TracedBy (verdict.Yes rounds) None U N reply =

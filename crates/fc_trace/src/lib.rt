@@ -1,4 +1,5 @@
-//! What `trace` makes of the texts of a program and a scene: the verdict's line, and behind a yes a walk for each device.
+//! What `trace` makes of the texts of a program and a scene: the verdict's line, and behind a yes a walk for each
+//! device.
 #![tactic(auto)]
 
 mod laws;

@@ -1,6 +1,6 @@
 -- Mail logs that are made from words. In a round each device fires twice, so that two messages go to each neighbour;
--- then, for each ordered pair of neighbours, a word says whether the first is lost, or delivered twice, or both are delivered
--- once.
+-- then, for each ordered pair of neighbours, a word says whether the first is lost, or delivered twice, or both are
+-- delivered once.
 use Rattle.std.specs.Prelude.{ℕ, zero, suc, ◌≡◌, ◌%◌, ◌==◌, if◌then◌else◌, List, [], ◌∷◌, ◌++◌}
 use Rattle.topology.specs.Networks.{Network, numbers, near}
 use Rattle.scramble.specs.Words.{Words, next}

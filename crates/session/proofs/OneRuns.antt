@@ -264,19 +264,6 @@ changed_same U (PokeEdit d x) (SetEdit a i v) h = absurd h
 changed_same U (PokeEdit d x) (JoinEdit y) h = absurd h
 changed_same U (PokeEdit d x) (LeaveEdit a) h = absurd h
 
-still_mixed : (U : Unfolding) (e f : EditValue) → SameEdit U e f → IsMixed e → IsMixed f
-still_mixed U (LinkEdit a b w) f h m = subst IsMixed (sym h) tt
-still_mixed U (UnlinkEdit a b) f h m = subst IsMixed (sym h) tt
-still_mixed U (SetEdit d i v) f h m = subst IsMixed (sym h) tt
-still_mixed U (JoinEdit x) f h m = absurd m
-still_mixed U (LeaveEdit d) f h m = absurd m
-still_mixed U (PokeEdit d x) (PokeEdit e y) h m = tt
-still_mixed U (PokeEdit d x) (LinkEdit a b w) h m = absurd h
-still_mixed U (PokeEdit d x) (UnlinkEdit a b) h m = absurd h
-still_mixed U (PokeEdit d x) (SetEdit a i v) h m = absurd h
-still_mixed U (PokeEdit d x) (JoinEdit y) h m = absurd h
-still_mixed U (PokeEdit d x) (LeaveEdit a) h m = absurd h
-
 module _ (one : LogsLeadToOne) (agree : StepsAgree) (keep : StepsKeepGood) (P : Program) (p : IsProgram P) where
   -- what two lines that ask for the same do from one core
   pub record Alike (a b : Added) (next other : Core) (r s : List EntryValue) : Type 0 where

@@ -24,7 +24,8 @@ LinesCut = (P : Program) (c last : Core) (at : ℕ) (front rest : List (ℕ × C
 abbrev pub SomeScriptRun : Type 0
 SomeScriptRun = (P : Program) (c : Core) (lines : List (ℕ × CommandValue)) → IsProgram P → IsGood (unfolding_of P) c
     → AreJudged (unfolding_of P) c (at_start c.net) lines
-    → (log : List EntryValue) × (parts : List Part) × (text : List ℕ) × (last : Core) × ScriptRun P c lines log parts text last
+    → (log : List EntryValue) × (parts : List Part) × (text : List ℕ) × (last : Core)
+    × ScriptRun P c lines log parts text last
 
 -- two script runs of commands that ask for the same, from one good core, whose logs agree: one text, and one core. The
 -- nodes of their programs may be two lists, as memory holds them, with one unfolding and one verdict

@@ -1,5 +1,5 @@
-//! Sessions: a script is folded over a core. Each line takes the next stretch of the log, and the text is made of what the
-//! lines show.
+//! Sessions: a script is folded over a core. Each line takes the next stretch of the log, and the text is made of what
+//! the lines show.
 #![tactic(auto)]
 
 mod edits;

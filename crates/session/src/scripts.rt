@@ -41,7 +41,8 @@ pub fn run_script<R: Runner>(
     runner: &mut R,
 ) -> Result<Session, Memory>
     requires program { program.value ≡ core.program }
-    requires judged { AreJudged (unfolding_of program.value) (core_of core) (at_start (core_of core).net) (map numbered lines.now) }
+    requires judged { AreJudged (unfolding_of program.value) (core_of core) (at_start (core_of core).net)
+        (map numbered lines.now) }
     ensures { IfOk result (HasRun program.value core (map numbered lines.now)) }
 {
     steps_keep_good();

@@ -21,7 +21,8 @@ use Rattle.topology.proofs.Lemmas.{AllNear, near_fits, near_rises}
 use Rattle.interval_facts.specs.Solutions.{Devices, In, Map, Maps, bind, near_among, around, field_over, field_of, local_map, Solves}
 use Rattle.growth_facts.specs.Leads.{lead}
 use Rattle.growth_facts.proofs.Closeness.{lesser_lead}
-use Rattle.walk_form.proofs.Agreement.{field_same}
+use Rattle.converge_laws.proofs.Agreement.{field_same}
+use Rattle.converge_laws.proofs.Around.{entries_over}
 use Rattle.walks.proofs.Settling.{contains_first, contains_here, contains_later}
 use Rattle.walks.proofs.Gathered.{to_map}
 
@@ -147,10 +148,6 @@ with_other d n v (e ∷ es) o = by_test (nat_lt d e.0) (with_other d n v es o)
     by_test : (c : Bool) → value_at n (with_entry d v es) ≡ value_at n es → value_at n (if c then ((d, v) ∷ e ∷ es) else (e ∷ with_entry d v es)) ≡ value_at n (e ∷ es)
     by_test true h = rw z refl
     by_test false h = ap (λ u. if nat_eq e.0 n then Some e.1 else u) h
-
-entries_over : (f : ℕ × ℕ → LocalValue) (ms : List (ℕ × ℕ)) → devices (map (λ (n : ℕ × ℕ). (n.0, f n)) ms) ≡ near_numbers ms
-entries_over f [] = refl
-entries_over f (n ∷ ms) = ap (λ (ns : List ℕ). n.0 ∷ ns) (entries_over f ms)
 
 -- a field over a device and its neighbours, at a neighbour
 pub over_at : (d : ℕ) (v : LocalValue) (ms : List (ℕ × ℕ)) (f : ℕ × ℕ → LocalValue) (n w : ℕ) → Rises (near_numbers ms) → n ≢ d → Contains ms (n, w)

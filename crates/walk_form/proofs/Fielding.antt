@@ -23,7 +23,8 @@ use Rattle.rise.proofs.WithoutRise.{solves_agree}
 use Rattle.converge_laws.specs.Fragment.{Analysis, IsFor, InFragment}
 use Rattle.converge_laws.specs.Laws.{SolutionsAreOne}
 use Rattle.converge_laws.specs.Stabilising.{HasOneSolution}
-use Rattle.walk_form.proofs.Agreement.{AgreeFor, solves_vars}
+use Rattle.converge_laws.proofs.Agreement.{AgreeFor}
+use Rattle.converge_laws.proofs.Existing.{solves_vars}
 use Rattle.stable_field.specs.Stable.{IsStableField}
 use Rattle.walks.proofs.Settling.{contains_first, contains_here, contains_later}
 use Rattle.walk_form.specs.Alone.{filler, alone_term}
@@ -41,9 +42,6 @@ free_agree D t x G V free q o d i = by_test (nat_eq x q) refl
     by_test : (c : Bool) → nat_eq x q ≡ c → (if c then G else V q) d ≡ V q d
     by_test true k = let z : x ≡ q = eqb-true x q k in let n : occurs q t ≡ false = subst (λ y. occurs y t ≡ false) z free in absurd cc
     by_test false k = refl
-
-pub free_back : (D : Devices) (t : Term) (x : ℕ) (G : Map) (V : Maps) → occurs x t ≡ false → AgreeFor D t V (bind x G V)
-free_back D t x G V free q o d i = sym (free_agree D t x G V free q o d i)
 
 -- ---- integers
 

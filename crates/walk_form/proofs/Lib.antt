@@ -1,6 +1,5 @@
 mod Inverted
 mod Under
-mod Agreement
 mod Gradients
 mod Laying
 mod Judging

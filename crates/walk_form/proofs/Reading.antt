@@ -95,10 +95,6 @@ module _ (ns : List Node) (p a b : ℕ) (two : TwoAt ns op.Add p a b) where
   pub first_span : b ≡ a + size first
   first_span = let f = two.first_is in let s = two.second_is in omega (arith, f, s)
 
--- what a summand adds is what the sum adds
-pub step_from : (ns : List Node) (p q : ℕ) (x : Adds) → sum_step 0 p (term_at ns p) ≡ added_term q (term_at ns q) → IsAddedOf ns q x → IsStepOf ns p x
-step_from ns p q x e h = record { step = e ∙ h.step; span = h.span }
-
 pub any_none : {A : Type 0} (o : Option A) {P : Type 0} → P → IfNone o P
 any_none None p = p
 any_none (Some x) p = tt
@@ -106,13 +102,6 @@ any_none (Some x) p = tt
 none_or : {A : Type 0} (o : Option A) → ((x : A) → o ≡ Some x → ⊥) → o ≡ None
 none_or None h = refl
 none_or (Some x) h = absurd (h x refl)
-
-pub no_sum : (ns : List Node) (p : ℕ) → (IsBuiltinAt op.Add ns p → ⊥) → sum_step 0 p (term_at ns p) ≡ None
-no_sum ns p h = none_or (sum_step 0 p (term_at ns p)) (λ s e. h (of_sum (term_at ns p) s (sum_is 0 p (term_at ns p) s e)))
-  where
-    of_sum : (u : Term) (s : StepTerm) → IsSum 0 p u s → (t : ValueType) × (a : Term) × (b : Term) × (u ≡ Apply t op.Add (More a (More b NoMore)))
-    of_sum u s (inverted.first t a b s' hd ad) = (t, a, b, refl)
-    of_sum u s (inverted.second t a b s' hd ad) = (t, a, b, refl)
 
 -- ---- what is heard
 

@@ -1,5 +1,5 @@
--- A term of a program by itself: the program `rep(A){(x) => t}` in which the term t stands at its place, and the first value
--- A, which says nothing of the values, fills the places before it.
+-- A term of a program by itself: the program `rep(A){(x) => t}` in which the term t stands at its place, and the first
+-- value A, which says nothing of the values, fills the places before it.
 use Rattle.std.specs.Prelude.{ℕ, zero, suc, true, ◌≡◌, ◌+◌, ◌-◌, ◌<◌, nat_eq, nat_lt, if◌then◌else◌, List, [], ◌∷◌, length, Option, Some}
 use Rattle.fc_values.specs.declared.builtins.Builtin.TheVariants as op
 use Rattle.fc_values.specs.Types.{IntType, BoolType, TypeLocal}

@@ -1,5 +1,5 @@
--- The walk form: the root is a `rep` of type int with the pattern `Minimising` whose body is `minHoodLoc(h, l)`, and h is
--- `nbr{x} + s` or `s + nbr{x}` for its variable x. Then s is local or `nbrLink`.
+-- The walk form: the root is a `rep` of type int with the pattern `Minimising` whose body is `minHoodLoc(h, l)`, and h
+-- is `nbr{x} + s` or `s + nbr{x}` for its variable x. Then s is local or `nbrLink`.
 use Rattle.std.specs.Prelude.{ℕ, suc, Bool, true, false, ◌+◌, if◌then◌else◌, Option, Some, None}
 use Rattle.std.specs.declared.result.Result.{Result}
 use Rattle.std.specs.declared.result.Result.TheVariants.{Ok, Err}
@@ -14,7 +14,8 @@ use Rattle.fragment_check.specs.declared.kinds.Pattern.{Pattern}
 use Rattle.fragment_check.specs.declared.kinds.Pattern.TheVariants as pattern
 use Rattle.fragment_check.specs.Patterns.{two_of, pattern_of}
 
--- what a step adds: what a local term, with its place, has at the device to which the step leads; or the weight of the link
+-- what a step adds: what a local term, with its place, has at the device to which the step leads; or the weight of the
+-- link
 pub data StepTerm : Type 0 where
   StepValue : ℕ → Term → StepTerm
   StepWeight : StepTerm

@@ -22,8 +22,8 @@ use topology::{Network, neighbours_are_mutual};
 use walks::{Add, Costs, gather};
 
 /// The costs of walks of a program on a network, found from the fields of its local argument and of what steps add.
-/// `Unrecognised` comes exactly where the verdict is a no, with its place, and `NotWalks` exactly where it is a yes and the
-/// program hasn't the walk form.
+/// `Unrecognised` comes exactly where the verdict is a no, with its place, and `NotWalks` exactly where it is a yes and
+/// the program hasn't the walk form.
 pub fn costs(alloc: Global, program: &Unfolded, net: &Network) -> Result<Costs, CostFault>
     requires declared { net.now.declared ≡ program.now.declared }
     ensures costs { IfOk result (λ c. AreCostsOf (unfolding_of program.now) net.now (costs_of c)) }

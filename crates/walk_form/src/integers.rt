@@ -18,7 +18,8 @@ use stable_field::{StableFault, stable};
 use std::alloc::Global;
 use topology::Network;
 
-/// The integers that the one field of a term has at all devices, rising: the stabilised field of the term's nodes alone.
+/// The integers that the one field of a term has at all devices, rising: the stabilised field of the term's nodes
+/// alone.
 pub fn integers_at(
     alloc: Global,
     program: &Unfolded,

@@ -8,8 +8,8 @@ use fragment_check::patterns_have_shapes;
 use topology::neighbours_are_mutual;
 use walks::fixed_values_are_least;
 
-/// Where the verdict is a yes, a field that solves a program of the walk form has at each device the least of the costs of
-/// all walks that end there.
+/// Where the verdict is a yes, a field that solves a program of the walk form has at each device the least of the costs
+/// of all walks that end there.
 pub fn solutions_are_least()
     ensures { SolutionsAreLeast }
 {

@@ -28,8 +28,8 @@ pub record EditedThenEnded (o : Opening) (v w : PassView EntryValue) (e : EditVa
   pub core : Core
   pub ended : TookTurn o middle w before core (EndEntry d)
 
--- A table let workers fire, with an edit between the begin of the smallest device, which is the first, and that device's
--- next end. Each device began at most one firing.
+-- A table let workers fire, with an edit between the begin of the smallest device, which is the first, and that
+-- device's next end. Each device began at most one firing.
 pub record MixedTogether (old : BookValue) (e : EditValue) (new : BookValue) : Type 0 where
   pub program : new.program ≡ old.program
   pub start : new.start ≡ old.start
@@ -37,7 +37,8 @@ pub record MixedTogether (old : BookValue) (e : EditValue) (new : BookValue) : T
   pub among : List EntryValue
   pub after : List EntryValue
   pub log : entries_of new.log ≡ entries_of old.log ++ (BeginEntry first ∷ among ++ EditEntry e ∷ after)
-  pub leads : Run (unfolding_of old.program) (core_of old.core) (BeginEntry first ∷ among ++ EditEntry e ∷ after) (core_of new.core)
+  pub leads : Run (unfolding_of old.program) (core_of old.core) (BeginEntry first ∷ among ++ EditEntry e ∷ after)
+      (core_of new.core)
   pub smallest : IsSmallest (core_of old.core).net first
   pub flies : HasEnd first among → ⊥
   pub plain_among : has_edit among ≡ false

@@ -37,8 +37,8 @@ pub record FiredAlone (old : BookValue) (d : ℕ) (new : BookValue) : Type 0 whe
   pub ran : RanOn old new (BeginEntry d ∷ EndEntry d ∷ [])
   pub rests : NoneFlies (core_of new.core)
 
--- nothing flies, and the device at a place of the network has begun one firing since a place of the log, where it had begun
--- at most one. Others have begun none more
+-- nothing flies, and the device at a place of the network has begun one firing since a place of the log, where it had
+-- begun at most one. Others have begun none more
 pub record FiredIfShort (front place : ℕ) (old new : BookValue) : Type 0 where
   pub part : List EntryValue
   pub ran : RanOn old new part

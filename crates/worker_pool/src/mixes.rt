@@ -121,7 +121,8 @@ fn edit_then_end<W: Wait>(
     requires fits { EditFits (unfolding_of shared.now.opening.program) (edit_of edit) }
     requires may_end { CanEnd shared.now.opening (on_log pass.old) firing }
     ensures own { IsPassOf shared.now pass.new }
-    ensures mixed { OnOk result (EditedThenEnded shared.now.opening (on_log pass.old) (on_log pass.new) (edit_of edit) firing.snap.device) }
+    ensures mixed { OnOk result (EditedThenEnded shared.now.opening (on_log pass.old) (on_log pass.new) (edit_of edit)
+        firing.snap.device) }
     ensures went { WentOn (on_log pass.old) (on_log pass.new) }
 {
     if shared.edit(rt, alloc, pass, edit).is_err() {
