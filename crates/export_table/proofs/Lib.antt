@@ -9,3 +9,4 @@ mod Passing
 mod Turning
 mod OwnFirings
 mod Calls
+pub mod Crosses

@@ -137,10 +137,13 @@ module _ (v : CoreValue) (k : IsCore v) (p d : ℕ) (h : p < length v.net.device
   abbrev pub with_flight : Snap → CoreValue
   with_flight s = record { program = v.program; net = v.net; exports = v.exports; flying = slice_set v.flying p (Some s); rooms = v.rooms }
 
+  pub flown_core : (s : Snap) → core_of (with_flight s) ≡ record { net = v.net; exports = (core_of v).exports; flying = put (core_of v).flying d (Some (snap_copy (program_of v) s)) }
+  flown_core s =
+      ap (λ f. let c : Core = record { net = v.net; exports = (core_of v).exports; flying = f } in c)
+      (slot_write (snap_copy (program_of v)) (numbers v.net.devices) v.flying p d (Some s) apart in_numbers e flights)
+
   pub begun_core : (s : Snap) → snap_copy (program_of v) s ≡ copy_of v.net (core_of v).exports d → core_of (with_flight s) ≡ begun (core_of v).exports (core_of v) d
-  begun_core s q =
-      let w = slot_write (snap_copy (program_of v)) (numbers v.net.devices) v.flying p d (Some s) apart in_numbers e flights in
-      ap (λ f. let c : Core = record { net = v.net; exports = (core_of v).exports; flying = f } in c) (w ∙ ap (λ c. put (core_of v).flying d (Some c)) q)
+  begun_core s q = flown_core s ∙ ap (λ x. let c : Core = record { net = v.net; exports = (core_of v).exports; flying = put (core_of v).flying d (Some x) } in c) q
 
   pub begun_kept : (x : Option Snap) (s : Snap) → x ≡ get_or v.flying p x → is_some x ≡ false → s.device ≡ d → IsSnap (program_of v) s → IsCore (with_flight s)
   begun_kept x s q rests names fits = record {

@@ -18,7 +18,6 @@ use Rattle.topology.specs.contracts.types.Device as Device
 use Rattle.topology.specs.contracts.networks.Network as Network
 use Rattle.value_trees.specs.contracts.copies.Snap as Snap
 use Rattle.firing_core.specs.contracts.rooms.Spare as Spare
-use Rattle.firing_core.specs.contracts.rooms.Room as Room
 use Rattle.firing_core.specs.contracts.cores.Core as Core
 use Rattle.firing_core.specs.contracts.entries.Entry as Entry
 use Rattle.firing_core.specs.contracts.books.Book as Book
@@ -89,7 +88,7 @@ spare_send = search (export_send, sendable, crosses) depth 40 fits 20000
 spare_sync : IsSync (Spare.the_field).row
 spare_sync = search (export_sync, sendable, crosses) depth 40 fits 20000
 
-entry_send : IsSend (Entry.the_field).row
+pub entry_send : IsSend (Entry.the_field).row
 entry_send = search (export_send, local_send, sendable, crosses) depth 40 fits 20000
 
 entry_sync : IsSync (Entry.the_field).row
@@ -100,12 +99,6 @@ core_send = search (unfolded_send, unfolded_sync, network_send, export_send, sna
 
 core_sync : IsSync (Core.the_field).row
 core_sync = search (unfolded_send, unfolded_sync, network_sync, export_sync, snap_sync, spare_sync, sendable, crosses) depth 40 fits 20000
-
-pub room_send : IsSend (Room.the_field).row
-room_send = search (snap_send, spare_send, sendable, crosses) depth 40 fits 20000
-
-pub room_sync : IsSync (Room.the_field).row
-room_sync = search (snap_sync, spare_sync, sendable, crosses) depth 40 fits 20000
 
 pub book_send : IsSend (Book.the_field).row
 book_send = search (unfolded_send, unfolded_sync, core_send, entry_send, sendable, crosses) depth 40 fits 20000

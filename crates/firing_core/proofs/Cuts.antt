@@ -1,4 +1,4 @@
--- Runs that are cut and joined.
+-- Crates above cite this module: runs that are cut and joined.
 use Rattle.std.proofs.Common.{◌≡◌, ◌↔◌, inl, inr, List, [], ◌∷◌, ◌++◌, refl, sym, ◌∙◌, ap, subst, Bool, true, false}
 use Rattle.fc_values.proofs.Booleans.{or_no}
 use Rattle.fc_nodes.specs.Program.{Unfolding}

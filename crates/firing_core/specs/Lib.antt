@@ -9,3 +9,4 @@ pub mod Books
 pub mod Rounds
 pub mod Stretches
 pub mod Laws
+pub mod TakeOffs

@@ -54,6 +54,7 @@ impl Core {
     ghost use Rattle.firing_core.specs.Cores.{Step, IsGood, EditFits, edit_fault, copy_of};
     ghost use Rattle.firing_core.specs.Replays.{fault_of};
     ghost use Rattle.firing_core.specs.CoreViews.{core_of, program_of, IsCore, IsSameCore, Edited, AreNear, rooms_of, mark, FiresFlight, Publishes};
+    ghost use Rattle.firing_core.specs.TakeOffs.{TakesOff};
     ghost use Rattle.firing_core.specs.Starts.{started, IsTable, IsPending};
     ghost use Rattle.firing_core.specs.Entries.{BeginEntry, EndEntry, LinkEdit, UnlinkEdit};
     ghost use Rattle.firing_core.specs.Entries.{SetEdit, PokeEdit, JoinEdit, LeaveEdit, edit_of};
@@ -218,6 +219,25 @@ impl Core {
         let Ok(snap) = self.neighbourhood(alloc, device, place) else {
             return Err(StepFault::Memory);
         };
+        self.flying[place] = Some(snap);
+        Ok(())
+    }
+
+    /// Puts a copy in flight, of the device that it names. It takes no memory.
+    pub fn fly(&mut self, snap: Snap) -> Result<(), StepFault>
+        requires { IsSnap (program_of self.old) snap }
+        ensures ok { OnOk result (TakesOff (program_of self.old) (core_of self.old) snap (core_of self.new)) }
+        ensures refused { IfErr result (λ e. fault_of (core_of self.old) (BeginEntry snap.device) ≡ Some e) }
+        ensures err { OnErr result (self.new ≡ self.old) }
+        ensures same { IsSameCore self.old self.new }
+        ensures rooms { rooms_of self.new ≡ rooms_of self.old }
+    {
+        let Some(place) = self.net.place(snap.device) else {
+            return Err(StepFault::NoDevice);
+        };
+        if self.flying[place].is_some() {
+            return Err(StepFault::Flying);
+        }
         self.flying[place] = Some(snap);
         Ok(())
     }

@@ -12,26 +12,11 @@ pub record Left (all : Driven) (first log : List MailEntry) (rest : Driven) : Ty
   pub entries : mail_entries log ++ rest.0 ≡ mail_entries first ++ all.0
   pub words : rest.1 ≡ all.1
 
-pub left_all : (all : Driven) (log : List MailEntry) → Left all log log all
-left_all all log = record { entries = refl; words = refl }
-
-pub left_more : (all : Driven) (first log next : List MailEntry) (d : Driven) (more : Words → Driven) → mail_entries next ≡ mail_entries log ++ d.0 → Left all first log (and_then d more) → Left all first next (more d.1)
-left_more all first log next d more q l = record {
-  entries = ap (λ es. es ++ (more d.1).0) q ∙ append_assoc (mail_entries log) d.0 (more d.1).0 ∙ l.entries;
-  words = l.words;
-}
-
-pub left_none : (all : Driven) (first log : List MailEntry) (words : Words) → Left all first log ([], words) → Appends all first log words
-left_none all first log words l = record { entries = sym (append-nil (mail_entries log)) ∙ l.entries; words = l.words }
-
 pub drop_all : {X : Type 0} (xs : List X) (i : ℕ) → length xs ≡ i → drop i xs ≡ []
 drop_all [] zero h = refl
 drop_all [] (suc i) h = refl
 drop_all (x ∷ xs) zero h = absurd (omega arith)
 drop_all (x ∷ xs) (suc i) h = drop_all xs i (omega arith)
-
-pub next_one : {X : Type 0} (xs : List X) (i : ℕ) (x : X) → i < length xs → x ≡ get_or xs i x → drop i xs ≡ x ∷ drop (i + 1) xs
-next_one xs i x h q = drop-cons xs i x h ∙ ap (λ y. y ∷ drop (suc i) xs) (sym q) ∙ ap (λ j. x ∷ drop j xs) (sym (add-one i))
 
 -- one round more, and those that are left
 pub round_more : (N : Network) (left : ℕ) (words after : Words) (log fired new : List MailEntry) → mail_entries fired ≡ mail_entries log ++ firings (numbers N.devices) → Appends (brings N (numbers N.devices) words) fired new after

@@ -61,9 +61,6 @@ module _ (U : Unfolding) (N : Network) (one : HasOneSolution U N) (es : Entries)
 pub column_rises : (U : Unfolding) (N : Network) (es : Entries) → IsNetwork N → IsStableField U N es → Rises (devices es)
 column_rises U N es net s = subst Rises (sym (ap devices s.values ∙ devices_are s.one.field (numbers N.devices))) net.rising
 
-pub as_column : (U : Unfolding) (N : Network) (es : Entries) → IsStableField U N es → IsColumn N 0 U.main es
-as_column U N es s = record { field = s.one.field; values = s.values; solves = s.one.solves }
-
 -- the column of a part is that of its term
 pub placed : PartsSolve → (P Q : Program) (p end : ℕ) (N : Network) (es fs : Entries) → IsClosedTerm P p end → IsPart P p Q → IsColumn N 0 (term_at Q.nodes 0) es → fs ≡ es → IsColumn N p (term_at P.nodes p) fs
 placed law P Q p end N es fs t part c same = record {

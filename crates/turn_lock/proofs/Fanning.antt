@@ -1,12 +1,11 @@
 -- What notes add, and what passes that were split off bring back.
 use Rattle.std.proofs.Common.{◌≡◌, ℕ, ◌+◌, ◌<◌, ◌≤◌, List, [], ◌∷◌, ◌++◌, map, drop, replicate, length, refl, ap, sym, subst, ◌∙◌, inl, inr, ◌⊎◌, ◌≢◌, arith, Bool, true, false, cond, ltb, eqb, eq-eqb, ⊎_elim}
-use Rattle.std.proofs.lemmas.Bool.Decides.{eqb_tells}
 use Rattle.std.proofs.lemmas.List.{append_assoc}
 use Rattle.std.proofs.Common.{length-append}
 use Rattle.turn_lock.specs.Logs.{In, StartsWith, merged, put_in, without, last_of}
 use Rattle.turn_lock.specs.Passes.{IsBelow, PassView, Closed, opened, kept_part, new_part, joined}
 use Rattle.turn_lock.specs.Noting.{Noted, Went}
-use Rattle.turn_lock.proofs.Lists.{merged_length, in_snoc, in_last, last_snoc, from_merged}
+use Rattle.turn_lock.proofs.Lists.{merged_length, in_snoc, in_last, last_snoc, from_merged, without_last}
 use Rattle.atomic_table.specs.Seated.{TableId}
 
 -- what begins the beginning begins the whole
@@ -33,15 +32,6 @@ both lock log y a b v w1 w2 one two joins seen closed =
     let begins = starts_trans y w1.seen log (starts_trans y v.seen w1.seen closed.begins seen) (starts_trans w1.seen one.0 log first one.1) in
     let tail : begins.0 ≡ map (λ (z : ℕ × ℕ). z.1) (put_in (q, b) ((p, a) ∷ [])) = sym (past log begins.0) ∙ ((λ i. drop (sym start i) (sym begins.1 i)) ∙ (closed.whole ∙ ap (map (λ (z : ℕ × ℕ). z.1)) mine)) in
     ⊎_elim (λ e. inl (begins.1 ∙ ap (λ l. log ++ l) (tail ∙ e))) (λ e. inr (begins.1 ∙ ap (λ l. log ++ l) (tail ∙ e))) (by_place p q a b (ltb q p))
-
-without_by : (k x : ℕ) (xs : List ℕ) → ((eqb k x ≡ true) × (k ≡ x)) ⊎ ((eqb k x ≡ false) × (k ≢ x)) → k ≢ x → without k (xs ++ k ∷ []) ≡ xs → cond (eqb k x) (without k (xs ++ k ∷ [])) (x ∷ without k (xs ++ k ∷ [])) ≡ x ∷ xs
-without_by k x xs (inl t) n e = absurd (n t.1)
-without_by k x xs (inr t) n e = ap (λ b. cond b (without k (xs ++ k ∷ [])) (x ∷ without k (xs ++ k ∷ []))) t.0 ∙ ap (λ l. x ∷ l) e
-
--- a new number that is taken out again
-without_last : (k : ℕ) (xs : List ℕ) → ((j : ℕ) → In j xs → k ≢ j) → without k (xs ++ k ∷ []) ≡ xs
-without_last k [] n = ap (λ b. cond b [] (k ∷ [])) (eq-eqb k k refl)
-without_last k (x ∷ xs) n = without_by k x xs (eqb_tells k x) (n x (inl refl)) (without_last k xs (λ j i. n j (inr i)))
 
 -- one note is written
 pub went_once : (v w : PassView ℕ) (x : ℕ) → 0 < v.left → Noted v w x → Went v w 1 x

@@ -220,3 +220,12 @@ pub last_snoc : (l : List ℕ) (k : ℕ) → last_of (l ++ k ∷ []) ≡ k
 last_snoc [] k = refl
 last_snoc (x ∷ []) k = refl
 last_snoc (x ∷ y ∷ ys) k = last_snoc (y ∷ ys) k
+
+last_by : (k x : ℕ) (xs : List ℕ) → ((eqb k x ≡ true) × (k ≡ x)) ⊎ ((eqb k x ≡ false) × (k ≢ x)) → k ≢ x → without k (xs ++ k ∷ []) ≡ xs → cond (eqb k x) (without k (xs ++ k ∷ [])) (x ∷ without k (xs ++ k ∷ [])) ≡ x ∷ xs
+last_by k x xs (inl t) n e = absurd (n t.1)
+last_by k x xs (inr t) n e = ap (λ b. cond b (without k (xs ++ k ∷ [])) (x ∷ without k (xs ++ k ∷ []))) t.0 ∙ ap (λ l. x ∷ l) e
+
+-- a new number that is taken out again
+pub without_last : (k : ℕ) (xs : List ℕ) → ((j : ℕ) → In j xs → k ≢ j) → without k (xs ++ k ∷ []) ≡ xs
+without_last k [] n = ap (λ b. cond b [] (k ∷ [])) (eq-eqb k k refl)
+without_last k (x ∷ xs) n = last_by k x xs (eqb_tells k x) (n x (inl refl)) (without_last k xs (λ j i. n j (inr i)))

@@ -1,59 +1,11 @@
--- A shared table and passes to it may cross threads. Each is shown from its own parts, since a search that goes down through
--- whole types runs out of steps.
-use denote.Param.Send.{IsSend, IsSync, sendable}
-use Rattle.std.proofs.Crossing.{crosses, Box-send, Box-sync}
-use Rattle.fc_values.specs.contracts.values.Local as Local
-use Rattle.fc_values.specs.contracts.exports.Export as Export
-use Rattle.fc_values.proofs.values.Local.TheLaws.TheKnot.{send-Local, sync-Local}
-use Rattle.firing_core.specs.contracts.entries.Entry as Entry
-use Rattle.firing_core.proofs.Crosses.{book_send, book_sync, unfolded_send, unfolded_sync}
-use Rattle.turn_lock.proofs.lock.TurnLock.TheSendSync.{the_sync as lock_sync}
-use Rattle.turn_lock.proofs.lock.Pass.TheSendSync.{the_send as send_of_pass}
-use Rattle.turn_lock.specs.contracts.lock.Pass as Pass
+-- A program and the allocator may cross threads.
+use denote.Param.Send.{IsSync, sendable}
+use Rattle.std.proofs.Crossing.{crosses}
+use Rattle.firing_core.proofs.Crosses.{unfolded_send, unfolded_sync}
 use Rattle.std.specs.contracts.sync.Arc as Arc
 use Rattle.std.specs.contracts.alloc.Global as Global
 use Rattle.std.specs.contracts.impls.GlobalAllocator.TheImpl as allocates
 use Rattle.fc_nodes.specs.contracts.program.Unfolded as Unfolded
-use Rattle.export_table.specs.contracts.held.HeldLogged.TheImpl.{ghosts}
-use Rattle.export_table.specs.contracts.item.Item as Item
-use Rattle.export_table.specs.contracts.held.Held as Held
-use Rattle.export_table.specs.contracts.shared.Shared as Shared
-
-local_send : IsSend (Local.the_field).row
-local_send = send-Local (search sendable) (search sendable) Box-send
-
-local_sync : IsSync (Local.the_field).row
-local_sync = sync-Local (search sendable) (search sendable) Box-sync
-
-export_send : IsSend (Export.the_field).row
-export_send = search (local_send, sendable, crosses) depth 40 fits 20000
-
-export_sync : IsSync (Export.the_field).row
-export_sync = search (local_sync, sendable, crosses) depth 40 fits 20000
-
-entry_send : IsSend (Entry.the_field).row
-entry_send = search (export_send, local_send, sendable, crosses) depth 40 fits 20000
-
-entry_sync : IsSync (Entry.the_field).row
-entry_sync = search (export_sync, local_sync, sendable, crosses) depth 40 fits 20000
-
-pub item_send : IsSend (Item.the_field).row
-item_send = search (entry_send, sendable, crosses) depth 40 fits 20000
-
-pub item_sync : IsSync (Item.the_field).row
-item_sync = search (entry_sync, sendable, crosses) depth 40 fits 20000
-
-pub held_send : IsSend (Held.the_field).row
-held_send = search (book_send, sendable, crosses) depth 40 fits 20000
-
-pub held_sync : IsSync (Held.the_field).row
-held_sync = search (book_sync, sendable, crosses) depth 40 fits 20000
-
-pub shared_sync : IsSync Shared.the_row
-shared_sync = search (lock_sync, held_send, sendable, crosses) depth 40 fits 20000
-
-pub pass_send : IsSend (Pass.the_row Held.the_row Item.the_row ghosts)
-pass_send = search (send_of_pass, held_send, item_send, sendable, crosses) depth 40 fits 20000
 
 pub program_sync : IsSync (Arc.the_row Unfolded.the_row Global.the_row allocates.ghosts)
 program_sync = search (unfolded_send, unfolded_sync, sendable, crosses) depth 40 fits 20000

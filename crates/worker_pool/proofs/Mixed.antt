@@ -20,7 +20,8 @@ use Rattle.export_table.specs.Turns.{Began, Closes}
 use Rattle.worker_pool.specs.Rounding.{RanOn, AtMostOnce, Completes}
 use Rattle.worker_pool.specs.Mixing.{WentOn, MixedTogether}
 use Rattle.worker_pool.proofs.Passes.{starts_trans}
-use Rattle.worker_pool.proofs.Parts.{run_join, plain_join, begins_join, rounds_front}
+use Rattle.firing_core.proofs.Cuts.{run_join}
+use Rattle.worker_pool.proofs.Parts.{plain_join, begins_join, rounds_front}
 use Rattle.worker_pool.proofs.Closing.{closed_log}
 use Rattle.worker_pool.proofs.Stretching.{ran_ends, ran_net, ends_begin, grew_ran, grew_more}
 

@@ -29,7 +29,9 @@ use Rattle.export_table.specs.Turns.{TookTurn, Began, Rested, Closes}
 use Rattle.worker_pool.specs.Working.{FiredOn}
 use Rattle.worker_pool.specs.Rounding.{AtMostOnce}
 use Rattle.worker_pool.specs.Mixing.{EditedThenEnded, MixedTogether}
-use Rattle.worker_pool.proofs.Parts.{run_cut, plain_net, end_front}
+use Rattle.firing_core.proofs.Cuts.{plain_net}
+use Rattle.topology.proofs.Lemmas.{put_numbers}
+use Rattle.worker_pool.proofs.Parts.{run_cut, end_front}
 use Rattle.worker_pool.proofs.Passes.{starts_trans}
 use Rattle.worker_pool.proofs.Closing.{closed_run, plain_entries, none_joins, since_none, live_number}
 use Rattle.worker_pool.proofs.Flights.{grounded}
@@ -122,14 +124,6 @@ join_append d (x ∷ xs) ys p q = let k = or_no (is_join d x) (has_join d xs) p 
 
 mixed_none : (d first : ℕ) (among after : List EntryValue) (e : EditValue) → IsMixed e → has_edit among ≡ false → has_edit after ≡ false → has_join d (BeginEntry first ∷ among ++ EditEntry e ∷ after) ≡ false
 mixed_none d first among after e m p q = join_append d among (EditEntry e ∷ after) (none_joins d among p) (rw (mixed_joins d e m) (none_joins d after q))
-
-put_numbers : (d i : ℕ) (v : LocalValue) (ns : List NetDevice) → numbers (put_input d i v ns) ≡ numbers ns
-put_numbers d i v [] = refl
-put_numbers d i v (n ∷ ns) = by_test (nat_eq d n.id) (put_numbers d i v ns)
-  where
-    by_test : (b : Bool) → numbers (put_input d i v ns) ≡ numbers ns → (if b then (record n { inputs = Rattle.std.specs.Prelude.slice_set n.inputs i v }) else n).id ∷ numbers (put_input d i v ns) ≡ n.id ∷ numbers ns
-    by_test true ih = ap (λ l. n.id ∷ l) ih
-    by_test false ih = ap (λ l. n.id ∷ l) ih
 
 mixed_numbers : (U : Unfolding) (c : Core) (e : EditValue) → IsMixed e → numbers (edited U c e).net.devices ≡ numbers c.net.devices
 mixed_numbers U c (LinkEdit a b w) m = refl

@@ -5,6 +5,7 @@ use Rattle.std.proofs.lemmas.List.{drop-append-le, length-map}
 use Rattle.fc_values.specs.Fields.{is_in}
 use Rattle.topology.specs.declared.types.Device.{Device}
 use Rattle.topology.specs.Networks.{Network, NetDevice, Lives, device_of, numbers}
+use Rattle.topology.proofs.Lemmas.{in_at, at_in}
 use Rattle.firing_core.specs.declared.entries.Entry.{Entry}
 use Rattle.firing_core.specs.declared.entries.Entry.TheVariants as entry
 use Rattle.firing_core.specs.Entries.{EntryValue, BeginEntry, EndEntry, entry_of, entries_of}
@@ -13,39 +14,18 @@ use Rattle.firing_core.specs.Books.{BookValue, IsSameBook, AppendsEntry, EndsFli
 use Rattle.firing_core.specs.Stretches.{is_begin, begins, NoneFlies, GrewFrom}
 use Rattle.worker_pool.specs.Rounding.{RanOn, AtMostOnce, FiredAlone, FiredIfShort, Completes, has_begin}
 use Rattle.fc_nodes.specs.Program.{unfolding_of}
+use Rattle.firing_core.proofs.Settling.{number_at}
 use Rattle.worker_pool.proofs.Parts.{begins_join}
 use Rattle.worker_pool.proofs.Flights.{alone_lands}
 use Rattle.worker_pool.proofs.Stretching.{ran_none, ran_more, ran_net, ran_entry, grew_ran, grew_same, grew_more, ran_ends, ends_begin}
 
 -- ---- places of a network
 
-number_at : (xs : List Device) (p : ℕ) (x : Device) → p < length xs → get_or (numbers (map device_of xs)) p 0 ≡ (get_or xs p x).id
-number_at [] p x h = absurd (omega arith)
-number_at (y ∷ ys) zero x h = refl
-number_at (y ∷ ys) (suc p) x h = number_at ys p x (omega arith)
-
 pub device_number : (n : Network) (ds : List Device) (p : ℕ) (x : Device) → map device_of ds ≡ n.devices → p < length ds → (get_or ds p x).id ≡ get_or (numbers n.devices) p 0
 device_number n ds p x e l = sym (number_at ds p x l) ∙ ap (λ (ns : List NetDevice). get_or (numbers ns) p 0) e
 
 pub device_many : (n : Network) (ds : List Device) → map device_of ds ≡ n.devices → length ds ≡ length n.devices
 device_many n ds e = sym (length-map ds device_of) ∙ ap length e
-
-at_in : (d : ℕ) (is : List ℕ) (i : ℕ) → i < length is → get_or is i 0 ≡ d → is_in d is ≡ true
-at_in d [] i h e = absurd (omega arith)
-at_in d (x ∷ xs) zero h e = rw (eq-eqb d x (sym e)) refl
-at_in d (x ∷ xs) (suc i) h e = by_test (nat_eq d x) (at_in d xs i (omega arith) e)
-  where
-    by_test : (q : Bool) → is_in d xs ≡ true → (q || is_in d xs) ≡ true
-    by_test true k = refl
-    by_test false k = k
-
-in_at : (d : ℕ) (is : List ℕ) → is_in d is ≡ true → (i : ℕ) × (i < length is) × (get_or is i 0 ≡ d)
-in_at d [] t = absurd cc
-in_at d (e ∷ es) t = by_test (nat_eq d e) refl t (λ u. in_at d es u)
-  where
-    by_test : (q : Bool) → nat_eq d e ≡ q → (q || is_in d es) ≡ true → (is_in d es ≡ true → (i : ℕ) × (i < length es) × (get_or es i 0 ≡ d)) → (i : ℕ) × (i < suc (length es)) × (get_or (e ∷ es) i 0 ≡ d)
-    by_test true s u ih = (0, omega arith, sym (eqb-true d e s))
-    by_test false s u ih = let k = ih u in (suc k.0, omega (arith, k.1), k.2)
 
 -- ---- begins
 
@@ -130,9 +110,6 @@ pub record ShortsTo (front : ℕ) (old now : BookValue) (place : ℕ) : Type 0 w
   pub once : AtMostOnce (core_of old.core).net (drop front (entries_of now.log))
   pub done : (j : ℕ) → j < place → begins (get_or (numbers old.core.net.devices) j 0) (drop front (entries_of now.log)) ≡ 1
 
-pub shorts_none : (front : ℕ) (book : BookValue) → NoneFlies (core_of book.core) → AtMostOnce (core_of book.core).net (drop front (entries_of book.log)) → ShortsTo front book book 0
-shorts_none front book rests once = record { part = []; ran = ran_none book; rests = rests; once = once; done = λ j l. absurd (omega (arith, l)) }
-
 pub shorts_net : (front : ℕ) (old now : BookValue) (place : ℕ) → ShortsTo front old now place → now.core.net ≡ old.core.net
 shorts_net front old now place s = ran_net old now s.part s.ran
 
@@ -145,9 +122,6 @@ longer_log front old now part l e =
     length_join : (xs ys : List EntryValue) → length (xs ++ ys) ≡ length xs + length ys
     length_join [] ys = omega arith
     length_join (x ∷ xs) ys = let ih = length_join xs ys in omega (arith, ih)
-
-pub shorts_front : (front : ℕ) (old now : BookValue) (place : ℕ) → front ≤ length old.log → ShortsTo front old now place → front ≤ length now.log
-shorts_front front old now place l s = longer_log front old now s.part l s.ran.log
 
 pub shorts_more : (front : ℕ) (old now new : BookValue) (place : ℕ) → place < length old.core.net.devices → ShortsTo front old now place → FiredIfShort front place now new → ShortsTo front old new (place + 1)
 shorts_more front old now new place within s f = record {
@@ -203,9 +177,6 @@ shorts_all front old now count many s = record {
       subst (λ e. begins e (drop front (entries_of now.log)) ≡ 1) k.2 (s.done k.0 (let m = length-map old.core.net.devices (λ (n : NetDevice). n.id) in let l = k.1 in omega (arith, m, l, many)));
 }
 
-pub grew_short : (front place : ℕ) (old now new : BookValue) → ShortsTo front old now place → GrewFrom now new → GrewFrom old new
-grew_short front place old now new s g = grew_more old now new (grew_ran old now s.part s.ran) g
-
 -- ---- after the flights are settled
 
 pub once_settled : (front : ℕ) (old mid : BookValue) (ds : List ℕ) → front ≤ length old.log → EndsFlights old mid ds → AtMostOnce (core_of old.core).net (drop front (entries_of old.log))
@@ -216,9 +187,6 @@ once_settled front old mid ds l f once d live =
     let none = ends_begin d ds in
     let was = once d (subst (λ (n : Network). Lives n d) (ran_net old mid _ ran) live) in
     omega (arith, more, none, was)
-
-pub front_settled : (front : ℕ) (old mid : BookValue) (ds : List ℕ) → front ≤ length old.log → EndsFlights old mid ds → front ≤ length mid.log
-front_settled front old mid ds l f = longer_log front old mid (entries_of (ends_of ds)) l (ran_ends old mid ds f).log
 
 pub completes_settled : (front : ℕ) (old mid new : BookValue) (ds : List ℕ) → EndsFlights old mid ds → Completes front mid new → Completes front old new
 completes_settled front old mid new ds f c =

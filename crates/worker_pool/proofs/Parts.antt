@@ -10,10 +10,6 @@ use Rattle.firing_core.specs.Stretches.{is_begin, begins}
 
 -- ---- runs
 
-pub run_join : (U : Unfolding) (a b c : Core) (xs ys : List EntryValue) → Run U a xs b → Run U b ys c → Run U a (xs ++ ys) c
-run_join U a b c [] ys r s = subst (λ (k : Core). Run U k ys c) r s
-run_join U a b c (x ∷ xs) ys r s = (r.0, r.1, run_join U r.0 b c xs ys r.2 s)
-
 pub run_cut : (U : Unfolding) (a c : Core) (xs ys : List EntryValue) → Run U a (xs ++ ys) c → (b : Core) × Run U a xs b × Run U b ys c
 run_cut U a c [] ys r = (a, refl, r)
 run_cut U a c (x ∷ xs) ys r = let k = run_cut U r.0 c xs ys r.2 in (k.0, (r.0, r.1, k.1), k.2)
@@ -27,18 +23,6 @@ plain_join (x ∷ xs) ys p q = let k = or_no (is_edit x) (has_edit xs) p in rw (
 pub plain_cut : (xs ys : List EntryValue) → has_edit (xs ++ ys) ≡ false → (has_edit xs ≡ false) × (has_edit ys ≡ false)
 plain_cut [] ys p = (refl, p)
 plain_cut (x ∷ xs) ys p = let k = or_no (is_edit x) (has_edit (xs ++ ys)) p in let t = plain_cut xs ys k.1 in (rw (k.0) t.0, t.1)
-
-plain_step : (U : Unfolding) (c next : Core) (e : EntryValue) → is_edit e ≡ false → Step U c e next → next.net ≡ c.net
-plain_step U c next (BeginEntry d) q s = ap (λ (k : Core). k.net) s.2
-plain_step U c next (EndEntry d) q s = ap (λ (k : Core). k.net) s.after
-plain_step U c next IdleEntry q s = ap (λ (k : Core). k.net) s
-plain_step U c next (EditEntry e) q s = absurd cc
-
-pub plain_net : (U : Unfolding) (c last : Core) (log : List EntryValue) → has_edit log ≡ false → Run U c log last → last.net ≡ c.net
-plain_net U c last [] q r = ap (λ (k : Core). k.net) r
-plain_net U c last (e ∷ es) q r =
-    let p = or_no (is_edit e) (has_edit es) q in
-    plain_net U r.0 last es p.1 r.2 ∙ plain_step U c r.0 e p.0 r.1
 
 -- ---- begins
 

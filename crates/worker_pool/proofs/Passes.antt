@@ -8,7 +8,7 @@ use Rattle.firing_core.specs.Cores.{Core}
 use Rattle.firing_core.specs.Rounds.{is_edit}
 use Rattle.turn_lock.specs.Logs.{StartsWith, In, without, last_of}
 use Rattle.turn_lock.specs.Passes.{PassView, IsBelow, kept_part, new_part, joined}
-use Rattle.turn_lock.proofs.Lists.{in_snoc, in_last, last_snoc, from_merged}
+use Rattle.turn_lock.proofs.Lists.{in_snoc, in_last, last_snoc, from_merged, without_last}
 use Rattle.export_table.specs.Items.{Opening}
 use Rattle.export_table.specs.Turns.{TookTurn}
 use Rattle.worker_pool.specs.Working.{FiredOn}
@@ -23,9 +23,6 @@ starts_same xs = ([], none xs)
     none : (l : List EntryValue) → l ≡ l ++ []
     none [] = refl
     none (x ∷ xs) = ap (λ (t : List EntryValue). x ∷ t) (none xs)
-
-pub fired_none : (v : PassView EntryValue) → FiredOn v v
-fired_none v = record { name = refl; out = refl; begins = starts_same v.seen; plain = λ p e i. inl i }
 
 pub fired_more : (u v w : PassView EntryValue) → FiredOn u v → FiredOn v w → FiredOn u w
 fired_more u v w f g = record {
@@ -47,15 +44,6 @@ fired_turn o v w before core e t plain = record {
 
 -- ---- a pass that was split off comes back
 
-without_by : (k x : ℕ) (xs : List ℕ) → ((eqb k x ≡ true) × (k ≡ x)) ⊎ ((eqb k x ≡ false) × (k ≢ x)) → k ≢ x → without k (xs ++ k ∷ []) ≡ xs → cond (eqb k x) (without k (xs ++ k ∷ [])) (x ∷ without k (xs ++ k ∷ [])) ≡ x ∷ xs
-without_by k x xs (inl t) n e = absurd (n t.1)
-without_by k x xs (inr t) n e = ap (λ b. cond b (without k (xs ++ k ∷ [])) (x ∷ without k (xs ++ k ∷ []))) t.0 ∙ ap (λ l. x ∷ l) e
-
--- a new number that is taken out again
-without_last : (k : ℕ) (xs : List ℕ) → ((j : ℕ) → In j xs → k ≢ j) → without k (xs ++ k ∷ []) ≡ xs
-without_last k [] n = ap (λ b. cond b [] (k ∷ [])) (eq-eqb k k refl)
-without_last k (x ∷ xs) n = without_by k x xs (eqb_tells k x) (n x (inl refl)) (without_last k xs (λ j i. n j (inr i)))
-
 pub out_joined : (v w1 w2 w : PassView EntryValue) (b : ℕ) → IsBelow v → w1.out ≡ (kept_part b v).out → w2.name ≡ (new_part b v).name → w ≡ joined w1 w2 → w.out ≡ v.out
 out_joined v w1 w2 w b below out name is =
     ap (λ (u : PassView EntryValue). u.out) is
@@ -73,9 +61,6 @@ fired_joined v w1 w2 w b below seen one other is = record {
 
 pub comes_back : (v w1 w2 : PassView EntryValue) (b : ℕ) → w1.name ≡ v.name → w1.out ≡ v.out ++ v.made ∷ [] → FiredOn (new_part b v) w2 → (k : ℕ) × (w2.name ≡ w1.name ++ k ∷ []) × In k w1.out
 comes_back v w1 w2 b name out other = (v.made, other.name ∙ ap (λ l. l ++ v.made ∷ []) (sym name), subst (In v.made) (sym out) (in_last v.made v.out))
-
-pub brings_back : (v w : PassView EntryValue) (b : ℕ) → FiredOn (new_part b v) w → w.out ≡ []
-brings_back v w b other = other.out
 
 -- ---- shares
 

@@ -12,7 +12,8 @@ use Rattle.firing_core.specs.Books.{BookValue, IsSameBook, AppendsEntry, EndsFli
 use Rattle.firing_core.specs.Rounds.{has_edit, is_edit, HasRounds}
 use Rattle.firing_core.specs.Stretches.{begins, EachBegins, NoneFlies, GrewFrom, RanRounds}
 use Rattle.worker_pool.specs.Rounding.{RanOn, AtMostOnce, FiredTogether, Completes}
-use Rattle.worker_pool.proofs.Parts.{run_join, plain_join, plain_net, begins_join, rounds_join, one_round}
+use Rattle.firing_core.proofs.Cuts.{run_join, plain_net}
+use Rattle.worker_pool.proofs.Parts.{plain_join, begins_join, rounds_join, one_round}
 use Rattle.worker_pool.proofs.Flights.{begun_fires}
 
 append_none : {A : Type 0} (l : List A) → l ≡ l ++ []
@@ -34,12 +35,6 @@ grew_more a b c f g = record {
   more = f.more ++ g.more;
   log = g.log ∙ (ap (λ (l : List EntryValue). l ++ g.more) f.log ∙ append_assoc (entries_of a.log) f.more g.more);
 }
-
-pub grew_rounds : (old new : BookValue) (k : ℕ) → RanRounds old k new → GrewFrom old new
-grew_rounds old new k r = record { program = r.program; start = r.start; more = r.part; log = r.log }
-
-pub grew_together : (old new : BookValue) → FiredTogether old new → GrewFrom old new
-grew_together old new f = grew_ran old new f.part f.ran
 
 pub ran_none : (old : BookValue) → RanOn old old []
 ran_none old = record { program = refl; start = refl; log = append_none (entries_of old.log); leads = refl; plain = refl }

@@ -52,15 +52,6 @@ went_refused o v w e f t = went_turn o v w t.before t.core IdleEntry t.turn
 pub went_ended : (o : Opening) (v w : PassView EntryValue) (f : FiredValue) → Ended o v w f → WentOn v w
 went_ended o v w f t = went_turn o v w t.before t.core (EndEntry f.snap.device) t.turn
 
-pub edited_ended : (o : Opening) (v m w : PassView EntryValue) (e : EditValue) (f : FiredValue) (d : ℕ) → Edited o v m e → Ended o m w f → f.snap.device ≡ d → EditedThenEnded o v w e d
-edited_ended o v m w e f d a b is = record {
-  middle = m;
-  edited = a;
-  before = b.before;
-  core = b.core;
-  ended = subst (λ k. TookTurn o m w b.before b.core (EndEntry k)) is b.turn;
-}
-
 -- a turn with an edit, whatever it answered
 pub went_edit : (o : Opening) (v w : PassView EntryValue) (e : EditValue) (r : Result (Unit {0}) EditFault) → OnOk r (Edited o v w e) → IfErr r (Refused o v w e) → WentOn v w
 went_edit o v w e (Ok x) a b = went_edited o v w e a

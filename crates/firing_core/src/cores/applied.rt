@@ -38,8 +38,8 @@ impl Core {
         }
     }
 
-    // Evaluates the copy with which a device flies where it lies, and publishes its export.
-    fn finish(&mut self, alloc: Global, device: u32) -> Result<(), StepFault>
+    /// Evaluates the copy with which a device flies where it lies, and publishes its export.
+    pub fn finish(&mut self, alloc: Global, device: u32) -> Result<(), StepFault>
         ensures ok { OnOk result (Step (program_of self.old) (core_of self.old) (EndEntry device) (core_of self.new)) }
         ensures rooms { OnOk result (rooms_of self.new ≡ mark (rooms_of self.old) device false) }
         ensures refused { IfErr result (HasFault (core_of self.old) (EndEntry device)) }
