@@ -9,4 +9,3 @@ use Rattle.fc_trace.specs.Texts.{walks_text}
 -- the text of walks in code
 abbrev pub claim_text : List Evidence → List ℕ
 claim_text es = walks_text (claim_of es)
-
