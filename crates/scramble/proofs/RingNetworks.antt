@@ -1,4 +1,4 @@
--- A ring is a network.
+-- Crates above cite this module: a ring is a network.
 use Rattle.std.proofs.Common.{◌≡◌, ℕ, zero, suc, ◌<◌, ◌≤◌, ◌+◌, ◌-◌, List, ◌∷◌, length, refl, sym, ◌∙◌, ap, subst, arith, Bool, true, false, ◌||◌}
 use Rattle.std.proofs.lemmas.Bool.Decides.{nat_tests}
 use Rattle.std.specs.Prelude.{nat_eq, if◌then◌else◌}
@@ -6,7 +6,7 @@ use Rattle.fc_values.specs.Fields.{Rises, is_in}
 use Rattle.topology.specs.Networks.{Edge, network_of, numbers, near_in, IsNetwork, DevicesFit, LinkFits, LinksFit, BeforeAll}
 use Rattle.scramble.specs.Rings.{ring_declared, ring_devices, ring_links, edge_between, chain}
 
-many : (s k n : ℕ) → length (ring_devices s k n) ≡ n
+pub many : (s k n : ℕ) → length (ring_devices s k n) ≡ n
 many s k zero = refl
 many s k (suc n) = ap suc (many s (suc k) n)
 

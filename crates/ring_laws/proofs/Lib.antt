@@ -1,0 +1,3 @@
+mod Typing
+mod Networks
+mod Verdicts

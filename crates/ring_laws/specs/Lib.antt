@@ -1,0 +1,2 @@
+pub mod RingTerms
+pub mod Laws
