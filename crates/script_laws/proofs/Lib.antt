@@ -1,0 +1,5 @@
+mod AfterEdits
+mod PartRounds
+mod Following
+mod Lines
+mod Showing
