@@ -1,9 +1,9 @@
 -- From each good core there is a stretch with an edit among firings, where the core allows the edit.
-use Rattle.std.proofs.Common.{ℕ, zero, suc, ◌≡◌, ◌+◌, ◌<◌, ◌≤◌, Bool, true, false, nat_eq, ◌||◌, List, [], ◌∷◌, ◌++◌, length, refl, sym, ap, subst, ◌∙◌, inl, inr, arith, append_assoc, not, Option, Some, None, if◌then◌else◌}
+use Rattle.std.proofs.Common.{ℕ, ◌≡◌, ◌+◌, ◌≤◌, Bool, true, false, nat_eq, ◌||◌, List, [], ◌∷◌, ◌++◌, refl, sym, ap, subst, ◌∙◌, inl, inr, arith, append_assoc, not, Option, Some, None, if◌then◌else◌}
 use Rattle.std.specs.Prelude.{slice_set}
 use Rattle.std.proofs.lemmas.Bool.{eqb-true}
 use Rattle.fc_values.proofs.Booleans.{or_true}
-use Rattle.fc_values.proofs.Rising.{rises_tail, rises_weaker, rises_apart}
+use Rattle.fc_values.proofs.Rising.{rises_tail, rises_apart}
 use Rattle.fc_values.specs.Fields.{Rises, is_in}
 use Rattle.fc_values.specs.Trees.{Copy}
 use Rattle.fc_values.specs.Values.{LocalValue}
@@ -12,10 +12,10 @@ use Rattle.topology.specs.Changes.{first_fault, link_fault, unlink_fault, set_fa
 use Rattle.topology.specs.declared.types.NetFault.TheVariants as net
 use Rattle.topology.specs.Networks.{Network, NetDevice, Lives, lives, numbers}
 use Rattle.firing_core.specs.Entries.{EditValue, LinkEdit, UnlinkEdit, SetEdit, PokeEdit, JoinEdit, LeaveEdit, EntryValue, BeginEntry, EndEntry, EditEntry}
-use Rattle.firing_core.specs.Cores.{Core, Run, Edits, EditFits, IsGood, edited, edit_fault}
+use Rattle.firing_core.specs.Cores.{Core, Edits, EditFits, IsGood, edited, edit_fault}
 use Rattle.firing_core.specs.Rounds.{HasEnd, HasRounds}
 use Rattle.firing_core.specs.Laws.{FaultlessStep, StepsKeepGood, RunsCut}
-use Rattle.firing_core.specs.Stretches.{begins, NoneFlies, IsMixed, IsSmallest, MixStretch}
+use Rattle.firing_core.specs.Stretches.{begins, NoneFlies, IsMixed, MixStretch}
 use Rattle.round_count.specs.Laws.{RoundsFollow}
 use Rattle.session.proofs.Pokes.{is_itself}
 use Rattle.session.proofs.Sweeps.{Goes, goes_both, begins_both, sweep, sweeps, sweep_plain, sweep_out, sweep_in, sweeps_begin, sweeps_cover, swapped, begins_one, ends_one, fire_all, fire_rounds, settle_all}

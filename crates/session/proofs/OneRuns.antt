@@ -1,14 +1,13 @@
 -- Two script runs of the same commands whose logs agree show the same.
-use Rattle.std.proofs.Common.{ℕ, suc, ◌≡◌, ◌+◌, ◌≤◌, Bool, true, false, not, ◌||◌, nat_eq, List, [], ◌∷◌, ◌++◌, length, map, refl, sym, ap, subst, ◌∙◌, arith, Option, Some, None, if◌then◌else◌}
+use Rattle.std.proofs.Common.{ℕ, ◌≡◌, ◌+◌, Bool, true, false, nat_eq, List, [], ◌∷◌, ◌++◌, length, map, refl, sym, ap, subst, ◌∙◌, arith, if◌then◌else◌}
 use Rattle.std.proofs.lemmas.List.{length-map}
 use Rattle.std.proofs.lemmas.Grind.{flat_map-append}
 use Rattle.fc_values.specs.Exports.{FlatExport}
 use Rattle.fc_values.specs.Fields.{is_in}
-use Rattle.fc_values.specs.Trees.{Copy}
 use Rattle.fc_nodes.specs.Program.{Program, Unfolding, unfolding_of, IsProgram}
-use Rattle.topology.specs.Networks.{Network, Lives, numbers}
+use Rattle.topology.specs.Networks.{Lives, numbers}
 use Rattle.firing_core.specs.Entries.{EditValue, LinkEdit, UnlinkEdit, SetEdit, PokeEdit, JoinEdit, LeaveEdit, EntryValue, BeginEntry, EndEntry, IdleEntry, EditEntry}
-use Rattle.firing_core.specs.Cores.{Core, Run, Step, Edits, IsGood, edited}
+use Rattle.firing_core.specs.Cores.{Core, Run, Step, IsGood, edited}
 use Rattle.firing_core.specs.Rounds.{is_edit, has_edit}
 use Rattle.firing_core.specs.Laws.{StepsKeepGood, RunsKeepGood, LogsLeadToOne}
 use Rattle.firing_core.specs.Stretches.{begins, is_begin, IsMixed, NoneFlies, MixStretch}

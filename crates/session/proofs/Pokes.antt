@@ -1,5 +1,5 @@
 -- Exports that are poked one after another.
-use Rattle.std.proofs.Common.{ℕ, ◌≡◌, Bool, true, false, not, nat_eq, List, [], ◌∷◌, ◌++◌, length, map, refl, sym, ap, subst, ◌∙◌, append_assoc, append-nil, None, ◌||◌, arith}
+use Rattle.std.proofs.Common.{ℕ, ◌≡◌, true, not, nat_eq, List, [], ◌∷◌, ◌++◌, length, map, refl, sym, ap, subst, ◌∙◌, append_assoc, append-nil, ◌||◌, arith}
 use Rattle.std.proofs.lemmas.Bool.Decides.{nat_tests}
 use Rattle.std.proofs.lemmas.List.{map-append}
 use Rattle.fc_values.proofs.Booleans.{or_true}
@@ -9,10 +9,10 @@ use Rattle.fc_values.specs.Fields.{is_in}
 use Rattle.fc_nodes.specs.Program.{Program, Unfolding, unfolding_of}
 use Rattle.topology.specs.declared.types.NetFault.TheVariants as net
 use Rattle.topology.specs.declared.types.Device.{Device}
-use Rattle.topology.specs.Networks.{Network, Lives, lives, device_of, numbers}
+use Rattle.topology.specs.Networks.{Network, Lives, device_of, numbers}
 use Rattle.topology.specs.Changes.{first_fault}
 use Rattle.firing_core.specs.Books.{BookValue}
-use Rattle.firing_core.specs.Cores.{Core, Run, edited}
+use Rattle.firing_core.specs.Cores.{Core, Run}
 use Rattle.firing_core.specs.CoreViews.{CoreValue, core_of}
 use Rattle.firing_core.specs.Entries.{EntryValue, PokeEdit, EditEntry, entries_of}
 use Rattle.firing_core.specs.Laws.{RunsCut}

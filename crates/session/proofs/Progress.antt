@@ -5,7 +5,7 @@ use Rattle.fc_values.proofs.Booleans.{or_no}
 use Rattle.fc_values.specs.Exports.{FlatExport}
 use Rattle.fc_values.specs.Trees.{Copy}
 use Rattle.fc_nodes.specs.Program.{Program, Unfolding, unfolding_of}
-use Rattle.topology.specs.Networks.{Network, NetDevice, Lives, lives}
+use Rattle.topology.specs.Networks.{Network, NetDevice, lives}
 use Rattle.topology.specs.declared.types.NetFault.{NetFault}
 use Rattle.topology.specs.declared.types.NetFault.TheVariants as fault
 use Rattle.topology.specs.declared.types.TheConstants.{MOST_DEVICES}
@@ -17,7 +17,7 @@ use Rattle.firing_core.specs.Rounds.{has_edit, is_edit}
 use Rattle.firing_core.specs.Laws.{PlainRunsKeepNet, RunsCut}
 use Rattle.firing_core.specs.Stretches.{MixStretch}
 use Rattle.edit_commands.specs.declared.scripts.TheConstants.{MOST_FIRINGS}
-use Rattle.edit_commands.specs.Scripts.{Progress, CommandValue, RunCommand, EditCommand, ScrambleCommand, ShowCommand, MixCommand, flies}
+use Rattle.edit_commands.specs.Scripts.{Progress, CommandValue, RunCommand, EditCommand, ScrambleCommand, ShowCommand, MixCommand}
 use Rattle.edit_commands.specs.JudgedCommands.{net_after, IsLeftBy, MayCome, after_command}
 use Rattle.session.specs.Conditions.{Allows}
 use Rattle.session.specs.ScriptRuns.{Added, DoesLine, poke}

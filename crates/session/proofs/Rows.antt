@@ -1,11 +1,9 @@
 -- What the code has made of a session, as the row of its line.
-use Rattle.std.proofs.Common.{ℕ, ◌≡◌, ◌+◌, ◌-◌, List, [], ◌∷◌, ◌++◌, length, map, refl, sym, ap, subst, ◌∙◌, arith, append-nil}
-use Rattle.fc_nodes.specs.Program.{Program, unfolding_of}
+use Rattle.std.proofs.Common.{ℕ, ◌≡◌, ◌+◌, ◌-◌, List, [], ◌∷◌, ◌++◌, length, map, refl, sym, ap, ◌∙◌, arith, append-nil}
 use Rattle.firing_core.specs.declared.entries.Part.{Part}
 use Rattle.firing_core.specs.Books.{BookValue}
-use Rattle.firing_core.specs.Cores.{Core, Run}
 use Rattle.firing_core.specs.CoreViews.{core_of}
-use Rattle.firing_core.specs.Entries.{EditValue, EntryValue, BeginEntry, EditEntry, entries_of}
+use Rattle.firing_core.specs.Entries.{EditValue, BeginEntry, EditEntry, entries_of}
 use Rattle.firing_core.specs.Rounds.{after_edit}
 use Rattle.firing_core.specs.Stretches.{IsMixed, RanRounds, MixedEdit}
 use Rattle.edit_commands.specs.Scripts.{RunCommand, EditCommand, ScrambleCommand, ShowCommand, MixCommand}

@@ -1,18 +1,16 @@
 -- Script runs, line by line.
-use Rattle.std.proofs.Common.{ℕ, ◌≡◌, ◌+◌, ◌≤◌, ◌<◌, suc, List, [], ◌∷◌, ◌++◌, length, map, take, drop, get_or, refl, sym, ap, subst, ◌∙◌, arith, append_assoc, append-nil}
+use Rattle.std.proofs.Common.{ℕ, ◌≡◌, ◌+◌, List, [], ◌∷◌, ◌++◌, length, sym, ap, subst, ◌∙◌, arith, append_assoc, append-nil}
 use Rattle.std.proofs.lemmas.List.{length-map}
 use Rattle.std.proofs.lemmas.Grind.{flat_map-append}
 use Rattle.fc_nodes.specs.declared.verdicts.Verdict.{Verdict}
 use Rattle.fc_nodes.specs.Program.{Program}
-use Rattle.firing_core.specs.declared.entries.Entry.{Entry}
 use Rattle.firing_core.specs.Books.{BookValue}
-use Rattle.firing_core.specs.Cores.{Core}
 use Rattle.firing_core.specs.CoreViews.{CoreValue, core_of}
 use Rattle.firing_core.specs.Entries.{entry_of, entries_of}
 use Rattle.report.specs.Verdicts.{verdict_text}
 use Rattle.edit_commands.specs.Scripts.{CommandValue}
-use Rattle.session.specs.Shown.{shown_text, all_shown, script_text, verdict_in}
-use Rattle.session.specs.ScriptRuns.{DoesLine, DoesLines, nothing}
+use Rattle.session.specs.Shown.{shown_text, all_shown, verdict_in}
+use Rattle.session.specs.ScriptRuns.{DoesLine, DoesLines}
 use Rattle.session.specs.Sessions.{SessionValue, Opens, AfterLine, HasRun}
 use Rattle.session.proofs.Lines.{one_more}
 

@@ -1,5 +1,5 @@
 -- From each good core, commands that are judged against it have a script run.
-use Rattle.std.proofs.Common.{ℕ, ◌≡◌, ◌+◌, ◌≤◌, true, not, List, [], ◌∷◌, ◌++◌, length, map, refl, sym, ap, subst, ◌∙◌, arith, length-append, None}
+use Rattle.std.proofs.Common.{ℕ, ◌≡◌, ◌+◌, not, List, [], ◌∷◌, ◌++◌, length, map, refl, sym, ap, subst, arith, length-append}
 use Rattle.fc_values.specs.Exports.{FlatExport}
 use Rattle.fc_nodes.specs.Program.{Program, Unfolding, unfolding_of, IsProgram}
 use Rattle.topology.specs.Changes.{first_fault}

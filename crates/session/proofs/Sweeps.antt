@@ -1,5 +1,5 @@
 -- From each good core there is a stretch of so many rounds: flights are ended, and then each device fires in turn.
-use Rattle.std.proofs.Common.{ℕ, zero, suc, ◌≡◌, ◌+◌, ◌↔◌, Bool, true, false, nat_eq, ◌||◌, List, [], ◌∷◌, ◌++◌, refl, sym, ap, subst, ◌∙◌, inl, inr, arith, Option, Some, None, if◌then◌else◌}
+use Rattle.std.proofs.Common.{ℕ, zero, suc, ◌≡◌, ◌+◌, Bool, true, false, nat_eq, ◌||◌, List, [], ◌∷◌, ◌++◌, refl, sym, ap, subst, ◌∙◌, inl, inr, arith, Option, Some, None, if◌then◌else◌}
 use Rattle.std.proofs.lemmas.Bool.{eqb-true}
 use Rattle.fc_values.proofs.Booleans.{or_true}
 use Rattle.fc_values.proofs.Rising.{rises_tail, rises_apart}
@@ -7,12 +7,12 @@ use Rattle.fc_values.specs.Fields.{Rises, is_in}
 use Rattle.fc_values.specs.Trees.{Copy}
 use Rattle.fc_nodes.specs.Program.{Program, Unfolding, unfolding_of, IsProgram}
 use Rattle.topology.specs.Networks.{Network, Lives, lives, numbers}
-use Rattle.firing_core.specs.Entries.{EntryValue, BeginEntry, EndEntry, IdleEntry, EditEntry}
-use Rattle.firing_core.specs.Cores.{Core, Step, Ends, Run, IsGood, begun, copy_of}
+use Rattle.firing_core.specs.Entries.{EntryValue, BeginEntry, EndEntry}
+use Rattle.firing_core.specs.Cores.{Core, Ends, Run, IsGood, begun, copy_of}
 use Rattle.firing_core.specs.Replays.{begin_fault, end_fault}
-use Rattle.firing_core.specs.Rounds.{is_edit, has_edit, HasEnd, HasFiring, Covers, HasRounds}
+use Rattle.firing_core.specs.Rounds.{has_edit, HasFiring, HasRounds}
 use Rattle.firing_core.specs.Laws.{FaultlessStep, StepsKeepGood, RunsCut}
-use Rattle.firing_core.specs.Stretches.{begins, is_begin, EachBegins, NoneFlies, RunStretch}
+use Rattle.firing_core.specs.Stretches.{begins, is_begin, NoneFlies, RunStretch}
 use Rattle.round_count.specs.Laws.{RoundsFollow}
 use Rattle.session.proofs.Pokes.{is_itself}
 use Rattle.session.proofs.Progress.{plain_both}

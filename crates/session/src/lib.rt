@@ -4,12 +4,12 @@
 
 mod edits;
 mod laws;
-mod runner;
+mod pool;
 mod scripts;
 mod sessions;
 mod showing;
 
 pub use laws::{lines_cut, one_script_run, some_script_run};
-pub use runner::Runner;
+pub use pool::Pool;
 pub use scripts::run_script;
 pub use sessions::Session;

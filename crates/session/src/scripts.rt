@@ -7,15 +7,17 @@ ghost use Rattle.edit_commands.specs.Scripts.{at_start, numbered};
 ghost use Rattle.edit_commands.specs.JudgedCommands.{AreJudged};
 ghost use Rattle.session.specs.Sessions.{HasRun};
 
-use crate::runner::Runner;
+use crate::pool::Pool;
 use crate::sessions::Session;
 use crate::showing::verdict_on;
 use edit_commands::Line;
+use export_table::Gate;
 use fc_nodes::Unfolded;
 use fc_values::Memory;
 use firing_core::{Book, Core, runs_cut, steps_keep_good};
 use std::alloc::Global;
-use std::sync::Arc;
+use std::sync::{Arc, Wait};
+use std::thread::Threads;
 
 // The session of a core before the first line.
 fn start(alloc: Global, program: Arc<Unfolded>, core: Core) -> Result<Session, Memory>
@@ -32,13 +34,13 @@ fn start(alloc: Global, program: Arc<Unfolded>, core: Core) -> Result<Session, M
     }
 }
 
-/// Does what the lines of a script ask for, one after another, from a core on.
-pub fn run_script<R: Runner>(
+/// Does what the lines of a script ask for, one after another, from a core on. It waits where it runs rounds alone.
+pub fn run_script<W: Threads + Wait + Sync, G: Gate + Sync>(
     alloc: Global,
     program: Arc<Unfolded>,
     core: Core,
     lines: &[Line],
-    runner: &mut R,
+    pool: &Pool<W, G>,
 ) -> Result<Session, Memory>
     requires program { program.value ≡ core.program }
     requires judged { AreJudged (unfolding_of program.value) (core_of core) (at_start (core_of core).net)
@@ -51,7 +53,7 @@ pub fn run_script<R: Runner>(
     for line in lines {
         // Its clause: the core is good.
         let _net = session.book().core().net();
-        session = session.command(alloc, line, runner)?;
+        session = session.command(alloc, line, pool)?;
     }
     Ok(session)
 }

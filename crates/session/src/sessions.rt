@@ -1,9 +1,10 @@
 //! Sessions, and what a line makes of one.
 
 use crate::edits::{copy_edit, make, scramble};
-use crate::runner::Runner;
+use crate::pool::Pool;
 use crate::showing::{show_edit, show_values};
 use edit_commands::{Command, Line};
+use export_table::Gate;
 use fc_nodes::Verdict;
 use fc_values::Memory;
 use firing_core::{Book, Edit, Part};
@@ -11,6 +12,8 @@ use report::verdict as write_verdict;
 use round_count::after_last_edit;
 use std::alloc::Global;
 use std::marker::Model;
+use std::sync::Wait;
+use std::thread::Threads;
 
 /// A book, the parts of its log that lines have run, and the text that is shown so far.
 #[derive(Drop)]
@@ -59,33 +62,33 @@ impl Session {
         }
     }
 
-    /// Does what a line asks for. It may wait where the runner may. On `Memory` the session is given up.
-    pub fn command<R: Runner>(
+    /// Does what a line asks for. It waits where it runs rounds alone. On `Memory` the session is given up.
+    pub fn command<W: Threads + Wait + Sync, G: Gate + Sync>(
         self,
         alloc: Global,
         line: &Line,
-        runner: &mut R,
+        pool: &Pool<W, G>,
     ) -> Result<Session, Memory>
         requires { Allows (unfolding_of self.book.program) (core_of self.book.core) (command_of line.now.command) }
         ensures { IfOk result (AfterLine (numbered line.now) self) }
     {
         let number = line.number;
         match &line.command {
-            Command::Run(rounds) => self.run(alloc, number, *rounds, runner),
+            Command::Run(rounds) => self.run(alloc, number, *rounds, pool),
             Command::Edit(edit) => self.edit(alloc, edit),
             Command::Scramble(seed) => self.scramble(alloc, *seed),
             Command::Show => self.show(alloc, number),
-            Command::Mix(rounds, edit) => self.mix(alloc, number, *rounds, edit, runner),
+            Command::Mix(rounds, edit) => self.mix(alloc, number, *rounds, edit, pool),
         }
     }
 
     // Runs so many rounds.
-    fn run<R: Runner>(
+    fn run<W: Threads + Wait + Sync, G: Gate + Sync>(
         self,
         alloc: Global,
         line: u32,
         rounds: u32,
-        runner: &mut R,
+        pool: &Pool<W, G>,
     ) -> Result<Session, Memory>
         requires { AllowsRounds (core_of self.book.core) rounds }
         ensures { IfOk result (AfterLine (line, RunCommand rounds) self) }
@@ -96,7 +99,7 @@ impl Session {
             text,
         } = self;
         let from = book.log().len();
-        let Ok(book) = runner.run(alloc, book, rounds) else {
+        let Ok(book) = pool.run(alloc, book, rounds) else {
             return Err(Memory);
         };
         let to = book.log().len();
@@ -110,13 +113,13 @@ impl Session {
     }
 
     // Makes an edit among firings, and then runs so many rounds.
-    fn mix<R: Runner>(
+    fn mix<W: Threads + Wait + Sync, G: Gate + Sync>(
         self,
         alloc: Global,
         line: u32,
         rounds: u32,
         edit: &Edit,
-        runner: &mut R,
+        pool: &Pool<W, G>,
     ) -> Result<Session, Memory>
         requires { AllowsMix (unfolding_of self.book.program) (core_of self.book.core) rounds (edit_of edit.now) }
         ensures { IfOk result (AfterLine (line, MixCommand rounds (edit_of edit.now)) self) }
@@ -127,7 +130,7 @@ impl Session {
             text,
         } = self;
         let edit = copy_edit(alloc, edit)?;
-        let Ok(book) = runner.mix(alloc, book, rounds, edit) else {
+        let Ok(book) = pool.mix(alloc, book, rounds, edit) else {
             return Err(Memory);
         };
         let to = book.log().len();

@@ -1,4 +1,4 @@
-use Rattle.std.proofs.Common.{◌≡◌, ◌∙◌, [], length, sym, ap, refl, arith}
+use Rattle.std.proofs.Common.{◌≡◌, ◌∙◌, length, sym, ap, arith}
 use Rattle.std.specs.Vec.Iter.{into_iter_items}
 use Rattle.session.proofs.Pokes.{poked_none, may_poke, poked_more, poked_all, nothing_left}
 use Rattle.session.proofs.edits.poke_all.Goals as goal

@@ -8,9 +8,15 @@ loop-line-init g c =
     upto_none c.args.program.value c.args.core (map numbered c.args.lines.now) c.in_ok-session.session c.in_ok-session.ensures c.requires.judged
 
 pub command-requires : goal.command-requires
-command-requires g c =
-    may_do c.args.program.value c.args.core c.args.lines.now c.loop-line.line-index c.loop-line.session c.loop-line-test.true c.line-item.result
-    (item_is c.args.lines.now c.loop-line.line-index c.line-item.result c.line-item.is) c.loop-line.invariant
+command-requires g c = (
+  c.type_bounds.sync-W,
+  (
+    c.type_bounds.sync-G,
+    may_do c.args.program.value c.args.core c.args.lines.now c.loop-line.line-index c.loop-line.session
+        c.loop-line-test.true c.line-item.result
+        (item_is c.args.lines.now c.loop-line.line-index c.line-item.result c.line-item.is) c.loop-line.invariant,
+  ),
+)
 
 pub loop-line-preserved : goal.loop-line-preserved
 loop-line-preserved g c =
