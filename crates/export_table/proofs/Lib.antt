@@ -10,4 +10,3 @@ mod Turning
 mod OwnFirings
 mod Calls
 pub mod Crosses
-pub mod Captures

@@ -1,5 +1,4 @@
-pub mod Reaching
 mod Posts
-pub mod Firings
+mod Firings
 mod MailLevels
 mod Rounds

@@ -1,6 +1,8 @@
 mod Parts
 mod Passes
 mod Turns
+mod Captures
+mod Crossed
 mod Closing
 mod Flights
 mod Stretching

@@ -1,0 +1,9 @@
+mod Mapped
+mod Cutting
+mod Counting
+mod EachScenario
+mod OneGens
+mod SomeGens
+mod Firings
+mod Agreeing
+mod Running

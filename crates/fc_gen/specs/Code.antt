@@ -1,0 +1,33 @@
+-- What the code of `gen` has on the way.
+use Rattle.std.specs.Prelude.{ℕ, ◌≡◌, ◌≤◌, List, [], ◌∷◌}
+use Rattle.fc_nodes.specs.Program.{Program}
+use Rattle.topology.specs.Networks.{Network}
+use Rattle.firing_core.specs.declared.entries.Part.{Part}
+use Rattle.firing_core.specs.CoreViews.{core_of}
+use Rattle.firing_core.specs.Entries.{entries_of}
+use Rattle.session.specs.ScriptRuns.{ScriptRun}
+use Rattle.session.specs.Sessions.{SessionValue}
+use Rattle.fc_replay.specs.Ledgers.{ledger_of}
+use Rattle.fc_gen.specs.declared.scenarios.Generated.{Generated}
+use Rattle.fc_gen.specs.Gens.{GenValue, empty_on, scenario_lines}
+
+-- a part lies within a log of so many entries
+pub record IsWithin (entries : ℕ) (p : Part) : Type 0 where
+  pub order : p.from ≤ p.to
+  pub end : p.to ≤ entries
+
+-- the first part does, if there is one
+abbrev pub FirstWithin : ℕ → List Part → Type 0
+FirstWithin n [] = Unit {0}
+FirstWithin n (p ∷ ps) = IsWithin n p
+
+-- what `gen` gives, in code
+abbrev pub gen_of : Generated → GenValue
+gen_of g = record { text = g.text.items; book = ledger_of g.book; parts = g.parts.items }
+
+-- the session of a scenario's lines, from a network without exports on
+pub record IsRun (P : Program) (net : Network) (number rounds : ℕ) (s : SessionValue) : Type 0 where
+  pub program : s.book.program ≡ P
+  pub start : core_of s.book.start ≡ empty_on net
+  pub run : ScriptRun P (empty_on net) (scenario_lines number rounds) (entries_of s.book.log) s.parts s.text
+      (core_of s.book.core)

@@ -1,0 +1,154 @@
+//! Scenarios: their programs, the script runs over them, and what `gen` gives of these.
+
+ghost use Rattle.std.specs.Prelude.{◌≡◌, ◌≤◌, ◌+◌, ◌*◌, IfOk, length, map};
+ghost use Rattle.fc_values.specs.Fields.{Entries, entry_of};
+ghost use Rattle.fc_syntax.specs.Terms.{program_of};
+ghost use Rattle.firing_core.specs.CoreViews.{core_of};
+ghost use Rattle.firing_core.specs.Entries.{entries_of};
+ghost use Rattle.fc_nodes.specs.Program.{unfolding_of};
+ghost use Rattle.scramble.specs.Rings.{ring, ring_program};
+ghost use Rattle.stable_field.specs.Stable.{IsStableField};
+ghost use Rattle.fc_gen.specs.Code.{FirstWithin, IsRun, gen_of};
+ghost use Rattle.fc_gen.specs.Gens.{Gens, gen_text, scenario_program};
+
+use crate::counts::{agreeing, firings, held_sum};
+use crate::summaries::{Counts, summary};
+use edit_commands::{Command, Line};
+use export_table::Gate;
+use fc_nodes::Unfolded;
+use fc_syntax::Program;
+use fc_types::check_types;
+use fc_values::{Local, Memory};
+use firing_core::{Book, Core, Part};
+use ring_laws::{rings_are_networks, rings_are_typed, rings_stabilise};
+use scramble::scenario;
+use session::{Pool, Session, run_script};
+use stable_field::stable;
+use std::alloc::Global;
+use std::sync::{Arc, Wait};
+use std::thread::Threads;
+use topology::Network;
+use unfold::unfold;
+
+/// What `gen` gives.
+#[derive(Drop)]
+pub struct Generated {
+    /// The summary.
+    pub text: Vec<u8>,
+    /// The program, the start, the log and the last core.
+    pub book: Book,
+    /// The stretch of the log that the line `run` made.
+    pub parts: Vec<Part>,
+}
+
+// The nodes of the program of a ring. It is typed and within the limit, so only memory can be wanting.
+fn nodes(alloc: Global, program: Program, devices: u32) -> Result<Unfolded, Memory>
+    requires least { 3 ≤ devices }
+    requires most { devices ≤ 512 }
+    requires program { program_of program ≡ ring_program devices }
+    ensures { IfOk result (λ nodes. unfolding_of nodes ≡ scenario_program devices) }
+{
+    rings_are_typed();
+    let Ok(typed) = check_types(alloc, program) else {
+        return Err(Memory);
+    };
+    match unfold(alloc, &typed) {
+        Ok(nodes) => Ok(nodes),
+        Err(_) => Err(Memory),
+    }
+}
+
+// The stabilised field of a scenario, whose verdict is a yes.
+fn field(alloc: Global, program: &Unfolded, net: &Network) -> Result<Vec<(u32, Local)>, Memory>
+    requires { net.now.declared ≡ program.now.declared }
+    ensures { IfOk result (λ field. IsStableField (unfolding_of program.now) net.now (map entry_of field.items)) }
+{
+    match stable(alloc, program, net) {
+        Ok(field) => Ok(field),
+        Err(_) => Err(Memory),
+    }
+}
+
+// The session of a scenario's two lines.
+fn ran<W: Threads + Wait + Sync, G: Gate + Sync>(
+    alloc: Global,
+    program: Unfolded,
+    net: Network,
+    number: u32,
+    rounds: u32,
+    pool: &Pool<W, G>,
+) -> Result<Session, Memory>
+    requires least { 1 ≤ rounds }
+    requires few { rounds * length net.devices ≤ 1000000 }
+    requires declared { net.declared ≡ program.declared }
+    ensures { IfOk result (IsRun program net number rounds) }
+{
+    let program = Arc::new(alloc, program)?;
+    let core = Core::new(alloc, &program, net, Vec::new(alloc), Vec::new(alloc))?;
+    let lines = [
+        Line {
+            number: 1,
+            command: Command::Scramble(number),
+        },
+        Line {
+            number: 2,
+            command: Command::Run(rounds),
+        },
+    ];
+    let session = run_script(alloc, program, core, &lines, pool)?;
+    Ok(session)
+}
+
+// What is given of a session, beside the stabilised field.
+fn summed_up(
+    alloc: Global,
+    number: u32,
+    devices: u32,
+    rounds: u32,
+    field: &[(u32, Local)],
+    session: Session,
+) -> Result<Generated, Memory>
+    requires { FirstWithin (length session.book.log) session.parts }
+    ensures text { IfOk result (λ g. g.text.items ≡ gen_text number devices rounds (map entry_of field.now)
+        (entries_of session.book.log) session.parts (core_of session.book.core)) }
+    ensures book { IfOk result (λ g. g.book ≡ session.book) }
+    ensures parts { IfOk result (λ g. g.parts.items ≡ session.parts) }
+{
+    let (book, parts, _) = session.finish();
+    let counts = Counts {
+        number,
+        devices,
+        rounds,
+        firings: firings(book.log(), &parts),
+        agree: agreeing(book.core(), field),
+        sum: held_sum(book.core()),
+    };
+    let text = summary(alloc, counts)?;
+    Ok(Generated { text, book, parts })
+}
+
+/// The summary of the scenario of a number on so many devices, and the book that it sums up. It waits where it runs
+/// rounds alone.
+pub fn generate<W: Threads + Wait + Sync, G: Gate + Sync>(
+    alloc: Global,
+    number: u32,
+    devices: u32,
+    pool: &Pool<W, G>,
+) -> Result<Generated, Memory>
+    requires least { 3 ≤ devices }
+    requires most { devices ≤ 512 }
+    ensures { IfOk result (λ g. Gens number devices (gen_of g)) }
+{
+    rings_are_networks();
+    rings_stabilise();
+    let (program, net) = scenario(alloc, number, devices)?;
+    let program = nodes(alloc, program, devices)?;
+    // Its clause: the nodes are a program.
+    let _size = program.size();
+    let field = field(alloc, &program, &net)?;
+    // As many as the verdict says.
+    let rounds = 2 + 2 * devices;
+    let session = ran(alloc, program, net, number, rounds, pool)?;
+    let generated = summed_up(alloc, number, devices, rounds, &field, session)?;
+    Ok(generated)
+}
