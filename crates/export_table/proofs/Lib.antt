@@ -10,3 +10,4 @@ mod Turning
 mod OwnFirings
 mod Calls
 pub mod Crosses
+pub mod Captures

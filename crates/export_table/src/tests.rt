@@ -1,9 +1,10 @@
 //! What is left to begin of two devices, and tables over a book of two devices.
 
 ghost use Rattle.std.specs.Prelude.{◌≡◌, ◌<◌, ◌≤◌, ◌+◌, ◌++◌, ◌∷◌, ℕ, [], IfOk, IfSome, map, None};
-ghost use Rattle.fc_values.specs.Types.{declarations_of, type_of, TypeLocal, IntType};
+ghost use Rattle.std.specs.Thread.{IsSync};
+ghost use Rattle.fc_values.specs.Types.{declarations_of, TypeLocal, IntType};
 ghost use Rattle.fc_values.specs.Values.{IntValue};
-ghost use Rattle.fc_nodes.specs.Terms.{view_of, sort_of, Has, OfLeaf, Literal};
+ghost use Rattle.fc_nodes.specs.Terms.{view_of, Has, OfLeaf, Literal};
 ghost use Rattle.topology.specs.Networks.{device_of};
 ghost use Rattle.topology.specs.Changes.{HaveNumbers, HaveInputs};
 ghost use Rattle.firing_core.specs.Cores.{EditFits};
@@ -22,6 +23,7 @@ use firing_core::{Book, Core, Edit, EditFault, Entry, Room};
 use std::alloc::Global;
 use std::sync::{Arc, Wait};
 use std::test::Fail;
+use std::thread::{Threads, join_mut};
 use topology::{Device, NetFault, Network};
 use turn_lock::Pass;
 
@@ -55,27 +57,22 @@ fn declared(alloc: Global) -> Declared
     }
 }
 
-// Puts a node behind others.
-fn put(nodes: &mut Vec<Node>, op: Op, ty: Ty, kids: Vec<u32>) -> Result<(), Memory>
-    ensures { IfOk result (λ done. map view_of nodes.new.items ≡ map view_of nodes.old.items
-        ++ Has (sort_of op) (type_of ty) kids.items ∷ []) }
+// A number, which has no kids.
+fn number(alloc: Global, number: u32) -> Node
+    ensures { view_of result ≡ Has (OfLeaf (Literal (IntValue number))) (TypeLocal IntType) [] }
 {
-    nodes.push(Node { op, ty, kids })?;
-    Ok(())
+    Node {
+        op: Op::Lit(Local::Int(number)),
+        ty: Ty::Local(LocalTy::Int),
+        kids: Vec::new(alloc),
+    }
 }
 
-// Puts a number behind other nodes.
-fn put_number(nodes: &mut Vec<Node>, number: u32, kids: Vec<u32>) -> Result<(), Memory>
-    ensures { IfOk result (λ done. map view_of nodes.new.items ≡ map view_of nodes.old.items
-        ++ Has (OfLeaf (Literal (IntValue number))) (TypeLocal IntType) kids.items ∷ []) }
+// Puts a node behind others.
+fn put(nodes: &mut Vec<Node>, node: Node) -> Result<(), Memory>
+    ensures { IfOk result (λ done. map view_of nodes.new.items ≡ map view_of nodes.old.items ++ view_of node ∷ []) }
 {
-    put(
-        nodes,
-        Op::Lit(Local::Int(number)),
-        Ty::Local(LocalTy::Int),
-        kids,
-    )?;
-    Ok(())
+    Ok(nodes.push(node)?)
 }
 
 // The program `minHoodLoc(nbr{1} + 1, 5)`.
@@ -83,27 +80,27 @@ fn pair(alloc: Global) -> Result<Unfolded, Memory>
     ensures { IfOk result (λ p. p.declared ≡ record { ceiling = 10; inputs = []; least = 1; greatest = 1 }) }
 {
     let mut nodes = Vec::new(alloc);
-    put(
-        &mut nodes,
-        Op::Apply(Builtin::MinHoodLoc),
-        Ty::Local(LocalTy::Int),
-        vec![in alloc; 1, 5]?,
-    )?;
-    put(
-        &mut nodes,
-        Op::Apply(Builtin::Add),
-        Ty::Field(LocalTy::Int),
-        vec![in alloc; 2, 4]?,
-    )?;
-    put(
-        &mut nodes,
-        Op::Nbr,
-        Ty::Field(LocalTy::Int),
-        vec![in alloc; 3]?,
-    )?;
-    put_number(&mut nodes, 1, Vec::new(alloc))?;
-    put_number(&mut nodes, 1, Vec::new(alloc))?;
-    put_number(&mut nodes, 5, Vec::new(alloc))?;
+    let hood = Node {
+        op: Op::Apply(Builtin::MinHoodLoc),
+        ty: Ty::Local(LocalTy::Int),
+        kids: vec![in alloc; 1, 5]?,
+    };
+    put(&mut nodes, hood)?;
+    let sum = Node {
+        op: Op::Apply(Builtin::Add),
+        ty: Ty::Field(LocalTy::Int),
+        kids: vec![in alloc; 2, 4]?,
+    };
+    put(&mut nodes, sum)?;
+    let heard = Node {
+        op: Op::Nbr,
+        ty: Ty::Field(LocalTy::Int),
+        kids: vec![in alloc; 3]?,
+    };
+    put(&mut nodes, heard)?;
+    put(&mut nodes, number(alloc, 1))?;
+    put(&mut nodes, number(alloc, 1))?;
+    put(&mut nodes, number(alloc, 5))?;
     Unfolded::new(alloc, declared(alloc), nodes)
 }
 
@@ -322,5 +319,62 @@ fn edits_stand_among_firings(rt: HostRuntime) -> Result<(), Fail> {
     assert!(rt; is_begin(&log[6], 0) && is_end(&log[7], 0));
     assert!(rt; is_begin(&log[8], 1) && is_end(&log[9], 1) && matches!(log[10], Entry::Idle));
     assert!(rt; shows(&book, 0, 5) && shows(&book, 1, 5));
+    Ok(())
+}
+
+// Two threads with a pass each begin and end one firing each.
+fn fire_both<R: Threads + Wait + Sync>(
+    rt: &R,
+    alloc: Global,
+    table: &Shared,
+    program: &Arc<Unfolded>,
+    pass: &mut Pass<Held>,
+    other: &mut Pass<Held>,
+)
+    requires sync { IsSync R.row }
+    requires own { IsPassOf table.now pass.old × IsPassOf table.now other.old }
+    requires turns { (2 ≤ pass.old.left) × (2 ≤ other.old.left) }
+    requires program { program.now.value ≡ table.now.opening.program }
+    ensures own { IsPassOf table.now pass.new × IsPassOf table.now other.new }
+    ensures first { (pass.new.name ≡ pass.old.name) × (pass.new.out ≡ pass.old.out) }
+    ensures second { (other.new.name ≡ other.old.name) × (other.new.out ≡ other.old.out) }
+{
+    join_mut(
+        rt,
+        &mut ||
+            requires own { IsPassOf table.now pass.now }
+            requires turns { 2 ≤ pass.now.left }
+            requires program { program.now.value ≡ table.now.opening.program }
+            ensures own { IsPassOf table.entry.now pass.exit.now }
+            ensures same { (pass.exit.now.name ≡ pass.entry.now.name) × (pass.exit.now.out ≡ pass.entry.now.out) }
+        { fire_once(rt, alloc, table, program, pass) },
+        &mut ||
+            requires own { IsPassOf table.now other.now }
+            requires turns { 2 ≤ other.now.left }
+            requires program { program.now.value ≡ table.now.opening.program }
+            ensures own { IsPassOf table.entry.now other.exit.now }
+            ensures same { (other.exit.now.name ≡ other.entry.now.name) × (other.exit.now.out ≡ other.entry.now.out) }
+        { fire_once(rt, alloc, table, program, other) },
+    );
+}
+
+#[test]
+fn two_threads_with_a_pass_each(rt: HostRuntime) -> Result<(), Fail> {
+    let alloc = rt.alloc();
+    let program = Arc::new(alloc, pair(alloc)?)?;
+    let Ok((table, mut pass)) = Shared::over(alloc, book(alloc, &program)?, 1, 4) else {
+        return Err(Fail::new("no table"));
+    };
+    let mut other = table.split(&mut pass, 2);
+    fire_both(&rt, alloc, &table, &program, &mut pass, &mut other);
+    table.join(&mut pass, other);
+    let book = table.close(pass);
+    let log = book.log();
+    assert_eq!(rt; log.len(), 4);
+    for device in 0..2 {
+        let begins = log.iter().filter(|entry| is_begin(entry, device)).count();
+        let ends = log.iter().filter(|entry| is_end(entry, device)).count();
+        assert!(rt; begins == 1 && ends == 1);
+    }
     Ok(())
 }

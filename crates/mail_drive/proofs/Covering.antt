@@ -2,16 +2,15 @@
 use Rattle.std.proofs.Common.{◌≡◌, ℕ, zero, suc, ◌+◌, ◌%◌, ◌==◌, List, [], ◌∷◌, ◌++◌, length, refl, sym, ◌∙◌, ap, subst, arith, append_assoc, length-append, Bool, true, false, ◌&&◌, ◌||◌, nat_eq, if◌then◌else◌, Option, Some, inl, inr}
 use Rattle.std.proofs.Math.Path.{fun_ext}
 use Rattle.std.proofs.lemmas.Bool.{eqb-true, eq-eqb}
-use Rattle.std.specs.Prelude.{min, max}
 use Rattle.fc_values.specs.Fields.{Rises, is_in}
 use Rattle.fc_values.proofs.Rising.{rises_apart, rises_tail}
 use Rattle.topology.specs.Networks.{Network, IsNetwork, numbers, near}
 use Rattle.topology.specs.Nearby.{near_numbers}
-use Rattle.topology.specs.Changes.{has_pair}
-use Rattle.topology.proofs.Lemmas.{near_linked, near_rises, near_none}
+use Rattle.topology.proofs.Lemmas.{near_rises, near_none}
 use Rattle.scramble.specs.Words.{Words, next}
 use Rattle.message_links.specs.MailCores.{MailEntryValue, MailBegin, MailEnd, MailIdle, MailDeliver, MailAgain, MailLose, reaches, rest_of, without, posted}
 use Rattle.message_links.specs.MailRounds.{Posts, posts_after, posts_along, HasMailFiring, EndsOwnBegin, oldest_post, Brings, CoversMail, HasMailRounds}
+use Rattle.message_links.proofs.Reaching.{near_both}
 use Rattle.mail_drive.specs.Drives.{twice, firings, brought, brings_from, brings, round, driven}
 use Rattle.mail_drive.specs.Laws.{nothing, RoundsCover, DrivenRounds}
 
@@ -233,13 +232,6 @@ module _ (N : Network) (a b : ℕ) where
       by_test false q k ih = found_behind (brings_from d (near N d) ws).0 (brings N ds (brings_from d (near N d) ws).1).0 (from_other d (near N d) ws q) (ih k)
 
 -- ---- a round
-
-near_both : (N : Network) (a b : ℕ) → IsNetwork N → is_in b (near_numbers (near N a)) ≡ reaches N a b
-near_both N a b net =
-    near_linked N.declared (numbers N.devices) a b N.links net.links
-    ∙ ap (λ x. has_pair x (max a b) N.links) (let k : min a b ≡ min b a = omega arith in k)
-    ∙ ap (λ x. has_pair (min b a) x N.links) (let k : max a b ≡ max b a = omega arith in k)
-    ∙ sym (near_linked N.declared (numbers N.devices) b a N.links net.links)
 
 near_lives : (N : Network) (a b : ℕ) → IsNetwork N → reaches N a b ≡ true → is_in a (numbers N.devices) ≡ true
 near_lives N a b net h = by_life (is_in a (numbers N.devices)) refl

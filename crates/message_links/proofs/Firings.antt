@@ -1,4 +1,4 @@
--- Which devices fly with a copy that was begun in a part of a mail log, and which have fired in it.
+-- Crates above cite this module: which devices fly with a copy that was begun in a part of a mail log, and which have fired in it.
 use Rattle.std.proofs.Common.{◌≡◌, ◌⊎◌, ℕ, List, [], ◌∷◌, ◌++◌, length, refl, sym, ◌∙◌, ap, Bool, true, false, ◌||◌, if◌then◌else◌, nat_eq, inl, inr, append_assoc}
 use Rattle.std.proofs.lemmas.Bool.{eqb-true, eq-eqb}
 use Rattle.std.specs.Prelude.{take}

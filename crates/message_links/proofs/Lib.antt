@@ -1,4 +1,5 @@
+pub mod Reaching
 mod Posts
-mod Firings
+pub mod Firings
 mod MailLevels
 mod Rounds

@@ -5,12 +5,8 @@ use Rattle.std.proofs.lemmas.Bool.{eqb-true}
 use Rattle.fc_nodes.specs.Program.{Unfolding}
 use Rattle.topology.specs.Networks.{Network}
 use Rattle.message_links.specs.MailCores.{reaches, Message, Pairs, put_pair, MailCore, MailEntryValue, MailBegin, MailEnd, MailIdle, MailDeliver, MailAgain, MailLose, most, rest_of, without, pushed, posted, MailStep}
+use Rattle.message_links.proofs.Reaching.{both_true}
 use Rattle.message_links.specs.MailRounds.{Posts, posts_of, posts_after, posts_along}
-
-both_true : (a b : Bool) → (a && b) ≡ true → (a ≡ true) × (b ≡ true)
-both_true true true h = (refl, refl)
-both_true true false h = absurd cc
-both_true false b h = absurd cc
 
 -- what is kept for a pair after a write
 pub pair_case : {X : Type 0} (Q : X → Type 0) (f : Pairs X) (a b : ℕ) (x : X) (c d : ℕ) → (c ≡ a → d ≡ b → Q x) → Q (f c d) → Q (put_pair f a b x c d)

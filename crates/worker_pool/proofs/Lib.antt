@@ -1,8 +1,6 @@
 mod Parts
 mod Passes
 mod Turns
-mod Captures
-mod Crossed
 mod Closing
 mod Flights
 mod Stretching

@@ -1,14 +1,12 @@
 -- A table in which an edit stands among firings.
-use Rattle.std.proofs.Common.{◌≡◌, ℕ, ◌+◌, ◌≤◌, List, [], ◌∷◌, ◌++◌, map, drop, length, refl, sym, ap, ◌∙◌, subst, arith, inl, inr, ◌⊎◌, ⊎_elim, Bool, true, false, ◌||◌, nat_eq, nat_lt, if◌then◌else◌, None}
-use Rattle.std.proofs.lemmas.Bool.{eqb-true, eq-eqb}
+use Rattle.std.proofs.Common.{◌≡◌, ℕ, ◌+◌, ◌≤◌, List, [], ◌∷◌, ◌++◌, map, drop, length, refl, sym, ap, ◌∙◌, subst, arith, inl, inr, ◌⊎◌, ⊎_elim, Bool, true, false, ◌||◌, nat_lt, if◌then◌else◌, None}
+use Rattle.std.proofs.lemmas.Bool.{eq-eqb}
 use Rattle.std.proofs.lemmas.List.{length-map}
 use Rattle.std.proofs.Math.Seq.{drop-append_seam, drop-length}
 use Rattle.fc_values.proofs.Booleans.{or_no}
 use Rattle.fc_values.specs.Fields.{is_in}
-use Rattle.fc_values.specs.Values.{LocalValue}
 use Rattle.fc_nodes.specs.Program.{Unfolding, unfolding_of}
 use Rattle.topology.specs.Networks.{Network, NetDevice, IsNetwork, Lives, numbers}
-use Rattle.topology.specs.Changes.{put_input}
 use Rattle.fc_values.specs.Trees.{Copy}
 use Rattle.firing_core.specs.Entries.{EditValue, LinkEdit, UnlinkEdit, SetEdit, PokeEdit, JoinEdit, LeaveEdit, EntryValue, BeginEntry, EndEntry, IdleEntry, EditEntry, entry_of, entries_of}
 use Rattle.firing_core.specs.Cores.{Core, Step, Run, edited}

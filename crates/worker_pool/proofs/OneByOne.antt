@@ -2,7 +2,6 @@
 use Rattle.std.proofs.Common.{◌≡◌, ℕ, zero, suc, ◌+◌, ◌<◌, ◌≤◌, List, [], ◌∷◌, ◌++◌, ◌-◌, map, take, drop, length, get_or, refl, sym, ap, ◌∙◌, subst, arith, Bool, true, false, ◌||◌, nat_eq, if◌then◌else◌}
 use Rattle.std.proofs.lemmas.Bool.{eqb-true, eq-eqb}
 use Rattle.std.proofs.lemmas.List.{drop-append-le, length-map}
-use Rattle.fc_values.specs.Fields.{is_in}
 use Rattle.topology.specs.declared.types.Device.{Device}
 use Rattle.topology.specs.Networks.{Network, NetDevice, Lives, device_of, numbers}
 use Rattle.topology.proofs.Lemmas.{in_at, at_in}
@@ -112,16 +111,6 @@ pub record ShortsTo (front : ℕ) (old now : BookValue) (place : ℕ) : Type 0 w
 
 pub shorts_net : (front : ℕ) (old now : BookValue) (place : ℕ) → ShortsTo front old now place → now.core.net ≡ old.core.net
 shorts_net front old now place s = ran_net old now s.part s.ran
-
-longer_log : (front : ℕ) (old now : BookValue) (part : List EntryValue) → front ≤ length old.log → entries_of now.log ≡ entries_of old.log ++ part → front ≤ length now.log
-longer_log front old now part l e =
-    let m = sym (length-map now.log entry_of) ∙ (ap length e ∙ length_join (entries_of old.log) part) in
-    let k = length-map old.log entry_of in
-    omega (arith, l, m, k)
-  where
-    length_join : (xs ys : List EntryValue) → length (xs ++ ys) ≡ length xs + length ys
-    length_join [] ys = omega arith
-    length_join (x ∷ xs) ys = let ih = length_join xs ys in omega (arith, ih)
 
 pub shorts_more : (front : ℕ) (old now new : BookValue) (place : ℕ) → place < length old.core.net.devices → ShortsTo front old now place → FiredIfShort front place now new → ShortsTo front old new (place + 1)
 shorts_more front old now new place within s f = record {

@@ -3,8 +3,8 @@ use Rattle.std.proofs.Common.{◌≡◌, ℕ, zero, suc, ◌+◌, List, [], ◌�
 use Rattle.fc_values.specs.Fields.{is_in}
 use Rattle.fc_values.proofs.Booleans.{or_no}
 use Rattle.fc_nodes.specs.Program.{Unfolding}
-use Rattle.firing_core.specs.Entries.{EntryValue, BeginEntry, EndEntry, IdleEntry, EditEntry}
-use Rattle.firing_core.specs.Cores.{Core, Step, Run}
+use Rattle.firing_core.specs.Entries.{EntryValue}
+use Rattle.firing_core.specs.Cores.{Core, Run}
 use Rattle.firing_core.specs.Rounds.{is_edit, has_edit, HasEnd, HasFiring, HasRounds}
 use Rattle.firing_core.specs.Stretches.{is_begin, begins}
 

@@ -1,7 +1,6 @@
 -- What a worker does to its pass, turn after turn, and two workers.
-use Rattle.std.proofs.Common.{◌≡◌, ℕ, ◌+◌, ◌*◌, ◌-◌, ◌/◌, ◌≤◌, List, [], ◌∷◌, ◌++◌, length, refl, sym, ap, ◌∙◌, subst, arith, inl, inr, ◌⊎◌, ⊎_elim, ◌≢◌, true, false, cond, eqb, eq-eqb}
+use Rattle.std.proofs.Common.{◌≡◌, ℕ, ◌+◌, ◌*◌, ◌-◌, ◌/◌, ◌≤◌, List, [], ◌∷◌, ◌++◌, length, sym, ap, ◌∙◌, subst, arith, inl, inr, ◌⊎◌, ⊎_elim, false}
 use Rattle.std.proofs.Math.Nat.{add-mul, mul-le-mul_right}
-use Rattle.std.proofs.lemmas.Bool.Decides.{eqb_tells}
 use Rattle.std.proofs.lemmas.List.{append_assoc}
 use Rattle.firing_core.specs.Entries.{EntryValue}
 use Rattle.firing_core.specs.Cores.{Core}
@@ -16,13 +15,6 @@ use Rattle.worker_pool.specs.Working.{FiredOn}
 -- what begins the beginning begins the whole
 pub starts_trans : (xs ys zs : List EntryValue) → StartsWith xs ys → StartsWith ys zs → StartsWith xs zs
 starts_trans xs ys zs p q = (q.0 ++ p.0, p.1 ∙ (ap (λ (l : List EntryValue). l ++ p.0) q.1 ∙ append_assoc zs q.0 p.0))
-
-starts_same : (xs : List EntryValue) → StartsWith xs xs
-starts_same xs = ([], none xs)
-  where
-    none : (l : List EntryValue) → l ≡ l ++ []
-    none [] = refl
-    none (x ∷ xs) = ap (λ (t : List EntryValue). x ∷ t) (none xs)
 
 pub fired_more : (u v w : PassView EntryValue) → FiredOn u v → FiredOn v w → FiredOn u w
 fired_more u v w f g = record {

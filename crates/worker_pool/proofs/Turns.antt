@@ -9,7 +9,7 @@ use Rattle.export_table.specs.Items.{Opening}
 use Rattle.export_table.specs.Firings.{FiringValue}
 use Rattle.export_table.specs.Turns.{TookTurn, Began, Rested, Edited, Refused, Ended, CanEnd, IsOwnFiring, KeepsFirings}
 use Rattle.worker_pool.specs.Working.{FiredOn}
-use Rattle.worker_pool.specs.Mixing.{WentOn, EditedThenEnded}
+use Rattle.worker_pool.specs.Mixing.{WentOn}
 use Rattle.worker_pool.proofs.Passes.{starts_trans, fired_turn}
 
 -- ---- turns of a worker

@@ -6,9 +6,8 @@ use Rattle.firing_core.specs.Entries.{EntryValue}
 use Rattle.turn_lock.specs.Passes.{PassView}
 use Rattle.export_table.specs.Passing.{on_log}
 use Rattle.worker_pool.specs.Working.{FiredOn}
-use Rattle.export_table.proofs.Crosses.{shared_sync, pass_send}
-use Rattle.worker_pool.proofs.Crossed.{alloc_sync, program_sync}
-use Rattle.worker_pool.proofs.Captures.{captures_send}
+use Rattle.export_table.proofs.Crosses.{alloc_sync, program_sync, shared_sync, pass_send}
+use Rattle.export_table.proofs.Captures.{captures_send}
 use Rattle.worker_pool.proofs.Passes.{comes_back, fired_joined, shares, share_of_half, share_of_rest}
 use Rattle.worker_pool.proofs.fan.+fan.Lts-both as closure
 use Rattle.worker_pool.proofs.fan.+fan.Goals as goal

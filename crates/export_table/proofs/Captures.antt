@@ -1,4 +1,4 @@
--- What a closure captures crosses threads where each capture does.
+-- Crates above cite this module: what a closure captures crosses threads where each capture does.
 use mathlib.Core.List.{List, [], ◌∷◌}
 use mir.Syntax.{Sym}
 use denote.RattleType.{RattleType}

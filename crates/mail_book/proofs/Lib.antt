@@ -1,0 +1,13 @@
+pub mod Answered
+pub mod Taking
+pub mod PairLookups
+pub mod LetterWrites
+pub mod MessageSteps
+pub mod Sights
+pub mod Posting
+pub mod Ending
+pub mod Copying
+pub mod Replayed
+pub mod HeardNear
+pub mod MailGood
+pub mod MailEnds

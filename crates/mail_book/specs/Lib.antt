@@ -1,0 +1,6 @@
+pub mod Pairs
+pub mod Letters
+pub mod Rows
+pub mod MailViews
+pub mod MailReplays
+pub mod MailLaws
