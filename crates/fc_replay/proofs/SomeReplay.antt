@@ -36,7 +36,7 @@ use Rattle.fc_inputs.specs.Causes.{Cause, Plainly, Judged, Accepted, Refused, An
 use Rattle.fc_inputs.specs.Sources.{IsProgramText, ReadsProgram}
 use Rattle.fc_inputs.specs.Inputs.{InputOf, OneInput, ReadsInput, TextsUnfold, with_scene}
 use Rattle.fc_replay.specs.declared.replays.Options.{Options}
-use Rattle.fc_replay.specs.Laws.{SomeReplay}
+use Rattle.fc_replay.specs.Laws.{InputsStart, SomeReplay}
 use Rattle.fc_replay.specs.Ledgers.{Ledger}
 use Rattle.fc_replay.specs.Replays.{Replays, ReplaysEntries, ReplaysLog, RoundsAsked, IsText, Shown, book_of, start_of, table_line, where_asked}
 use Rattle.fc_replay.specs.Stopping.{Logged, entries_in, fault_in, first_stop, no_step, step_fault, stop_here, stop_later}
@@ -218,6 +218,11 @@ is_input program network i h = by_program h.judged h.reads h.scene
         → AndThen q (λ U k. k ≡ with_scene U (scene_of U network)) (Accepted i) → IsInput program network i.0 i.1
     by_program (Refused cause) r e = absurd cc
     by_program (Accepted U) r e = by_scene U (scene_of U network) r refl e
+
+pub inputs_start : AcceptedScenesFit → InputsStart
+inputs_start scenes program network i h =
+    let there = is_input program network i h in
+    record { text = there.text; good = good_start i.0 i.1 (scenes i.0 network i.1 there.scene_is) }
 
 pub some_replay : OneInput → TextsUnfold → AcceptedScenesFit → FaultlessStep → StepsAgree → StepsKeepGood
     → SomeGreatest → LogsHaveEntries → SomeReplay

@@ -1,10 +1,13 @@
 -- Texts are replayed to something, and to one thing in what is written.
 use Rattle.std.specs.Prelude.{ℕ, ◌≡◌, ◌≤◌, List, length}
+use Rattle.firing_core.specs.Cores.{IsGood}
 use Rattle.fc_inputs.specs.declared.sources.TheConstants.{MOST_BYTES}
 use Rattle.fc_inputs.specs.Causes.{Judged, Accepted, Refused}
+use Rattle.fc_inputs.specs.Inputs.{InputOf, ReadsInput}
+use Rattle.fc_inputs.specs.Sources.{IsProgramText}
 use Rattle.edit_commands.specs.Agreement.{SameEntries}
 use Rattle.fc_replay.specs.declared.replays.Options.{Options}
-use Rattle.fc_replay.specs.Replays.{Shown, Replays}
+use Rattle.fc_replay.specs.Replays.{Shown, Replays, start_of}
 
 -- Two replays are alike: refused for one cause, or with one text. The entries of their books may differ in what an
 -- export holds at the places of a branch that isn't taken, and in nothing else.
@@ -31,3 +34,12 @@ abbrev pub SomeReplay : Type 0
 SomeReplay =
     (options : Options) (program network log : List ℕ) → length program ≤ MOST_BYTES
     → (j : Judged Shown) × Replays options program network log j
+
+-- an accepted input is the program of a text, and a scene that starts a good core of it
+pub record InputStarts (program : List ℕ) (i : InputOf) : Type 0 where
+  pub text : IsProgramText program i.0
+  pub good : IsGood i.0 (start_of i.1)
+
+abbrev pub InputsStart : Type 0
+InputsStart =
+    (program network : List ℕ) (i : InputOf) → ReadsInput program network (Accepted i) → InputStarts program i

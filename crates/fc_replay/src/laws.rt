@@ -1,6 +1,6 @@
 //! Laws of the definitions.
 
-ghost use Rattle.fc_replay.specs.Laws.{OneReplay, SomeReplay};
+ghost use Rattle.fc_replay.specs.Laws.{InputsStart, OneReplay, SomeReplay};
 ghost use Rattle.fc_replay.specs.Resuming.{TablesResume};
 
 use edit_commands::{logs_have_entries, readings_agree};
@@ -37,4 +37,11 @@ pub fn tables_resume()
     ensures { TablesResume }
 {
     tables_read_back();
+}
+
+/// An accepted input is the program of its text, and a scene that starts a good core of it.
+pub fn inputs_start()
+    ensures { InputsStart }
+{
+    accepted_scenes_fit();
 }

@@ -16,8 +16,8 @@ use firing_core::{ReplayFault, StepFault};
 use std::alloc::Global;
 use topology::{NetFault, Network};
 
-// A fault of a line, as refusals name it.
-fn fault_in(fault: Fault) -> LineFault
+/// A fault of a line, as refusals name it.
+pub fn fault_in(fault: Fault) -> LineFault
     ensures { result ≡ fault_in fault }
 {
     match fault {

@@ -34,8 +34,8 @@ pub struct Options {
     pub table: bool,
 }
 
-// The core that a scene starts from.
-fn start(alloc: Global, program: &Arc<Unfolded>, scene: Scene) -> Result<Core, Memory>
+/// The core that a scene starts from.
+pub fn start(alloc: Global, program: &Arc<Unfolded>, scene: Scene) -> Result<Core, Memory>
     requires declared { scene.net.declared ≡ program.now.value.declared }
     requires rows { AreRows (unfolding_of program.now.value) scene.net scene.table.items }
     requires copies { AreCopies (unfolding_of program.now.value) scene.net scene.pending.items }

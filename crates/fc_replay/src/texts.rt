@@ -86,8 +86,8 @@ fn rounds_asked(alloc: Global, asked: bool, book: &Book) -> Result<Vec<u8>, Memo
     }
 }
 
-// The line of a core's table, where it is asked for.
-fn table_text(alloc: Global, asked: bool, core: &Core) -> Result<Vec<u8>, Memory>
+/// The line of a core's table, where it is asked for.
+pub fn table_text(alloc: Global, asked: bool, core: &Core) -> Result<Vec<u8>, Memory>
     ensures { IfOk result (λ v. v.items ≡ where_asked asked (table_line (program_of core.now) (core_of core.now))) }
 {
     if !asked {

@@ -1,0 +1,5 @@
+mod LogTexts
+mod OneRuns
+mod SomeRuns
+mod Running
+mod KeptYes

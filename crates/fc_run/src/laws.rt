@@ -1,0 +1,42 @@
+//! Laws of the definitions.
+
+ghost use Rattle.fc_run.specs.Laws.{OneRun, RunsKeepYes, SomeRun};
+
+use edit_commands::{readings_agree, scripts_are_judged, scripts_have_commands};
+use fc_check::one_verdict;
+use fc_inputs::{one_input, texts_unfold};
+use fc_replay::inputs_start;
+use script_laws::scripts_keep_yes;
+use session::{one_script_run, some_script_run};
+
+/// Texts are run to one text where the logs agree, or refused for one cause.
+pub fn one_run()
+    ensures { OneRun }
+{
+    one_input();
+    inputs_start();
+    readings_agree();
+    one_verdict();
+    one_script_run();
+}
+
+/// Texts are run to something.
+pub fn some_run()
+    ensures { SomeRun }
+{
+    one_input();
+    texts_unfold();
+    inputs_start();
+    scripts_have_commands();
+    scripts_are_judged();
+    some_script_run();
+}
+
+/// What is run keeps a yes: where the last verdict that was written is a yes, the program stabilises within its rounds
+/// on the network then, and what is shown after as many rounds is the one solution there.
+pub fn runs_keep_yes()
+    ensures { RunsKeepYes }
+{
+    inputs_start();
+    scripts_keep_yes();
+}

@@ -1,0 +1,93 @@
+//! What `run` makes of a program, a scene and a script.
+ghost use Rattle.std.specs.Prelude.{◌≡◌, ◌≤◌, ◌++◌, IfErr, IfOk, OnOk, length};
+ghost use Rattle.firing_core.specs.Entries.{entries_of};
+ghost use Rattle.report.specs.Logs.{log_text};
+ghost use Rattle.fc_replay.specs.Replays.{where_asked};
+ghost use Rattle.fc_inputs.specs.Causes.{Accepted, Refused};
+ghost use Rattle.fc_inputs.specs.Stops.{StopsFor};
+ghost use Rattle.fc_inputs.specs.declared.sources.TheConstants.{MOST_BYTES};
+ghost use Rattle.fc_run.specs.Code.{IsEnded, ran_of};
+ghost use Rattle.fc_run.specs.Runs.{Runs};
+
+use crate::scripts::read_lines;
+use edit_commands::scripts_are_judged;
+use export_table::Gate;
+use fc_inputs::{Stop, read_input};
+use fc_replay::{start, table_text};
+use fc_values::Memory;
+use firing_core::{Book, Part};
+use report::entries;
+use session::{Pool, Session, run_script};
+use std::alloc::Global;
+use std::sync::{Arc, Wait};
+use std::thread::Threads;
+
+/// What is written after what a script shows.
+#[derive(Clone, Copy, Debug, PartialEq, Eq)]
+pub struct RunOptions {
+    /// The log.
+    pub log: bool,
+    /// The table of exports.
+    pub table: bool,
+}
+
+/// What a run gives.
+#[derive(Drop)]
+pub struct Ran {
+    /// What is written.
+    pub text: Vec<u8>,
+    /// The program, the start, the log and the last core.
+    pub book: Book,
+    /// The stretches of the log that the lines `run` and `mix` made.
+    pub parts: Vec<Part>,
+}
+
+// Appends the log of a book, where it is asked for.
+fn write_log(alloc: Global, asked: bool, text: &mut Vec<u8>, book: &Book) -> Result<(), Memory>
+    ensures { OnOk result (text.new.items
+        ≡ text.old.items ++ where_asked asked (log_text book.now.program.declared.inputs (entries_of book.now.log))) }
+{
+    if asked {
+        entries(alloc, text, book)?;
+    }
+    Ok(())
+}
+
+// What a session gives at its end.
+fn ended(alloc: Global, options: RunOptions, session: Session) -> Result<Ran, Memory>
+    ensures { IfOk result (IsEnded options session) }
+{
+    let (book, parts, mut text) = session.finish();
+    write_log(alloc, options.log, &mut text, &book)?;
+    let table = table_text(alloc, options.table, book.core())?;
+    text.extend_from_slice(&table)?;
+    Ok(Ran { text, book, parts })
+}
+
+/// The text that `run` writes of its three texts, the book that it shows, and the stretches of its log. It waits where
+/// it runs rounds alone.
+pub fn run<W: Threads + Wait + Sync, G: Gate + Sync>(
+    alloc: Global,
+    options: RunOptions,
+    program: &[u8],
+    network: &[u8],
+    script: &[u8],
+    pool: &Pool<W, G>,
+) -> Result<Ran, Stop>
+    requires program { length program.now ≤ MOST_BYTES }
+    requires script { length script.now ≤ MOST_BYTES }
+    ensures ran { IfOk result (λ r.
+        Runs options program.now network.now script.now (Accepted (ran_of r.text.items r.book r.parts.items))) }
+    ensures refused { IfErr result (StopsFor (λ cause.
+        Runs options program.now network.now script.now (Refused cause))) }
+{
+    let (program, scene) = read_input(alloc, program, network)?;
+    // Its clause: the nodes are a program.
+    let _size = program.size();
+    let shared = Arc::new(alloc, program)?;
+    let core = start(alloc, &shared, scene)?;
+    let lines = read_lines(alloc, &shared, &core, script)?;
+    scripts_are_judged();
+    let session = run_script(alloc, shared, core, &lines, pool)?;
+    Ok(ended(alloc, options, session)?)
+}
