@@ -1,4 +1,4 @@
--- What answers say of both results of a call.
+-- Crates above cite this module: what answers say of both results of a call.
 use Rattle.std.proofs.Common.{◌≡◌, Result, Ok, Err, OnOk, OnErr, IfErr, IsErrAnd, false, is_err, subst, sym}
 
 pub ok_map : {T E : Type 0} {P Q : Type 0} (r : Result T E) → (P → Q) → OnOk r P → OnOk r Q

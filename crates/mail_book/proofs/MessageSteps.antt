@@ -1,4 +1,4 @@
--- What happens to a message, as a step of a mail core.
+-- Crates above cite this module: what happens to a message, as a step of a mail core.
 use Rattle.std.proofs.Common.{◌≡◌, ℕ, zero, suc, ◌<◌, ◌≤◌, List, [], ◌∷◌, length, map, get_or, refl, sym, ◌∙◌, ap, subst, arith, Bool, true, false, if◌then◌else◌, Option, Some, None, Vec, Global, vec_len}
 use Rattle.std.specs.Prelude.{nat_lt, option_map, ◌==◌}
 use Rattle.std.proofs.lemmas.Bool.{eq-eqb}

@@ -10,15 +10,12 @@ use Rattle.topology.proofs.Lemmas.{near_rises, near_none}
 use Rattle.scramble.specs.Words.{Words, next}
 use Rattle.message_links.specs.MailCores.{MailEntryValue, MailBegin, MailEnd, MailIdle, MailDeliver, MailAgain, MailLose, reaches, rest_of, without, posted}
 use Rattle.message_links.specs.MailRounds.{Posts, posts_after, posts_along, HasMailFiring, EndsOwnBegin, oldest_post, Brings, CoversMail, HasMailRounds}
+use Rattle.message_links.proofs.Along.{along_more}
 use Rattle.message_links.proofs.Reaching.{near_both}
 use Rattle.mail_drive.specs.Drives.{twice, firings, brought, brings_from, brings, round, driven}
 use Rattle.mail_drive.specs.Laws.{nothing, RoundsCover, DrivenRounds}
 
 -- ---- posts
-
-along_more : (N : Network) (at : ℕ) (p : Posts) (xs ys : List MailEntryValue) → posts_along N at p (xs ++ ys) ≡ posts_along N (at + length xs) (posts_along N at p xs) ys
-along_more N at p [] ys = let q : at ≡ at + 0 = omega arith in ap (λ i. posts_along N i p ys) q
-along_more N at p (x ∷ xs) ys = along_more N (suc at) (posts_after N at p x) xs ys ∙ let q : suc at + length xs ≡ at + suc (length xs) = omega arith in ap (λ i. posts_along N i (posts_along N (suc at) (posts_after N at p x) xs) ys) q
 
 -- entries that speak of messages of other pairs
 abbrev OtherPair : ℕ → ℕ → MailEntryValue → Type 0

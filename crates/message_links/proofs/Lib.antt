@@ -1,4 +1,5 @@
 pub mod Reaching
+pub mod Along
 mod Posts
 pub mod Firings
 mod MailLevels

@@ -1,0 +1,11 @@
+pub mod Rewriting
+pub mod Flights
+pub mod OwnPosts
+pub mod Covers
+pub mod Counts
+pub mod Tables
+pub mod CodeRows
+pub mod MarkSteps
+pub mod NewMarks
+pub mod SoFar
+pub mod Greatest
