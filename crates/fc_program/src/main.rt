@@ -7,6 +7,8 @@ mod asked;
 #[cfg(test)]
 mod check_rows;
 mod ending;
+#[cfg(test)]
+mod fields;
 mod judging;
 mod laws;
 #[cfg(test)]

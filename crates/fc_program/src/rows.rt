@@ -319,7 +319,7 @@ pub fn gives(
 ) -> Result<(), Fail> {
     let words = words(alloc, list)?;
     let mut source = CalmSource::new(input.into_bytes());
-    let mut sink = CalmSink::new(alloc, 1000)?;
+    let mut sink = CalmSink::new(alloc, 4000)?;
     let outcome = fc(alloc, &words, &mut source, &mut sink);
     assert_eq!(rt; sink.taken(), text.as_bytes());
     assert_eq!(rt; outcome.status, status);
