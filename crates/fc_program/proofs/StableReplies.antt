@@ -1,10 +1,6 @@
 -- What `stable` writes: something, and one thing; and what the code writes is that.
-use Rattle.std.proofs.Common.{ℕ, ◌≡◌, ◌≤◌, true, false, List, [], ◌∷◌, length, map, refl, ap, ap₂, ◌∙◌, sym, subst}
-use Rattle.std.specs.Prelude.{◌||◌, nat_eq}
-use Rattle.std.proofs.lemmas.Bool.{eq-eqb}
-use Rattle.fc_values.specs.Values.{LocalValue}
-use Rattle.fc_values.specs.Fields.{Entries, is_in}
-use Rattle.fc_values.proofs.Booleans.{or_true}
+use Rattle.std.proofs.Common.{ℕ, ◌≡◌, ◌≤◌, false, List, length, map, refl, ap, ◌∙◌, sym, subst}
+use Rattle.fc_values.specs.Fields.{Entries}
 use Rattle.fc_nodes.specs.Program.{IsProgram, Program, Unfolding, unfolding_of}
 use Rattle.fc_nodes.specs.declared.verdicts.Verdict.{Verdict}
 use Rattle.fc_nodes.specs.declared.verdicts.Verdict.TheVariants as verdict
@@ -20,22 +16,13 @@ use Rattle.fc_inputs.specs.declared.sources.TheConstants.{MOST_BYTES}
 use Rattle.fc_inputs.specs.Refusals.{Reply}
 use Rattle.fc_inputs.specs.Causes.{Cause, Judged, Accepted, Refused, AndThen}
 use Rattle.fc_inputs.specs.Inputs.{InputOf, OneInput, ReadsInput}
-use Rattle.fc_check.specs.Checks.{Checks, ChecksScene, checked_of, verdict_status}
+use Rattle.fc_check.specs.Checks.{ChecksScene, checked_of, verdict_status}
 use Rattle.fc_check.specs.Laws.{OneCheck, SomeCheck}
-use Rattle.fc_trace.proofs.Scenes.{scene_fits}
+use Rattle.walk_form.proofs.Fielding.{same_entries}
+use Rattle.fc_trace.proofs.Scenes.{scene_fits, one_verdict}
 use Rattle.fc_program.specs.Stabilised.{StabilisedBy, StabilisesScene, Stabilised}
 
 -- ---- one field
-here : (n : ℕ) (ns : List ℕ) → is_in n (n ∷ ns) ≡ true
-here n ns = ap (λ b. b || is_in n ns) (eq-eqb n n refl)
-
-same_entries : (f g : ℕ → LocalValue) (ns : List ℕ) → ((d : ℕ) → is_in d ns ≡ true → f d ≡ g d)
-    → map {B = ℕ × LocalValue} (λ d. (d, f d)) ns ≡ map {B = ℕ × LocalValue} (λ d. (d, g d)) ns
-same_entries f g [] h = refl
-same_entries f g (n ∷ ns) h =
-    ap₂ (λ v es. (n, v) ∷ es) (h n (here n ns))
-    (same_entries f g ns (λ d k. h d (or_true (nat_eq d n) (is_in d ns) k)))
-
 pub one_field : (U : Unfolding) (N : Network) (es fs : Entries) → IsStableField U N es → IsStableField U N fs → es ≡ fs
 one_field U N es fs h g =
     h.values
@@ -65,23 +52,12 @@ module _ (P Q : Program) (N : Network) (r q : Reply) (same : unfolding_of P ≡ 
       absurd (cc none)
   one_reply (verdict.No place why) (verdict.No other because) e f h g = h ∙ alike ∙ sym g
 
-accepted_one : (a b : Reply) → ◌≡◌ {A = Judged Reply} (Accepted a) (Accepted b) → a ≡ b
-accepted_one a b e = cc
-
 module _ (check : OneCheck) (program network : List ℕ) (U : Unfolding) (s : SceneValue)
     (reads : ReadsInput program network (Accepted (U, s))) where
-  checks : (P : Program) → IsProgram P → unfolding_of P ≡ U
-      → Checks false program network (Accepted (checked_of false P (length s.net.devices)))
-  checks P is e = record {
-    judged = Accepted (U, s);
-    reads = reads;
-    ends = record { nodes = P; is_program = is; unfolded = e; checked = refl };
-  }
-
   one_scene : (j k : Judged Reply) → StabilisesScene U s j → StabilisesScene U s k → j ≡ k
   one_scene j k h g =
-      let alike = accepted_one _ _ (check false program network _ _ (checks h.nodes h.is_program h.unfolded)
-      (checks g.nodes g.is_program g.unfolded)) in
+      let alike = one_verdict check program network U s reads h.nodes g.nodes h.is_program g.is_program h.unfolded
+      g.unfolded in
       h.is
       ∙ ap Accepted (one_reply h.nodes g.nodes s.net h.reply g.reply (h.unfolded ∙ sym g.unfolded) alike
       (verdict_of h.nodes (length s.net.devices)) (verdict_of g.nodes (length s.net.devices)) refl refl h.writes

@@ -6,9 +6,8 @@ use Rattle.fc_nodes.specs.declared.verdicts.Verdict.{Verdict}
 use Rattle.fc_nodes.specs.declared.verdicts.Verdict.TheVariants as verdict
 use Rattle.topology.specs.Networks.{Network, IsNetwork}
 use Rattle.fragment_check.specs.Verdicts.{verdict_of}
-use Rattle.walks.specs.Walks.{CostsValue, EvidenceValue, IsCosts, AreTraced}
+use Rattle.walks.specs.Walks.{AreTraced}
 use Rattle.walks.specs.Laws.{OneTrace, SomeTrace}
-use Rattle.walk_form.specs.Costs.{AreCostsFor}
 use Rattle.walk_form.specs.Forms.{WalkTerms, walk_terms}
 use Rattle.walk_form.specs.Laws.{FormsHaveCosts, OneCosts}
 use Rattle.net_json.specs.FittingScenes.{AcceptedScenesFit}
@@ -18,11 +17,11 @@ use Rattle.fc_inputs.specs.declared.sources.TheConstants.{MOST_BYTES}
 use Rattle.fc_inputs.specs.Refusals.{Reply}
 use Rattle.fc_inputs.specs.Causes.{Cause, Judged, Accepted, Refused, AndThen}
 use Rattle.fc_inputs.specs.Inputs.{InputOf, OneInput, ReadsInput}
-use Rattle.fc_check.specs.Checks.{Checks, ChecksScene, checked_of, verdict_status}
+use Rattle.fc_check.specs.Checks.{ChecksScene, verdict_status}
 use Rattle.fc_check.specs.Laws.{OneCheck, SomeCheck}
 use Rattle.fc_trace.specs.Texts.{walks_text}
 use Rattle.fc_trace.specs.Traces.{WritesWalks, TracedBy, TracesScene, Traces}
-use Rattle.fc_trace.proofs.Scenes.{scene_fits}
+use Rattle.fc_trace.proofs.Scenes.{scene_fits, one_verdict}
 
 -- ---- one reply
 
@@ -47,22 +46,12 @@ module _ (costs : OneCosts) (trace : OneTrace) (U : Unfolding) (N : Network) (r 
   one_reply o (verdict.No place why) (verdict.Yes l) s t h g = absurd cc
   one_reply o (verdict.No place why) (verdict.No other because) s t h g = h ∙ ap (reply 1) t ∙ sym g
 
-accepted_one : (a b : Reply) → ◌≡◌ {A = Judged Reply} (Accepted a) (Accepted b) → a ≡ b
-accepted_one a b e = cc
-
 module _ (check : OneCheck) (costs : OneCosts) (trace : OneTrace) (program network : List ℕ) (U : Unfolding) (s : SceneValue)
     (reads : ReadsInput program network (Accepted (U, s))) where
-  checks : (P : Program) → IsProgram P → unfolding_of P ≡ U → Checks false program network (Accepted (checked_of false P (length s.net.devices)))
-  checks P is e = record {
-    judged = Accepted (U, s);
-    reads = reads;
-    ends = record { nodes = P; is_program = is; unfolded = e; checked = refl };
-  }
-
   one_scene : (j k : Judged Reply) → TracesScene U s j → TracesScene U s k → j ≡ k
   one_scene j k h g =
       let n = length s.net.devices in
-      let alike = accepted_one _ _ (check false program network _ _ (checks h.nodes h.is_program h.unfolded) (checks g.nodes g.is_program g.unfolded)) in
+      let alike = one_verdict check program network U s reads h.nodes g.nodes h.is_program g.is_program h.unfolded g.unfolded in
       let line : verdict_text (verdict_of h.nodes n) ≡ verdict_text (verdict_of g.nodes n) =
       sym (nothing_behind (verdict_text (verdict_of h.nodes n))) ∙ ap (λ (x : Reply). x.text) alike ∙ nothing_behind (verdict_text (verdict_of g.nodes n)) in
       h.is

@@ -1,9 +1,7 @@
 -- The texts that loops write: numbers, and walks.
-use Rattle.std.proofs.Common.{ℕ, ◌≡◌, List, [], ◌∷◌, ◌++◌, ◌∙◌, ap, refl, append-nil, map}
-use Rattle.std.proofs.lemmas.List.Concat.{flat_map-append}
+use Rattle.std.proofs.Common.{ℕ, List}
 use Rattle.walks.specs.declared.types.Evidence.{Evidence}
 use Rattle.walks.specs.Walks.{claim_of}
-use Rattle.report.proofs.WrittenSoFar.{AddsLines}
 use Rattle.fc_trace.specs.Texts.{walks_text}
 
 -- the text of walks in code

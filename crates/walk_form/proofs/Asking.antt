@@ -1,5 +1,5 @@
 -- What is known of the start and of what steps add is what the gathering asks.
-use Rattle.std.proofs.Common.{◌≡◌, ℕ, List, length, refl, sym, ap, subst}
+use Rattle.std.proofs.Common.{◌≡◌, ℕ, List, length, refl, ap, subst}
 use Rattle.std.specs.List.{All}
 use Rattle.std.specs.Prelude.{◌≤◌}
 use Rattle.fc_nodes.specs.declared.verdicts.Verdict.TheVariants as verdict

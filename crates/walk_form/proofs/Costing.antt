@@ -1,48 +1,45 @@
 -- A program of the walk form has costs, and its solution has the least ones.
-use Rattle.std.proofs.Common.{◌≡◌, ◌≢◌, ◌⊎◌, inl, inr, ℕ, suc, ◌<◌, ◌≤◌, ◌+◌, min, List, [], ◌∷◌, map, length, get_or, refl, sym, ◌∙◌, ap, ap₂, subst, arith, Bool, true, false, ◌||◌, nat_eq, Some, None}
+use Rattle.std.proofs.Common.{◌≡◌, ◌≢◌, inl, inr, ℕ, suc, ◌≤◌, ◌+◌, min, List, [], ◌∷◌, map, length, get_or, refl, sym, ◌∙◌, ap, ap₂, subst, arith, Some}
 use Rattle.std.specs.List.{All, Contains}
-use Rattle.std.proofs.lemmas.Bool.{eqb-true}
 use Rattle.std.proofs.lemmas.List.Elements.{Contains-get_or}
-use Rattle.walks.proofs.Settling.{contains_here, contains_later}
 use Rattle.fc_values.specs.declared.builtins.Builtin.TheVariants as op
-use Rattle.fc_values.specs.Types.{LocalType, IntType, ValueType, TypeLocal, TypeField}
+use Rattle.fc_values.specs.Types.{IntType, TypeLocal, TypeField}
 use Rattle.fc_values.specs.Values.{LocalValue, IntValue, BoolValue, PairValue}
-use Rattle.fc_values.specs.Fields.{AnyValue, ValueLocal, ValueField, FitsOver, Rises, is_in}
+use Rattle.fc_values.specs.Fields.{ValueLocal, FitsOver, Rises}
 use Rattle.fc_values.specs.Builtins.{argument_at, builtin_value}
 use Rattle.fc_values.specs.Laws.{ReadsPointwise}
 use Rattle.fc_nodes.specs.declared.verdicts.Verdict.TheVariants as verdict
-use Rattle.fc_nodes.specs.Terms.{NbrLink, ByRep, Term, Terms, Plain, Apply, Nbr, Evolve, If, Let, NoMore, More, type_of, size}
-use Rattle.fc_nodes.specs.Variables.{is_heard}
+use Rattle.fc_nodes.specs.Terms.{NbrLink, ByRep, Term, Plain, Apply, Nbr, Evolve, If, Let, NoMore, More, type_of, size}
 use Rattle.fc_nodes.specs.Program.{Program, Unfolding, unfolding_of, IsProgram}
 use Rattle.topology.specs.Networks.{Network, IsNetwork, Lives, lives, near, numbers}
-use Rattle.interval_facts.specs.Ranges.{RangeValue, IntRange, BoolRange, PairRange, LiesIn, full, range_of, node_ranges}
-use Rattle.interval_facts.specs.Solutions.{Devices, In, Map, Maps, bind, around, near_among, FitsOn, at_device, field_over, local_map, no_binders, Solves, SolveAll, SolvesMain}
+use Rattle.topology.proofs.Lemmas.{in_at}
+use Rattle.interval_facts.specs.Ranges.{RangeValue, IntRange, LiesIn, full, range_of, node_ranges}
+use Rattle.interval_facts.specs.Solutions.{Devices, Map, Maps, bind, around, at_device, local_map, no_binders, Solves, SolveAll, SolvesMain}
 use Rattle.interval_facts.specs.Claims.{MapLiesIn, InRanges}
 use Rattle.interval_facts.proofs.Tables.{Shows}
 use Rattle.growth_facts.specs.Leads.{least_integer}
+use Rattle.growth_facts.proofs.Grow.{least_nth}
 use Rattle.fragment_check.specs.Verdicts.{verdict_of}
 use Rattle.converge_laws.specs.Fragment.{Analysis}
 use Rattle.converge_laws.specs.Laws.{SolutionsAreOne, IsAnalysis}
 use Rattle.converge_laws.specs.Stabilising.{HasOneSolution}
-use Rattle.converge_laws.specs.Verdicts.{analysis_of, YesAnalyses, YesStabilises}
-use Rattle.walks.specs.declared.types.Step.{Step}
-use Rattle.walks.specs.Walks.{CostsValue, StartsAt, StepsAt, IsDevice, IsCosts, IsLeastCost, has}
-use Rattle.walks.specs.Gathering.{Added, AddEach, AddWeights, added, gathered, steps_from, AreOf, AddFits}
+use Rattle.converge_laws.specs.Verdicts.{analysis_of, YesAnalyses}
+use Rattle.walks.specs.Walks.{CostsValue, IsCosts, has}
+use Rattle.walks.specs.Gathering.{Added, AddEach, AddWeights, added, gathered, AreOf, AddFits}
 use Rattle.walks.specs.Laws.{IsFixed, FixedValuesAreLeast}
 use Rattle.walks.proofs.Fixed.{has_here}
 use Rattle.walks.proofs.Gathered.{AreMutual, gathered_costs, in_steps, to_steps}
 use Rattle.walk_form.specs.Costs.{AddsAre, AreCostsFor, AreCostsOf}
-use Rattle.walk_form.specs.Fields.{SolvesAt, HasOneField, IsFieldAt, as_integer, integer_in, integers_in}
+use Rattle.walk_form.specs.Fields.{HasOneField, IsFieldAt, as_integer, integer_in, integers_in}
 use Rattle.walk_form.specs.Forms.{StepTerm, StepValue, StepWeight, WalkTerms, walk_terms}
 use Rattle.walk_form.specs.Laws.{IsLeastAt}
 use Rattle.walk_form.proofs.Inverted.{IsAdded, IsSum}
 use Rattle.walk_form.proofs.Inverted as inverted
 use Rattle.walk_form.proofs.Gradients.{Gradient, gradient_is}
-use Rattle.walk_form.proofs.Under.{Under, rests_first, shows_under}
-use Rattle.walk_form.proofs.Under as under
+use Rattle.walk_form.proofs.Under.{rests_first, shows_under}
 use Rattle.walk_form.proofs.Judging.{body_shows}
-use Rattle.walk_form.proofs.Parts.{Part, Placed, StepPart, local_placed, step_placed, local_part, summand_part, step_part, whole_types}
-use Rattle.walk_form.proofs.Fielding.{Integers, solved_integers, one_field, lies, rests_on, entries, same_entries, heads, field_at, firsts_are, member_is, has_member}
+use Rattle.walk_form.proofs.Parts.{Part, local_placed, step_placed, local_part, summand_part, step_part, whole_types}
+use Rattle.walk_form.proofs.Fielding.{solved_integers, one_field, lies, rests_on, entries, same_entries, heads, field_at, firsts_are, member_is, has_member}
 use Rattle.walk_form.proofs.Equation.{Gives, over_gives, heard_gives, Hood, sum_hood, Settled, settled}
 
 -- what is known of a network's neighbours
@@ -52,14 +49,6 @@ pub record Neighbours (N : Network) : Type 0 where
   pub least : (d e w : ℕ) → Contains (near N d) (e, w) → N.declared.least ≤ w
   pub most : (d e w : ℕ) → Contains (near N d) (e, w) → w ≤ N.declared.greatest
 
-is_there : (d : ℕ) (ds : List ℕ) → is_in d ds ≡ true → Contains ds d
-is_there d [] h = absurd cc
-is_there d (e ∷ ds) h = by_test (nat_eq d e) refl h (is_there d ds)
-  where
-    by_test : (q : Bool) → nat_eq d e ≡ q → (q || is_in d ds) ≡ true → (is_in d ds ≡ true → Contains ds d) → Contains (e ∷ ds) d
-    by_test true t g ih = subst (λ x. Contains (x ∷ ds) d) (eqb-true d e t) (contains_here d ds)
-    by_test false t g ih = contains_later e ds d (ih g)
-
 -- a solution that lies in its ranges lies in the first one
 top_range : (rs : ℕ → RangeValue) (N : Network) (t : Term) (p : ℕ) (D : Devices) (V : Maps) (F : Map) (s : Solves N p t D V F) → InRanges rs N p t D V F s → MapLiesIn D (rs p) F
 top_range rs N (Plain t l) p D V F s r = r
@@ -68,11 +57,6 @@ top_range rs N (Nbr t a) p D V F s r = r.0
 top_range rs N (Evolve t e a b) p D V F s r = r.0
 top_range rs N (If t c a b) p D V F s r = r.0
 top_range rs N (Let t a b) p D V F s r = r.0
-
-some_number : (r : RangeValue) (n : ℕ) → 1 ≤ least_integer r → LiesIn r (ValueLocal (IntValue n)) → 1 ≤ n
-some_number (IntRange a b) n l h = let h0 = h.0 in omega (arith, l, h0)
-some_number BoolRange n l h = absurd h
-some_number (PairRange q s) n l h = absurd h
 
 no_rest : (N : Network) (p : ℕ) (D : Devices) (V : Maps) (Gs : List Map) → SolveAll N p NoMore D V Gs → Gs ≡ []
 no_rest N p D V [] s = refl
@@ -148,7 +132,10 @@ module _ (analyses : YesAnalyses) (one_law : SolutionsAreOne) (P : Program) (N :
       let m = member_is h.one.field xs (numbers N.devices) h.values d n c in
       let r = lies one_law P N is net same A analysis.for analysis.ranges q t p.part (local_map h.one.field) h.one.solves in
       let v = top_range A.ranges N t q D no_binders (local_map h.one.field) h.one.solves r d m.0 in
-      some_number (A.ranges q) n p.some (subst (λ x. LiesIn (A.ranges q) (ValueLocal x)) m.1 v) in (
+      let low : least_integer (A.ranges q) ≤ n =
+      least_nth (A.ranges q) (ValueLocal (IntValue n)) 0 (subst (λ x. LiesIn (A.ranges q) (ValueLocal x)) m.1 v) tt in
+      let one = p.some in
+      omega (arith, low, one) in (
         (starts_fit q t xs ty h).0,
         λ i x l.
             let c = Contains-get_or xs i x l in
@@ -332,11 +319,12 @@ module _ (analyses : YesAnalyses) (one_law : SolutionsAreOne) (P : Program) (N :
             | inl e ↦ inl e
             | inr m ↦
                 let n = m.0 in
-                let live = near_law.linked.there d n m.1 m.2 in
+                let at = in_at n (numbers N.devices) (near_law.linked.there d n m.1 m.2) in
+                let there : Contains (numbers N.devices) n = subst (Contains (numbers N.devices)) at.2 (Contains-get_or (numbers N.devices) at.0 0 at.1) in
                 let q = added ad (d, m.1) in
                 let e = m.3 in
                 let e' : value d ≡ min (value n + q) M = omega (arith, e) in
-                inr (n, q, to_steps N ad (numbers N.devices) n (d, m.1) (is_there n (numbers N.devices) live) (near_law.linked.both d n m.1 m.2), e')
+                inr (n, q, to_steps N ad (numbers N.devices) n (d, m.1) there (near_law.linked.both d n m.1 m.2), e')
           ];
     }
 

@@ -1,24 +1,24 @@
 -- The values of a solution are the lesser of the local argument and the least of what the neighbours' values and the steps
 -- make.
-use Rattle.std.proofs.Common.{◌≡◌, ◌≢◌, ◌⊎◌, inl, inr, ℕ, suc, ◌<◌, ◌≤◌, ◌+◌, min, List, [], ◌∷◌, map, filter, length, refl, sym, ◌∙◌, ap, ap₂, subst, arith, Bool, true, false, ◌||◌, Option, Some, None, nat_eq, nat_lt}
-use Rattle.std.specs.Prelude.{if◌then◌else◌, option_map}
+use Rattle.std.proofs.Common.{◌≡◌, ◌≢◌, ◌⊎◌, inl, inr, ℕ, ◌<◌, ◌≤◌, ◌+◌, min, List, [], ◌∷◌, map, filter, refl, sym, ◌∙◌, ap, subst, arith, Bool, true, false, ◌||◌, Some, nat_eq, nat_lt}
+use Rattle.std.specs.Prelude.{if◌then◌else◌}
 use Rattle.std.specs.List.{Contains}
 use Rattle.std.proofs.lemmas.Bool.{eqb-true, eq-eqb, ne_eqb}
 use Rattle.std.proofs.lemmas.Bool.Decides.{nat_tests}
 use Rattle.fc_values.specs.declared.builtins.Builtin.TheVariants as op
-use Rattle.fc_values.specs.Types.{IntType, ValueType, TypeLocal, TypeField}
+use Rattle.fc_values.specs.Types.{IntType, TypeField}
 use Rattle.fc_values.specs.Values.{LocalValue, IntValue, BoolValue, PairValue, Fits, compare_values, is_less, lesser}
 use Rattle.fc_values.specs.Fields.{Entries, AnyValue, ValueLocal, ValueField, AllFit, FitsOver, Rises, devices, value_at, with_entry, with_number, is_in, restricted}
 use Rattle.fc_values.specs.Builtins.{others, least_of, argument_at, builtin_value}
 use Rattle.fc_values.specs.Laws.{ReadsPointwise}
 use Rattle.fc_values.specs.Positions.{value_over}
 use Rattle.fc_values.proofs.Rising.{rises_tail}
-use Rattle.fc_nodes.specs.Terms.{Variable, Literal, Sense, Uid, NbrLink, ByRep, Term, Plain, Apply, Nbr, Evolve, If, Let, NoMore, More, type_of, size}
+use Rattle.fc_nodes.specs.Terms.{Variable, Literal, Sense, Uid, NbrLink, ByRep, Term, Plain, Apply, Nbr, Evolve, If, Let}
 use Rattle.fc_nodes.specs.Variables.{is_heard}
 use Rattle.topology.specs.Networks.{Network, IsNetwork, Lives, lives, near, numbers}
 use Rattle.topology.specs.Nearby.{near_numbers}
 use Rattle.topology.proofs.Lemmas.{AllNear, near_fits, near_rises}
-use Rattle.interval_facts.specs.Solutions.{Devices, In, Map, Maps, bind, near_among, around, field_over, field_of, local_map, Solves}
+use Rattle.interval_facts.specs.Solutions.{Devices, Map, Maps, bind, near_among, around, field_over, field_of, local_map, Solves}
 use Rattle.growth_facts.specs.Leads.{lead}
 use Rattle.growth_facts.proofs.Closeness.{lesser_lead}
 use Rattle.converge_laws.proofs.Agreement.{field_same}

@@ -1,38 +1,36 @@
--- The one field of a term of the walk form, and its integers.
-use Rattle.std.proofs.Common.{◌≡◌, ◌⊎◌, inl, inr, ℕ, suc, ◌<◌, ◌≤◌, ◌+◌, ◌-◌, List, [], ◌∷◌, map, length, refl, sym, ◌∙◌, ap, ap₂, subst, arith, Bool, true, false, ◌||◌, Option, Some, None, nat_eq}
+-- Crates above cite this module: the one field of a term of the walk form, and its integers.
+use Rattle.std.proofs.Common.{◌≡◌, inl, inr, ℕ, suc, ◌≤◌, ◌+◌, ◌-◌, List, [], ◌∷◌, map, refl, sym, ◌∙◌, ap, ap₂, subst, arith, Bool, true, false, ◌||◌, Some, None, nat_eq}
 use Rattle.std.specs.Prelude.{if◌then◌else◌}
 use Rattle.std.specs.List.{Contains}
 use Rattle.std.proofs.lemmas.Bool.{eqb-true, eq-eqb}
-use Rattle.std.proofs.lemmas.Bool.Decides.{nat_tests}
 use Rattle.fc_values.specs.Types.{LocalType, IntType, TypeLocal}
-use Rattle.fc_values.specs.Values.{LocalValue, IntValue, BoolValue, PairValue, Fits}
+use Rattle.fc_values.specs.Values.{LocalValue, IntValue, BoolValue, PairValue}
 use Rattle.fc_values.specs.Fields.{Entries, AnyValue, ValueLocal, ValueField, FitsOver, is_in}
-use Rattle.fc_nodes.specs.Terms.{ByRep, Term, Terms, Plain, Apply, Nbr, Evolve, If, Let, type_of, size}
+use Rattle.fc_nodes.specs.Terms.{ByRep, Term, Evolve, type_of, size}
 use Rattle.fc_nodes.specs.Typing.{Scope, HasType}
 use Rattle.fc_nodes.specs.Variables.{occurs}
 use Rattle.fc_nodes.specs.Program.{Program, Unfolding, unfolding_of, IsProgram}
 use Rattle.topology.specs.Networks.{Network, IsNetwork, Lives, lives, numbers}
-use Rattle.interval_facts.specs.Ranges.{RangeValue, IntRange, Bounds, full, LiesIn, range_of, node_ranges}
-use Rattle.interval_facts.specs.Solutions.{Devices, In, Map, Maps, bind, around, FitsOn, local_map, no_binders, Solves, SolvesMain}
-use Rattle.interval_facts.specs.Claims.{MapLiesIn, InRanges}
-use Rattle.interval_facts.specs.Scopes.{found, BoundsHold}
+use Rattle.interval_facts.specs.Ranges.{IntRange, Bounds, full, LiesIn, range_of, node_ranges}
+use Rattle.interval_facts.specs.Solutions.{Devices, Map, Maps, bind, around, local_map, no_binders, Solves}
+use Rattle.interval_facts.specs.Claims.{InRanges}
+use Rattle.interval_facts.specs.Scopes.{BoundsHold}
 use Rattle.interval_facts.proofs.Claims.{fits_of, in_ranges}
 use Rattle.interval_facts.proofs.Tables.{Shows}
-use Rattle.growth_facts.specs.Leads.{least_integer}
 use Rattle.rise.proofs.WithoutRise.{solves_agree}
-use Rattle.converge_laws.specs.Fragment.{Analysis, IsFor, InFragment}
+use Rattle.converge_laws.specs.Fragment.{Analysis, IsFor}
 use Rattle.converge_laws.specs.Laws.{SolutionsAreOne}
 use Rattle.converge_laws.specs.Stabilising.{HasOneSolution}
 use Rattle.converge_laws.proofs.Agreement.{AgreeFor}
 use Rattle.converge_laws.proofs.Existing.{solves_vars}
 use Rattle.stable_field.specs.Stable.{IsStableField}
 use Rattle.walks.proofs.Settling.{contains_first, contains_here, contains_later}
-use Rattle.walk_form.specs.Alone.{filler, alone_term}
+use Rattle.walk_form.specs.Alone.{alone_term}
 use Rattle.walk_form.specs.Fields.{SolvesAt, HasOneField, as_integer, IsFieldAt, integer_in, integers_in}
 use Rattle.walk_form.proofs.Laying.{filled}
 use Rattle.walk_form.proofs.Judging.{body_shows}
 use Rattle.walk_form.proofs.Parts.{Part}
-use Rattle.walk_form.proofs.Under.{Under, shows_under, solves_under, typed_under}
+use Rattle.walk_form.proofs.Under.{shows_under, solves_under, typed_under}
 
 -- ---- a variable that doesn't occur
 

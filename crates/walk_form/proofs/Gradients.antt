@@ -1,29 +1,25 @@
 -- What a yes says of a program of the walk form: the local argument and the summand are without the variable, and the summand
 -- is at least 1.
-use Rattle.std.proofs.Common.{◌≡◌, ℕ, suc, ◌+◌, ◌≤◌, ◌<◌, List, [], ◌∷◌, refl, sym, ◌∙◌, ap, subst, arith, Bool, true, false, ◌||◌, min, length, Some}
-use Rattle.std.specs.Prelude.{if◌then◌else◌}
+use Rattle.std.proofs.Common.{◌≡◌, ℕ, suc, ◌+◌, ◌≤◌, refl, sym, ◌∙◌, ap, subst, arith, Bool, true, false, ◌||◌, min, length, Some}
 use Rattle.fc_values.specs.declared.builtins.Builtin.TheVariants as op
-use Rattle.fc_values.specs.Types.{LocalType, IntType, BoolType, PairType, ValueType, TypeLocal, TypeField, Declarations}
-use Rattle.fc_values.specs.BuiltinTypes.{inner, HasRule, Folds, folds_min, Lifts, takes_add}
+use Rattle.fc_values.specs.Types.{LocalType, IntType, ValueType, TypeLocal}
+use Rattle.fc_values.specs.BuiltinTypes.{inner}
 use Rattle.fc_nodes.specs.declared.verdicts.Verdict.TheVariants as verdict
-use Rattle.fc_nodes.specs.Terms.{Leaf, NbrLink, Evolution, ByRep, Term, Terms, Plain, Apply, Nbr, Evolve, If, Let, NoMore, More, type_of, size}
-use Rattle.fc_nodes.specs.Typing.{Scope, HasType, types_of}
+use Rattle.fc_nodes.specs.Terms.{Evolution, ByRep, Term, Plain, Apply, Nbr, Evolve, If, Let, NoMore, More, type_of, size}
 use Rattle.fc_nodes.specs.Variables.{occurs, is_own, is_heard}
 use Rattle.fc_nodes.specs.Program.{Program, Unfolding, unfolding_of, IsProgram}
-use Rattle.fc_nodes.proofs.Kids.{size_some}
 use Rattle.topology.specs.Networks.{Network, IsNetwork}
-use Rattle.interval_facts.specs.Ranges.{RangeValue, range_of}
+use Rattle.interval_facts.specs.Ranges.{RangeValue}
 use Rattle.growth_facts.specs.Leads.{least_integer, leads}
-use Rattle.growth_facts.specs.Growth.{GrowthValue, Grows, Lacks, growth_of, only_if, raised, on_one_side, growth_by, growth_apart, growth_heard, facts_with}
+use Rattle.growth_facts.specs.Growth.{GrowthValue, Grows, growth_of, only_if, raised, on_one_side}
 use Rattle.fragment_check.specs.declared.kinds.Pattern.{Pattern}
 use Rattle.fragment_check.specs.declared.kinds.Pattern.TheVariants as pattern
 use Rattle.fragment_check.specs.Shapes.{HasPattern, constant, acyclic, minimising, rising}
 use Rattle.fragment_check.specs.Verdicts.{verdict_of}
 use Rattle.converge_laws.specs.Fragment.{Analysis, InFragment}
-use Rattle.converge_laws.specs.Laws.{IsAnalysis}
 use Rattle.converge_laws.specs.Verdicts.{analysis_of, pattern_or, YesAnalyses}
-use Rattle.walk_form.specs.Forms.{StepTerm, StepValue, StepWeight, WalkTerms, walk_terms}
-use Rattle.walk_form.proofs.Inverted.{IsAdded, IsSum, IsBody, IsRoot, IsGradient, gradient}
+use Rattle.walk_form.specs.Forms.{StepTerm, WalkTerms, walk_terms}
+use Rattle.walk_form.proofs.Inverted.{IsAdded, IsSum, gradient}
 use Rattle.walk_form.proofs.Inverted as inverted
 use Rattle.walk_form.proofs.Under.{Under}
 use Rattle.walk_form.proofs.Under as under

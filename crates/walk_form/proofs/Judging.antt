@@ -1,21 +1,18 @@
 -- A term of the walk form alone has a yes: no pattern asks for ranges but those of the term's own nodes, and these stay.
-use Rattle.std.proofs.Common.{◌≡◌, ℕ, suc, ◌<◌, ◌≤◌, ◌+◌, ◌-◌, List, [], ◌∷◌, ◌++◌, length, refl, sym, ◌∙◌, ap, ap₂, subst, arith, Bool, true, false, not, ◌&&◌, Option, Some, None, inl, inr, ◌⊎◌}
-use Rattle.std.specs.Prelude.{if◌then◌else◌, nat_eq}
-use Rattle.std.proofs.lemmas.Bool.Decides.{nat_tests}
+use Rattle.std.proofs.Common.{◌≡◌, ℕ, suc, ◌<◌, ◌≤◌, ◌+◌, ◌-◌, List, [], ◌∷◌, ◌++◌, length, refl, sym, ◌∙◌, ap, ap₂, subst, arith, Bool, true, false, not, ◌&&◌, Option, Some, None, inl, inr}
+use Rattle.std.specs.Prelude.{if◌then◌else◌}
 use Rattle.std.specs.declared.result.Result.{Result}
 use Rattle.std.specs.declared.result.Result.TheVariants.{Ok, Err}
-use Rattle.fc_values.specs.declared.builtins.Builtin.{Builtin}
 use Rattle.fc_values.specs.declared.builtins.Builtin.TheVariants as op
-use Rattle.fc_values.specs.Types.{IntType, TypeLocal, Declarations}
-use Rattle.fc_nodes.specs.declared.nodes.Node.{Node}
+use Rattle.fc_values.specs.Types.{IntType, TypeLocal}
 use Rattle.fc_nodes.specs.declared.verdicts.Reason.{Reason}
 use Rattle.fc_nodes.specs.declared.verdicts.Verdict.TheVariants as verdict
-use Rattle.fc_nodes.specs.Terms.{Evolution, ByRep, ByShare, Term, Terms, Plain, Apply, Nbr, Evolve, If, Let, NoMore, More, size, sizes, term_at}
-use Rattle.fc_nodes.specs.Variables.{occurs, is_own, is_heard}
+use Rattle.fc_nodes.specs.Terms.{Evolution, ByRep, ByShare, Term, Terms, Plain, Apply, Nbr, Evolve, If, Let, NoMore, More, size, sizes}
+use Rattle.fc_nodes.specs.Variables.{occurs, is_own}
 use Rattle.fc_nodes.specs.Program.{Program, Unfolding, unfolding_of}
+use Rattle.fc_nodes.proofs.Standing.{below_or}
 use Rattle.interval_facts.specs.Ranges.{RangeValue, Bounds, full, range_of, ranges_of, node_ranges}
 use Rattle.interval_facts.proofs.Tables.{Shows, shows_second, shows_itself, as_many}
-use Rattle.growth_facts.specs.Leads.{least_integer}
 use Rattle.growth_facts.specs.Growth.{GrowthValue, NodeFacts, Lacks, growth_of, facts_in, node_growth, op_growth, facts_with}
 use Rattle.fc_nodes.specs.declared.verdicts.Reason.TheVariants as reason
 use Rattle.fragment_check.specs.declared.kinds.Pattern.{Pattern}
@@ -25,7 +22,7 @@ use Rattle.fragment_check.specs.Patterns.{two_of, three_of, settled_hood, hood_o
 use Rattle.fragment_check.specs.Verdicts.{verdict_of, verdict_by, judged_of, main_level}
 use Rattle.walk_form.specs.Alone.{filler, alone_term}
 use Rattle.walk_form.proofs.Laying.{filled}
-use Rattle.walk_form.proofs.Under.{Under, judged_under, shows_under, under_size}
+use Rattle.walk_form.proofs.Under.{Under, judged_under, shows_under}
 
 -- ---- the parts of a form stand within the body
 
@@ -153,14 +150,6 @@ form_in e x u = by_hood (hood_of x u) (hood_in x u)
     by_hood None i = by_rise e (rise_of u) (rise_in u)
     by_hood (Some (h, l)) i = i
 
--- at the place, or behind it
-here_or : (q p : ℕ) → q ≤ p → (p ≡ q) ⊎ (suc q ≤ p)
-here_or q p l = by_test (nat_eq p q) refl
-  where
-    by_test : (b : Bool) → nat_eq p q ≡ b → (p ≡ q) ⊎ (suc q ≤ p)
-    by_test true e = inl (grind (arith, e, nat_tests))
-    by_test false e = inr (grind (arith, e, l, nat_tests))
-
 -- ---- ranges that agree on a term
 
 module _ (m : ℕ) (R S : ℕ → RangeValue) where
@@ -172,9 +161,9 @@ module _ (m : ℕ) (R S : ℕ → RangeValue) where
 
   pub shows_same : (l : List RangeValue) (p : ℕ) → Shows R p l → Shows S p l → SameOn p (length l)
   shows_same [] p h k q a b = absurd (omega (arith, a, b))
-  shows_same (r ∷ l) p h k q a b = elim (here_or p q a) [
-    | inl e ↦ subst (λ n. R n ≡ S n) (sym e) (h.0 ∙ sym k.0)
-    | inr g ↦ shows_same l (suc p) h.1 k.1 q g (omega (arith, b))
+  shows_same (r ∷ l) p h k q a b = elim (below_or p q) [
+    | inl g ↦ shows_same l (suc p) h.1 k.1 q (omega (arith, g)) (omega (arith, b))
+    | inr g ↦ let e : p ≡ q = omega (arith, a, g) in subst (λ n. R n ≡ S n) e (h.0 ∙ sym k.0)
   ]
 
   module _ (e : Evolution) (x : ℕ) where

@@ -1,23 +1,23 @@
 -- The nodes of a term alone are those of a program.
 use Rattle.std.proofs.Common.{◌≡◌, ℕ, zero, suc, ◌<◌, ◌≤◌, ◌+◌, ◌-◌, List, [], ◌∷◌, ◌++◌, length, refl, sym, ◌∙◌, ap, subst, arith, Bool, true, false, Some, nat_eq, nat_lt}
-use Rattle.std.specs.Prelude.{if◌then◌else◌, Option}
+use Rattle.std.specs.Prelude.{if◌then◌else◌}
 use Rattle.std.proofs.lemmas.Bool.Decides.{nat_tests}
 use Rattle.std.proofs.lemmas.List.{length-append}
 use Rattle.fc_values.specs.declared.builtins.Builtin.TheVariants as op
 use Rattle.fc_values.specs.Types.{LocalType, IntType, BoolType, ValueType, TypeLocal, Declarations, type_of as value_type_of}
 use Rattle.fc_values.specs.Values.{IntValue, BoolValue}
-use Rattle.fc_values.specs.BuiltinTypes.{HasRule, Lifts, takes_not}
+use Rattle.fc_values.specs.BuiltinTypes.{HasRule, takes_not}
 use Rattle.fc_nodes.specs.declared.nodes.Node.{Node}
 use Rattle.fc_nodes.specs.Terms.{Literal, ByRep, Term, Terms, Plain, Apply, Nbr, Evolve, If, Let, NoMore, More, type_of, size, sizes, Sort, OfLeaf, OfApply, OfEvolve, OfLet, View, Has, sort_of, view_of, view_at, term_at, HasNode, Laid, AllLaid, Later, KidsLater, WellFormed}
 use Rattle.fc_nodes.specs.Typing.{Scope, HasType}
-use Rattle.fc_nodes.specs.Program.{Program, unfolding_of, IsLawful, IsProgram}
+use Rattle.fc_nodes.specs.Program.{Program, IsLawful, IsProgram}
 use Rattle.fc_nodes.proofs.Places.{AllAbove, all_above, formed_above, in_range}
-use Rattle.fc_nodes.proofs.Kids.{laid_term, size_some}
+use Rattle.fc_nodes.proofs.Kids.{laid_term}
 use Rattle.walk_form.specs.declared.forms.Span.{Span}
 use Rattle.walk_form.specs.Alone.{nots, filler, alone_term, front_view, alone_view, AreAlone}
 use Rattle.walk_form.specs.Spans.{IsSpan}
 use Rattle.walk_form.proofs.Parts.{Placed}
-use Rattle.walk_form.proofs.Under.{under_size, typed_under, laid_under}
+use Rattle.walk_form.proofs.Under.{under_size, typed_under}
 
 pub size_nots : (k : ℕ) → size (nots k) ≡ suc k
 size_nots zero = refl
@@ -194,9 +194,11 @@ view_left [] n i l = absurd (omega (arith, l))
 view_left (m ∷ ms) n zero l = refl
 view_left (m ∷ ms) n (suc i) l = view_left ms n i (omega (arith, l))
 
-view_last : (ms : List Node) (n : Node) → view_at (ms ++ n ∷ []) (length ms) ≡ Some (view_of n)
-view_last [] n = refl
-view_last (m ∷ ms) n = view_last ms n
+view_last : (ms : List Node) (n : Node) (i : ℕ) → i ≡ length ms → view_at (ms ++ n ∷ []) i ≡ Some (view_of n)
+view_last [] n zero e = refl
+view_last [] n (suc i) e = absurd (omega (arith, e))
+view_last (m ∷ ms) n zero e = absurd (omega (arith, e))
+view_last (m ∷ ms) n (suc i) e = view_last ms n i (omega (arith, e))
 
 pub alone_more : (ns : List Node) (p end : ℕ) (ms new : List Node) (n : Node) → AreAlone ns p end ms → Some (view_of n) ≡ alone_view ns p end → new ≡ ms ++ n ∷ []
     → AreAlone ns p (end + 1) new
@@ -210,9 +212,9 @@ alone_more ns p end ms new n h e q = subst (AreAlone ns p (end + 1)) (sym q) (re
     by_test i l false t =
         let k : end ≤ i = grind (arith, t, nat_tests) in
         let m = h.many in
-        let z : length ms ≡ i = omega (arith, k, l, m) in
+        let z : i ≡ length ms = omega (arith, k, l, m) in
         let y : end ≡ i = omega (arith, k, l) in
-        subst (λ x. view_at (ms ++ n ∷ []) x ≡ Some (view_of n)) z (view_last ms n) ∙ e ∙ ap (alone_view ns p) y
+        view_last ms n i z ∙ e ∙ ap (alone_view ns p) y
 
 -- the nodes end within those of the program
 pub ends_within : (P : Program) (s : Span) → IsProgram P → IsSpan P.nodes s → Placed P s.from (term_at P.nodes s.from) → s.end ≤ length P.nodes

@@ -4,7 +4,7 @@ mod Gradients
 mod Laying
 mod Judging
 mod Parts
-mod Fielding
+pub mod Fielding
 mod Equation
 mod Soloing
 mod Costing

@@ -1,5 +1,5 @@
 -- What the laws of networks say of one network's neighbours.
-use Rattle.std.proofs.Common.{◌≡◌, ◌≢◌, ℕ, ◌≤◌}
+use Rattle.std.proofs.Common.{◌≢◌, ℕ, ◌≤◌}
 use Rattle.std.specs.List.{Contains}
 use Rattle.fc_values.specs.Fields.{Rises}
 use Rattle.topology.specs.Networks.{Network, IsNetwork, Lives, near}

@@ -1,11 +1,11 @@
 -- Where the terms of the walk form stand, and that they are integers.
-use Rattle.std.proofs.Common.{◌≡◌, ◌⊎◌, inl, inr, ℕ, suc, ◌+◌, ◌≤◌, ◌<◌, List, [], ◌∷◌, refl, sym, ◌∙◌, ap, subst, arith, true, false, length, Some}
+use Rattle.std.proofs.Common.{◌≡◌, ◌⊎◌, inl, inr, ℕ, suc, ◌+◌, ◌≤◌, List, [], ◌∷◌, refl, sym, ◌∙◌, ap, subst, arith, false, length, Some}
 use Rattle.fc_values.specs.declared.builtins.Builtin.TheVariants as op
 use Rattle.fc_values.specs.Types.{LocalType, IntType, ValueType, TypeLocal, TypeField, Declarations}
-use Rattle.fc_values.specs.BuiltinTypes.{inner, inners, HasRule, Folds, folds_min, Takes, takes_add}
+use Rattle.fc_values.specs.BuiltinTypes.{inner, HasRule, folds_min, Takes, takes_add}
 use Rattle.fc_nodes.specs.declared.verdicts.Verdict.TheVariants as verdict
-use Rattle.fc_nodes.specs.Terms.{NbrLink, ByRep, Term, Plain, Apply, Evolve, NoMore, More, type_of, size, term_at}
-use Rattle.fc_nodes.specs.Typing.{Scope, HasType, types_of}
+use Rattle.fc_nodes.specs.Terms.{ByRep, Term, Apply, Evolve, NoMore, More, type_of, size, term_at}
+use Rattle.fc_nodes.specs.Typing.{Scope, HasType}
 use Rattle.fc_nodes.specs.Variables.{occurs}
 use Rattle.fc_nodes.specs.Program.{Program, unfolding_of, IsProgram}
 use Rattle.fc_nodes.proofs.Kids.{size_some}
@@ -15,14 +15,14 @@ use Rattle.fragment_check.specs.Verdicts.{verdict_of}
 use Rattle.converge_laws.specs.Fragment.{Analysis, InFragment}
 use Rattle.converge_laws.specs.Verdicts.{analysis_of, YesAnalyses}
 use Rattle.walk_form.specs.declared.forms.Span.{Span}
-use Rattle.walk_form.specs.Forms.{StepTerm, StepValue, StepWeight, WalkTerms, walk_terms}
-use Rattle.walk_form.specs.Spans.{IsSpan, AddsSpan, step_of, terms_of, IsWalkForm}
+use Rattle.walk_form.specs.Forms.{StepTerm, StepValue, WalkTerms, walk_terms}
+use Rattle.walk_form.specs.Spans.{IsSpan, AddsSpan, step_of, terms_of}
 use Rattle.walk_form.specs.Parts.{IsPart, IsPartOf}
-use Rattle.walk_form.proofs.Inverted.{IsAdded, IsSum, IsBody, IsRoot, IsGradient, gradient}
+use Rattle.walk_form.proofs.Inverted.{IsAdded, IsSum, IsRoot, gradient}
 use Rattle.walk_form.proofs.Inverted as inverted
-use Rattle.walk_form.proofs.Under.{Under, typed_under, fragment_under, under_size}
+use Rattle.walk_form.proofs.Under.{Under, fragment_under}
 use Rattle.walk_form.proofs.Under as under
-use Rattle.walk_form.proofs.Gradients.{Gradient, Summand, gradient_is}
+use Rattle.walk_form.proofs.Gradients.{Gradient, gradient_is}
 
 -- ---- types
 

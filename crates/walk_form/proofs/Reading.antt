@@ -1,28 +1,25 @@
 -- The walk form, read from nodes.
-use Rattle.std.proofs.Common.{◌≡◌, ℕ, zero, suc, ◌<◌, ◌≤◌, ◌+◌, List, [], ◌∷◌, length, get_or, refl, sym, ◌∙◌, ap, subst, arith, Bool, true, false, Option, Some, None}
+use Rattle.std.proofs.Common.{◌≡◌, ℕ, suc, ◌<◌, ◌+◌, List, [], ◌∷◌, length, get_or, refl, sym, ◌∙◌, ap, subst, arith, Bool, true, false, Option, Some, None}
 use Rattle.std.specs.Prelude.{IfNone, if◌then◌else◌}
 use Rattle.fc_values.specs.declared.builtins.Builtin.{Builtin}
 use Rattle.fc_values.specs.declared.builtins.Builtin.TheVariants as op
-use Rattle.fc_values.specs.Types.{LocalType, IntType, BoolType, PairType, ValueType, TypeLocal, TypeField}
+use Rattle.fc_values.specs.Types.{IntType, BoolType, PairType, ValueType, TypeLocal, TypeField}
 use Rattle.fc_nodes.specs.declared.nodes.Node.{Node}
-use Rattle.fc_nodes.specs.Terms.{Leaf, Literal, Variable, Sense, Uid, NbrLink, Evolution, ByRep, ByShare, Term, Terms, Plain, Apply, Nbr, Evolve, If, Let, NoMore, More, type_of, size, Sort, OfLeaf, OfApply, OfNbr, OfEvolve, OfIf, OfLet, View, Has, term_at, HasNode, Laid, WellFormed}
+use Rattle.fc_nodes.specs.Terms.{ByRep, ByShare, Term, Plain, Apply, Nbr, Evolve, If, Let, NoMore, More, size, Sort, OfLeaf, OfApply, OfNbr, OfEvolve, OfIf, OfLet, Has, term_at, HasNode, Laid, WellFormed}
 use Rattle.fc_nodes.specs.Places.{StandsAt}
 use Rattle.fc_nodes.specs.Sorts.{is_nbr_sort}
 use Rattle.fc_nodes.specs.Variables.{is_own, is_heard}
 use Rattle.fc_nodes.specs.Program.{Program, unfolding_of, IsProgram}
-use Rattle.fc_nodes.proofs.Places.{formed_above, laid_within, in_range}
-use Rattle.fc_nodes.proofs.Standing.{each_stands}
+use Rattle.fc_nodes.proofs.Places.{formed_above, laid_within}
 use Rattle.fc_nodes.proofs.Kids.{OneKid, TwoKids, nbr_laid, evolve_laid}
 use Rattle.growth_facts.specs.Facts.{IsEvolving, IsEvolveView}
 use Rattle.fragment_check.specs.Forms.{TwoAt}
 use Rattle.fragment_check.specs.Verdicts.{pattern_at}
-use Rattle.walk_form.specs.declared.forms.Span.{Span}
+use Rattle.fragment_check.proofs.Steps.{nbr_sort}
 use Rattle.walk_form.specs.declared.forms.Adds.{Adds}
-use Rattle.walk_form.specs.declared.forms.WalkForm.{WalkForm}
-use Rattle.walk_form.specs.Forms.{StepTerm, StepValue, StepWeight, WalkTerms, added_term, sum_step, with_local, body_terms, root_terms, is_minimising, if_minimising, walk_terms}
-use Rattle.walk_form.specs.Spans.{IsSpan, AddsSpan, IsAddedOf, IsStepOf, IsWalkForm, IsBuiltinAt, step_of, terms_of, is_int_rep, is_add}
-use Rattle.walk_form.proofs.Inverted.{IsSum, IsBody, IsRoot, sum_is, body_is, root_is}
-use Rattle.walk_form.proofs.Inverted as inverted
+use Rattle.walk_form.specs.Forms.{WalkTerms, added_term, sum_step, with_local, body_terms, root_terms, is_minimising, if_minimising, walk_terms}
+use Rattle.walk_form.specs.Spans.{IsStepOf, IsWalkForm, IsBuiltinAt, is_int_rep, is_add}
+use Rattle.walk_form.proofs.Inverted.{body_is, root_is}
 
 view_same : (s r : Sort) (t u : ValueType) (ks ls : List ℕ) → Some (Has s t ks) ≡ Some (Has r u ls) → (s ≡ r) × (t ≡ u) × (ks ≡ ls)
 view_same s r t u ks ls e = (cc, cc, cc)
@@ -104,14 +101,6 @@ none_or None h = refl
 none_or (Some x) h = absurd (h x refl)
 
 -- ---- what is heard
-
-nbr_sort : (s : Sort) → is_nbr_sort s ≡ true → s ≡ OfNbr
-nbr_sort (OfLeaf l) e = absurd cc
-nbr_sort (OfApply o) e = absurd cc
-nbr_sort OfNbr e = refl
-nbr_sort (OfEvolve v) e = absurd cc
-nbr_sort OfIf e = absurd cc
-nbr_sort OfLet e = absurd cc
 
 module _ (ns : List Node) (formed : WellFormed ns) (p : ℕ) (st : StandsAt ns p) (s : Sort) (t : ValueType) (ks : List ℕ) (h : HasNode ns p s t ks) where
   module _ (e : is_nbr_sort s ≡ true) where

@@ -1,8 +1,7 @@
 -- The stabilised field of a term alone is the field of the term.
-use Rattle.std.proofs.Common.{◌≡◌, ℕ, List, length, sym, ◌∙◌, ap, subst}
+use Rattle.std.proofs.Common.{◌≡◌, ℕ, length, sym, ◌∙◌}
 use Rattle.fc_values.specs.Fields.{Entries}
 use Rattle.fc_nodes.specs.declared.verdicts.Reason.{Reason}
-use Rattle.fc_nodes.specs.declared.verdicts.Verdict.{Verdict}
 use Rattle.fc_nodes.specs.declared.verdicts.Verdict.TheVariants as verdict
 use Rattle.fc_nodes.specs.Terms.{Term, term_at}
 use Rattle.fc_nodes.specs.Program.{Program, unfolding_of, IsProgram}
@@ -14,7 +13,7 @@ use Rattle.converge_laws.specs.Verdicts.{analysis_of, YesAnalyses, YesStabilises
 use Rattle.stable_field.specs.Stable.{IsStableField}
 use Rattle.walk_form.specs.declared.forms.Span.{Span}
 use Rattle.walk_form.specs.Alone.{alone_term}
-use Rattle.walk_form.specs.Fields.{HasOneField, IsFieldAt, integers_in}
+use Rattle.walk_form.specs.Fields.{IsFieldAt, integers_in}
 use Rattle.walk_form.specs.Parts.{IsPart}
 use Rattle.walk_form.proofs.Parts.{Part, Placed, part_part, part_placed}
 use Rattle.walk_form.proofs.Judging.{alone_yes}

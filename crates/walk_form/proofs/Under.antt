@@ -1,12 +1,12 @@
 -- A term beneath builtins of another one, with the place at which it stands there.
-use Rattle.std.proofs.Common.{◌≡◌, ℕ, suc, ◌+◌, ◌≤◌, List, [], ◌∷◌, ◌++◌, refl, sym, ◌∙◌, ap, arith, Option, Some, None}
+use Rattle.std.proofs.Common.{◌≡◌, ℕ, suc, ◌+◌, ◌≤◌, List, [], ◌∷◌, ◌++◌, refl, arith, None}
 use Rattle.std.specs.declared.result.Result.{Result}
 use Rattle.std.specs.declared.result.Result.TheVariants.{Ok, Err}
 use Rattle.fc_values.specs.declared.builtins.Builtin.{Builtin}
 use Rattle.fc_values.specs.Types.{ValueType, Declarations}
 use Rattle.fc_nodes.specs.declared.nodes.Node.{Node}
 use Rattle.fc_nodes.specs.declared.verdicts.Reason.{Reason}
-use Rattle.fc_nodes.specs.Terms.{Term, Terms, Apply, NoMore, More, size, sizes, Laid}
+use Rattle.fc_nodes.specs.Terms.{Term, Terms, Apply, More, size, Laid}
 use Rattle.fc_nodes.specs.Typing.{Scope, HasType}
 use Rattle.topology.specs.Networks.{Network}
 use Rattle.interval_facts.specs.Ranges.{RangeValue, Bounds, node_ranges, all_node_ranges}
