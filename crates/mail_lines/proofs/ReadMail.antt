@@ -1,5 +1,5 @@
 -- A mail log, read line by line.
-use Rattle.std.proofs.Common.{ℕ, ◌≡◌, ◌+◌, Bool, true, false, ◌==◌, List, [], ◌∷◌, ◌++◌, length, refl, sym, ap, ◌∙◌, arith, length-append, Option, Some, None}
+use Rattle.std.proofs.Common.{ℕ, ◌≡◌, ◌+◌, Bool, true, false, ◌==◌, List, [], ◌∷◌, ◌++◌, length, refl, sym, ap, ◌∙◌, arith, Option, Some, None}
 use Rattle.std.specs.Prelude.{option_map}
 use Rattle.std.proofs.lemmas.List.{map-append, length-map}
 use Rattle.message_links.specs.MailCores.{MailEntryValue}
@@ -69,9 +69,6 @@ mailed_more ks lines es entries k e long l m =
     ∙ ap (λ xs. numbered (ks ++ k ∷ []) (mail_entries xs)) m
     ∙ ap (numbered (ks ++ k ∷ [])) (map-append mail_entry es (e ∷ []))
     ∙ numbered_more ks (mail_entries es) k (mail_entry e) (omega (arith, long, length-map es mail_entry))
-
-pub same_lengths : {X Y : Type 0} (xs new : List X) (ys more : List Y) (x : X) (y : Y) → new ≡ xs ++ x ∷ [] → more ≡ ys ++ y ∷ [] → length xs ≡ length ys → length new ≡ length more
-same_lengths xs new ys more x y n m h = omega (arith, ap length n, ap length m, length-append xs (x ∷ []), length-append ys (y ∷ []), h)
 
 -- the entry that was read
 pub entry_said : (o : Option MailEntry) (e : MailEntry) (p : Option MailEntryValue) → option_map mail_entry o ≡ p → o ≡ Some e → p ≡ Some (mail_entry e)

@@ -1,8 +1,10 @@
 -- The nodes of a term alone are those of a program.
 use Rattle.std.proofs.Common.{◌≡◌, ℕ, zero, suc, ◌<◌, ◌≤◌, ◌+◌, ◌-◌, List, [], ◌∷◌, ◌++◌, length, refl, sym, ◌∙◌, ap, subst, arith, Bool, true, false, Some, nat_eq, nat_lt}
-use Rattle.std.specs.Prelude.{if◌then◌else◌}
+use Rattle.std.specs.Prelude.{option_map, if◌then◌else◌}
 use Rattle.std.proofs.lemmas.Bool.Decides.{nat_tests}
-use Rattle.std.proofs.lemmas.List.{length-append}
+use Rattle.std.proofs.Math.Seq.{get_or-append_seam}
+use Rattle.std.proofs.lemmas.List.{length-append, get_or_append_left}
+use Rattle.std.proofs.lemmas.Option.{slice_get-get_or}
 use Rattle.fc_values.specs.declared.builtins.Builtin.TheVariants as op
 use Rattle.fc_values.specs.Types.{LocalType, IntType, BoolType, ValueType, TypeLocal, Declarations, type_of as value_type_of}
 use Rattle.fc_values.specs.Values.{IntValue, BoolValue}
@@ -189,17 +191,6 @@ module _ (ns ms : List Node) (p end : ℕ) (low : 4 ≤ p) (within : p ≤ end) 
     }
 
 -- one node more
-view_left : (ms : List Node) (n : Node) (i : ℕ) → i < length ms → view_at (ms ++ n ∷ []) i ≡ view_at ms i
-view_left [] n i l = absurd (omega (arith, l))
-view_left (m ∷ ms) n zero l = refl
-view_left (m ∷ ms) n (suc i) l = view_left ms n i (omega (arith, l))
-
-view_last : (ms : List Node) (n : Node) (i : ℕ) → i ≡ length ms → view_at (ms ++ n ∷ []) i ≡ Some (view_of n)
-view_last [] n zero e = refl
-view_last [] n (suc i) e = absurd (omega (arith, e))
-view_last (m ∷ ms) n zero e = absurd (omega (arith, e))
-view_last (m ∷ ms) n (suc i) e = view_last ms n i (omega (arith, e))
-
 pub alone_more : (ns : List Node) (p end : ℕ) (ms new : List Node) (n : Node) → AreAlone ns p end ms → Some (view_of n) ≡ alone_view ns p end → new ≡ ms ++ n ∷ []
     → AreAlone ns p (end + 1) new
 alone_more ns p end ms new n h e q = subst (AreAlone ns p (end + 1)) (sym q) (record {
@@ -207,14 +198,23 @@ alone_more ns p end ms new n h e q = subst (AreAlone ns p (end + 1)) (sym q) (re
   each = λ i l. by_test i l (nat_lt i end) refl;
 })
   where
+    longer : length (ms ++ n ∷ []) ≡ length ms + 1
+    longer = length-append ms (n ∷ [])
+
+    front : (i : ℕ) → i < length ms → view_at (ms ++ n ∷ []) i ≡ view_at ms i
+    front i l = ap (option_map view_of) (slice_get-get_or (ms ++ n ∷ []) i n (omega (arith, l, longer)) ∙ ap Some (get_or_append_left ms (n ∷ []) n i l) ∙ sym (slice_get-get_or ms i n l))
+
+    last : view_at (ms ++ n ∷ []) (length ms) ≡ Some (view_of n)
+    last = ap (option_map view_of) (slice_get-get_or (ms ++ n ∷ []) (length ms) n (omega (arith, longer)) ∙ ap Some (get_or-append_seam ms n [] n))
+
     by_test : (i : ℕ) → i < end + 1 → (c : Bool) → nat_lt i end ≡ c → view_at (ms ++ n ∷ []) i ≡ alone_view ns p i
-    by_test i l true t = let k : i < end = grind (arith, t, nat_tests) in let m = h.many in view_left ms n i (omega (arith, k, m)) ∙ h.each i k
+    by_test i l true t = let k : i < end = grind (arith, t, nat_tests) in let m = h.many in front i (omega (arith, k, m)) ∙ h.each i k
     by_test i l false t =
         let k : end ≤ i = grind (arith, t, nat_tests) in
         let m = h.many in
-        let z : i ≡ length ms = omega (arith, k, l, m) in
+        let z : length ms ≡ i = omega (arith, k, l, m) in
         let y : end ≡ i = omega (arith, k, l) in
-        view_last ms n i z ∙ e ∙ ap (alone_view ns p) y
+        subst (λ x. view_at (ms ++ n ∷ []) x ≡ Some (view_of n)) z last ∙ e ∙ ap (alone_view ns p) y
 
 -- the nodes end within those of the program
 pub ends_within : (P : Program) (s : Span) → IsProgram P → IsSpan P.nodes s → Placed P s.from (term_at P.nodes s.from) → s.end ≤ length P.nodes

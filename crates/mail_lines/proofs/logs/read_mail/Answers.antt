@@ -1,8 +1,8 @@
-use Rattle.std.proofs.Common.{length, sym, ap, ◌∙◌}
+use Rattle.std.proofs.Common.{length, sym, ap, ◌∙◌, arith}
 use Rattle.message_links.specs.MailEntries.{mail_entries}
 use Rattle.mail_lines.specs.MailLines.{numbered}
 use Rattle.edit_commands.proofs.CutLines.{cut_at}
-use Rattle.mail_lines.proofs.ReadMail.{read_none, skipped, read, refused, all_read, mailed_more, same_lengths, entry_said, entry_none}
+use Rattle.mail_lines.proofs.ReadMail.{read_none, skipped, read, refused, all_read, mailed_more, entry_said, entry_none}
 use Rattle.mail_lines.proofs.logs.read_mail.Goals as goal
 
 pub lines-init : goal.lines-init
@@ -22,7 +22,7 @@ lines-preserved-in_ok-push-2 c =
       read c.args.text.now _ _ _ _ _ _ c.lines.invariant.0 cut c.is_empty-in-lines.result c.is_empty-in-lines.ensures _ _ c.if-not-is_empty.true
           (entry_said c.in_ok-entry.field-0 c.in-Some.entry _ c.in_ok-entry.ensures c.in-Some.is)
           (mailed_more _ _ _ _ _ _ c.lines.invariant.1 c.in_ok-push.ensures.items c.in_ok-push-2.ensures.items),
-      same_lengths _ _ _ _ _ _ c.in_ok-push.ensures.items c.in_ok-push-2.ensures.items c.lines.invariant.1,
+      grind (arith, c.in_ok-push.ensures.items, c.in_ok-push-2.ensures.items, c.lines.invariant.1),
     )
 
 pub returns-in_default-clause-refused : goal.returns-in_default-clause-refused
