@@ -2,6 +2,7 @@
 use Rattle.std.proofs.Common.{◌≡◌, ℕ, zero, suc, ◌+◌, ◌<◌, ◌≤◌, List, [], ◌∷◌, ◌++◌, ◌-◌, map, take, drop, length, get_or, refl, sym, ap, ◌∙◌, subst, arith, Bool, true, false, ◌||◌, nat_eq, if◌then◌else◌}
 use Rattle.std.proofs.lemmas.Bool.{eqb-true, eq-eqb}
 use Rattle.std.proofs.lemmas.List.{drop-append-le, length-map}
+use Rattle.fc_values.proofs.Booleans.{or_true}
 use Rattle.topology.specs.declared.types.Device.{Device}
 use Rattle.topology.specs.Networks.{Network, NetDevice, Lives, device_of, numbers}
 use Rattle.topology.proofs.Lemmas.{in_at, at_in}
@@ -35,6 +36,12 @@ none_begins d (e ∷ es) p = by_test (is_begin d e) p (none_begins d es)
     by_test : (b : Bool) → (b || has_begin d es) ≡ false → (has_begin d es ≡ false → begins d es ≡ 0) → (if b then begins d es + 1 else begins d es) ≡ 0
     by_test true q ih = absurd cc
     by_test false q ih = ih q
+
+-- what begins behind a place begins
+pub begins_later : (d k : ℕ) (es : List EntryValue) → has_begin d (drop k es) ≡ true → has_begin d es ≡ true
+begins_later d zero es p = p
+begins_later d (suc k) [] p = p
+begins_later d (suc k) (e ∷ es) p = or_true (is_begin d e) (has_begin d es) (begins_later d k es p)
 
 pub some_begins : (d : ℕ) (es : List EntryValue) → has_begin d es ≡ true → 1 ≤ begins d es
 some_begins d [] p = absurd cc
