@@ -2,4 +2,4 @@ mod AfterEdits
 mod PartRounds
 mod Following
 mod Lines
-mod Showing
+pub mod Showing

@@ -1,4 +1,4 @@
--- What a `show` writes where devices hold a field.
+-- What a `show` writes where devices hold a field. Crates above cite this module.
 use Rattle.std.proofs.Common.{◌≡◌, ℕ, List, [], ◌∷◌, ◌++◌, map, refl, ap, ◌∙◌, true, nat_eq, Option, Some}
 use Rattle.std.proofs.lemmas.Bool.{eq-eqb}
 use Rattle.std.specs.Prelude.{flat_map, option_map}

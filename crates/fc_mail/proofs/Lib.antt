@@ -1,0 +1,5 @@
+pub mod MailEndings
+pub mod MailReplies
+pub mod Mailing
+pub mod Links
+pub mod Driving

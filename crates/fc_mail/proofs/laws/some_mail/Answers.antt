@@ -1,0 +1,8 @@
+use Rattle.fc_mail.proofs.MailReplies.{some_mail, some_driven}
+use Rattle.fc_mail.proofs.laws.some_mail.Goals as goal
+
+pub returns-clause-log : goal.returns-clause-log
+returns-clause-log c = some_mail c.some_check.ensures c.inputs_start.ensures c.mail_logs_end.ensures.end c.some_greatest_mail.ensures
+
+pub returns-clause-number : goal.returns-clause-number
+returns-clause-number c = some_driven c.some_check.ensures c.inputs_start.ensures c.yes_stabilises.ensures c.some_greatest_mail.ensures

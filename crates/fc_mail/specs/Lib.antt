@@ -1,0 +1,4 @@
+pub mod Mails
+pub mod Drives
+pub mod Laws
+pub mod Code

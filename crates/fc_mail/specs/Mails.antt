@@ -1,0 +1,74 @@
+-- What `mail` makes of a program, a scene and a mail log.
+use Rattle.std.specs.Prelude.{ℕ, ◌≡◌, ◌⊎◌, List, ◌++◌, map, slice_index, Option, Some}
+use Rattle.fc_nodes.specs.Program.{IsProgram, Program, Unfolding, unfolding_of}
+use Rattle.topology.specs.declared.types.NetFault.TheVariants as net
+use Rattle.message_links.specs.MailCores.{MailCore, MailEntryValue, MailRun}
+use Rattle.message_links.specs.MailRounds.{posts_of}
+use Rattle.message_links.specs.declared.entries.MailFault.{MailFault}
+use Rattle.message_links.specs.declared.entries.MailFault.TheVariants as fault
+use Rattle.mail_lines.specs.MailLines.{mail_log}
+use Rattle.edit_commands.specs.LineByLine.{Lines, AllLines, StopsAt}
+use Rattle.mail_book.specs.MailViews.{quiet}
+use Rattle.mail_book.specs.MailReplays.{FailsMailAt}
+use Rattle.mail_count.specs.Laws.{IsGreatestMail}
+use Rattle.net_json.specs.Scenes.{SceneValue}
+use Rattle.report.specs.Texts.{values_text}
+use Rattle.report.specs.Verdicts.{rounds_text}
+use Rattle.fc_inputs.specs.declared.refusal.LineFault.{LineFault}
+use Rattle.fc_inputs.specs.declared.refusal.LineFault.TheVariants.{Form, Net, Empty}
+use Rattle.fc_inputs.specs.Refusals.{Reply, log_refusal}
+use Rattle.fc_inputs.specs.Causes.{Plainly, Judged, Accepted, Refused, AndThen}
+use Rattle.fc_inputs.specs.Inputs.{InputOf, ReadsInput}
+use Rattle.fc_replay.specs.Replays.{start_of}
+use Rattle.fc_replay.specs.Stopping.{step_fault}
+
+-- the entries of a mail log, each with the number of its line
+abbrev pub Mailed : Type 0
+Mailed = List (ℕ × MailEntryValue)
+
+abbrev pub entries_in : Mailed → List MailEntryValue
+entries_in log = map (λ (l : ℕ × MailEntryValue). l.1) log
+
+abbrev pub line_at : Mailed → ℕ → ℕ
+line_at log index = slice_index (map (λ (l : ℕ × MailEntryValue). l.0) log) index
+
+-- why an entry has no step, as refusals name it. Want of memory is no reason
+abbrev pub mail_line_fault : MailFault → Option LineFault
+mail_line_fault (fault.Step why) = step_fault why
+mail_line_fault fault.NoLink = Some (Net net.NoLink)
+mail_line_fault fault.Empty = Some Empty
+
+-- a log that leads from a mail core to one: the values of its core, and the number of rounds
+pub record ShowsMail (U : Unfolding) (start : MailCore) (log : Mailed) (j : Judged Reply) : Type 0 where
+  pub last : MailCore
+  pub leads : MailRun U 0 start (entries_in log) last
+  pub rounds : ℕ
+  pub counted : IsGreatestMail start.core.net (posts_of start) (entries_in log) rounds
+  pub is : j ≡ Accepted (record { status = 0; text = values_text last.core ++ rounds_text rounds })
+
+-- a log that is refused at the line of the first entry that has no step
+pub record StopsMail (U : Unfolding) (start : MailCore) (log : Mailed) (j : Judged Reply) : Type 0 where
+  pub index : ℕ
+  pub fault : MailFault
+  pub fails : FailsMailAt U start (entries_in log) index fault
+  pub why : LineFault
+  pub told : mail_line_fault fault ≡ Some why
+  pub is : j ≡ Refused (Plainly (log_refusal (line_at log index) why))
+
+-- the lines of a mail log, of which the first that is no entry is refused
+abbrev pub MailsLines : Unfolding → MailCore → Lines (Unit {0}) MailEntryValue → Judged Reply → Type 0
+MailsLines U start (StopsAt at tt) j = j ≡ Refused (Plainly (log_refusal at Form))
+MailsLines U start (AllLines log) j = ShowsMail U start log j ⊎ StopsMail U start log j
+
+-- a program and a scene of it, in which nothing was heard and nothing is in transit: the program is unfolded
+pub record MailsScene (U : Unfolding) (s : SceneValue) (log : List ℕ) (j : Judged Reply) : Type 0 where
+  pub nodes : Program
+  pub is_program : IsProgram nodes
+  pub unfolded : unfolding_of nodes ≡ U
+  pub ends : MailsLines U (quiet (start_of s)) (mail_log log) j
+
+-- the texts of a program, a scene and a mail log
+pub record Mails (program network log : List ℕ) (j : Judged Reply) : Type 0 where
+  pub judged : Judged InputOf
+  pub reads : ReadsInput program network judged
+  pub ends : AndThen judged (λ i k. MailsScene i.0 i.1 log k) j

@@ -1,0 +1,148 @@
+//! What `mail --number` makes of a program and a scene.
+
+ghost use Rattle.std.specs.Prelude.{◌≡◌, ◌<◌, ◌≤◌, ◌++◌, ◌^◌, ℕ, IfErr, IfOk, length};
+ghost use Rattle.fc_nodes.specs.Program.{IsProgram, unfolding_of};
+ghost use Rattle.fc_nodes.specs.declared.verdicts.Verdict.TheVariants as verdict;
+ghost use Rattle.topology.specs.Networks.{IsNetwork};
+ghost use Rattle.fragment_check.specs.Verdicts.{verdict_of};
+ghost use Rattle.message_links.specs.MailCores.{IsMailStart};
+ghost use Rattle.net_json.specs.SceneCode.{AreCopies, AreRows};
+ghost use Rattle.mail_book.specs.MailViews.{mail_of};
+ghost use Rattle.report.specs.Verdicts.{verdict_text};
+ghost use Rattle.fc_inputs.specs.Causes.{Accepted, Refused};
+ghost use Rattle.fc_inputs.specs.Stops.{StopsFor};
+ghost use Rattle.fc_inputs.specs.declared.sources.TheConstants.{MOST_BYTES};
+ghost use Rattle.fc_mail.specs.Code.{IsQuietOn};
+ghost use Rattle.fc_mail.specs.Drives.{DrivesBy, DrivesMail, WritesDriven, messages, most};
+
+use crate::shown::show;
+use fc_inputs::{Refusal, Reply, Stop, read_input};
+use fc_nodes::{Unfolded, Verdict};
+use fc_replay::start;
+use fc_values::Memory;
+use firing_core::StepFault;
+use interval_facts::ranges;
+use mail_book::{Mail, replay_mail};
+use mail_drive::{drive, driven_rounds_cover};
+use message_links::mail_stabilises;
+use net_json::Scene;
+use report::verdict as write_verdict;
+use round_bound::recognise;
+use std::alloc::Global;
+use std::sync::Arc;
+use topology::Network;
+
+// At most so many messages are driven.
+const MOST_MESSAGES: u64 = 1000000;
+
+// The mail core of a scene in which flights are ended, smallest first, nothing was heard and nothing is in transit.
+fn settled(alloc: Global, program: &Arc<Unfolded>, scene: Scene) -> Result<Mail, Memory>
+    requires declared { scene.net.declared ≡ program.now.value.declared }
+    requires rows { AreRows (unfolding_of program.now.value) scene.net scene.table.items }
+    requires copies { AreCopies (unfolding_of program.now.value) scene.net scene.pending.items }
+    ensures program { IfOk result (λ m. m.core.program ≡ program.now.value) }
+    ensures net { IfOk result (λ m. m.core.net ≡ scene.net) }
+    ensures quiet { IfOk result (λ m. IsQuietOn scene.net (mail_of m)) }
+    ensures start { IfOk result (λ m. IsMailStart (unfolding_of program.now.value) (mail_of m)) }
+{
+    let mut core = start(alloc, program, scene)?;
+    for place in 0..core.net().devices().len() {
+        let device = core.net().devices()[place].id;
+        match core.finish(alloc, device) {
+            Ok(()) | Err(StepFault::NotFlying) => {}
+            Err(_) => return Err(Memory),
+        }
+    }
+    Mail::new(alloc, core)
+}
+
+// The verdict on a program, for so many devices.
+fn verdict(alloc: Global, program: &Unfolded, devices: u32) -> Result<Verdict, Memory>
+    requires { 1 ≤ devices }
+    ensures verdict { IfOk result (λ v. v ≡ verdict_of program.now devices) }
+    ensures few { IfOk result (λ v. (k : ℕ) → v ≡ verdict.Yes k → k < 2 ^ 33) }
+{
+    let ranges = ranges(alloc, program)?;
+    recognise(alloc, program, &ranges, devices)
+}
+
+// How many messages so many rounds drive.
+fn messages(net: &Network, rounds: u64) -> u64
+    requires { rounds < 2 ^ 33 }
+    ensures { result ≡ messages net.now rounds }
+{
+    rounds * (net.devices().len() as u64 + 2 * net.links().len() as u64)
+}
+
+// So many driven rounds behind the line of a yes.
+fn driven(
+    alloc: Global,
+    number: u32,
+    rounds: u32,
+    program: Unfolded,
+    scene: Scene,
+) -> Result<Reply, Memory>
+    requires program { IsProgram program }
+    requires yes { verdict_of program (length scene.net.devices) ≡ verdict.Yes rounds }
+    requires declared { scene.net.declared ≡ program.declared }
+    requires rows { AreRows (unfolding_of program) scene.net scene.table.items }
+    requires copies { AreCopies (unfolding_of program) scene.net scene.pending.items }
+    ensures { IfOk result (λ r. WritesDriven number (unfolding_of program) scene.net rounds (Accepted r)) }
+{
+    driven_rounds_cover();
+    let program = Arc::new(alloc, program)?;
+    let start = settled(alloc, &program, scene)?;
+    mail_stabilises(&program, start.core().net());
+    let log = drive(alloc, start.core().net(), rounds, number)?;
+    let mut text = Vec::new(alloc);
+    write_verdict(alloc, &mut text, &Verdict::Yes(u64::from(rounds)))?;
+    // Each entry of a driven log has a step from such a mail core, so a log that isn't replayed is want of memory.
+    let Ok(book) = replay_mail(alloc, start, log) else {
+        return Err(Memory);
+    };
+    show(alloc, &mut text, &book)?;
+    Ok(Reply::new(0, text))
+}
+
+// What is written of a program and a scene.
+fn of_scene(alloc: Global, number: u32, program: Unfolded, scene: Scene) -> Result<Reply, Stop>
+    requires program { IsProgram program }
+    requires declared { scene.net.declared ≡ program.declared }
+    requires rows { AreRows (unfolding_of program) scene.net scene.table.items }
+    requires copies { AreCopies (unfolding_of program) scene.net scene.pending.items }
+    ensures writes { IfOk result (λ r. DrivesBy number (verdict_of program (length scene.net.devices))
+        (unfolding_of program) scene.net (Accepted r)) }
+    ensures refused { IfErr result (StopsFor (λ cause. DrivesBy number (verdict_of program (length scene.net.devices))
+        (unfolding_of program) scene.net (Refused cause))) }
+{
+    // Its clause: the network has devices.
+    let devices = scene.net.devices().len() as u32;
+    let verdict = verdict(alloc, &program, devices)?;
+    let Verdict::Yes(rounds) = verdict else {
+        let mut text = Vec::new(alloc);
+        write_verdict(alloc, &mut text, &verdict)?;
+        return Ok(Reply::new(1, text));
+    };
+    let messages = messages(&scene.net, rounds);
+    if messages > MOST_MESSAGES {
+        return Err(Stop::Refused(Refusal::Mail(messages)));
+    }
+    Ok(driven(alloc, number, rounds as u32, program, scene)?)
+}
+
+/// What `mail --number` writes of the texts of a program and a scene, and its status.
+pub fn mail_number(
+    alloc: Global,
+    number: u32,
+    program: &[u8],
+    network: &[u8],
+) -> Result<Reply, Stop>
+    requires { length program.now ≤ MOST_BYTES }
+    ensures writes { IfOk result (λ r. DrivesMail number program.now network.now (Accepted r)) }
+    ensures refused { IfErr result (StopsFor (λ cause. DrivesMail number program.now network.now (Refused cause))) }
+{
+    let (program, scene) = read_input(alloc, program, network)?;
+    // Its clause: the nodes are a program.
+    let _size = program.size();
+    of_scene(alloc, number, program, scene)
+}

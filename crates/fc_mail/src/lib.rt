@@ -1,0 +1,13 @@
+//! What `mail` makes of a program, a scene and a mail log, or of a program, a scene and a number.
+#![tactic(auto)]
+
+mod driven;
+mod laws;
+mod mails;
+mod shown;
+#[cfg(test)]
+mod tests;
+
+pub use driven::mail_number;
+pub use laws::{one_mail, some_mail};
+pub use mails::mail;
