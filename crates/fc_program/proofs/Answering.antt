@@ -1,7 +1,7 @@
 -- What the code reads or doesn't read, and what it answers, as the definitions say it.
-use Rattle.std.proofs.Common.{ℕ, ◌≡◌, ◌+◌, ◌<◌, ◌++◌, true, List, [], length, length-append, refl, ap}
-use Rattle.std.proofs.Common.{◌∙◌, sym, subst, arith, Option, Some, None, option_map}
-use Rattle.std.specs.Prelude.{IfSome, nat_lt}
+use Rattle.std.proofs.Common.{ℕ, ◌≡◌, ◌+◌, ◌<◌, ◌≤◌, ◌++◌, true, false, List, [], length, length-append, refl, ap}
+use Rattle.std.proofs.Common.{◌∙◌, sym, subst, arith, Option, Some, None, option_map, Result, Ok, Err}
+use Rattle.std.specs.Prelude.{IfErr, IfSome, IsErrAnd, nat_lt}
 use Rattle.std.specs.Io.KnownBytes.{Consumes}
 use Rattle.std.proofs.lemmas.Bool.Decides.{nat_tests}
 use Rattle.fc_syntax.specs.Terms.{Declaration}
@@ -17,13 +17,14 @@ use Rattle.fc_inputs.specs.declared.stop.Stop.{Stop}
 use Rattle.fc_inputs.specs.declared.stop.Stop.TheVariants as stop
 use Rattle.fc_inputs.specs.Refusals.{Reply}
 use Rattle.fc_inputs.specs.Causes.{Cause, Plainly, Judged, Accepted, Refused}
+use Rattle.fc_inputs.specs.Sections.{sections_of}
 use Rattle.fc_inputs.specs.Sources.{ReadsSource}
 use Rattle.fc_inputs.specs.Stops.{StopsFor, WhereCause, IsReplyFor, cause_of, scene_cause}
 use Rattle.fc_inputs.proofs.Stopping.{stops_map}
 use Rattle.fc_program.specs.declared.ending.Outcome.{Outcome}
 use Rattle.fc_program.specs.Asked.{exists, reads, limit_refusal}
 use Rattle.fc_program.specs.Answers.{AnswerValue, written, replied, answer_of, Formats, AnswersInput, AnswersReading}
-use Rattle.fc_program.specs.Answers.{AnswersWithin, AnswersAsked, Answers}
+use Rattle.fc_program.specs.Answers.{AnswersSections, AnswersWithin, AnswersAsked, Answers}
 use Rattle.fc_program.specs.Headline.{AnswersKeep}
 use Rattle.fc_program.specs.Top.{IsAnswer, IsExact, IsJudged, StopsAsked}
 
@@ -44,7 +45,7 @@ reads_there Format e = refl
 reads_there (Replay rounds table) e = refl
 reads_there (Check facts) e = refl
 reads_there Stable e = refl
-reads_there (Run workers log table) e = absurd cc
+reads_there (Run workers log table) e = refl
 reads_there (Gen number devices workers) e = absurd cc
 reads_there Trace e = refl
 reads_there (Mail number) e = absurd cc
@@ -76,6 +77,42 @@ module _ (command : Command) (within : limit_of command ≡ None) (there : exist
   read_too_long None after bytes c h = too_long None bytes tt (omega (arith, h))
   read_too_long (Some xs) None bytes c h = absurd c
   read_too_long (Some xs) (Some rest) bytes c h = too_long (Some xs) xs refl (longer xs bytes rest c h)
+
+  short : (input : List ℕ) → length input ≤ MOST_BYTES → nat_lt MOST_BYTES (length input) ≡ false
+  short input le = grind (arith, nat_tests)
+
+  -- what is judged of the sections of a whole input
+  module _ (left : Option (List ℕ)) (input given : List ℕ) (same : IfSome left (λ l. input ≡ l)) (lent : given ≡ input)
+      (few : length input ≤ MOST_BYTES) where
+    judged_whole : (j : Judged AnswerValue) → AnswersSections command (sections_of given) j
+        → IsJudged (Some command) left j
+    judged_whole j h = record {
+      input = input;
+      there = same;
+      makes = within_reads input j
+          (subst (λ b. AnswersInput b command input j) (sym (short input few))
+          (subst (λ i. AnswersSections command (sections_of i) j) lent h));
+    }
+
+    whole_cause : (o : Option Cause)
+        → WhereCause (λ cause. AnswersSections command (sections_of given) (Refused cause)) o
+        → WhereCause (λ cause. IsJudged (Some command) left (Refused cause)) o
+    whole_cause None h = tt
+    whole_cause (Some cause) h = judged_whole (Refused cause) h
+
+    pub whole_stops : (s : Stop)
+        → StopsFor (λ cause. AnswersSections command (sections_of given) (Refused cause)) s
+        → StopsAsked (Some command) left s
+    whole_stops stop.Read h = absurd h
+    whole_stops stop.Memory h = tt
+    whole_stops (stop.Refused r) h = judged_whole (Refused (Plainly r)) h
+    whole_stops (stop.Scene f) h = whole_cause (scene_cause f) h
+
+-- what a `?` gives
+pub asked_stop : {T : Type 0} (asked : Option Command) (left : Option (List ℕ)) (r : Result T Stop) (s : Stop)
+    → IsErrAnd r (λ e. e ≡ s) → StopsAsked asked left s → IfErr r (StopsAsked asked left)
+asked_stop asked left (Ok x) s h k = tt
+asked_stop asked left (Err e) s h k = subst (StopsAsked asked left) (sym h) k
 
 -- ---- what isn't read
 abbrev left_or_none : Option (List ℕ) → List ℕ

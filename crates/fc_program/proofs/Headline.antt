@@ -12,12 +12,13 @@ use Rattle.net_json.specs.Scenes.{SceneValue}
 use Rattle.command_words.specs.declared.commands.Command.{Command}
 use Rattle.command_words.specs.declared.commands.Command.TheVariants.{Check, Stable, Run, Replay, Format, Gen, Trace, Mail}
 use Rattle.command_words.specs.declared.commands.Limit.{Limit}
+use Rattle.command_words.specs.declared.commands.Limit.TheVariants.{Workers, Devices}
 use Rattle.command_words.specs.Commands.{limit_of}
 use Rattle.fc_inputs.specs.declared.refusal.Refusal.TheVariants.{Bytes}
 use Rattle.fc_inputs.specs.Causes.{Cause, Plainly, Judged, Accepted, Refused, AndThen, reply_to, judged_map}
 use Rattle.fc_inputs.specs.Inputs.{InputOf, ReadsInput}
 use Rattle.fc_inputs.specs.Refusals.{Reply}
-use Rattle.fc_inputs.specs.Sections.{sections_of, other_number, WithTwo}
+use Rattle.fc_inputs.specs.Sections.{sections_of, other_number, WithTwo, WithThree}
 use Rattle.fc_inputs.specs.declared.sources.TheConstants.{MOST_BYTES}
 use Rattle.fc_check.specs.Checks.{Checks, ChecksScene, facts_behind, verdict_status}
 use Rattle.interval_facts.specs.Ranges.{ranges_of}
@@ -25,10 +26,13 @@ use Rattle.report.specs.Facts.{facts_text}
 use Rattle.report.specs.Texts.{field_text}
 use Rattle.report.specs.Verdicts.{verdict_text}
 use Rattle.fc_program.specs.Stabilised.{Stabilised, StabilisedBy, StabilisesScene}
-use Rattle.fc_program.specs.Asked.{reads}
+use Rattle.fc_run.specs.Laws.{RunsKeepYes}
+use Rattle.fc_run.specs.Runs.{RanValue, Runs}
+use Rattle.fc_program.specs.Asked.{limit_refusal, reads}
 use Rattle.fc_program.specs.Answers.{AnswerValue, Answers, AnswersAsked, AnswersInput, AnswersReading, AnswersSections}
-use Rattle.fc_program.specs.Answers.{AnswersWithin, WritesReply, answer_of, replied}
-use Rattle.fc_program.specs.Headline.{AnswersKeep, ChecksYes, HasYes, OfTwo, Promises, SolvesYes, TracesYes, stable_entries}
+use Rattle.fc_program.specs.Answers.{AnswersWithin, ShowsRun, WritesReply, answer_of, replied, run_options, running}
+use Rattle.fc_program.specs.Headline.{AnswersKeep, ChecksYes, HasYes, OfThree, OfTwo, Promises, RunsKept, SolvesYes}
+use Rattle.fc_program.specs.Headline.{TracesYes, stable_entries}
 use Rattle.fc_program.proofs.StableReplies.{one_field}
 use Rattle.fc_trace.proofs.Scenes.{scene_fits}
 use Rattle.fc_trace.specs.Texts.{walks_text}
@@ -36,7 +40,7 @@ use Rattle.fc_trace.specs.Traces.{TracedBy, Traces, TracesScene}
 use Rattle.walk_form.specs.Costs.{AreCostsOf}
 use Rattle.walk_form.specs.Forms.{WalkTerms, walk_terms}
 use Rattle.walk_form.specs.Laws.{SolutionsAreLeast}
-use Rattle.fc_program.proofs.Statuses.{CauseJudges, IfRefused, RefusesBy, input_causes}
+use Rattle.fc_program.proofs.Statuses.{CauseJudges, IfRefused, RefusesBy, input_causes, run_causes}
 
 -- what is replied: a reply, or that of a refusal
 abbrev reply_of : Judged Reply → Reply
@@ -204,10 +208,54 @@ module _ (Makes : List ℕ → List ℕ → Judged Reply → Type 0) (P : List �
   input_keeps input j true h k zero = refused_zero j (Plainly Bytes) (h refl) (omega arith) zero
   input_keeps input j false h k zero = sections_keep (sections_of input) j (k refl) zero
 
-module _ (law : YesStabilises) (fit : AcceptedScenesFit) (least : SolutionsAreLeast) where
+-- ---- runs
+module _ (run : RunsKeepYes) (workers : ℕ) (log table : Bool) where
+  shows_keep : (program network script : List ℕ) (j : Judged AnswerValue)
+      → ShowsRun (run_options log table) program network script j → (answer_of j).status ≡ 0
+      → RunsKept (run_options log table) program network script (answer_of j)
+  shows_keep program network script j h zero = by_judged h.judged h.runs h.shows
+    where
+      by_judged : (k : Judged RanValue) → Runs (run_options log table) program network script k
+          → j ≡ judged_map running k → RunsKept (run_options log table) program network script (answer_of j)
+      by_judged (Accepted r) runs e = record {
+        ran = r;
+        shows = ap answer_of e;
+        keeps = run (run_options log table) program network script r runs;
+      }
+      by_judged (Refused cause) runs e =
+          refused_zero j cause e (run_causes (run_options log table) program network script (Refused cause) runs).many
+          zero
+
+  abbrev RunKeeps : List (List ℕ) → Judged AnswerValue → Type 0
+  RunKeeps sections j =
+      OfThree (λ program network script. RunsKept (run_options log table) program network script (answer_of j))
+      sections
+
+  three_keep : (ss : List (List ℕ)) (j : Judged AnswerValue) → WithThree (ShowsRun (run_options log table)) ss j
+      → (answer_of j).status ≡ 0 → RunKeeps ss j
+  three_keep [] j h zero = refused_zero j (other_number []) h (omega arith) zero
+  three_keep (a ∷ []) j h zero = refused_zero j (other_number (a ∷ [])) h (omega arith) zero
+  three_keep (a ∷ b ∷ []) j h zero = refused_zero j (other_number (a ∷ b ∷ [])) h (omega arith) zero
+  three_keep (a ∷ b ∷ c ∷ []) j h zero = shows_keep a b c j h zero
+  three_keep (a ∷ b ∷ c ∷ d ∷ ss) j h zero = refused_zero j (other_number (a ∷ b ∷ c ∷ d ∷ ss)) h (omega arith) zero
+
+  run_input : (long : Bool) (input : List ℕ) (j : Judged AnswerValue)
+      → AnswersInput long (Run workers log table) input j → (answer_of j).status ≡ 0 → RunKeeps (sections_of input) j
+  run_input true input j h zero = refused_zero j (Plainly Bytes) h (omega arith) zero
+  run_input false input j h zero = three_keep (sections_of input) j h zero
+
+  run_within : (o : Option (Limit × ℕ)) (input : List ℕ) (j : Judged AnswerValue)
+      → AnswersWithin o (Run workers log table) input j → (answer_of j).status ≡ 0 → RunKeeps (sections_of input) j
+  run_within (Some (Workers, count)) input j h zero =
+      refused_zero j (Plainly (limit_refusal Workers count)) h (omega arith) zero
+  run_within (Some (Devices, count)) input j h zero =
+      refused_zero j (Plainly (limit_refusal Devices count)) h (omega arith) zero
+  run_within None input j h zero = run_input (nat_lt MOST_BYTES (length input)) input j h zero
+
+module _ (law : YesStabilises) (fit : AcceptedScenesFit) (least : SolutionsAreLeast) (run : RunsKeepYes) where
   command_keeps : (command : Command) (input : List ℕ) (j : Judged AnswerValue)
       → AnswersWithin (limit_of command) command input j → (answer_of j).status ≡ 0
-      → Promises command (sections_of input) (answer_of j).text
+      → Promises command (sections_of input) (answer_of j)
   command_keeps (Check facts) input j h zero =
       input_keeps (Checks facts) ChecksYes (λ p n. check_keeps law fit p n facts) input j
       (nat_lt MOST_BYTES (length input)) (λ e. subst (λ b. AnswersInput b (Check facts) input j) e h)
@@ -218,7 +266,8 @@ module _ (law : YesStabilises) (fit : AcceptedScenesFit) (least : SolutionsAreLe
       (λ e. subst (λ b. AnswersInput b Stable input j) e h) zero
   command_keeps Format input j h zero = tt
   command_keeps (Replay rounds table) input j h zero = tt
-  command_keeps (Run workers log table) input j h zero = tt
+  command_keeps (Run workers log table) input j h zero =
+      run_within run workers log table (limit_of (Run workers log table)) input j h zero
   command_keeps (Gen number devices workers) input j h zero = tt
   command_keeps Trace input j h zero =
       input_keeps Traces TracesYes (trace_keeps law fit least) input j
@@ -229,5 +278,5 @@ module _ (law : YesStabilises) (fit : AcceptedScenesFit) (least : SolutionsAreLe
   pub answers_keep : AnswersKeep
   answers_keep None input answer h = tt
   answers_keep (Some command) input answer h =
-      subst (λ (a : AnswerValue). a.status ≡ 0 → Promises command (sections_of input) a.text) (sym h.is)
+      subst (λ (a : AnswerValue). a.status ≡ 0 → Promises command (sections_of input) a) (sym h.is)
       (command_keeps command input h.judged h.makes)

@@ -19,10 +19,12 @@ use Rattle.fc_check.specs.Laws.{SomeCheck}
 use Rattle.fc_replay.specs.declared.replays.Options.{Options}
 use Rattle.fc_replay.specs.Laws.{SomeReplay}
 use Rattle.fc_trace.specs.Traces.{Traces}
+use Rattle.fc_run.specs.declared.runs.RunOptions.{RunOptions}
+use Rattle.fc_run.specs.Laws.{SomeRun}
 use Rattle.fc_program.specs.Stabilised.{Stabilised}
 use Rattle.fc_program.specs.Asked.{exists, limit_refusal, MayAsk}
-use Rattle.fc_program.specs.Answers.{AnswerValue, written, showing, replied, answer_of, Formats, ShowsReplay, WritesReply}
-use Rattle.fc_program.specs.Answers.{options_of, AnswersSections, AnswersInput, AnswersReading, AnswersWithin, AnswersAsked}
+use Rattle.fc_program.specs.Answers.{AnswerValue, written, showing, running, replied, answer_of, Formats, ShowsReplay, ShowsRun, WritesReply}
+use Rattle.fc_program.specs.Answers.{options_of, run_options, AnswersSections, AnswersInput, AnswersReading, AnswersWithin, AnswersAsked}
 use Rattle.fc_program.specs.Laws.{SomeAnswer}
 use Rattle.fc_program.proofs.Answering.{reads_there}
 
@@ -45,7 +47,7 @@ some_reply Makes some (a ∷ b ∷ []) w =
 some_reply Makes some (a ∷ b ∷ c ∷ ss) w = (Refused (other_number (a ∷ b ∷ c ∷ ss)), refl)
 
 module _ (source : OneSource) (within : SectionsAreWithin) (check : SomeCheck) (stable : SomeReply Stabilised)
-    (trace : SomeReply Traces) (replay : SomeReplay) where
+    (trace : SomeReply Traces) (replay : SomeReplay) (run : SomeRun) where
   some_format : (ss : List (List ℕ)) → IsJudgedSo (WithOne Formats ss)
   some_format [] = (Refused (other_number []), refl)
   some_format (program ∷ []) =
@@ -62,13 +64,22 @@ module _ (source : OneSource) (within : SectionsAreWithin) (check : SomeCheck) (
       (judged_map showing r.0, record { judged = r.0; replays = r.1; shows = refl })
   some_shown o (a ∷ b ∷ c ∷ d ∷ ss) w = (Refused (other_number (a ∷ b ∷ c ∷ d ∷ ss)), refl)
 
+  some_ran : (o : RunOptions) (ss : List (List ℕ)) → AreWithin MOST_BYTES ss → IsJudgedSo (WithThree (ShowsRun o) ss)
+  some_ran o [] w = (Refused (other_number []), refl)
+  some_ran o (a ∷ []) w = (Refused (other_number (a ∷ [])), refl)
+  some_ran o (a ∷ b ∷ []) w = (Refused (other_number (a ∷ b ∷ [])), refl)
+  some_ran o (a ∷ b ∷ c ∷ []) w =
+      let r = run o a b c w.0 in
+      (judged_map running r.0, record { judged = r.0; runs = r.1; shows = refl })
+  some_ran o (a ∷ b ∷ c ∷ d ∷ ss) w = (Refused (other_number (a ∷ b ∷ c ∷ d ∷ ss)), refl)
+
   some_sections : (command : Command) → exists command ≡ true → (ss : List (List ℕ)) → AreWithin MOST_BYTES ss
       → IsJudgedSo (AnswersSections command ss)
   some_sections Format there ss w = some_format ss
   some_sections (Replay rounds table) there ss w = some_shown (options_of rounds table) ss w
   some_sections (Check facts) there ss w = some_reply (Checks facts) (check facts) ss w
   some_sections Stable there ss w = some_reply Stabilised stable ss w
-  some_sections (Run workers log table) there ss w = absurd cc
+  some_sections (Run workers log table) there ss w = some_ran (run_options log table) ss w
   some_sections (Gen number devices workers) there ss w = absurd cc
   some_sections Trace there ss w = some_reply Traces trace ss w
   some_sections (Mail number) there ss w = absurd cc

@@ -35,11 +35,17 @@ use Rattle.fc_inputs.specs.Sections.{sections_of, WithOne, WithTwo, WithThree, o
 use Rattle.fc_inputs.specs.Sources.{IsNoSource, lexical, tokens, depth, syntax, IsNoProgram, no_source, ill_typed, too_large, ReadsSource, ReadsProgram}
 use Rattle.fc_inputs.specs.Inputs.{InputOf, with_scene, ReadsInput}
 use Rattle.fc_replay.specs.declared.replays.Options.{Options}
-use Rattle.fc_replay.specs.Stopping.{first_stop}
+use Rattle.fc_replay.specs.Stopping.{fault_in, first_stop}
 use Rattle.fc_replay.specs.Replays.{start_of, Shown, ReplaysEntries, ReplaysLog, Replays}
 use Rattle.fc_inputs.specs.declared.sources.TheConstants.{MOST_BYTES}
 use Rattle.fc_program.specs.Asked.{reads, limit_refusal}
-use Rattle.fc_program.specs.Answers.{AnswerValue, showing, replied, answer_of, Formats, ShowsReplay, WritesReply, options_of, AnswersSections, AnswersInput, AnswersReading, AnswersWithin, AnswersAsked}
+use Rattle.fc_run.specs.declared.runs.RunOptions.{RunOptions}
+use Rattle.fc_run.specs.Runs.{RanValue, Runs, RunsScript, line_refusal}
+use Rattle.edit_commands.specs.Scripts.{Script, TooManyLines, Within, OfLine, OfScrambles, OfFirings, script_of}
+use Rattle.edit_commands.specs.Scripts.{LineFault as ScriptFault}
+use Rattle.fc_program.specs.Answers.{AnswerValue, showing, running, replied, answer_of, Formats, ShowsReplay, ShowsRun}
+use Rattle.fc_program.specs.Answers.{WritesReply, options_of, run_options, AnswersSections, AnswersInput, AnswersReading}
+use Rattle.fc_program.specs.Answers.{AnswersWithin, AnswersAsked}
 use Rattle.fc_program.specs.Top.{IsAnswer, IsJudged}
 
 -- the status of an answer that is none to words outside: at most 4, and not that of the usage line
@@ -165,6 +171,28 @@ replay_causes o program network log j h = by_input h.judged (input_causes progra
     by_input (Accepted i) c e = log_causes o i.0 (start_of i.1) (log_of i.0 i.1.net log) j e
     by_input (Refused cause) c e = subst (IfRefused CauseJudges) (sym e) c
 
+line_judges : (at : ℕ) (fault : ScriptFault) → RefusesBy (status_of (line_refusal at fault))
+line_judges at (OfLine fault) =
+    limit_judges (limit_in (fault_in fault)) (refusal.Script at (fault_in fault)) by_three (line_limit (fault_in fault))
+line_judges at (OfScrambles count) = by_four
+line_judges at (OfFirings count) = by_four
+
+script_causes : (o : RunOptions) (U : Unfolding) (start : Core) (script : Script) (j : Judged RanValue)
+    → RunsScript o U start script j → IfRefused CauseJudges j
+script_causes o U start (TooManyLines count) j e = subst (IfRefused CauseJudges) (sym e) by_four
+script_causes o U start (Within (StopsAt at fault)) j e = subst (IfRefused CauseJudges) (sym e) (line_judges at fault)
+script_causes o U start (Within (AllLines lines)) j h = subst (IfRefused CauseJudges) (sym h.runs.is) tt
+
+pub run_causes : (o : RunOptions) (program network script : List ℕ) (j : Judged RanValue) → Runs o program network script j
+    → IfRefused CauseJudges j
+run_causes o program network script j h = by_input h.judged (input_causes program network h.judged h.reads) h.ends
+  where
+    by_input : (i : Judged InputOf) → IfRefused CauseJudges i
+        → AndThen i (λ i k. RunsScript o i.0 (start_of i.1) (script_of i.0 (start_of i.1) script) k) j
+        → IfRefused CauseJudges j
+    by_input (Accepted i) c e = script_causes o i.0 (start_of i.1) (script_of i.0 (start_of i.1) script) j e
+    by_input (Refused cause) c e = subst (IfRefused CauseJudges) (sym e) c
+
 abbrev by_zero : JudgesBy 0
 by_zero = record { no_usage = omega arith; few = omega arith }
 
@@ -255,13 +283,21 @@ replay_judges o (a ∷ b ∷ c ∷ []) j h = written_judges showing (λ x. refl)
     (replay_causes o a b c h.judged h.replays) j h.shows
 replay_judges o (a ∷ b ∷ c ∷ d ∷ ss) j h = other_judges (a ∷ b ∷ c ∷ d ∷ ss) j h
 
+run_judges : (o : RunOptions) (ss : List (List ℕ)) (j : Judged AnswerValue) → WithThree (ShowsRun o) ss j → JudgesWell j
+run_judges o [] j h = other_judges [] j h
+run_judges o (a ∷ []) j h = other_judges (a ∷ []) j h
+run_judges o (a ∷ b ∷ []) j h = other_judges (a ∷ b ∷ []) j h
+run_judges o (a ∷ b ∷ c ∷ []) j h =
+    written_judges running (λ x. refl) h.judged (run_causes o a b c h.judged h.runs) j h.shows
+run_judges o (a ∷ b ∷ c ∷ d ∷ ss) j h = other_judges (a ∷ b ∷ c ∷ d ∷ ss) j h
+
 sections_judge : (command : Command) (ss : List (List ℕ)) (j : Judged AnswerValue) → AnswersSections command ss j
     → JudgesWell j
 sections_judge Format ss j h = format_judges ss j h
 sections_judge (Replay rounds table) ss j h = replay_judges (options_of rounds table) ss j h
 sections_judge (Check facts) ss j h = reply_judges (Checks facts) (check_replies facts) ss j h
 sections_judge Stable ss j h = reply_judges Stabilised stable_replies ss j h
-sections_judge (Run workers log table) ss j h = absurd h
+sections_judge (Run workers log table) ss j h = run_judges (run_options log table) ss j h
 sections_judge (Gen number devices workers) ss j h = absurd h
 sections_judge Trace ss j h = reply_judges Traces trace_replies ss j h
 sections_judge (Mail number) ss j h = absurd h

@@ -17,6 +17,8 @@ use Rattle.fc_check.specs.Checks.{Checks}
 use Rattle.fc_replay.specs.declared.replays.Options.{Options}
 use Rattle.fc_replay.specs.Ledgers.{Ledger}
 use Rattle.fc_replay.specs.Replays.{Shown, Replays}
+use Rattle.fc_run.specs.declared.runs.RunOptions.{RunOptions}
+use Rattle.fc_run.specs.Runs.{RanValue, Runs}
 use Rattle.fc_inputs.specs.declared.sources.TheConstants.{MOST_BYTES}
 use Rattle.fc_program.specs.Asked.{reads, limit_refusal}
 use Rattle.fc_trace.specs.Traces.{Traces}
@@ -57,6 +59,16 @@ pub record ShowsReplay (options : Options) (program network log : List ℕ) (j :
   pub replays : Replays options program network log judged
   pub shows : j ≡ judged_map showing judged
 
+-- the answer of what a script's run gives
+abbrev pub running : RanValue → AnswerValue
+running r = record { status = 0; text = r.text; book = Some r.book; parts = r.parts }
+
+-- `run` shows a script run of a program and a scene. The number of its workers makes no difference
+pub record ShowsRun (options : RunOptions) (program network script : List ℕ) (j : Judged AnswerValue) : Type 0 where
+  pub judged : Judged RanValue
+  pub runs : Runs options program network script judged
+  pub shows : j ≡ judged_map running judged
+
 -- a command writes the reply that it makes of a program and a scene
 pub record WritesReply (Makes : List ℕ → List ℕ → Judged Reply → Type 0) (program network : List ℕ)
     (j : Judged AnswerValue) : Type 0 where
@@ -67,13 +79,16 @@ pub record WritesReply (Makes : List ℕ → List ℕ → Judged Reply → Type 
 abbrev pub options_of : Bool → Bool → Options
 options_of rounds table = record { rounds = rounds; table = table }
 
+abbrev pub run_options : Bool → Bool → RunOptions
+run_options log table = record { log = log; table = table }
+
 -- a command over the sections of an input within the limit. Those that don't exist yet have no answer
 abbrev pub AnswersSections : Command → List (List ℕ) → Judged AnswerValue → Type 0
 AnswersSections Format sections j = WithOne Formats sections j
 AnswersSections (Replay rounds table) sections j = WithThree (ShowsReplay (options_of rounds table)) sections j
 AnswersSections (Check facts) sections j = WithTwo (WritesReply (Checks facts)) sections j
 AnswersSections Stable sections j = WithTwo (WritesReply Stabilised) sections j
-AnswersSections (Run workers log table) sections j = ⊥
+AnswersSections (Run workers log table) sections j = WithThree (ShowsRun (run_options log table)) sections j
 AnswersSections (Gen number devices workers) sections j = ⊥
 AnswersSections Trace sections j = WithTwo (WritesReply Traces) sections j
 AnswersSections (Mail number) sections j = ⊥

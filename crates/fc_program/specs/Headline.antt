@@ -1,4 +1,4 @@
--- What a yes promises: within its rounds the program stabilises on the scene's network.
+-- What a yes promises: within its rounds the program stabilises on the scene's network, and on those that a script makes.
 use Rattle.std.specs.Prelude.{ℕ, ◌≡◌, ◌++◌, List, [], ◌∷◌, length, map, Option, Some, None}
 use Rattle.fc_values.specs.Fields.{Entries}
 use Rattle.fc_nodes.specs.Program.{IsProgram, Program, unfolding_of}
@@ -19,7 +19,10 @@ use Rattle.fc_inputs.specs.Causes.{Accepted}
 use Rattle.fc_trace.specs.Texts.{walks_text}
 use Rattle.fc_inputs.specs.Inputs.{ReadsInput}
 use Rattle.fc_inputs.specs.Sections.{sections_of}
-use Rattle.fc_program.specs.Answers.{AnswerValue, Answers}
+use Rattle.fc_run.specs.declared.runs.RunOptions.{RunOptions}
+use Rattle.fc_run.specs.Laws.{RunKeepsYes}
+use Rattle.fc_run.specs.Runs.{RanValue}
+use Rattle.fc_program.specs.Answers.{AnswerValue, Answers, run_options, running}
 
 -- The texts of a program and a scene, on which the verdict is a yes for so many rounds: exactly one field solves the
 -- program on the scene's network, and from every good core each log without an edit that has so many rounds leads to
@@ -59,26 +62,42 @@ pub record TracesYes (program network text : List ℕ) : Type 0 where
   pub least : (d : ℕ) → Lives yes.scene.net d → IsLeastAt costs d (yes.stabilises.one.field d)
   pub writes : text ≡ verdict_text (verdict.Yes yes.rounds) ++ walks_text claim
 
+-- `run` shows a script run, which keeps a yes: before each line, where the last verdict written is a yes, the program
+-- stabilises on the network then, and where the parts since the last edit have as many rounds, a `show` writes the one
+-- solution there
+pub record RunsKept (options : RunOptions) (program network script : List ℕ) (answer : AnswerValue) : Type 0 where
+  pub ran : RanValue
+  pub shows : answer ≡ running ran
+  pub keeps : RunKeepsYes options program network script ran
+
 abbrev pub OfTwo : (List ℕ → List ℕ → Type 0) → List (List ℕ) → Type 0
 OfTwo P [] = ⊥
 OfTwo P (one ∷ []) = ⊥
 OfTwo P (one ∷ two ∷ []) = P one two
 OfTwo P (one ∷ two ∷ three ∷ more) = ⊥
 
+abbrev pub OfThree : (List ℕ → List ℕ → List ℕ → Type 0) → List (List ℕ) → Type 0
+OfThree P [] = ⊥
+OfThree P (one ∷ []) = ⊥
+OfThree P (one ∷ two ∷ []) = ⊥
+OfThree P (one ∷ two ∷ three ∷ []) = P one two three
+OfThree P (one ∷ two ∷ three ∷ four ∷ more) = ⊥
+
 -- what a command promises of an answer of status 0 to these sections
-abbrev pub Promises : Command → List (List ℕ) → List ℕ → Type 0
-Promises (Check facts) sections text = OfTwo (λ program network. ChecksYes program network text) sections
-Promises Stable sections text = OfTwo (λ program network. SolvesYes program network text) sections
-Promises Format sections text = Unit {0}
-Promises (Replay rounds table) sections text = Unit {0}
-Promises (Run workers log table) sections text = Unit {0}
-Promises (Gen number devices workers) sections text = Unit {0}
-Promises Trace sections text = OfTwo (λ program network. TracesYes program network text) sections
-Promises (Mail number) sections text = Unit {0}
+abbrev pub Promises : Command → List (List ℕ) → AnswerValue → Type 0
+Promises (Check facts) sections answer = OfTwo (λ program network. ChecksYes program network answer.text) sections
+Promises Stable sections answer = OfTwo (λ program network. SolvesYes program network answer.text) sections
+Promises Format sections answer = Unit {0}
+Promises (Replay rounds table) sections answer = Unit {0}
+Promises (Run workers log table) sections answer =
+    OfThree (λ program network script. RunsKept (run_options log table) program network script answer) sections
+Promises (Gen number devices workers) sections answer = Unit {0}
+Promises Trace sections answer = OfTwo (λ program network. TracesYes program network answer.text) sections
+Promises (Mail number) sections answer = Unit {0}
 
 abbrev pub IsKept : Option Command → List ℕ → AnswerValue → Type 0
 IsKept None input answer = Unit {0}
-IsKept (Some command) input answer = answer.status ≡ 0 → Promises command (sections_of input) answer.text
+IsKept (Some command) input answer = answer.status ≡ 0 → Promises command (sections_of input) answer
 
 -- each answer keeps what its command promises
 abbrev pub AnswersKeep : Type 0

@@ -1,4 +1,4 @@
-//! What the commands make of an input. None of them waits.
+//! What the commands make of an input. `run` may wait, and no other command does.
 ghost use Rattle.std.specs.Prelude.{◌≡◌, ◌≤◌, IfErr, IfOk, length, true};
 ghost use Rattle.fc_inputs.specs.Causes.{Accepted, Refused};
 ghost use Rattle.fc_inputs.specs.Sections.{sections_of};
@@ -10,13 +10,18 @@ ghost use Rattle.fc_inputs.specs.declared.sources.TheConstants.{MOST_BYTES};
 
 use crate::stabilised::stabilised;
 use command_words::Command;
+use export_table::Gate;
 use fc_check::check;
 use fc_inputs::{Reply, Stop, one_section, read_source, sections, three_sections, two_sections};
 use fc_replay::{Options, replay};
+use fc_run::{Ran, RunOptions, run};
 use fc_syntax::print;
 use fc_trace::traced;
 use firing_core::{Book, Part};
+use session::Pool;
 use std::alloc::Global;
+use std::sync::Wait;
+use std::thread::Threads;
 
 /// A status with a text, and for some commands the book that it shows and the stretches of its log.
 #[derive(Drop)]
@@ -28,9 +33,10 @@ pub struct Answer {
 
 impl Answer {
     ghost use Rattle.std.specs.Prelude.{◌≡◌, Some};
-    ghost use Rattle.fc_program.specs.Answers.{replied, showing, written};
+    ghost use Rattle.fc_program.specs.Answers.{replied, running, showing, written};
     ghost use Rattle.fc_program.specs.Top.{value_of};
     ghost use Rattle.fc_replay.specs.Code.{shown_of};
+    ghost use Rattle.fc_run.specs.Code.{ran_of};
 
     /// The answer of a reply.
     pub fn replied(alloc: Global, reply: Reply) -> Self
@@ -60,6 +66,17 @@ impl Answer {
             parts: Vec::new(alloc),
         }
     }
+
+    // What a script's run gives.
+    fn running(ran: Ran) -> Self
+        ensures { value_of result ≡ running (ran_of ran.text.items ran.book ran.parts.items) }
+    {
+        Answer {
+            reply: Reply::new(0, ran.text),
+            book: Some(ran.book),
+            parts: ran.parts,
+        }
+    }
 }
 
 // The canonical text of a program.
@@ -73,8 +90,13 @@ fn format(alloc: Global, program: &[u8]) -> Result<Answer, Stop>
     Ok(Answer::written(alloc, text))
 }
 
-/// The answer of a command to an input within the limit.
-pub fn answer_to(alloc: Global, command: Command, input: &[u8]) -> Result<Answer, Stop>
+/// The answer of a command to an input within the limit. It waits where it runs rounds alone.
+pub fn answer_to<W: Threads + Wait + Sync, G: Gate + Sync>(
+    alloc: Global,
+    command: Command,
+    input: &[u8],
+    pool: &Pool<W, G>,
+) -> Result<Answer, Stop>
     requires exists { exists command ≡ true }
     requires short { length input.now ≤ MOST_BYTES }
     ensures makes { IfOk result (λ a. AnswersSections command (sections_of input.now) (Accepted (value_of a))) }
@@ -108,6 +130,16 @@ pub fn answer_to(alloc: Global, command: Command, input: &[u8]) -> Result<Answer
             let reply = traced(alloc, program, network)?;
             Ok(Answer::replied(alloc, reply))
         }
-        Command::Run { .. } | Command::Gen { .. } | Command::Mail { .. } => unreachable!(),
+        Command::Run {
+            workers: _,
+            log,
+            table,
+        } => {
+            let (program, network, script) = three_sections(&sections)?;
+            let options = RunOptions { log, table };
+            let ran = run(alloc, options, program, network, script, pool)?;
+            Ok(Answer::running(ran))
+        }
+        Command::Gen { .. } | Command::Mail { .. } => unreachable!(),
     }
 }

@@ -1,9 +1,9 @@
 //! What the words of a command line ask for.
-ghost use Rattle.std.specs.Prelude.{◌≡◌, IfOk, map, option_map, string_bytes};
+ghost use Rattle.std.specs.Prelude.{◌≡◌, ◌≤◌, IfOk, map, option_map, string_bytes};
 ghost use Rattle.command_words.specs.Commands.{limit_of};
 ghost use Rattle.fc_program.specs.Asked.{MayAsk, asked_of, exists, limit_refusal};
 
-use command_words::{Command, Limit, command, passed_limit};
+use command_words::{Command, Limit, MOST_WORKERS, command, passed_limit};
 use fc_inputs::Refusal;
 use fc_values::Memory;
 use std::alloc::Global;
@@ -19,6 +19,7 @@ fn exists(command: Command) -> bool
             | Command::Check { .. }
             | Command::Stable
             | Command::Trace
+            | Command::Run { .. }
     )
 }
 
@@ -50,5 +51,17 @@ pub fn past_limit(command: Command) -> Option<Refusal>
     match passed_limit(command) {
         Some((limit, count)) => Some(limit_refusal(limit, count)),
         None => None,
+    }
+}
+
+/// How many workers what the words ask for has: one where it has none, or has a number past the limit, of which
+/// nothing is done.
+pub fn workers_of(asked: Option<Command>) -> u32
+    ensures some { 1 ≤ result }
+    ensures most { result ≤ 16 }
+{
+    match asked {
+        Some(Command::Run { workers, .. }) => workers.clamp(1, MOST_WORKERS),
+        _ => 1,
     }
 }

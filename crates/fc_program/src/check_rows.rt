@@ -3,7 +3,9 @@
 use crate::rows::{HOPS, PAIR, SHARED_HOPS, gives};
 use std::alloc::Global;
 use std::process::Abort;
+use std::sync::Wait;
 use std::test::Fail;
+use std::thread::Threads;
 
 // Three devices in a line, with a source at device 0.
 const LINE: &str =
@@ -63,7 +65,7 @@ const FIELDS: [Check; 4] = [
 
 // A call of `fc` with these words, on this program and network.
 fn checks(
-    rt: &impl Abort,
+    rt: &(impl Abort + Threads + Wait + Sync),
     alloc: Global,
     list: &[&str],
     row: &Check,

@@ -5,17 +5,21 @@ ghost use Rattle.fc_program.specs.Top.{Ends, TellsNothing, sink_at, source_at};
 
 use crate::judging::answered;
 use command_words::Command;
+use export_table::Gate;
 use fc_inputs::Failure;
 use fc_io::{Sink, Source, write_all};
 use firing_core::{Book, Part};
+use session::Pool;
 use std::alloc::Global;
+use std::sync::Wait;
+use std::thread::Threads;
 
 /// What a run leaves beside its text.
 #[derive(Drop)]
 pub struct Outcome {
     /// The status that the program ends with.
     pub status: u8,
-    /// The program, the start, the log and the last core of a replay.
+    /// The program, the start, the log and the last core of a run or a replay.
     pub book: Option<Book>,
     /// The stretches of the log that the lines of a script made.
     pub parts: Vec<Part>,
@@ -33,12 +37,13 @@ pub fn without_book(alloc: Global, status: u8) -> Outcome
     }
 }
 
-/// All that is done for what the words ask for. It waits for nothing.
-pub fn ended<S: Source, K: Sink>(
+/// All that is done for what the words ask for. It waits where it runs rounds alone.
+pub fn ended<S: Source, K: Sink, W: Threads + Wait + Sync, G: Gate + Sync>(
     alloc: Global,
     asked: Option<Command>,
     src: &mut S,
     out: &mut K,
+    pool: &Pool<W, G>,
 ) -> Outcome
     requires { MayAsk asked }
     ensures ends { Ends asked
@@ -47,7 +52,7 @@ pub fn ended<S: Source, K: Sink>(
         (sink_at (K.taken out.new) (K.faults out.new) (K.room out.new)) result }
     ensures untouched { reads_source asked ≡ false → src.new ≡ src.old }
 {
-    match answered(alloc, asked, src) {
+    match answered(alloc, asked, src, pool) {
         Ok(answer) => match write_all(out, answer.reply.text()) {
             Ok(()) => Outcome {
                 status: answer.reply.status(),

@@ -3,7 +3,9 @@
 use crate::rows::gives;
 use std::alloc::{AllocError, Global};
 use std::process::Abort;
+use std::sync::Wait;
 use std::test::Fail;
+use std::thread::Threads;
 
 // The hops to the nearest source, the length of a shortest walk from one, and how many walks lead downhill.
 const HOPS: &str =
@@ -190,7 +192,7 @@ fn walks(alloc: Global, links: &[Link]) -> Result<Vec<u32>, AllocError> {
 
 // The text of `stable` has these values.
 fn solves(
-    rt: &impl Abort,
+    rt: &(impl Abort + Threads + Wait + Sync),
     alloc: Global,
     program: &str,
     network: &str,

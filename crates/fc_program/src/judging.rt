@@ -13,12 +13,21 @@ use crate::answers::{Answer, answer_to};
 use crate::asked::past_limit;
 use crate::laws::answers_keep;
 use command_words::Command;
+use export_table::Gate;
 use fc_inputs::{Failure, MOST_BYTES, Refusal, Stop, rendered};
 use fc_io::{ReadAll, Source, read_all};
+use session::Pool;
 use std::alloc::Global;
+use std::sync::Wait;
+use std::thread::Threads;
 
 // What a command that reads makes of what the source has left.
-fn read_and_judged<S: Source>(alloc: Global, command: Command, src: &mut S) -> Result<Answer, Stop>
+fn read_and_judged<S: Source, W: Threads + Wait + Sync, G: Gate + Sync>(
+    alloc: Global,
+    command: Command,
+    src: &mut S,
+    pool: &Pool<W, G>,
+) -> Result<Answer, Stop>
     requires within { limit_of command ≡ None }
     requires exists { exists command ≡ true }
     ensures makes { IfOk result (λ a. IsJudged (Some command) (S.left src.old) (Accepted (value_of a))) }
@@ -29,7 +38,7 @@ fn read_and_judged<S: Source>(alloc: Global, command: Command, src: &mut S) -> R
     ensures quiet { (IsErrOf result Stop.Read → ⊥) → S.faults src.new ≡ S.faults src.old }
 {
     match read_all(alloc, src, MOST_BYTES) {
-        Ok(input) => Ok(answer_to(alloc, command, &input)?),
+        Ok(input) => Ok(answer_to(alloc, command, &input, pool)?),
         Err(ReadAll::TooLong) => Err(Stop::Refused(Refusal::Bytes)),
         Err(ReadAll::ReadFault) => Err(Stop::Read),
         Err(ReadAll::Memory) => Err(Stop::Memory),
@@ -37,7 +46,12 @@ fn read_and_judged<S: Source>(alloc: Global, command: Command, src: &mut S) -> R
 }
 
 // What is made of what the words ask for. A number past its limit is refused before anything is read.
-fn judged<S: Source>(alloc: Global, asked: Option<Command>, src: &mut S) -> Result<Answer, Stop>
+fn judged<S: Source, W: Threads + Wait + Sync, G: Gate + Sync>(
+    alloc: Global,
+    asked: Option<Command>,
+    src: &mut S,
+    pool: &Pool<W, G>,
+) -> Result<Answer, Stop>
     requires { MayAsk asked }
     ensures makes { IfOk result (λ a. IsJudged asked (S.left src.old) (Accepted (value_of a))) }
     ensures refused { IfErr result (StopsAsked asked (S.left src.old)) }
@@ -53,14 +67,15 @@ fn judged<S: Source>(alloc: Global, asked: Option<Command>, src: &mut S) -> Resu
     if let Some(refusal) = past_limit(command) {
         return Err(Stop::Refused(refusal));
     }
-    read_and_judged(alloc, command, src)
+    read_and_judged(alloc, command, src, pool)
 }
 
 /// The answer to what the words ask for: what stops with a cause is a reply.
-pub fn answered<S: Source>(
+pub fn answered<S: Source, W: Threads + Wait + Sync, G: Gate + Sync>(
     alloc: Global,
     asked: Option<Command>,
     src: &mut S,
+    pool: &Pool<W, G>,
 ) -> Result<Answer, Failure>
     requires { MayAsk asked }
     ensures answers { IfOk result (λ a. IsAnswer asked (S.left src.old) (value_of a)) }
@@ -75,7 +90,7 @@ pub fn answered<S: Source>(
     ensures quiet { (IsErrOf result Failure.Read → ⊥) → S.faults src.new ≡ S.faults src.old }
 {
     answers_keep();
-    match judged(alloc, asked, src) {
+    match judged(alloc, asked, src, pool) {
         Ok(answer) => Ok(answer),
         Err(stop) => Ok(Answer::replied(alloc, rendered(alloc, &stop)?)),
     }

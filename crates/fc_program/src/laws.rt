@@ -6,6 +6,7 @@ use converge_laws::yes_stabilises;
 use fc_check::{one_check, some_check};
 use fc_inputs::{one_input, one_source, sections_are_within};
 use fc_replay::{one_replay, some_replay};
+use fc_run::{one_run, runs_keep_yes, some_run};
 use fc_trace::{one_traced, some_traced};
 use net_json::accepted_scenes_fit;
 use walk_form::solutions_are_least;
@@ -19,6 +20,7 @@ pub fn one_answer()
     one_check();
     one_traced();
     one_replay();
+    one_run();
 }
 
 /// Each input has an answer, whatever the words ask for.
@@ -32,15 +34,19 @@ pub fn some_answer()
     some_check();
     some_traced();
     some_replay();
+    some_run();
 }
 
 /// Where `check`, `stable` or `trace` answers with status 0, the verdict on its input is a yes, and within the rounds of
 /// that yes the program stabilises on the scene's network: `check` writes these rounds, `stable` the one field, and
-/// `trace` the least costs, which are the values of that field, with the best walks.
+/// `trace` the least costs, which are the values of that field, with the best walks. Where `run` answers with status 0,
+/// and the verdict on a network that its lines make is a yes, the program stabilises on it, and what a `show` writes after
+/// as many rounds is its one field there.
 pub fn answers_keep()
     ensures { AnswersKeep }
 {
     yes_stabilises();
     accepted_scenes_fit();
     solutions_are_least();
+    runs_keep_yes();
 }

@@ -1,5 +1,5 @@
-//! `fc`: writes a program's canonical text, or says whether a program stabilises and in how many rounds, or replays a
-//! log of firings on a network and writes what each device holds.
+//! `fc`: writes a program's canonical text, or says whether a program stabilises and in how many rounds, or runs a
+//! script of rounds and edits on a network, or replays a log of firings there, and writes what each device holds.
 #![tactic(auto)]
 
 mod answers;
@@ -13,11 +13,14 @@ mod judging;
 mod laws;
 #[cfg(test)]
 mod rows;
+#[cfg(test)]
+mod run_rows;
 mod stabilised;
 #[cfg(test)]
 mod tests;
 mod top;
 
+use export_table::OpenGate;
 use fc_io::{StdSink, StdSource};
 use std::alloc::Global;
 use std::env;
@@ -43,6 +46,6 @@ fn main(rt: HostRuntime) -> ExitCode {
     };
     let mut source = StdSource::new(rt.stdin());
     let mut sink = StdSink::new(rt.stdout());
-    let outcome = top::fc(rt.alloc(), &words, &mut source, &mut sink);
+    let outcome = top::fc(&rt, rt.alloc(), &words, &mut source, &mut sink, &OpenGate);
     ExitCode::from(outcome.status)
 }

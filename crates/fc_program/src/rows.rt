@@ -2,10 +2,13 @@
 
 use crate::tests::{input, words};
 use crate::top::fc;
+use export_table::OpenGate;
 use fc_io::{CalmSink, CalmSource};
 use std::alloc::{AllocError, Global};
 use std::process::Abort;
+use std::sync::Wait;
 use std::test::Fail;
+use std::thread::Threads;
 
 // The hop count to the nearest source, of both languages, and the hood of the first example.
 pub const HOPS: &str =
@@ -136,7 +139,7 @@ const REFUSED: [(u8, Replay); 16] = [
 
 // A call of `fc` with these words and sections.
 fn replays(
-    rt: &impl Abort,
+    rt: &(impl Abort + Threads + Wait + Sync),
     alloc: Global,
     list: &[&str],
     row: &Replay,
@@ -146,7 +149,7 @@ fn replays(
     let words = words(alloc, list)?;
     let mut source = CalmSource::new(input(alloc, [program, network, log])?);
     let mut sink = CalmSink::new(alloc, 1000)?;
-    let outcome = fc(alloc, &words, &mut source, &mut sink);
+    let outcome = fc(rt, alloc, &words, &mut source, &mut sink, &OpenGate);
     assert_eq!(rt; sink.taken(), text.as_bytes());
     assert_eq!(rt; outcome.status, status);
     Ok(())
@@ -232,7 +235,7 @@ fn canonical_texts(rt: HostRuntime) -> Result<(), Fail> {
     for (program, status, text) in &FORMATS {
         let mut source = CalmSource::new(program.as_bytes().to_vec(alloc)?);
         let mut sink = CalmSink::new(alloc, 100)?;
-        let outcome = fc(alloc, &words, &mut source, &mut sink);
+        let outcome = fc(&rt, alloc, &words, &mut source, &mut sink, &OpenGate);
         assert_eq!(rt; sink.taken(), text.as_bytes());
         assert_eq!(rt; outcome.status, *status);
     }
@@ -310,7 +313,7 @@ fn star(alloc: Global) -> Result<String, AllocError> {
 
 /// A call of `fc` with these words and this input.
 pub fn gives(
-    rt: &impl Abort,
+    rt: &(impl Abort + Threads + Wait + Sync),
     alloc: Global,
     list: &[&str],
     input: String,
@@ -320,7 +323,7 @@ pub fn gives(
     let words = words(alloc, list)?;
     let mut source = CalmSource::new(input.into_bytes());
     let mut sink = CalmSink::new(alloc, 4000)?;
-    let outcome = fc(alloc, &words, &mut source, &mut sink);
+    let outcome = fc(rt, alloc, &words, &mut source, &mut sink, &OpenGate);
     assert_eq!(rt; sink.taken(), text.as_bytes());
     assert_eq!(rt; outcome.status, status);
     Ok(())

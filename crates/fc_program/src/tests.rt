@@ -1,11 +1,13 @@
 //! Tests of what no clause says: that memory suffices, and what comes where a source or a sink fails in mid-stream.
 
 use crate::top::{calm, fc};
+use export_table::OpenGate;
 use fc_io::{CalmSink, CalmSource, MemSink, MemSource};
+use session::Pool;
 use std::alloc::{AllocError, Global};
 use std::test::Fail;
 
-const PROGRAM: &str = "ceiling 10; main = minHoodLoc(nbr{1} + 1, 5);\n";
+pub const PROGRAM: &str = "ceiling 10; main = minHoodLoc(nbr{1} + 1, 5);\n";
 
 const LINKED: &str =
     "{\"devices\":[{\"id\":0,\"inputs\":{}},{\"id\":1,\"inputs\":{}}],\"links\":[[0,1,1]]}\n";
@@ -34,7 +36,7 @@ fn replays_byte_by_byte(rt: HostRuntime) -> Result<(), Fail> {
     let bytes = input(alloc, [PROGRAM, LINKED, LOG])?;
     let mut source = MemSource::new(bytes, 1, Vec::new(alloc));
     let mut sink = MemSink::new(alloc, 100, 1, Vec::new(alloc))?;
-    let outcome = fc(alloc, &words, &mut source, &mut sink);
+    let outcome = fc(&rt, alloc, &words, &mut source, &mut sink, &OpenGate);
     assert_eq!(rt; outcome.status, 0);
     assert_eq!(rt; sink.taken(), b"0 5\n1 2\n".as_slice());
     assert!(rt; outcome.book.is_some());
@@ -48,11 +50,11 @@ fn faults(rt: HostRuntime) -> Result<(), Fail> {
     let bytes = input(alloc, [PROGRAM, LINKED, LOG])?;
     let mut source = MemSource::new(bytes, 7, vec![in alloc; 1]?);
     let mut sink = MemSink::new(alloc, 100, 2, vec![in alloc; 2]?)?;
-    let unread = fc(alloc, &words, &mut source, &mut sink);
+    let unread = fc(&rt, alloc, &words, &mut source, &mut sink, &OpenGate);
     assert_eq!(rt; unread.status, 5);
     assert_eq!(rt; sink.taken(), b"".as_slice());
     assert!(rt; unread.book.is_none());
-    let cut = fc(alloc, &words, &mut source, &mut sink);
+    let cut = fc(&rt, alloc, &words, &mut source, &mut sink, &OpenGate);
     assert_eq!(rt; cut.status, 6);
     assert_eq!(rt; sink.taken(), b"0 ".as_slice());
     assert!(rt; cut.book.is_some());
@@ -65,7 +67,7 @@ fn too_many_bytes(rt: HostRuntime) -> Result<(), Fail> {
     let words = words(alloc, &["fc", "replay"])?;
     let mut source = CalmSource::new(vec![in alloc; b' '; 1_048_577]?);
     let mut sink = CalmSink::new(alloc, 100)?;
-    let outcome = fc(alloc, &words, &mut source, &mut sink);
+    let outcome = fc(&rt, alloc, &words, &mut source, &mut sink, &OpenGate);
     assert_eq!(rt; outcome.status, 4);
     assert_eq!(rt; sink.taken(), b"limit bytes 1048577\n".as_slice());
     Ok(())
@@ -76,7 +78,8 @@ fn calm_usage(rt: HostRuntime) -> Result<(), Fail> {
     let alloc = rt.alloc();
     let words = Vec::new(alloc);
     let mut sink = CalmSink::new(alloc, 100)?;
-    let outcome = calm(alloc, &words, Vec::new(alloc), &mut sink);
+    let pool = Pool::new(&rt, &OpenGate, 1);
+    let outcome = calm(alloc, &words, Vec::new(alloc), &mut sink, &pool);
     assert_eq!(rt; outcome.status, 2);
     Ok(())
 }

@@ -4,13 +4,25 @@ ghost use Rattle.fc_program.specs.Asked.{asked_of, reads_source};
 ghost use Rattle.fc_program.specs.Answers.{AnswerValue, Answers};
 ghost use Rattle.fc_program.specs.Top.{Ends, IsExact, sink_at, source_at};
 
-use crate::asked::asked;
+use crate::asked::{asked, workers_of};
 use crate::ending::{Outcome, ended, without_book};
+use export_table::Gate;
 use fc_io::{CalmSink, CalmSource, Sink, Source};
+use session::Pool;
 use std::alloc::Global;
+use std::sync::Wait;
+use std::thread::Threads;
 
-/// Does all that the program does, and answers its status.
-pub fn fc<S: Source, K: Sink>(alloc: Global, words: &[String], src: &mut S, out: &mut K) -> Outcome
+/// Does all that the program does, and answers its status. Where it runs a script it may wait for the lock of the table
+/// that its workers share. The gate is called between the begin and the end of a worker's firing.
+pub fn fc<W: Threads + Wait + Sync, S: Source, K: Sink, G: Gate + Sync>(
+    rt: &W,
+    alloc: Global,
+    words: &[String],
+    src: &mut S,
+    out: &mut K,
+    gate: &G,
+) -> Outcome
     // The text that is written, the bytes that are read, the cause of each status, and the book: each field of `Ends`.
     ensures ends { Ends (asked_of (map string_bytes words.now))
         (source_at (S.left src.old) (S.faults src.old)) (source_at (S.left src.new) (S.faults src.new))
@@ -20,14 +32,23 @@ pub fn fc<S: Source, K: Sink>(alloc: Global, words: &[String], src: &mut S, out:
     ensures untouched { reads_source (asked_of (map string_bytes words.now)) ≡ false → src.new ≡ src.old }
 {
     match asked(alloc, words) {
-        Ok(asked) => ended(alloc, asked, src, out),
+        Ok(asked) => {
+            let pool = Pool::new(rt, gate, workers_of(asked));
+            ended(alloc, asked, src, out, &pool)
+        }
         Err(_) => without_book(alloc, 7),
     }
 }
 
 /// What the words ask for, over a source and a sink that stay calm, with more room than the text has bytes: the status
 /// is never 5 or 6, and where memory suffices what is defined is done.
-pub fn calm(alloc: Global, words: &[String], input: Vec<u8>, out: &mut CalmSink) -> Outcome
+pub fn calm<W: Threads + Wait + Sync, G: Gate + Sync>(
+    alloc: Global,
+    words: &[String],
+    input: Vec<u8>,
+    out: &mut CalmSink,
+    pool: &Pool<W, G>,
+) -> Outcome
     requires fresh { out.old.faults ≡ 0 }
     requires empty { out.old.taken ≡ [] }
     requires room { (a : AnswerValue) → Answers (asked_of (map string_bytes words.now)) input.items a
@@ -42,7 +63,7 @@ pub fn calm(alloc: Global, words: &[String], input: Vec<u8>, out: &mut CalmSink)
     let Ok(asked) = asked(alloc, words) else {
         return without_book(alloc, 7);
     };
-    let outcome = ended(alloc, asked, &mut source, out);
+    let outcome = ended(alloc, asked, &mut source, out, pool);
     // Its clause `calm`: with room left no write has failed.
     let _taken = out.taken();
     outcome
