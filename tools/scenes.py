@@ -19,7 +19,8 @@ def main_of(work):
     try:
         work()
     except Fault as fault:
-        sys.exit(f"{os.path.basename(sys.argv[0])}: {fault}")
+        print(f"{os.path.basename(sys.argv[0])}: {fault}", file=sys.stderr)
+        sys.exit(2)
     except BrokenPipeError:
         sys.exit(1)
 
@@ -43,16 +44,21 @@ def write_text(path, text):
         raise Fault(f"{path} can't be written: {error.strerror}") from None
 
 
-def scene_of(path):
-    """The scene of a JSON file, or of the second section of an input of fc."""
-    text = text_of(path)
+def sections_of(path):
+    """The sections of an input of fc, which lines `%%` part."""
     sections = [[]]
-    for line in text.splitlines():
+    for line in text_of(path).splitlines():
         if line == "%%":
             sections.append([])
         else:
             sections[-1].append(line)
-    part = "\n".join(sections[1] if len(sections) > 1 else sections[0])
+    return ["\n".join(section) for section in sections]
+
+
+def scene_of(path):
+    """The scene of a JSON file, or of the second section of an input of fc."""
+    sections = sections_of(path)
+    part = sections[1] if len(sections) > 1 else sections[0]
     try:
         scene = json.loads(part)
         return {
