@@ -1,15 +1,17 @@
 -- What the code reads or doesn't read, and what it answers, as the definitions say it.
-use Rattle.std.proofs.Common.{ℕ, ◌≡◌, ◌+◌, ◌<◌, ◌≤◌, ◌++◌, true, false, List, [], length, length-append, refl, ap}
-use Rattle.std.proofs.Common.{◌∙◌, sym, subst, arith, Option, Some, None, option_map, Result, Ok, Err}
+use Rattle.std.proofs.Common.{ℕ, ◌≡◌, ◌+◌, ◌<◌, ◌≤◌, ◌++◌, Bool, true, false, if◌then◌else◌, List, [], length, length-append}
+use Rattle.std.proofs.Common.{refl, ap, ◌∙◌, sym, subst, arith, Option, Some, None, option_map, Result, Ok, Err}
 use Rattle.std.specs.Prelude.{IfErr, IfSome, IsErrAnd, nat_lt}
 use Rattle.std.specs.Io.KnownBytes.{Consumes}
+use Rattle.std.specs.Option.{option_or}
 use Rattle.std.proofs.lemmas.Bool.Decides.{nat_tests}
 use Rattle.fc_syntax.specs.Terms.{Declaration}
 use Rattle.fc_syntax.specs.Text.{program_text}
 use Rattle.command_words.specs.declared.commands.Command.{Command}
-use Rattle.command_words.specs.declared.commands.Command.TheVariants.{Check, Stable, Run, Replay, Format, Gen, Trace, Mail}
 use Rattle.command_words.specs.declared.commands.Limit.{Limit}
-use Rattle.command_words.specs.Commands.{limit_of}
+use Rattle.command_words.specs.declared.commands.Limit.TheVariants.{Workers, Devices}
+use Rattle.command_words.specs.declared.commands.TheConstants.{MOST_WORKERS, MOST_DEVICES}
+use Rattle.command_words.specs.Commands.{devices_limit, limit_of, workers_limit}
 use Rattle.fc_inputs.specs.declared.refusal.Refusal.{Refusal}
 use Rattle.fc_inputs.specs.declared.refusal.Refusal.TheVariants as refusal
 use Rattle.fc_inputs.specs.declared.sources.TheConstants.{MOST_BYTES}
@@ -22,8 +24,8 @@ use Rattle.fc_inputs.specs.Sources.{ReadsSource}
 use Rattle.fc_inputs.specs.Stops.{StopsFor, WhereCause, IsReplyFor, cause_of, scene_cause}
 use Rattle.fc_inputs.proofs.Stopping.{stops_map}
 use Rattle.fc_program.specs.declared.ending.Outcome.{Outcome}
-use Rattle.fc_program.specs.Asked.{exists, reads, limit_refusal}
-use Rattle.fc_program.specs.Answers.{AnswerValue, written, replied, answer_of, Formats, AnswersInput, AnswersReading}
+use Rattle.fc_program.specs.Asked.{reads, limit_refusal}
+use Rattle.fc_program.specs.Answers.{AnswerValue, written, replied, answer_of, Formats, AnswersInput, AnswersReading, AnswersUnread}
 use Rattle.fc_program.specs.Answers.{AnswersSections, AnswersWithin, AnswersAsked, Answers}
 use Rattle.fc_program.specs.Headline.{AnswersKeep}
 use Rattle.fc_program.specs.Top.{IsAnswer, IsExact, IsJudged, StopsAsked}
@@ -40,22 +42,12 @@ pub format_prints : (program : List ℕ) (ds : List Declaration) (a : AnswerValu
 format_prints program ds a h e = record { judged = Accepted ds; reads = h; prints = ap Accepted e }
 
 -- ---- what is read
-pub reads_there : (command : Command) → exists command ≡ true → reads command ≡ true
-reads_there Format e = refl
-reads_there (Replay rounds table) e = refl
-reads_there (Check facts) e = refl
-reads_there Stable e = refl
-reads_there (Run workers log table) e = refl
-reads_there (Gen number devices workers) e = absurd cc
-reads_there Trace e = refl
-reads_there (Mail number) e = absurd cc
-
-module _ (command : Command) (within : limit_of command ≡ None) (there : exists command ≡ true) where
+module _ (command : Command) (within : limit_of command ≡ None) (read : reads command ≡ true) where
   within_reads : (input : List ℕ) (j : Judged AnswerValue)
       → AnswersInput (nat_lt MOST_BYTES (length input)) command input j → AnswersAsked (Some command) input j
   within_reads input j h =
       subst (λ o. AnswersWithin o command input j) (sym within)
-      (subst (λ b. AnswersReading b command input j) (sym (reads_there command there)) h)
+      (subst (λ b. AnswersReading b command input j) (sym read) h)
 
   long : (input : List ℕ) → MOST_BYTES < length input → nat_lt MOST_BYTES (length input) ≡ true
   long input lt = grind (arith, nat_tests)
@@ -148,6 +140,32 @@ pub for_limit : (asked : Option Command) (command : Command) (left : Option (Lis
 for_limit asked command left r e h =
     subst (λ o. IsJudged o left (Refused (Plainly r))) e
     (unread (Some command) left (Refused (Plainly r)) (limited (limit_of command) command (left_or_none left) r h))
+
+-- a scenario whose numbers pass no limit has few devices
+pub few_devices : (workers devices : ℕ) → option_or (workers_limit workers) (devices_limit devices) ≡ None
+    → devices ≤ 512
+few_devices workers devices h = by_tests (nat_lt MOST_WORKERS workers) (nat_lt MOST_DEVICES devices) refl h
+  where
+    by_tests : (p q : Bool) → nat_lt MOST_DEVICES devices ≡ q
+        → option_or {T = Limit × ℕ} (if p then Some (Workers, workers) else None) (if q then Some (Devices, devices) else None)
+        ≡ None
+        → devices ≤ 512
+    by_tests true q e h = absurd cc
+    by_tests false true e h = absurd cc
+    by_tests false false e h = grind (arith, nat_tests)
+
+pub none_past : (o : Option (Limit × ℕ)) → None ≡ past o → o ≡ None
+none_past None h = refl
+none_past (Some l) h = absurd cc
+
+pub for_unread : (asked : Option Command) (command : Command) (left : Option (List ℕ)) (j : Judged AnswerValue)
+    → Some command ≡ asked → limit_of command ≡ None → reads command ≡ false → AnswersUnread command j
+    → IsJudged asked left j
+for_unread asked command left j e within reads h =
+    subst (λ o. IsJudged o left j) e
+    (unread (Some command) left j
+    (subst (λ o. AnswersWithin o command (left_or_none left) j) (sym within)
+    (subst (λ b. AnswersReading b command (left_or_none left) j) (sym reads) h)))
 
 -- ---- answers
 module _ (keep : AnswersKeep) where

@@ -26,6 +26,7 @@ use Rattle.report.specs.Facts.{facts_text}
 use Rattle.report.specs.Texts.{field_text}
 use Rattle.report.specs.Verdicts.{verdict_text}
 use Rattle.fc_program.specs.Stabilised.{Stabilised, StabilisedBy, StabilisesScene}
+use Rattle.fc_gen.specs.Laws.{Agrees, AllAgree}
 use Rattle.fc_run.specs.Laws.{RunsKeepYes}
 use Rattle.fc_run.specs.Runs.{RanValue, Runs}
 use Rattle.fc_program.specs.Asked.{limit_refusal, reads}
@@ -252,7 +253,20 @@ module _ (run : RunsKeepYes) (workers : ℕ) (log table : Bool) where
       refused_zero j (Plainly (limit_refusal Devices count)) h (omega arith) zero
   run_within None input j h zero = run_input (nat_lt MOST_BYTES (length input)) input j h zero
 
-module _ (law : YesStabilises) (fit : AcceptedScenesFit) (least : SolutionsAreLeast) (run : RunsKeepYes) where
+-- ---- scenarios
+gen_keeps : AllAgree → (number devices workers : ℕ) (o : Option (Limit × ℕ)) (input : List ℕ) (j : Judged AnswerValue)
+    → AnswersWithin o (Gen number devices workers) input j → (answer_of j).status ≡ 0
+    → Agrees number devices (answer_of j).text
+gen_keeps agree number devices workers (Some (Workers, count)) input j h zero =
+    refused_zero j (Plainly (limit_refusal Workers count)) h (omega arith) zero
+gen_keeps agree number devices workers (Some (Devices, count)) input j h zero =
+    refused_zero j (Plainly (limit_refusal Devices count)) h (omega arith) zero
+gen_keeps agree number devices workers None input j h zero =
+    subst (λ x. Agrees number devices (answer_of x).text) (sym h.shows)
+    (agree number devices h.least h.most h.gen h.gens)
+
+module _ (law : YesStabilises) (fit : AcceptedScenesFit) (least : SolutionsAreLeast) (run : RunsKeepYes)
+    (agree : AllAgree) where
   command_keeps : (command : Command) (input : List ℕ) (j : Judged AnswerValue)
       → AnswersWithin (limit_of command) command input j → (answer_of j).status ≡ 0
       → Promises command (sections_of input) (answer_of j)
@@ -268,7 +282,8 @@ module _ (law : YesStabilises) (fit : AcceptedScenesFit) (least : SolutionsAreLe
   command_keeps (Replay rounds table) input j h zero = tt
   command_keeps (Run workers log table) input j h zero =
       run_within run workers log table (limit_of (Run workers log table)) input j h zero
-  command_keeps (Gen number devices workers) input j h zero = tt
+  command_keeps (Gen number devices workers) input j h zero =
+      gen_keeps agree number devices workers (limit_of (Gen number devices workers)) input j h zero
   command_keeps Trace input j h zero =
       input_keeps Traces TracesYes (trace_keeps law fit least) input j
       (nat_lt MOST_BYTES (length input)) (λ e. subst (λ b. AnswersInput b Trace input j) e h)

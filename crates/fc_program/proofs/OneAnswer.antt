@@ -17,13 +17,14 @@ use Rattle.fc_replay.specs.declared.replays.Options.{Options}
 use Rattle.fc_replay.specs.Replays.{Shown}
 use Rattle.fc_replay.specs.Laws.{Alike, OneReplay}
 use Rattle.fc_trace.specs.Traces.{Traces}
+use Rattle.fc_gen.specs.Laws.{OneGen}
 use Rattle.fc_run.specs.declared.runs.RunOptions.{RunOptions}
 use Rattle.fc_run.specs.Laws.{AlikeRuns, OneRun}
 use Rattle.fc_run.specs.Runs.{RanValue}
 use Rattle.fc_program.specs.Asked.{reads, runs_threads}
 use Rattle.fc_program.specs.Stabilised.{Stabilised}
-use Rattle.fc_program.specs.Answers.{AnswerValue, written, showing, running, replied, answer_of, Formats, ShowsReplay, ShowsRun, WritesReply}
-use Rattle.fc_program.specs.Answers.{options_of, run_options, AnswersSections, AnswersInput, AnswersReading, AnswersWithin, AnswersAsked}
+use Rattle.fc_program.specs.Answers.{AnswerValue, written, showing, running, generating, replied, answer_of, Formats, ShowsReplay, ShowsRun, WritesReply}
+use Rattle.fc_program.specs.Answers.{options_of, run_options, AnswersSections, AnswersInput, AnswersReading, AnswersUnread, AnswersWithin, AnswersAsked}
 use Rattle.fc_program.specs.Laws.{SameText, threads_of, OneAnswer}
 
 by_threads : (b : Bool) (x y : AnswerValue) → x.text ≡ y.text → SameText b x y
@@ -78,7 +79,7 @@ same_reply Makes one (a ∷ b ∷ []) j k h g =
 same_reply Makes one (a ∷ b ∷ c ∷ ss) j k h g = equal false (Refused (other_number (a ∷ b ∷ c ∷ ss))) j k h g
 
 module _ (source : OneSource) (check : OneCheck) (stable : OneReply Stabilised) (trace : OneReply Traces)
-    (replay : OneReplay) (run : OneRun) where
+    (replay : OneReplay) (run : OneRun) (gen : OneGen) where
   same_format : (ss : List (List ℕ)) (j k : Judged AnswerValue) → WithOne Formats ss j → WithOne Formats ss k
       → Same false j k
   same_format [] j k h g = equal false (Refused (other_number [])) j k h g
@@ -118,6 +119,20 @@ module _ (source : OneSource) (check : OneCheck) (stable : OneReply Stabilised) 
   same_sections Trace ss j k h g = same_reply Traces trace ss j k h g
   same_sections (Mail number) ss j k h g = absurd h
 
+  same_unread : (command : Command) (j k : Judged AnswerValue) → AnswersUnread command j → AnswersUnread command k
+      → Same (runs_threads command) j k
+  same_unread (Gen number devices workers) j k h g =
+      let agree = gen number devices h.least h.most h.gen g.gen h.gens g.gens in
+      subst (λ x. Same true x k) (sym h.shows) (subst (Same true (Accepted (generating h.gen))) (sym g.shows)
+      (record { status = refl; text = agree.text }))
+  same_unread Format j k h g = absurd h
+  same_unread (Replay rounds table) j k h g = absurd h
+  same_unread (Check facts) j k h g = absurd h
+  same_unread Stable j k h g = absurd h
+  same_unread (Run workers log table) j k h g = absurd h
+  same_unread Trace j k h g = absurd h
+  same_unread (Mail number) j k h g = absurd h
+
   same_input : (b : Bool) (command : Command) (input : List ℕ) (j k : Judged AnswerValue)
       → AnswersInput b command input j → AnswersInput b command input k → Same (runs_threads command) j k
   same_input true command input j k h g = equal (runs_threads command) _ j k h g
@@ -126,7 +141,7 @@ module _ (source : OneSource) (check : OneCheck) (stable : OneReply Stabilised) 
   same_reading : (b : Bool) (command : Command) (input : List ℕ) (j k : Judged AnswerValue)
       → AnswersReading b command input j → AnswersReading b command input k → Same (runs_threads command) j k
   same_reading true command input j k h g = same_input (nat_lt MOST_BYTES (length input)) command input j k h g
-  same_reading false command input j k h g = absurd h
+  same_reading false command input j k h g = same_unread command j k h g
 
   same_within : (o : Option (Limit × ℕ)) (command : Command) (input : List ℕ) (j k : Judged AnswerValue)
       → AnswersWithin o command input j → AnswersWithin o command input k → Same (runs_threads command) j k

@@ -10,7 +10,7 @@ use Rattle.command_words.specs.declared.commands.Limit.{Limit}
 use Rattle.command_words.specs.Commands.{limit_of}
 use Rattle.fc_inputs.specs.declared.refusal.Refusal.TheVariants.{Usage, Bytes}
 use Rattle.fc_inputs.specs.declared.sources.TheConstants.{MOST_BYTES}
-use Rattle.fc_inputs.specs.Causes.{Plainly, Judged, Refused, judged_map}
+use Rattle.fc_inputs.specs.Causes.{Plainly, Judged, Accepted, Refused, judged_map}
 use Rattle.fc_inputs.specs.Refusals.{Reply}
 use Rattle.fc_inputs.specs.Sections.{sections_of, AreWithin, SectionsAreWithin, WithOne, WithTwo, WithThree, other_number}
 use Rattle.fc_inputs.specs.Inputs.{OneSource}
@@ -19,14 +19,15 @@ use Rattle.fc_check.specs.Laws.{SomeCheck}
 use Rattle.fc_replay.specs.declared.replays.Options.{Options}
 use Rattle.fc_replay.specs.Laws.{SomeReplay}
 use Rattle.fc_trace.specs.Traces.{Traces}
+use Rattle.fc_gen.specs.Laws.{SomeGen}
 use Rattle.fc_run.specs.declared.runs.RunOptions.{RunOptions}
 use Rattle.fc_run.specs.Laws.{SomeRun}
 use Rattle.fc_program.specs.Stabilised.{Stabilised}
-use Rattle.fc_program.specs.Asked.{exists, limit_refusal, MayAsk}
-use Rattle.fc_program.specs.Answers.{AnswerValue, written, showing, running, replied, answer_of, Formats, ShowsReplay, ShowsRun, WritesReply}
+use Rattle.fc_program.specs.Asked.{exists, limit_refusal, reads, MayAsk}
+use Rattle.fc_program.specs.Answers.{AnswerValue, written, showing, running, generating, replied, answer_of, Formats, ShowsReplay, ShowsRun, WritesReply}
 use Rattle.fc_program.specs.Answers.{options_of, run_options, AnswersSections, AnswersInput, AnswersReading, AnswersWithin, AnswersAsked}
 use Rattle.fc_program.specs.Laws.{SomeAnswer}
-use Rattle.fc_program.proofs.Answering.{reads_there}
+use Rattle.fc_program.proofs.Answering.{few_devices}
 
 -- something is judged so
 abbrev IsJudgedSo : (Judged AnswerValue → Type 0) → Type 0
@@ -47,7 +48,7 @@ some_reply Makes some (a ∷ b ∷ []) w =
 some_reply Makes some (a ∷ b ∷ c ∷ ss) w = (Refused (other_number (a ∷ b ∷ c ∷ ss)), refl)
 
 module _ (source : OneSource) (within : SectionsAreWithin) (check : SomeCheck) (stable : SomeReply Stabilised)
-    (trace : SomeReply Traces) (replay : SomeReplay) (run : SomeRun) where
+    (trace : SomeReply Traces) (replay : SomeReplay) (run : SomeRun) (gen : SomeGen) where
   some_format : (ss : List (List ℕ)) → IsJudgedSo (WithOne Formats ss)
   some_format [] = (Refused (other_number []), refl)
   some_format (program ∷ []) =
@@ -73,32 +74,50 @@ module _ (source : OneSource) (within : SectionsAreWithin) (check : SomeCheck) (
       (judged_map running r.0, record { judged = r.0; runs = r.1; shows = refl })
   some_ran o (a ∷ b ∷ c ∷ d ∷ ss) w = (Refused (other_number (a ∷ b ∷ c ∷ d ∷ ss)), refl)
 
-  some_sections : (command : Command) → exists command ≡ true → (ss : List (List ℕ)) → AreWithin MOST_BYTES ss
+  some_sections : (command : Command) → exists command ≡ true → reads command ≡ true → (ss : List (List ℕ))
+      → AreWithin MOST_BYTES ss
       → IsJudgedSo (AnswersSections command ss)
-  some_sections Format there ss w = some_format ss
-  some_sections (Replay rounds table) there ss w = some_shown (options_of rounds table) ss w
-  some_sections (Check facts) there ss w = some_reply (Checks facts) (check facts) ss w
-  some_sections Stable there ss w = some_reply Stabilised stable ss w
-  some_sections (Run workers log table) there ss w = some_ran (run_options log table) ss w
-  some_sections (Gen number devices workers) there ss w = absurd cc
-  some_sections Trace there ss w = some_reply Traces trace ss w
-  some_sections (Mail number) there ss w = absurd cc
+  some_sections Format there read ss w = some_format ss
+  some_sections (Replay rounds table) there read ss w = some_shown (options_of rounds table) ss w
+  some_sections (Check facts) there read ss w = some_reply (Checks facts) (check facts) ss w
+  some_sections Stable there read ss w = some_reply Stabilised stable ss w
+  some_sections (Run workers log table) there read ss w = some_ran (run_options log table) ss w
+  some_sections (Gen number devices workers) there read ss w = absurd cc
+  some_sections Trace there read ss w = some_reply Traces trace ss w
+  some_sections (Mail number) there read ss w = absurd cc
 
-  some_input : (command : Command) (input : List ℕ) → exists command ≡ true → (b : Bool)
+  some_input : (command : Command) (input : List ℕ) → exists command ≡ true → reads command ≡ true → (b : Bool)
       → nat_lt MOST_BYTES (length input) ≡ b → IsJudgedSo (AnswersInput b command input)
-  some_input command input there true long = (Refused (Plainly Bytes), refl)
-  some_input command input there false short =
-      some_sections command there (sections_of input) (within input MOST_BYTES (few (length input) short))
+  some_input command input there read true long = (Refused (Plainly Bytes), refl)
+  some_input command input there read false short =
+      some_sections command there read (sections_of input) (within input MOST_BYTES (few (length input) short))
     where
       few : (n : ℕ) → nat_lt MOST_BYTES n ≡ false → n ≤ MOST_BYTES
       few n e = grind (arith, nat_tests)
+
+  some_reading : (command : Command) (input : List ℕ) → exists command ≡ true → limit_of command ≡ None
+      → IsJudgedSo (AnswersReading (reads command) command input)
+  some_reading (Gen number devices workers) input there past =
+      let low : 3 ≤ devices = grind (arith, nat_tests) in
+      let high = few_devices workers devices past in
+      let g = gen number devices low high in
+      (Accepted (generating g.0), record { least = low; most = high; gen = g.0; gens = g.1; shows = refl })
+  some_reading Format input there past = some_input Format input there refl (nat_lt MOST_BYTES (length input)) refl
+  some_reading (Replay rounds table) input there past =
+      some_input (Replay rounds table) input there refl (nat_lt MOST_BYTES (length input)) refl
+  some_reading (Check facts) input there past =
+      some_input (Check facts) input there refl (nat_lt MOST_BYTES (length input)) refl
+  some_reading Stable input there past = some_input Stable input there refl (nat_lt MOST_BYTES (length input)) refl
+  some_reading (Run workers log table) input there past =
+      some_input (Run workers log table) input there refl (nat_lt MOST_BYTES (length input)) refl
+  some_reading Trace input there past = some_input Trace input there refl (nat_lt MOST_BYTES (length input)) refl
+  some_reading (Mail number) input there past = absurd cc
 
   some_within : (command : Command) (input : List ℕ) → MayAsk (Some command) → (o : Option (Limit × ℕ))
       → limit_of command ≡ o → IsJudgedSo (AnswersWithin o command input)
   some_within command input may (Some limit) past = (Refused (Plainly (limit_refusal limit.0 limit.1)), refl)
   some_within command input may None past =
-      subst (λ b. IsJudgedSo (AnswersReading b command input)) (sym (reads_there command (may past)))
-      (some_input command input (may past) (nat_lt MOST_BYTES (length input)) refl)
+      some_reading command input (may past) past
 
   some_asked : (asked : Option Command) (input : List ℕ) → MayAsk asked → IsJudgedSo (AnswersAsked asked input)
   some_asked None input may = (Refused (Plainly Usage), refl)

@@ -43,8 +43,8 @@ use Rattle.fc_run.specs.declared.runs.RunOptions.{RunOptions}
 use Rattle.fc_run.specs.Runs.{RanValue, Runs, RunsScript, line_refusal}
 use Rattle.edit_commands.specs.Scripts.{Script, TooManyLines, Within, OfLine, OfScrambles, OfFirings, script_of}
 use Rattle.edit_commands.specs.Scripts.{LineFault as ScriptFault}
-use Rattle.fc_program.specs.Answers.{AnswerValue, showing, running, replied, answer_of, Formats, ShowsReplay, ShowsRun}
-use Rattle.fc_program.specs.Answers.{WritesReply, options_of, run_options, AnswersSections, AnswersInput, AnswersReading}
+use Rattle.fc_program.specs.Answers.{AnswerValue, showing, running, generating, replied, answer_of, Formats, ShowsReplay, ShowsRun}
+use Rattle.fc_program.specs.Answers.{WritesReply, options_of, run_options, AnswersSections, AnswersInput, AnswersReading, AnswersUnread}
 use Rattle.fc_program.specs.Answers.{AnswersWithin, AnswersAsked}
 use Rattle.fc_program.specs.Top.{IsAnswer, IsJudged}
 
@@ -302,6 +302,16 @@ sections_judge (Gen number devices workers) ss j h = absurd h
 sections_judge Trace ss j h = reply_judges Traces trace_replies ss j h
 sections_judge (Mail number) ss j h = absurd h
 
+unread_judges : (command : Command) (j : Judged AnswerValue) → AnswersUnread command j → JudgesWell j
+unread_judges (Gen number devices workers) j h = written_judges generating (λ x. refl) (Accepted h.gen) tt j h.shows
+unread_judges Format j h = absurd h
+unread_judges (Replay rounds table) j h = absurd h
+unread_judges (Check facts) j h = absurd h
+unread_judges Stable j h = absurd h
+unread_judges (Run workers log table) j h = absurd h
+unread_judges Trace j h = absurd h
+unread_judges (Mail number) j h = absurd h
+
 limit_judge : (limit : Limit) (count : ℕ) → RefusesBy (status_of (limit_refusal limit count))
 limit_judge Workers count = by_four
 limit_judge Devices count = by_four
@@ -316,7 +326,7 @@ command_judges command input j h = by_limit (limit_of command) h
 
     by_reading : (b : Bool) → AnswersReading b command input j → JudgesWell j
     by_reading true k = by_length (nat_lt MOST_BYTES (length input)) k
-    by_reading false k = absurd k
+    by_reading false k = unread_judges command j k
 
     by_limit : (o : Option (Limit × ℕ)) → AnswersWithin o command input j → JudgesWell j
     by_limit (Some l) e = subst JudgesWell (sym e) (judges _ (limit_judge l.0 l.1))

@@ -1,5 +1,5 @@
 -- What `fc` answers: a status, a text, and for some commands a book and the parts of its log.
-use Rattle.std.specs.Prelude.{ℕ, Bool, true, false, ◌≡◌, nat_lt, List, [], length, Option, Some, None}
+use Rattle.std.specs.Prelude.{ℕ, Bool, true, false, ◌≡◌, ◌≤◌, nat_lt, List, [], length, Option, Some, None}
 use Rattle.fc_syntax.specs.Terms.{Declaration}
 use Rattle.fc_syntax.specs.Text.{program_text}
 use Rattle.firing_core.specs.declared.entries.Part.{Part}
@@ -17,6 +17,7 @@ use Rattle.fc_check.specs.Checks.{Checks}
 use Rattle.fc_replay.specs.declared.replays.Options.{Options}
 use Rattle.fc_replay.specs.Ledgers.{Ledger}
 use Rattle.fc_replay.specs.Replays.{Shown, Replays}
+use Rattle.fc_gen.specs.Gens.{GenValue, Gens}
 use Rattle.fc_run.specs.declared.runs.RunOptions.{RunOptions}
 use Rattle.fc_run.specs.Runs.{RanValue, Runs}
 use Rattle.fc_inputs.specs.declared.sources.TheConstants.{MOST_BYTES}
@@ -69,6 +70,18 @@ pub record ShowsRun (options : RunOptions) (program network script : List ℕ) (
   pub runs : Runs options program network script judged
   pub shows : j ≡ judged_map running judged
 
+-- the answer of what is made of a number
+abbrev pub generating : GenValue → AnswerValue
+generating g = record { status = 0; text = g.text; book = Some g.book; parts = g.parts }
+
+-- `gen` shows the run of a scenario. The number of its workers makes no difference
+pub record ShowsGen (number devices : ℕ) (j : Judged AnswerValue) : Type 0 where
+  pub least : 3 ≤ devices
+  pub most : devices ≤ 512
+  pub gen : GenValue
+  pub gens : Gens number devices gen
+  pub shows : j ≡ Accepted (generating gen)
+
 -- a command writes the reply that it makes of a program and a scene
 pub record WritesReply (Makes : List ℕ → List ℕ → Judged Reply → Type 0) (program network : List ℕ)
     (j : Judged AnswerValue) : Type 0 where
@@ -98,10 +111,21 @@ abbrev pub AnswersInput : Bool → Command → List ℕ → Judged AnswerValue �
 AnswersInput true command input j = j ≡ Refused (Plainly Bytes)
 AnswersInput false command input j = AnswersSections command (sections_of input) j
 
--- a command that reads, and one that reads nothing, of which there is none yet
+-- a command that reads nothing
+abbrev pub AnswersUnread : Command → Judged AnswerValue → Type 0
+AnswersUnread (Gen number devices workers) j = ShowsGen number devices j
+AnswersUnread Format j = ⊥
+AnswersUnread (Replay rounds table) j = ⊥
+AnswersUnread (Check facts) j = ⊥
+AnswersUnread Stable j = ⊥
+AnswersUnread (Run workers log table) j = ⊥
+AnswersUnread Trace j = ⊥
+AnswersUnread (Mail number) j = ⊥
+
+-- a command that reads, and one that reads nothing
 abbrev pub AnswersReading : Bool → Command → List ℕ → Judged AnswerValue → Type 0
 AnswersReading true command input j = AnswersInput (nat_lt MOST_BYTES (length input)) command input j
-AnswersReading false command input j = ⊥
+AnswersReading false command input j = AnswersUnread command j
 
 -- a command with a number that is past its limit, which is judged before all reading, and one without
 abbrev pub AnswersWithin : Option (Limit × ℕ) → Command → List ℕ → Judged AnswerValue → Type 0

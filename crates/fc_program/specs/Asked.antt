@@ -1,5 +1,5 @@
 -- What the words ask for, and what each command does with the outside.
-use Rattle.std.specs.Prelude.{ℕ, ◌≡◌, Bool, true, false, ◌&&◌, is_none, if◌then◌else◌, List, Option, Some, None}
+use Rattle.std.specs.Prelude.{ℕ, ◌≡◌, Bool, true, false, ◌&&◌, is_none, nat_le, if◌then◌else◌, List, Option, Some, None}
 use Rattle.std.specs.Prelude.{option_and_then}
 use Rattle.command_words.specs.declared.commands.Command.{Command}
 use Rattle.command_words.specs.declared.commands.Command.TheVariants.{Check, Stable, Run, Replay}
@@ -11,14 +11,15 @@ use Rattle.command_words.specs.Words.{command_of}
 use Rattle.fc_inputs.specs.declared.refusal.Refusal.{Refusal}
 use Rattle.fc_inputs.specs.declared.refusal.Refusal.TheVariants as refusal
 
--- The commands that the program has. The words of the others are outside until they come.
+-- The commands that the program has, of which the words of `mail` are outside until it comes. A scenario has at least 3
+-- devices, and the words of `gen` ask for no fewer.
 abbrev pub exists : Command → Bool
 exists Format = true
 exists (Replay rounds table) = true
 exists (Check facts) = true
 exists Stable = true
 exists (Run workers log table) = true
-exists (Gen number devices workers) = false
+exists (Gen number devices workers) = nat_le 3 devices
 exists Trace = true
 exists (Mail number) = false
 

@@ -19,6 +19,7 @@ use Rattle.fc_inputs.specs.Causes.{Accepted}
 use Rattle.fc_trace.specs.Texts.{walks_text}
 use Rattle.fc_inputs.specs.Inputs.{ReadsInput}
 use Rattle.fc_inputs.specs.Sections.{sections_of}
+use Rattle.fc_gen.specs.Laws.{Agrees}
 use Rattle.fc_run.specs.declared.runs.RunOptions.{RunOptions}
 use Rattle.fc_run.specs.Laws.{RunKeepsYes}
 use Rattle.fc_run.specs.Runs.{RanValue}
@@ -91,7 +92,7 @@ Promises Format sections answer = Unit {0}
 Promises (Replay rounds table) sections answer = Unit {0}
 Promises (Run workers log table) sections answer =
     OfThree (λ program network script. RunsKept (run_options log table) program network script answer) sections
-Promises (Gen number devices workers) sections answer = Unit {0}
+Promises (Gen number devices workers) sections answer = Agrees number devices answer.text
 Promises Trace sections answer = OfTwo (λ program network. TracesYes program network answer.text) sections
 Promises (Mail number) sections answer = Unit {0}
 

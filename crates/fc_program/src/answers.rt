@@ -1,10 +1,11 @@
-//! What the commands make of an input. `run` may wait, and no other command does.
-ghost use Rattle.std.specs.Prelude.{◌≡◌, ◌≤◌, IfErr, IfOk, length, true};
+//! What the commands make of an input, or of a number. `run` and `gen` may wait, and no other command does.
+ghost use Rattle.std.specs.Prelude.{◌≡◌, ◌≤◌, IfErr, IfOk, None, length, true, false};
+ghost use Rattle.command_words.specs.Commands.{limit_of};
 ghost use Rattle.fc_inputs.specs.Causes.{Accepted, Refused};
 ghost use Rattle.fc_inputs.specs.Sections.{sections_of};
 ghost use Rattle.fc_inputs.specs.Stops.{StopsFor};
-ghost use Rattle.fc_program.specs.Answers.{AnswersSections, Formats};
-ghost use Rattle.fc_program.specs.Asked.{exists};
+ghost use Rattle.fc_program.specs.Answers.{AnswersSections, AnswersUnread, Formats};
+ghost use Rattle.fc_program.specs.Asked.{exists, reads};
 ghost use Rattle.fc_program.specs.Top.{value_of};
 ghost use Rattle.fc_inputs.specs.declared.sources.TheConstants.{MOST_BYTES};
 
@@ -12,11 +13,13 @@ use crate::stabilised::stabilised;
 use command_words::Command;
 use export_table::Gate;
 use fc_check::check;
+use fc_gen::{Generated, generate};
 use fc_inputs::{Reply, Stop, one_section, read_source, sections, three_sections, two_sections};
 use fc_replay::{Options, replay};
 use fc_run::{Ran, RunOptions, run};
 use fc_syntax::print;
 use fc_trace::traced;
+use fc_values::Memory;
 use firing_core::{Book, Part};
 use session::Pool;
 use std::alloc::Global;
@@ -33,10 +36,11 @@ pub struct Answer {
 
 impl Answer {
     ghost use Rattle.std.specs.Prelude.{◌≡◌, Some};
-    ghost use Rattle.fc_program.specs.Answers.{replied, running, showing, written};
+    ghost use Rattle.fc_program.specs.Answers.{generating, replied, running, showing, written};
     ghost use Rattle.fc_program.specs.Top.{value_of};
     ghost use Rattle.fc_replay.specs.Code.{shown_of};
     ghost use Rattle.fc_run.specs.Code.{ran_of};
+    ghost use Rattle.fc_gen.specs.Code.{gen_of};
 
     /// The answer of a reply.
     pub fn replied(alloc: Global, reply: Reply) -> Self
@@ -64,6 +68,17 @@ impl Answer {
             reply: Reply::new(0, text),
             book: Some(book),
             parts: Vec::new(alloc),
+        }
+    }
+
+    // What a scenario's run gives.
+    fn generating(generated: Generated) -> Self
+        ensures { value_of result ≡ generating (gen_of generated) }
+    {
+        Answer {
+            reply: Reply::new(0, generated.text),
+            book: Some(generated.book),
+            parts: generated.parts,
         }
     }
 
@@ -98,6 +113,7 @@ pub fn answer_to<W: Threads + Wait + Sync, G: Gate + Sync>(
     pool: &Pool<W, G>,
 ) -> Result<Answer, Stop>
     requires exists { exists command ≡ true }
+    requires reads { reads command ≡ true }
     requires short { length input.now ≤ MOST_BYTES }
     ensures makes { IfOk result (λ a. AnswersSections command (sections_of input.now) (Accepted (value_of a))) }
     ensures refused { IfErr result (StopsFor (λ cause.
@@ -141,5 +157,29 @@ pub fn answer_to<W: Threads + Wait + Sync, G: Gate + Sync>(
             Ok(Answer::running(ran))
         }
         Command::Gen { .. } | Command::Mail { .. } => unreachable!(),
+    }
+}
+
+/// The answer of a command that reads nothing. It waits where it runs rounds alone.
+pub fn answer_unread<W: Threads + Wait + Sync, G: Gate + Sync>(
+    alloc: Global,
+    command: Command,
+    pool: &Pool<W, G>,
+) -> Result<Answer, Memory>
+    requires within { limit_of command ≡ None }
+    requires exists { exists command ≡ true }
+    requires reads { reads command ≡ false }
+    ensures { IfOk result (λ a. AnswersUnread command (Accepted (value_of a))) }
+{
+    match command {
+        Command::Gen {
+            number,
+            devices,
+            ..
+        } => {
+            let generated = generate(alloc, number, devices, pool)?;
+            Ok(Answer::generating(generated))
+        }
+        _ => unreachable!(),
     }
 }

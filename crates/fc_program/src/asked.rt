@@ -1,26 +1,32 @@
 //! What the words of a command line ask for.
 ghost use Rattle.std.specs.Prelude.{◌≡◌, ◌≤◌, IfOk, map, option_map, string_bytes};
 ghost use Rattle.command_words.specs.Commands.{limit_of};
-ghost use Rattle.fc_program.specs.Asked.{MayAsk, asked_of, exists, limit_refusal};
+ghost use Rattle.fc_program.specs.Asked.{MayAsk, asked_of, exists, limit_refusal, reads as reads_of};
 
 use command_words::{Command, Limit, MOST_WORKERS, command, passed_limit};
 use fc_inputs::Refusal;
 use fc_values::Memory;
 use std::alloc::Global;
 
+// The fewest devices of a scenario.
+const LEAST_DEVICES: u32 = 3;
+
 // Whether the program has a command yet.
 fn exists(command: Command) -> bool
     ensures { result ≡ exists command }
 {
-    matches!(
-        command,
-        Command::Format
-            | Command::Replay { .. }
-            | Command::Check { .. }
-            | Command::Stable
-            | Command::Trace
-            | Command::Run { .. }
-    )
+    match command {
+        Command::Gen { devices, .. } => LEAST_DEVICES <= devices,
+        Command::Mail { .. } => false,
+        _ => true,
+    }
+}
+
+/// Whether a command reads the source.
+pub fn reads(command: Command) -> bool
+    ensures { result ≡ reads_of command }
+{
+    !matches!(command, Command::Gen { .. })
 }
 
 /// What the words ask for, if they ask for something that the program does.
@@ -61,7 +67,9 @@ pub fn workers_of(asked: Option<Command>) -> u32
     ensures most { result ≤ 16 }
 {
     match asked {
-        Some(Command::Run { workers, .. }) => workers.clamp(1, MOST_WORKERS),
+        Some(Command::Run { workers, .. } | Command::Gen { workers, .. }) => {
+            workers.clamp(1, MOST_WORKERS)
+        }
         _ => 1,
     }
 }

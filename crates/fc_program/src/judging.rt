@@ -6,11 +6,11 @@ ghost use Rattle.fc_io.specs.Causes.{Rose};
 ghost use Rattle.fc_inputs.specs.Causes.{Accepted};
 ghost use Rattle.fc_inputs.specs.declared.stop.Stop.TheVariants as stop;
 ghost use Rattle.fc_inputs.specs.declared.reply.Failure.TheVariants as failure;
-ghost use Rattle.fc_program.specs.Asked.{exists, reads_source, MayAsk};
+ghost use Rattle.fc_program.specs.Asked.{exists, reads as reads_of, reads_source, MayAsk};
 ghost use Rattle.fc_program.specs.Top.{IsAnswer, IsJudged, StopsAsked, stop_status, value_of};
 
-use crate::answers::{Answer, answer_to};
-use crate::asked::past_limit;
+use crate::answers::{Answer, answer_to, answer_unread};
+use crate::asked::{past_limit, reads};
 use crate::laws::answers_keep;
 use command_words::Command;
 use export_table::Gate;
@@ -30,6 +30,7 @@ fn read_and_judged<S: Source, W: Threads + Wait + Sync, G: Gate + Sync>(
 ) -> Result<Answer, Stop>
     requires within { limit_of command ≡ None }
     requires exists { exists command ≡ true }
+    requires reads { reads_of command ≡ true }
     ensures makes { IfOk result (λ a. IsJudged (Some command) (S.left src.old) (Accepted (value_of a))) }
     ensures refused { IfErr result (StopsAsked (Some command) (S.left src.old)) }
     ensures end { IfOk result (λ a. IsAtEnd (S.left src.new)) }
@@ -66,6 +67,9 @@ fn judged<S: Source, W: Threads + Wait + Sync, G: Gate + Sync>(
     };
     if let Some(refusal) = past_limit(command) {
         return Err(Stop::Refused(refusal));
+    }
+    if !reads(command) {
+        return Ok(answer_unread(alloc, command, pool)?);
     }
     read_and_judged(alloc, command, src, pool)
 }

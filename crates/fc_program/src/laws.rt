@@ -4,6 +4,7 @@ ghost use Rattle.fc_program.specs.Laws.{OneAnswer, SomeAnswer};
 
 use converge_laws::yes_stabilises;
 use fc_check::{one_check, some_check};
+use fc_gen::{all_agree, one_gen, some_gen};
 use fc_inputs::{one_input, one_source, sections_are_within};
 use fc_replay::{one_replay, some_replay};
 use fc_run::{one_run, runs_keep_yes, some_run};
@@ -21,6 +22,7 @@ pub fn one_answer()
     one_traced();
     one_replay();
     one_run();
+    one_gen();
 }
 
 /// Each input has an answer, whatever the words ask for.
@@ -35,13 +37,14 @@ pub fn some_answer()
     some_traced();
     some_replay();
     some_run();
+    some_gen();
 }
 
 /// Where `check`, `stable` or `trace` answers with status 0, the verdict on its input is a yes, and within the rounds of
 /// that yes the program stabilises on the scene's network: `check` writes these rounds, `stable` the one field, and
 /// `trace` the least costs, which are the values of that field, with the best walks. Where `run` answers with status 0,
 /// and the verdict on a network that its lines make is a yes, the program stabilises on it, and what a `show` writes after
-/// as many rounds is its one field there.
+/// as many rounds is its one field there. `gen` writes that each device agrees with the one field of its scenario.
 pub fn answers_keep()
     ensures { AnswersKeep }
 {
@@ -49,4 +52,5 @@ pub fn answers_keep()
     accepted_scenes_fit();
     solutions_are_least();
     runs_keep_yes();
+    all_agree();
 }

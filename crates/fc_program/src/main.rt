@@ -1,5 +1,6 @@
 //! `fc`: writes a program's canonical text, or says whether a program stabilises and in how many rounds, or runs a
-//! script of rounds and edits on a network, or replays a log of firings there, and writes what each device holds.
+//! script of rounds and edits on a network, or replays a log of firings there, and writes what each device holds; or
+//! runs the scenario of a number.
 #![tactic(auto)]
 
 mod answers;
