@@ -1,4 +1,4 @@
--- The program `minHoodLoc(nbr{shared} + added, local)` over three numbers.
+-- Crates above cite this module: the program `minHoodLoc(nbr{shared} + added, local)` over three numbers.
 use Rattle.std.proofs.Common.{◌≡◌, ℕ, suc, ◌≤◌, List, [], ◌∷◌, ◌++◌, length, map, refl, sym, ◌∙◌, ap, subst, arith}
 use Rattle.std.specs.Prelude.{slice_get}
 use Rattle.std.proofs.lemmas.Option.{slice_get-map}

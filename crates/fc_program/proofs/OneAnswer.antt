@@ -13,6 +13,9 @@ use Rattle.fc_inputs.specs.Sections.{sections_of, WithOne, WithTwo, WithThree, o
 use Rattle.fc_inputs.specs.Inputs.{OneSource}
 use Rattle.fc_check.specs.Checks.{Checks}
 use Rattle.fc_check.specs.Laws.{OneCheck}
+use Rattle.fc_mail.specs.Drives.{DrivesMail}
+use Rattle.fc_mail.specs.Mails.{Mails}
+use Rattle.fc_mail.specs.Laws.{OneMail, OneDrivenMail}
 use Rattle.fc_replay.specs.declared.replays.Options.{Options}
 use Rattle.fc_replay.specs.Replays.{Shown}
 use Rattle.fc_replay.specs.Laws.{Alike, OneReplay}
@@ -23,7 +26,7 @@ use Rattle.fc_run.specs.Laws.{AlikeRuns, OneRun}
 use Rattle.fc_run.specs.Runs.{RanValue}
 use Rattle.fc_program.specs.Asked.{reads, runs_threads}
 use Rattle.fc_program.specs.Stabilised.{Stabilised}
-use Rattle.fc_program.specs.Answers.{AnswerValue, written, showing, running, generating, replied, answer_of, Formats, ShowsReplay, ShowsRun, WritesReply}
+use Rattle.fc_program.specs.Answers.{AnswerValue, written, showing, running, generating, replied, answer_of, Formats, ShowsReplay, ShowsRun, WritesReply, WritesLogReply, AnswersMail}
 use Rattle.fc_program.specs.Answers.{options_of, run_options, AnswersSections, AnswersInput, AnswersReading, AnswersUnread, AnswersWithin, AnswersAsked}
 use Rattle.fc_program.specs.Laws.{SameText, threads_of, OneAnswer}
 
@@ -79,7 +82,7 @@ same_reply Makes one (a ∷ b ∷ []) j k h g =
 same_reply Makes one (a ∷ b ∷ c ∷ ss) j k h g = equal false (Refused (other_number (a ∷ b ∷ c ∷ ss))) j k h g
 
 module _ (source : OneSource) (check : OneCheck) (stable : OneReply Stabilised) (trace : OneReply Traces)
-    (replay : OneReplay) (run : OneRun) (gen : OneGen) where
+    (replay : OneReplay) (run : OneRun) (gen : OneGen) (mail : OneMail) (driven : OneDrivenMail) where
   same_format : (ss : List (List ℕ)) (j k : Judged AnswerValue) → WithOne Formats ss j → WithOne Formats ss k
       → Same false j k
   same_format [] j k h g = equal false (Refused (other_number [])) j k h g
@@ -108,6 +111,21 @@ module _ (source : OneSource) (check : OneCheck) (stable : OneReply Stabilised) 
       ran_alike h.judged g.judged j k (run o a b c h.judged g.judged h.runs g.runs) h.shows g.shows
   same_run o (a ∷ b ∷ c ∷ d ∷ ss) j k h g = equal true (Refused (other_number (a ∷ b ∷ c ∷ d ∷ ss))) j k h g
 
+  same_log : (ss : List (List ℕ)) (j k : Judged AnswerValue) → WithThree (WritesLogReply Mails) ss j
+      → WithThree (WritesLogReply Mails) ss k → Same false j k
+  same_log [] j k h g = equal false (Refused (other_number [])) j k h g
+  same_log (a ∷ []) j k h g = equal false (Refused (other_number (a ∷ []))) j k h g
+  same_log (a ∷ b ∷ []) j k h g = equal false (Refused (other_number (a ∷ b ∷ []))) j k h g
+  same_log (a ∷ b ∷ c ∷ []) j k h g =
+      equal false (judged_map replied g.judged) j k
+      (h.writes ∙ ap (judged_map replied) (mail a b c h.judged g.judged h.makes g.makes)) g.writes
+  same_log (a ∷ b ∷ c ∷ d ∷ ss) j k h g = equal false (Refused (other_number (a ∷ b ∷ c ∷ d ∷ ss))) j k h g
+
+  same_mail : (number : Option ℕ) (ss : List (List ℕ)) (j k : Judged AnswerValue) → AnswersMail number ss j
+      → AnswersMail number ss k → Same false j k
+  same_mail None ss j k h g = same_log ss j k h g
+  same_mail (Some number) ss j k h g = same_reply (DrivesMail number) (driven number) ss j k h g
+
   same_sections : (command : Command) (ss : List (List ℕ)) (j k : Judged AnswerValue) → AnswersSections command ss j
       → AnswersSections command ss k → Same (runs_threads command) j k
   same_sections Format ss j k h g = same_format ss j k h g
@@ -117,7 +135,7 @@ module _ (source : OneSource) (check : OneCheck) (stable : OneReply Stabilised) 
   same_sections (Run workers log table) ss j k h g = same_run (run_options log table) ss j k h g
   same_sections (Gen number devices workers) ss j k h g = absurd h
   same_sections Trace ss j k h g = same_reply Traces trace ss j k h g
-  same_sections (Mail number) ss j k h g = absurd h
+  same_sections (Mail number) ss j k h g = same_mail number ss j k h g
 
   same_unread : (command : Command) (j k : Judged AnswerValue) → AnswersUnread command j → AnswersUnread command k
       → Same (runs_threads command) j k

@@ -16,6 +16,9 @@ use Rattle.fc_inputs.specs.Sections.{sections_of, AreWithin, SectionsAreWithin, 
 use Rattle.fc_inputs.specs.Inputs.{OneSource}
 use Rattle.fc_check.specs.Checks.{Checks}
 use Rattle.fc_check.specs.Laws.{SomeCheck}
+use Rattle.fc_mail.specs.Drives.{DrivesMail}
+use Rattle.fc_mail.specs.Mails.{Mails}
+use Rattle.fc_mail.specs.Laws.{SomeMail, SomeDrivenMail}
 use Rattle.fc_replay.specs.declared.replays.Options.{Options}
 use Rattle.fc_replay.specs.Laws.{SomeReplay}
 use Rattle.fc_trace.specs.Traces.{Traces}
@@ -24,7 +27,7 @@ use Rattle.fc_run.specs.declared.runs.RunOptions.{RunOptions}
 use Rattle.fc_run.specs.Laws.{SomeRun}
 use Rattle.fc_program.specs.Stabilised.{Stabilised}
 use Rattle.fc_program.specs.Asked.{exists, limit_refusal, reads, MayAsk}
-use Rattle.fc_program.specs.Answers.{AnswerValue, written, showing, running, generating, replied, answer_of, Formats, ShowsReplay, ShowsRun, WritesReply}
+use Rattle.fc_program.specs.Answers.{AnswerValue, written, showing, running, generating, replied, answer_of, Formats, ShowsReplay, ShowsRun, WritesReply, WritesLogReply, AnswersMail}
 use Rattle.fc_program.specs.Answers.{options_of, run_options, AnswersSections, AnswersInput, AnswersReading, AnswersWithin, AnswersAsked}
 use Rattle.fc_program.specs.Laws.{SomeAnswer}
 use Rattle.fc_program.proofs.Answering.{few_devices}
@@ -48,7 +51,8 @@ some_reply Makes some (a ∷ b ∷ []) w =
 some_reply Makes some (a ∷ b ∷ c ∷ ss) w = (Refused (other_number (a ∷ b ∷ c ∷ ss)), refl)
 
 module _ (source : OneSource) (within : SectionsAreWithin) (check : SomeCheck) (stable : SomeReply Stabilised)
-    (trace : SomeReply Traces) (replay : SomeReplay) (run : SomeRun) (gen : SomeGen) where
+    (trace : SomeReply Traces) (replay : SomeReplay) (run : SomeRun) (gen : SomeGen) (mail : SomeMail)
+    (driven : SomeDrivenMail) where
   some_format : (ss : List (List ℕ)) → IsJudgedSo (WithOne Formats ss)
   some_format [] = (Refused (other_number []), refl)
   some_format (program ∷ []) =
@@ -74,6 +78,19 @@ module _ (source : OneSource) (within : SectionsAreWithin) (check : SomeCheck) (
       (judged_map running r.0, record { judged = r.0; runs = r.1; shows = refl })
   some_ran o (a ∷ b ∷ c ∷ d ∷ ss) w = (Refused (other_number (a ∷ b ∷ c ∷ d ∷ ss)), refl)
 
+  some_log : (ss : List (List ℕ)) → AreWithin MOST_BYTES ss → IsJudgedSo (WithThree (WritesLogReply Mails) ss)
+  some_log [] w = (Refused (other_number []), refl)
+  some_log (a ∷ []) w = (Refused (other_number (a ∷ [])), refl)
+  some_log (a ∷ b ∷ []) w = (Refused (other_number (a ∷ b ∷ [])), refl)
+  some_log (a ∷ b ∷ c ∷ []) w =
+      let r = mail a b c w.0 in
+      (judged_map replied r.0, record { judged = r.0; makes = r.1; writes = refl })
+  some_log (a ∷ b ∷ c ∷ d ∷ ss) w = (Refused (other_number (a ∷ b ∷ c ∷ d ∷ ss)), refl)
+
+  some_mail : (number : Option ℕ) (ss : List (List ℕ)) → AreWithin MOST_BYTES ss → IsJudgedSo (AnswersMail number ss)
+  some_mail None ss w = some_log ss w
+  some_mail (Some number) ss w = some_reply (DrivesMail number) (driven number) ss w
+
   some_sections : (command : Command) → exists command ≡ true → reads command ≡ true → (ss : List (List ℕ))
       → AreWithin MOST_BYTES ss
       → IsJudgedSo (AnswersSections command ss)
@@ -84,7 +101,7 @@ module _ (source : OneSource) (within : SectionsAreWithin) (check : SomeCheck) (
   some_sections (Run workers log table) there read ss w = some_ran (run_options log table) ss w
   some_sections (Gen number devices workers) there read ss w = absurd cc
   some_sections Trace there read ss w = some_reply Traces trace ss w
-  some_sections (Mail number) there read ss w = absurd cc
+  some_sections (Mail number) there read ss w = some_mail number ss w
 
   some_input : (command : Command) (input : List ℕ) → exists command ≡ true → reads command ≡ true → (b : Bool)
       → nat_lt MOST_BYTES (length input) ≡ b → IsJudgedSo (AnswersInput b command input)
@@ -111,7 +128,8 @@ module _ (source : OneSource) (within : SectionsAreWithin) (check : SomeCheck) (
   some_reading (Run workers log table) input there past =
       some_input (Run workers log table) input there refl (nat_lt MOST_BYTES (length input)) refl
   some_reading Trace input there past = some_input Trace input there refl (nat_lt MOST_BYTES (length input)) refl
-  some_reading (Mail number) input there past = absurd cc
+  some_reading (Mail number) input there past =
+      some_input (Mail number) input there refl (nat_lt MOST_BYTES (length input)) refl
 
   some_within : (command : Command) (input : List ℕ) → MayAsk (Some command) → (o : Option (Limit × ℕ))
       → limit_of command ≡ o → IsJudgedSo (AnswersWithin o command input)

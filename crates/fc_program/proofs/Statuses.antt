@@ -1,5 +1,5 @@
 -- The statuses of answers: 2 for the usage line alone, and at most 4.
-use Rattle.std.proofs.Common.{ℕ, ◌≡◌, ◌≢◌, ◌≤◌, Bool, true, false, List, [], ◌∷◌, length, refl, ap, ◌∙◌, sym, subst, arith, Option, Some, None}
+use Rattle.std.proofs.Common.{ℕ, ◌≡◌, ◌≢◌, ◌≤◌, Bool, true, false, List, [], ◌∷◌, length, refl, ap, ◌∙◌, sym, subst, arith, Option, Some, None, inl, inr}
 use Rattle.std.specs.Prelude.{nat_lt}
 use Rattle.topology.specs.declared.types.NetFault.{NetFault}
 use Rattle.topology.specs.declared.types.NetFault.TheVariants as net
@@ -26,6 +26,11 @@ use Rattle.fc_nodes.specs.declared.verdicts.Verdict.TheVariants as verdict
 use Rattle.topology.specs.Networks.{Network}
 use Rattle.fragment_check.specs.Verdicts.{verdict_of}
 use Rattle.fc_check.specs.Checks.{Checks, ChecksScene, verdict_status}
+use Rattle.message_links.specs.MailCores.{MailCore, MailEntryValue}
+use Rattle.mail_lines.specs.MailLines.{mail_log}
+use Rattle.mail_book.specs.MailViews.{quiet}
+use Rattle.fc_mail.specs.Drives.{most, messages, DrivesWithin, DrivesBy, DrivesScene, DrivesMail}
+use Rattle.fc_mail.specs.Mails.{MailsLines, MailsScene, Mails}
 use Rattle.walk_form.specs.Forms.{WalkTerms, walk_terms}
 use Rattle.fc_trace.specs.Traces.{TracedBy, TracesScene, Traces}
 use Rattle.fc_program.specs.Stabilised.{StabilisedBy, StabilisesScene, Stabilised}
@@ -44,7 +49,7 @@ use Rattle.fc_run.specs.Runs.{RanValue, Runs, RunsScript, line_refusal}
 use Rattle.edit_commands.specs.Scripts.{Script, TooManyLines, Within, OfLine, OfScrambles, OfFirings, script_of}
 use Rattle.edit_commands.specs.Scripts.{LineFault as ScriptFault}
 use Rattle.fc_program.specs.Answers.{AnswerValue, showing, running, generating, replied, answer_of, Formats, ShowsReplay, ShowsRun}
-use Rattle.fc_program.specs.Answers.{WritesReply, options_of, run_options, AnswersSections, AnswersInput, AnswersReading, AnswersUnread}
+use Rattle.fc_program.specs.Answers.{WritesReply, WritesLogReply, AnswersMail, options_of, run_options, AnswersSections, AnswersInput, AnswersReading, AnswersUnread}
 use Rattle.fc_program.specs.Answers.{AnswersWithin, AnswersAsked}
 use Rattle.fc_program.specs.Top.{IsAnswer, IsJudged}
 
@@ -262,6 +267,37 @@ trace_replies program network j h = by_input h.judged (input_causes program netw
         (trace_by (verdict_of e.nodes (length i.1.net.devices)) (walk_terms i.0) i.0 i.1.net e.reply e.writes)
     by_input (Refused cause) c e = subst ReplyJudges (sym e) c
 
+mail_lines_judge : (U : Unfolding) (start : MailCore) (lines : Lines (Unit {0}) MailEntryValue) (j : Judged Reply) → MailsLines U start lines j
+    → ReplyJudges j
+mail_lines_judge U start (StopsAt at tt) j e = subst ReplyJudges (sym e) (log_judges at line_fault.Form)
+mail_lines_judge U start (AllLines log) j (inl shows) = subst ReplyJudges (sym shows.is) by_zero
+mail_lines_judge U start (AllLines log) j (inr stops) = subst ReplyJudges (sym stops.is) (log_judges _ stops.why)
+
+mail_replies : (program network log : List ℕ) (j : Judged Reply) → Mails program network log j → ReplyJudges j
+mail_replies program network log j h = by_input h.judged (input_causes program network h.judged h.reads) h.ends
+  where
+    by_input : (i : Judged InputOf) → IfRefused CauseJudges i → AndThen i (λ i k. MailsScene i.0 i.1 log k) j
+        → ReplyJudges j
+    by_input (Accepted i) c e = mail_lines_judge i.0 (quiet (start_of i.1)) (mail_log log) j e.ends
+    by_input (Refused cause) c e = subst ReplyJudges (sym e) c
+
+drives_by : (number : ℕ) (v : Verdict) (U : Unfolding) (N : Network) (j : Judged Reply) → DrivesBy number v U N j → ReplyJudges j
+drives_by number (verdict.No place why) U N j e = subst ReplyJudges (sym e) by_one
+drives_by number (verdict.Yes rounds) U N j h = by_limit (nat_lt most (messages N rounds)) h
+  where
+    by_limit : (b : Bool) → DrivesWithin b number U N rounds j → ReplyJudges j
+    by_limit true e = subst ReplyJudges (sym e) by_four
+    by_limit false k = subst ReplyJudges (sym k.is) by_zero
+
+driven_replies : (number : ℕ) (program network : List ℕ) (j : Judged Reply) → DrivesMail number program network j
+    → ReplyJudges j
+driven_replies number program network j h = by_input h.judged (input_causes program network h.judged h.reads) h.ends
+  where
+    by_input : (i : Judged InputOf) → IfRefused CauseJudges i → AndThen i (λ i k. DrivesScene number i.0 i.1 k) j
+        → ReplyJudges j
+    by_input (Accepted i) c e = drives_by number (verdict_of e.nodes (length i.1.net.devices)) i.0 i.1.net j e.drives
+    by_input (Refused cause) c e = subst ReplyJudges (sym e) c
+
 replied_judges : (i : Judged Reply) → ReplyJudges i → (j : Judged AnswerValue) → j ≡ judged_map replied i → JudgesWell j
 replied_judges (Accepted r) h j e = subst JudgesWell (sym e) h
 replied_judges (Refused cause) h j e = subst JudgesWell (sym e) (judges _ h)
@@ -291,6 +327,17 @@ run_judges o (a ∷ b ∷ c ∷ []) j h =
     written_judges running (λ x. refl) h.judged (run_causes o a b c h.judged h.runs) j h.shows
 run_judges o (a ∷ b ∷ c ∷ d ∷ ss) j h = other_judges (a ∷ b ∷ c ∷ d ∷ ss) j h
 
+log_judge : (ss : List (List ℕ)) (j : Judged AnswerValue) → WithThree (WritesLogReply Mails) ss j → JudgesWell j
+log_judge [] j h = other_judges [] j h
+log_judge (a ∷ []) j h = other_judges (a ∷ []) j h
+log_judge (a ∷ b ∷ []) j h = other_judges (a ∷ b ∷ []) j h
+log_judge (a ∷ b ∷ c ∷ []) j h = replied_judges h.judged (mail_replies a b c h.judged h.makes) j h.writes
+log_judge (a ∷ b ∷ c ∷ d ∷ ss) j h = other_judges (a ∷ b ∷ c ∷ d ∷ ss) j h
+
+mail_judges : (number : Option ℕ) (ss : List (List ℕ)) (j : Judged AnswerValue) → AnswersMail number ss j → JudgesWell j
+mail_judges None ss j h = log_judge ss j h
+mail_judges (Some number) ss j h = reply_judges (DrivesMail number) (driven_replies number) ss j h
+
 sections_judge : (command : Command) (ss : List (List ℕ)) (j : Judged AnswerValue) → AnswersSections command ss j
     → JudgesWell j
 sections_judge Format ss j h = format_judges ss j h
@@ -300,7 +347,7 @@ sections_judge Stable ss j h = reply_judges Stabilised stable_replies ss j h
 sections_judge (Run workers log table) ss j h = run_judges (run_options log table) ss j h
 sections_judge (Gen number devices workers) ss j h = absurd h
 sections_judge Trace ss j h = reply_judges Traces trace_replies ss j h
-sections_judge (Mail number) ss j h = absurd h
+sections_judge (Mail number) ss j h = mail_judges number ss j h
 
 unread_judges : (command : Command) (j : Judged AnswerValue) → AnswersUnread command j → JudgesWell j
 unread_judges (Gen number devices workers) j h = written_judges generating (λ x. refl) (Accepted h.gen) tt j h.shows

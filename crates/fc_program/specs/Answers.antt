@@ -14,6 +14,8 @@ use Rattle.fc_inputs.specs.Causes.{Plainly, reply_to, Judged, Accepted, Refused,
 use Rattle.fc_inputs.specs.Sections.{sections_of, WithOne, WithTwo, WithThree}
 use Rattle.fc_inputs.specs.Sources.{ReadsSource}
 use Rattle.fc_check.specs.Checks.{Checks}
+use Rattle.fc_mail.specs.Drives.{DrivesMail}
+use Rattle.fc_mail.specs.Mails.{Mails}
 use Rattle.fc_replay.specs.declared.replays.Options.{Options}
 use Rattle.fc_replay.specs.Ledgers.{Ledger}
 use Rattle.fc_replay.specs.Replays.{Shown, Replays}
@@ -89,6 +91,18 @@ pub record WritesReply (Makes : List ℕ → List ℕ → Judged Reply → Type 
   pub makes : Makes program network judged
   pub writes : j ≡ judged_map replied judged
 
+-- a command writes the reply that it makes of a program, a scene and a log
+pub record WritesLogReply (Makes : List ℕ → List ℕ → List ℕ → Judged Reply → Type 0) (program network log : List ℕ)
+    (j : Judged AnswerValue) : Type 0 where
+  pub judged : Judged Reply
+  pub makes : Makes program network log judged
+  pub writes : j ≡ judged_map replied judged
+
+-- `mail` takes a mail log, and with a number none
+abbrev pub AnswersMail : Option ℕ → List (List ℕ) → Judged AnswerValue → Type 0
+AnswersMail None sections j = WithThree (WritesLogReply Mails) sections j
+AnswersMail (Some number) sections j = WithTwo (WritesReply (DrivesMail number)) sections j
+
 abbrev pub options_of : Bool → Bool → Options
 options_of rounds table = record { rounds = rounds; table = table }
 
@@ -104,7 +118,7 @@ AnswersSections Stable sections j = WithTwo (WritesReply Stabilised) sections j
 AnswersSections (Run workers log table) sections j = WithThree (ShowsRun (run_options log table)) sections j
 AnswersSections (Gen number devices workers) sections j = ⊥
 AnswersSections Trace sections j = WithTwo (WritesReply Traces) sections j
-AnswersSections (Mail number) sections j = ⊥
+AnswersSections (Mail number) sections j = AnswersMail number sections j
 
 -- a command over an input that is longer than the limit, and over one that isn't
 abbrev pub AnswersInput : Bool → Command → List ℕ → Judged AnswerValue → Type 0

@@ -21,7 +21,7 @@ exists Stable = true
 exists (Run workers log table) = true
 exists (Gen number devices workers) = nat_le 3 devices
 exists Trace = true
-exists (Mail number) = false
+exists (Mail number) = true
 
 -- the commands that read the source: all but `gen`
 abbrev pub reads : Command → Bool

@@ -15,6 +15,7 @@ use export_table::Gate;
 use fc_check::check;
 use fc_gen::{Generated, generate};
 use fc_inputs::{Reply, Stop, one_section, read_source, sections, three_sections, two_sections};
+use fc_mail::{mail, mail_number};
 use fc_replay::{Options, replay};
 use fc_run::{Ran, RunOptions, run};
 use fc_syntax::print;
@@ -156,7 +157,19 @@ pub fn answer_to<W: Threads + Wait + Sync, G: Gate + Sync>(
             let ran = run(alloc, options, program, network, script, pool)?;
             Ok(Answer::running(ran))
         }
-        Command::Gen { .. } | Command::Mail { .. } => unreachable!(),
+        Command::Mail { number: None } => {
+            let (program, network, log) = three_sections(&sections)?;
+            let reply = mail(alloc, program, network, log)?;
+            Ok(Answer::replied(alloc, reply))
+        }
+        Command::Mail {
+            number: Some(number),
+        } => {
+            let (program, network) = two_sections(&sections)?;
+            let reply = mail_number(alloc, number, program, network)?;
+            Ok(Answer::replied(alloc, reply))
+        }
+        Command::Gen { .. } => unreachable!(),
     }
 }
 

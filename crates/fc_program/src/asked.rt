@@ -17,7 +17,6 @@ fn exists(command: Command) -> bool
 {
     match command {
         Command::Gen { devices, .. } => LEAST_DEVICES <= devices,
-        Command::Mail { .. } => false,
         _ => true,
     }
 }

@@ -6,6 +6,7 @@ use converge_laws::yes_stabilises;
 use fc_check::{one_check, some_check};
 use fc_gen::{all_agree, one_gen, some_gen};
 use fc_inputs::{one_input, one_source, sections_are_within};
+use fc_mail::{one_mail, some_mail};
 use fc_replay::{one_replay, some_replay};
 use fc_run::{one_run, runs_keep_yes, some_run};
 use fc_trace::{one_traced, some_traced};
@@ -23,6 +24,7 @@ pub fn one_answer()
     one_replay();
     one_run();
     one_gen();
+    one_mail();
 }
 
 /// Each input has an answer, whatever the words ask for.
@@ -38,6 +40,7 @@ pub fn some_answer()
     some_replay();
     some_run();
     some_gen();
+    some_mail();
 }
 
 /// Where `check`, `stable` or `trace` answers with status 0, the verdict on its input is a yes, and within the rounds of

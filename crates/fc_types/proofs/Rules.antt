@@ -1,4 +1,4 @@
--- The type that is computed for a builtin is that of its rule.
+-- Crates above cite this module: the type that is computed for a builtin is that of its rule.
 use Rattle.std.proofs.Common.{◌≡◌, ◌⊎◌, inl, inr, refl, sym, ap, ◌∙◌, ℕ, ◌+◌, ◌<◌, nat_le, ◌==◌, arith, Bool, true, false, ◌&&◌, List, [], ◌∷◌, length, replicate, Option, Some, None}
 use Rattle.std.proofs.lemmas.Bool.{and_parts, le-leb, leb-true, leb-false, eqb-true}
 use Rattle.fc_values.specs.declared.builtins.Builtin.{Builtin}

@@ -1,4 +1,4 @@
--- arguments by position and by device
+-- Crates above cite this module: arguments by position and by device.
 use Rattle.std.proofs.Common.{◌≡◌, Option, None, Some, IsSome, option_map, option_and_then, ℕ, zero, suc, ◌<◌, ◌+◌, List, [], ◌∷◌, length, map, get_or, refl, ◌∙◌, ap, arith, ◌++◌, drop, add-one, drop-cons, Bool, true, false, nat_eq, nat_lt, ◌&&◌}
 use Rattle.std.proofs.lemmas.Grind.{common_steps}
 use Rattle.std.proofs.lemmas.List.{length-map, map-append}

@@ -1,4 +1,4 @@
--- The kept values of a tree are those of the slots that are kept.
+-- Crates above cite this module: the kept values of a tree are those of the slots that are kept.
 use Rattle.std.proofs.Common.{◌≡◌, ℕ, zero, suc, ◌+◌, List, [], ◌∷◌, ◌++◌, length, refl, sym, ◌∙◌, ap, arith, Bool, true, false, append-nil}
 use Rattle.fc_values.specs.Values.{LocalValue, IntValue, BoolValue, PairValue}
 use Rattle.fc_values.specs.Exports.{SlotValue, FlatExport, slot_at}
