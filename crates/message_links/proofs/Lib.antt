@@ -1,5 +1,6 @@
 pub mod Reaching
 pub mod Along
+pub mod MailRuns
 mod Posts
 pub mod Firings
 mod MailLevels

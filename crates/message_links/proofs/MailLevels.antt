@@ -10,10 +10,8 @@ use Rattle.fc_values.proofs.Booleans.{or_true}
 use Rattle.fc_values.specs.Trees.{TreeExport, Copy}
 use Rattle.value_trees.specs.Copies.{FitsCopy}
 use Rattle.fc_nodes.specs.Program.{Program, Unfolding, unfolding_of, IsProgram}
-use Rattle.topology.specs.Networks.{Network, IsNetwork, Lives, near, numbers}
+use Rattle.topology.specs.Networks.{Network, IsNetwork, Lives, near}
 use Rattle.topology.specs.Nearby.{near_numbers}
-use Rattle.topology.proofs.Lemmas.{AllNear, near_fits}
-use Rattle.fc_values.specs.Types.{Declarations}
 use Rattle.firing_core.specs.Entries.{BeginEntry, EndEntry}
 use Rattle.firing_core.specs.Cores.{Map as Table, Core, put, near_copies, copy_of, begun, StepSeeing, Ends, GoodExport, GoodFlight, IsGood}
 use Rattle.firing_core.specs.Laws.{StepsKeepGood, CopiesFit}
@@ -22,6 +20,7 @@ use Rattle.converge_laws.specs.CoreLevels.{ExportLevel, MaybeAt, AtLevel, Raises
 use Rattle.message_links.specs.MailCores.{Reaches, reaches, Message, Pairs, put_pair, MailCore, MailEntryValue, MailBegin, MailEnd, MailIdle, MailDeliver, MailAgain, MailLose, most, rest_of, without, pushed, sees, MailStep, MailRun}
 use Rattle.message_links.specs.MailRounds.{posts_of, oldest_post}
 use Rattle.message_links.proofs.Posts.{pair_case}
+use Rattle.message_links.proofs.Reaching.{sender}
 use Rattle.message_links.proofs.Firings.{flies_after, flies_along, fired_after, fired_along, flies_more, fired_more}
 
 near_same : (f g : Table TreeExport) (ns : List (ℕ × ℕ)) → ((n : ℕ) → is_in n (near_numbers ns) ≡ true → f n ≡ g n) → near_copies f ns ≡ near_copies g ns
@@ -32,31 +31,10 @@ near_same f g (n ∷ ns) h =
     let r = near_same f g ns (λ m i. h m (or_true (nat_eq m n.0) (is_in m (near_numbers ns)) i)) in
     rw (e, r) refl
 
--- a step keeps the network
-pub step_net : (U : Unfolding) (at : ℕ) (c next : MailCore) (e : MailEntryValue) → MailStep U at c e next → next.core.net ≡ c.core.net
-step_net U at c next (MailBegin d) s = ap (λ (x : MailCore). x.core.net) s.2 ∙ ap (λ (x : Core). x.net) s.1.2
-step_net U at c next (MailEnd d) s = ap (λ (x : Core). x.net) s.ends.after
-step_net U at c next MailIdle s = ap (λ (x : MailCore). x.core.net) s
-step_net U at c next (MailDeliver a b) s = ap (λ (x : MailCore). x.core.net) s.after
-step_net U at c next (MailAgain a b) s = ap (λ (x : MailCore). x.core.net) s.after
-step_net U at c next (MailLose a b i) s = ap (λ (x : MailCore). x.core.net) s.after
-
-near_there : (D : Declarations) (ds : List ℕ) (a b : ℕ) (ns : List (ℕ × ℕ)) → AllNear D ds b ns → is_in a (near_numbers ns) ≡ true → is_in a ds ≡ true
-near_there D ds a b [] all h = absurd cc
-near_there D ds a b (n ∷ ns) all h = by_test (nat_eq a n.0) refl h (near_there D ds a b ns all.1)
-  where
-    by_test : (t : Bool) → nat_eq a n.0 ≡ t → (t || is_in a (near_numbers ns)) ≡ true → (is_in a (near_numbers ns) ≡ true → is_in a ds ≡ true) → is_in a ds ≡ true
-    by_test true q i ih = let e = eqb-true a n.0 q in rw e all.0.there
-    by_test false q i ih = ih i
-
 module _ (keeps : StepsKeepGood) (fit : CopiesFit) (P : ExportLevel) (p : Program) (N : Network) (program : IsProgram p) (net : IsNetwork N) (same : N.declared ≡ p.declared)
     (r : Raises P (unfolding_of p) N) (begins : LevelsBegin P (unfolding_of p) N) (steps : LevelsOfSteps P (unfolding_of p) N) where
   abbrev U : Unfolding
   U = unfolding_of p
-
-  -- the sender of a message is there
-  sender : (a b : ℕ) → Reaches N a b → Lives N a
-  sender a b h = near_there N.declared (numbers N.devices) a b (near N b) (near_fits N.declared (numbers N.devices) b N.links net.links) h
 
   -- an export of a device at a level
   abbrev At : ℕ → ℕ → TreeExport → Type 0
@@ -337,7 +315,7 @@ module _ (keeps : StepsKeepGood) (fit : CopiesFit) (P : ExportLevel) (p : Progra
           fresh = λ a q. by_flight up k a (nat_eq d a) refl (sym (flies_more a false front (MailBegin d ∷ [])) ∙ q);
           fired = λ a l q. up.fired a (BeginEntry d) refl l k (w.fired a l (sym (fired_more a false false front (MailBegin d ∷ [])) ∙ q));
           heard = w.heard;
-          pair = λ a b l. mixed_map (HasFired P U N j a c.core) (HasFired P U N j a s.0) a (c.transit a b) (up.fired a (BeginEntry d) refl (sender a b l) k) (w.pair a b l);
+          pair = λ a b l. mixed_map (HasFired P U N j a c.core) (HasFired P U N j a s.0) a (c.transit a b) (up.fired a (BeginEntry d) refl (sender N net a b l) k) (w.pair a b l);
         })
       where
         by_flight : StepsRaise P U N j (seen c) c.core s.0 → StepSeeing U (seen c) c.core (BeginEntry d) s.0 → (a : ℕ) (t : Bool) → nat_eq d a ≡ t → (if t then true else flies_along a false front) ≡ true → IsFresh P U N j a s.0
@@ -399,7 +377,7 @@ module _ (keeps : StepsKeepGood) (fit : CopiesFit) (P : ExportLevel) (p : Progra
         )
 
         stays : (a b : ℕ) → Reaches N a b → Mixed a (HasFired P U N j a next.core) (c.transit a b)
-        stays a b l = mixed_map (HasFired P U N j a c.core) (HasFired P U N j a next.core) a (c.transit a b) (up.fired a (EndEntry d) refl (sender a b l) s.ends) (w.pair a b l)
+        stays a b l = mixed_map (HasFired P U N j a c.core) (HasFired P U N j a next.core) a (c.transit a b) (up.fired a (EndEntry d) refl (sender N net a b l) s.ends) (w.pair a b l)
 
         by_link : (a b : ℕ) → Reaches N a b → (t : Bool) → nat_eq a d ≡ t → (k : Bool) → Mixed a (HasFired P U N j a next.core) (if t && k then pushed (c.transit a b) m else c.transit a b)
         by_link a b l true t true =
@@ -416,7 +394,7 @@ module _ (keeps : StepsKeepGood) (fit : CopiesFit) (P : ExportLevel) (p : Progra
         → Within (front ++ e ∷ []) (record { core = c.core; heard = put_pair c.heard x y (Some m.export); transit = put_pair c.transit x y stay })
     hears_within front c e x y m ms stay w fl fi there moves =
         on_links front c e (put_pair c.heard x y (Some m.export)) (put_pair c.transit x y stay) w fl fi
-        (λ a b l. pair_case (HeardAt j a) c.heard x y (Some m.export) a b (λ p q. some_heard j a m.export (oldest_at (HasFired P U N j a c.core) a m ms (sender a b l) (messages a b p q l))) (w.heard a b l))
+        (λ a b l. pair_case (HeardAt j a) c.heard x y (Some m.export) a b (λ p q. some_heard j a m.export (oldest_at (HasFired P U N j a c.core) a m ms (sender N net a b l) (messages a b p q l))) (w.heard a b l))
         (λ a b l. pair_case (Mixed a (HasFired P U N j a c.core)) c.transit x y stay a b (λ p q. moves a (messages a b p q l)) (w.pair a b l))
       where
         messages : (a b : ℕ) → a ≡ x → b ≡ y → Reaches N a b → Mixed a (HasFired P U N j a c.core) (m ∷ ms)
@@ -446,13 +424,13 @@ module _ (keeps : StepsKeepGood) (fit : CopiesFit) (P : ExportLevel) (p : Progra
     renewed_step front c next (MailBegin d) a b l w s n =
         let h = heard_of front c w in
         let k = begins_seen j c s.0 h d s.1 in
-        subst (Renewed a b) (sym s.2) (record { fired = (step_of j c s.0 h).fired a (BeginEntry d) refl (sender a b l) k n.fired; heard = n.heard; transit = n.transit })
+        subst (Renewed a b) (sym s.2) (record { fired = (step_of j c s.0 h).fired a (BeginEntry d) refl (sender N net a b l) k n.fired; heard = n.heard; transit = n.transit })
     renewed_step front c next (MailEnd d) a b l w s n =
         let h = heard_of front c w in
         let up = step_of j c next.core h in
         let good = good_end j c next.core h d s.ends in
         let level = up.level (EndEntry d) refl good s.ends in
-        let fired = up.fired a (EndEntry d) refl (sender a b l) s.ends n.fired in
+        let fired = up.fired a (EndEntry d) refl (sender N net a b l) s.ends n.fired in
         record {
           fired = fired;
           heard = subst (λ f. HeardAt (suc j) a (f a b)) (sym s.heard) n.heard;

@@ -10,9 +10,10 @@ use Rattle.converge_laws.specs.Verdicts.{YesRaises, level_by}
 use Rattle.message_links.specs.MailCores.{Reaches, Message, MailCore, MailEntryValue, MailStep, MailRun, AreOld, IsMailStart}
 use Rattle.message_links.specs.MailRounds.{Posts, posts_of, posts_after, posts_along, oldest_post, EndsOwnBegin, CoversMail, HasMailRounds}
 use Rattle.message_links.specs.Laws.{YesStabilisesMail}
+use Rattle.message_links.proofs.MailRuns.{step_net}
 use Rattle.message_links.proofs.Posts.{SamePosts, along_same, step_posts}
 use Rattle.message_links.proofs.Firings.{flies_along, fired_along, fired_more, fired_stays, has_fired, own_flies}
-use Rattle.message_links.proofs.MailLevels.{MailAt, HeardAt, AllAt, AllBelow, Below, step_below, Within, start_within, step_within, next_place, run_within, Renewed, brought, run_renewed, some_heard, step_net}
+use Rattle.message_links.proofs.MailLevels.{MailAt, HeardAt, AllAt, AllBelow, Below, step_below, Within, start_within, step_within, next_place, run_within, Renewed, brought, run_renewed, some_heard}
 
 run_cut : (U : Unfolding) (at : ℕ) (c last : MailCore) (xs ys : List MailEntryValue) → MailRun U at c (xs ++ ys) last
     → (m : MailCore) × MailRun U at c xs m × MailRun U (at + length xs) m ys last
@@ -21,10 +22,6 @@ run_cut U at c last (x ∷ xs) ys s =
     let k = run_cut U (suc at) s.0 last xs ys s.2 in
     let z : suc at + length xs ≡ at + suc (length xs) = omega arith in
     (k.0, (s.0, s.1, k.1), subst (λ n. MailRun U n k.0 ys last) z k.2)
-
-run_net : (U : Unfolding) (at : ℕ) (c last : MailCore) (es : List MailEntryValue) → MailRun U at c es last → last.core.net ≡ c.core.net
-run_net U at c last [] s = ap (λ (x : MailCore). x.core.net) s
-run_net U at c last (e ∷ es) s = run_net U (suc at) s.0 last es s.2 ∙ step_net U at c s.0 e s.1
 
 run_posts : (U : Unfolding) (N : Network) (at : ℕ) (p : Posts) (c last : MailCore) (es : List MailEntryValue) → c.core.net ≡ N → SamePosts p (posts_of c) → MailRun U at c es last → SamePosts (posts_along N at p es) (posts_of last)
 run_posts U N at p c last [] n k s a b = k a b ∙ sym (ap (λ (x : MailCore). posts_of x a b) s)

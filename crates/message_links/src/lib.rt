@@ -6,4 +6,4 @@ mod entries;
 mod laws;
 
 pub use entries::{MailEntry, MailFault, MailReplay};
-pub use laws::mail_stabilises;
+pub use laws::{mail_stabilises, yes_stabilises_mail};
