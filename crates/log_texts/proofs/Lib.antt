@@ -1,0 +1,8 @@
+mod Words
+mod Numbers
+mod Values
+mod Inputs
+mod KeptValues
+mod Edits
+mod Lines
+mod Logs
