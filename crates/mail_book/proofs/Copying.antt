@@ -1,5 +1,5 @@
 -- Copies of rows, and rows in which nothing was heard and nothing is in transit.
-use Rattle.std.proofs.Common.{◌≡◌, ℕ, zero, suc, ◌<◌, List, [], ◌∷◌, ◌++◌, length, map, get_or, take, refl, sym, ◌∙◌, ap, subst, arith, Bool, true, false, nat_eq, if◌then◌else◌, Option, Some, None}
+use Rattle.std.proofs.Common.{◌≡◌, ℕ, suc, List, [], ◌∷◌, ◌++◌, length, map, refl, sym, ◌∙◌, ap, subst, Bool, true, false, nat_eq, if◌then◌else◌, Option, Some, None}
 use Rattle.std.specs.Prelude.{option_map}
 use Rattle.std.proofs.Math.Path.{fun_ext}
 use Rattle.fc_values.specs.declared.exports.Export.{Export}
@@ -9,13 +9,13 @@ use Rattle.fc_nodes.specs.Flat.{tree_export, IsExport}
 use Rattle.value_trees.specs.Copies.{WhereSome}
 use Rattle.value_trees.specs.Snaps.{tree_of, IsExportOf}
 use Rattle.topology.specs.Networks.{Network, numbers, near}
-use Rattle.firing_core.specs.Cores.{Core, IsGood}
+use Rattle.firing_core.specs.Cores.{Core}
 use Rattle.firing_core.specs.CoreViews.{CoreValue, core_of, program_of}
-use Rattle.message_links.specs.MailCores.{Message as MailMessage, MailCore, Pairs, IsMailStart}
+use Rattle.message_links.specs.MailCores.{Message as MailMessage, MailCore}
 use Rattle.mail_book.specs.declared.letters.Letters.{Letters}
 use Rattle.mail_book.specs.declared.letters.Message.{Message}
 use Rattle.mail_book.specs.Pairs.{item_at, at_pair, AreRows}
-use Rattle.mail_book.specs.Letters.{letter_of, message_of, heard_of, transit_of, AreLetters, AllMessages, AllLetters, IsQuiet, AllQuiet, SameLetters, SameRow}
+use Rattle.mail_book.specs.Letters.{letter_of, message_of, heard_of, transit_of, AllMessages, AllLetters, IsQuiet, AllQuiet, SameLetters, SameRow}
 use Rattle.mail_book.specs.Rows.{heard_rows, transit_rows, heard_at, transit_at, AllRows, AreQuiet, SameRows}
 use Rattle.mail_book.specs.MailViews.{mail_with, mail_of, IsMail, quiet}
 
@@ -170,10 +170,6 @@ quiet_mail c rows a =
     let transit : transit_at (program_of c) c.net rows ≡ (λ x y. []) = fun_ext (λ x. fun_ext (λ y. quiet_row_transit (program_of c) _ (numbers c.net.devices) rows y x a)) in
     ap (λ f. let m : MailCore = record { core = core_of c; heard = f; transit = transit_at (program_of c) c.net rows } in m) heard
     ∙ ap (λ f. let m : MailCore = record { core = core_of c; heard = λ x y. None; transit = f } in m) transit
-
--- a good core in which nothing was heard and nothing is in transit may start a log
-pub quiet_start : (U : Unfolding) (c : Core) → IsGood U c → IsMailStart U (quiet c)
-quiet_start U c good = record { good = good; heard = λ a b e q. absurd cc; transit = λ a b. tt; few = λ a b. omega arith }
 
 pub quiet_more : (r : List Letters) (l : Letters) → AllQuiet r → IsQuiet l → AllQuiet (r ++ l ∷ [])
 quiet_more [] l a k = (k, tt)

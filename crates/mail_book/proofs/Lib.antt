@@ -3,10 +3,12 @@ pub mod Taking
 pub mod PairLookups
 pub mod LetterWrites
 pub mod MessageSteps
+pub mod PairWrites
 pub mod Sights
 pub mod Posting
 pub mod Ending
 pub mod Copying
+pub mod QuietStarts
 pub mod Replayed
 pub mod HeardNear
 pub mod MailGood

@@ -4,7 +4,8 @@ use Rattle.message_links.specs.MailCores.{MailCore, IsMailStart}
 use Rattle.firing_core.specs.CoreViews.{core_of, program_of}
 use Rattle.mail_book.specs.Pairs.{AreRows}
 use Rattle.mail_book.specs.Rows.{lists_of}
-use Rattle.mail_book.proofs.Copying.{quiet_rows, quiet_mail, quiet_start}
+use Rattle.mail_book.proofs.Copying.{quiet_rows, quiet_mail}
+use Rattle.mail_book.proofs.QuietStarts.{quiet_start}
 use Rattle.mail_book.proofs.mails.Mail.new.Goals as goal
 
 pub invariant_of-result : goal.invariant_of-result
