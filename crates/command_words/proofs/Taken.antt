@@ -1,6 +1,6 @@
 -- How the settings of words are read, word by word.
 use Rattle.std.proofs.Math.Seq.{drop-cons}
-use Rattle.std.proofs.Common.{ℕ, suc, ◌≡◌, ◌+◌, ◌<◌, map, drop, length, slice_index_or, add-one, List, [], ◌∷◌, ◌++◌, refl, sym, ap, ◌∙◌, Option, Some, None, option_map, append_assoc, append-nil}
+use Rattle.std.proofs.Common.{ℕ, suc, ◌≡◌, ◌+◌, ◌<◌, map, drop, length, slice_index_or, add-one, List, [], ◌∷◌, ◌++◌, refl, sym, ap, ◌∙◌, Option, Some, None, option_map, append_assoc}
 use Rattle.command_words.specs.declared.settings.Setting.{Setting}
 use Rattle.command_words.specs.declared.settings.Numbered.{Numbered}
 use Rattle.command_words.specs.declared.settings.Setting.TheVariants as set
@@ -55,9 +55,6 @@ pub sets_nothing : (read : List Setting) (word : List ℕ) (left words : List (L
 sets_nothing read word left words e n t =
     ap (all_from read None) e ∙ ap (option_map (λ more. read ++ more)) (of_word word words (sym n))
     ∙ ap (λ m. option_map (λ more. read ++ more) (before m (settings_of words))) (sym t)
-
-pub all_read : (read : List Setting) → all_from read None [] ≡ Some read
-all_read read = ap Some (append-nil read)
 
 -- the list from an index on is the element there and the list after it
 pub front : {A : Type 0} (f : A → List ℕ) (words : List A) (i : ℕ) (word : A) → i < length words → word ≡ slice_index_or words i word

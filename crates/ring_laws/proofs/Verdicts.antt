@@ -1,5 +1,5 @@
 -- The verdict on the program of a ring.
-use Rattle.std.proofs.Common.{ℕ, ◌≡◌, ◌≤◌, ◌+◌, ◌*◌, ◌-◌, min, max, refl, sym, ap, ap₂, subst, ◌∙◌, arith, None}
+use Rattle.std.proofs.Common.{ℕ, ◌≡◌, ◌≤◌, ◌+◌, ◌*◌, ◌-◌, min, max, ap, ap₂, ◌∙◌, arith, None}
 use Rattle.std.specs.declared.result.Result.{Result}
 use Rattle.std.specs.declared.result.Result.TheVariants.{Ok}
 use Rattle.fc_nodes.specs.declared.verdicts.Reason.{Reason}
@@ -8,7 +8,7 @@ use Rattle.fc_nodes.specs.declared.verdicts.Verdict.TheVariants as verdict
 use Rattle.fc_nodes.specs.Program.{Program, Unfolding, unfolding_of}
 use Rattle.fc_nodes.specs.Terms.{Term, ByRep, size, term_at}
 use Rattle.interval_facts.specs.Ranges.{RangeValue, IntRange, range_of}
-use Rattle.growth_facts.specs.Growth.{GrowthValue, Grows, growth_of}
+use Rattle.growth_facts.specs.Growth.{Grows, growth_of}
 use Rattle.growth_facts.specs.Leads.{least_integer}
 use Rattle.fragment_check.specs.declared.kinds.Pattern.{Pattern}
 use Rattle.fragment_check.specs.declared.kinds.Pattern.TheVariants as pattern
@@ -19,12 +19,6 @@ use Rattle.ring_laws.specs.RingTerms.{near_term, ring_main, ring_unfolding}
 use Rattle.ring_laws.specs.Laws.{RingsStabilise}
 
 -- ---- ranges: of `nbrLink`, and of what a device takes where nothing is near
-link_range : (count : ℕ) → range_of (ring_unfolding count) 6 ≡ IntRange 1 1
-link_range count = refl
-
-own_range : (count : ℕ) → range_of (ring_unfolding count) 7 ≡ IntRange (min 0 count) (max 0 count)
-own_range count = refl
-
 -- ---- growth: what is heard of the variable, and 1 more
 growth : (count : ℕ) (R : ℕ → RangeValue) → 3 ≤ count → R 6 ≡ IntRange 1 1
     → growth_of count R ByRep 0 3 near_term ≡ Grows 1
@@ -40,9 +34,6 @@ pattern_is count R h link own =
     ap₂ (minimising count) (growth count R h link) own ∙ ap (λ m. Ok (pattern.Minimising m 1)) top
 
 -- ---- levels: that of the body, and what the pattern adds
-level : (count : ℕ) (K : Stages) (x : ℕ) → level_of K 0 1 x (λ q. 0) (ring_main count) ≡ 2 + K 0
-level count K x = refl
-
 added : (count n : ℕ) (W : ℕ → RangeValue) (r : Result Pattern Reason) → r ≡ Ok (pattern.Minimising count 1)
     → added_by n W ByRep r ≡ 2 * count
 added count n W r e = ap (added_by n W ByRep) e ∙ omega arith
