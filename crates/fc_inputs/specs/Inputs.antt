@@ -1,5 +1,8 @@
 -- What every command over a scene reads: a program, and a scene of it.
 use Rattle.std.specs.Prelude.{ℕ, ◌≡◌, ◌≤◌, List, length}
+use Rattle.std.specs.List.{All}
+use Rattle.fc_values.specs.Names.{IsName}
+use Rattle.fc_values.specs.Types.{Input}
 use Rattle.fc_syntax.specs.Terms.{Declaration}
 use Rattle.fc_nodes.specs.Program.{IsProgram, Program, Unfolding, unfolding_of}
 use Rattle.net_json.specs.Judging as scene
@@ -40,9 +43,13 @@ OneInput =
     (program network : List ℕ) → (j : Judged InputOf) × ReadsInput program network j
     × ((k : Judged InputOf) → ReadsInput program network k → k ≡ j)
 
--- ---- and what a text unfolds to is a program of nodes
+-- ---- what a text unfolds to is a program of nodes, and its inputs have names of the language
 
 abbrev pub TextsUnfold : Type 0
 TextsUnfold =
     (text : List ℕ) (U : Unfolding) → length text ≤ MOST_BYTES → IsProgramText text U
     → (P : Program) × IsProgram P × (unfolding_of P ≡ U)
+
+abbrev pub TextsNameInputs : Type 0
+TextsNameInputs =
+    (text : List ℕ) (U : Unfolding) → IsProgramText text U → All (λ (i : Input). IsName i.name) U.declared.inputs

@@ -1,6 +1,6 @@
 //! Laws of the definitions.
 
-ghost use Rattle.fc_inputs.specs.Inputs.{OneInput, OneProgramText, OneSource, TextsUnfold};
+ghost use Rattle.fc_inputs.specs.Inputs.{OneInput, OneProgramText, OneSource, TextsNameInputs, TextsUnfold};
 ghost use Rattle.fc_inputs.specs.Sections.{SectionsAreWithin};
 
 use fc_lexer::{one_reading, spans_rise};
@@ -40,6 +40,13 @@ pub fn texts_unfold()
     derived_is_printable();
     few_declarations();
     programs_unfold();
+}
+
+/// The inputs of a program's text have names of the language.
+pub fn texts_name_inputs()
+    ensures { TextsNameInputs }
+{
+    derived_is_printable();
 }
 
 /// No section is longer than its input.

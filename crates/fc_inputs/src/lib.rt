@@ -15,7 +15,9 @@ mod tests;
 
 pub use cutting::{one_section, sections, three_sections, two_sections};
 pub use inputs::read_input;
-pub use laws::{one_input, one_program_text, one_source, sections_are_within, texts_unfold};
+pub use laws::{
+    one_input, one_program_text, one_source, sections_are_within, texts_name_inputs, texts_unfold,
+};
 pub use refusal::{LineFault, Refusal, log_refusal, script_refusal};
 pub use reply::{Failure, Reply, rendered};
 pub use sources::{MOST_BYTES, read_program, read_source};

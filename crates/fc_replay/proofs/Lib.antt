@@ -4,6 +4,7 @@ pub mod Entries
 pub mod Stops
 pub mod Replaying
 pub mod Resuming
+pub mod Rereading
 pub mod OneReplay
 pub mod SomeReplay
 pub mod Rooms

@@ -1,5 +1,5 @@
 -- Texts are replayed to something.
-use Rattle.std.proofs.Common.{ℕ, ◌≡◌, ◌<◌, ◌≤◌, Bool, true, false, List, [], ◌∷◌, ◌++◌, length, map, refl, ap, ◌∙◌, sym, subst, arith, Option, Some, None}
+use Rattle.std.proofs.Common.{ℕ, ◌≡◌, ◌<◌, ◌≤◌, Bool, true, false, List, [], ◌∷◌, ◌++◌, length, refl, ap, ◌∙◌, sym, subst, arith, Option, Some, None}
 use Rattle.std.specs.Prelude.{if◌then◌else◌, nat_eq}
 use Rattle.std.specs.List.{All}
 use Rattle.std.proofs.lemmas.Bool.{eqb-true}
@@ -30,9 +30,8 @@ use Rattle.edit_commands.specs.Logs.{LogLine, log_of, IsEntry}
 use Rattle.report.specs.Texts.{values_text}
 use Rattle.report.specs.Verdicts.{rounds_text}
 use Rattle.fc_inputs.specs.declared.refusal.LineFault.{LineFault}
-use Rattle.fc_inputs.specs.declared.sources.TheConstants.{MOST_BYTES}
 use Rattle.fc_inputs.specs.Refusals.{log_refusal}
-use Rattle.fc_inputs.specs.Causes.{Cause, Plainly, Judged, Accepted, Refused, AndThen}
+use Rattle.fc_inputs.specs.Causes.{Plainly, Judged, Accepted, Refused, AndThen}
 use Rattle.fc_inputs.specs.Sources.{IsProgramText, ReadsProgram}
 use Rattle.fc_inputs.specs.Inputs.{InputOf, OneInput, ReadsInput, TextsUnfold, with_scene}
 use Rattle.fc_replay.specs.declared.replays.Options.{Options}

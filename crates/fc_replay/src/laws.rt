@@ -2,10 +2,12 @@
 
 ghost use Rattle.fc_replay.specs.Laws.{InputsStart, OneReplay, SomeReplay};
 ghost use Rattle.fc_replay.specs.Resuming.{TablesResume};
+ghost use Rattle.fc_replay.specs.WrittenLogs.{WrittenLogsReplay};
 
 use edit_commands::{logs_have_entries, readings_agree};
-use fc_inputs::{one_input, texts_unfold};
+use fc_inputs::{one_input, texts_name_inputs, texts_unfold};
 use firing_core::{faultless_steps, steps_agree, steps_keep_good};
+use log_texts::logs_read_back;
 use net_json::{accepted_scenes_fit, tables_read_back};
 use round_count::some_greatest;
 
@@ -37,6 +39,18 @@ pub fn tables_resume()
     ensures { TablesResume }
 {
     tables_read_back();
+}
+
+/// The lines of a log that leads from a scene to a core, given back as the log of the same program and scene, are
+/// replayed to this core, and its values are shown.
+pub fn written_logs_replay()
+    ensures { WrittenLogsReplay }
+{
+    one_input();
+    inputs_start();
+    texts_unfold();
+    texts_name_inputs();
+    logs_read_back();
 }
 
 /// An accepted input is the program of its text, and a scene that starts a good core of it.

@@ -1,0 +1,32 @@
+-- A log that was written, given back as the log of the same program and scene.
+use Rattle.std.specs.Prelude.{ℕ, ◌≡◌, ◌≤◌, List, length}
+use Rattle.fc_nodes.specs.Program.{Unfolding}
+use Rattle.firing_core.specs.Cores.{Core, Run}
+use Rattle.firing_core.specs.Entries.{EntryValue}
+use Rattle.edit_commands.specs.Agreement.{SameEntries}
+use Rattle.edit_commands.specs.LineByLine.{WhereAccepted}
+use Rattle.log_texts.specs.ReadingBack.{log_lines}
+use Rattle.fc_inputs.specs.declared.sources.TheConstants.{MOST_BYTES}
+use Rattle.fc_inputs.specs.Causes.{Judged, Accepted}
+use Rattle.fc_inputs.specs.Inputs.{InputOf, ReadsInput}
+use Rattle.fc_replay.specs.declared.replays.Options.{Options}
+use Rattle.fc_replay.specs.Replays.{Shown, IsText, Replays, start_of}
+
+-- A replay shows a log that leads from a start to a core: it has the same entries, but for what a poked export holds at
+-- the places of a branch that isn't taken, the same core, and the text of the core's values with what is asked for.
+pub record ShowsLog (options : Options) (U : Unfolding) (start : Core) (log : List EntryValue) (last : Core) (s : Shown)
+    : Type 0 where
+  pub program : s.book.program ≡ U
+  pub begins : s.book.start ≡ start
+  pub same : SameEntries U log s.book.log
+  pub core : s.book.core ≡ last
+  pub says : IsText options s.book s.text
+
+-- The lines of each log that leads from an accepted scene to a core are replayed so, and never refused. That program,
+-- scene and lines are together an input within its limit of bytes isn't said here.
+abbrev pub WrittenLogsReplay : Type 0
+WrittenLogsReplay =
+    (options : Options) (program network : List ℕ) (i : InputOf) (log : List EntryValue) (last : Core)
+    (j : Judged Shown) → length program ≤ MOST_BYTES → ReadsInput program network (Accepted i)
+    → Run i.0 (start_of i.1) log last → Replays options program network (log_lines i.0.declared.inputs log) j
+    → WhereAccepted (ShowsLog options i.0 (start_of i.1) log last) j
