@@ -14,10 +14,11 @@ use Rattle.firing_core.specs.Entries.{EditValue, LinkEdit, UnlinkEdit, SetEdit, 
 use Rattle.firing_core.specs.Cores.{Core, Step, copy_of, edit_fault, EditFits}
 use Rattle.firing_core.specs.CoreViews.{CoreValue, core_of, rooms_of, mark}
 use Rattle.firing_core.specs.Books.{BookValue, IsBook, AppendsEntry}
+use Rattle.firing_core.specs.Refusals.{TakesNone}
 use Rattle.export_table.specs.Items.{Opening}
 use Rattle.export_table.specs.Begins.{begun_in, IsNext}
-use Rattle.export_table.specs.Agendas.{AgendaValue, IsAgenda, IsWithin, begun_by, is_ready, after_begin, after_end, after_change}
-use Rattle.export_table.specs.Changes.{NamesDevice, change_by, after_view}
+use Rattle.export_table.specs.Agendas.{AgendaValue, IsAgenda, IsWithin, Grows, begun_by, is_ready, after_begin, after_end, after_change}
+use Rattle.export_table.specs.Changes.{JoinsNumber, HasPlace, NamesPlace, IsJoin, change_by, after_view}
 use Rattle.export_table.proofs.Planning.{can_leave}
 use Rattle.export_table.specs.Holding.{HeldValue, IsHeld, Plans, Turned, NothingLeft, BeginsWithin, opening_in, log_in}
 
@@ -109,29 +110,49 @@ roomy_edit U c c' x r step marks e s flies = ap (λ f. f e) marks ∙ r e s (by_
 
 -- ---- what the agenda answers
 
-pub next_is : (o : Opening) (log : List EntryValue) (c : Core) (a : AgendaValue) (d : ℕ) → Plans o log c a → (d < 65536) × (is_ready a d ≡ true) → ((e : ℕ) → e < d → is_ready a e ≡ false) → IsNext o log c d
-next_is o log c a d p some small = record {
-  may = (p.ready d some.0).0 some.1;
-  smallest = λ e l m. false≢true (sym (small e l) ∙ (p.ready e (omega (arith, l, some.0))).1 m);
+pub next_is : (o : Opening) (log : List EntryValue) (c : Core) (a : AgendaValue) (d : ℕ) → Plans o log c a → IsAgenda a → (d < length a.begun) × (is_ready a d ≡ true) → ((e : ℕ) → e < d → is_ready a e ≡ false) → IsNext o log c d
+next_is o log c a d p w some small = record {
+  may = (p.ready d (omega (arith, w.few, some.0))).0 some.1;
+  smallest = λ e l m. false≢true (sym (small e l) ∙ (p.ready e (omega (arith, l, w.few, some.0))).1 m);
 }
 
-pub none_left : (o : Opening) (log : List EntryValue) (c : Core) (a : AgendaValue) → Plans o log c a → IsNetwork c.net → ((e : ℕ) → e < 65536 → is_ready a e ≡ false) → NothingLeft o log c
+pub none_left : (o : Opening) (log : List EntryValue) (c : Core) (a : AgendaValue) → Plans o log c a → IsNetwork c.net → ((e : ℕ) → is_ready a e ≡ false) → NothingLeft o log c
 none_left o log c a p k none d there rests = by_test (nat_lt (begun_in o log d) o.rounds) refl
   where
     low : d < 65536
     low = lives_below c.net d k there
 
     by_test : (b : Bool) → nat_lt (begun_in o log d) o.rounds ≡ b → o.rounds ≤ begun_in o log d
-    by_test true t = absurd (false≢true (sym (none d low) ∙ (p.ready d low).1 (record { there = there; rests = rests; some = ltb-true (begun_in o log d) o.rounds t })))
+    by_test true t = absurd (false≢true (sym (none d) ∙ (p.ready d low).1 (record { there = there; rests = rests; some = ltb-true (begun_in o log d) o.rounds t })))
     by_test false t = ltb-false (begun_in o log d) o.rounds t
 
-pub change_named : (n : Network) (c : Core) (x : EditValue) (U : Unfolding) → c.net ≡ n → IsNetwork n → EditFits U x → edit_fault c x ≡ None → NamesDevice (change_by x)
-change_named n c (LinkEdit a b w) U same k fits ok = tt
-change_named n c (UnlinkEdit a b) U same k fits ok = tt
-change_named n c (SetEdit d i v) U same k fits ok = tt
-change_named n c (PokeEdit d e) U same k fits ok = tt
-change_named n c (JoinEdit y) U same k fits ok = omega (arith, fits)
-change_named n c (LeaveEdit d) U same k fits ok = lives_below n d k (subst (λ (m : Network). Lives m d) same (can_leave c d ok))
+pub joins_number : (x : EditValue) (U : Unfolding) → EditFits U x → JoinsNumber (change_by x)
+joins_number (LinkEdit a b w) U fits = tt
+joins_number (UnlinkEdit a b) U fits = tt
+joins_number (SetEdit d i v) U fits = tt
+joins_number (PokeEdit d e) U fits = tt
+joins_number (JoinEdit y) U fits = omega (arith, fits)
+joins_number (LeaveEdit d) U fits = tt
+
+pub names_place : (a : AgendaValue) (c : Core) (x : EditValue) → ((d : ℕ) → Lives c.net d → d < length a.begun) → HasPlace a (change_by x) → edit_fault c x ≡ None → NamesPlace a (change_by x)
+names_place a c (LinkEdit x y w) places place ok = tt
+names_place a c (UnlinkEdit x y) places place ok = tt
+names_place a c (SetEdit d i v) places place ok = tt
+names_place a c (PokeEdit d e) places place ok = tt
+names_place a c (JoinEdit y) places place ok = place
+names_place a c (LeaveEdit d) places place ok = places d (can_leave c d ok)
+
+-- only a join asks for memory
+pub takes_some : (x : EditValue) → IsJoin (change_by x) → TakesNone x → ⊥
+takes_some (LinkEdit a b w) join none = join
+takes_some (UnlinkEdit a b) join none = join
+takes_some (SetEdit d i v) join none = join
+takes_some (PokeEdit d e) join none = join
+takes_some (JoinEdit y) join none = none
+takes_some (LeaveEdit d) join none = join
+
+pub within_grow : (a b : AgendaValue) → Grows a b → IsWithin a → IsWithin b
+within_grow a b g w d = let n = w d in let s = g.begun d in let r = g.rounds in omega (arith, n, s, r)
 
 pub after_change_is : (a : AgendaValue) (x : EditValue) → after_view a (change_by x) ≡ after_change a x
 after_change_is a (LinkEdit b c w) = refl
@@ -150,18 +171,18 @@ rounds_stay a (JoinEdit y) = refl
 rounds_stay a (LeaveEdit d) = refl
 
 pub whole_begin : (a : AgendaValue) (d : ℕ) → IsAgenda a → IsAgenda (after_begin a d)
-whole_begin a d w = record { begun = length-set a.begun d (begun_by a d + 1) ∙ w.begun; ready = length-set a.ready d false ∙ w.ready }
+whole_begin a d w = record { same = omega (arith, length-set a.begun d (begun_by a d + 1), length-set a.ready d false, w.same); few = omega (arith, length-set a.begun d (begun_by a d + 1), w.few) }
 
 pub whole_end : (a : AgendaValue) (d : ℕ) → IsAgenda a → IsAgenda (after_end a d)
-whole_end a d w = record { begun = w.begun; ready = length-set a.ready d (nat_lt (begun_by a d) a.rounds) ∙ w.ready }
+whole_end a d w = record { same = length-set a.ready d (nat_lt (begun_by a d) a.rounds) ∙ w.same; few = w.few }
 
 pub whole_change : (a : AgendaValue) (x : EditValue) → IsAgenda a → IsAgenda (after_change a x)
 whole_change a (LinkEdit b c v) w = w
 whole_change a (UnlinkEdit b c) w = w
 whole_change a (SetEdit d i v) w = w
 whole_change a (PokeEdit d e) w = w
-whole_change a (JoinEdit y) w = record { begun = length-set a.begun y.id 0 ∙ w.begun; ready = length-set a.ready y.id (nat_lt 0 a.rounds) ∙ w.ready }
-whole_change a (LeaveEdit d) w = record { begun = w.begun; ready = length-set a.ready d false ∙ w.ready }
+whole_change a (JoinEdit y) w = record { same = omega (arith, length-set a.begun y.id 0, length-set a.ready y.id (nat_lt 0 a.rounds), w.same); few = omega (arith, length-set a.begun y.id 0, w.few) }
+whole_change a (LeaveEdit d) w = record { same = length-set a.ready d false ∙ w.same; few = w.few }
 
 -- ---- no device begins more than it may
 
@@ -170,20 +191,20 @@ set_within xs d n most small fits f e = dite (ℕ_discrete e d)
     (λ same. subst (λ k. get_or (set xs d n) k 0 ≤ most) (sym same) (subst (λ k. k ≤ most) (sym (get_or-set_same xs d n 0 small)) fits))
     (λ other. subst (λ k. k ≤ most) (sym (get_or-set_other xs d e n 0 other)) (f e))
 
-pub within_begin : (a : AgendaValue) (d : ℕ) → IsAgenda a → d < 65536 → begun_by a d < a.rounds → IsWithin a → IsWithin (after_begin a d)
-within_begin a d k small some w = set_within a.begun d (begun_by a d + 1) a.rounds (omega (arith, k.begun, small)) (omega (arith, some)) w
+pub within_begin : (a : AgendaValue) (d : ℕ) → d < length a.begun → begun_by a d < a.rounds → IsWithin a → IsWithin (after_begin a d)
+within_begin a d placed some w = set_within a.begun d (begun_by a d + 1) a.rounds placed (omega (arith, some)) w
 
-pub within_change : (U : Unfolding) (a : AgendaValue) (x : EditValue) → EditFits U x → IsAgenda a → IsWithin a → IsWithin (after_change a x)
-within_change U a (LinkEdit b c v) fits k w = w
-within_change U a (UnlinkEdit b c) fits k w = w
-within_change U a (SetEdit d i v) fits k w = w
-within_change U a (PokeEdit d e) fits k w = w
-within_change U a (JoinEdit y) fits k w = set_within a.begun y.id 0 a.rounds (omega (arith, k.begun, fits)) (omega arith) w
-within_change U a (LeaveEdit d) fits k w = w
+pub within_change : (a : AgendaValue) (x : EditValue) → HasPlace a (change_by x) → IsWithin a → IsWithin (after_change a x)
+within_change a (LinkEdit b c v) place w = w
+within_change a (UnlinkEdit b c) place w = w
+within_change a (SetEdit d i v) place w = w
+within_change a (PokeEdit d e) place w = w
+within_change a (JoinEdit y) place w = set_within a.begun y.id 0 a.rounds place (omega arith) w
+within_change a (LeaveEdit d) place w = w
 
 -- a device that may begin has begun less than it may
-pub may_more : (o : Opening) (log : List EntryValue) (c : Core) (a : AgendaValue) (d : ℕ) → Plans o log c a → (d < 65536) × (is_ready a d ≡ true) → begun_by a d < a.rounds
-may_more o log c a d p some = let m = (p.ready d some.0).0 some.1 in let l = m.some in let b = p.begun d some.0 in let r = p.rounds in omega (arith, l, b, r)
+pub may_more : (o : Opening) (log : List EntryValue) (c : Core) (a : AgendaValue) (d : ℕ) → Plans o log c a → IsAgenda a → (d < length a.begun) × (is_ready a d ≡ true) → begun_by a d < a.rounds
+may_more o log c a d p w some = let small : d < 65536 = omega (arith, w.few, some.0) in let m = (p.ready d small).0 some.1 in let l = m.some in let b = p.begun d small in let r = p.rounds in omega (arith, l, b, r)
 
 pub begins_within : (h : HeldValue) (a : AgendaValue) → IsHeld h a → BeginsWithin (opening_in h) (log_in h)
 begins_within h a k d small = let p = k.plans in let n = k.within d in let b = p.begun d small in let r = p.rounds in omega (arith, n, b, r)

@@ -1,4 +1,3 @@
-mod FlagTrees
 mod Counting
 mod Planning
 mod Keeping

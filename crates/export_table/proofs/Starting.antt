@@ -1,7 +1,7 @@
 -- What an agenda starts with, and what the type of the locked value keeps at the opening.
-use Rattle.std.proofs.Common.{◌≡◌, ℕ, zero, suc, ◌+◌, ◌<◌, ◌≤◌, List, [], ◌∷◌, ◌++◌, length, drop, map, refl, sym, ap, ◌∙◌, subst, arith, Bool, true, false, ◌&&◌, ◌||◌, nat_eq, nat_lt, get_or, replicate, take, length-set, get_or-set_same, get_or-set_other, None}
+use Rattle.std.proofs.Common.{◌≡◌, ◌≢◌, ℕ, zero, suc, ◌+◌, ◌<◌, ◌≤◌, List, [], ◌∷◌, ◌++◌, length, drop, map, refl, sym, ap, ◌∙◌, subst, arith, Bool, true, false, ◌&&◌, ◌||◌, nat_eq, nat_lt, get_or, take, length-set, get_or-set_same, get_or-set_other, None}
 use Rattle.std.proofs.lemmas.Option.{none-some}
-use Rattle.std.proofs.lemmas.Bool.{eq-eqb, ne_eqb, ltb-true, lt-ltb, and_parts, and_from}
+use Rattle.std.proofs.lemmas.Bool.{false≢true, eq-eqb, ne_eqb, ltb-true, lt-ltb, and_parts, and_from}
 use Rattle.std.proofs.lemmas.List.{take_more, map-append}
 use mathlib.Core.Logic.{dite}
 use native.Mathlib.Decide.{ℕ_discrete}
@@ -16,14 +16,9 @@ use Rattle.firing_core.specs.Books.{BookValue, IsSameBook}
 use Rattle.export_table.specs.Items.{Opening}
 use Rattle.export_table.specs.Begins.{begun_in, since_join}
 use Rattle.firing_core.specs.Stretches.{begins}
-use Rattle.export_table.specs.Agendas.{AgendaValue, IsAgenda, Starts, begun_by, is_ready, after_join}
+use Rattle.export_table.specs.Agendas.{AgendaValue, IsAgenda, Starts, Grows, begun_by, is_ready, after_join}
 use Rattle.export_table.specs.Holding.{IsHeld, Plans, opening_of}
 use Rattle.export_table.proofs.Keeping.{entries_length}
-
-pub get_default : {A : Type 0} (n d : ℕ) (a : A) → get_or (replicate n a) d a ≡ a
-get_default zero d a = refl
-get_default (suc n) zero a = refl
-get_default (suc n) (suc d) a = get_default n d a
 
 in_snoc : (e d : ℕ) (ids : List ℕ) → is_in e (ids ++ d ∷ []) ≡ (is_in e ids || nat_eq e d)
 in_snoc e d [] = by_test (nat_eq e d)
@@ -46,19 +41,35 @@ or_false true = refl
 or_false false = refl
 
 -- one device more
-pub starts_join : (ids : List ℕ) (d rounds : ℕ) (a : AgendaValue) → IsAgenda a → d < 65536 → Starts ids rounds a → Starts (ids ++ d ∷ []) rounds (after_join a d)
-starts_join ids d rounds a w small s = record {
+pub starts_join : (ids : List ℕ) (d rounds : ℕ) (a : AgendaValue) → IsAgenda a → d < length a.begun → Starts ids rounds a → Starts (ids ++ d ∷ []) rounds (after_join a d)
+starts_join ids d rounds a w placed s = record {
   rounds_are = s.rounds_are;
   begun = λ e. dite (ℕ_discrete e d)
-      (λ same. ap (begun_by (after_join a d)) same ∙ get_or-set_same a.begun d 0 0 (omega (arith, w.begun, small)))
+      (λ same. ap (begun_by (after_join a d)) same ∙ get_or-set_same a.begun d 0 0 placed)
       (λ other. get_or-set_other a.begun d e 0 0 other ∙ s.begun e);
   ready = λ e. dite (ℕ_discrete e d)
       (λ same. subst (λ k. is_ready (after_join a d) k ≡ (is_in k (ids ++ d ∷ []) && nat_lt 0 rounds)) (sym same)
-      (get_or-set_same a.ready d (nat_lt 0 a.rounds) false (omega (arith, w.ready, small)) ∙ (ap (nat_lt 0) s.rounds_are
+      (get_or-set_same a.ready d (nat_lt 0 a.rounds) false (omega (arith, w.same, placed)) ∙ (ap (nat_lt 0) s.rounds_are
       ∙ ap (λ b. b && nat_lt 0 rounds) (sym (in_snoc d d ids ∙ (ap (λ b. is_in d ids || b) (eq-eqb d d refl) ∙ or_true (is_in d ids)))))))
       (λ other. get_or-set_other a.ready d e (nat_lt 0 a.rounds) false other ∙ (s.ready e
-      ∙ ap (λ b. b && nat_lt 0 rounds) (sym (in_snoc e d ids ∙ (ap (λ b. is_in e ids || b) (ne_eqb e d other) ∙ or_false (is_in e ids))))));
+      ∙ ap (λ b. b && nat_lt 0 rounds) (sym (in_other e other))));
+  places = λ e t. dite (ℕ_discrete e d) (λ same. omega (arith, same, placed, length-set a.begun d 0))
+      (λ other. let l = s.places e (sym (in_other e other) ∙ t) in omega (arith, l, length-set a.begun d 0));
 }
+  where
+    in_other : (e : ℕ) → e ≢ d → is_in e (ids ++ d ∷ []) ≡ is_in e ids
+    in_other e other = in_snoc e d ids ∙ (ap (λ b. is_in e ids || b) (ne_eqb e d other) ∙ or_false (is_in e ids))
+
+pub starts_grow : (ids : List ℕ) (rounds : ℕ) (a b : AgendaValue) → Starts ids rounds a → Grows a b → Starts ids rounds b
+starts_grow ids rounds a b s g = record {
+  rounds_are = g.rounds ∙ s.rounds_are;
+  begun = λ d. g.begun d ∙ s.begun d;
+  ready = λ d. g.ready d ∙ s.ready d;
+  places = λ d t. let l = s.places d t in let m = g.longer in omega (arith, l, m);
+}
+
+pub starts_none : (rounds : ℕ) → Starts [] rounds (record { rounds = rounds; begun = []; ready = [] })
+starts_none rounds = record { rounds_are = refl; begun = λ d. refl; ready = λ d. refl; places = λ d t. absurd (false≢true t) }
 
 -- ---- the loop over the devices of a network
 
@@ -70,14 +81,14 @@ device_low D (d ∷ ds) (suc n) x fit more is = device_low D ds n x fit.2 (omega
 pub device_below : (net : Network) (ds : List Device) (n : ℕ) (x : Device) → IsNetwork net → map device_of ds ≡ net.devices → n < length ds → x ≡ get_or ds n x → x.id < 65536
 device_below net ds n x k same more is = device_low net.declared ds n x (subst (DevicesFit net.declared) (sym same) k.devices) more is
 
-pub starts_more : (ds : List Device) (n rounds : ℕ) (x : Device) (a b : AgendaValue) → Starts (numbers (map device_of (take n ds))) rounds a × IsAgenda a → x.id < 65536 → n < length ds → x ≡ get_or ds n x → b ≡ after_join a x.id
+pub starts_more : (ds : List Device) (n rounds : ℕ) (x : Device) (a b : AgendaValue) → Starts (numbers (map device_of (take n ds))) rounds a × IsAgenda a → x.id < length a.begun → n < length ds → x ≡ get_or ds n x → b ≡ after_join a x.id
     → Starts (numbers (map device_of (take (n + 1) ds))) rounds b × IsAgenda b
-starts_more ds n rounds x a b s small more is joins =
+starts_more ds n rounds x a b s placed more is joins =
     let next : take (n + 1) ds ≡ take n ds ++ x ∷ [] = take_more ds n x more ∙ ap (λ y. take n ds ++ y ∷ []) (sym is) in
     let ids : numbers (map device_of (take (n + 1) ds)) ≡ numbers (map device_of (take n ds)) ++ x.id ∷ [] =
     ap (λ l. numbers (map device_of l)) next ∙ (ap numbers (map-append device_of (take n ds) (x ∷ [])) ∙ map-append (λ (y : NetDevice). y.id) (map device_of (take n ds)) (device_of x ∷ [])) in (
-      subst (λ (z : List ℕ × AgendaValue). Starts z.0 rounds z.1) (λ i. (sym ids i, sym joins i)) (starts_join (numbers (map device_of (take n ds))) x.id rounds a s.1 small s.0),
-      subst IsAgenda (sym joins) (record { begun = length-set a.begun x.id 0 ∙ s.1.begun; ready = length-set a.ready x.id (nat_lt 0 a.rounds) ∙ s.1.ready }),
+      subst (λ (z : List ℕ × AgendaValue). Starts z.0 rounds z.1) (λ i. (sym ids i, sym joins i)) (starts_join (numbers (map device_of (take n ds))) x.id rounds a s.1 placed s.0),
+      subst IsAgenda (sym joins) (record { same = omega (arith, length-set a.begun x.id 0, length-set a.ready x.id (nat_lt 0 a.rounds), s.1.same); few = omega (arith, length-set a.begun x.id 0, s.1.few) }),
     )
 
 -- ---- the opening
@@ -101,6 +112,7 @@ plans_first o log c a front rests s = record {
     }),
     (λ m. s.ready d ∙ and_from (lives c.net d) (nat_lt 0 o.rounds) m.there (lt-ltb 0 o.rounds (let l = m.some in omega (arith, l, begun_first o log d front)))),
   );
+  places = s.places;
 }
 
 -- a table holds its book from the opening on

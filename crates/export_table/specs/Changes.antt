@@ -1,5 +1,5 @@
 -- What an edit changes in an agenda.
-use Rattle.std.specs.Prelude.{◌<◌}
+use Rattle.std.specs.Prelude.{◌<◌, length}
 use Rattle.firing_core.specs.Entries.{EditValue, LinkEdit, UnlinkEdit, SetEdit, PokeEdit, JoinEdit, LeaveEdit}
 use Rattle.export_table.specs.declared.agenda.Change.{Change}
 use Rattle.export_table.specs.declared.agenda.Change.TheVariants as change
@@ -13,11 +13,28 @@ change_by (PokeEdit d e) = change.Nothing
 change_by (JoinEdit x) = change.Join x.id
 change_by (LeaveEdit d) = change.Leave d
 
--- the device that it names has a number that devices may have
-abbrev pub NamesDevice : Change → Type 0
-NamesDevice (change.Join d) = d < 65536
-NamesDevice (change.Leave d) = d < 65536
-NamesDevice change.Nothing = Unit {0}
+abbrev pub IsJoin : Change → Type 0
+IsJoin (change.Join d) = Unit {0}
+IsJoin (change.Leave d) = ⊥
+IsJoin change.Nothing = ⊥
+
+-- a device that joins has a number that devices may have
+abbrev pub JoinsNumber : Change → Type 0
+JoinsNumber (change.Join d) = d < 65536
+JoinsNumber (change.Leave d) = Unit {0}
+JoinsNumber change.Nothing = Unit {0}
+
+-- an agenda has a place for a device that joins
+abbrev pub HasPlace : AgendaValue → Change → Type 0
+HasPlace a (change.Join d) = d < length a.begun
+HasPlace a (change.Leave d) = Unit {0}
+HasPlace a change.Nothing = Unit {0}
+
+-- an agenda has a place for the device that is named
+abbrev pub NamesPlace : AgendaValue → Change → Type 0
+NamesPlace a (change.Join d) = d < length a.begun
+NamesPlace a (change.Leave d) = d < length a.begun
+NamesPlace a change.Nothing = Unit {0}
 
 abbrev pub after_view : AgendaValue → Change → AgendaValue
 after_view a (change.Join d) = after_join a d

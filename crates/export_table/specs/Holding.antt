@@ -50,6 +50,7 @@ pub record Plans (o : Opening) (log : List EntryValue) (c : Core) (a : AgendaVal
   pub rounds : a.rounds ≡ o.rounds
   pub begun : (d : ℕ) → d < 65536 → begun_by a d ≡ begun_in o log d
   pub ready : (d : ℕ) → d < 65536 → ((is_ready a d ≡ true) ↔ MayBegin o log c d)
+  pub places : (d : ℕ) → Lives c.net d → d < length a.begun
 
 -- what the type keeps
 pub record IsHeld (h : HeldValue) (a : AgendaValue) : Type 0 where

@@ -2,7 +2,6 @@ pub mod Items
 pub mod Answers
 pub mod AnswersStay
 pub mod Begins
-pub mod Flags
 pub mod Agendas
 pub mod Changes
 pub mod Holding

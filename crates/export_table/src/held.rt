@@ -175,6 +175,10 @@ impl Held {
     {
         let _net = self.book.core().net();
         let change = change_of(&edit);
+        let Ok(()) = self.agenda.prepare(&change) else {
+            self.book.idle();
+            return Err(EditFault::Memory);
+        };
         match self.book.edit(alloc, edit) {
             Ok(()) => {
                 self.agenda.change(change);

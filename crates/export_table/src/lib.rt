@@ -3,7 +3,6 @@
 
 mod agenda;
 mod firing;
-mod flags;
 mod held;
 mod item;
 mod shared;

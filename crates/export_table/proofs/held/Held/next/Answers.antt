@@ -29,12 +29,12 @@ returns-in_default-clause-done c = let h = c.self.inside in
 pub invariant_of-self-in-Ok : goal.invariant_of-self-in-Ok
 invariant_of-self-in-Ok c = let h = c.self.inside in let i = c.self.invariant in let d = c.in-Some.device in let ok = c.in-Ok.ensures in let s = ok.ok in
     let is = c.begin.ensures in
-    let small = c.in-Some.ensures.some.0 in
+    let placed = c.in-Some.ensures.some.0 in
     keeps h.book c.begin_with.new.self h.agenda.rounds h.turns h.front h.agenda c.begin.new.self (entry.Begin d) i s ok.spare
     (roomy_begin (unfolding_of h.book.program) h.book.core c.begin_with.new.self.core d i.rooms s.step ok.rooms)
     (subst (λ (a : AgendaValue). IsAgenda a) (sym is) (whole_begin h.agenda d i.agenda))
-    (subst (λ (a : AgendaValue). IsWithin a) (sym is) (within_begin h.agenda d i.agenda small (may_more _ _ (core_of h.book.core) h.agenda d i.plans c.in-Some.ensures.some) i.within)) (ap (λ (a : AgendaValue). a.rounds) is)
-    (subst (λ (a : AgendaValue). Plans (opening_of h.book h.agenda.rounds h.turns h.front) (entries_of h.book.log ++ BeginEntry d ∷ []) (core_of c.begin_with.new.self.core) a) (sym is) (plans_begin (unfolding_of h.book.program) _ _ _ (core_of c.begin_with.new.self.core) h.agenda d i.plans i.agenda (past_in _ h.agenda i) small s.step))
+    (subst (λ (a : AgendaValue). IsWithin a) (sym is) (within_begin h.agenda d placed (may_more _ _ (core_of h.book.core) h.agenda d i.plans i.agenda c.in-Some.ensures.some) i.within)) (ap (λ (a : AgendaValue). a.rounds) is)
+    (subst (λ (a : AgendaValue). Plans (opening_of h.book h.agenda.rounds h.turns h.front) (entries_of h.book.log ++ BeginEntry d ∷ []) (core_of c.begin_with.new.self.core) a) (sym is) (plans_begin (unfolding_of h.book.program) _ _ _ (core_of c.begin_with.new.self.core) h.agenda d i.plans i.agenda (past_in _ h.agenda i) placed s.step))
 
 pub returns-clause-turned : goal.returns-clause-turned
 returns-clause-turned c = let h = c.self.inside in
@@ -44,4 +44,4 @@ returns-clause-turned c = let h = c.self.inside in
 pub returns-clause-next : goal.returns-clause-next
 returns-clause-next c = let h = c.self.inside in
     subst (λ (z : HeldValue). IsNext (opening_in z) (log_in z) (core_in z) c.in-Some.device) c.self.view_is
-    (next_is _ _ (core_of h.book.core) h.agenda c.in-Some.device c.self.invariant.plans c.in-Some.ensures.some c.in-Some.ensures.smallest)
+    (next_is _ _ (core_of h.book.core) h.agenda c.in-Some.device c.self.invariant.plans c.self.invariant.agenda c.in-Some.ensures.some c.in-Some.ensures.smallest)
