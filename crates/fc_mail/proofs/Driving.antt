@@ -1,14 +1,15 @@
 -- What the code of `mail --number` makes of a driven log.
-use Rattle.std.proofs.Common.{◌≡◌, ℕ, suc, List, [], ◌∷◌, ◌++◌, map, refl, sym, ◌∙◌, ap, ap₂, subst}
-use Rattle.fc_values.specs.Fields.{Entries}
+use Rattle.std.proofs.Common.{◌≡◌, ℕ, List, ◌++◌, refl, sym, ◌∙◌, ap, ap₂, subst}
 use Rattle.fc_nodes.specs.Program.{Program, Unfolding, unfolding_of}
 use Rattle.fc_nodes.specs.declared.verdicts.Verdict.TheVariants as verdict
-use Rattle.topology.specs.Networks.{Network, Lives, numbers}
+use Rattle.topology.specs.Networks.{Network, Lives}
 use Rattle.firing_core.specs.Cores.{Core}
-use Rattle.message_links.specs.MailCores.{MailCore, MailEntryValue, MailBegin, MailEnd, MailIdle, MailDeliver, MailAgain, MailLose, MailStep, MailRun, IsMailStart}
+use Rattle.message_links.specs.MailCores.{MailCore, MailEntryValue, MailRun, IsMailStart}
 use Rattle.message_links.specs.MailRounds.{posts_of, HasMailRounds}
 use Rattle.message_links.specs.Laws.{MailStabilises}
+use Rattle.message_links.proofs.MailRuns.{run_net}
 use Rattle.scramble.specs.Words.{words_of}
+use Rattle.script_laws.specs.Promises.{Holds, field_on}
 use Rattle.script_laws.proofs.Showing.{values_held}
 use Rattle.mail_drive.specs.Drives.{driven}
 use Rattle.mail_drive.specs.Laws.{nothing}
@@ -21,28 +22,15 @@ use Rattle.fc_inputs.specs.Causes.{Accepted}
 use Rattle.fc_mail.specs.Code.{IsQuietOn, ShowsBehind}
 use Rattle.fc_mail.specs.Drives.{WritesDriven}
 
--- ---- a mail log keeps the network
-
-step_net : (U : Unfolding) (at : ℕ) (c next : MailCore) (e : MailEntryValue) → MailStep U at c e next → next.core.net ≡ c.core.net
-step_net U at c next (MailBegin d) s = ap (λ (x : MailCore). x.core.net) s.2 ∙ ap (λ (x : Core). x.net) s.1.2
-step_net U at c next (MailEnd d) s = ap (λ (x : Core). x.net) s.ends.after
-step_net U at c next MailIdle s = ap (λ (x : MailCore). x.core.net) s
-step_net U at c next (MailDeliver a b) s = ap (λ (x : MailCore). x.core.net) s.after
-step_net U at c next (MailAgain a b) s = ap (λ (x : MailCore). x.core.net) s.after
-step_net U at c next (MailLose a b i) s = ap (λ (x : MailCore). x.core.net) s.after
-
-pub run_net : (U : Unfolding) (at : ℕ) (c last : MailCore) (es : List MailEntryValue) → MailRun U at c es last → last.core.net ≡ c.core.net
-run_net U at c last [] s = ap (λ (x : MailCore). x.core.net) s
-run_net U at c last (e ∷ es) s = run_net U (suc at) s.0 last es s.2 ∙ step_net U at c s.0 e s.1
-
 -- ---- after so many rounds the values are those of the one field
 
-pub field_values : (U : Unfolding) (N : Network) (k : ℕ) (m : MailStabilises U N k) (start last : MailCore) (log : List MailEntryValue) → IsMailStart U start → start.core.net ≡ N → MailRun U 0 start log last
-    → HasMailRounds N 0 (posts_of start) log k → values_text last.core ≡ field_text (map (λ (d : ℕ). (d, m.one.field d)) (numbers N.devices))
-field_values U N k m start last log s net run rounds =
-    let same : last.core.net ≡ N = run_net U 0 start last log run ∙ net in
-    values_held last.core m.one.field (λ d l. m.reached start last log s net run rounds d (subst (λ (n : Network). Lives n d) same l))
-    ∙ ap (λ (n : Network). field_text (map (λ (d : ℕ). (d, m.one.field d)) (numbers n.devices))) same
+module _ (U : Unfolding) (N : Network) (k : ℕ) (m : MailStabilises U N k) (start last : MailCore) (log : List MailEntryValue) (s : IsMailStart U start) (net : start.core.net ≡ N)
+    (run : MailRun U 0 start log last) (rounds : HasMailRounds N 0 (posts_of start) log k) where
+  pub held : Holds last.core m.one.field
+  held d l = m.reached start last log s net run rounds d (subst (λ (n : Network). Lives n d) (run_net U 0 start last log run ∙ net) l)
+
+  pub field_values : values_text last.core ≡ field_text (field_on N m.one.field)
+  field_values = values_held last.core m.one.field held ∙ ap (λ (n : Network). field_text (field_on n m.one.field)) (run_net U 0 start last log run ∙ net)
 
 module _ (number rounds : ℕ) (U : Unfolding) (N : Network) (stable : MailStabilises U N rounds) (covers : HasMailRounds N 0 nothing (driven N rounds (words_of number)) rounds) where
   abbrev Whole : MailCore → Type 0
@@ -52,9 +40,8 @@ module _ (number rounds : ℕ) (U : Unfolding) (N : Network) (stable : MailStabi
   from_quiet : (c : Core) → c.net ≡ N → Whole (quiet c)
   from_quiet c net last log old new r s run is shows line made =
       let values = field_values U N rounds stable (quiet c) last log s net run (subst (λ l. HasMailRounds N 0 nothing l rounds) (sym is) covers) in
-      let field : Entries = map (λ (d : ℕ). (d, stable.one.field d)) (numbers N.devices) in
       record {
-        field = map (λ (d : ℕ). (d, stable.one.field d)) (numbers N.devices);
+        field = field_on N stable.one.field;
         stable = record { one = stable.one; values = refl };
         count = shows.rounds;
         counted = subst (λ l. IsGreatestMail N nothing l shows.rounds) is (subst (λ (n : Network). IsGreatestMail n nothing log shows.rounds) net shows.counted);

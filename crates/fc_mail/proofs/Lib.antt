@@ -3,3 +3,4 @@ pub mod MailReplies
 pub mod Mailing
 pub mod Links
 pub mod Driving
+pub mod KeptYes

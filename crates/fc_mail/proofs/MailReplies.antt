@@ -1,5 +1,5 @@
 -- What `mail` writes: something, and one thing.
-use Rattle.std.proofs.Common.{ℕ, ◌≡◌, ◌≤◌, List, [], ◌∷◌, length, refl, ap, ap₂, ◌∙◌, sym, subst, arith, Bool, true, false, ◌++◌, map}
+use Rattle.std.proofs.Common.{ℕ, ◌≡◌, ◌≤◌, List, [], ◌∷◌, length, refl, ap, ap₂, ◌∙◌, sym, subst, Bool, true, false, ◌++◌, map}
 use Rattle.std.specs.Prelude.{nat_lt, ◌||◌, nat_eq}
 use Rattle.std.proofs.lemmas.Bool.{eq-eqb}
 use Rattle.fc_values.specs.Values.{LocalValue}
@@ -10,7 +10,6 @@ use Rattle.fc_nodes.specs.declared.verdicts.Verdict.{Verdict}
 use Rattle.fc_nodes.specs.declared.verdicts.Verdict.TheVariants as verdict
 use Rattle.topology.specs.Networks.{Network, IsNetwork, numbers}
 use Rattle.fragment_check.specs.Verdicts.{verdict_of}
-use Rattle.firing_core.specs.Cores.{Core, IsGood}
 use Rattle.converge_laws.specs.Stabilising.{HasOneSolution}
 use Rattle.message_links.specs.MailCores.{IsMailStart}
 use Rattle.converge_laws.specs.Verdicts.{YesStabilises}
@@ -21,6 +20,7 @@ use Rattle.mail_lines.specs.MailLines.{mail_log}
 use Rattle.mail_book.specs.MailViews.{quiet}
 use Rattle.mail_book.specs.MailLaws.{MailLogsEnd, MailLogsLeadToOne, MailLogsFailOnce, MailLogsLeadOrFail}
 use Rattle.mail_count.specs.Laws.{SomeGreatestMail}
+use Rattle.mail_book.proofs.QuietStarts.{quiet_start}
 use Rattle.net_json.specs.Scenes.{SceneValue}
 use Rattle.report.specs.Texts.{field_text}
 use Rattle.report.specs.Verdicts.{rounds_text, verdict_text}
@@ -38,11 +38,8 @@ use Rattle.fc_mail.specs.Mails.{Mails, MailsLines, MailsScene}
 use Rattle.fc_mail.specs.Drives.{most, messages, DrivesWithin, DrivesBy, DrivesScene, DrivesMail}
 use Rattle.fc_mail.proofs.MailEndings.{one_number, one_lines, some_lines}
 
-quiet_start : (U : Unfolding) (c : Core) → IsGood U c → IsMailStart U (quiet c)
-quiet_start U c good = record { good = good; heard = λ a b e q. absurd cc; transit = λ a b. tt; few = λ a b. omega arith }
-
 -- an accepted scene starts a log
-scene_start : InputsStart → (program network : List ℕ) (i : InputOf) → ReadsInput program network (Accepted i) → IsMailStart i.0 (quiet (start_of i.1))
+pub scene_start : InputsStart → (program network : List ℕ) (i : InputOf) → ReadsInput program network (Accepted i) → IsMailStart i.0 (quiet (start_of i.1))
 scene_start starts program network i r = quiet_start i.0 (start_of i.1) (starts program network i r).good
 
 -- ---- a mail log

@@ -1,9 +1,27 @@
--- Texts of `mail` have one reply, and some reply.
-use Rattle.std.specs.Prelude.{ℕ, ◌≡◌, ◌≤◌, List, length}
+-- Texts of `mail` have one reply, and some reply; and what it writes keeps a yes.
+use Rattle.std.specs.Prelude.{ℕ, ◌≡◌, ◌≤◌, List, ◌++◌, length}
+use Rattle.fc_nodes.specs.Program.{IsProgram, Program, unfolding_of}
+use Rattle.fc_nodes.specs.declared.verdicts.Verdict.TheVariants as verdict
+use Rattle.fragment_check.specs.Verdicts.{verdict_of}
+use Rattle.message_links.specs.Laws.{MailStabilises}
+use Rattle.message_links.specs.MailCores.{MailCore, MailRun}
+use Rattle.scramble.specs.Words.{words_of}
+use Rattle.mail_drive.specs.Drives.{driven}
+use Rattle.mail_drive.specs.Laws.{nothing}
+use Rattle.mail_lines.specs.MailLines.{mail_log}
+use Rattle.edit_commands.specs.LineByLine.{AllLines}
+use Rattle.mail_book.specs.MailViews.{quiet}
+use Rattle.mail_count.specs.Laws.{IsGreatestMail}
+use Rattle.script_laws.specs.Promises.{Holds, field_on}
+use Rattle.net_json.specs.Scenes.{SceneValue}
+use Rattle.report.specs.Texts.{field_text, values_text}
+use Rattle.report.specs.Verdicts.{rounds_text, verdict_text}
 use Rattle.fc_inputs.specs.declared.sources.TheConstants.{MOST_BYTES}
-use Rattle.fc_inputs.specs.Causes.{Judged}
+use Rattle.fc_inputs.specs.Causes.{Judged, Accepted}
+use Rattle.fc_inputs.specs.Inputs.{ReadsInput}
 use Rattle.fc_inputs.specs.Refusals.{Reply}
-use Rattle.fc_mail.specs.Mails.{Mails}
+use Rattle.fc_replay.specs.Replays.{start_of}
+use Rattle.fc_mail.specs.Mails.{Mailed, Mails, entries_in}
 use Rattle.fc_mail.specs.Drives.{DrivesMail}
 
 abbrev pub OneMail : Type 0
@@ -22,3 +40,53 @@ SomeMail = (program network log : List ℕ) → length program ≤ MOST_BYTES
 abbrev pub SomeDrivenMail : Type 0
 SomeDrivenMail = (number : ℕ) (program network : List ℕ) → length program ≤ MOST_BYTES
     → (j : Judged Reply) × DrivesMail number program network j
+
+-- The lines of a mail log lead from the scene, with nothing heard and nothing in transit, to a mail core whose values
+-- are written, and behind them the greatest number of rounds in the log. Where the verdict is a yes, the program
+-- stabilises over message links within its rounds; and where the number that is written is at least that of the yes,
+-- each device holds its value of the one field that solves the program on the scene's network, and this field is what
+-- is written.
+pub record MailKeepsYes (program network log text : List ℕ) : Type 0 where
+  pub nodes : Program
+  pub is_program : IsProgram nodes
+  pub scene : SceneValue
+  pub reads : ReadsInput program network (Accepted (unfolding_of nodes, scene))
+  pub entries : Mailed
+  pub lines : mail_log log ≡ AllLines entries
+  pub last : MailCore
+  pub leads : MailRun (unfolding_of nodes) 0 (quiet (start_of scene)) (entries_in entries) last
+  pub rounds : ℕ
+  pub counted : IsGreatestMail scene.net nothing (entries_in entries) rounds
+  pub writes : text ≡ values_text last.core ++ rounds_text rounds
+  pub stabilises : (k : ℕ) → verdict_of nodes (length scene.net.devices) ≡ verdict.Yes k
+      → MailStabilises (unfolding_of nodes) scene.net k
+  pub holds : (k : ℕ) (judged : verdict_of nodes (length scene.net.devices) ≡ verdict.Yes k) → k ≤ rounds
+      → Holds last.core (stabilises k judged).one.field
+  pub shows : (k : ℕ) (judged : verdict_of nodes (length scene.net.devices) ≡ verdict.Yes k) → k ≤ rounds
+      → text ≡ field_text (field_on scene.net (stabilises k judged).one.field) ++ rounds_text rounds
+
+-- The verdict is a yes, within whose rounds the program stabilises over message links. Behind its line are written the
+-- one field that solves the program on the scene's network, and the greatest number of rounds in the log that is driven
+-- by the number for as many rounds: it has at least these.
+pub record DrivenMailKeepsYes (number : ℕ) (program network text : List ℕ) : Type 0 where
+  pub nodes : Program
+  pub is_program : IsProgram nodes
+  pub scene : SceneValue
+  pub reads : ReadsInput program network (Accepted (unfolding_of nodes, scene))
+  pub rounds : ℕ
+  pub yes : verdict_of nodes (length scene.net.devices) ≡ verdict.Yes rounds
+  pub stabilises : MailStabilises (unfolding_of nodes) scene.net rounds
+  pub count : ℕ
+  pub counted : IsGreatestMail scene.net nothing (driven scene.net rounds (words_of number)) count
+  pub enough : rounds ≤ count
+  pub writes : text ≡ verdict_text (verdict.Yes rounds)
+      ++ field_text (field_on scene.net stabilises.one.field) ++ rounds_text count
+
+-- what `mail` writes of a log, and what it writes of a number with status 0, keeps a yes
+abbrev pub MailsKeepYes : Type 0
+MailsKeepYes = (program network log : List ℕ) (r : Reply) → Mails program network log (Accepted r)
+    → MailKeepsYes program network log r.text
+
+abbrev pub DrivenMailsKeepYes : Type 0
+DrivenMailsKeepYes = (number : ℕ) (program network : List ℕ) (r : Reply)
+    → DrivesMail number program network (Accepted r) → r.status ≡ 0 → DrivenMailKeepsYes number program network r.text

@@ -1,5 +1,6 @@
 //! Laws of the definitions.
 
+ghost use Rattle.fc_mail.specs.Laws.{DrivenMailsKeepYes, MailsKeepYes};
 ghost use Rattle.fc_mail.specs.Laws.{OneDrivenMail, OneMail, SomeDrivenMail, SomeMail};
 
 use converge_laws::yes_stabilises;
@@ -8,6 +9,8 @@ use fc_inputs::one_input;
 use fc_replay::inputs_start;
 use mail_book::mail_logs_end;
 use mail_count::some_greatest_mail;
+use mail_drive::driven_rounds_cover;
+use message_links::yes_stabilises_mail;
 
 /// Texts have one reply.
 pub fn one_mail()
@@ -30,4 +33,15 @@ pub fn some_mail()
     mail_logs_end();
     some_greatest_mail();
     yes_stabilises();
+}
+
+/// Where the verdict is a yes, what `mail` writes is the one field that solves the program on the scene's network: for
+/// a number behind the line of the yes, and for a log that has at least the rounds of the yes.
+pub fn mails_keep_yes()
+    ensures log { MailsKeepYes }
+    ensures number { DrivenMailsKeepYes }
+{
+    inputs_start();
+    yes_stabilises_mail();
+    driven_rounds_cover();
 }

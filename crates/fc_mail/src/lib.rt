@@ -9,5 +9,5 @@ mod shown;
 mod tests;
 
 pub use driven::mail_number;
-pub use laws::{one_mail, some_mail};
+pub use laws::{mails_keep_yes, one_mail, some_mail};
 pub use mails::mail;

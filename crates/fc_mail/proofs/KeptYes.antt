@@ -1,0 +1,155 @@
+-- What `mail` writes keeps a yes.
+use Rattle.std.proofs.Common.{ℕ, ◌≡◌, ◌≤◌, ◌⊎◌, Bool, true, false, List, ◌++◌, length, refl, ap, ◌∙◌, sym, subst, inl, inr}
+use Rattle.std.specs.Prelude.{nat_lt}
+use Rattle.fc_values.specs.Fields.{Entries}
+use Rattle.fc_nodes.specs.Program.{IsProgram, Program, Unfolding, unfolding_of}
+use Rattle.fc_nodes.specs.declared.verdicts.Verdict.{Verdict}
+use Rattle.fc_nodes.specs.declared.verdicts.Verdict.TheVariants as verdict
+use Rattle.topology.specs.Networks.{IsNetwork}
+use Rattle.fragment_check.specs.Verdicts.{verdict_of}
+use Rattle.message_links.specs.Laws.{MailStabilises, YesStabilisesMail}
+use Rattle.message_links.specs.MailCores.{MailEntryValue, IsMailStart}
+use Rattle.message_links.specs.MailRounds.{HasMailRounds}
+use Rattle.message_links.proofs.MailRuns.{fewer_rounds}
+use Rattle.scramble.specs.Words.{words_of}
+use Rattle.mail_drive.specs.Laws.{DrivenRounds, nothing}
+use Rattle.mail_lines.specs.MailLines.{mail_log}
+use Rattle.edit_commands.specs.LineByLine.{Lines, AllLines, StopsAt}
+use Rattle.mail_book.specs.MailViews.{quiet}
+use Rattle.report.specs.Texts.{field_text, values_text}
+use Rattle.report.specs.Verdicts.{rounds_text, verdict_text}
+use Rattle.script_laws.specs.Promises.{field_on}
+use Rattle.fc_inputs.specs.Causes.{Judged, Accepted, Refused, AndThen}
+use Rattle.fc_inputs.specs.Inputs.{InputOf, ReadsInput}
+use Rattle.fc_inputs.specs.Refusals.{Reply}
+use Rattle.fc_replay.specs.Laws.{InputsStart}
+use Rattle.fc_replay.specs.Replays.{start_of}
+use Rattle.fc_mail.specs.Drives.{messages, most, DrivesBy, DrivesScene, DrivesWithin, WritesDriven}
+use Rattle.fc_mail.specs.Laws.{DrivenMailKeepsYes, DrivenMailsKeepYes, MailKeepsYes, MailsKeepYes}
+use Rattle.fc_mail.specs.Mails.{Mailed, MailsLines, MailsScene, ShowsMail, StopsMail, entries_in}
+use Rattle.fc_mail.proofs.Driving.{field_values, held}
+use Rattle.fc_mail.proofs.MailReplies.{one_field, scene_start}
+
+accepted_same : (r q : Reply) → ◌≡◌ {A = Judged Reply} (Accepted r) (Accepted q) → r ≡ q
+accepted_same r q e = cc
+
+-- ---- a program and a scene that are read
+
+module _ (starts : InputsStart) (law : YesStabilisesMail) (program network : List ℕ) (i : InputOf)
+    (reads : ReadsInput program network (Accepted i)) (P : Program) (is : IsProgram P) (unfolded : unfolding_of P ≡ i.0) where
+  reads_nodes : ReadsInput program network (Accepted (unfolding_of P, i.1))
+  reads_nodes = subst (λ (V : Unfolding). ReadsInput program network (Accepted (V, i.1))) (sym unfolded) reads
+
+  start : IsMailStart (unfolding_of P) (quiet (start_of i.1))
+  start = scene_start starts program network (unfolding_of P, i.1) reads_nodes
+
+  net : IsNetwork i.1.net
+  net = start.good.net
+
+  stabilised : (k : ℕ) → verdict_of P (length i.1.net.devices) ≡ verdict.Yes k → MailStabilises (unfolding_of P) i.1.net k
+  stabilised k said = law P i.1.net k is net start.good.declared said
+
+-- ---- a log
+
+module _ (starts : InputsStart) (law : YesStabilisesMail) (program network log : List ℕ) (r : Reply) (i : InputOf)
+    (reads : ReadsInput program network (Accepted i)) (P : Program) (is : IsProgram P) (unfolded : unfolding_of P ≡ i.0) where
+  abbrev stable : (k : ℕ) → verdict_of P (length i.1.net.devices) ≡ verdict.Yes k → MailStabilises (unfolding_of P) i.1.net k
+  stable k said = stabilised starts law program network i reads P is unfolded k said
+
+  shown : (es : Mailed) → mail_log log ≡ AllLines es → ShowsMail (unfolding_of P) (quiet (start_of i.1)) es (Accepted r)
+      → MailKeepsYes program network log r.text
+  shown es lines h =
+      let begins = start starts law program network i reads P is unfolded in
+      let text : r.text ≡ values_text h.last.core ++ rounds_text h.rounds = ap (λ (x : Reply). x.text) (accepted_same r _ h.is) in
+      let rounds : (k : ℕ) → k ≤ h.rounds → HasMailRounds i.1.net 0 nothing (entries_in es) k =
+      λ k few. fewer_rounds i.1.net 0 nothing (entries_in es) k h.rounds few h.counted.has in
+      record {
+        nodes = P;
+        is_program = is;
+        scene = i.1;
+        reads = reads_nodes starts law program network i reads P is unfolded;
+        entries = es;
+        lines = lines;
+        last = h.last;
+        leads = h.leads;
+        rounds = h.rounds;
+        counted = h.counted;
+        writes = text;
+        stabilises = stable;
+        holds = λ k said few.
+            held (unfolding_of P) i.1.net k (stable k said) (quiet (start_of i.1)) h.last (entries_in es) begins refl h.leads (rounds k few);
+        shows = λ k said few. text ∙ ap (λ v. v ++ rounds_text h.rounds)
+            (field_values (unfolding_of P) i.1.net k (stable k said) (quiet (start_of i.1)) h.last (entries_in es) begins refl h.leads (rounds k few));
+      }
+
+  either : (es : Mailed) → mail_log log ≡ AllLines es
+      → ShowsMail (unfolding_of P) (quiet (start_of i.1)) es (Accepted r) ⊎ StopsMail (unfolding_of P) (quiet (start_of i.1)) es (Accepted r)
+      → MailKeepsYes program network log r.text
+  either es lines (inl h) = shown es lines h
+  either es lines (inr h) = absurd (cc (h.is))
+
+  by_lines : (ls : Lines (Unit {0}) MailEntryValue) → mail_log log ≡ ls → MailsLines (unfolding_of P) (quiet (start_of i.1)) ls (Accepted r)
+      → MailKeepsYes program network log r.text
+  by_lines (StopsAt at u) e h = absurd (cc (h))
+  by_lines (AllLines es) e h = either es e h
+
+pub mails_keep_yes : InputsStart → YesStabilisesMail → MailsKeepYes
+mails_keep_yes starts law program network log r h = by_input h.judged h.reads h.ends
+  where
+    by_scene : (i : InputOf) → ReadsInput program network (Accepted i) → MailsScene i.0 i.1 log (Accepted r) → MailKeepsYes program network log r.text
+    by_scene i reads e =
+        by_lines starts law program network log r i reads e.nodes e.is_program e.unfolded (mail_log log) refl
+        (subst (λ (V : Unfolding). MailsLines V (quiet (start_of i.1)) (mail_log log) (Accepted r)) (sym e.unfolded) e.ends)
+
+    by_input : (j : Judged InputOf) → ReadsInput program network j → AndThen j (λ i k. MailsScene i.0 i.1 log k) (Accepted r) → MailKeepsYes program network log r.text
+    by_input (Refused cause) reads e = absurd (cc (e))
+    by_input (Accepted i) reads e = by_scene i reads e
+
+-- ---- a number
+
+module _ (starts : InputsStart) (law : YesStabilisesMail) (covers : DrivenRounds) (number : ℕ) (program network : List ℕ) (r : Reply) (zero_is : r.status ≡ 0)
+    (i : InputOf) (reads : ReadsInput program network (Accepted i)) (P : Program) (is : IsProgram P) (unfolded : unfolding_of P ≡ i.0) where
+  driven_on : (k : ℕ) → verdict_of P (length i.1.net.devices) ≡ verdict.Yes k → WritesDriven number (unfolding_of P) i.1.net k (Accepted r)
+      → DrivenMailKeepsYes number program network r.text
+  driven_on k said h =
+      let m = stabilised starts law program network i reads P is unfolded k said in
+      let field : Entries = field_on i.1.net m.one.field in
+      let same : h.field ≡ field = one_field (unfolding_of P) i.1.net h.field field h.stable (record { one = m.one; values = refl }) in
+      record {
+        nodes = P;
+        is_program = is;
+        scene = i.1;
+        reads = reads_nodes starts law program network i reads P is unfolded;
+        rounds = k;
+        yes = said;
+        stabilises = m;
+        count = h.count;
+        counted = h.counted;
+        enough = h.counted.greatest k (covers i.1.net k (words_of number) (net starts law program network i reads P is unfolded));
+        writes = ap (λ (x : Reply). x.text) (accepted_same r _ h.is)
+            ∙ ap (λ es. verdict_text (verdict.Yes k) ++ field_text es ++ rounds_text h.count) same;
+      }
+
+  within : (b : Bool) (k : ℕ) → verdict_of P (length i.1.net.devices) ≡ verdict.Yes k → DrivesWithin b number (unfolding_of P) i.1.net k (Accepted r)
+      → DrivenMailKeepsYes number program network r.text
+  within true k said h = absurd (cc (h))
+  within false k said h = driven_on k said h
+
+  by_verdict : (v : Verdict) → verdict_of P (length i.1.net.devices) ≡ v → DrivesBy number v (unfolding_of P) i.1.net (Accepted r)
+      → DrivenMailKeepsYes number program network r.text
+  by_verdict (verdict.No place why) e h =
+      let one : 0 ≡ 1 = sym zero_is ∙ ap (λ (x : Reply). x.status) (accepted_same r _ h) in
+      absurd (cc one)
+  by_verdict (verdict.Yes k) e h = within (nat_lt most (messages i.1.net k)) k e h
+
+pub driven_mails_keep_yes : InputsStart → YesStabilisesMail → DrivenRounds → DrivenMailsKeepYes
+driven_mails_keep_yes starts law covers number program network r h zero = by_input h.judged h.reads h.ends
+  where
+    by_scene : (i : InputOf) → ReadsInput program network (Accepted i) → DrivesScene number i.0 i.1 (Accepted r) → DrivenMailKeepsYes number program network r.text
+    by_scene i reads e =
+        by_verdict starts law covers number program network r zero i reads e.nodes e.is_program e.unfolded (verdict_of e.nodes (length i.1.net.devices)) refl
+        (subst (λ (V : Unfolding). DrivesBy number (verdict_of e.nodes (length i.1.net.devices)) V i.1.net (Accepted r)) (sym e.unfolded) e.drives)
+
+    by_input : (j : Judged InputOf) → ReadsInput program network j → AndThen j (λ i k. DrivesScene number i.0 i.1 k) (Accepted r) → DrivenMailKeepsYes number program network r.text
+    by_input (Refused cause) reads e = absurd (cc (e))
+    by_input (Accepted i) reads e = by_scene i reads e
