@@ -30,10 +30,6 @@ pub exports_more : (U : Unfolding) (xs : List (Option Export)) (x : Option Expor
 exports_more U [] x a w = (w, tt)
 exports_more U (y ∷ xs) x a w = (a.0, exports_more U xs x a.1 w)
 
-pub one_longer : (xs : List (Option Export)) (x : Option Export) → length (xs ++ x ∷ []) ≡ length xs + 1
-one_longer [] x = refl
-one_longer (y ∷ xs) x = let r = one_longer xs x in omega (arith, r)
-
 -- the devices of a field's values
 pub devices_are : (F : ℕ → LocalValue) (ds : List ℕ) → devices (map (λ (d : ℕ). (d, F d)) ds) ≡ ds
 devices_are F [] = refl

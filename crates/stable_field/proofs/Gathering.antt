@@ -91,15 +91,6 @@ module _ (U : Unfolding) (N : Network) (xs ys : List (Option Export)) (s t : Sna
   pub fired_more : (x : Export) → MayHear U N xs ms s → IsExportOfCopy U (copy_with U t (all_heard N ys ns t)) x → IsExportOfCopy U (copy_with U s (all_heard N xs ms s)) x
   fired_more x m f = subst (λ c. IsExportOfCopy U c x) (same (subst (λ us. Rises (near_numbers us)) cons m.rising)) f
 
--- the last element of a list, and those before it
-pub last_is : {X : Type 0} (xs ys : List X) (x y : X) → xs ++ x ∷ [] ≡ ys ++ y ∷ [] → (xs ≡ ys) × (x ≡ y)
-last_is [] [] x y q = (refl, cc)
-last_is [] (b ∷ []) x y q = absurd cc
-last_is [] (b ∷ c ∷ ys) x y q = absurd cc
-last_is (a ∷ []) [] x y q = absurd cc
-last_is (a ∷ b ∷ xs) [] x y q = absurd cc
-last_is (a ∷ xs) (b ∷ ys) x y q = let h : a ≡ b = cc in let r : xs ++ x ∷ [] ≡ ys ++ y ∷ [] = cc in let t = last_is xs ys x y r in let u = t.0 in (cc, t.1)
-
 abbrev the_snap : ℕ → Vec Local Global → Option Export → ArrayVec Near → Snap
 the_snap d i o n = record { device = d; inputs = i; own = o; near = n }
 

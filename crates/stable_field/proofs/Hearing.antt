@@ -1,5 +1,5 @@
 -- The copy of a device that hears the exports of a table.
-use Rattle.std.proofs.Common.{◌≡◌, ◌≢◌, ℕ, zero, suc, List, [], ◌∷◌, map, get_or, refl, sym, ◌∙◌, ap, arith, Option, Some, None, Bool, true, false, nat_eq, if◌then◌else◌}
+use Rattle.std.proofs.Common.{◌≡◌, ◌≢◌, ℕ, List, [], ◌∷◌, map, get_or, refl, sym, ◌∙◌, ap, arith, Option, Some, None, Bool, true, false, nat_eq, if◌then◌else◌}
 use Rattle.std.specs.Prelude.{slice_set, option_map}
 use Rattle.fc_values.specs.declared.exports.Export.{Export}
 use Rattle.fc_values.specs.Fields.{Rises}
@@ -49,11 +49,6 @@ slot_export U (i ∷ is) (x ∷ xs) d a = by_test (nat_eq d i) (slot_export U is
     by_test : (b : Bool) → WhereSome (IsExportOf U) (slot_at is xs d) → WhereSome (IsExportOf U) (if b then x else slot_at is xs d)
     by_test true ih = a.0
     by_test false ih = ih
-
-pub emptied_exports : (U : Unfolding) (xs : List (Option Export)) (k : ℕ) → AllExports U xs → AllExports U (slice_set xs k None)
-emptied_exports U [] k a = tt
-emptied_exports U (x ∷ xs) zero a = (tt, a.1)
-emptied_exports U (x ∷ xs) (suc k) a = (a.0, emptied_exports U xs k a.1)
 
 module _ (U : Unfolding) (is : List ℕ) (xs : List (Option Export)) where
   -- they stand for the copies of the definition

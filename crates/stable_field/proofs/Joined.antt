@@ -20,12 +20,11 @@ use Rattle.fc_nodes.specs.Program.{Program, Unfolding, IsProgram}
 use Rattle.fc_nodes.proofs.Places.{formed_above, term_is}
 use Rattle.fc_nodes.proofs.Kids.{apply_laid, kids_stand}
 use Rattle.value_trees.specs.Copies.{WhereSome}
-use Rattle.value_trees.proofs.WalkSteps.{root_stands}
 use Rattle.topology.specs.Networks.{Network, IsNetwork, Lives, lives, numbers}
 use Rattle.interval_facts.specs.Solutions.{In, around, no_binders, local_map, Solves, SolveAll}
 use Rattle.interval_facts.proofs.Claims.{fits_of}
 use Rattle.converge_laws.specs.Stabilising.{HasOneSolution}
-use Rattle.closed_terms.specs.Parts.{IsClosedTerm, IsPart, PartsSolve}
+use Rattle.closed_terms.specs.Parts.{IsClosedTerm}
 use Rattle.stable_field.specs.declared.terms.Known.{Known}
 use Rattle.stable_field.specs.Stable.{IsStableField}
 use Rattle.stable_field.specs.Columns.{IsColumn, IsKnown, AllKnown, IsJoin, value_of_two, joined_value, HasLocal, HaveLocal, joined_entries}
@@ -61,28 +60,11 @@ module _ (U : Unfolding) (N : Network) (one : HasOneSolution U N) (es : Entries)
 pub column_rises : (U : Unfolding) (N : Network) (es : Entries) → IsNetwork N → IsStableField U N es → Rises (devices es)
 column_rises U N es net s = subst Rises (sym (ap devices s.values ∙ devices_are s.one.field (numbers N.devices))) net.rising
 
--- the column of a part is that of its term
-pub placed : PartsSolve → (P Q : Program) (p end : ℕ) (N : Network) (es fs : Entries) → IsClosedTerm P p end → IsPart P p Q → IsColumn N 0 (term_at Q.nodes 0) es → fs ≡ es → IsColumn N p (term_at P.nodes p) fs
-placed law P Q p end N es fs t part c same = record {
-  field = c.field;
-  values = same ∙ c.values;
-  solves = law P Q p N (lives N) no_binders no_binders (local_map c.field) t.closed part c.solves;
-}
-
 pub one_known : (D : Declarations) (N : Network) (ks : List Known) (k : Known) → AllKnown D N ks → IsKnown D N k → AllKnown D N (ks ++ k ∷ [])
 one_known D N [] k a h = (h, tt)
 one_known D N (j ∷ ks) k a h = (a.0, one_known D N ks k a.1 h)
 
 -- ---- terms
-
-pub root_term : (P : Program) → IsProgram P → (n : ℕ) → n ≡ length P.nodes → IsClosedTerm P 0 n
-root_term P program n e = record {
-  stands = root_stands P program;
-  closed = program.typed;
-  local = program.root;
-  ends = let w = program.formed.whole in omega (arith, w, e);
-  within = omega (arith, e);
-}
 
 module _ (P : Program) (p end : ℕ) (t : IsClosedTerm P p end) (o : Builtin) (a b : ℕ) (j : IsJoin P p o a b) where
   abbrev x : Term
