@@ -1,7 +1,6 @@
 -- The walk form, read from nodes.
 use Rattle.std.proofs.Common.{◌≡◌, ℕ, suc, ◌<◌, ◌+◌, List, [], ◌∷◌, length, get_or, refl, sym, ◌∙◌, ap, subst, arith, Bool, true, false, Option, Some, None}
 use Rattle.std.specs.Prelude.{IfNone, if◌then◌else◌}
-use Rattle.fc_values.specs.declared.builtins.Builtin.{Builtin}
 use Rattle.fc_values.specs.declared.builtins.Builtin.TheVariants as op
 use Rattle.fc_values.specs.Types.{IntType, BoolType, PairType, ValueType, TypeLocal, TypeField}
 use Rattle.fc_nodes.specs.declared.nodes.Node.{Node}
@@ -25,13 +24,6 @@ view_same : (s r : Sort) (t u : ValueType) (ks ls : List ℕ) → Some (Has s t 
 view_same s r t u ks ls e = (cc, cc, cc)
 
 -- ---- builtins of two arguments
-
--- a node of such a term
-pub builtin_node : (ns : List Node) (p : ℕ) (o : Builtin) (s : Sort) (t : ValueType) (ks : List ℕ) → HasNode ns p s t ks → StandsAt ns p → IsBuiltinAt o ns p → (s ≡ OfApply o) × (length ks ≡ 2)
-builtin_node ns p o s t ks h st b =
-    let l : Laid ns p (Apply b.0 o (More b.1 (More b.2 NoMore))) = subst (Laid ns p) b.3 st.laid in
-    let v = view_same s (OfApply o) t b.0 ks (suc p ∷ (suc p + size b.1) ∷ []) (sym h ∙ l.0) in
-    (v.0, ap length v.2)
 
 pub add_sort : (s : Sort) → is_add s ≡ true → s ≡ OfApply op.Add
 add_sort (OfLeaf l) e = absurd cc
