@@ -3,3 +3,4 @@ mod OneRuns
 mod SomeRuns
 mod Running
 mod KeptYes
+mod Replaying

@@ -6,7 +6,6 @@ use Rattle.fc_values.specs.Exports.{FlatExport}
 use Rattle.fc_values.specs.Trees.{TreeExport}
 use Rattle.fc_values.specs.Types.{Input}
 use Rattle.fc_values.specs.Values.{LocalValue}
-use Rattle.fc_nodes.specs.Flat.{tree_export}
 use Rattle.fc_nodes.specs.Program.{Unfolding}
 use Rattle.value_trees.specs.KeptLists.{kept_only, kept_values}
 use Rattle.value_trees.proofs.KeptSlots.{kept_of_slots}

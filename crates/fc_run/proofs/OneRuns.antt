@@ -1,5 +1,5 @@
 -- Texts are run to one text where the logs agree.
-use Rattle.std.proofs.Common.{ℕ, ◌≡◌, List, ◌++◌, refl, ap, ap₂, ◌∙◌, sym, subst}
+use Rattle.std.proofs.Common.{ℕ, ◌≡◌, List, ◌++◌, refl, ap, ◌∙◌, sym, subst}
 use Rattle.fc_nodes.specs.Program.{Unfolding, unfolding_of}
 use Rattle.firing_core.specs.declared.entries.Part.{Part}
 use Rattle.firing_core.specs.Cores.{Core, IsGood}
@@ -9,15 +9,14 @@ use Rattle.edit_commands.specs.LineByLine.{AllLines, StopsAt}
 use Rattle.edit_commands.specs.Scripts.{CommandValue, Script, TooManyLines, Within, script_of}
 use Rattle.report.specs.Logs.{log_text}
 use Rattle.session.specs.Laws.{OneScriptRun}
-use Rattle.session.specs.ScriptRuns.{ScriptRun}
 use Rattle.fc_check.specs.Laws.{OneVerdict}
 use Rattle.fc_inputs.specs.Causes.{Cause, Judged, Accepted, Refused, AndThen}
 use Rattle.fc_inputs.specs.Inputs.{InputOf, OneInput, ReadsInput}
 use Rattle.fc_replay.specs.Laws.{InputsStart}
 use Rattle.fc_replay.specs.Replays.{start_of, book_of, table_line, where_asked}
 use Rattle.fc_run.specs.declared.runs.RunOptions.{RunOptions}
-use Rattle.fc_run.specs.Laws.{OneRun, AlikeRuns, RunsAgree}
-use Rattle.fc_run.specs.Runs.{RanValue, run_text, RunsCommands, RunsLines, RunsScript, Runs}
+use Rattle.fc_run.specs.Laws.{OneRun, AlikeRuns}
+use Rattle.fc_run.specs.Runs.{RanValue, run_text, RunsCommands, RunsScript}
 use Rattle.fc_run.proofs.LogTexts.{same_log}
 
 both_refused : (j k : Judged RanValue) (cause : Cause) → j ≡ Refused cause → k ≡ Refused cause → AlikeRuns j k

@@ -25,7 +25,7 @@ use Rattle.fc_replay.specs.Replays.{start_of, book_of, table_line, where_asked}
 use Rattle.fc_run.specs.declared.runs.Ran.{Ran}
 use Rattle.fc_run.specs.declared.runs.RunOptions.{RunOptions}
 use Rattle.fc_run.specs.Code.{IsEnded, IsRefused, ran_of, script_stop}
-use Rattle.fc_run.specs.Runs.{RanValue, RunsCommands, RunsScript, Runs, line_refusal, run_text}
+use Rattle.fc_run.specs.Runs.{RanValue, RunsCommands, RunsScript, Runs, run_text}
 
 -- ---- the script
 pub stops_script : (U : Unfolding) (start : Core) (text : List ℕ) (fault : ScriptFault)
@@ -158,20 +158,18 @@ lines_judged law V D start text commands others d e said fits =
     (subst (λ (Q : Program). AllCommandsFit (unfolding_of Q) commands) d fits))
 
 -- ---- the text at the end of a session
-pub ended_text : (options : RunOptions) (s : SessionValue) (book : BookValue) (core : CoreValue)
-    (first second whole table : List ℕ) → book ≡ s.book → first ≡ s.text → core ≡ book.core
-    → book.core.program ≡ book.program
+pub ended_text : (options : RunOptions) (s : SessionValue) (book : BookValue) (first second whole : List ℕ)
+    → book ≡ s.book → first ≡ s.text → book.core.program ≡ book.program
     → second ≡ first
     ++ where_asked options.log (log_text book.program.declared.inputs (entries_of book.log))
-    → table ≡ where_asked options.table (table_line (program_of core) (core_of core)) → whole ≡ second ++ table
+    → whole ≡ second ++ where_asked options.table (table_line (program_of book.core) (core_of book.core))
     → whole ≡ run_text options (unfolding_of s.book.program) (entries_of s.book.log) (core_of s.book.core) s.text
-ended_text options s book core first second whole table is said held program logged tabled all =
+ended_text options s book first second whole is said held logged tabled =
     let lines : List ℕ = where_asked options.log (log_text book.program.declared.inputs (entries_of book.log)) in
-    let own : table ≡ where_asked options.table (table_line (unfolding_of book.program) (core_of book.core)) =
-    tabled ∙ ap (λ (k : CoreValue). where_asked options.table (table_line (program_of k) (core_of k))) held
-    ∙ ap (λ (P : Program). where_asked options.table (table_line (unfolding_of P) (core_of book.core))) program in
-    all
-    ∙ ap (λ (l : List ℕ). l ++ table) logged
-    ∙ ap (λ (l : List ℕ). (l ++ lines) ++ table) said
-    ∙ ap (λ (l : List ℕ). (s.text ++ lines) ++ l) own
+    let table : Program → List ℕ = λ P. where_asked options.table
+    (table_line (unfolding_of P) (core_of book.core)) in
+    tabled
+    ∙ ap (λ (P : Program). second ++ table P) held
+    ∙ ap (λ (l : List ℕ). l ++ table book.program) logged
+    ∙ ap (λ (l : List ℕ). (l ++ lines) ++ table book.program) said
     ∙ ap (λ (b : BookValue). run_text options (unfolding_of b.program) (entries_of b.log) (core_of b.core) s.text) is

@@ -1,5 +1,5 @@
 -- Texts are run to something.
-use Rattle.std.proofs.Common.{ℕ, ◌≡◌, ◌≤◌, Bool, true, false, List, length, refl, ap, ◌∙◌, sym, subst, if◌then◌else◌}
+use Rattle.std.proofs.Common.{ℕ, ◌≡◌, Bool, true, false, List, length, refl, ap, sym, subst, if◌then◌else◌}
 use Rattle.std.specs.Prelude.{nat_lt}
 use Rattle.fc_nodes.specs.Program.{Program, Unfolding, unfolding_of, IsProgram}
 use Rattle.firing_core.specs.Cores.{Core, IsGood}
@@ -8,12 +8,11 @@ use Rattle.edit_commands.specs.declared.scripts.TheConstants.{MOST_LINES}
 use Rattle.edit_commands.specs.JudgedCommands.{ScriptsAreJudged}
 use Rattle.edit_commands.specs.LineByLine.{Lines, AllLines, StopsAt}
 use Rattle.edit_commands.specs.ScriptCommands.{ScriptsHaveCommands}
-use Rattle.edit_commands.specs.Scripts.{ScriptLine, LineFault, Script, TooManyLines, Within, lines_in, script_of}
+use Rattle.edit_commands.specs.Scripts.{ScriptLine, LineFault, TooManyLines, Within, lines_in, script_of}
 use Rattle.edit_commands.specs.Scripts.{IsScript, SaidByScript}
 use Rattle.session.specs.Laws.{SomeScriptRun}
 use Rattle.net_json.specs.Scenes.{SceneValue}
 use Rattle.fc_inputs.specs.declared.refusal.Refusal.TheVariants.{Lines as LinesOf}
-use Rattle.fc_inputs.specs.declared.sources.TheConstants.{MOST_BYTES}
 use Rattle.fc_inputs.specs.Causes.{Plainly, Judged, Accepted, Refused}
 use Rattle.fc_inputs.specs.Inputs.{InputOf, OneInput, ReadsInput, TextsUnfold}
 use Rattle.fc_replay.specs.Laws.{InputsStart}

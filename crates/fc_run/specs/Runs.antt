@@ -1,5 +1,5 @@
 -- What `run` makes of a program, a scene and a script.
-use Rattle.std.specs.Prelude.{ℕ, Bool, ◌≡◌, List, ◌++◌}
+use Rattle.std.specs.Prelude.{ℕ, ◌≡◌, List, ◌++◌}
 use Rattle.fc_nodes.specs.Program.{Program, Unfolding, IsProgram, unfolding_of}
 use Rattle.firing_core.specs.declared.entries.Part.{Part}
 use Rattle.firing_core.specs.Cores.{Core}

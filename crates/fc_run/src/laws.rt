@@ -1,13 +1,14 @@
 //! Laws of the definitions.
 
 ghost use Rattle.fc_run.specs.Laws.{OneRun, RunsKeepYes, SomeRun};
+ghost use Rattle.fc_run.specs.LogsOfRuns.{RunsReplay};
 
 use edit_commands::{readings_agree, scripts_are_judged, scripts_have_commands};
 use fc_check::one_verdict;
 use fc_inputs::{one_input, texts_unfold};
-use fc_replay::inputs_start;
+use fc_replay::{inputs_start, written_logs_replay};
 use script_laws::scripts_keep_yes;
-use session::{one_script_run, some_script_run};
+use session::{one_script_run, script_runs_lead, some_script_run};
 
 /// Texts are run to one text where the logs agree, or refused for one cause.
 pub fn one_run()
@@ -39,4 +40,13 @@ pub fn runs_keep_yes()
 {
     inputs_start();
     scripts_keep_yes();
+}
+
+/// The lines behind `log` in the text of a run, given back as the log of the same program and network, are replayed to
+/// the core of the run, and its values are shown.
+pub fn runs_replay()
+    ensures { RunsReplay }
+{
+    script_runs_lead();
+    written_logs_replay();
 }

@@ -5,5 +5,5 @@ mod laws;
 mod runs;
 mod scripts;
 
-pub use laws::{one_run, runs_keep_yes, some_run};
+pub use laws::{one_run, runs_keep_yes, runs_replay, some_run};
 pub use runs::{Ran, RunOptions, run};

@@ -1,8 +1,9 @@
 //! What `run` makes of a program, a scene and a script.
 ghost use Rattle.std.specs.Prelude.{◌≡◌, ◌≤◌, ◌++◌, IfErr, IfOk, OnOk, length};
+ghost use Rattle.firing_core.specs.CoreViews.{core_of, program_of};
 ghost use Rattle.firing_core.specs.Entries.{entries_of};
 ghost use Rattle.report.specs.Logs.{log_text};
-ghost use Rattle.fc_replay.specs.Replays.{where_asked};
+ghost use Rattle.fc_replay.specs.Replays.{table_line, where_asked};
 ghost use Rattle.fc_inputs.specs.Causes.{Accepted, Refused};
 ghost use Rattle.fc_inputs.specs.Stops.{StopsFor};
 ghost use Rattle.fc_inputs.specs.declared.sources.TheConstants.{MOST_BYTES};
@@ -43,13 +44,33 @@ pub struct Ran {
 }
 
 // Appends the log of a book, where it is asked for.
-fn write_log(alloc: Global, asked: bool, text: &mut Vec<u8>, book: &Book) -> Result<(), Memory>
-    ensures { OnOk result (text.new.items
-        ≡ text.old.items ++ where_asked asked (log_text book.now.program.declared.inputs (entries_of book.now.log))) }
+fn write_log(
+    alloc: Global,
+    options: RunOptions,
+    text: &mut Vec<u8>,
+    book: &Book,
+) -> Result<(), Memory>
+    ensures { OnOk result (text.new.items ≡ text.old.items
+        ++ where_asked options.log (log_text book.now.program.declared.inputs (entries_of book.now.log))) }
 {
-    if asked {
+    if options.log {
         entries(alloc, text, book)?;
     }
+    Ok(())
+}
+
+// Appends the table of a book's core, where it is asked for.
+fn write_table(
+    alloc: Global,
+    options: RunOptions,
+    text: &mut Vec<u8>,
+    book: &Book,
+) -> Result<(), Memory>
+    ensures { OnOk result (text.new.items ≡ text.old.items
+        ++ where_asked options.table (table_line (program_of book.now.core) (core_of book.now.core))) }
+{
+    let table = table_text(alloc, options.table, book.core())?;
+    text.extend_from_slice(&table)?;
     Ok(())
 }
 
@@ -58,9 +79,10 @@ fn ended(alloc: Global, options: RunOptions, session: Session) -> Result<Ran, Me
     ensures { IfOk result (IsEnded options session) }
 {
     let (book, parts, mut text) = session.finish();
-    write_log(alloc, options.log, &mut text, &book)?;
-    let table = table_text(alloc, options.table, book.core())?;
-    text.extend_from_slice(&table)?;
+    write_log(alloc, options, &mut text, &book)?;
+    write_table(alloc, options, &mut text, &book)?;
+    // Its clause: the core is of the book's program.
+    let _core = book.core();
     Ok(Ran { text, book, parts })
 }
 

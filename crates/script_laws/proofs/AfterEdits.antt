@@ -1,7 +1,7 @@
 -- The part of a log after its last edit, when entries are put behind the log.
-use Rattle.std.proofs.Common.{◌≡◌, ℕ, zero, suc, ◌+◌, ◌≤◌, List, [], ◌∷◌, ◌++◌, length, refl, ap, ◌∙◌, subst, arith, Bool, true, false, ◌||◌, if◌then◌else◌, append_assoc}
-use Rattle.fc_values.proofs.Booleans.{or_no, or_true}
-use Rattle.firing_core.specs.Entries.{EditValue, EntryValue, EditEntry}
+use Rattle.std.proofs.Common.{◌≡◌, ℕ, zero, suc, ◌+◌, List, [], ◌∷◌, ◌++◌, refl, ap, ◌∙◌, subst, arith, Bool, true, false, ◌||◌, if◌then◌else◌, append_assoc}
+use Rattle.fc_values.proofs.Booleans.{or_no}
+use Rattle.firing_core.specs.Entries.{EntryValue}
 use Rattle.firing_core.specs.Rounds.{is_edit, has_edit, after_edit, HasRounds}
 use Rattle.round_count.specs.Laws.{RoundsFollow}
 
@@ -12,10 +12,6 @@ plain_after (x ∷ xs) p = let k = or_no (is_edit x) (has_edit xs) p in rw (k.1)
 has_join : (xs ys : List EntryValue) → has_edit ys ≡ false → has_edit (xs ++ ys) ≡ has_edit xs
 has_join [] ys p = p
 has_join (x ∷ xs) ys p = ap (λ b. is_edit x || b) (has_join xs ys p)
-
-has_later : (xs ys : List EntryValue) (e : EditValue) → has_edit (xs ++ EditEntry e ∷ ys) ≡ true
-has_later [] ys e = refl
-has_later (x ∷ xs) ys e = or_true (is_edit x) (has_edit (xs ++ EditEntry e ∷ ys)) (has_later xs ys e)
 
 first_of : (x : EntryValue) (xs ys : List EntryValue) (b : Bool) → (if b then xs ++ ys else x ∷ xs ++ ys) ≡ (if b then xs else x ∷ xs) ++ ys
 first_of x xs ys true = refl
@@ -30,20 +26,6 @@ after_plain (x ∷ xs) ys p = by_test (has_edit xs) (has_join xs ys p) (after_pl
         → (if has_edit (xs ++ ys) then after_edit (xs ++ ys) else (if is_edit x then xs ++ ys else x ∷ xs ++ ys)) ≡ (if b then after_edit xs else (if is_edit x then xs else x ∷ xs)) ++ ys
     by_test true e ih = rw e ih
     by_test false e ih = rw e (first_of x xs ys (is_edit x))
-
--- behind an edit and entries without one, those are left
-pub after_last : (xs ys : List EntryValue) (e : EditValue) → has_edit ys ≡ false → after_edit (xs ++ EditEntry e ∷ ys) ≡ ys
-after_last [] ys e p = rw p refl
-after_last (x ∷ xs) ys e p = rw (has_later xs ys e) (after_last xs ys e p)
-
-pub after_short : (xs : List EntryValue) → length (after_edit xs) ≤ length xs
-after_short [] = omega arith
-after_short (x ∷ xs) = by_tests (has_edit xs) (is_edit x) (after_short xs)
-  where
-    by_tests : (b t : Bool) → length (after_edit xs) ≤ length xs → length (if b then after_edit xs else (if t then xs else x ∷ xs)) ≤ suc (length xs)
-    by_tests true t ih = omega (arith, ih)
-    by_tests false true ih = omega arith
-    by_tests false false ih = omega arith
 
 -- rounds behind rounds
 pub rounds_join : RoundsFollow → (live : List ℕ) (xs ys : List EntryValue) (j k : ℕ) → HasRounds live xs j → HasRounds live ys k → HasRounds live (xs ++ ys) (j + k)

@@ -1,7 +1,6 @@
 -- What is known of what lines have added, and of the core to which they led; and what one more line keeps of it.
 use Rattle.std.proofs.Common.{◌≡◌, ℕ, suc, ◌+◌, ◌≤◌, List, [], ◌∷◌, ◌++◌, map, length, length-append, append_assoc, append-nil, refl, sym, ap, ◌∙◌, subst, arith, false}
 use Rattle.std.proofs.lemmas.List.{length-map}
-use Rattle.fc_values.proofs.Booleans.{or_no}
 use Rattle.fc_values.specs.Exports.{FlatExport}
 use Rattle.fc_nodes.specs.declared.verdicts.Verdict.{Verdict}
 use Rattle.fc_nodes.specs.Program.{Program, unfolding_of}
@@ -12,15 +11,16 @@ use Rattle.firing_core.specs.Cores.{Core, Run, edited}
 use Rattle.firing_core.specs.Entries.{EditValue, LinkEdit, UnlinkEdit, SetEdit, PokeEdit, JoinEdit, LeaveEdit}
 use Rattle.firing_core.specs.Entries.{EntryValue, BeginEntry, EditEntry}
 use Rattle.firing_core.specs.Laws.{PlainRunsKeepNet, RunsCut}
-use Rattle.firing_core.specs.Rounds.{is_edit, has_edit, after_edit, HasRounds}
-use Rattle.firing_core.specs.Stretches.{IsMixed, MixStretch}
+use Rattle.firing_core.specs.Rounds.{has_edit, after_edit, HasRounds}
+use Rattle.firing_core.specs.Stretches.{MixStretch}
 use Rattle.fragment_check.specs.Verdicts.{verdict_of}
 use Rattle.round_count.specs.Laws.{RoundsFollow}
 use Rattle.edit_commands.specs.Scripts.{CommandValue, RunCommand, EditCommand, ScrambleCommand, ShowCommand, MixCommand}
 use Rattle.session.specs.ScriptRuns.{Added, both, nothing, poke, part_of, shown_after, DoesLine, DoesLines, RunsRounds, MixesEdit, MakesEdit, Scrambles, ShowsCore}
 use Rattle.session.specs.Shown.{Shown, ShowsValues, ShowsVerdict, verdict_in}
 use Rattle.script_laws.specs.Since.{place_after, rounds_from, rounds_since, last_verdict}
-use Rattle.script_laws.proofs.AfterEdits.{after_plain, after_last, after_short, rounds_join}
+use Rattle.session.proofs.EditsInLogs.{after_last, after_short, mixed_numbers, plain_both}
+use Rattle.script_laws.proofs.AfterEdits.{after_plain, rounds_join}
 use Rattle.script_laws.proofs.PartRounds.{AllBegin, begin_later, begin_both, rounds_both, rounds_none, rounds_one}
 
 pub record Follows (P : Program) (c : Core) (a : Added) (now : Core) : Type 0 where
@@ -58,14 +58,6 @@ verdict_at P c d e =
     sym (length-map d.net.devices (λ (n : NetDevice). n.id)) ∙ (ap (λ (l : List ℕ). length l) e ∙ length-map c.net.devices (λ (n : NetDevice). n.id)) in
     ap (λ n. verdict_of P n) k
 
-mixed_same : (P : Program) (c : Core) (e : EditValue) → IsMixed e → numbers (edited (unfolding_of P) c e).net.devices ≡ numbers c.net.devices
-mixed_same P c (LinkEdit a b w) m = refl
-mixed_same P c (UnlinkEdit a b) m = refl
-mixed_same P c (SetEdit d i v) m = put_numbers d i v c.net.devices
-mixed_same P c (PokeEdit d x) m = refl
-mixed_same P c (JoinEdit x) m = absurd m
-mixed_same P c (LeaveEdit d) m = absurd m
-
 edit_verdict : (P : Program) (c d : Core) (line : ℕ) (e : EditValue) → d ≡ edited (unfolding_of P) c e → verdict_in P d ≡ last_verdict (verdict_in P c) (shown_after P line e d)
 edit_verdict P c d line (LinkEdit a b w) q = verdict_at P c d (ap (λ (k : Core). numbers k.net.devices) q)
 edit_verdict P c d line (UnlinkEdit a b) q = verdict_at P c d (ap (λ (k : Core). numbers k.net.devices) q)
@@ -73,10 +65,6 @@ edit_verdict P c d line (SetEdit x i v) q = verdict_at P c d (ap (λ (k : Core).
 edit_verdict P c d line (PokeEdit x v) q = verdict_at P c d (ap (λ (k : Core). numbers k.net.devices) q)
 edit_verdict P c d line (JoinEdit x) q = refl
 edit_verdict P c d line (LeaveEdit x) q = refl
-
-pub plain_both : (xs ys : List EntryValue) → has_edit xs ≡ false → has_edit ys ≡ false → has_edit (xs ++ ys) ≡ false
-plain_both [] ys p q = q
-plain_both (x ∷ xs) ys p q = let k = or_no (is_edit x) (has_edit xs) p in rw (k.0) (plain_both xs ys k.1 q)
 
 parted : (xs : List EntryValue) (y : EntryValue) (ys zs : List EntryValue) → xs ++ y ∷ ys ++ zs ≡ (xs ++ y ∷ ys) ++ zs
 parted [] y ys zs = refl
@@ -216,7 +204,7 @@ module _ (plain_net : PlainRunsKeepNet) (cut : RunsCut) (follow : RoundsFollow) 
           let second = plain_net (unfolding_of P) k.2.0 next m.after m.plain_after k.2.2 in
           ap (λ (n : Network). numbers n.devices) second
           ∙ (ap (λ (z : Core). numbers z.net.devices) k.2.1.after
-          ∙ (mixed_same P k.0 e d.mixed ∙ ap (λ (n : Network). numbers n.devices) first))
+          ∙ (mixed_numbers (unfolding_of P) k.0 e d.mixed ∙ ap (λ (n : Network). numbers n.devices) first))
 
   pokes : (xs : List (ℕ × FlatExport)) (a : Added) (now next : Core) → Follows P c a now → Run (unfolding_of P) now (map poke xs) next
       → Follows P c (both a (record { stretch = map poke xs; parts = []; shown = [] })) next

@@ -21,7 +21,8 @@ use Rattle.session.specs.ScriptRuns.{Added, both, nothing, DoesLines, ScriptRun}
 use Rattle.session.specs.Shown.{ShowsValues, shown_text, all_shown, script_text, verdict_in}
 use Rattle.script_laws.specs.Since.{rounds_since}
 use Rattle.script_laws.specs.Promises.{Holds, shows_field, KeepsYes}
-use Rattle.script_laws.proofs.Following.{Follows, follows_none, all_lines, plain_both}
+use Rattle.session.proofs.EditsInLogs.{plain_both}
+use Rattle.script_laws.proofs.Following.{Follows, follows_none, all_lines}
 use Rattle.script_laws.proofs.Showing.{values_held}
 
 rounds_plain : (live : List ℕ) (log : List EntryValue) (n : ℕ) → HasRounds live log n → has_edit log ≡ false

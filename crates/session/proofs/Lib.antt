@@ -1,4 +1,5 @@
 mod Lines
+pub mod EditsInLogs
 mod Progress
 mod Runs
 mod Pokes

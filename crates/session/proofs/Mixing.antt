@@ -1,22 +1,21 @@
 -- From each good core there is a stretch with an edit among firings, where the core allows the edit.
 use Rattle.std.proofs.Common.{ℕ, ◌≡◌, ◌+◌, ◌≤◌, Bool, true, false, nat_eq, ◌||◌, List, [], ◌∷◌, ◌++◌, refl, sym, ap, subst, ◌∙◌, inl, inr, arith, append_assoc, not, Option, Some, None, if◌then◌else◌}
-use Rattle.std.specs.Prelude.{slice_set}
 use Rattle.std.proofs.lemmas.Bool.{eqb-true}
 use Rattle.fc_values.proofs.Booleans.{or_true}
 use Rattle.fc_values.proofs.Rising.{rises_tail, rises_apart}
 use Rattle.fc_values.specs.Fields.{Rises, is_in}
 use Rattle.fc_values.specs.Trees.{Copy}
-use Rattle.fc_values.specs.Values.{LocalValue}
 use Rattle.fc_nodes.specs.Program.{Program, Unfolding, unfolding_of, IsProgram}
-use Rattle.topology.specs.Changes.{first_fault, link_fault, unlink_fault, set_fault, put_input}
+use Rattle.topology.specs.Changes.{first_fault, link_fault, unlink_fault, set_fault}
 use Rattle.topology.specs.declared.types.NetFault.TheVariants as net
-use Rattle.topology.specs.Networks.{Network, NetDevice, Lives, lives, numbers}
+use Rattle.topology.specs.Networks.{Network, Lives, lives, numbers}
 use Rattle.firing_core.specs.Entries.{EditValue, LinkEdit, UnlinkEdit, SetEdit, PokeEdit, JoinEdit, LeaveEdit, EntryValue, BeginEntry, EndEntry, EditEntry}
 use Rattle.firing_core.specs.Cores.{Core, Edits, EditFits, IsGood, edited, edit_fault}
 use Rattle.firing_core.specs.Rounds.{HasEnd, HasRounds}
 use Rattle.firing_core.specs.Laws.{FaultlessStep, StepsKeepGood, RunsCut}
 use Rattle.firing_core.specs.Stretches.{begins, NoneFlies, IsMixed, MixStretch}
 use Rattle.round_count.specs.Laws.{RoundsFollow}
+use Rattle.session.proofs.EditsInLogs.{mixed_numbers}
 use Rattle.session.proofs.Pokes.{is_itself}
 use Rattle.session.proofs.Sweeps.{Goes, goes_both, begins_both, sweep, sweeps, sweep_plain, sweep_out, sweep_in, sweeps_begin, sweeps_cover, swapped, begins_one, ends_one, fire_all, fire_rounds, settle_all}
 
@@ -47,23 +46,7 @@ least d e (x ∷ xs) r h = by_test (nat_eq e d) refl h (least x e xs r.1)
     by_test true t q ih = let k = eqb-true e d t in omega arith
     by_test false t q ih = let k = r.0 in let l = ih q in omega arith
 
-same_numbers : (d i : ℕ) (v : LocalValue) (ns : List NetDevice) → numbers (put_input d i v ns) ≡ numbers ns
-same_numbers d i v [] = refl
-same_numbers d i v (n ∷ ns) = by_test (nat_eq d n.id) (same_numbers d i v ns)
-  where
-    by_test : (b : Bool) → numbers (put_input d i v ns) ≡ numbers ns → numbers ((if b then record n { inputs = slice_set n.inputs i v } else n) ∷ put_input d i v ns) ≡ numbers (n ∷ ns)
-    by_test true ih = ap (λ l. n.id ∷ l) ih
-    by_test false ih = ap (λ l. n.id ∷ l) ih
-
 -- ---- edits among firings
-
-pub mixed_numbers : (U : Unfolding) (c : Core) (e : EditValue) → IsMixed e → numbers (edited U c e).net.devices ≡ numbers c.net.devices
-mixed_numbers U c (LinkEdit a b w) m = refl
-mixed_numbers U c (UnlinkEdit a b) m = refl
-mixed_numbers U c (SetEdit d i v) m = same_numbers d i v c.net.devices
-mixed_numbers U c (PokeEdit d x) m = refl
-mixed_numbers U c (JoinEdit x) m = absurd m
-mixed_numbers U c (LeaveEdit d) m = absurd m
 
 mixed_flying : (U : Unfolding) (c : Core) (e : EditValue) → IsMixed e → (edited U c e).flying ≡ c.flying
 mixed_flying U c (LinkEdit a b w) m = refl

@@ -1,34 +1,16 @@
 -- Where a stretch of the log begins and ends.
-use Rattle.std.proofs.Common.{◌≡◌, ◌+◌, ◌-◌, ◌≤◌, List, [], ◌∷◌, ◌++◌, length, Bool, true, false, refl, sym, ap, ◌∙◌, arith, append_assoc, length-append, if◌then◌else◌}
+use Rattle.std.proofs.Common.{◌≡◌, ◌+◌, ◌-◌, ◌≤◌, List, ◌∷◌, ◌++◌, length, false, sym, ap, ◌∙◌, arith, append_assoc, length-append}
 use Rattle.std.proofs.lemmas.List.{length-map}
-use Rattle.fc_values.proofs.Booleans.{or_true}
 use Rattle.firing_core.specs.declared.entries.Entry.{Entry}
 use Rattle.firing_core.specs.Entries.{EditValue, EntryValue, EditEntry, entry_of, entries_of}
-use Rattle.firing_core.specs.Rounds.{is_edit, has_edit, after_edit}
-
-has_one : (xs after : List EntryValue) (e : EditValue) → has_edit (xs ++ EditEntry e ∷ after) ≡ true
-has_one [] after e = refl
-has_one (x ∷ xs) after e = or_true (is_edit x) (has_edit (xs ++ EditEntry e ∷ after)) (has_one xs after e)
-
--- what is after the last edit
-after_last : (xs after : List EntryValue) (e : EditValue) → has_edit after ≡ false → after_edit (xs ++ EditEntry e ∷ after) ≡ after
-after_last [] after e h = rw h refl
-after_last (x ∷ xs) after e h = rw (has_one xs after e) (after_last xs after e h)
+use Rattle.firing_core.specs.Rounds.{has_edit, after_edit}
+use Rattle.session.proofs.EditsInLogs.{after_last, after_short}
 
 -- the position after the last entry
 pub end_of : (old new : List Entry) (part : List EntryValue) → entries_of new ≡ entries_of old ++ part → length new ≡ length old + length part
 end_of old new part e =
     let l = ap length e in
     omega (arith, length-map new entry_of, length-map old entry_of, length-append (entries_of old) part)
-
-pub after_short : (xs : List EntryValue) → length (after_edit xs) ≤ length xs
-after_short [] = omega arith
-after_short (x ∷ xs) = by_tests (has_edit xs) (is_edit x) (after_short xs)
-  where
-    by_tests : (a b : Bool) → length (after_edit xs) ≤ length xs → length (if a then after_edit xs else (if b then xs else x ∷ xs)) ≤ length (x ∷ xs)
-    by_tests true b h = omega arith
-    by_tests false true h = omega arith
-    by_tests false false h = omega arith
 
 -- the part after the last edit is no longer than the log
 pub last_fits : (last log whole : List Entry) → entries_of last ≡ after_edit (entries_of log) → log ≡ whole → length last ≤ length whole

@@ -1,7 +1,6 @@
 -- What a command asks of a core holds of each core to which the lines before lead.
-use Rattle.std.proofs.Common.{ℕ, ◌≡◌, ◌+◌, ◌*◌, ◌≤◌, Bool, true, false, nat_eq, nat_le, not, ◌||◌, List, [], ◌∷◌, ◌++◌, length, map, refl, sym, ap, subst, ◌∙◌, arith, Option, Some, None, is_some, if◌then◌else◌}
+use Rattle.std.proofs.Common.{ℕ, ◌≡◌, ◌+◌, ◌*◌, ◌≤◌, Bool, true, false, nat_eq, nat_le, not, List, [], ◌∷◌, ◌++◌, length, map, refl, sym, ap, subst, ◌∙◌, arith, Option, Some, None, is_some, if◌then◌else◌}
 use Rattle.std.proofs.lemmas.Bool.{eqb-true}
-use Rattle.fc_values.proofs.Booleans.{or_no}
 use Rattle.fc_values.specs.Exports.{FlatExport}
 use Rattle.fc_values.specs.Trees.{Copy}
 use Rattle.fc_nodes.specs.Program.{Program, Unfolding, unfolding_of}
@@ -13,12 +12,12 @@ use Rattle.topology.specs.Changes.{first_fault, join_fault}
 use Rattle.topology.specs.Inputs.{or_fault, inputs_fault}
 use Rattle.firing_core.specs.Entries.{EditValue, LinkEdit, UnlinkEdit, SetEdit, PokeEdit, JoinEdit, LeaveEdit, EntryValue, BeginEntry, EditEntry}
 use Rattle.firing_core.specs.Cores.{Core, Run, Edits, IsGood, edited, edit_fault}
-use Rattle.firing_core.specs.Rounds.{has_edit, is_edit}
 use Rattle.firing_core.specs.Laws.{PlainRunsKeepNet, RunsCut}
 use Rattle.firing_core.specs.Stretches.{MixStretch}
 use Rattle.edit_commands.specs.declared.scripts.TheConstants.{MOST_FIRINGS}
 use Rattle.edit_commands.specs.Scripts.{Progress, CommandValue, RunCommand, EditCommand, ScrambleCommand, ShowCommand, MixCommand}
 use Rattle.edit_commands.specs.JudgedCommands.{net_after, IsLeftBy, MayCome, after_command}
+use Rattle.session.proofs.EditsInLogs.{plain_both}
 use Rattle.session.specs.Conditions.{Allows}
 use Rattle.session.specs.ScriptRuns.{Added, DoesLine, poke}
 
@@ -102,12 +101,6 @@ pokes_keep U c last (x ∷ xs) r =
     (k.0 ∙ ap (λ (k : Core). k.net) r.1.after, k.1 ∙ ap (λ (k : Core). k.flying) r.1.after)
 
 -- ---- an edit among firings
-
-pub plain_both : (xs ys : List EntryValue) → has_edit xs ≡ false → has_edit ys ≡ false → has_edit (xs ++ ys) ≡ false
-plain_both [] ys p q = q
-plain_both (x ∷ xs) ys p q =
-    let k = or_no (is_edit x) (has_edit xs) p in
-    ap (λ b. b || has_edit (xs ++ ys)) k.0 ∙ plain_both xs ys k.1 q
 
 mixed_net : PlainRunsKeepNet → RunsCut → (U : Unfolding) (c last : Core) (rounds : ℕ) (e : EditValue) (part : List EntryValue)
     → MixStretch U c rounds e part last → last.net ≡ net_after c.net e

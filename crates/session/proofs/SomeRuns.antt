@@ -16,7 +16,7 @@ use Rattle.scramble.specs.Rubbish.{SomeRubbish}
 use Rattle.scramble.specs.Words.{words_of}
 use Rattle.session.specs.Conditions.{Allows, AllowsMix}
 use Rattle.session.specs.Growing.{MayPoke}
-use Rattle.session.specs.Laws.{SomeScriptRun}
+use Rattle.session.specs.Laws.{ScriptRunsLead, SomeScriptRun}
 use Rattle.session.specs.ScriptRuns.{Added, nothing, both, DoesLine, DoesLines, part_of, shown_after, poke}
 use Rattle.session.specs.Shown.{ShowsValues, script_text}
 use Rattle.session.proofs.Mixing.{mix_stretch}
@@ -37,6 +37,16 @@ leads P c next at line (EditCommand e) a d = d.leads
 leads P c next at line (ScrambleCommand n) a d = d.leads
 leads P c next at line ShowCommand a d = subst (λ (l : List EntryValue). Run (unfolding_of P) c l next) (sym d.stretch) d.same
 leads P c next at line (MixCommand r e) a d = d.mixes.leads
+
+lines_lead : RunsCut → (P : Program) (c last : Core) (at : ℕ) (lines : List (ℕ × CommandValue)) (a : Added) → DoesLines P c at lines a last → Run (unfolding_of P) c a.stretch last
+lines_lead cut P c last at [] a d = subst (λ (b : Added). Run (unfolding_of P) c b.stretch last) (sym d.0) d.1
+lines_lead cut P c last at (line ∷ lines) a d =
+    subst (λ (b : Added). Run (unfolding_of P) c b.stretch last) (sym d.3)
+    ((cut (unfolding_of P) c last d.0.stretch d.1.stretch).1
+    (d.2, leads P c d.2 at line.0 line.1 d.0 d.4, lines_lead cut P d.2 last (at + length d.0.stretch) lines d.1 d.5))
+
+pub runs_lead : RunsCut → ScriptRunsLead
+runs_lead cut P c last lines log parts text h = lines_lead cut P c last 0 lines _ h.does
 
 module _ (step : FaultlessStep) (keep : StepsKeepGood) (runs : RunsKeepGood) (plain : PlainRunsKeepNet) (cut : RunsCut) (follow : RoundsFollow)
     (rubbish : SomeRubbish) (P : Program) (p : IsProgram P) where

@@ -2,7 +2,7 @@
 use Rattle.std.specs.Prelude.{ℕ, ◌≡◌, ◌+◌, ◌↔◌, List, ◌++◌, length}
 use Rattle.fc_nodes.specs.Program.{Program, IsProgram, unfolding_of}
 use Rattle.firing_core.specs.declared.entries.Part.{Part}
-use Rattle.firing_core.specs.Cores.{Core, IsGood}
+use Rattle.firing_core.specs.Cores.{Core, IsGood, Run}
 use Rattle.firing_core.specs.Entries.{EntryValue}
 use Rattle.fragment_check.specs.Verdicts.{verdict_of}
 use Rattle.edit_commands.specs.Agreement.{SameCommands, SameEntries}
@@ -35,3 +35,8 @@ OneScriptRun = (P Q : Program) (c last other : Core) (xs ys : List (ℕ × Comma
     → ((n : ℕ) → verdict_of Q n ≡ verdict_of P n) → IsGood (unfolding_of P) c
     → SameCommands (unfolding_of P) xs ys → SameEntries (unfolding_of P) log rest
     → ScriptRun P c xs log parts text last → ScriptRun Q c ys rest more says other → (text ≡ says) × (last ≡ other)
+
+-- the log of a script run leads from its core to the last one
+abbrev pub ScriptRunsLead : Type 0
+ScriptRunsLead = (P : Program) (c last : Core) (lines : List (ℕ × CommandValue)) (log : List EntryValue)
+    (parts : List Part) (text : List ℕ) → ScriptRun P c lines log parts text last → Run (unfolding_of P) c log last

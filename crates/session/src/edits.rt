@@ -1,6 +1,6 @@
 //! Edits of a book.
 
-ghost use Rattle.std.specs.Prelude.{◌≡◌, ◌∷◌, ◌++◌, [], IfOk, OnOk, length, map};
+ghost use Rattle.std.specs.Prelude.{ℕ, ◌≡◌, ◌∷◌, ◌++◌, [], IfOk, OnOk, length, map};
 ghost use Rattle.fc_nodes.specs.Program.{unfolding_of};
 ghost use Rattle.fc_values.specs.Fields.{Rises};
 ghost use Rattle.topology.specs.Networks.{numbers};
@@ -10,9 +10,11 @@ ghost use Rattle.firing_core.specs.Entries.{EditEntry, edit_of};
 ghost use Rattle.scramble.specs.Rubbish.{AreDrawn, of_devices};
 ghost use Rattle.scramble.specs.Words.{words_of};
 ghost use Rattle.session.specs.Conditions.{AllowsEdit};
-ghost use Rattle.session.specs.ScriptRuns.{poke};
+ghost use Rattle.session.specs.ScriptRuns.{poke, shown_after};
+ghost use Rattle.session.specs.Shown.{all_shown};
 ghost use Rattle.session.specs.Growing.{GrewBy, MayPoke, Scrambled};
 
+use crate::showing::show_edit;
 use fc_values::{Export, Memory, copy, copy_export};
 use firing_core::{Book, Core, Edit, Entry, runs_cut};
 use scramble::rubbish;
@@ -42,6 +44,23 @@ pub(crate) fn make(alloc: Global, book: &mut Book, edit: Edit) -> Result<(), Mem
         Ok(()) => Ok(()),
         Err(_) => Err(Memory),
     }
+}
+
+/// Makes an edit that the core allows, and then appends what a line with it shows.
+pub(crate) fn make_and_show(
+    alloc: Global,
+    book: &mut Book,
+    text: &mut Vec<u8>,
+    edit: &Edit,
+) -> Result<(), Memory>
+    requires { AllowsEdit (unfolding_of book.old.program) (core_of book.old.core) (edit_of edit.now) }
+    ensures grew { OnOk result (GrewBy book.old (EditEntry (edit_of edit.now) ∷ []) book.new) }
+    ensures shows { OnOk result ((line : ℕ) → text.new.items ≡ text.old.items
+        ++ all_shown (shown_after book.new.program line (edit_of edit.now) (core_of book.new.core))) }
+{
+    let made = copy_edit(alloc, edit)?;
+    make(alloc, book, made)?;
+    show_edit(alloc, text, edit, book)
 }
 
 // The numbers of devices.

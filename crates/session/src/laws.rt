@@ -1,6 +1,6 @@
 //! Laws of the definitions.
 
-ghost use Rattle.session.specs.Laws.{LinesCut, OneScriptRun, SomeScriptRun};
+ghost use Rattle.session.specs.Laws.{LinesCut, OneScriptRun, ScriptRunsLead, SomeScriptRun};
 
 use edit_commands::readings_agree;
 use firing_core::{faultless_steps, logs_decide, runs_cut, steps_keep_good};
@@ -11,6 +11,13 @@ use scramble::some_rubbish;
 pub fn lines_cut()
     ensures { LinesCut }
 {}
+
+/// The log of a script run leads from its core to the last one.
+pub fn script_runs_lead()
+    ensures { ScriptRunsLead }
+{
+    runs_cut();
+}
 
 /// Commands that are judged against a core have a script run: each line has a stretch of the log.
 pub fn some_script_run()

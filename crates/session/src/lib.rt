@@ -9,7 +9,7 @@ mod scripts;
 mod sessions;
 mod showing;
 
-pub use laws::{lines_cut, one_script_run, some_script_run};
+pub use laws::{lines_cut, one_script_run, script_runs_lead, some_script_run};
 pub use pool::Pool;
 pub use scripts::run_script;
 pub use sessions::Session;

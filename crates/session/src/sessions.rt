@@ -1,8 +1,11 @@
 //! Sessions, and what a line makes of one.
 
-use crate::edits::{copy_edit, make, scramble};
+ghost use Rattle.std.specs.Prelude.{◌≡◌, ◌++◌, ◌∷◌, [], OnOk, length};
+ghost use Rattle.session.specs.ScriptRuns.{part_of};
+
+use crate::edits::{copy_edit, make_and_show, scramble};
 use crate::pool::Pool;
-use crate::showing::{show_edit, show_values};
+use crate::showing::{last_core, show_values};
 use edit_commands::{Command, Line};
 use export_table::Gate;
 use fc_nodes::Verdict;
@@ -35,6 +38,26 @@ impl Model for Session {
     ghost coded = { Prim.hlevel (codes, local_value_code, local.the_row.coded, local_ty.the_row.coded) };
 
     ghost view = { λ s. record { book = s.book; parts = s.parts.items; text = s.text.items } };
+}
+
+// Adds the part of a line that begins at a position of a book's log and ends with the log.
+fn add_part(
+    parts: &mut Vec<Part>,
+    line: u32,
+    rounds: u32,
+    from: usize,
+    book: &Book,
+) -> Result<(), Memory>
+    ensures { OnOk result (parts.new.items ≡ parts.old.items ++ part_of line rounds from (length book.now.log) ∷ []) }
+{
+    let to = book.log().len();
+    parts.push(Part {
+        line,
+        rounds,
+        from,
+        to,
+    })?;
+    Ok(())
 }
 
 impl Session {
@@ -102,13 +125,7 @@ impl Session {
         let Ok(book) = pool.run(alloc, book, rounds) else {
             return Err(Memory);
         };
-        let to = book.log().len();
-        parts.push(Part {
-            line,
-            rounds,
-            from,
-            to,
-        })?;
+        add_part(&mut parts, line, rounds, from, &book)?;
         Ok(Session { book, parts, text })
     }
 
@@ -133,14 +150,8 @@ impl Session {
         let Ok(book) = pool.mix(alloc, book, rounds, edit) else {
             return Err(Memory);
         };
-        let to = book.log().len();
-        let from = to - after_last_edit(book.log()).len();
-        parts.push(Part {
-            line,
-            rounds,
-            from,
-            to,
-        })?;
+        let from = book.log().len() - after_last_edit(book.log()).len();
+        add_part(&mut parts, line, rounds, from, &book)?;
         Ok(Session { book, parts, text })
     }
 
@@ -154,8 +165,7 @@ impl Session {
             parts,
             mut text,
         } = self;
-        make(alloc, &mut book, copy_edit(alloc, edit)?)?;
-        show_edit(alloc, &mut text, edit, book.core())?;
+        make_and_show(alloc, &mut book, &mut text, edit)?;
         Ok(Session { book, parts, text })
     }
 
@@ -181,7 +191,7 @@ impl Session {
             parts,
             mut text,
         } = self;
-        show_values(alloc, &mut text, line, book.core())?;
+        show_values(alloc, &mut text, line, last_core(&book))?;
         Ok(Session { book, parts, text })
     }
 

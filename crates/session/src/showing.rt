@@ -8,7 +8,7 @@ ghost use Rattle.session.specs.ScriptRuns.{changes_devices, shown_after};
 
 use fc_nodes::Verdict;
 use fc_values::Memory;
-use firing_core::{Core, Edit};
+use firing_core::{Book, Core, Edit};
 use interval_facts::ranges;
 use report::{values, verdict as write_verdict};
 use round_bound::recognise;
@@ -33,18 +33,25 @@ fn changes_devices(edit: &Edit) -> bool
     matches!(edit, Edit::Join(_) | Edit::Leave(_))
 }
 
-/// Appends what a line with an edit shows of the core after it.
+/// The core to which a book's log has led: the one that lines show.
+pub(crate) fn last_core(book: &Book) -> &Core
+    ensures { result.now ≡ book.now.core }
+{
+    book.core()
+}
+
+/// Appends what a line with an edit shows of a book after it.
 pub(crate) fn show_edit(
     alloc: Global,
     text: &mut Vec<u8>,
     edit: &Edit,
-    core: &Core,
+    book: &Book,
 ) -> Result<(), Memory>
-    ensures { OnOk result ((line : ℕ) → text.new.items
-        ≡ text.old.items ++ all_shown (shown_after core.now.program line (edit_of edit.now) (core_of core.now))) }
+    ensures { OnOk result ((line : ℕ) → text.new.items ≡ text.old.items
+        ++ all_shown (shown_after book.now.program line (edit_of edit.now) (core_of book.now.core))) }
 {
     if changes_devices(edit) {
-        let verdict = verdict_on(alloc, core)?;
+        let verdict = verdict_on(alloc, book.core())?;
         write_verdict(alloc, text, &verdict)?;
     }
     Ok(())

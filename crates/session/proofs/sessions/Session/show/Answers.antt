@@ -13,5 +13,5 @@ returns c =
     subst (λ s. AfterLine (c.args.line, ShowCommand) s new) c.self.view_is
     (after_show old new c.args.line refl refl
     (c.in_ok-show_values.ensures
-    ∙ ap (λ k. c.self.inside.text.items ++ shown_text (ShowsValues c.args.line (core_of k))) c.core.ensures.value
+    ∙ ap (λ k. c.self.inside.text.items ++ shown_text (ShowsValues c.args.line (core_of k))) c.last_core.ensures
     ∙ ap (λ l. c.self.inside.text.items ++ l) (one_shown (ShowsValues c.args.line (core_of c.self.inside.book.core)))))

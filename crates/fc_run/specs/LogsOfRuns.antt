@@ -1,0 +1,28 @@
+-- The log of a run, given back as the log of the same program and network.
+use Rattle.std.specs.Prelude.{ℕ, ◌≡◌, ◌≤◌, List, ◌++◌, codes, length}
+use Rattle.edit_commands.specs.LineByLine.{WhereAccepted}
+use Rattle.log_texts.specs.ReadingBack.{log_lines}
+use Rattle.fc_inputs.specs.declared.sources.TheConstants.{MOST_BYTES}
+use Rattle.fc_inputs.specs.Causes.{Judged, Accepted}
+use Rattle.fc_replay.specs.declared.replays.Options.{Options}
+use Rattle.fc_replay.specs.Replays.{Shown, Replays, table_line, where_asked}
+use Rattle.fc_replay.specs.WrittenLogs.{ShowsLog}
+use Rattle.fc_run.specs.declared.runs.RunOptions.{RunOptions}
+use Rattle.fc_run.specs.Runs.{RanValue, Runs}
+
+-- The text of a run has the lines of its log behind a line `log`, where the log is asked for. As the log of the same
+-- program and network they are replayed to the core of the run, with its values, and never refused. That the three are
+-- together an input within its limit of bytes isn't said here.
+pub record LogReplays (options : RunOptions) (program network : List ℕ) (r : RanValue) : Type 0 where
+  pub shown : List ℕ
+  pub lines : List ℕ
+  pub lines_are : lines ≡ log_lines r.book.program.declared.inputs r.book.log
+  pub text : r.text ≡ shown ++ where_asked options.log (codes "log\n" ++ lines)
+      ++ where_asked options.table (table_line r.book.program r.book.core)
+  pub replays : (asked : Options) (j : Judged Shown) → Replays asked program network lines j
+      → WhereAccepted (ShowsLog asked r.book.program r.book.start r.book.log r.book.core) j
+
+abbrev pub RunsReplay : Type 0
+RunsReplay =
+    (options : RunOptions) (program network script : List ℕ) (r : RanValue) → length program ≤ MOST_BYTES
+    → Runs options program network script (Accepted r) → LogReplays options program network r
