@@ -53,7 +53,7 @@ fn settled(alloc: Global, program: &Arc<Unfolded>, scene: Scene) -> Result<Mail,
             Err(_) => return Err(Memory),
         }
     }
-    Mail::new(alloc, core)
+    Mail::quiet(alloc, core)
 }
 
 // The verdict on a program, for so many devices.

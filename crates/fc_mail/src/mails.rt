@@ -39,7 +39,7 @@ fn quiet(alloc: Global, program: &Arc<Unfolded>, scene: Scene) -> Result<Mail, M
     ensures start { IfOk result (λ m. IsMailStart (unfolding_of program.now.value) (mail_of m)) }
 {
     let core = start(alloc, program, scene)?;
-    Ok(Mail::new(alloc, core)?)
+    Ok(Mail::quiet(alloc, core)?)
 }
 
 // Why an entry has no step, but for want of memory.

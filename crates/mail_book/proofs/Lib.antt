@@ -9,6 +9,7 @@ pub mod Posting
 pub mod Ending
 pub mod Copying
 pub mod QuietStarts
+pub mod Starting
 pub mod Replayed
 pub mod HeardNear
 pub mod MailGood

@@ -51,6 +51,14 @@ pub(crate) fn post(letters: &mut Letters, message: Message) -> Result<(), Memory
     Ok(())
 }
 
+/// An export is heard.
+pub(crate) fn hear(letters: &mut Letters, export: Export)
+    ensures heard { letters.new.heard ≡ Some export }
+    ensures transit { letters.new.transit ≡ letters.old.transit }
+{
+    letters.heard = Some(export);
+}
+
 /// The oldest message is heard, and leaves.
 pub(crate) fn deliver(letters: &mut Letters) -> Result<(), MailFault>
     ensures ok { OnOk result (Delivers letters.old letters.new) }

@@ -7,8 +7,10 @@ mod letters;
 mod mails;
 mod pairs;
 mod rows;
+mod starts;
 
 pub use books::{MailBook, replay_mail};
 pub use laws::mail_logs_end;
 pub use mails::Mail;
 pub use pairs::pair_place;
+pub use starts::Post;

@@ -3,6 +3,7 @@
 use crate::letters::{Letters, deliver, lose, repeat};
 use crate::pairs::pair_place;
 use crate::rows::{Sending, copy_rows, heard_in, no_rows, post_all};
+use crate::starts::{Post, hear_all, send_all};
 use fc_values::{Memory, copy_export, copy_locals};
 use firing_core::{Core, StepFault, faultless_steps};
 use message_links::{MailEntry, MailFault, MailReplay};
@@ -46,16 +47,41 @@ impl Mail {
     ghost use Rattle.message_links.specs.MailCores.{sees, IsMailStart};
     ghost use Rattle.message_links.specs.MailEntries.{mail_entry};
     ghost use Rattle.mail_book.specs.MailViews.{mail_of, unfolded_of, quiet, IsMail};
+    ghost use Rattle.mail_book.specs.Starts.{AreHeld, holding, post_values};
     ghost use Rattle.mail_book.specs.MailReplays.{HasStepFault, HasMailFault, RefusesMail};
 
+    /// The mail core of a core in which these exports were heard and these messages are in transit, the first given of
+    /// a pair as its oldest. No end of a log sent them. Of several heard on a pair the last counts, and of more than
+    /// four in transit the last four.
+    pub fn new(
+        alloc: Global,
+        core: Core,
+        heard: Vec<Post>,
+        transit: Vec<Post>,
+    ) -> Result<Self, Memory>
+        requires heard { AreHeld (program_of core) core.net heard.items }
+        requires transit { AreHeld (program_of core) core.net transit.items }
+        ensures core { IfOk result (λ m. m.core ≡ core) }
+        ensures mail { IfOk result (λ m. mail_of m ≡ holding (core_of core)
+            (post_values (program_of core) heard.items) (post_values (program_of core) transit.items)) }
+        ensures start { IfOk result (λ m. IsMailStart (program_of core) (mail_of m)) }
+    {
+        let net = core.net();
+        let mut rows = no_rows(alloc, net)?;
+        hear_all(alloc, net, &mut rows, &heard)?;
+        send_all(alloc, net, &mut rows, &transit)?;
+        Ok(Mail { core, rows })
+    }
+
     /// The mail core of a core, in which nothing was heard and nothing is in transit.
-    pub fn new(alloc: Global, core: Core) -> Result<Self, Memory>
+    pub fn quiet(alloc: Global, core: Core) -> Result<Self, Memory>
         ensures core { IfOk result (λ m. m.core ≡ core) }
         ensures mail { IfOk result (λ m. mail_of m ≡ quiet (core_of core)) }
         ensures start { IfOk result (λ m. IsMailStart (program_of core) (mail_of m)) }
     {
-        let rows = no_rows(alloc, core.net())?;
-        Ok(Mail { core, rows })
+        let heard = Vec::new(alloc);
+        let transit = Vec::new(alloc);
+        Mail::new(alloc, core, heard, transit)
     }
 
     /// The core.
@@ -162,7 +188,7 @@ impl Mail {
         let sending = Sending {
             device,
             export,
-            sent: index,
+            sent: Some(index),
         };
         if post_all(alloc, self.core.net(), &mut self.rows, &sending).is_err() {
             return Err(StepFault::Memory);

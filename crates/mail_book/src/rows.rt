@@ -1,6 +1,6 @@
 //! Rows of letters: a row for each device, in the order of the network, with what is kept for each of its neighbours.
 
-ghost use Rattle.std.specs.Prelude.{◌≡◌, ◌≤◌, IfOk, OnOk, Some, length, map, replicate};
+ghost use Rattle.std.specs.Prelude.{◌≡◌, ◌≤◌, IfOk, OnOk, length, map, replicate};
 ghost use Rattle.fc_nodes.specs.Program.{Unfolding};
 ghost use Rattle.value_trees.specs.Snaps.{tree_of, near_copy, IsExportOf, NearAreExports};
 ghost use Rattle.topology.specs.Networks.{near as near_of, numbers, IsNetwork};
@@ -16,12 +16,12 @@ use std::alloc::Global;
 use topology::Network;
 use value_trees::Near;
 
-/// An export that a device sends, and the position of the end that sends it.
+/// An export that a device sends, and the position of the end that sends it; none for what a start holds.
 #[derive(Drop)]
 pub(crate) struct Sending<'a> {
     pub(crate) device: u32,
     pub(crate) export: &'a Export,
-    pub(crate) sent: usize,
+    pub(crate) sent: Option<usize>,
 }
 
 /// Rows in which nothing was heard and nothing is in transit.
@@ -105,7 +105,7 @@ pub(crate) fn post_all(
 ) -> Result<(), Memory>
     requires { AreRows net.now (numbers net.now.devices) (lists_of rows.old.items) }
     ensures posts { (U : Unfolding) → AllRows U (lists_of rows.old.items) → IsExportOf U sending.now.export.now
-        → OnOk result (Posts U net.now sending.now.device (Some sending.now.sent) (tree_of U sending.now.export.now)
+        → OnOk result (Posts U net.now sending.now.device sending.now.sent (tree_of U sending.now.export.now)
         (lists_of rows.old.items) (lists_of rows.new.items)) }
     ensures shape { AreRows net.now (numbers net.now.devices) (lists_of rows.new.items) }
     ensures letters { (U : Unfolding) → AllRows U (lists_of rows.old.items) → IsExportOf U sending.now.export.now
@@ -118,8 +118,8 @@ pub(crate) fn post_all(
     Ok(())
 }
 
-// Sends an export to a neighbour.
-fn post_to(
+/// Sends an export to a neighbour.
+pub(crate) fn post_to(
     alloc: Global,
     net: &Network,
     rows: &mut Vec<Vec<Letters>>,
@@ -128,7 +128,7 @@ fn post_to(
 ) -> Result<(), Memory>
     requires { AreRows net.now (numbers net.now.devices) (lists_of rows.old.items) }
     ensures posts { (U : Unfolding) → AllRows U (lists_of rows.old.items) → IsExportOf U sending.now.export.now
-        → OnOk result (PostsTo U net.now sending.now.device to (Some sending.now.sent)
+        → OnOk result (PostsTo U net.now sending.now.device to sending.now.sent
         (tree_of U sending.now.export.now) (lists_of rows.old.items) (lists_of rows.new.items)) }
     ensures shape { AreRows net.now (numbers net.now.devices) (lists_of rows.new.items) }
     ensures letters { (U : Unfolding) → AllRows U (lists_of rows.old.items) → IsExportOf U sending.now.export.now
@@ -140,7 +140,7 @@ fn post_to(
     let export = copy_export(alloc, sending.export)?;
     let message = Message {
         export,
-        sent: Some(sending.sent),
+        sent: sending.sent,
     };
     post(&mut rows[row][at], message)
 }

@@ -1,7 +1,6 @@
-use Rattle.std.proofs.Common.{◌≡◌, ◌<◌, ◌+◌, ℕ, suc, List, [], ◌∷◌, ◌++◌, length, take, get_or, true, refl, sym, ◌∙◌, ap, subst, arith, Some}
+use Rattle.std.proofs.Common.{◌≡◌, ◌+◌, ℕ, suc, List, [], ◌∷◌, ◌++◌, length, take, get_or, true, sym, ◌∙◌, ap, subst, arith}
 use Rattle.std.proofs.Math.Seq.{take-suc}
 use Rattle.fc_values.specs.Fields.{is_in}
-use Rattle.fc_nodes.specs.Program.{Unfolding}
 use Rattle.value_trees.specs.Snaps.{tree_of}
 use Rattle.topology.specs.Networks.{near}
 use Rattle.topology.specs.Nearby.{near_numbers}
@@ -31,8 +30,8 @@ loop-neighbour-preserved c =
       shape = c.in_ok-post_to.ensures.shape;
       among = λ U all typed.
           let was = c.loop-neighbour.invariant.among U all typed in
-          subst (λ (xs : List (ℕ × ℕ)). PostsAmong U N d xs (Some c.args.sending.now.sent) (tree_of U c.args.sending.now.export.now) (lists_of c.args.rows.now.items) (lists_of c.post_to.new.rows.items)) (sym more)
-          (among_more U N d (take i ns) n (Some c.args.sending.now.sent) (tree_of U c.args.sending.now.export.now) (lists_of c.args.rows.now.items) (lists_of c.loop-neighbour.rows.items) (lists_of c.post_to.new.rows.items)
+          subst (λ (xs : List (ℕ × ℕ)). PostsAmong U N d xs c.args.sending.now.sent (tree_of U c.args.sending.now.export.now) (lists_of c.args.rows.now.items) (lists_of c.post_to.new.rows.items)) (sym more)
+          (among_more U N d (take i ns) n c.args.sending.now.sent (tree_of U c.args.sending.now.export.now) (lists_of c.args.rows.now.items) (lists_of c.loop-neighbour.rows.items) (lists_of c.post_to.new.rows.items)
           (fresh_at ns i (0, 0) apart c.loop-neighbour-test.true) linked was (c.in_ok-post_to.ensures.posts U was.letters typed));
     }
 
@@ -44,7 +43,7 @@ returns c =
     let all : length ns ≡ i = omega (arith, c.loop-neighbour-test.false, c.loop-neighbour.auto.neighbour-index-end) in
     let whole : take i ns ≡ near N c.args.sending.now.device = take_all ns i all ∙ c.deref-neighbour-items.ensures.0 ∙ c.neighbours-neighbours.ensures.value in
     record {
-      posts = λ U letters typed. among_all U N c.args.sending.now.device (take i ns) (Some c.args.sending.now.sent) (tree_of U c.args.sending.now.export.now) (lists_of c.args.rows.now.items) (lists_of c.loop-neighbour.rows.items)
+      posts = λ U letters typed. among_all U N c.args.sending.now.device (take i ns) c.args.sending.now.sent (tree_of U c.args.sending.now.export.now) (lists_of c.args.rows.now.items) (lists_of c.loop-neighbour.rows.items)
           c.neighbours-neighbours.ensures.network whole (c.loop-neighbour.invariant.among U letters typed);
       shape = c.loop-neighbour.invariant.shape;
       letters = λ U letters typed. (c.loop-neighbour.invariant.among U letters typed).letters;

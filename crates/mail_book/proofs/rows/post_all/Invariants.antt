@@ -1,4 +1,4 @@
-use Rattle.std.proofs.Common.{take, Some}
+use Rattle.std.proofs.Common.{take}
 use Rattle.fc_nodes.specs.Program.{Unfolding}
 use Rattle.value_trees.specs.Snaps.{tree_of, IsExportOf}
 use Rattle.topology.specs.Networks.{numbers}
@@ -11,5 +11,5 @@ abbrev pub invariant-loop-neighbour : goal.invariant-loop-neighbour
 invariant-loop-neighbour l = record {
   shape : AreRows l.net (numbers l.net.devices) (lists_of l.rows.items);
   among : (U : Unfolding) → AllRows U (lists_of l.fn.rows.items) → IsExportOf U l.sending.export.now
-      → PostsAmong U l.net l.sending.device (take l.neighbour-index l.neighbour-items) (Some l.sending.sent) (tree_of U l.sending.export.now) (lists_of l.fn.rows.items) (lists_of l.rows.items);
+      → PostsAmong U l.net l.sending.device (take l.neighbour-index l.neighbour-items) l.sending.sent (tree_of U l.sending.export.now) (lists_of l.fn.rows.items) (lists_of l.rows.items);
 }

@@ -1,4 +1,4 @@
-use Rattle.std.proofs.Common.{◌≡◌, ◌<◌, List, [], get_or, refl, sym, ◌∙◌, ap, subst, arith, OnOk, Some, Vec, Global}
+use Rattle.std.proofs.Common.{◌≡◌, List, [], get_or, refl, sym, subst, arith}
 use Rattle.std.specs.Prelude.{slice_set}
 use Rattle.std.specs.Vec.{with_item}
 use Rattle.fc_nodes.specs.Program.{Unfolding}
@@ -36,12 +36,12 @@ module _ (c : goal.After-rows-1) where
   written = written_is c.args.net.now c.pair_place.ensures.network c.args.rows.now.items c.requires c.args.sending.now.device c.args.to c.in-Some.row c.in-Some.at c.in-Some.ensures.place c.index_mut.result.now c.index_mut.ensures.value c.post.new.letters
 
   abbrev message : Message
-  message = record { export = c.in_ok-export.export; sent = Some c.args.sending.now.sent }
+  message = record { export = c.in_ok-export.export; sent = c.args.sending.now.sent }
 
   posts : (U : Unfolding) → AllRows U (lists_of c.args.rows.now.items) → IsExportOf U c.args.sending.now.export.now → c.post.new.letters.transit.items ≡ pushed c.index_mut-2.result.now.transit.items message
-      → PostsTo U c.args.net.now c.args.sending.now.device c.args.to (Some c.args.sending.now.sent) (tree_of U c.args.sending.now.export.now) (lists_of c.args.rows.now.items) new_rows
+      → PostsTo U c.args.net.now c.args.sending.now.device c.args.to c.args.sending.now.sent (tree_of U c.args.sending.now.export.now) (lists_of c.args.rows.now.items) new_rows
   posts U all typed t =
-      posted_to c.args.net.now c.pair_place.ensures.network (lists_of c.args.rows.now.items) c.requires c.args.sending.now.device c.args.to (c.in-Some.row, c.in-Some.at) c.in-Some.ensures.place U all c.args.sending.now.export.now typed (Some c.args.sending.now.sent)
+      posted_to c.args.net.now c.pair_place.ensures.network (lists_of c.args.rows.now.items) c.requires c.args.sending.now.device c.args.to (c.in-Some.row, c.in-Some.at) c.in-Some.ensures.place U all c.args.sending.now.export.now typed c.args.sending.now.sent
       c.index_mut-2.result.now c.post.new.letters message is c.in_ok-export.ensures refl c.post.ensures.heard t
 
   kept : (U : Unfolding) → AllRows U (lists_of c.args.rows.now.items) → c.post.new.letters.transit.items ≡ c.index_mut-2.result.now.transit.items → AllRows U new_rows
@@ -53,7 +53,7 @@ module _ (c : goal.After-rows-1) where
 pub returns : goal.returns
 returns c = record {
   posts = λ U all typed. ok_map c.post.result
-      (λ t. subst (λ (rows : List (List Letters)). PostsTo U c.args.net.now c.args.sending.now.device c.args.to (Some c.args.sending.now.sent) (tree_of U c.args.sending.now.export.now) (lists_of c.args.rows.now.items) rows) (sym (written c)) (posts c U all typed t))
+      (λ t. subst (λ (rows : List (List Letters)). PostsTo U c.args.net.now c.args.sending.now.device c.args.to c.args.sending.now.sent (tree_of U c.args.sending.now.export.now) (lists_of c.args.rows.now.items) rows) (sym (written c)) (posts c U all typed t))
       c.post.ensures.transit;
   shape = subst (λ (rows : List (List Letters)). AreRows c.args.net.now (numbers c.args.net.now.devices) rows) (sym (written c))
       (rewritten_shape c.args.net.now c.pair_place.ensures.network (lists_of c.args.rows.now.items) c.requires c.args.sending.now.device c.args.to (c.in-Some.row, c.in-Some.at) c.in-Some.ensures.place c.post.new.letters);

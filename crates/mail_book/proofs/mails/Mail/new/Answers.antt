@@ -1,23 +1,18 @@
-use Rattle.std.proofs.Common.{sym, subst, ◌≡◌}
-use Rattle.topology.specs.Networks.{Network, numbers}
-use Rattle.message_links.specs.MailCores.{MailCore, IsMailStart}
-use Rattle.firing_core.specs.CoreViews.{core_of, program_of}
-use Rattle.mail_book.specs.Pairs.{AreRows}
 use Rattle.mail_book.specs.Rows.{lists_of}
-use Rattle.mail_book.proofs.Copying.{quiet_rows, quiet_mail}
-use Rattle.mail_book.proofs.QuietStarts.{quiet_start}
+use Rattle.mail_book.proofs.Starting.{is_mail, holds, starts}
 use Rattle.mail_book.proofs.mails.Mail.new.Goals as goal
 
 pub invariant_of-result : goal.invariant_of-result
-invariant_of-result c = record {
-  shape = subst (λ (N : Network). AreRows N (numbers N.devices) (lists_of c.in_ok-rows.rows.items)) c.net.ensures.value c.in_ok-rows.ensures.shape;
-  letters = quiet_rows (program_of c.args.core) (lists_of c.in_ok-rows.rows.items) c.in_ok-rows.ensures.quiet;
-}
+invariant_of-result c =
+    is_mail c.args.core c.net-net.ensures.good c.args.heard.items c.args.transit.items c.requires.heard c.requires.transit c.net-net.result.now c.net-net.ensures.value c.deref.result.now c.deref-2.result.now c.deref.ensures.value c.deref-2.ensures.value
+    (lists_of c.in_ok-rows.rows.items) (lists_of c.hear_all.new.rows.items) (lists_of c.send_all.new.rows.items) c.in_ok-rows.ensures.quiet c.in_ok-hear_all.ensures.hears c.in_ok-send_all.ensures.sends c.in_ok-send_all.ensures.shape
 
 pub returns-clause-mail : goal.returns-clause-mail
-returns-clause-mail c = quiet_mail c.args.core (lists_of c.in_ok-rows.rows.items) c.in_ok-rows.ensures.quiet
+returns-clause-mail c =
+    holds c.args.core c.net-net.ensures.good c.args.heard.items c.args.transit.items c.requires.heard c.requires.transit c.net-net.result.now c.net-net.ensures.value c.deref.result.now c.deref-2.result.now c.deref.ensures.value c.deref-2.ensures.value
+    (lists_of c.in_ok-rows.rows.items) (lists_of c.hear_all.new.rows.items) (lists_of c.send_all.new.rows.items) c.in_ok-rows.ensures.quiet c.in_ok-hear_all.ensures.hears c.in_ok-send_all.ensures.sends c.in_ok-send_all.ensures.shape
 
 pub returns-clause-start : goal.returns-clause-start
 returns-clause-start c =
-    subst (λ (m : MailCore). IsMailStart (program_of c.args.core) m) (sym (quiet_mail c.args.core (lists_of c.in_ok-rows.rows.items) c.in_ok-rows.ensures.quiet))
-    (quiet_start (program_of c.args.core) (core_of c.args.core) c.net.ensures.good)
+    starts c.args.core c.net-net.ensures.good c.args.heard.items c.args.transit.items c.requires.heard c.requires.transit c.net-net.result.now c.net-net.ensures.value c.deref.result.now c.deref-2.result.now c.deref.ensures.value c.deref-2.ensures.value
+    (lists_of c.in_ok-rows.rows.items) (lists_of c.hear_all.new.rows.items) (lists_of c.send_all.new.rows.items) c.in_ok-rows.ensures.quiet c.in_ok-hear_all.ensures.hears c.in_ok-send_all.ensures.sends c.in_ok-send_all.ensures.shape
