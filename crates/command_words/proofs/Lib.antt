@@ -4,3 +4,4 @@ mod Spelled
 mod CheckWords
 mod ReplayWords
 mod BareWords
+mod Enough

@@ -1,11 +1,22 @@
--- The limits of a command's numbers.
-use Rattle.std.specs.Prelude.{ℕ, nat_lt, if◌then◌else◌, List, codes, Option, Some, None}
+-- What commands are, and the limits of their numbers.
+use Rattle.std.specs.Prelude.{ℕ, ◌≤◌, nat_lt, if◌then◌else◌, List, codes, Option, Some, None}
 use Rattle.std.specs.Option.{option_or}
 use Rattle.command_words.specs.declared.commands.TheConstants.{MOST_WORKERS, MOST_DEVICES}
 use Rattle.command_words.specs.declared.commands.Command.{Command}
 use Rattle.command_words.specs.declared.commands.Command.TheVariants.{Check, Stable, Run, Replay, Format, Gen, Trace, Mail}
 use Rattle.command_words.specs.declared.commands.Limit.{Limit}
 use Rattle.command_words.specs.declared.commands.Limit.TheVariants.{Workers, Devices}
+
+-- a command with numbers that words can give it: a scenario has at least 3 devices
+abbrev pub IsCommand : Command → Type 0
+IsCommand (Gen number devices workers) = 3 ≤ devices
+IsCommand (Check facts) = Unit {0}
+IsCommand Stable = Unit {0}
+IsCommand (Run workers log table) = Unit {0}
+IsCommand (Replay rounds table) = Unit {0}
+IsCommand Format = Unit {0}
+IsCommand Trace = Unit {0}
+IsCommand (Mail number) = Unit {0}
 
 -- a limit's name in texts
 abbrev pub limit_name : Limit → List ℕ

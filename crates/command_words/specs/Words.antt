@@ -1,5 +1,6 @@
 -- The command that the words of a command line ask for.
-use Rattle.std.specs.Prelude.{ℕ, Bool, true, false, nat_le, is_some, if◌then◌else◌, List, [], ◌∷◌, codes, Option, Some, None, option_map, option_and_then, unwrap_or}
+use Rattle.std.specs.Prelude.{ℕ, Bool, true, false, nat_le, is_some, if◌then◌else◌, List, [], ◌∷◌, codes}
+use Rattle.std.specs.Prelude.{IfSome, Option, Some, None, option_map, option_and_then, unwrap_or}
 use Rattle.std.specs.List.{list_all}
 use Rattle.std.specs.Str.{bytes_eq}
 use Rattle.command_words.specs.declared.commands.Command.{Command}
@@ -10,6 +11,7 @@ use Rattle.command_words.specs.declared.choices.Choices.{Choices}
 use Rattle.command_words.specs.declared.settings.Numbered.TheVariants.{Workers, Devices, Number}
 use Rattle.command_words.specs.declared.settings.Setting.{Setting}
 use Rattle.command_words.specs.declared.settings.Setting.TheVariants as set
+use Rattle.command_words.specs.Commands.{IsCommand}
 use Rattle.command_words.specs.Settings.{settings_of}
 
 -- the command that a word names
@@ -94,3 +96,7 @@ abbrev pub command_of : List (List ℕ) → Option Command
 command_of [] = None
 command_of (program ∷ []) = None
 command_of (program ∷ name ∷ words) = asked (name_of name) (settings_of words)
+
+-- what words ask for is a command
+abbrev pub WordsAskForCommands : Type 0
+WordsAskForCommands = (words : List (List ℕ)) → IfSome (command_of words) IsCommand

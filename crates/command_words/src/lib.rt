@@ -8,7 +8,7 @@ mod settings;
 mod words;
 
 pub use commands::{Command, Limit, MOST_WORKERS, passed_limit};
-pub use words::command;
+pub use words::{command, words_ask_for_commands};
 
 #[cfg(test)]
 mod tests;

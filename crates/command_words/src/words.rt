@@ -2,7 +2,7 @@
 
 ghost use Rattle.std.specs.Prelude.{◌≡◌, IfOk, map, string_bytes};
 ghost use Rattle.command_words.specs.Options.{takes_nothing};
-ghost use Rattle.command_words.specs.Words.{command_of};
+ghost use Rattle.command_words.specs.Words.{WordsAskForCommands, command_of};
 
 use crate::choices::{Name, command_of_settings, named};
 use crate::commands::Command;
@@ -46,4 +46,10 @@ pub fn command(alloc: Global, words: &[String]) -> Result<Option<Command>, Memor
         Name::Replay => Ok(Some(replay(alloc, asked)?)),
         _ => Ok(Some(command)),
     }
+}
+
+/// What words ask for is a command: a scenario has at least three devices.
+pub fn words_ask_for_commands()
+    ensures { WordsAskForCommands }
+{
 }

@@ -1,45 +1,28 @@
 -- What the code reads or doesn't read, and what it answers, as the definitions say it.
-use Rattle.std.proofs.Common.{ℕ, ◌≡◌, ◌+◌, ◌<◌, ◌≤◌, ◌++◌, Bool, true, false, if◌then◌else◌, List, [], length, length-append}
+use Rattle.std.proofs.Common.{ℕ, ◌≡◌, ◌+◌, ◌<◌, ◌≤◌, ◌++◌, true, false, List, [], length, length-append}
 use Rattle.std.proofs.Common.{refl, ap, ◌∙◌, sym, subst, arith, Option, Some, None, option_map, Result, Ok, Err}
 use Rattle.std.specs.Prelude.{IfErr, IfSome, IsErrAnd, nat_lt}
 use Rattle.std.specs.Io.KnownBytes.{Consumes}
-use Rattle.std.specs.Option.{option_or}
 use Rattle.std.proofs.lemmas.Bool.Decides.{nat_tests}
-use Rattle.fc_syntax.specs.Terms.{Declaration}
-use Rattle.fc_syntax.specs.Text.{program_text}
 use Rattle.command_words.specs.declared.commands.Command.{Command}
 use Rattle.command_words.specs.declared.commands.Limit.{Limit}
-use Rattle.command_words.specs.declared.commands.Limit.TheVariants.{Workers, Devices}
-use Rattle.command_words.specs.declared.commands.TheConstants.{MOST_WORKERS, MOST_DEVICES}
-use Rattle.command_words.specs.Commands.{devices_limit, limit_of, workers_limit}
+use Rattle.command_words.specs.Commands.{limit_of}
 use Rattle.fc_inputs.specs.declared.refusal.Refusal.{Refusal}
 use Rattle.fc_inputs.specs.declared.refusal.Refusal.TheVariants as refusal
 use Rattle.fc_inputs.specs.declared.sources.TheConstants.{MOST_BYTES}
 use Rattle.fc_inputs.specs.declared.stop.Stop.{Stop}
 use Rattle.fc_inputs.specs.declared.stop.Stop.TheVariants as stop
 use Rattle.fc_inputs.specs.Refusals.{Reply}
-use Rattle.fc_inputs.specs.Causes.{Cause, Plainly, Judged, Accepted, Refused}
+use Rattle.fc_inputs.specs.Causes.{Cause, Plainly, Judged, Refused}
 use Rattle.fc_inputs.specs.Sections.{sections_of}
-use Rattle.fc_inputs.specs.Sources.{ReadsSource}
 use Rattle.fc_inputs.specs.Stops.{StopsFor, WhereCause, IsReplyFor, cause_of, scene_cause}
-use Rattle.fc_inputs.proofs.Stopping.{stops_map}
 use Rattle.fc_program.specs.declared.ending.Outcome.{Outcome}
-use Rattle.fc_program.specs.Asked.{reads, limit_refusal}
-use Rattle.fc_program.specs.Answers.{AnswerValue, written, replied, answer_of, Formats, AnswersInput, AnswersReading, AnswersUnread}
-use Rattle.fc_program.specs.Answers.{AnswersSections, AnswersWithin, AnswersAsked, Answers}
-use Rattle.fc_program.specs.Headline.{AnswersKeep}
+use Rattle.fc_answers.specs.Asked.{reads, limit_refusal}
+use Rattle.fc_answers.specs.Answers.{AnswerValue, replied, answer_of, AnswersInput, AnswersReading, AnswersUnread}
+use Rattle.fc_answers.specs.Answers.{AnswersSections, AnswersWithin, AnswersAsked, Answers}
+use Rattle.fc_answers.specs.Headline.{AnswersKeep}
+use Rattle.fc_answers.specs.Laws.{AnswerStatus, AnswerStatuses}
 use Rattle.fc_program.specs.Top.{IsAnswer, IsExact, IsJudged, StopsAsked}
-
--- ---- `format`
-pub format_stops : (program : List ℕ) (s : Stop) → StopsFor (λ cause. ReadsSource program (Refused cause)) s
-    → StopsFor (λ cause. Formats program (Refused cause)) s
-format_stops program s h =
-    stops_map (λ cause. ReadsSource program (Refused cause)) (λ cause. Formats program (Refused cause))
-    (λ cause k. record { judged = Refused cause; reads = k; prints = refl }) s h
-
-pub format_prints : (program : List ℕ) (ds : List Declaration) (a : AnswerValue) → ReadsSource program (Accepted ds)
-    → a ≡ written (program_text ds) → Formats program (Accepted a)
-format_prints program ds a h e = record { judged = Accepted ds; reads = h; prints = ap Accepted e }
 
 -- ---- what is read
 module _ (command : Command) (within : limit_of command ≡ None) (read : reads command ≡ true) where
@@ -141,19 +124,6 @@ for_limit asked command left r e h =
     subst (λ o. IsJudged o left (Refused (Plainly r))) e
     (unread (Some command) left (Refused (Plainly r)) (limited (limit_of command) command (left_or_none left) r h))
 
--- a scenario whose numbers pass no limit has few devices
-pub few_devices : (workers devices : ℕ) → option_or (workers_limit workers) (devices_limit devices) ≡ None
-    → devices ≤ 512
-few_devices workers devices h = by_tests (nat_lt MOST_WORKERS workers) (nat_lt MOST_DEVICES devices) refl h
-  where
-    by_tests : (p q : Bool) → nat_lt MOST_DEVICES devices ≡ q
-        → option_or {T = Limit × ℕ} (if p then Some (Workers, workers) else None) (if q then Some (Devices, devices) else None)
-        ≡ None
-        → devices ≤ 512
-    by_tests true q e h = absurd cc
-    by_tests false true e h = absurd cc
-    by_tests false false e h = grind (arith, nat_tests)
-
 pub none_past : (o : Option (Limit × ℕ)) → None ≡ past o → o ≡ None
 none_past None h = refl
 none_past (Some l) h = absurd cc
@@ -196,3 +166,22 @@ pub exact_named : (asked named : Option Command) (left left' old old' new : Opti
 exact_named asked named left left' old old' new o e f g h =
     subst (λ a. IsExact a left' old' new o) e
     (subst (λ l. IsExact asked l old' new o) f (subst (λ t. IsExact asked left t new o) g h))
+
+-- the statuses of answers, and of what is judged
+module _ (statuses : AnswerStatuses) where
+  pub answer_usage : (asked : Option Command) (left : Option (List ℕ)) (a : AnswerValue) → IsAnswer asked left a
+      → a.status ≡ 2 → asked ≡ None
+  answer_usage asked left a h = (statuses asked h.input a h.answers).usage
+
+  judged_status : (asked : Option Command) (left : Option (List ℕ)) (j : Judged AnswerValue) → IsJudged asked left j
+      → AnswerStatus asked (answer_of j)
+  judged_status asked left j h =
+      statuses asked h.input (answer_of j) (record { judged = j; makes = h.makes; is = refl })
+
+  pub judged_usage : (asked : Option Command) (left : Option (List ℕ)) (j : Judged AnswerValue)
+      → IsJudged asked left j → (answer_of j).status ≡ 2 → asked ≡ None
+  judged_usage asked left j h = (judged_status asked left j h).usage
+
+  pub judged_few : (asked : Option Command) (left : Option (List ℕ)) (j : Judged AnswerValue) → IsJudged asked left j
+      → (answer_of j).status ≤ 4
+  judged_few asked left j h = (judged_status asked left j h).few

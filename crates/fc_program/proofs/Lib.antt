@@ -1,6 +1,1 @@
-pub mod Answering
-pub mod StableReplies
-pub mod Statuses
-pub mod OneAnswer
-pub mod SomeAnswer
-pub mod Headline
+mod Answering

@@ -9,20 +9,10 @@ use Rattle.fc_inputs.specs.declared.stop.Stop.TheVariants as stop
 use Rattle.fc_inputs.specs.Causes.{Cause, Plainly, reply_to, Judged, Refused}
 use Rattle.fc_inputs.specs.Stops.{WhereCause, cause_of, scene_cause}
 use Rattle.fc_replay.specs.Ledgers.{ledger_of}
-use Rattle.fc_program.specs.declared.answers.Answer.{Answer}
 use Rattle.fc_program.specs.declared.ending.Outcome.{Outcome}
-use Rattle.fc_program.specs.Asked.{reads_source}
-use Rattle.fc_program.specs.Answers.{AnswerValue, AnswersAsked, Answers}
-use Rattle.fc_program.specs.Headline.{IsKept}
-
--- an answer in code
-abbrev pub value_of : Answer → AnswerValue
-value_of a = record {
-  status = a.reply.status;
-  text = a.reply.text;
-  book = option_map ledger_of a.book;
-  parts = a.parts.items;
-}
+use Rattle.fc_answers.specs.Asked.{reads_source}
+use Rattle.fc_answers.specs.Answers.{AnswerValue, AnswersAsked, Answers}
+use Rattle.fc_answers.specs.Headline.{IsKept}
 
 -- an answer to an input, which is what the source has left where it tells that; what a yes in it promises is kept
 pub record IsAnswer (asked : Option Command) (left : Option (List ℕ)) (answer : AnswerValue) : Type 0 where

@@ -1,6 +1,6 @@
 //! All that is done for what the words ask for, and how it ends.
 ghost use Rattle.std.specs.Prelude.{◌≡◌, false};
-ghost use Rattle.fc_program.specs.Asked.{reads_source, MayAsk};
+ghost use Rattle.fc_answers.specs.Asked.{reads_source, MayAsk};
 ghost use Rattle.fc_program.specs.Top.{Ends, TellsNothing, sink_at, source_at};
 
 use crate::judging::answered;

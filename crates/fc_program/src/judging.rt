@@ -6,14 +6,15 @@ ghost use Rattle.fc_io.specs.Causes.{Rose};
 ghost use Rattle.fc_inputs.specs.Causes.{Accepted};
 ghost use Rattle.fc_inputs.specs.declared.stop.Stop.TheVariants as stop;
 ghost use Rattle.fc_inputs.specs.declared.reply.Failure.TheVariants as failure;
-ghost use Rattle.fc_program.specs.Asked.{exists, reads as reads_of, reads_source, MayAsk};
-ghost use Rattle.fc_program.specs.Top.{IsAnswer, IsJudged, StopsAsked, stop_status, value_of};
+ghost use Rattle.fc_answers.specs.Asked.{reads as reads_of, reads_source, MayAsk};
+ghost use Rattle.fc_answers.specs.Code.{value_of};
+ghost use Rattle.fc_program.specs.Top.{IsAnswer, IsJudged, StopsAsked, stop_status};
 
-use crate::answers::{Answer, answer_to, answer_unread};
-use crate::asked::{past_limit, reads};
-use crate::laws::answers_keep;
 use command_words::Command;
 use export_table::Gate;
+use fc_answers::{
+    Answer, answer_statuses, answer_to, answer_unread, answers_keep, past_limit, reads,
+};
 use fc_inputs::{Failure, MOST_BYTES, Refusal, Stop, rendered};
 use fc_io::{ReadAll, Source, read_all};
 use session::Pool;
@@ -29,7 +30,6 @@ fn read_and_judged<S: Source, W: Threads + Wait + Sync, G: Gate + Sync>(
     pool: &Pool<W, G>,
 ) -> Result<Answer, Stop>
     requires within { limit_of command ≡ None }
-    requires exists { exists command ≡ true }
     requires reads { reads_of command ≡ true }
     ensures makes { IfOk result (λ a. IsJudged (Some command) (S.left src.old) (Accepted (value_of a))) }
     ensures refused { IfErr result (StopsAsked (Some command) (S.left src.old)) }
@@ -94,6 +94,7 @@ pub fn answered<S: Source, W: Threads + Wait + Sync, G: Gate + Sync>(
     ensures quiet { (IsErrOf result Failure.Read → ⊥) → S.faults src.new ≡ S.faults src.old }
 {
     answers_keep();
+    answer_statuses();
     match judged(alloc, asked, src, pool) {
         Ok(answer) => Ok(answer),
         Err(stop) => Ok(Answer::replied(alloc, rendered(alloc, &stop)?)),

@@ -3,20 +3,20 @@
 //! runs the scenario of a number.
 #![tactic(auto)]
 
-mod answers;
-mod asked;
 #[cfg(test)]
 mod check_rows;
 mod ending;
 #[cfg(test)]
 mod fields;
+#[cfg(test)]
+mod gen_rows;
+#[cfg(test)]
+mod hostile_rows;
 mod judging;
-mod laws;
 #[cfg(test)]
 mod rows;
 #[cfg(test)]
 mod run_rows;
-mod stabilised;
 #[cfg(test)]
 mod tests;
 mod top;

@@ -1,12 +1,14 @@
 //! Everything that the program does.
 ghost use Rattle.std.specs.Prelude.{◌≡◌, ◌≢◌, ◌<◌, [], length, map, string_bytes, Some, false};
-ghost use Rattle.fc_program.specs.Asked.{asked_of, reads_source};
-ghost use Rattle.fc_program.specs.Answers.{AnswerValue, Answers};
+ghost use Rattle.command_words.specs.Words.{command_of};
+ghost use Rattle.fc_answers.specs.Asked.{reads_source};
+ghost use Rattle.fc_answers.specs.Answers.{AnswerValue, Answers};
 ghost use Rattle.fc_program.specs.Top.{Ends, IsExact, sink_at, source_at};
 
-use crate::asked::{asked, workers_of};
 use crate::ending::{Outcome, ended, without_book};
+use command_words::{command, words_ask_for_commands};
 use export_table::Gate;
+use fc_answers::workers_of;
 use fc_io::{CalmSink, CalmSource, Sink, Source};
 use session::Pool;
 use std::alloc::Global;
@@ -24,14 +26,15 @@ pub fn fc<W: Threads + Wait + Sync, S: Source, K: Sink, G: Gate + Sync>(
     gate: &G,
 ) -> Outcome
     // The text that is written, the bytes that are read, the cause of each status, and the book: each field of `Ends`.
-    ensures ends { Ends (asked_of (map string_bytes words.now))
+    ensures ends { Ends (command_of (map string_bytes words.now))
         (source_at (S.left src.old) (S.faults src.old)) (source_at (S.left src.new) (S.faults src.new))
         (sink_at (K.taken out.old) (K.faults out.old) (K.room out.old))
         (sink_at (K.taken out.new) (K.faults out.new) (K.room out.new)) result }
     // What doesn't read the source leaves it as it was.
-    ensures untouched { reads_source (asked_of (map string_bytes words.now)) ≡ false → src.new ≡ src.old }
+    ensures untouched { reads_source (command_of (map string_bytes words.now)) ≡ false → src.new ≡ src.old }
 {
-    match asked(alloc, words) {
+    words_ask_for_commands();
+    match command(alloc, words) {
         Ok(asked) => {
             let pool = Pool::new(rt, gate, workers_of(asked));
             ended(alloc, asked, src, out, &pool)
@@ -51,16 +54,17 @@ pub fn calm<W: Threads + Wait + Sync, G: Gate + Sync>(
 ) -> Outcome
     requires fresh { out.old.faults ≡ 0 }
     requires empty { out.old.taken ≡ [] }
-    requires room { (a : AnswerValue) → Answers (asked_of (map string_bytes words.now)) input.items a
+    requires room { (a : AnswerValue) → Answers (command_of (map string_bytes words.now)) input.items a
         → length a.text < out.old.room }
     ensures read { result.status ≢ 5 }
     ensures write { result.status ≢ 6 }
     ensures exact { result.status ≢ 7
-        → IsExact (asked_of (map string_bytes words.now)) (Some input.items) (Some []) (Some out.new.taken) result }
+        → IsExact (command_of (map string_bytes words.now)) (Some input.items) (Some []) (Some out.new.taken) result }
     ensures memory { result.status ≡ 7 → out.new.taken ≡ [] }
 {
     let mut source = CalmSource::new(input);
-    let Ok(asked) = asked(alloc, words) else {
+    words_ask_for_commands();
+    let Ok(asked) = command(alloc, words) else {
         return without_book(alloc, 7);
     };
     let outcome = ended(alloc, asked, &mut source, out, pool);

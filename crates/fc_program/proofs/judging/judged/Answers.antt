@@ -1,6 +1,6 @@
 use Rattle.std.proofs.Common.{◌≡◌, false, sym, ◌∙◌, rules}
 use Rattle.command_words.specs.Commands.{limit_of}
-use Rattle.fc_program.specs.Asked.{reads}
+use Rattle.fc_answers.specs.Asked.{reads}
 use Rattle.fc_program.proofs.Answering.{for_usage, for_limit, for_unread, none_past}
 use Rattle.fc_program.proofs.judging.judged.Goals as goal
 

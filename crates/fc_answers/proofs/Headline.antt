@@ -1,0 +1,346 @@
+-- What a yes promises is kept.
+use Rattle.std.proofs.Common.{ℕ, ◌≡◌, ◌≤◌, ◌++◌, Bool, true, false, List, [], ◌∷◌, length, refl, ap, sym, ◌∙◌, subst, arith, Option, Some, None}
+use Rattle.std.specs.Prelude.{nat_lt}
+use Rattle.fc_nodes.specs.Program.{Program, Unfolding, IsProgram, unfolding_of}
+use Rattle.fc_nodes.specs.declared.verdicts.Verdict.{Verdict}
+use Rattle.fc_nodes.specs.declared.verdicts.Verdict.TheVariants as verdict
+use Rattle.fragment_check.specs.Verdicts.{levels_of, verdict_of}
+use Rattle.converge_laws.specs.Verdicts.{YesStabilises}
+use Rattle.net_json.specs.FittingScenes.{AcceptedScenesFit}
+use Rattle.net_json.specs.Scenes.{SceneValue}
+use Rattle.command_words.specs.declared.commands.Command.{Command}
+use Rattle.command_words.specs.declared.commands.Command.TheVariants.{Check, Stable, Run, Replay, Format, Gen, Trace, Mail}
+use Rattle.command_words.specs.declared.commands.Limit.{Limit}
+use Rattle.command_words.specs.declared.commands.Limit.TheVariants.{Workers, Devices}
+use Rattle.command_words.specs.Commands.{limit_of}
+use Rattle.fc_inputs.specs.declared.refusal.Refusal.TheVariants.{Bytes}
+use Rattle.fc_inputs.specs.Causes.{Cause, Plainly, Judged, Accepted, Refused, AndThen, reply_to, judged_map}
+use Rattle.fc_inputs.specs.Inputs.{InputOf, ReadsInput}
+use Rattle.fc_inputs.specs.Refusals.{Reply}
+use Rattle.fc_inputs.specs.Sections.{sections_of, other_number, WithTwo, WithThree}
+use Rattle.fc_inputs.specs.declared.sources.TheConstants.{MOST_BYTES}
+use Rattle.fc_check.specs.Checks.{Checks, ChecksScene, facts_behind, verdict_status}
+use Rattle.interval_facts.specs.Ranges.{ranges_of}
+use Rattle.report.specs.Facts.{facts_text}
+use Rattle.report.specs.Texts.{field_text}
+use Rattle.report.specs.Verdicts.{verdict_text}
+use Rattle.fc_mail.specs.Drives.{DrivesMail}
+use Rattle.fc_mail.specs.Laws.{DrivenMailKeepsYes, DrivenMailsKeepYes, MailKeepsYes, MailsKeepYes}
+use Rattle.fc_mail.specs.Mails.{Mails}
+use Rattle.fc_answers.specs.Stabilised.{Stabilised, StabilisedBy, StabilisesScene}
+use Rattle.fc_gen.specs.Laws.{Agrees, AllAgree}
+use Rattle.fc_run.specs.Laws.{RunsKeepYes}
+use Rattle.fc_run.specs.Runs.{RanValue, Runs}
+use Rattle.fc_answers.specs.Asked.{limit_refusal, reads}
+use Rattle.fc_answers.specs.Answers.{AnswerValue, AnswersInput}
+use Rattle.fc_answers.specs.Answers.{AnswersWithin, ShowsRun, WritesLogReply, WritesReply, answer_of, replied, run_options, running}
+use Rattle.fc_answers.specs.Headline.{AnswersKeep, ChecksYes, HasYes, MailPromises, OfThree, OfTwo, Promises}
+use Rattle.fc_answers.specs.Headline.{RunsKept, SolvesYes, TracesYes, stable_entries}
+use Rattle.fc_answers.proofs.StableReplies.{one_field}
+use Rattle.fc_trace.proofs.Scenes.{scene_fits}
+use Rattle.fc_trace.specs.Traces.{TracedBy, Traces, TracesScene}
+use Rattle.walk_form.specs.Costs.{AreCostsOf}
+use Rattle.walk_form.specs.Forms.{WalkTerms, walk_terms}
+use Rattle.walk_form.specs.Laws.{SolutionsAreLeast}
+use Rattle.fc_answers.proofs.Statuses.{CauseJudges, IfRefused, RefusesBy, driven_replies, input_causes, mail_replies}
+use Rattle.fc_answers.proofs.Statuses.{run_causes}
+
+-- what is replied: a reply, or that of a refusal
+abbrev reply_of : Judged Reply → Reply
+reply_of (Accepted reply) = reply
+reply_of (Refused cause) = reply_to cause
+
+-- the promise of a reply to a program and a scene
+abbrev Keeps : (List ℕ → List ℕ → List ℕ → Type 0) → List ℕ → List ℕ → Reply → Type 0
+Keeps P program network reply = reply.status ≡ 0 → P program network reply.text
+
+-- a refusal has another status than a yes
+refused_keeps : (P : List ℕ → List ℕ → List ℕ → Type 0) (program network : List ℕ) (r : Reply) → RefusesBy r.status
+    → Keeps P program network r
+refused_keeps P program network r h zero = let many = h.many in absurd (omega (arith, many, zero))
+
+module _ (law : YesStabilises) (fit : AcceptedScenesFit) (program network : List ℕ) where
+  -- a yes on what was read
+  abbrev has_yes : (U : Unfolding) (s : SceneValue) (P : Program) → ReadsInput program network (Accepted (U, s)) → IsProgram P
+      → unfolding_of P ≡ U → (k : ℕ) → verdict_of P (length s.net.devices) ≡ verdict.Yes k → HasYes program network
+  has_yes U s P reads is unfolded k said =
+      let fits = scene_fits fit program network (U, s) reads in
+      let declared : s.net.declared ≡ P.declared = fits.declared ∙ ap (λ (V : Unfolding). V.declared) (sym unfolded) in
+      record {
+        nodes = P;
+        is_program = is;
+        scene = s;
+        reads = subst (λ (V : Unfolding). ReadsInput program network (Accepted (V, s))) (sym unfolded) reads;
+        rounds = k;
+        yes = said;
+        stabilises = law P s.net k is fits.net declared said;
+      }
+
+  check_by : (facts : Bool) (U : Unfolding) (s : SceneValue) (k : Judged Reply) (e : ChecksScene facts U s k)
+      → ReadsInput program network (Accepted (U, s)) → (v : Verdict)
+      → verdict_of e.nodes (length s.net.devices) ≡ v → Keeps ChecksYes program network (reply_of k)
+  check_by facts U s k e reads (verdict.Yes rounds) said zero = record {
+    yes = has_yes U s e.nodes reads e.is_program e.unfolded rounds said;
+    facts = facts_behind facts (verdict_of e.nodes (length s.net.devices))
+        (facts_text e.nodes (ranges_of (unfolding_of e.nodes)) (levels_of e.nodes (length s.net.devices)));
+    writes = ap (λ j. (reply_of j).text) e.checked
+        ∙ ap (λ v. verdict_text v ++ facts_behind facts (verdict_of e.nodes (length s.net.devices))
+        (facts_text e.nodes (ranges_of (unfolding_of e.nodes)) (levels_of e.nodes (length s.net.devices)))) said;
+  }
+  check_by facts U s k e reads (verdict.No place why) said zero =
+      let one : 0 ≡ 1 = sym zero ∙ ap (λ j. (reply_of j).status) e.checked ∙ ap verdict_status said in
+      absurd (cc one)
+
+  check_keeps : (facts : Bool) (k : Judged Reply) → Checks facts program network k
+      → Keeps ChecksYes program network (reply_of k)
+  check_keeps facts k h = by_input h.judged h.reads (input_causes program network h.judged h.reads) h.ends
+    where
+      by_input : (i : Judged InputOf) → ReadsInput program network i → IfRefused CauseJudges i
+          → AndThen i (λ i k. ChecksScene facts i.0 i.1 k) k → Keeps ChecksYes program network (reply_of k)
+      by_input (Accepted i) r c e =
+          check_by facts i.0 i.1 k e r (verdict_of e.nodes (length i.1.net.devices)) refl
+      by_input (Refused cause) r c e =
+          subst (λ j. Keeps ChecksYes program network (reply_of j)) (sym e)
+          (refused_keeps ChecksYes program network (reply_to cause) c)
+
+  stable_by : (U : Unfolding) (s : SceneValue) (k : Judged Reply) (e : StabilisesScene U s k)
+      → ReadsInput program network (Accepted (U, s)) → (v : Verdict)
+      → verdict_of e.nodes (length s.net.devices) ≡ v → StabilisedBy v e.nodes s.net e.reply
+      → Keeps SolvesYes program network (reply_of k)
+  stable_by U s k e reads (verdict.Yes rounds) said w zero =
+      let y = has_yes U s e.nodes reads e.is_program e.unfolded rounds said in
+      let same : w.field ≡ stable_entries program network y =
+      one_field (unfolding_of e.nodes) s.net w.field (stable_entries program network y) w.stable
+      (record { one = y.stabilises.one; values = refl }) in
+      record {
+        yes = y;
+        writes = ap (λ j. (reply_of j).text) e.is ∙ ap (λ (r : Reply). r.text) w.is ∙ ap field_text same;
+      }
+  stable_by U s k e reads (verdict.No place why) said w zero =
+      let one : 0 ≡ 1 =
+      sym zero ∙ ap (λ j. (reply_of j).status) e.is ∙ ap (λ (r : Reply). r.status) w ∙ ap verdict_status said in
+      absurd (cc one)
+
+  stable_keeps : (k : Judged Reply) → Stabilised program network k → Keeps SolvesYes program network (reply_of k)
+  stable_keeps k h = by_input h.judged h.reads (input_causes program network h.judged h.reads) h.ends
+    where
+      by_input : (i : Judged InputOf) → ReadsInput program network i → IfRefused CauseJudges i
+          → AndThen i (λ i k. StabilisesScene i.0 i.1 k) k → Keeps SolvesYes program network (reply_of k)
+      by_input (Accepted i) r c e =
+          stable_by i.0 i.1 k e r (verdict_of e.nodes (length i.1.net.devices)) refl e.writes
+      by_input (Refused cause) r c e =
+          subst (λ j. Keeps SolvesYes program network (reply_of j)) (sym e)
+          (refused_keeps SolvesYes program network (reply_to cause) c)
+
+module _ (law : YesStabilises) (fit : AcceptedScenesFit) (least : SolutionsAreLeast) (program network : List ℕ) where
+  -- a reply with status 1 is none of a yes
+  one_keeps : (k : Judged Reply) (r : Reply) → k ≡ Accepted r → r.status ≡ 1
+      → Keeps TracesYes program network (reply_of k)
+  one_keeps k r e one zero =
+      let none : 0 ≡ 1 = sym zero ∙ ap (λ j. (reply_of j).status) e ∙ one in
+      absurd (cc none)
+
+  trace_by : (U : Unfolding) (s : SceneValue) (k : Judged Reply) (e : TracesScene U s k)
+      → ReadsInput program network (Accepted (U, s)) → (v : Verdict)
+      → verdict_of e.nodes (length s.net.devices) ≡ v → (o : Option WalkTerms) → walk_terms U ≡ o
+      → TracedBy v o U s.net e.reply → Keeps TracesYes program network (reply_of k)
+  trace_by U s k e reads (verdict.Yes rounds) said (Some w) form h zero =
+      let y = has_yes law fit program network U s e.nodes reads e.is_program e.unfolded rounds said in
+      let fits = scene_fits fit program network (U, s) reads in
+      let declared : s.net.declared ≡ e.nodes.declared =
+      fits.declared ∙ ap (λ (V : Unfolding). V.declared) (sym e.unfolded) in
+      let are : AreCostsOf (unfolding_of e.nodes) s.net h.costs =
+      subst (λ (V : Unfolding). AreCostsOf V s.net h.costs) (sym e.unfolded)
+      (record { terms = w; form = form; costs = h.are }) in
+      record {
+        yes = y;
+        costs = h.costs;
+        are = are;
+        claim = h.claim;
+        traced = h.traced;
+        least = least e.nodes s.net rounds h.costs y.stabilises.one.field e.is_program fits.net declared said are
+            y.stabilises.one.solves;
+        writes = ap (λ j. (reply_of j).text) e.is ∙ ap (λ (r : Reply). r.text) h.is;
+      }
+  trace_by U s k e reads (verdict.Yes rounds) said None form h zero =
+      one_keeps k e.reply e.is (ap (λ (r : Reply). r.status) h) zero
+  trace_by U s k e reads (verdict.No place why) said o form h zero =
+      one_keeps k e.reply e.is (ap (λ (r : Reply). r.status) h) zero
+
+  trace_keeps : (k : Judged Reply) → Traces program network k → Keeps TracesYes program network (reply_of k)
+  trace_keeps k h = by_input h.judged h.reads (input_causes program network h.judged h.reads) h.ends
+    where
+      by_input : (i : Judged InputOf) → ReadsInput program network i → IfRefused CauseJudges i
+          → AndThen i (λ i k. TracesScene i.0 i.1 k) k → Keeps TracesYes program network (reply_of k)
+      by_input (Accepted i) r c e =
+          trace_by i.0 i.1 k e r (verdict_of e.nodes (length i.1.net.devices)) refl (walk_terms i.0) refl e.writes
+      by_input (Refused cause) r c e =
+          subst (λ j. Keeps TracesYes program network (reply_of j)) (sym e)
+          (refused_keeps TracesYes program network (reply_to cause) c)
+
+-- ---- answers
+answer_keeps : (P : List ℕ → List ℕ → List ℕ → Type 0) (program network : List ℕ) (k : Judged Reply)
+    → Keeps P program network (reply_of k) → (answer_of (judged_map replied k)).status ≡ 0
+    → P program network (answer_of (judged_map replied k)).text
+answer_keeps P program network (Accepted reply) h zero = h zero
+answer_keeps P program network (Refused cause) h zero = h zero
+
+refused_zero : {A : Type 0} (j : Judged AnswerValue) (cause : Cause) → j ≡ Refused cause → 3 ≤ (reply_to cause).status
+    → (answer_of j).status ≡ 0 → A
+refused_zero j cause e many zero =
+    let same : (answer_of j).status ≡ (reply_to cause).status = ap (λ k. (answer_of k).status) e in
+    absurd (omega (arith, many, zero, same))
+
+module _ (Makes : List ℕ → List ℕ → Judged Reply → Type 0) (P : List ℕ → List ℕ → List ℕ → Type 0)
+    (keep : (program network : List ℕ) (k : Judged Reply) → Makes program network k
+    → Keeps P program network (reply_of k)) where
+  sections_keep : (ss : List (List ℕ)) (j : Judged AnswerValue) → WithTwo (WritesReply Makes) ss j
+      → (answer_of j).status ≡ 0 → OfTwo (λ program network. P program network (answer_of j).text) ss
+  sections_keep [] j h zero = refused_zero j (other_number []) h (omega arith) zero
+  sections_keep (a ∷ []) j h zero = refused_zero j (other_number (a ∷ [])) h (omega arith) zero
+  sections_keep (a ∷ b ∷ []) j h zero =
+      subst (λ i. (answer_of i).status ≡ 0 → P a b (answer_of i).text) (sym h.writes)
+      (answer_keeps P a b h.judged (keep a b h.judged h.makes)) zero
+  sections_keep (a ∷ b ∷ c ∷ ss) j h zero = refused_zero j (other_number (a ∷ b ∷ c ∷ ss)) h (omega arith) zero
+
+  input_keeps : (input : List ℕ) (j : Judged AnswerValue) (long : Bool)
+      → (long ≡ true → j ≡ Refused (Plainly Bytes))
+      → (long ≡ false → WithTwo (WritesReply Makes) (sections_of input) j)
+      → (answer_of j).status ≡ 0
+      → OfTwo (λ program network. P program network (answer_of j).text) (sections_of input)
+  input_keeps input j true h k zero = refused_zero j (Plainly Bytes) (h refl) (omega arith) zero
+  input_keeps input j false h k zero = sections_keep (sections_of input) j (k refl) zero
+
+-- ---- three sections
+module _ (Shows : List ℕ → List ℕ → List ℕ → Judged AnswerValue → Type 0)
+    (P : List ℕ → List ℕ → List ℕ → AnswerValue → Type 0)
+    (keep : (program network third : List ℕ) (j : Judged AnswerValue) → Shows program network third j
+    → (answer_of j).status ≡ 0 → P program network third (answer_of j)) where
+  abbrev ThreeKeep : List (List ℕ) → Judged AnswerValue → Type 0
+  ThreeKeep sections j = OfThree (λ program network third. P program network third (answer_of j)) sections
+
+  three_keep : (ss : List (List ℕ)) (j : Judged AnswerValue) → WithThree Shows ss j → (answer_of j).status ≡ 0
+      → ThreeKeep ss j
+  three_keep [] j h zero = refused_zero j (other_number []) h (omega arith) zero
+  three_keep (a ∷ []) j h zero = refused_zero j (other_number (a ∷ [])) h (omega arith) zero
+  three_keep (a ∷ b ∷ []) j h zero = refused_zero j (other_number (a ∷ b ∷ [])) h (omega arith) zero
+  three_keep (a ∷ b ∷ c ∷ []) j h zero = keep a b c j h zero
+  three_keep (a ∷ b ∷ c ∷ d ∷ ss) j h zero = refused_zero j (other_number (a ∷ b ∷ c ∷ d ∷ ss)) h (omega arith) zero
+
+  three_input : (input : List ℕ) (j : Judged AnswerValue) (long : Bool)
+      → (long ≡ true → j ≡ Refused (Plainly Bytes)) → (long ≡ false → WithThree Shows (sections_of input) j)
+      → (answer_of j).status ≡ 0 → ThreeKeep (sections_of input) j
+  three_input input j true h k zero = refused_zero j (Plainly Bytes) (h refl) (omega arith) zero
+  three_input input j false h k zero = three_keep (sections_of input) j (k refl) zero
+
+-- ---- runs
+module _ (run : RunsKeepYes) (workers : ℕ) (log table : Bool) where
+  shows_keep : (program network script : List ℕ) (j : Judged AnswerValue)
+      → ShowsRun (run_options log table) program network script j → (answer_of j).status ≡ 0
+      → RunsKept (run_options log table) program network script (answer_of j)
+  shows_keep program network script j h zero = by_judged h.judged h.runs h.shows
+    where
+      by_judged : (k : Judged RanValue) → Runs (run_options log table) program network script k
+          → j ≡ judged_map running k → RunsKept (run_options log table) program network script (answer_of j)
+      by_judged (Accepted r) runs e = record {
+        ran = r;
+        shows = ap answer_of e;
+        keeps = run (run_options log table) program network script r runs;
+      }
+      by_judged (Refused cause) runs e =
+          refused_zero j cause e (run_causes (run_options log table) program network script (Refused cause) runs).many
+          zero
+
+  abbrev RunKeeps : List (List ℕ) → Judged AnswerValue → Type 0
+  RunKeeps sections j =
+      OfThree (λ program network script. RunsKept (run_options log table) program network script (answer_of j))
+      sections
+
+  run_within : (o : Option (Limit × ℕ)) (input : List ℕ) (j : Judged AnswerValue)
+      → AnswersWithin o (Run workers log table) input j → (answer_of j).status ≡ 0 → RunKeeps (sections_of input) j
+  run_within (Some (Workers, count)) input j h zero =
+      refused_zero j (Plainly (limit_refusal Workers count)) h (omega arith) zero
+  run_within (Some (Devices, count)) input j h zero =
+      refused_zero j (Plainly (limit_refusal Devices count)) h (omega arith) zero
+  run_within None input j h zero =
+      three_input (ShowsRun (run_options log table)) (RunsKept (run_options log table)) shows_keep input j
+      (nat_lt MOST_BYTES (length input)) (λ e. subst (λ b. AnswersInput b (Run workers log table) input j) e h)
+      (λ e. subst (λ b. AnswersInput b (Run workers log table) input j) e h) zero
+
+-- ---- messages
+module _ (log : MailsKeepYes) (driven : DrivenMailsKeepYes) where
+  log_keeps : (program network script : List ℕ) (j : Judged AnswerValue)
+      → WritesLogReply Mails program network script j → (answer_of j).status ≡ 0
+      → MailKeepsYes program network script (answer_of j).text
+  log_keeps program network script j h zero = by_judged h.judged h.makes h.writes
+    where
+      by_judged : (k : Judged Reply) → Mails program network script k → j ≡ judged_map replied k
+          → MailKeepsYes program network script (answer_of j).text
+      by_judged (Accepted r) makes e =
+          subst (λ x. MailKeepsYes program network script (answer_of x).text) (sym e)
+          (log program network script r makes)
+      by_judged (Refused cause) makes e =
+          refused_zero j cause e (mail_replies program network script (Refused cause) makes).many zero
+
+  driven_keeps : (number : ℕ) (program network : List ℕ) (k : Judged Reply) → DrivesMail number program network k
+      → Keeps (DrivenMailKeepsYes number) program network (reply_of k)
+  driven_keeps number program network (Accepted r) h zero = driven number program network r h zero
+  driven_keeps number program network (Refused cause) h zero =
+      refused_keeps (DrivenMailKeepsYes number) program network (reply_to cause)
+      (driven_replies number program network (Refused cause) h) zero
+
+  mail_keeps : (number : Option ℕ) (input : List ℕ) (j : Judged AnswerValue)
+      → AnswersInput (nat_lt MOST_BYTES (length input)) (Mail number) input j → (answer_of j).status ≡ 0
+      → MailPromises number (sections_of input) (answer_of j)
+  mail_keeps None input j h zero =
+      three_input (WritesLogReply Mails) (λ program network lines answer.
+      MailKeepsYes program network lines answer.text) log_keeps input j
+      (nat_lt MOST_BYTES (length input)) (λ e. subst (λ b. AnswersInput b (Mail None) input j) e h)
+      (λ e. subst (λ b. AnswersInput b (Mail None) input j) e h) zero
+  mail_keeps (Some number) input j h zero =
+      input_keeps (DrivesMail number) (DrivenMailKeepsYes number) (driven_keeps number) input j
+      (nat_lt MOST_BYTES (length input)) (λ e. subst (λ b. AnswersInput b (Mail (Some number)) input j) e h)
+      (λ e. subst (λ b. AnswersInput b (Mail (Some number)) input j) e h) zero
+
+-- ---- scenarios
+gen_keeps : AllAgree → (number devices workers : ℕ) (o : Option (Limit × ℕ)) (input : List ℕ) (j : Judged AnswerValue)
+    → AnswersWithin o (Gen number devices workers) input j → (answer_of j).status ≡ 0
+    → Agrees number devices (answer_of j).text
+gen_keeps agree number devices workers (Some (Workers, count)) input j h zero =
+    refused_zero j (Plainly (limit_refusal Workers count)) h (omega arith) zero
+gen_keeps agree number devices workers (Some (Devices, count)) input j h zero =
+    refused_zero j (Plainly (limit_refusal Devices count)) h (omega arith) zero
+gen_keeps agree number devices workers None input j h zero =
+    subst (λ x. Agrees number devices (answer_of x).text) (sym h.shows)
+    (agree number devices h.least h.most h.gen h.gens)
+
+module _ (law : YesStabilises) (fit : AcceptedScenesFit) (least : SolutionsAreLeast) (run : RunsKeepYes)
+    (agree : AllAgree) (log : MailsKeepYes) (driven : DrivenMailsKeepYes) where
+  command_keeps : (command : Command) (input : List ℕ) (j : Judged AnswerValue)
+      → AnswersWithin (limit_of command) command input j → (answer_of j).status ≡ 0
+      → Promises command (sections_of input) (answer_of j)
+  command_keeps (Check facts) input j h zero =
+      input_keeps (Checks facts) ChecksYes (λ p n. check_keeps law fit p n facts) input j
+      (nat_lt MOST_BYTES (length input)) (λ e. subst (λ b. AnswersInput b (Check facts) input j) e h)
+      (λ e. subst (λ b. AnswersInput b (Check facts) input j) e h) zero
+  command_keeps Stable input j h zero =
+      input_keeps Stabilised SolvesYes (stable_keeps law fit) input j
+      (nat_lt MOST_BYTES (length input)) (λ e. subst (λ b. AnswersInput b Stable input j) e h)
+      (λ e. subst (λ b. AnswersInput b Stable input j) e h) zero
+  command_keeps Format input j h zero = tt
+  command_keeps (Replay rounds table) input j h zero = tt
+  command_keeps (Run workers log table) input j h zero =
+      run_within run workers log table (limit_of (Run workers log table)) input j h zero
+  command_keeps (Gen number devices workers) input j h zero =
+      gen_keeps agree number devices workers (limit_of (Gen number devices workers)) input j h zero
+  command_keeps Trace input j h zero =
+      input_keeps Traces TracesYes (trace_keeps law fit least) input j
+      (nat_lt MOST_BYTES (length input)) (λ e. subst (λ b. AnswersInput b Trace input j) e h)
+      (λ e. subst (λ b. AnswersInput b Trace input j) e h) zero
+  command_keeps (Mail number) input j h zero = mail_keeps log driven number input j h zero
+
+  pub answers_keep : AnswersKeep
+  answers_keep None input answer h = tt
+  answers_keep (Some command) input answer h =
+      subst (λ (a : AnswerValue). a.status ≡ 0 → Promises command (sections_of input) a) (sym h.is)
+      (command_keeps command input h.judged h.makes)

@@ -1,0 +1,6 @@
+mod Formatting
+mod StableReplies
+mod Statuses
+mod OneAnswer
+mod SomeAnswer
+mod Headline

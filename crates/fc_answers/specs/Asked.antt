@@ -1,0 +1,46 @@
+-- What the words ask for, and what each command does with the outside.
+use Rattle.std.specs.Prelude.{ℕ, Bool, true, false, ◌&&◌, is_none, IfSome, Option, Some, None}
+use Rattle.command_words.specs.declared.commands.Command.{Command}
+use Rattle.command_words.specs.declared.commands.Command.TheVariants.{Check, Stable, Run, Replay}
+use Rattle.command_words.specs.declared.commands.Command.TheVariants.{Format, Gen, Trace, Mail}
+use Rattle.command_words.specs.declared.commands.Limit.{Limit}
+use Rattle.command_words.specs.declared.commands.Limit.TheVariants.{Workers, Devices}
+use Rattle.command_words.specs.Commands.{IsCommand, limit_of}
+use Rattle.fc_inputs.specs.declared.refusal.Refusal.{Refusal}
+use Rattle.fc_inputs.specs.declared.refusal.Refusal.TheVariants as refusal
+
+-- the commands that read the source: all but `gen`
+abbrev pub reads : Command → Bool
+reads (Gen number devices workers) = false
+reads Format = true
+reads (Replay rounds table) = true
+reads (Check facts) = true
+reads Stable = true
+reads (Run workers log table) = true
+reads Trace = true
+reads (Mail number) = true
+
+-- the commands whose log is made by threads
+abbrev pub runs_threads : Command → Bool
+runs_threads (Run workers log table) = true
+runs_threads (Gen number devices workers) = true
+runs_threads Format = false
+runs_threads (Replay rounds table) = false
+runs_threads (Check facts) = false
+runs_threads Stable = false
+runs_threads Trace = false
+runs_threads (Mail number) = false
+
+-- the refusal of a number of the words that is past its limit
+abbrev pub limit_refusal : Limit → ℕ → Refusal
+limit_refusal Workers count = refusal.Workers count
+limit_refusal Devices count = refusal.Devices count
+
+-- whether what the words ask for reads the source: a command that reads, whose numbers are within their limits
+abbrev pub reads_source : Option Command → Bool
+reads_source None = false
+reads_source (Some command) = is_none (limit_of command) && reads command
+
+-- what words can ask for
+abbrev pub MayAsk : Option Command → Type 0
+MayAsk asked = IfSome asked IsCommand

@@ -1,0 +1,117 @@
+-- What a yes promises: within its rounds the program stabilises on the scene's network, and on those that a script
+-- makes.
+use Rattle.std.specs.Prelude.{ℕ, ◌≡◌, ◌++◌, List, [], ◌∷◌, length, map, Option, Some, None}
+use Rattle.fc_values.specs.Fields.{Entries}
+use Rattle.fc_nodes.specs.Program.{IsProgram, Program, unfolding_of}
+use Rattle.fc_nodes.specs.declared.verdicts.Verdict.TheVariants as verdict
+use Rattle.topology.specs.Networks.{Lives, numbers}
+use Rattle.walks.specs.Walks.{AreTraced, CostsValue, EvidenceValue}
+use Rattle.walk_form.specs.Costs.{AreCostsOf}
+use Rattle.walk_form.specs.Laws.{IsLeastAt}
+use Rattle.fragment_check.specs.Verdicts.{verdict_of}
+use Rattle.converge_laws.specs.Stabilising.{Stabilises}
+use Rattle.net_json.specs.Scenes.{SceneValue}
+use Rattle.report.specs.Texts.{field_text}
+use Rattle.report.specs.Verdicts.{verdict_text}
+use Rattle.command_words.specs.declared.commands.Command.{Command}
+use Rattle.command_words.specs.declared.commands.Command.TheVariants.{Check, Stable, Run, Replay}
+use Rattle.command_words.specs.declared.commands.Command.TheVariants.{Format, Gen, Trace, Mail}
+use Rattle.fc_inputs.specs.Causes.{Accepted}
+use Rattle.fc_trace.specs.Texts.{walks_text}
+use Rattle.fc_inputs.specs.Inputs.{ReadsInput}
+use Rattle.fc_inputs.specs.Sections.{sections_of}
+use Rattle.fc_gen.specs.Laws.{Agrees}
+use Rattle.fc_mail.specs.Laws.{DrivenMailKeepsYes, MailKeepsYes}
+use Rattle.fc_run.specs.declared.runs.RunOptions.{RunOptions}
+use Rattle.fc_run.specs.Laws.{RunKeepsYes}
+use Rattle.fc_run.specs.Runs.{RanValue}
+use Rattle.fc_answers.specs.Answers.{AnswerValue, Answers, run_options, running}
+
+-- The texts of a program and a scene, on which the verdict is a yes for so many rounds: exactly one field solves the
+-- program on the scene's network, and from every good core each log without an edit that has so many rounds leads to
+-- its values.
+pub record HasYes (program network : List ℕ) : Type 0 where
+  pub nodes : Program
+  pub is_program : IsProgram nodes
+  pub scene : SceneValue
+  pub reads : ReadsInput program network (Accepted (unfolding_of nodes, scene))
+  pub rounds : ℕ
+  pub yes : verdict_of nodes (length scene.net.devices) ≡ verdict.Yes rounds
+  pub stabilises : Stabilises (unfolding_of nodes) scene.net rounds
+
+-- the values of the one field at all devices, rising
+abbrev pub stable_entries : (program network : List ℕ) → HasYes program network → Entries
+stable_entries program network y = map (λ (d : ℕ). (d, y.stabilises.one.field d)) (numbers y.scene.net.devices)
+
+-- `check` writes the line of a yes, and facts behind it
+pub record ChecksYes (program network text : List ℕ) : Type 0 where
+  pub yes : HasYes program network
+  pub facts : List ℕ
+  pub writes : text ≡ verdict_text (verdict.Yes yes.rounds) ++ facts
+
+-- `stable` writes the one field
+pub record SolvesYes (program network text : List ℕ) : Type 0 where
+  pub yes : HasYes program network
+  pub writes : text ≡ field_text (stable_entries program network yes)
+
+-- `trace` writes behind the line of a yes, for each device, the least of the costs of all walks that end in it and the
+-- best of these walks, where the costs are those of the program on the network; and the one field has these least costs
+pub record TracesYes (program network text : List ℕ) : Type 0 where
+  pub yes : HasYes program network
+  pub costs : CostsValue
+  pub are : AreCostsOf (unfolding_of yes.nodes) yes.scene.net costs
+  pub claim : List EvidenceValue
+  pub traced : AreTraced costs claim
+  pub least : (d : ℕ) → Lives yes.scene.net d → IsLeastAt costs d (yes.stabilises.one.field d)
+  pub writes : text ≡ verdict_text (verdict.Yes yes.rounds) ++ walks_text claim
+
+-- `run` shows a script run, which keeps a yes: before each line, where the last verdict written is a yes, the program
+-- stabilises on the network then, and where the parts since the last edit have as many rounds, a `show` writes the one
+-- solution there
+pub record RunsKept (options : RunOptions) (program network script : List ℕ) (answer : AnswerValue) : Type 0 where
+  pub ran : RanValue
+  pub shows : answer ≡ running ran
+  pub keeps : RunKeepsYes options program network script ran
+
+abbrev pub OfTwo : (List ℕ → List ℕ → Type 0) → List (List ℕ) → Type 0
+OfTwo P [] = ⊥
+OfTwo P (one ∷ []) = ⊥
+OfTwo P (one ∷ two ∷ []) = P one two
+OfTwo P (one ∷ two ∷ three ∷ more) = ⊥
+
+abbrev pub OfThree : (List ℕ → List ℕ → List ℕ → Type 0) → List (List ℕ) → Type 0
+OfThree P [] = ⊥
+OfThree P (one ∷ []) = ⊥
+OfThree P (one ∷ two ∷ []) = ⊥
+OfThree P (one ∷ two ∷ three ∷ []) = P one two three
+OfThree P (one ∷ two ∷ three ∷ four ∷ more) = ⊥
+
+-- What `mail` writes keeps a yes: of a log, where the rounds that are written are at least those of the yes, the values
+-- are the one field; and with a number the one field stands behind the line of the yes.
+abbrev pub MailPromises : Option ℕ → List (List ℕ) → AnswerValue → Type 0
+MailPromises None sections answer =
+    OfThree (λ program network log. MailKeepsYes program network log answer.text) sections
+MailPromises (Some number) sections answer =
+    OfTwo (λ program network. DrivenMailKeepsYes number program network answer.text) sections
+
+-- what a command promises of an answer of status 0 to these sections
+abbrev pub Promises : Command → List (List ℕ) → AnswerValue → Type 0
+Promises (Check facts) sections answer = OfTwo (λ program network. ChecksYes program network answer.text) sections
+Promises Stable sections answer = OfTwo (λ program network. SolvesYes program network answer.text) sections
+Promises Format sections answer = Unit {0}
+Promises (Replay rounds table) sections answer = Unit {0}
+Promises (Run workers log table) sections answer =
+    OfThree (λ program network script. RunsKept (run_options log table) program network script answer) sections
+Promises (Gen number devices workers) sections answer = Agrees number devices answer.text
+Promises Trace sections answer = OfTwo (λ program network. TracesYes program network answer.text) sections
+Promises (Mail number) sections answer = MailPromises number sections answer
+
+abbrev pub IsKept : Option Command → List ℕ → AnswerValue → Type 0
+IsKept None input answer = Unit {0}
+IsKept (Some command) input answer = answer.status ≡ 0 → Promises command (sections_of input) answer
+
+-- each answer keeps what its command promises
+abbrev pub AnswersKeep : Type 0
+AnswersKeep =
+    (asked : Option Command) (input : List ℕ) (answer : AnswerValue) → Answers asked input answer
+    → IsKept asked input answer

@@ -1,0 +1,66 @@
+//! Laws of the answers.
+ghost use Rattle.fc_answers.specs.Headline.{AnswersKeep};
+ghost use Rattle.fc_answers.specs.Laws.{AnswerStatuses, OneAnswer, SomeAnswer};
+
+use converge_laws::yes_stabilises;
+use fc_check::{one_check, some_check};
+use fc_gen::{all_agree, one_gen, some_gen};
+use fc_inputs::{one_input, one_source, sections_are_within};
+use fc_mail::{mails_keep_yes, one_mail, some_mail};
+use fc_replay::{one_replay, some_replay};
+use fc_run::{one_run, runs_keep_yes, some_run};
+use fc_trace::{one_traced, some_traced};
+use net_json::accepted_scenes_fit;
+use walk_form::solutions_are_least;
+
+/// Two answers to one input have one status and one text; where threads make the log, one text for logs that agree.
+pub fn one_answer()
+    ensures { OneAnswer }
+{
+    one_source();
+    one_input();
+    one_check();
+    one_traced();
+    one_replay();
+    one_run();
+    one_gen();
+    one_mail();
+}
+
+/// Each input has an answer, whatever the words ask for.
+pub fn some_answer()
+    ensures { SomeAnswer }
+{
+    one_source();
+    sections_are_within();
+    yes_stabilises();
+    accepted_scenes_fit();
+    some_check();
+    some_traced();
+    some_replay();
+    some_run();
+    some_gen();
+    some_mail();
+}
+
+/// The status of the usage line is that of words outside alone, and no answer has a status above 4.
+pub fn answer_statuses()
+    ensures { AnswerStatuses }
+{}
+
+/// Where `check`, `stable` or `trace` answers with status 0, the verdict on its input is a yes, and the program
+/// stabilises within its rounds on the scene's network: `check` writes these rounds, `stable` the one field, and `trace`
+/// the least costs, which are the values of that field, with the best walks. Where `run` answers with status 0, and the
+/// verdict on a network that its lines make is a yes, the program stabilises on it, and what a `show` writes after as
+/// many rounds is its one field there. `gen` writes that each device agrees with the one field of its scenario. What
+/// `mail` writes of a number, and of a log with as many rounds, is the one field too.
+pub fn answers_keep()
+    ensures { AnswersKeep }
+{
+    yes_stabilises();
+    accepted_scenes_fit();
+    solutions_are_least();
+    runs_keep_yes();
+    all_agree();
+    mails_keep_yes();
+}
