@@ -81,8 +81,8 @@ from_enough n ss = by_allowed (list_all (allows n) ss) refl (all_set no_choices 
     by_allowed true all None is = tt
     by_allowed true all (Some c) is =
         chosen_enough n c (λ gen.
-            subst (λ p. IfSome p Enough) is
-            (all_enough ss no_choices (subst (λ m. list_all (allows m) ss ≡ true) gen all) tt))
+        subst (λ p. IfSome p Enough) is
+        (all_enough ss no_choices (subst (λ m. list_all (allows m) ss ≡ true) gen all) tt))
 
 asked_enough : (n : Option Name) (ss : Option (List Setting)) → IfSome (asked n ss) IsCommand
 asked_enough None ss = tt

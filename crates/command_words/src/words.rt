@@ -51,5 +51,4 @@ pub fn command(alloc: Global, words: &[String]) -> Result<Option<Command>, Memor
 /// What words ask for is a command: a scenario has at least three devices.
 pub fn words_ask_for_commands()
     ensures { WordsAskForCommands }
-{
-}
+{}
