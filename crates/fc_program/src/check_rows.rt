@@ -8,7 +8,7 @@ use std::test::Fail;
 use std::thread::Threads;
 
 // Three devices in a line, with a source at device 0.
-const LINE: &str =
+pub const LINE: &str =
     "{\"devices\":[{\"id\":0,\"inputs\":{\"src\":true}},{\"id\":1,\"inputs\":{\"src\":false}},{\"id\":2,\"inputs\":{\"src\":false}}],\"links\":[[0,1,1],[1,2,1]]}";
 
 const HOP_FACTS: &str = "yes 22

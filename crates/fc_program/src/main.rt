@@ -10,6 +10,8 @@ mod ending;
 mod fields;
 #[cfg(test)]
 mod gen_rows;
+#[cfg(test)]
+mod hostile_rows;
 mod judging;
 #[cfg(test)]
 mod rows;

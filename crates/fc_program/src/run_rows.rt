@@ -17,7 +17,7 @@ use std::thread::Threads;
 const THREE: &str =
     "{\"devices\":[{\"id\":0,\"inputs\":{}},{\"id\":1,\"inputs\":{}},{\"id\":2,\"inputs\":{}}],\"links\":[[0,1,1],[1,2,1]]}";
 
-const FOUR: &str =
+pub const FOUR: &str =
     "{\"devices\":[{\"id\":0,\"inputs\":{\"src\":true}},{\"id\":1,\"inputs\":{\"src\":false}},\
     {\"id\":2,\"inputs\":{\"src\":false}},{\"id\":3,\"inputs\":{\"src\":false}}],\
     \"links\":[[0,1,1],[1,2,1],[2,3,1]]}";

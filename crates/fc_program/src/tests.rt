@@ -1,18 +1,13 @@
-//! Tests of what no clause says: that memory suffices, and what comes where a source or a sink fails in mid-stream.
+//! Tests of what no clause says: that memory suffices.
 
 use crate::top::{calm, fc};
 use export_table::OpenGate;
-use fc_io::{CalmSink, CalmSource, MemSink, MemSource};
+use fc_io::{CalmSink, CalmSource};
 use session::Pool;
 use std::alloc::{AllocError, Global};
 use std::test::Fail;
 
 pub const PROGRAM: &str = "ceiling 10; main = minHoodLoc(nbr{1} + 1, 5);\n";
-
-const LINKED: &str =
-    "{\"devices\":[{\"id\":0,\"inputs\":{}},{\"id\":1,\"inputs\":{}}],\"links\":[[0,1,1]]}\n";
-
-const LOG: &str = "B0\nE0\nB1\nE1\n";
 
 /// Words of a command line.
 pub fn words(alloc: Global, list: &[&str]) -> Result<Vec<String>, AllocError> {
@@ -27,38 +22,6 @@ pub fn words(alloc: Global, list: &[&str]) -> Result<Vec<String>, AllocError> {
 pub fn input(alloc: Global, parts: [&str; 3]) -> Result<Vec<u8>, AllocError> {
     let [program, network, log] = parts;
     Ok(format!(in alloc; "{program}\n%%\n{network}\n%%\n{log}")?.into_bytes())
-}
-
-#[test]
-fn replays_byte_by_byte(rt: HostRuntime) -> Result<(), Fail> {
-    let alloc = rt.alloc();
-    let words = words(alloc, &["fc", "replay"])?;
-    let bytes = input(alloc, [PROGRAM, LINKED, LOG])?;
-    let mut source = MemSource::new(bytes, 1, Vec::new(alloc));
-    let mut sink = MemSink::new(alloc, 100, 1, Vec::new(alloc))?;
-    let outcome = fc(&rt, alloc, &words, &mut source, &mut sink, &OpenGate);
-    assert_eq!(rt; outcome.status, 0);
-    assert_eq!(rt; sink.taken(), b"0 5\n1 2\n".as_slice());
-    assert!(rt; outcome.book.is_some());
-    Ok(())
-}
-
-#[test]
-fn faults(rt: HostRuntime) -> Result<(), Fail> {
-    let alloc = rt.alloc();
-    let words = words(alloc, &["fc", "replay"])?;
-    let bytes = input(alloc, [PROGRAM, LINKED, LOG])?;
-    let mut source = MemSource::new(bytes, 7, vec![in alloc; 1]?);
-    let mut sink = MemSink::new(alloc, 100, 2, vec![in alloc; 2]?)?;
-    let unread = fc(&rt, alloc, &words, &mut source, &mut sink, &OpenGate);
-    assert_eq!(rt; unread.status, 5);
-    assert_eq!(rt; sink.taken(), b"".as_slice());
-    assert!(rt; unread.book.is_none());
-    let cut = fc(&rt, alloc, &words, &mut source, &mut sink, &OpenGate);
-    assert_eq!(rt; cut.status, 6);
-    assert_eq!(rt; sink.taken(), b"0 ".as_slice());
-    assert!(rt; cut.book.is_some());
-    Ok(())
 }
 
 #[test]
