@@ -1,11 +1,8 @@
 -- Each device has the value of the one field that solves the program of a scenario.
-use Rattle.std.proofs.Common.{ℕ, ◌≡◌, ◌≤◌, ◌+◌, ◌*◌, Bool, true, List, [], ◌∷◌, map, length, refl, sym, ap, ap₂, subst, ◌∙◌, Some}
+use Rattle.std.proofs.Common.{ℕ, ◌≡◌, ◌+◌, ◌*◌, List, [], ◌∷◌, map, length, refl, sym, ap, ap₂, subst, ◌∙◌, Some}
 use Rattle.std.specs.Prelude.{option_map, sum_by}
 use Rattle.std.proofs.lemmas.List.{length-map}
 use Rattle.fc_values.specs.Exports.{FlatExport}
-use Rattle.fc_values.specs.Fields.{Entries, is_in}
-use Rattle.fc_values.specs.Trees.{TreeExport}
-use Rattle.fc_values.specs.Values.{LocalValue}
 use Rattle.fc_nodes.specs.Program.{Program, Unfolding, unfolding_of, IsProgram}
 use Rattle.topology.specs.Networks.{NetDevice, Network, Lives, numbers}
 use Rattle.firing_core.specs.declared.entries.Part.{Part}
@@ -22,9 +19,9 @@ use Rattle.report.specs.Texts.{export_value}
 use Rattle.scramble.specs.Rings.{ring}
 use Rattle.session.specs.ScriptRuns.{poke}
 use Rattle.ring_laws.specs.Laws.{RingsAreNetworks, RingsStabilise}
-use Rattle.fc_gen.specs.Gens.{GenValue, Gens, gen_text, scenario_program, scenario_start}
-use Rattle.fc_gen.specs.Laws.{Agrees, AllAgree, field_sum}
-use Rattle.fc_gen.specs.Summaries.{agreeing, firings_in, held, held_integer, held_sum, integer_of, summary_text}
+use Rattle.fc_gen.specs.Gens.{GenValue, scenario_program, scenario_start}
+use Rattle.fc_gen.specs.Laws.{AllAgree, field_sum}
+use Rattle.fc_gen.specs.Summaries.{agreeing, firings_in, held, held_integer, held_sum, summary_text}
 use Rattle.fc_gen.proofs.Counting.{EachHolds, all_agree, all_summed}
 use Rattle.fc_gen.proofs.Cutting.{Cut, cut_of, run_firings}
 use Rattle.fc_gen.proofs.Firings.{run_ends}

@@ -1,5 +1,5 @@
 -- Counts: of equal logs, of values that are the same, and of entries that all pass.
-use Rattle.std.proofs.Common.{ℕ, suc, ◌≡◌, ◌+◌, Bool, true, false, ◌&&◌, ◌||◌, cond, Some, nat_eq, List, [], ◌∷◌, length, map, refl, sym, ap, ap₂, ◌∙◌, arith}
+use Rattle.std.proofs.Common.{ℕ, suc, ◌≡◌, ◌+◌, Bool, true, false, ◌&&◌, cond, Some, nat_eq, List, [], ◌∷◌, length, map, refl, sym, ap, ap₂, ◌∙◌, arith}
 use Rattle.std.specs.Prelude.{count_by, sum_by}
 use Rattle.std.proofs.lemmas.Bool.Decides.{nat_tests}
 use Rattle.std.proofs.lemmas.List.Sums.{sum_by-cons}
@@ -9,7 +9,7 @@ use Rattle.fc_values.specs.Fields.{is_in}
 use Rattle.topology.specs.Networks.{NetDevice, numbers}
 use Rattle.firing_core.specs.Cores.{Core}
 use Rattle.fc_values.specs.Values.{LocalValue, IntValue, BoolValue, PairValue, compare_truths, is_equal}
-use Rattle.firing_core.specs.Entries.{EditValue, EntryValue, BeginEntry, EndEntry, IdleEntry, EditEntry}
+use Rattle.firing_core.specs.Entries.{EntryValue, BeginEntry, EndEntry, IdleEntry, EditEntry}
 use Rattle.edit_commands.specs.Agreement.{SameEntry, SameEntries}
 use Rattle.fc_gen.specs.Summaries.{agrees, held, held_integer, integer_in, integer_of, is_end, is_held, same_value}
 

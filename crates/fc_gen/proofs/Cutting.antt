@@ -1,21 +1,20 @@
 -- The script run of a scenario's lines: pokes, and then a stretch of rounds.
-use Rattle.std.proofs.Common.{ℕ, ◌≡◌, ◌≤◌, ◌+◌, ◌-◌, List, [], ◌∷◌, ◌++◌, length, map, take, drop, refl, sym, ap, ap₂, subst, ◌∙◌, arith, append-nil, cond}
+use Rattle.std.proofs.Common.{ℕ, ◌≡◌, ◌+◌, ◌-◌, List, [], ◌∷◌, ◌++◌, length, map, take, drop, refl, sym, ap, ap₂, subst, ◌∙◌, arith, append-nil, cond}
 use Rattle.std.specs.Prelude.{count_by}
 use Rattle.std.proofs.lemmas.List.{length-append, take_all}
 use Rattle.std.proofs.lemmas.List.Sums.{sum_by-cons, sum_by-append}
 use Rattle.fc_values.specs.Exports.{FlatExport}
 use Rattle.fc_nodes.specs.Program.{Program, Unfolding, unfolding_of}
-use Rattle.topology.specs.Networks.{Network}
 use Rattle.firing_core.specs.declared.entries.Part.{Part}
 use Rattle.firing_core.specs.Cores.{Core, Run}
 use Rattle.firing_core.specs.Entries.{EntryValue}
 use Rattle.firing_core.specs.Stretches.{RunStretch}
-use Rattle.session.specs.ScriptRuns.{Added, DoesLine, DoesLines, RunsRounds, Scrambles, ScriptRun, nothing, both, part_of, poke}
+use Rattle.session.specs.ScriptRuns.{Added, DoesLines, RunsRounds, Scrambles, ScriptRun, nothing, both, part_of, poke}
 use Rattle.session.specs.Shown.{Shown}
 use Rattle.edit_commands.specs.Scripts.{RunCommand}
 use Rattle.fc_gen.specs.Code.{FirstWithin}
 use Rattle.fc_gen.specs.Gens.{scenario_lines}
-use Rattle.fc_gen.specs.Summaries.{entries_in, firings_in, is_end}
+use Rattle.fc_gen.specs.Summaries.{firings_in, is_end}
 
 pub record Cut (U : Unfolding) (start : Core) (rounds : ℕ) (log : List EntryValue) (parts : List Part) (last : Core) : Type 0 where
   pub middle : Core

@@ -1,14 +1,12 @@
 -- What is known of each scenario: its program's verdict, its start, and its two lines.
-use Rattle.std.proofs.Common.{ℕ, ◌≡◌, ◌≤◌, ◌+◌, ◌*◌, length, refl, sym, ap, subst, ◌∙◌, arith, mul-le-mul, None, Some}
+use Rattle.std.proofs.Common.{ℕ, ◌≡◌, ◌≤◌, ◌+◌, ◌*◌, length, arith, mul-le-mul}
 use Rattle.fc_nodes.specs.declared.verdicts.Verdict.TheVariants as verdict
-use Rattle.fc_nodes.specs.Program.{Program, Unfolding, IsProgram, unfolding_of}
+use Rattle.fc_nodes.specs.Program.{Unfolding}
 use Rattle.topology.specs.Networks.{Network, IsNetwork}
 use Rattle.firing_core.specs.Cores.{IsGood}
-use Rattle.fragment_check.specs.Verdicts.{verdict_of}
 use Rattle.edit_commands.specs.JudgedCommands.{AreJudged}
 use Rattle.edit_commands.specs.Scripts.{at_start}
-use Rattle.scramble.specs.Rings.{ring, ring_declared}
-use Rattle.fc_gen.specs.Gens.{empty_on, scenario_lines, scenario_program}
+use Rattle.fc_gen.specs.Gens.{empty_on, scenario_lines}
 
 -- a yes is for one number of rounds
 pub yes_once : (m n : ℕ) → verdict.Yes m ≡ verdict.Yes n → m ≡ n

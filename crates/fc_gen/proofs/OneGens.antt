@@ -1,15 +1,12 @@
 -- A number has one text where the logs agree.
-use Rattle.std.proofs.Common.{ℕ, ◌≡◌, ◌≤◌, ◌+◌, ◌*◌, Bool, true, ◌||◌, nat_eq, List, [], ◌∷◌, map, refl, sym, ap, ap₂, subst, ◌∙◌}
+use Rattle.std.proofs.Common.{ℕ, ◌≡◌, ◌≤◌, ◌+◌, ◌*◌, true, nat_eq, List, [], ◌∷◌, map, refl, sym, ap, ap₂, subst, ◌∙◌}
 use Rattle.std.specs.Prelude.{count_by}
 use Rattle.fc_values.proofs.Booleans.{or_true}
 use Rattle.fc_values.specs.Fields.{Entries, is_in}
 use Rattle.fc_values.specs.Values.{LocalValue}
-use Rattle.fc_nodes.specs.Program.{Program, Unfolding, unfolding_of}
-use Rattle.fc_nodes.specs.declared.verdicts.Verdict.TheVariants as verdict
+use Rattle.fc_nodes.specs.Program.{Unfolding, unfolding_of}
 use Rattle.topology.specs.Networks.{Network, numbers}
-use Rattle.firing_core.specs.declared.entries.Part.{Part}
 use Rattle.firing_core.specs.Cores.{Core, IsGood}
-use Rattle.firing_core.specs.Entries.{EntryValue}
 use Rattle.fragment_check.specs.Verdicts.{verdict_of}
 use Rattle.edit_commands.specs.Agreement.{SameCommands, SameEntries}
 use Rattle.edit_commands.specs.Scripts.{RunCommand}

@@ -1,5 +1,5 @@
 -- What the code has run, as the definitions say it.
-use Rattle.std.proofs.Common.{ℕ, ◌≡◌, ◌≤◌, ◌+◌, ◌-◌, ◌*◌, List, [], ◌∷◌, length, map, take, drop, refl, sym, ap, ap₂, subst, ◌∙◌, Some, None}
+use Rattle.std.proofs.Common.{ℕ, ◌≡◌, ◌≤◌, ◌+◌, ◌-◌, ◌*◌, List, [], ◌∷◌, length, take, drop, sym, ap, ap₂, subst, ◌∙◌, Some}
 use Rattle.std.specs.Prelude.{count_by, slice_get}
 use Rattle.std.proofs.lemmas.List.{length-map, take-map, drop-map}
 use Rattle.fc_values.specs.declared.exports.Export.{Export}
@@ -10,19 +10,17 @@ use Rattle.value_trees.specs.declared.copies.Snap.{Snap}
 use Rattle.topology.specs.Networks.{Network}
 use Rattle.firing_core.specs.declared.entries.Entry.{Entry}
 use Rattle.firing_core.specs.declared.entries.Part.{Part}
-use Rattle.firing_core.specs.Books.{BookValue}
 use Rattle.firing_core.specs.Cores.{Core}
 use Rattle.firing_core.specs.CoreViews.{CoreValue, core_of}
 use Rattle.firing_core.specs.Entries.{entry_of, entries_of}
 use Rattle.firing_core.specs.Starts.{started}
-use Rattle.fragment_check.specs.Verdicts.{verdict_of}
 use Rattle.scramble.specs.Rings.{ring}
 use Rattle.session.specs.ScriptRuns.{ScriptRun}
 use Rattle.session.specs.Sessions.{HasRun, SessionValue}
 use Rattle.stable_field.specs.Stable.{IsStableField}
 use Rattle.fc_replay.specs.Ledgers.{Ledger, ledger_of}
 use Rattle.fc_replay.specs.Replays.{book_of}
-use Rattle.ring_laws.specs.Laws.{RingsAreNetworks, RingsStabilise}
+use Rattle.ring_laws.specs.Laws.{RingsStabilise}
 use Rattle.fc_gen.specs.declared.scenarios.Generated.{Generated}
 use Rattle.fc_gen.specs.Code.{FirstWithin, IsRun, gen_of}
 use Rattle.fc_gen.specs.Gens.{Gens, GenValue, empty_on, gen_text, scenario_lines, scenario_program, scenario_start}
@@ -74,28 +72,28 @@ abbrev given : List ℕ → Ledger → List Part → GenValue
 given t b p = record { text = t; book = b; parts = p }
 
 -- what is given of a scenario that has run
-pub generated : RingsStabilise → (number devices : ℕ) → 3 ≤ devices → devices ≤ 512 → (P : Program) → IsProgram P → unfolding_of P ≡ scenario_program devices
-    → (net : Network) → net ≡ ring number devices → (s : SessionValue) → IsRun P net number (2 + 2 * devices) s
+pub generated : RingsStabilise → (number devices rounds : ℕ) → rounds ≡ 2 + 2 * devices → 3 ≤ devices → devices ≤ 512 → (P : Program) → IsProgram P → unfolding_of P ≡ scenario_program devices
+    → (net : Network) → net ≡ ring number devices → (s : SessionValue) → IsRun P net number rounds s
     → (field : Entries) → IsStableField (unfolding_of P) net field → (g : Generated)
-    → g.text.items ≡ gen_text number devices (2 + 2 * devices) field (entries_of s.book.log) s.parts (core_of s.book.core)
+    → g.text.items ≡ gen_text number devices rounds field (entries_of s.book.log) s.parts (core_of s.book.core)
     → g.book ≡ s.book → g.parts.items ≡ s.parts → Gens number devices (gen_of g)
-generated stabilise number devices low high P is unfolded net ring_is s h field stable g text book parts =
+generated stabilise number devices rounds same low high P is unfolded net ring_is s h field stable g text book parts =
     record {
       nodes = P;
       is_program = is;
       unfolded = unfolded;
-      rounds = 2 + 2 * devices;
-      yes = stabilise P devices devices low high unfolded;
+      rounds = rounds;
+      yes = stabilise P devices devices low high unfolded ∙ ap verdict.Yes (sym same);
       log = entries_of s.book.log;
       parts = s.parts;
       shown = s.text;
       last = core_of s.book.core;
-      run = subst (λ (n : Network). ScriptRun P (empty_on n) (scenario_lines number (2 + 2 * devices)) (entries_of s.book.log) s.parts s.text (core_of s.book.core)) ring_is h.run;
+      run = subst (λ (n : Network). ScriptRun P (empty_on n) (scenario_lines number rounds) (entries_of s.book.log) s.parts s.text (core_of s.book.core)) ring_is h.run;
       field = field;
       stable = subst (λ (n : Network). IsStableField (scenario_program devices) n field) ring_is
           (subst (λ (U : Unfolding). IsStableField U net field) unfolded stable);
       is = ap (λ t. given t (ledger_of g.book) g.parts.items) text
-          ∙ ap₂ (λ b p. given (gen_text number devices (2 + 2 * devices) field (entries_of s.book.log) s.parts (core_of s.book.core)) b p) ledger parts;
+          ∙ ap₂ (λ b p. given (gen_text number devices rounds field (entries_of s.book.log) s.parts (core_of s.book.core)) b p) ledger parts;
     }
   where
     ledger : ledger_of g.book ≡ book_of (scenario_program devices) (scenario_start number devices) (entries_of s.book.log) (core_of s.book.core)

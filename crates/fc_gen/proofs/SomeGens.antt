@@ -1,10 +1,9 @@
 -- Each number on so many devices has an answer.
-use Rattle.std.proofs.Common.{ℕ, ◌≡◌, ◌≤◌, ◌+◌, ◌*◌, List, map, length, refl, sym, ap, subst, ◌∙◌, arith}
+use Rattle.std.proofs.Common.{ℕ, ◌≡◌, ◌≤◌, ◌+◌, ◌*◌, map, length, refl, sym, ap, subst, ◌∙◌, arith}
 use Rattle.fc_values.specs.Fields.{Entries}
-use Rattle.fc_nodes.specs.declared.verdicts.Verdict.TheVariants as verdict
-use Rattle.fc_nodes.specs.Program.{Program, Unfolding, unfolding_of}
+use Rattle.fc_nodes.specs.Program.{Unfolding, unfolding_of}
 use Rattle.unfold.specs.Laws.{ProgramsUnfold}
-use Rattle.topology.specs.Networks.{Network, numbers}
+use Rattle.topology.specs.Networks.{numbers}
 use Rattle.fragment_check.specs.Verdicts.{verdict_of}
 use Rattle.converge_laws.specs.Stabilising.{Stabilises}
 use Rattle.converge_laws.specs.Verdicts.{YesStabilises}
@@ -13,7 +12,7 @@ use Rattle.session.specs.Laws.{SomeScriptRun}
 use Rattle.stable_field.specs.Stable.{IsStableField}
 use Rattle.ring_laws.specs.Laws.{RingsAreNetworks, RingsAreTyped, RingsStabilise}
 use Rattle.fc_replay.specs.Replays.{book_of}
-use Rattle.fc_gen.specs.Gens.{Gens, GenValue, gen_text, scenario_lines, scenario_program, scenario_start}
+use Rattle.fc_gen.specs.Gens.{gen_text, scenario_lines, scenario_program, scenario_start}
 use Rattle.fc_gen.specs.Laws.{SomeGen}
 use Rattle.fc_gen.proofs.EachScenario.{empty_good, few_firings, lines_judged}
 

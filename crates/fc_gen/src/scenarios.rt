@@ -6,10 +6,11 @@ ghost use Rattle.fc_syntax.specs.Terms.{program_of};
 ghost use Rattle.firing_core.specs.CoreViews.{core_of};
 ghost use Rattle.firing_core.specs.Entries.{entries_of};
 ghost use Rattle.fc_nodes.specs.Program.{unfolding_of};
+ghost use Rattle.edit_commands.specs.Scripts.{numbered};
 ghost use Rattle.scramble.specs.Rings.{ring, ring_program};
 ghost use Rattle.stable_field.specs.Stable.{IsStableField};
 ghost use Rattle.fc_gen.specs.Code.{FirstWithin, IsRun, gen_of};
-ghost use Rattle.fc_gen.specs.Gens.{Gens, gen_text, scenario_program};
+ghost use Rattle.fc_gen.specs.Gens.{Gens, gen_text, scenario_lines, scenario_program};
 
 use crate::counts::{agreeing, firings, held_sum};
 use crate::summaries::{Counts, summary};
@@ -69,6 +70,30 @@ fn field(alloc: Global, program: &Unfolded, net: &Network) -> Result<Vec<(u32, L
     }
 }
 
+// The rounds that the verdict on a scenario says.
+fn rounds_of(devices: u32) -> u32
+    requires { devices ≤ 512 }
+    ensures { result ≡ 2 + 2 * devices }
+{
+    2 + 2 * devices
+}
+
+// The two lines of a scenario.
+fn lines_of(number: u32, rounds: u32) -> [Line; 2]
+    ensures { map numbered result ≡ scenario_lines number rounds }
+{
+    [
+        Line {
+            number: 1,
+            command: Command::Scramble(number),
+        },
+        Line {
+            number: 2,
+            command: Command::Run(rounds),
+        },
+    ]
+}
+
 // The session of a scenario's two lines.
 fn ran<W: Threads + Wait + Sync, G: Gate + Sync>(
     alloc: Global,
@@ -85,16 +110,7 @@ fn ran<W: Threads + Wait + Sync, G: Gate + Sync>(
 {
     let program = Arc::new(alloc, program)?;
     let core = Core::new(alloc, &program, net, Vec::new(alloc), Vec::new(alloc))?;
-    let lines = [
-        Line {
-            number: 1,
-            command: Command::Scramble(number),
-        },
-        Line {
-            number: 2,
-            command: Command::Run(rounds),
-        },
-    ];
+    let lines = lines_of(number, rounds);
     let session = run_script(alloc, program, core, &lines, pool)?;
     Ok(session)
 }
@@ -146,8 +162,7 @@ pub fn generate<W: Threads + Wait + Sync, G: Gate + Sync>(
     // Its clause: the nodes are a program.
     let _size = program.size();
     let field = field(alloc, &program, &net)?;
-    // As many as the verdict says.
-    let rounds = 2 + 2 * devices;
+    let rounds = rounds_of(devices);
     let session = ran(alloc, program, net, number, rounds, pool)?;
     let generated = summed_up(alloc, number, devices, rounds, &field, session)?;
     Ok(generated)

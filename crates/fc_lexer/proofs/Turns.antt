@@ -1,9 +1,9 @@
 -- One turn of the reading.
-use Rattle.std.proofs.Common.{ℕ, ◌≡◌, ◌+◌, ◌-◌, ◌<◌, ◌≤◌, ◌≢◌, true, List, [], ◌∷◌, ◌++◌, length, take, drop, refl, ap, ◌∙◌, sym, subst, arith, length-drop, append_assoc, append-nil, cond}
+use Rattle.std.proofs.Common.{ℕ, ◌≡◌, ◌+◌, ◌-◌, ◌<◌, ◌≤◌, ◌≢◌, true, List, [], ◌∷◌, ◌++◌, length, take, drop, ap, ◌∙◌, sym, subst, arith, length-drop, append_assoc, append-nil, cond}
 use Rattle.std.specs.Prelude.{sum, Option, Some, None, option_map}
 use Rattle.std.specs.List.{count_by}
 use Rattle.std.proofs.lemmas.List.{drop-drop, map-append}
-use Rattle.std.proofs.lemmas.List.Sums.{sum_by-append, sum_by-cons, sum_by_push, count_by-le-length}
+use Rattle.std.proofs.lemmas.List.Sums.{sum_by-append, sum_by-cons, sum_by_push}
 use Rattle.std.proofs.Math.Seq.{take-add}
 use Rattle.std.proofs.lemmas.Grind.{common_steps}
 use Rattle.fc_lexer.specs.declared.tokens.Kind.{Kind}
@@ -25,10 +25,6 @@ pub record IsReadTo (text : List ℕ) (at line : ℕ) (tokens : List TokenView) 
   pub pieces : Cut text sizes (drop at text)
   pub line_is : line ≡ line_at text at
   pub tokens_are : tokens ≡ tokens_from text 0 sizes
-
--- at the front of a text
-pub none_read : (text : List ℕ) → IsReadTo text 0 1 []
-none_read text = record { sizes = []; index = refl; within = omega arith; pieces = refl; line_is = refl; tokens_are = refl }
 
 -- one more piece
 cut_more : (bytes sizes rest : List ℕ) (n : ℕ) → Cut bytes sizes rest → IsLongest rest n → Cut bytes (sizes ++ n ∷ []) (drop n rest)

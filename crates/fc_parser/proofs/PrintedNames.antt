@@ -1,15 +1,10 @@
 -- The pieces that are names.
-use Rattle.std.proofs.Common.{ℕ, ◌≡◌, Bool, true, false, ◌||◌, List, [], ◌∷◌, refl}
+use Rattle.std.proofs.Common.{ℕ, List, [], ◌∷◌, refl}
 use Rattle.fc_values.specs.Names.{IsName}
 use Rattle.fc_lexer.specs.Kinds.{NameOf}
 use Rattle.fc_lexer.proofs.Letters.{is_named, letter_begins, letter_no_space, name_parts}
 use Rattle.fc_parser.proofs.PrintedRuns.{InWord, InSpace, Meets, Inner}
 use Rattle.fc_parser.proofs.PrintedWords.{letters_run}
-
-pub or_two : (a b : Bool) → (a || b) ≡ false → (a ≡ false) × (b ≡ false)
-or_two false false h = (refl, refl)
-or_two false true h = cc
-or_two true b h = cc
 
 pub name_run : (x : List ℕ) → IsName x → Inner InWord x (NameOf x ∷ [])
 name_run [] h = cc

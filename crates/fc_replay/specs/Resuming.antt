@@ -1,5 +1,6 @@
 -- A table that `replay` has written, given back as the table of a scene.
 use Rattle.std.specs.Prelude.{ℕ, ◌≡◌, ◌≤◌, List, []}
+use Rattle.fc_values.specs.declared.limits.TheConstants.{GREATEST}
 use Rattle.fc_nodes.specs.Program.{Unfolding}
 use Rattle.topology.specs.Networks.{IsNetwork}
 use Rattle.firing_core.specs.Cores.{Core, IsGood}
@@ -18,5 +19,5 @@ pub record Resumes (U : Unfolding) (core : Core) (path : List ℕ) : Type 0 wher
 -- each good core of a program does so
 abbrev pub TablesResume : Type 0
 TablesResume =
-    (U : Unfolding) (core : Core) (path : List ℕ) → U.declared.ceiling ≤ 1000000 → IsNetwork core.net → IsGood U core
+    (U : Unfolding) (core : Core) (path : List ℕ) → U.declared.ceiling ≤ GREATEST → IsNetwork core.net → IsGood U core
     → Resumes U core path

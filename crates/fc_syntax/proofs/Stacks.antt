@@ -1,22 +1,14 @@
 -- Stacks of pieces.
-use Rattle.std.proofs.Common.{◌≡◌, ◌+◌, ◌≤◌, ◌==◌, nat_lt, true, false, refl, ap, ◌∙◌, List, [], ◌∷◌, ◌++◌, length, map, Bool, if◌then◌else◌}
+use Rattle.std.proofs.Common.{◌≡◌, ◌≤◌, ◌==◌, nat_lt, true, false, refl, List, [], ◌∷◌, length, map, Bool, if◌then◌else◌}
 use Rattle.std.proofs.lemmas.Bool.{ne_eqb, le-ltb}
-use Rattle.std.proofs.lemmas.List.{reverse-append}
-use Rattle.std.proofs.lemmas.List.Sums.{sum_by_push}
 use Rattle.fc_values.specs.declared.builtins.Builtin.{Builtin}
-use Rattle.fc_syntax.specs.declared.pieces.Piece.{Piece}
 use Rattle.fc_syntax.specs.declared.tree.Expr.{Expr}
 use Rattle.fc_syntax.specs.Terms.{terms, term_of}
 use Rattle.fc_syntax.specs.Text.{apply_text, call_text, all_written, builtin_strength, builtin_word}
-use Rattle.fc_syntax.specs.Pieces.{piece_text, piece_weight, pieces_text, pieces_weight, stack_text}
 
 where_false : {A : Type 0} (b : Bool) (x y : A) → b ≡ false → (if b then x else y) ≡ y
 where_false true x y eq = absurd cc
 where_false false x y eq = refl
-
--- the piece taken from the top of a stack
-pub popped : (xs : List Piece) (p : Piece) (ys : List Piece) → ys ≡ xs ++ p ∷ [] → stack_text ys ≡ piece_text p ++ stack_text xs
-popped xs p ys eq = ap stack_text eq ∙ ap pieces_text (reverse-append xs (p ∷ []))
 
 -- a builtin whose number of arguments is not that of its operator's form is written as a call
 pub as_call : (b : Builtin) (es : List Expr) → (length es ≡ 1 → builtin_strength b ≡ 6 → ⊥) → (length es ≡ 2 → 6 ≤ builtin_strength b)

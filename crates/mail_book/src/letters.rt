@@ -1,6 +1,6 @@
 //! What is kept for an ordered pair of neighbours: what was last heard, and the messages in transit, the oldest first.
 
-ghost use Rattle.std.specs.Prelude.{◌≡◌, ◌<◌, ◌≤◌, [], ◌∷◌, IfOk, IfErr, OnOk, OnErr, Some, None, length, map, option_map};
+ghost use Rattle.std.specs.Prelude.{◌≡◌, ◌<◌, ◌≤◌, [], IfOk, IfErr, OnOk, OnErr, Some, None, length, map, option_map};
 ghost use Rattle.std.specs.Prelude.{true, false};
 ghost use Rattle.fc_values.specs.Exports.{export_of};
 ghost use Rattle.message_links.specs.MailCores.{pushed, without};

@@ -37,9 +37,8 @@ impl Model for Mail {
 }
 
 impl Mail {
-    ghost use Rattle.std.specs.Prelude.{◌≡◌, ◌<◌, ◌≤◌, ℕ, IfOk, OnOk, IfErr, IfSome, length, slice_index};
-    ghost use Rattle.fc_nodes.specs.Program.{unfolding_of};
-    ghost use Rattle.value_trees.specs.Snaps.{snap_copy, IsSnap, IsExportOf, NearAreExports};
+    ghost use Rattle.std.specs.Prelude.{◌≡◌, ◌<◌, IfOk, OnOk, IfErr, length, slice_index};
+    ghost use Rattle.value_trees.specs.Snaps.{snap_copy, IsSnap};
     ghost use Rattle.topology.specs.Networks.{numbers};
     ghost use Rattle.firing_core.specs.Cores.{copy_of};
     ghost use Rattle.firing_core.specs.CoreViews.{core_of, program_of, IsSameCore};

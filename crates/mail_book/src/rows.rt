@@ -1,9 +1,9 @@
 //! Rows of letters: a row for each device, in the order of the network, with what is kept for each of its neighbours.
 
-ghost use Rattle.std.specs.Prelude.{◌≡◌, ◌≤◌, IfOk, OnOk, length, map, replicate};
+ghost use Rattle.std.specs.Prelude.{◌≡◌, ◌≤◌, IfOk, OnOk, length, map};
 ghost use Rattle.fc_nodes.specs.Program.{Unfolding};
 ghost use Rattle.value_trees.specs.Snaps.{tree_of, near_copy, IsExportOf, NearAreExports};
-ghost use Rattle.topology.specs.Networks.{near as near_of, numbers, IsNetwork};
+ghost use Rattle.topology.specs.Networks.{numbers};
 ghost use Rattle.mail_book.specs.Pairs.{AreRows};
 ghost use Rattle.mail_book.specs.Letters.{AllLetters, AllQuiet, SameRow};
 ghost use Rattle.mail_book.specs.Rows.{lists_of, AllRows, SameRows, AreQuiet, Posts, PostsTo, heard_copies};

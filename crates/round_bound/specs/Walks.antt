@@ -1,6 +1,7 @@
 -- Levels by the places of a program.
 use Rattle.std.specs.Prelude.{ℕ, suc, Bool, true, false, ◌≡◌, ◌≤◌, ◌+◌, ◌*◌, List, [], ◌∷◌, ◌++◌, max, Option}
 use Rattle.fc_values.specs.Types.{LocalType, IntType, PairType, ValueType}
+use Rattle.fc_values.specs.declared.limits.TheConstants.{GREATEST}
 use Rattle.fc_nodes.specs.Terms.{Sort, OfLeaf, OfApply, term_at, terms_by}
 use Rattle.fc_nodes.specs.Program.{unfolding_of}
 use Rattle.interval_facts.specs.Ranges.{AreRangesOf}
@@ -17,7 +18,7 @@ use Rattle.round_bound.specs.declared.scopes.Found.{Found}
 
 -- a `rep` or `share` adds at most so many levels
 abbrev pub most_added : ℕ
-most_added = 3000000
+most_added = 3 * GREATEST
 
 -- the levels of what the binders in scope bind
 abbrev pub levels_in : Scope → Lvs

@@ -2,6 +2,7 @@
 
 ghost use Rattle.std.specs.Prelude.{◌≡◌, ◌≤◌, ◌-◌, ◌*◌};
 ghost use Rattle.fc_values.specs.Types.{local_type_of};
+ghost use Rattle.fc_values.specs.declared.limits.TheConstants.{GREATEST};
 ghost use Rattle.fc_nodes.specs.Sorts.{evolution_by};
 ghost use Rattle.fc_nodes.specs.Places.{StandsAt};
 ghost use Rattle.fc_nodes.specs.Program.{unfolding_of, IsProgram};
@@ -59,7 +60,7 @@ fn levels_of_pattern(context: &Context<'_>, pattern: Pattern, is_share: bool) ->
 
 // The rounds of so many stages: a `rep` hears of a result one round later than a `share`.
 fn each_stage(is_share: bool, stages: u64) -> u64
-    requires { stages ≤ 1000000 }
+    requires { stages ≤ GREATEST }
     ensures { result ≡ stage_rounds (evolution_by is_share) * stages }
 {
     if is_share { stages } else { 2 * stages }

@@ -1,5 +1,5 @@
 -- The devices and the links of a ring, one after another.
-use Rattle.std.proofs.Common.{◌≡◌, ℕ, suc, ◌<◌, ◌≤◌, ◌+◌, ◌-◌, List, [], ◌∷◌, ◌++◌, map, refl, sym, ◌∙◌, ap, arith, append-nil, append_assoc}
+use Rattle.std.proofs.Common.{◌≡◌, ℕ, suc, ◌<◌, ◌≤◌, ◌+◌, ◌-◌, List, [], ◌∷◌, ◌++◌, map, refl, sym, ◌∙◌, ap, arith, append_assoc}
 use Rattle.std.specs.Prelude.{nat_eq}
 use Rattle.fc_values.specs.Values.{BoolValue}
 use Rattle.topology.specs.declared.types.Device.{Device}
@@ -60,8 +60,3 @@ link_next count i ls ms l b h e f =
           ∙ ap (λ (ys : List Edge). map edge_of ls ++ ys) (sym (chain_next i (count - 1 - i) (count - 1 - (i + 1)) (omega arith)))
           ∙ h.same;
     }
-
-pub links_done : (count i : ℕ) (ls : List Link) → i ≡ count - 1 → LinksSoFar count i ls → map edge_of ls ≡ ring_links count
-links_done count i ls e h =
-    let z : count - 1 - i ≡ 0 = omega arith in
-    sym (append-nil (map edge_of ls)) ∙ ap (λ (n : ℕ). map edge_of ls ++ chain i n) (sym z) ∙ h.same

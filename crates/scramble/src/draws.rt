@@ -2,6 +2,7 @@
 
 ghost use Rattle.std.specs.Prelude.{◌≡◌, ◌<◌, ◌≤◌, map, true, false, IfOk, Some};
 ghost use Rattle.fc_values.specs.Types.{local_type_of};
+ghost use Rattle.fc_values.specs.declared.limits.TheConstants.{GREATEST};
 ghost use Rattle.fc_values.specs.Values.{local_of};
 ghost use Rattle.fc_nodes.specs.Terms.{is_branching, node_keeps, sort_of, term_at, terms_by, view_at, view_of};
 ghost use Rattle.fc_nodes.specs.Program.{IsProgram};
@@ -29,7 +30,7 @@ pub fn draw_value(
     ceiling: u32,
     words: &mut ChaCha8Rng,
 ) -> Result<Local, Memory>
-    requires { ceiling ≤ 1000000 }
+    requires { ceiling ≤ GREATEST }
     ensures { IfOk result (λ v. (local_of v, words.new) ≡ draw_value ceiling (local_type_of ty.now) words.old) }
 {
     match ty {

@@ -171,14 +171,6 @@ count_drop a b d (l ∷ ls) t h = by_test (is_pair a b l) refl t (λ u. count_dr
     by_test true e u ih = omega (arith, count_split d l ls, count_touch d l (ends e), count_filter d (λ m. not (is_pair a b m)) ls)
     by_test false e u ih = let k = ih u in omega (arith, count_split d l ls, count_split d l (drop_pair a b ls))
 
-pub filter_rising : (p : Edge → Bool) (ls : List Edge) → IsRisingLinks ls → IsRisingLinks (filter p ls)
-filter_rising p [] r = tt
-filter_rising p (l ∷ ls) r = by_test (p l) (filter_rising p ls r.1)
-  where
-    by_test : (q : Bool) → IsRisingLinks (filter p ls) → IsRisingLinks (cond q (l ∷ filter p ls) (filter p ls))
-    by_test true ih = (before_filter p l ls r.0, ih)
-    by_test false ih = ih
-
 pub rising_fit : (D : Declarations) (ds : List ℕ) (ls : List Edge) → LinksFit D ds ls → IsRisingLinks ls
 rising_fit D ds [] f = tt
 rising_fit D ds (l ∷ ls) f = (f.1, rising_fit D ds ls f.2)

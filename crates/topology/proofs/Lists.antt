@@ -2,7 +2,6 @@
 use Rattle.std.proofs.Common.{◌≡◌, ℕ, zero, suc, ◌+◌, ◌≤◌, List, [], ◌∷◌, length, map, refl, ap, arith, Bool, true, false, cond}
 use Rattle.std.specs.List.{insert, filter, prefix_len}
 use Rattle.std.specs.List.Sorted.{IsPartitionPoint}
-use Rattle.fc_values.specs.Lists.{insert_after}
 
 -- how many elements in front pass a test
 abbrev pub front : {X : Type 0} → (X → Bool) → List X → ℕ
@@ -32,15 +31,6 @@ front_within p (x ∷ xs) = by_test (p x) (front_within p xs)
     by_test : (b : Bool) → front p xs ≤ length xs → cond b (suc (front p xs)) zero ≤ suc (length xs)
     by_test true ih = omega arith
     by_test false ih = omega arith
-
--- what is put at that place
-insert_front : {X : Type 0} (p : X → Bool) (x : X) (xs : List X) → insert xs (front p xs) x ≡ insert_after p x xs
-insert_front p x [] = refl
-insert_front p x (y ∷ ys) = by_test (p y) (insert_front p x ys)
-  where
-    by_test : (b : Bool) → insert ys (front p ys) x ≡ insert_after p x ys → insert (y ∷ ys) (cond b (suc (front p ys)) zero) x ≡ cond b (y ∷ insert_after p x ys) (x ∷ y ∷ ys)
-    by_test true ih = ap (λ zs. y ∷ zs) ih
-    by_test false ih = refl
 
 pub filter_map_of : {X Y : Type 0} (f : X → Y) (p : Y → Bool) (xs : List X) → map f (filter (λ y. p (f y)) xs) ≡ filter p (map f xs)
 filter_map_of f p [] = refl
