@@ -102,8 +102,7 @@ fn is_truth(truths: &[u32], place: u32, truth: bool) -> bool {
 
 // Adds the links of a device.
 fn hear_all(net: &Network, device: u32, place: u32, ears: &mut Vec<Ear>) -> Result<(), Memory> {
-    let neighbours = net.neighbours(device);
-    for (near, weight) in neighbours.as_slice() {
+    for (near, weight) in net.neighbours(device) {
         if let Some(at) = net.place(*near) {
             let link = count(ears.len());
             ears.push(Ear {

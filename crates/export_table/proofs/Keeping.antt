@@ -14,11 +14,10 @@ use Rattle.firing_core.specs.Entries.{EditValue, LinkEdit, UnlinkEdit, SetEdit, 
 use Rattle.firing_core.specs.Cores.{Core, Step, copy_of, edit_fault, EditFits}
 use Rattle.firing_core.specs.CoreViews.{CoreValue, core_of, rooms_of, mark}
 use Rattle.firing_core.specs.Books.{BookValue, IsBook, AppendsEntry}
-use Rattle.firing_core.specs.Refusals.{TakesNone}
 use Rattle.export_table.specs.Items.{Opening}
 use Rattle.export_table.specs.Begins.{begun_in, IsNext}
 use Rattle.export_table.specs.Agendas.{AgendaValue, IsAgenda, IsWithin, Grows, begun_by, is_ready, after_begin, after_end, after_change}
-use Rattle.export_table.specs.Changes.{JoinsNumber, HasPlace, NamesPlace, IsJoin, change_by, after_view}
+use Rattle.export_table.specs.Changes.{JoinsNumber, HasPlace, NamesPlace, change_by, after_view}
 use Rattle.export_table.proofs.Planning.{can_leave}
 use Rattle.export_table.specs.Holding.{HeldValue, IsHeld, Plans, Turned, NothingLeft, BeginsWithin, opening_in, log_in}
 
@@ -141,15 +140,6 @@ names_place a c (SetEdit d i v) places place ok = tt
 names_place a c (PokeEdit d e) places place ok = tt
 names_place a c (JoinEdit y) places place ok = place
 names_place a c (LeaveEdit d) places place ok = places d (can_leave c d ok)
-
--- only a join asks for memory
-pub takes_some : (x : EditValue) → IsJoin (change_by x) → TakesNone x → ⊥
-takes_some (LinkEdit a b w) join none = join
-takes_some (UnlinkEdit a b) join none = join
-takes_some (SetEdit d i v) join none = join
-takes_some (PokeEdit d e) join none = join
-takes_some (JoinEdit y) join none = none
-takes_some (LeaveEdit d) join none = join
 
 pub within_grow : (a b : AgendaValue) → Grows a b → IsWithin a → IsWithin b
 within_grow a b g w d = let n = w d in let s = g.begun d in let r = g.rounds in omega (arith, n, s, r)

@@ -1,7 +1,7 @@
 -- What an agenda starts with, and what the type of the locked value keeps at the opening.
 use Rattle.std.proofs.Common.{◌≡◌, ◌≢◌, ℕ, zero, suc, ◌+◌, ◌<◌, ◌≤◌, List, [], ◌∷◌, ◌++◌, length, drop, map, refl, sym, ap, ◌∙◌, subst, arith, Bool, true, false, ◌&&◌, ◌||◌, nat_eq, nat_lt, get_or, take, length-set, get_or-set_same, get_or-set_other, None}
 use Rattle.std.proofs.lemmas.Option.{none-some}
-use Rattle.std.proofs.lemmas.Bool.{false≢true, eq-eqb, ne_eqb, ltb-true, lt-ltb, and_parts, and_from}
+use Rattle.std.proofs.lemmas.Bool.{eq-eqb, ne_eqb, ltb-true, lt-ltb, and_parts, and_from}
 use Rattle.std.proofs.lemmas.List.{take_more, map-append}
 use mathlib.Core.Logic.{dite}
 use native.Mathlib.Decide.{ℕ_discrete}
@@ -67,9 +67,6 @@ starts_grow ids rounds a b s g = record {
   ready = λ d. g.ready d ∙ s.ready d;
   places = λ d t. let l = s.places d t in let m = g.longer in omega (arith, l, m);
 }
-
-pub starts_none : (rounds : ℕ) → Starts [] rounds (record { rounds = rounds; begun = []; ready = [] })
-starts_none rounds = record { rounds_are = refl; begun = λ d. refl; ready = λ d. refl; places = λ d t. absurd (false≢true t) }
 
 -- ---- the loop over the devices of a network
 

@@ -26,7 +26,8 @@ impl Model for Agenda {
 
     ghost view = { λ a. record { rounds = a.rounds; begun = a.begun.items; ready = a.ready.items } };
 
-    ghost invariant = { λ a. IsKept (record { rounds = a.rounds; begun = a.begun.items; ready = a.ready.items }) a.first };
+    ghost invariant = { λ a.
+        IsKept (record { rounds = a.rounds; begun = a.begun.items; ready = a.ready.items }) a.first };
 }
 
 // The first flag that is set, or how many flags there are, where none before a place is set.

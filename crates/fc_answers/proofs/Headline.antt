@@ -36,7 +36,7 @@ use Rattle.fc_answers.specs.Answers.{AnswerValue, AnswersInput}
 use Rattle.fc_answers.specs.Answers.{AnswersWithin, ShowsRun, WritesLogReply, WritesReply, answer_of, replied, run_options, running}
 use Rattle.fc_answers.specs.Headline.{AnswersKeep, ChecksYes, HasYes, MailPromises, OfThree, OfTwo, Promises}
 use Rattle.fc_answers.specs.Headline.{RunsKept, SolvesYes, TracesYes, stable_entries}
-use Rattle.fc_answers.proofs.StableReplies.{one_field}
+use Rattle.stable_field.proofs.OneField.{one_field}
 use Rattle.fc_trace.proofs.Scenes.{scene_fits}
 use Rattle.fc_trace.specs.Traces.{TracedBy, Traces, TracesScene}
 use Rattle.walk_form.specs.Costs.{AreCostsOf}

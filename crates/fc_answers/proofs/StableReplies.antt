@@ -18,16 +18,9 @@ use Rattle.fc_inputs.specs.Causes.{Cause, Judged, Accepted, Refused, AndThen}
 use Rattle.fc_inputs.specs.Inputs.{InputOf, OneInput, ReadsInput}
 use Rattle.fc_check.specs.Checks.{ChecksScene, checked_of, verdict_status}
 use Rattle.fc_check.specs.Laws.{OneCheck, SomeCheck}
-use Rattle.walk_form.proofs.Fielding.{same_entries}
+use Rattle.stable_field.proofs.OneField.{one_field}
 use Rattle.fc_trace.proofs.Scenes.{scene_fits, one_verdict}
 use Rattle.fc_answers.specs.Stabilised.{StabilisedBy, StabilisesScene, Stabilised}
-
--- ---- one field
-pub one_field : (U : Unfolding) (N : Network) (es fs : Entries) → IsStableField U N es → IsStableField U N fs → es ≡ fs
-one_field U N es fs h g =
-    h.values
-    ∙ same_entries h.one.field g.one.field (numbers N.devices) (λ d lives. g.one.only h.one.field h.one.solves d lives)
-    ∙ sym g.values
 
 -- ---- one reply
 module _ (P Q : Program) (N : Network) (r q : Reply) (same : unfolding_of P ≡ unfolding_of Q)

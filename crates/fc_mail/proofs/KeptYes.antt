@@ -28,7 +28,8 @@ use Rattle.fc_mail.specs.Drives.{messages, most, DrivesBy, DrivesScene, DrivesWi
 use Rattle.fc_mail.specs.Laws.{DrivenMailKeepsYes, DrivenMailsKeepYes, MailKeepsYes, MailsKeepYes}
 use Rattle.fc_mail.specs.Mails.{Mailed, MailsLines, MailsScene, ShowsMail, StopsMail, entries_in}
 use Rattle.fc_mail.proofs.Driving.{field_values, held}
-use Rattle.fc_mail.proofs.MailReplies.{one_field, scene_start}
+use Rattle.stable_field.proofs.OneField.{one_field}
+use Rattle.fc_mail.proofs.MailReplies.{scene_start}
 
 accepted_same : (r q : Reply) → ◌≡◌ {A = Judged Reply} (Accepted r) (Accepted q) → r ≡ q
 accepted_same r q e = cc

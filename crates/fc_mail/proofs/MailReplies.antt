@@ -1,10 +1,8 @@
 -- What `mail` writes: something, and one thing.
 use Rattle.std.proofs.Common.{ℕ, ◌≡◌, ◌≤◌, List, [], ◌∷◌, length, refl, ap, ap₂, ◌∙◌, sym, subst, Bool, true, false, ◌++◌, map}
 use Rattle.std.specs.Prelude.{nat_lt, ◌||◌, nat_eq}
-use Rattle.std.proofs.lemmas.Bool.{eq-eqb}
 use Rattle.fc_values.specs.Values.{LocalValue}
 use Rattle.fc_values.specs.Fields.{Entries, is_in}
-use Rattle.fc_values.proofs.Booleans.{or_true}
 use Rattle.fc_nodes.specs.Program.{IsProgram, Program, Unfolding, unfolding_of}
 use Rattle.fc_nodes.specs.declared.verdicts.Verdict.{Verdict}
 use Rattle.fc_nodes.specs.declared.verdicts.Verdict.TheVariants as verdict
@@ -25,6 +23,7 @@ use Rattle.net_json.specs.Scenes.{SceneValue}
 use Rattle.report.specs.Texts.{field_text}
 use Rattle.report.specs.Verdicts.{rounds_text, verdict_text}
 use Rattle.stable_field.specs.Stable.{IsStableField}
+use Rattle.stable_field.proofs.OneField.{one_field}
 use Rattle.fc_inputs.specs.declared.sources.TheConstants.{MOST_BYTES}
 use Rattle.fc_inputs.specs.declared.refusal.Refusal.TheVariants as refusal
 use Rattle.fc_inputs.specs.Refusals.{Reply}
@@ -86,17 +85,6 @@ some_mail check starts ends greatest program network log short =
         )
 
 -- ---- a driven log
-
-in_here : (n : ℕ) (ns : List ℕ) → is_in n (n ∷ ns) ≡ true
-in_here n ns = ap (λ b. b || is_in n ns) (eq-eqb n n refl)
-
-same_entries : (f g : ℕ → LocalValue) (ns : List ℕ) → ((d : ℕ) → is_in d ns ≡ true → f d ≡ g d)
-    → map {B = ℕ × LocalValue} (λ d. (d, f d)) ns ≡ map {B = ℕ × LocalValue} (λ d. (d, g d)) ns
-same_entries f g [] h = refl
-same_entries f g (n ∷ ns) h = ap₂ (λ v es. (n, v) ∷ es) (h n (in_here n ns)) (same_entries f g ns (λ d k. h d (or_true (nat_eq d n) (is_in d ns) k)))
-
-pub one_field : (U : Unfolding) (N : Network) (es fs : Entries) → IsStableField U N es → IsStableField U N fs → es ≡ fs
-one_field U N es fs h g = h.values ∙ same_entries h.one.field g.one.field (numbers N.devices) (λ d lives. g.one.only h.one.field h.one.solves d lives) ∙ sym g.values
 
 module _ (number : ℕ) (U : Unfolding) (N : Network) (j k : Judged Reply) where
   one_within : (b : Bool) (rounds : ℕ) → DrivesWithin b number U N rounds j → DrivesWithin b number U N rounds k → j ≡ k

@@ -2,7 +2,7 @@
 use Rattle.std.proofs.Common.{◌≡◌, ℕ, zero, suc, ◌<◌, List, [], ◌∷◌, length, map, get_or, refl, sym, ◌∙◌, ap, subst, arith, Bool, true, false, nat_eq, if◌then◌else◌, Option, Some, None, length-set}
 use Rattle.std.specs.Prelude.{slice_set, option_map, is_some}
 use Rattle.std.proofs.lemmas.Bool.{eqb-true, eq-eqb}
-use Rattle.std.proofs.lemmas.List.{length-map}
+use Rattle.std.proofs.lemmas.List.{length-map, map-set}
 use Rattle.fc_values.specs.declared.exports.Export.{Export}
 use Rattle.fc_values.specs.Trees.{Copy}
 use Rattle.fc_nodes.specs.Program.{Program, Unfolding, unfolding_of}
@@ -34,16 +34,11 @@ slot_read {X} {Y} f (i ∷ is) (y ∷ ys) (suc p) d x n h e l q = by_test (nat_e
     by_test true t ih = let z = eqb-true d i t in absurd (n.0 p (omega arith) (e ∙ z))
     by_test false t ih = ih
 
-map_set : {A B : Type 0} (f : A → B) (xs : List A) (p : ℕ) (v : A) → map f (slice_set xs p v) ≡ slice_set (map f xs) p (f v)
-map_set f [] p v = refl
-map_set f (x ∷ xs) zero v = refl
-map_set f (x ∷ xs) (suc p) v = ap (λ ys. f x ∷ ys) (map_set f xs p v)
-
 -- writing it
 pub slot_write : {X Y : Type 0} (f : X → Y) (is : List ℕ) (xs : List (Option X)) (p d : ℕ) (v : Option X) → Distinct is → p < length is → get_or is p 0 ≡ d → length xs ≡ length is
     → slot_at is (map (option_map f) (slice_set xs p v)) ≡ put (slot_at is (map (option_map f) xs)) d (option_map f v)
 slot_write f is xs p d v n h e l =
-    ap (slot_at is) (map_set (option_map f) xs p v)
+    ap (slot_at is) (map-set (option_map f) xs p v)
     ∙ slot_set is (map (option_map f) xs) p (option_map f v) n h (omega (arith, length-map xs (option_map f)))
     ∙ ap (λ k. put (slot_at is (map (option_map f) xs)) k (option_map f v)) e
 

@@ -1,7 +1,6 @@
 -- Crates above cite this module: the parts of a book, its program and its rooms may cross threads. Each is shown from its
 -- own parts, since a search that goes down through whole types runs out of steps, and finds no way through the recursive
 -- types.
-use denote.Struct.Field.{u32-field, bool-field}
 use denote.Param.Send.{IsSend, IsSync, sendable}
 use Rattle.std.proofs.Crossing.{crosses, Box-send, Box-sync}
 use Rattle.fc_values.specs.contracts.values.Local as Local
@@ -14,7 +13,6 @@ use Rattle.fc_nodes.specs.contracts.nodes.Op as Op
 use Rattle.fc_nodes.specs.contracts.nodes.Node as Node
 use Rattle.fc_nodes.specs.contracts.layouts.Layout as Layout
 use Rattle.fc_nodes.specs.contracts.program.Unfolded as Unfolded
-use Rattle.topology.specs.contracts.types.Device as Device
 use Rattle.topology.specs.contracts.networks.Network as Network
 use Rattle.value_trees.specs.contracts.copies.Snap as Snap
 use Rattle.firing_core.specs.contracts.rooms.Spare as Spare

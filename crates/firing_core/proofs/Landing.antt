@@ -24,7 +24,7 @@ pub same_exports : (U : Unfolding) (s t : Snap) → snap_copy U s ≡ snap_copy 
 same_exports U s t e =
     let o = owns_same U s.own t.own (ap (λ (c : Copy). c.own) e) in
     let n = ap (λ (c : Copy). length c.near) e in
-    omega (arith, o, n, length-map s.near.items (near_copy U), length-map t.near.items (near_copy U))
+    omega (arith, o, n, length-map s.near.value.items (near_copy U), length-map t.near.value.items (near_copy U))
 
 -- two copies were taken from a room
 pub taken_rest : (U : Unfolding) (s t : Snap) (room one two : SpareValue) → snap_copy U s ≡ snap_copy U t → length room.exports ≡ 66 → length one.exports + exports_in s ≡ length room.exports → length two.exports + exports_in t ≡ length one.exports → IsSpare U two → IsRest U s two

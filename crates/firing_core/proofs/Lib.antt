@@ -17,6 +17,7 @@ pub mod Steps
 pub mod Appends
 pub mod Replaying
 pub mod Settling
+pub mod Mixed
 pub mod StepsKeep
 pub mod CoreEdits
 pub mod Flights

@@ -139,7 +139,7 @@ input_forms (i ∷ is) (v ∷ vs) h = let a = one i.type (local_of v) h.0 in let
     one (input.Whole l g) (BoolValue b) k = absurd k
     one (input.Whole l g) (PairValue a b) k = absurd k
 
-pub blank_of : (U : Unfolding) (s t : Snap) → IsSnap U s → t.inputs ≡ s.inputs → t.own ≡ None → t.near.items ≡ [] → IsBlank U t
+pub blank_of : (U : Unfolding) (s t : Snap) → IsSnap U s → t.inputs ≡ s.inputs → t.own ≡ None → t.near.value.items ≡ [] → IsBlank U t
 blank_of U s t k i o n = record {
   inputs = subst (λ vs. types_of vs.items ≡ declared_types U) (sym i) (input_forms U.declared.inputs s.inputs.items k.fits.inputs);
   own = o;

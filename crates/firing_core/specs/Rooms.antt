@@ -40,7 +40,7 @@ declared_types U = map (λ (i : Input). input_type i.type) U.declared.inputs
 pub record IsBlank (U : Unfolding) (s : Snap) : Type 0 where
   pub inputs : types_of s.inputs.items ≡ declared_types U
   pub own : s.own ≡ None
-  pub near : s.near.items ≡ []
+  pub near : s.near.value.items ≡ []
 
 -- a room of a program: for each of two copies its inputs, its own export, and those of 32 neighbours
 pub record IsRoom (U : Unfolding) (r : RoomValue) : Type 0 where
@@ -55,7 +55,7 @@ owns None = 0
 owns (Some e) = 1
 
 abbrev pub exports_in : Snap → ℕ
-exports_in s = owns s.own + length s.near.items
+exports_in s = owns s.own + length s.near.value.items
 
 -- what two equal copies left of a room
 pub record IsRest (U : Unfolding) (s : Snap) (r : SpareValue) : Type 0 where

@@ -177,14 +177,13 @@ impl Core {
     }
 
     // The neighbours of a device that have an export.
-    fn near(&self, alloc: Global, device: u32) -> Result<ArrayVec<Near, 32, Global>, Memory>
-        ensures near { IfOk result (λ ns. AreNear self.now device ns.items) }
-        ensures exports { IfOk result (λ ns. NearAreExports (program_of self.now) ns.items) }
-        ensures few { IfOk result (λ ns. length ns.items ≤ 32) }
+    fn near(&self, alloc: Global, device: u32) -> Result<Box<ArrayVec<Near, 32, Global>>, Memory>
+        ensures near { IfOk result (λ ns. AreNear self.now device ns.value.items) }
+        ensures exports { IfOk result (λ ns. NearAreExports (program_of self.now) ns.value.items) }
+        ensures few { IfOk result (λ ns. length ns.value.items ≤ 32) }
     {
-        let mut near = ArrayVec::new_in(alloc);
-        let neighbours = self.net.neighbours(device);
-        for (neighbour, weight) in neighbours.iter() {
+        let mut near = Box::new(alloc, ArrayVec::new_in(alloc))?;
+        for (neighbour, weight) in self.net.neighbours(device) {
             if let Some(export) = self.export(*neighbour) {
                 let export = copy_export(alloc, export)?;
                 near.push(Near {

@@ -172,7 +172,7 @@ fn blank_copy(alloc: Global, program: &Unfolded) -> Result<Snap, Memory>
     ensures { IfOk result (IsBlank (unfolding_of program.now)) }
 {
     let inputs = blank_inputs(alloc, &program.declared().inputs)?;
-    let near = ArrayVec::new_in(alloc);
+    let near = Box::new(alloc, ArrayVec::new_in(alloc))?;
     Ok(Snap {
         device: 0,
         inputs,

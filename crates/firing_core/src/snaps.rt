@@ -53,10 +53,10 @@ pub(crate) fn copy_own(alloc: Global, own: Option<&Export>) -> Result<Option<Exp
 fn copy_near(
     alloc: Global,
     all: &ArrayVec<Near, 32, Global>,
-) -> Result<ArrayVec<Near, 32, Global>, Memory>
-    ensures { IfOk result (λ ns. map near_view ns.items ≡ map near_view all.now.items) }
+) -> Result<Box<ArrayVec<Near, 32, Global>>, Memory>
+    ensures { IfOk result (λ ns. map near_view ns.value.items ≡ map near_view all.now.items) }
 {
-    let mut copies = ArrayVec::new_in(alloc);
+    let mut copies = Box::new(alloc, ArrayVec::new_in(alloc))?;
     let all = all.as_slice();
     for near in all {
         let export = copy_export(alloc, &near.export)?;

@@ -1,11 +1,11 @@
 -- An end of a firing that is sent to each neighbour.
-use Rattle.std.proofs.Common.{◌≡◌, ℕ, List, refl, sym, ◌∙◌, ap, subst, Option, Some, None}
+use Rattle.std.proofs.Common.{◌≡◌, ℕ, List, ◌∙◌, ap, Option, Some}
 use Rattle.std.specs.Prelude.{option_map}
 use Rattle.fc_values.specs.declared.exports.Export.{Export}
 use Rattle.fc_values.specs.Trees.{TreeExport}
 use Rattle.fc_nodes.specs.Program.{Unfolding, unfolding_of}
 use Rattle.value_trees.specs.Snaps.{tree_of}
-use Rattle.firing_core.specs.Cores.{put, Core, Ends}
+use Rattle.firing_core.specs.Cores.{Core, Ends}
 use Rattle.firing_core.specs.CoreViews.{CoreValue, core_of, program_of}
 use Rattle.firing_core.proofs.Maps.{put_same}
 use Rattle.firing_core.specs.declared.entries.StepFault.{StepFault}

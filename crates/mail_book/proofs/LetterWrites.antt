@@ -1,22 +1,16 @@
 -- Rows of letters after those of one ordered pair are written.
-use Rattle.std.proofs.Common.{◌≡◌, ℕ, zero, suc, ◌<◌, List, [], ◌∷◌, ◌++◌, length, map, get_or, refl, sym, ◌∙◌, ap, subst, arith, Option, Some, None, Vec, Global}
-use Rattle.std.specs.Prelude.{slice_set, option_map}
+use Rattle.std.proofs.Common.{◌≡◌, ℕ, zero, suc, ◌<◌, List, [], ◌∷◌, ◌++◌, length, map, get_or, refl, sym, ◌∙◌, ap, subst, arith, None, Vec, Global}
+use Rattle.std.specs.Prelude.{slice_set}
 use Rattle.std.specs.Vec.{with_item}
-use Rattle.std.proofs.lemmas.List.{length-map, map-append}
-use Rattle.fc_values.specs.Trees.{TreeExport}
+use Rattle.std.proofs.lemmas.List.{length-map, map-append, map-set}
 use Rattle.fc_nodes.specs.Program.{Unfolding}
-use Rattle.topology.specs.Networks.{Network, IsNetwork, numbers, near}
-use Rattle.message_links.specs.MailCores.{Message as MailMessage, Pairs, put_pair}
+use Rattle.topology.specs.Networks.{Network, IsNetwork, numbers}
+use Rattle.message_links.specs.MailCores.{put_pair}
 use Rattle.mail_book.specs.declared.letters.Letters.{Letters}
 use Rattle.mail_book.specs.Pairs.{at_pair, AreRows, AtPair}
 use Rattle.mail_book.specs.Letters.{heard_of, transit_of, AreLetters, AllLetters}
 use Rattle.mail_book.specs.Rows.{lists_of, heard_at, transit_at, AllRows}
 use Rattle.mail_book.proofs.PairLookups.{pair_read, pair_write, written_rows, row_within, place_within}
-
-map_set : {A B : Type 0} (f : A → B) (xs : List A) (p : ℕ) (v : A) → map f (slice_set xs p v) ≡ slice_set (map f xs) p (f v)
-map_set f [] p v = refl
-map_set f (x ∷ xs) zero v = refl
-map_set f (x ∷ xs) (suc p) v = ap (λ ys. f x ∷ ys) (map_set f xs p v)
 
 get_map : {A B : Type 0} (f : A → B) (xs : List A) (p : ℕ) (z : A) → get_or (map f xs) p (f z) ≡ f (get_or xs p z)
 get_map f [] p z = refl
@@ -30,7 +24,7 @@ get_other (z ∷ zs) (suc p) x y h = get_other zs p x y (omega arith)
 
 -- a row that was written in code
 pub lists_set : (rows : List (Vec Letters Global)) (p : ℕ) (v : Vec Letters Global) → lists_of (slice_set rows p v) ≡ slice_set (lists_of rows) p v.items
-lists_set rows p v = map_set (λ (r : Vec Letters Global). r.items) rows p v
+lists_set rows p v = map-set (λ (r : Vec Letters Global). r.items) rows p v
 
 pub lists_get : (rows : List (Vec Letters Global)) (p : ℕ) (v : Vec Letters Global) → p < length rows → v ≡ get_or rows p v → get_or (lists_of rows) p [] ≡ v.items
 lists_get [] p v h q = absurd (omega arith)
@@ -56,8 +50,8 @@ module _ {Y : Type 0} (f : Letters → Y) where
 
   told_set : (rows : List (List Letters)) (p i : ℕ) (l : Letters) → told (slice_set rows p (slice_set (get_or rows p []) i l)) ≡ slice_set (told rows) p (slice_set (get_or (told rows) p []) i (f l))
   told_set rows p i l =
-      map_set (λ r. map f r) rows p (slice_set (get_or rows p []) i l)
-      ∙ ap (slice_set (told rows) p) (map_set f (get_or rows p []) i l ∙ ap (λ r. slice_set r i (f l)) (sym (get_map (λ r. map f r) rows p [])))
+      map-set (λ r. map f r) rows p (slice_set (get_or rows p []) i l)
+      ∙ ap (slice_set (told rows) p) (map-set f (get_or rows p []) i l ∙ ap (λ r. slice_set r i (f l)) (sym (get_map (λ r. map f r) rows p [])))
 
   module _ (N : Network) (net : IsNetwork N) (z : Y) (rows : List (List Letters)) (shape : AreRows N (numbers N.devices) rows) (a b : ℕ) (place : ℕ × ℕ) (at : AtPair N a b place) where
     pub told_read : (l : Letters) → l ≡ get_or (get_or rows place.0 []) place.1 l → at_pair N z (told rows) a b ≡ f l

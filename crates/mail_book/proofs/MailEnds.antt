@@ -1,11 +1,11 @@
 -- A mail log leads to one mail core, or has one first entry without a step.
-use Rattle.std.proofs.Common.{◌≡◌, ◌⊎◌, ℕ, zero, suc, ◌+◌, List, [], ◌∷◌, ◌++◌, length, refl, sym, ◌∙◌, ap, subst, arith, inl, inr, Some, None, Option}
+use Rattle.std.proofs.Common.{◌≡◌, ◌⊎◌, ℕ, suc, List, [], ◌∷◌, ◌++◌, length, refl, sym, ◌∙◌, ap, subst, inl, inr, Some, None, Option}
 use mathlib.Core.Logic.{⊎_elim}
 use Rattle.fc_nodes.specs.Program.{Program, Unfolding, unfolding_of, IsProgram}
 use Rattle.firing_core.specs.Laws.{StepsKeepGood, FaultlessStep, StepsAgree, CopiesFit}
-use Rattle.message_links.specs.MailCores.{MailCore, MailEntryValue, MailStep, MailRun, IsMailStart}
+use Rattle.message_links.specs.MailCores.{MailCore, MailEntryValue, MailStep, MailRun}
 use Rattle.message_links.specs.declared.entries.MailFault.{MailFault}
-use Rattle.mail_book.specs.MailReplays.{mail_fault, FailsMailAt}
+use Rattle.mail_book.specs.MailReplays.{mail_fault}
 use Rattle.mail_book.specs.MailLaws.{MailLogsEnd, MailLogsLeadToOne, MailLogsFailOnce, MailLogsLeadOrFail}
 use Rattle.mail_book.proofs.MailGood.{IsMailGood, start_good, step_good, step_one, step_free, step_or_fault}
 

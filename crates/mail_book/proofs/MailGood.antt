@@ -1,20 +1,19 @@
 -- Mail steps keep a mail core good, and from a good one an entry has one step or a fault.
-use Rattle.std.proofs.Common.{◌≡◌, ◌⊎◌, ◌↔◌, ℕ, zero, suc, ◌<◌, ◌+◌, List, [], ◌∷◌, ◌++◌, length, refl, sym, ◌∙◌, ap, subst, arith, Bool, true, false, ◌&&◌, if◌then◌else◌, nat_eq, inl, inr, Option, Some, None}
+use Rattle.std.proofs.Common.{◌≡◌, ◌⊎◌, ℕ, zero, suc, ◌<◌, List, [], ◌∷◌, ◌++◌, length, refl, sym, ◌∙◌, ap, subst, arith, Bool, true, false, ◌&&◌, if◌then◌else◌, nat_eq, inl, inr, Option, Some, None}
 use Rattle.std.specs.Prelude.{nat_lt, nat_le, option_map}
 use Rattle.std.proofs.lemmas.Bool.{eqb-true, ltb-true}
-use mathlib.Core.Logic.{⊎_elim}
 use Rattle.fc_values.specs.Trees.{TreeExport, Copy}
 use Rattle.fc_nodes.specs.Program.{Program, Unfolding, unfolding_of, IsProgram}
 use Rattle.topology.specs.Networks.{Network, Lives, lives}
 use Rattle.firing_core.specs.declared.entries.StepFault.{StepFault}
 use Rattle.firing_core.specs.declared.entries.StepFault.TheVariants as step
 use Rattle.value_trees.specs.Copies.{FitsCopy}
-use Rattle.firing_core.specs.Entries.{BeginEntry, EndEntry}
-use Rattle.firing_core.specs.Cores.{Map as Table, put, Core, copy_of, begun, Ends, GoodExport, GoodFlight, IsGood}
-use Rattle.firing_core.specs.Replays.{fault_of, begin_fault, end_fault, net_fault_of}
+use Rattle.firing_core.specs.Entries.{EndEntry}
+use Rattle.firing_core.specs.Cores.{Core, copy_of, begun, Ends, GoodExport, GoodFlight, IsGood}
+use Rattle.firing_core.specs.Replays.{fault_of, begin_fault, end_fault}
 use Rattle.firing_core.specs.Laws.{StepsKeepGood, FaultlessStep, StepsAgree, CopiesFit}
 use Rattle.firing_core.proofs.Maps.{put_same}
-use Rattle.message_links.specs.MailCores.{reaches, Reaches, Message as MailMessage, Pairs, put_pair, MailCore, MailEntryValue, MailBegin, MailEnd, MailIdle, MailDeliver, MailAgain, MailLose, most, rest_of, without, pushed, posted, sees, with_core, MailEnds, Hears, Loses, MailStep, AreOld, IsMailStart}
+use Rattle.message_links.specs.MailCores.{reaches, Message as MailMessage, Pairs, put_pair, MailCore, MailEntryValue, MailBegin, MailEnd, MailIdle, MailDeliver, MailAgain, MailLose, most, rest_of, without, pushed, posted, sees, with_core, MailEnds, Hears, Loses, MailStep, AreOld, IsMailStart}
 use Rattle.message_links.specs.declared.entries.MailFault.{MailFault}
 use Rattle.message_links.specs.declared.entries.MailFault.TheVariants as fault
 use Rattle.message_links.proofs.Reaching.{both_true}

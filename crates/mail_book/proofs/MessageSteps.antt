@@ -1,5 +1,5 @@
 -- Crates above cite this module: what happens to a message, as a step of a mail core.
-use Rattle.std.proofs.Common.{◌≡◌, ℕ, zero, suc, ◌<◌, ◌≤◌, List, [], ◌∷◌, length, map, get_or, refl, sym, ◌∙◌, ap, subst, arith, Bool, true, false, if◌then◌else◌, Option, Some, None, Vec, Global, vec_len}
+use Rattle.std.proofs.Common.{◌≡◌, ℕ, zero, suc, ◌<◌, ◌≤◌, List, [], ◌∷◌, length, map, get_or, refl, sym, ◌∙◌, ap, subst, arith, Bool, true, false, Option, Some, None, Vec, Global, vec_len}
 use Rattle.std.specs.Prelude.{nat_lt, option_map, ◌==◌}
 use Rattle.std.proofs.lemmas.Bool.{eq-eqb}
 use Rattle.std.specs.List.{remove}
@@ -11,18 +11,16 @@ use Rattle.fc_nodes.specs.Program.{Unfolding}
 use Rattle.fc_nodes.specs.Flat.{tree_export, IsExport}
 use Rattle.value_trees.specs.Copies.{WhereSome}
 use Rattle.value_trees.specs.Snaps.{tree_of, IsExportOf}
-use Rattle.topology.specs.Networks.{Network, IsNetwork, numbers}
+use Rattle.topology.specs.Networks.{IsNetwork, numbers}
 use Rattle.firing_core.specs.CoreViews.{CoreValue, core_of, program_of}
-use Rattle.message_links.specs.MailCores.{Message as MailMessage, MailCore, MailDeliver, MailAgain, MailLose, put_pair, reaches, without, MailStep, Hears, Loses}
-use Rattle.message_links.specs.declared.entries.MailFault.{MailFault}
+use Rattle.message_links.specs.MailCores.{Message as MailMessage, MailCore, MailDeliver, MailAgain, MailLose, put_pair, reaches, without, MailStep}
 use Rattle.message_links.specs.declared.entries.MailFault.TheVariants as fault
 use Rattle.mail_book.specs.declared.letters.Letters.{Letters}
 use Rattle.mail_book.specs.declared.letters.Message.{Message}
 use Rattle.mail_book.specs.Pairs.{AreRows, AtPair}
 use Rattle.mail_book.specs.Letters.{message_of, heard_of, transit_of, AreLetters, AllMessages, Delivers, Repeats}
-use Rattle.mail_book.specs.Rows.{heard_at, transit_at, AllRows}
 use Rattle.mail_book.specs.MailViews.{MailValue, mail_with, mail_of}
-use Rattle.mail_book.specs.MailReplays.{message_fault, mail_fault}
+use Rattle.mail_book.specs.MailReplays.{message_fault}
 use Rattle.mail_book.proofs.PairLookups.{put_same}
 use Rattle.mail_book.proofs.LetterWrites.{rewritten, heard_read, transit_read, heard_write, transit_write}
 

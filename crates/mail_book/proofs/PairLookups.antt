@@ -1,13 +1,13 @@
 -- Crates above cite this module: reading and writing what rows have for an ordered pair.
-use Rattle.std.proofs.Common.{◌≡◌, ◌≢◌, ℕ, zero, suc, ◌<◌, List, [], ◌∷◌, length, map, get_or, refl, sym, ◌∙◌, ap, subst, arith, Bool, true, false, ◌&&◌, ◌||◌, nat_eq, if◌then◌else◌, length-set}
+use Rattle.std.proofs.Common.{◌≡◌, ℕ, zero, suc, ◌<◌, List, [], ◌∷◌, length, get_or, refl, sym, ◌∙◌, ap, subst, arith, Bool, true, false, ◌&&◌, ◌||◌, nat_eq, if◌then◌else◌, length-set}
 use Rattle.std.specs.Prelude.{slice_set}
 use Rattle.std.proofs.Math.Path.{fun_ext}
 use Rattle.std.proofs.lemmas.Bool.{eqb-true, eq-eqb}
 use Rattle.std.proofs.lemmas.List.{length-map}
-use Rattle.fc_values.specs.Fields.{Rises, is_in}
-use Rattle.topology.specs.Networks.{Network, NetDevice, IsNetwork, numbers, near, lives}
+use Rattle.fc_values.specs.Fields.{is_in}
+use Rattle.topology.specs.Networks.{Network, NetDevice, IsNetwork, numbers, near}
 use Rattle.topology.specs.Nearby.{near_numbers}
-use Rattle.topology.proofs.Lemmas.{near_rises, near_none}
+use Rattle.topology.proofs.Lemmas.{near_rises}
 use Rattle.firing_core.proofs.Slots.{Distinct, rises_distinct}
 use Rattle.message_links.specs.MailCores.{reaches, Pairs, put_pair}
 use Rattle.mail_book.specs.Pairs.{item_at, at_pair, AreRows, AtPair}

@@ -1,14 +1,12 @@
 -- An export that is sent to each neighbour of a device, one after another.
-use Rattle.std.proofs.Common.{◌≡◌, ◌≢◌, ℕ, zero, suc, ◌<◌, ◌+◌, List, [], ◌∷◌, ◌++◌, length, map, get_or, take, refl, sym, ◌∙◌, ap, subst, arith, add-one, Bool, true, false, ◌&&◌, ◌||◌, nat_eq, if◌then◌else◌, Option, Some, None}
-use Rattle.std.specs.Prelude.{nat_le, option_map, min, max}
-use Rattle.std.specs.List.{remove}
+use Rattle.std.proofs.Common.{◌≡◌, ℕ, zero, suc, ◌<◌, List, [], ◌∷◌, ◌++◌, length, map, get_or, take, refl, sym, ◌∙◌, ap, subst, arith, Bool, true, false, ◌&&◌, ◌||◌, nat_eq, if◌then◌else◌, Option}
+use Rattle.std.specs.Prelude.{nat_le, option_map}
 use Rattle.std.proofs.Math.Path.{fun_ext}
-use Rattle.std.proofs.Math.Seq.{take-suc}
 use Rattle.std.proofs.lemmas.Bool.{eqb-true, eq-eqb, ne_eqb}
 use Rattle.std.proofs.lemmas.List.{map-append, length-map}
 use Rattle.fc_values.specs.declared.exports.Export.{Export}
 use Rattle.fc_values.specs.Exports.{export_of}
-use Rattle.fc_values.specs.Fields.{Rises, is_in}
+use Rattle.fc_values.specs.Fields.{is_in}
 use Rattle.fc_values.specs.Trees.{TreeExport}
 use Rattle.fc_nodes.specs.Program.{Unfolding}
 use Rattle.fc_nodes.specs.Flat.{tree_export, IsExport}
@@ -24,7 +22,7 @@ use Rattle.mail_book.specs.Pairs.{AreRows, AtPair}
 use Rattle.mail_book.specs.Letters.{message_of, heard_of, transit_of, AreLetters, AllMessages}
 use Rattle.mail_book.specs.Rows.{heard_at, transit_at, AllRows, Posts, PostsTo}
 use Rattle.firing_core.proofs.Slots.{Distinct}
-use Rattle.mail_book.proofs.PairLookups.{near_apart_at, put_same}
+use Rattle.mail_book.proofs.PairLookups.{put_same}
 use Rattle.mail_book.proofs.LetterWrites.{rewritten, rewritten_shape, rewritten_letters, letters_there, heard_read, transit_read, heard_write, transit_write}
 
 -- ---- one message more

@@ -1,20 +1,19 @@
 -- A mail log, replayed entry by entry.
-use Rattle.std.proofs.Common.{◌≡◌, ℕ, zero, suc, ◌<◌, ◌+◌, List, [], ◌∷◌, ◌++◌, length, take, drop, get_or, refl, sym, ◌∙◌, ap, subst, arith, Some, Option}
-use Rattle.std.specs.Prelude.{Result, Err, option_map}
+use Rattle.std.proofs.Common.{◌≡◌, ℕ, suc, ◌<◌, ◌+◌, List, [], ◌∷◌, ◌++◌, length, take, drop, get_or, refl, sym, ◌∙◌, ap, subst, arith, Some, Option}
+use Rattle.std.specs.Prelude.{option_map}
 use Rattle.std.proofs.lemmas.List.{map-append, length-map, length-take-le, take-append-drop}
 use Rattle.std.proofs.Math.Seq.{take-suc, drop-cons}
 use Rattle.fc_nodes.specs.Program.{Program, Unfolding, unfolding_of}
 use Rattle.firing_core.specs.declared.entries.StepFault.{StepFault}
 use Rattle.firing_core.specs.declared.entries.StepFault.TheVariants as step
-use Rattle.message_links.specs.MailCores.{MailCore, MailEntryValue, MailStep, MailRun, IsMailStart}
+use Rattle.message_links.specs.MailCores.{MailCore, MailEntryValue, MailStep, MailRun}
 use Rattle.message_links.specs.declared.entries.MailEntry.{MailEntry}
-use Rattle.message_links.specs.declared.entries.MailFault.{MailFault}
 use Rattle.message_links.specs.declared.entries.MailFault.TheVariants as fault
 use Rattle.message_links.specs.declared.entries.MailReplay.{MailReplay}
 use Rattle.message_links.specs.declared.entries.MailReplay.TheVariants as replay
 use Rattle.message_links.specs.MailEntries.{mail_entry, mail_entries}
 use Rattle.mail_book.specs.MailViews.{MailValue, mail_of, unfolded_of}
-use Rattle.mail_book.specs.MailReplays.{mail_fault, HasStepFault, HasMailFault, RefusesMail, AtStep, AtLink, FailsMailAt, FailsMail, IsMailBook, MailBookValue}
+use Rattle.mail_book.specs.MailReplays.{mail_fault, HasStepFault, RefusesMail, FailsMail}
 
 -- one entry more behind a run
 run_snoc : (U : Unfolding) (at : ℕ) (c middle last : MailCore) (es : List MailEntryValue) (e : MailEntryValue) → MailRun U at c es middle → MailStep U (at + length es) middle e last → MailRun U at c (es ++ e ∷ []) last

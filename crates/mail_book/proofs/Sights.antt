@@ -1,17 +1,17 @@
 -- What a device sees of its neighbours, gathered from its row, and the begin of a firing with it.
-use Rattle.std.proofs.Common.{◌≡◌, ◌≢◌, ℕ, zero, suc, ◌<◌, ◌≤◌, List, [], ◌∷◌, length, map, get_or, refl, sym, ◌∙◌, ap, subst, arith, Bool, true, false, ◌||◌, nat_eq, if◌then◌else◌, Option, Some, None}
+use Rattle.std.proofs.Common.{◌≡◌, ◌≢◌, ℕ, suc, ◌<◌, List, [], ◌∷◌, length, map, get_or, refl, sym, ◌∙◌, ap, subst, arith, Bool, true, false, ◌||◌, nat_eq, if◌then◌else◌, Option, Some, None}
 use Rattle.std.specs.Prelude.{option_map}
 use Rattle.std.proofs.lemmas.Bool.{eqb-true, eq-eqb, ne_eqb}
 use Rattle.std.proofs.lemmas.List.{length-map}
 use Rattle.fc_values.specs.declared.exports.Export.{Export}
 use Rattle.fc_values.specs.Fields.{is_in}
-use Rattle.fc_values.specs.Trees.{TreeExport, NearCopy, Copy}
+use Rattle.fc_values.specs.Trees.{TreeExport}
 use Rattle.fc_nodes.specs.Program.{Unfolding, unfolding_of}
 use Rattle.fc_nodes.specs.Flat.{IsWellTyped}
 use Rattle.value_trees.specs.declared.copies.Snap.{Snap}
 use Rattle.value_trees.specs.Copies.{WhereSome, FitsCopy}
 use Rattle.value_trees.specs.Snaps.{tree_of, snap_copy, IsExportOf}
-use Rattle.topology.specs.Networks.{Network, NetDevice, IsNetwork, Lives, numbers, near}
+use Rattle.topology.specs.Networks.{Network, NetDevice, Lives, numbers, near}
 use Rattle.topology.specs.Nearby.{near_numbers, AtPlace}
 use Rattle.topology.proofs.Lemmas.{AllNear, near_fits}
 use Rattle.firing_core.specs.Cores.{Map as Table, put, Core, near_with, near_copies, copy_of, GoodExport, IsGood}
@@ -20,10 +20,10 @@ use Rattle.firing_core.specs.TakeOffs.{TakesOff}
 use Rattle.firing_core.specs.Laws.{CopiesFit}
 use Rattle.message_links.specs.MailCores.{MailCore, MailBegin, MailStep, sees}
 use Rattle.mail_book.specs.declared.letters.Letters.{Letters}
-use Rattle.mail_book.specs.Pairs.{item_at, at_pair, AreRows}
-use Rattle.mail_book.specs.Letters.{heard_of, AreLetters, AllLetters}
+use Rattle.mail_book.specs.Pairs.{item_at, AreRows}
+use Rattle.mail_book.specs.Letters.{heard_of, AllLetters}
 use Rattle.mail_book.specs.Rows.{heard_at, transit_at, heard_copies, AllRows}
-use Rattle.mail_book.specs.MailViews.{mail_with, mail_of, IsMail}
+use Rattle.mail_book.specs.MailViews.{mail_with, mail_of}
 use Rattle.firing_core.proofs.Slots.{Distinct}
 use Rattle.mail_book.proofs.PairLookups.{item_here, item_none, devices_apart, near_apart_at, many_rows, row_long}
 use Rattle.mail_book.proofs.LetterWrites.{row_letters}

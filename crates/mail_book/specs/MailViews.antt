@@ -1,5 +1,5 @@
 -- What contracts see of a mail core in code.
-use Rattle.std.specs.Prelude.{ℕ, ◌≡◌, List, [], None}
+use Rattle.std.specs.Prelude.{List, [], None}
 use Rattle.fc_nodes.specs.Program.{Unfolding}
 use Rattle.topology.specs.Networks.{numbers}
 use Rattle.firing_core.specs.Cores.{Core}

@@ -1,6 +1,6 @@
 -- A value for each ordered pair of neighbours, kept in rows: a row for each device, in the order of the network, with a
 -- value for each of its neighbours, as they rise. The device of a row receives, and its neighbours send.
-use Rattle.std.specs.Prelude.{ℕ, true, ◌≡◌, ◌<◌, nat_eq, if◌then◌else◌, List, [], ◌∷◌, length, slice_index}
+use Rattle.std.specs.Prelude.{ℕ, ◌≡◌, ◌<◌, nat_eq, if◌then◌else◌, List, [], ◌∷◌, length, slice_index}
 use Rattle.topology.specs.Networks.{Network, numbers, near}
 use Rattle.topology.specs.Nearby.{near_numbers, AtPlace}
 use Rattle.message_links.specs.MailCores.{Reaches, Pairs}

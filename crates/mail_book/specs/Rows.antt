@@ -1,5 +1,5 @@
 -- Rows of letters, and what they stand for.
-use Rattle.std.specs.Prelude.{ℕ, ◌≡◌, List, [], ◌∷◌, map, Option, Some, None, option_map, Vec, if◌then◌else◌}
+use Rattle.std.specs.Prelude.{ℕ, ◌≡◌, List, [], ◌∷◌, map, Option, None, Vec, if◌then◌else◌}
 use Rattle.std.specs.declared.alloc.Global.{Global}
 use Rattle.fc_values.specs.Trees.{TreeExport, NearCopy}
 use Rattle.fc_nodes.specs.Program.{Unfolding}

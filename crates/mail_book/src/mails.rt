@@ -164,7 +164,7 @@ impl Mail {
             None => None,
         };
         let neighbours = self.core.net().neighbours(device);
-        let near = heard_in(alloc, neighbours.as_slice(), &self.rows[place])?;
+        let near = heard_in(alloc, neighbours, &self.rows[place])?;
         Ok(Snap {
             device,
             inputs,

@@ -17,7 +17,7 @@ pub fn pair_place(net: &Network, from: u32, to: u32) -> Option<(usize, usize)>
 {
     let neighbours = net.neighbours(to);
     let row = net.place(to)?;
-    let at = near_place(neighbours.as_slice(), from)?;
+    let at = near_place(neighbours, from)?;
     Some((row, at))
 }
 

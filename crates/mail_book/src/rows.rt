@@ -31,8 +31,7 @@ pub(crate) fn no_rows(alloc: Global, net: &Network) -> Result<Vec<Vec<Letters>>,
 {
     let mut rows = Vec::new(alloc);
     for device in net.devices() {
-        let neighbours = net.neighbours(device.id);
-        rows.push(no_row(alloc, neighbours.len())?)?;
+        rows.push(no_row(alloc, net.neighbours(device.id).len())?)?;
     }
     Ok(rows)
 }
@@ -75,14 +74,14 @@ pub(crate) fn heard_in(
     alloc: Global,
     neighbours: &[(u32, u32)],
     row: &[Letters],
-) -> Result<ArrayVec<Near, 32, Global>, Memory>
+) -> Result<Box<ArrayVec<Near, 32, Global>>, Memory>
     requires few { length neighbours.now ≤ 32 }
     requires long { length row.now ≡ length neighbours.now }
     ensures near { (U : Unfolding)
-        → IfOk result (λ ns. map (near_copy U) ns.items ≡ heard_copies U neighbours.now row.now) }
-    ensures exports { (U : Unfolding) → AllLetters U row.now → IfOk result (λ ns. NearAreExports U ns.items) }
+        → IfOk result (λ ns. map (near_copy U) ns.value.items ≡ heard_copies U neighbours.now row.now) }
+    ensures exports { (U : Unfolding) → AllLetters U row.now → IfOk result (λ ns. NearAreExports U ns.value.items) }
 {
-    let mut near = ArrayVec::new_in(alloc);
+    let mut near = Box::new(alloc, ArrayVec::new_in(alloc))?;
     for (at, (device, weight)) in neighbours.iter().enumerate() {
         if let Some(export) = &row[at].heard {
             let export = copy_export(alloc, export)?;
@@ -111,8 +110,7 @@ pub(crate) fn post_all(
     ensures letters { (U : Unfolding) → AllRows U (lists_of rows.old.items) → IsExportOf U sending.now.export.now
         → AllRows U (lists_of rows.new.items) }
 {
-    let neighbours = net.neighbours(sending.device);
-    for (neighbour, _) in neighbours.iter() {
+    for (neighbour, _) in net.neighbours(sending.device) {
         post_to(alloc, net, rows, sending, *neighbour)?;
     }
     Ok(())

@@ -1,5 +1,5 @@
 -- Rows in code after one ordered pair of them is written.
-use Rattle.std.proofs.Common.{◌≡◌, ℕ, zero, suc, ◌<◌, List, [], ◌∷◌, length, map, get_or, refl, sym, ◌∙◌, ap, arith, Vec, Global, vec_len}
+use Rattle.std.proofs.Common.{◌≡◌, ℕ, ◌<◌, List, [], length, map, get_or, ◌∙◌, ap, arith, Vec, Global, vec_len}
 use Rattle.std.specs.Prelude.{slice_set}
 use Rattle.std.specs.Vec.{with_item, with_items}
 use Rattle.std.proofs.lemmas.List.{length-map, with_items_is}

@@ -8,10 +8,10 @@ use Rattle.message_links.specs.MailCores.{MailEntryValue, MailBegin, MailEnd, Ma
 use Rattle.message_links.specs.MailRounds.{Posts, posts_after, posts_along, oldest_post, HasMailFiring, EndsOwnBegin, Brings, CoversMail, HasMailRounds}
 use Rattle.mail_count.specs.declared.marks.Marks.{Marks}
 use Rattle.mail_count.specs.Marks.{Tells}
-use Rattle.mail_count.specs.Seen.{Seen, fresh, cleared, unseen, noted, noted_all, IsWhole}
+use Rattle.mail_count.specs.Seen.{Seen, fresh, cleared, unseen, IsWhole}
 use Rattle.mail_count.proofs.Flights.{noted_more}
 use Rattle.message_links.proofs.Along.{along_more}
-use Rattle.mail_count.proofs.OwnPosts.{seen, posts, seen_more, AreEarlier, Posted, all_flags, flags_many}
+use Rattle.mail_count.proofs.OwnPosts.{seen, posts, AreEarlier, Posted, all_flags, flags_many}
 use Rattle.mail_count.proofs.Covers.{whole_on, covers_whole, whole_covers}
 
 -- ---- entries in front of rounds take none away

@@ -1,5 +1,5 @@
 -- Which devices fly with a copy of a part of a mail log, and which have fired in it.
-use Rattle.std.proofs.Common.{◌≡◌, ◌⊎◌, ℕ, List, [], ◌∷◌, ◌++◌, length, refl, sym, ◌∙◌, ap, Bool, true, false, ◌||◌, if◌then◌else◌, nat_eq, inl, inr, append_assoc}
+use Rattle.std.proofs.Common.{◌≡◌, ◌⊎◌, ℕ, List, [], ◌∷◌, ◌++◌, refl, ◌∙◌, ap, Bool, true, false, ◌||◌, if◌then◌else◌, nat_eq, inl, inr}
 use Rattle.std.proofs.lemmas.Bool.{eqb-true, eq-eqb}
 use mathlib.Core.Logic.{⊎_elim}
 use Rattle.topology.specs.Networks.{Network}

@@ -1,11 +1,11 @@
 -- Each mail log has a greatest number of rounds.
-use Rattle.std.proofs.Common.{◌≡◌, ◌<◌, ◌≤◌, ◌+◌, ℕ, zero, suc, Bool, true, false, ◌&&◌, List, [], ◌∷◌, ◌++◌, length, map, refl, sym, ◌∙◌, ap, subst, arith, nat_eq, zero-add, Option, Some, None}
+use Rattle.std.proofs.Common.{◌≡◌, ◌≤◌, ◌+◌, ℕ, Bool, true, false, ◌&&◌, List, [], ◌∷◌, ◌++◌, length, map, refl, subst, arith, nat_eq, zero-add}
 use Rattle.std.proofs.lemmas.Bool.{eqb-true, eq-eqb}
 use Rattle.fc_nodes.specs.Program.{Unfolding}
 use Rattle.fc_values.specs.Fields.{is_in}
 use Rattle.topology.specs.Networks.{Network, NetDevice, IsNetwork, Lives, numbers}
 use Rattle.message_links.specs.MailCores.{Message, MailCore, MailEntryValue, AreOld, IsMailStart}
-use Rattle.message_links.specs.MailRounds.{Posts, posts_of, posts_along, HasMailRounds}
+use Rattle.message_links.specs.MailRounds.{Posts, posts_of, posts_along}
 use Rattle.message_links.proofs.Reaching.{both_true}
 use Rattle.mail_count.specs.Seen.{Seen, missing, IsWhole}
 use Rattle.mail_count.specs.Marks.{pair_rows, missing_rows}

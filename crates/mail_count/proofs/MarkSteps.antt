@@ -1,10 +1,9 @@
 -- What marks tell, and how entries change it.
-use Rattle.std.proofs.Common.{◌≡◌, ℕ, ◌<◌, ◌+◌, List, [], ◌∷◌, length, map, get_or, Bool, refl, sym, ◌∙◌, ap, arith, nat_eq}
+use Rattle.std.proofs.Common.{◌≡◌, ℕ, ◌<◌, ◌+◌, List, [], ◌∷◌, length, get_or, Bool, refl, sym, ◌∙◌, ap, arith, nat_eq}
 use Rattle.std.specs.Prelude.{slice_set, not, ◌&&◌, ◌||◌, if◌then◌else◌, true, false, Vec}
 use Rattle.std.specs.declared.alloc.Global.{Global}
 use Rattle.std.specs.Vec.{with_item}
 use Rattle.std.proofs.lemmas.List.{length-map}
-use Rattle.std.proofs.Math.Path.{fun_ext}
 use Rattle.topology.specs.Networks.{Network, NetDevice, IsNetwork, numbers, near}
 use Rattle.topology.specs.Nearby.{near_numbers}
 use Rattle.mail_book.specs.Pairs.{AtPair}

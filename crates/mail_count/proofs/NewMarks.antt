@@ -1,5 +1,5 @@
 -- Marks of a round that begins, gathered device by device.
-use Rattle.std.proofs.Common.{◌≡◌, ◌<◌, ◌≤◌, ◌*◌, ◌+◌, ℕ, zero, suc, List, [], ◌∷◌, ◌++◌, length, map, take, get_or, replicate, refl, sym, ◌∙◌, ap, subst, arith, Bool, false, Vec, Global}
+use Rattle.std.proofs.Common.{◌≡◌, ◌<◌, ◌+◌, ℕ, List, [], ◌∷◌, ◌++◌, length, map, take, get_or, replicate, sym, ◌∙◌, ap, arith, false, Vec, Global}
 use Rattle.std.proofs.Math.Path.{fun_ext}
 use Rattle.std.proofs.lemmas.List.{length-map, map-append}
 use Rattle.topology.specs.declared.types.Device.{Device}
@@ -8,7 +8,7 @@ use Rattle.message_links.specs.MailCores.{Message, MailCore, Pairs}
 use Rattle.message_links.specs.MailRounds.{posts_of}
 use Rattle.mail_count.specs.declared.pairs.Bringing.{Bringing}
 use Rattle.mail_count.specs.Seen.{fresh}
-use Rattle.mail_count.specs.Marks.{row_of, pair_rows, many}
+use Rattle.mail_count.specs.Marks.{row_of, many}
 use Rattle.mail_count.proofs.Rewriting.{take_more}
 use Rattle.mail_count.proofs.Tables.{all_false}
 

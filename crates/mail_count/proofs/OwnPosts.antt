@@ -1,11 +1,11 @@
 -- Which messages in transit were sent by an end, in a part of a mail log, of a firing that was begun in it.
-use Rattle.std.proofs.Common.{◌≡◌, ◌⊎◌, ℕ, zero, suc, ◌<◌, ◌≤◌, ◌+◌, List, [], ◌∷◌, ◌++◌, length, map, take, refl, sym, ◌∙◌, ap, subst, arith, Bool, true, false, ◌&&◌, if◌then◌else◌, nat_eq, inl, inr, append_assoc, append-nil, length-append, Option, Some, None}
+use Rattle.std.proofs.Common.{◌≡◌, ◌⊎◌, ℕ, zero, suc, ◌<◌, ◌+◌, List, [], ◌∷◌, ◌++◌, length, map, take, refl, sym, ◌∙◌, ap, subst, arith, Bool, true, false, ◌&&◌, if◌then◌else◌, nat_eq, inl, inr, append_assoc, append-nil, Option, Some, None}
 use Rattle.std.specs.Prelude.{nat_le}
 use Rattle.std.proofs.lemmas.Bool.{eqb-true}
 use Rattle.std.proofs.Math.Seq.{take-append_seam}
 use mathlib.Core.Logic.{⊎_elim}
 use Rattle.topology.specs.Networks.{Network}
-use Rattle.message_links.specs.MailCores.{MailEntryValue, MailBegin, MailEnd, MailIdle, MailDeliver, MailAgain, MailLose, Pairs, put_pair, most, rest_of, without, pushed, posted, reaches}
+use Rattle.message_links.specs.MailCores.{MailEntryValue, MailBegin, MailEnd, MailIdle, MailDeliver, MailAgain, MailLose, most, rest_of, without, pushed, reaches}
 use Rattle.message_links.specs.MailRounds.{Posts, posts_after, posts_along, EndsOwnBegin, oldest_post}
 use Rattle.message_links.proofs.Firings.{flies_along, own_flies}
 use Rattle.message_links.proofs.Along.{along_more}

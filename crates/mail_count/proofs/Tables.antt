@@ -1,11 +1,11 @@
 -- Maps of devices and of ordered pairs, written out as lists and rows.
-use Rattle.std.proofs.Common.{◌≡◌, ◌≢◌, ℕ, zero, suc, ◌<◌, ◌+◌, List, [], ◌∷◌, length, map, get_or, refl, sym, ◌∙◌, ap, subst, arith, Bool, true, false, ◌&&◌, ◌||◌, if◌then◌else◌, nat_eq}
+use Rattle.std.proofs.Common.{◌≡◌, ℕ, zero, suc, ◌<◌, ◌+◌, List, [], ◌∷◌, length, map, get_or, refl, sym, ◌∙◌, ap, arith, Bool, true, false, ◌&&◌, ◌||◌, if◌then◌else◌, nat_eq}
 use Rattle.std.specs.Prelude.{slice_set, not, replicate}
 use Rattle.std.proofs.lemmas.Bool.{eqb-true, eq-eqb, ne_eqb}
 use Rattle.std.proofs.lemmas.List.{length-map}
 use Rattle.fc_values.specs.Fields.{is_in}
 use Rattle.fc_values.proofs.Booleans.{or_true}
-use Rattle.topology.specs.Networks.{Network, NetDevice, IsNetwork, Lives, lives, numbers, near}
+use Rattle.topology.specs.Networks.{Network, NetDevice, IsNetwork, lives, numbers, near}
 use Rattle.topology.specs.Nearby.{near_numbers, AtPlace}
 use Rattle.topology.proofs.Lemmas.{near_none}
 use Rattle.firing_core.proofs.Slots.{Distinct}

@@ -1,8 +1,7 @@
 -- What was seen of a round over message links so far.
 use Rattle.std.specs.Prelude.{ℕ, Bool, true, false, ◌≡◌, ◌+◌, ◌&&◌, ◌||◌, nat_eq, if◌then◌else◌}
-use Rattle.std.specs.Prelude.{List, [], ◌∷◌, map, Option}
-use Rattle.topology.specs.Networks.{Network, Lives, numbers, near}
-use Rattle.topology.specs.Nearby.{near_numbers}
+use Rattle.std.specs.Prelude.{List, [], ◌∷◌, map}
+use Rattle.topology.specs.Networks.{Network, Lives, numbers}
 use Rattle.message_links.specs.MailCores.{Reaches, Pairs, put_pair, rest_of, without, posted}
 use Rattle.message_links.specs.MailCores.{MailEntryValue, MailBegin, MailEnd, MailIdle}
 use Rattle.message_links.specs.MailCores.{MailDeliver, MailAgain, MailLose}

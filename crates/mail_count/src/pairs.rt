@@ -31,8 +31,7 @@ pub(crate) fn quiet_row(alloc: Global, mail: &Mail, from: u32) -> Result<Vec<Bri
         ≡ map (λ to. false) (near_numbers (near_of mail.now.core.net from))) }
 {
     let mut row = Vec::new(alloc);
-    let neighbours = mail.core().net().neighbours(from);
-    for (to, _) in neighbours.iter() {
+    for (to, _) in mail.core().net().neighbours(from) {
         let own = vec![in alloc; false; mail.in_transit(from, *to)]?;
         row.push(Bringing {
             own,

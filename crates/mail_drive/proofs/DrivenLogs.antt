@@ -1,11 +1,11 @@
 -- Entries that are put behind a log, part by part.
-use Rattle.std.proofs.Common.{◌≡◌, ℕ, zero, suc, ◌<◌, ◌+◌, List, [], ◌∷◌, ◌++◌, length, get_or, drop, refl, sym, ◌∙◌, ap, arith, add-one, drop-cons, append_assoc, append-nil}
+use Rattle.std.proofs.Common.{◌≡◌, ℕ, zero, suc, ◌+◌, List, [], ◌∷◌, ◌++◌, length, drop, refl, sym, ◌∙◌, ap, arith, append_assoc, append-nil}
 use Rattle.topology.specs.Networks.{Network, numbers}
-use Rattle.scramble.specs.Words.{Words, next}
+use Rattle.scramble.specs.Words.{Words}
 use Rattle.message_links.specs.MailCores.{MailEntryValue}
 use Rattle.message_links.specs.declared.entries.MailEntry.{MailEntry}
 use Rattle.message_links.specs.MailEntries.{mail_entries}
-use Rattle.mail_drive.specs.Drives.{Driven, and_then, firings, brings, round, driven, Appends}
+use Rattle.mail_drive.specs.Drives.{Driven, firings, brings, round, driven, Appends}
 
 -- a log, and what is still to be put behind it, of all that is put behind an older one
 pub record Left (all : Driven) (first log : List MailEntry) (rest : Driven) : Type 0 where

@@ -59,8 +59,7 @@ fn bring_all(net: &Network, words: &mut ChaCha8Rng, log: &mut Vec<MailEntry>) ->
         log.old.items log.new.items words.new) }
 {
     for device in net.devices() {
-        let neighbours = net.neighbours(device.id);
-        bring_from(device.id, neighbours.as_slice(), words, log)?;
+        bring_from(device.id, net.neighbours(device.id), words, log)?;
     }
     Ok(())
 }

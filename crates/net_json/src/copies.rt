@@ -31,7 +31,7 @@ use crate::types::JsonFault;
 use crate::values::{local, two_members};
 use arrayvec::ArrayVec;
 use fc_nodes::Unfolded;
-use fc_values::{Declared, Export, MOST_LINKS};
+use fc_values::{Declared, Export, MOST_LINKS, Memory};
 use serde_json::Value;
 use std::alloc::Global;
 use topology::{GREATEST_NUMBER, NetFault, Network};
@@ -202,15 +202,18 @@ fn read_near(
 }
 
 // Neighbours in a list of the room that a copy has for them.
-fn in_room(alloc: Global, list: Vec<Near>) -> ArrayVec<Near, MOST_LINKS, Global>
+fn in_room(
+    alloc: Global,
+    list: Vec<Near>,
+) -> Result<Box<ArrayVec<Near, MOST_LINKS, Global>>, Memory>
     requires { length list.items ≤ MOST_LINKS }
-    ensures { result.items ≡ list.items }
+    ensures { IfOk result (λ ns. ns.value.items ≡ list.items) }
 {
-    let mut nears = ArrayVec::new_in(alloc);
+    let mut nears = Box::new(alloc, ArrayVec::new_in(alloc))?;
     for near in list {
         nears.push(near);
     }
-    nears
+    Ok(nears)
 }
 
 // The neighbours of a device, no more than it can have, by rising numbers.
@@ -220,17 +223,17 @@ fn gather_nears(
     device: u32,
     here: &Place<'_>,
     items: &[Value],
-) -> Result<ArrayVec<Near, MOST_LINKS, Global>, JsonFault>
+) -> Result<Box<ArrayVec<Near, MOST_LINKS, Global>>, JsonFault>
     requires { length items.now ≤ MOST_LINKS }
-    ensures ok { let U = unfolding_of program.now in Accepts result (λ ns. map (near_copy U) ns.items)
+    ensures ok { let U = unfolding_of program.now in Accepts result (λ ns. map (near_copy U) ns.value.items)
         (gather near_number (near_judged U device) (path_of here.now) (items_view items.now)) }
-    ensures near { IfOk result (λ ns. NearRises (unfolding_of program.now) device ns.items) }
-    ensures few { IfOk result (λ ns. length ns.items ≤ MOST_LINKS) }
+    ensures near { IfOk result (λ ns. NearRises (unfolding_of program.now) device ns.value.items) }
+    ensures few { IfOk result (λ ns. length ns.value.items ≤ MOST_LINKS) }
     ensures refused { Refuses result
         (gather near_number (near_judged (unfolding_of program.now) device) (path_of here.now) (items_view items.now)) }
 {
     let list = gather(alloc, &Nears { program, device }, here, items)?;
-    Ok(in_room(alloc, list))
+    Ok(in_room(alloc, list)?)
 }
 
 // The neighbours of a device, by rising numbers.
@@ -240,11 +243,11 @@ fn read_nears(
     device: u32,
     here: &Place<'_>,
     items: &[Value],
-) -> Result<ArrayVec<Near, MOST_LINKS, Global>, JsonFault>
-    ensures ok { let U = unfolding_of program.now in Accepts result (λ ns. map (near_copy U) ns.items)
+) -> Result<Box<ArrayVec<Near, MOST_LINKS, Global>>, JsonFault>
+    ensures ok { let U = unfolding_of program.now in Accepts result (λ ns. map (near_copy U) ns.value.items)
         (nears_judged U device (path_of here.now) (items_view items.now)) }
-    ensures near { IfOk result (λ ns. NearRises (unfolding_of program.now) device ns.items) }
-    ensures few { IfOk result (λ ns. length ns.items ≤ MOST_LINKS) }
+    ensures near { IfOk result (λ ns. NearRises (unfolding_of program.now) device ns.value.items) }
+    ensures few { IfOk result (λ ns. length ns.value.items ≤ MOST_LINKS) }
     ensures refused { Refuses result
         (nears_judged (unfolding_of program.now) device (path_of here.now) (items_view items.now)) }
 {

@@ -19,7 +19,8 @@ use Rattle.edit_commands.specs.Scripts.{CommandValue, RunCommand, EditCommand, S
 use Rattle.session.specs.ScriptRuns.{Added, both, nothing, poke, part_of, shown_after, DoesLine, DoesLines, RunsRounds, MixesEdit, MakesEdit, Scrambles, ShowsCore}
 use Rattle.session.specs.Shown.{Shown, ShowsValues, ShowsVerdict, verdict_in}
 use Rattle.script_laws.specs.Since.{place_after, rounds_from, rounds_since, last_verdict}
-use Rattle.session.proofs.EditsInLogs.{after_last, after_short, mixed_numbers, plain_both}
+use Rattle.firing_core.proofs.Mixed.{mixed_numbers}
+use Rattle.session.proofs.EditsInLogs.{after_last, after_short, plain_both}
 use Rattle.script_laws.proofs.AfterEdits.{after_plain, rounds_join}
 use Rattle.script_laws.proofs.PartRounds.{AllBegin, begin_later, begin_both, rounds_both, rounds_none, rounds_one}
 

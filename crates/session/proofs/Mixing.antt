@@ -15,7 +15,7 @@ use Rattle.firing_core.specs.Rounds.{HasEnd, HasRounds}
 use Rattle.firing_core.specs.Laws.{FaultlessStep, StepsKeepGood, RunsCut}
 use Rattle.firing_core.specs.Stretches.{begins, NoneFlies, IsMixed, MixStretch}
 use Rattle.round_count.specs.Laws.{RoundsFollow}
-use Rattle.session.proofs.EditsInLogs.{mixed_numbers}
+use Rattle.firing_core.proofs.Mixed.{mixed_numbers}
 use Rattle.session.proofs.Pokes.{is_itself}
 use Rattle.session.proofs.Sweeps.{Goes, goes_both, begins_both, sweep, sweeps, sweep_plain, sweep_out, sweep_in, sweeps_begin, sweeps_cover, swapped, begins_one, ends_one, fire_all, fire_rounds, settle_all}
 

@@ -20,7 +20,7 @@ use Rattle.report.specs.Verdicts.{verdict_text}
 use Rattle.session.specs.Laws.{OneScriptRun}
 use Rattle.session.specs.ScriptRuns.{Added, DoesLine, DoesLines, RunsRounds, MixesEdit, MakesEdit, Scrambles, ShowsCore, changes_devices, shown_after, poke}
 use Rattle.session.specs.Shown.{ShowsVerdict, shown_text, all_shown, verdict_in}
-use Rattle.session.proofs.EditsInLogs.{mixed_numbers}
+use Rattle.firing_core.proofs.Mixed.{mixed_numbers}
 use Rattle.session.proofs.SomeRuns.{leads}
 use Rattle.session.proofs.Pokes.{is_itself}
 

@@ -41,7 +41,7 @@ module _ (N : Network) (ds : List Device) (k : ℕ) (x : Device) (all : map devi
 
 module _ (U : Unfolding) (N : Network) (xs ys : List (Option Export)) (t : IsTable U N xs) (net : IsNetwork N) (same : N.declared ≡ U.declared) (k d : ℕ) (h : k < length N.devices) (at : get_or (numbers N.devices) k 0 ≡ d)
     (s : Snap) (ns : List (ℕ × ℕ)) (cleared : ys ≡ slice_set xs k None) (heard : ns ≡ near N d) (device : s.device ≡ d) (inputs : map local_of s.inputs.items ≡ inputs_in d N.devices)
-    (own : s.own ≡ get_or xs k None) (empty : s.near.items ≡ []) where
+    (own : s.own ≡ get_or xs k None) (empty : s.near.value.items ≡ []) where
   all_is : all_heard N ys ns s ≡ heard_from (numbers N.devices) xs (near N d)
   all_is =
       ap (λ ms. ms ++ heard_from (numbers N.devices) ys ns) empty

@@ -1,5 +1,5 @@
 -- Firings of devices one after another, and the values of their exports.
-use Rattle.std.proofs.Common.{◌≡◌, ℕ, zero, suc, ◌+◌, ◌<◌, ◌≤◌, List, [], ◌∷◌, ◌++◌, length, map, get_or, take, refl, ap, arith, Option, Some, None}
+use Rattle.std.proofs.Common.{◌≡◌, ℕ, zero, suc, ◌<◌, ◌≤◌, List, [], ◌∷◌, ◌++◌, length, map, get_or, take, refl, ap, arith, Option, Some, None}
 use Rattle.fc_values.specs.declared.exports.Export.{Export}
 use Rattle.fc_values.specs.Values.{LocalValue}
 use Rattle.fc_values.specs.Fields.{devices}

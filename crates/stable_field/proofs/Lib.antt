@@ -1,6 +1,7 @@
 mod Slots
 mod Hearing
 mod Levels
+pub mod OneField
 mod Gathering
 mod Firings
 mod Beginning

@@ -57,7 +57,7 @@ heard_from is xs (n ∷ ns) = heard_with n (slot_at is xs n.0) (heard_from is xs
 
 -- the neighbours of a copy with those that it still hears
 abbrev pub all_heard : Network → List (Option Export) → List (ℕ × ℕ) → Snap → List Near
-all_heard N xs ns s = s.near.items ++ heard_from (numbers N.devices) xs ns
+all_heard N xs ns s = s.near.value.items ++ heard_from (numbers N.devices) xs ns
 
 -- a copy with other neighbours
 abbrev pub copy_with : Unfolding → Snap → List Near → Copy

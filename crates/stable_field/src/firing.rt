@@ -2,6 +2,7 @@
 
 ghost use Rattle.std.specs.Prelude.{◌≡◌, ◌<◌, List, [], ◌∷◌, ◌++◌, IfOk, OnOk, IfSome, IfNone, Some, None};
 ghost use Rattle.std.specs.Prelude.{length, slice_index, slice_index_or as get_or, slice_set};
+ghost use Rattle.std.specs.Box.{with_value};
 ghost use Rattle.value_trees.specs.declared.copies.Near.{Near};
 ghost use Rattle.fc_nodes.specs.Program.{unfolding_of};
 ghost use Rattle.topology.specs.Networks.{numbers};
@@ -40,15 +41,16 @@ pub fn fired(
     faultless_steps();
     let device = &net.devices()[place];
     let inputs = copy_locals(alloc, &device.inputs)?;
+    let near = Box::new(alloc, ArrayVec::new_in(alloc))?;
     let own = table[place].take();
     let neighbours = net.neighbours(device.id);
     let mut snap = Snap {
         device: device.id,
         inputs,
         own,
-        near: ArrayVec::new_in(alloc),
+        near,
     };
-    let export = hear(alloc, program, net, neighbours.as_slice(), table, &mut snap)?;
+    let export = hear(alloc, program, net, neighbours, table, &mut snap)?;
     table[place] = snap.own.take();
     Ok(export)
 }
@@ -102,8 +104,10 @@ fn taken(net: &Network, table: &mut Slots, device: u32) -> Option<(usize, Export
 
 // Takes the export of the last neighbour out of a copy.
 fn given_back(snap: &mut Snap) -> Option<Export>
-    ensures export { (ns : List Near) (x : Near) → snap.old.near.items ≡ ns ++ x ∷ [] → result ≡ Some x.export }
-    ensures near { (ns : List Near) (x : Near) → snap.old.near.items ≡ ns ++ x ∷ [] → snap.new.near.items ≡ ns }
+    ensures export { (ns : List Near) (x : Near) → snap.old.near.value.items ≡ ns ++ x ∷ [] → result ≡ Some x.export }
+    ensures near { (ns : List Near) (x : Near)
+        → snap.old.near.value.items ≡ ns ++ x ∷ [] → snap.new.near.value.items ≡ ns }
+    ensures room { snap.new.near ≡ with_value snap.old.near snap.new.near.value }
     ensures device { snap.new.device ≡ snap.old.device }
     ensures inputs { snap.new.inputs ≡ snap.old.inputs }
     ensures own { snap.new.own ≡ snap.old.own }

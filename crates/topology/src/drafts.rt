@@ -3,7 +3,7 @@
 use crate::copies::{copy_devices, copy_nearby, links_of, no_nearby};
 use crate::edits::{drop_from_each, put_input};
 use crate::inputs::{in_metric, inputs_fault, nth_fault};
-use crate::nearby::{Nearby, copy_near, drop_near, is_near, put_near};
+use crate::nearby::{Nearby, drop_near, is_near, put_near};
 use crate::networks::Network;
 use crate::places::{place, room_for_device};
 use crate::types::{Device, GREATEST_NUMBER, MOST_DEVICES, NetFault};
@@ -100,15 +100,15 @@ impl Draft {
     }
 
     /// The numbers of the devices that are linked to a device, rising, with the weights of the links.
-    pub(crate) fn neighbours(&self, device: u32) -> ArrayVec<(u32, u32), MOST_LINKS>
-        ensures value { result.items ≡ near_of self.now device }
-        ensures rising { Rises (near_numbers result.items) }
-        ensures none { lives self.now device ≡ false → result.items ≡ [] }
+    pub(crate) fn neighbours(&self, device: u32) -> &[(u32, u32)]
+        ensures value { result.now ≡ near_of self.now device }
+        ensures rising { Rises (near_numbers result.now) }
+        ensures none { lives self.now device ≡ false → result.now ≡ [] }
         ensures network { IsNetwork self.now }
     {
         match self.place(device) {
-            Some(at) => copy_near(&self.near[at]),
-            None => ArrayVec::new(),
+            Some(at) => self.near[at].as_slice(),
+            None => &[],
         }
     }
 

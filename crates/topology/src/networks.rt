@@ -6,7 +6,6 @@ use crate::edits::{drop_link, drop_links, make_room, put_link};
 use crate::makes::{first_misfit, first_twice, in_order};
 use crate::places::room_for_device;
 use crate::types::{Device, GREATEST_NUMBER, JoinFault, Link, MOST_DEVICES, MakeFault, NetFault};
-use arrayvec::ArrayVec;
 use fc_values::{Declared, Local, MOST_LINKS, Memory};
 use std::alloc::Global;
 use std::marker::Model;
@@ -141,10 +140,10 @@ impl Network {
     }
 
     /// The numbers of the devices that are linked to a device, rising, with the weights of the links.
-    pub fn neighbours(&self, device: u32) -> ArrayVec<(u32, u32), MOST_LINKS>
-        ensures value { result.items ≡ near_of self.now device }
-        ensures rising { Rises (near_numbers result.items) }
-        ensures none { lives self.now device ≡ false → result.items ≡ [] }
+    pub fn neighbours(&self, device: u32) -> &[(u32, u32)]
+        ensures value { result.now ≡ near_of self.now device }
+        ensures rising { Rises (near_numbers result.now) }
+        ensures none { lives self.now device ≡ false → result.now ≡ [] }
         ensures network { IsNetwork self.now }
     {
         self.draft.neighbours(device)

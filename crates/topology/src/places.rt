@@ -18,7 +18,7 @@ pub(crate) fn room_for_device(devices: &[Device], id: u32) -> usize
     devices.partition_point(|one| one.id < id)
 }
 
-/// The place of a device.
+/// The place of a device. Numbers that count from 0 stand at their own places, where no search is needed.
 pub(crate) fn place(devices: &[Device], id: u32) -> Option<usize>
     requires { Rises (numbers (map device_of devices.now)) }
     ensures there { IfSome result (λ i. slice_index (numbers (map device_of devices.now)) i ≡ id) }
@@ -26,6 +26,10 @@ pub(crate) fn place(devices: &[Device], id: u32) -> Option<usize>
     ensures is_in { IfSome result (λ i. is_in id (numbers (map device_of devices.now)) ≡ true) }
     ensures none { IfNone result (is_in id (numbers (map device_of devices.now)) ≡ false) }
 {
+    let own = id as usize;
+    if own < devices.len() && devices[own].id == id {
+        return Some(own);
+    }
     let at = room_for_device(devices, id);
     if at < devices.len() && devices[at].id == id {
         Some(at)

@@ -94,7 +94,7 @@ fn links_come_and_go(rt: HostRuntime) -> Result<(), Fail> {
         }]
         .as_slice()
     );
-    assert_eq!(rt; network.neighbours(3).as_slice(), [(1, 3)].as_slice());
+    assert_eq!(rt; network.neighbours(3), [(1, 3)].as_slice());
     assert_eq!(rt; network.neighbours(7).len(), 0);
     assert_eq!(rt; network.unlink(7, 1), Err(NetFault::NoDevice));
     assert_eq!(rt; network.unlink(3, 1), Ok(()));

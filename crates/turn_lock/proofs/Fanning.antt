@@ -1,5 +1,5 @@
 -- What notes add, and what passes that were split off bring back.
-use Rattle.std.proofs.Common.{◌≡◌, ℕ, ◌+◌, ◌<◌, ◌≤◌, List, [], ◌∷◌, ◌++◌, map, drop, replicate, length, refl, ap, sym, subst, ◌∙◌, inl, inr, ◌⊎◌, ◌≢◌, arith, Bool, true, false, cond, ltb, eqb, eq-eqb, ⊎_elim}
+use Rattle.std.proofs.Common.{◌≡◌, ℕ, ◌+◌, ◌<◌, ◌≤◌, List, [], ◌∷◌, ◌++◌, map, drop, replicate, length, refl, ap, sym, subst, ◌∙◌, inl, inr, ◌⊎◌, arith, Bool, true, false, cond, ltb, ⊎_elim}
 use Rattle.std.proofs.lemmas.List.{append_assoc}
 use Rattle.std.proofs.Common.{length-append}
 use Rattle.turn_lock.specs.Logs.{In, StartsWith, merged, put_in, without, last_of}

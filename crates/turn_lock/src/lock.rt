@@ -164,6 +164,17 @@ impl<T: Logged> TurnLock<T> {
         answer
     }
 
+    // Looks until nobody seems to have a ticket. In a queue of many, each turn waits for a thread that may not run.
+    fn await_rest<W: Wait>(&self, rt: &W) {
+        let shared = &self.table.shared;
+        for _ in rt.forever() {
+            if shared.peek(0) == shared.peek(1) {
+                return;
+            }
+            thread::yield_now();
+        }
+    }
+
     // Draws a ticket, and waits until it is served.
     fn enter<W: Wait>(&self, rt: &W, seat: &mut Seat<Option<T>, SeatView<T::Entry>>)
         requires own { seat.old.table_id ≡ self.now }
@@ -173,6 +184,7 @@ impl<T: Logged> TurnLock<T> {
         ensures entered { Entered T.list T.answers seat.old.me.0 seat.new.me }
     {
         let shared = &self.table.shared;
+        self.await_rest(rt);
         let ticket = shared.fetch_add::<Draw>(seat, 0, 1);
         for _ in rt.forever() {
             if shared.load::<Look<T>>(seat, 1) == ticket {

@@ -5,7 +5,7 @@ use Rattle.std.proofs.Math.Seq.{get_or-append_seam, drop-cons}
 use Rattle.std.proofs.lemmas.List.{length-append, length-map, map-append}
 use Rattle.std.specs.Prelude.{if◌then◌else◌}
 use Rattle.fc_values.specs.Types.{LocalType, ValueType, BoolType}
-use Rattle.fc_values.specs.Values.{LocalValue, IntValue, BoolValue, PairValue, Fits}
+use Rattle.fc_values.specs.Values.{LocalValue}
 use Rattle.fc_values.specs.BuiltinTypes.{inner}
 use Rattle.fc_values.specs.declared.exports.Slot.{Slot}
 use Rattle.fc_values.specs.Exports.{SlotValue, FlatExport, slot_of, slots_of, slot_at}
@@ -21,7 +21,7 @@ use Rattle.fc_nodes.specs.Places.{StandsAt, StandAfter}
 use Rattle.value_trees.specs.KeptLists.{if_kept, kept_only, kept_values}
 use Rattle.value_trees.proofs.WalkSteps.{kids_walked, term_is, if_walked}
 use Rattle.value_trees.specs.KeptReads.{misfit_of}
-use Rattle.value_trees.specs.KeptItems.{KeptItem, names_place, Taken, Took, Misfit, MayStand, take_value, take_main, misfit_by, misfit_among, plain_item, values}
+use Rattle.value_trees.specs.KeptItems.{KeptItem, Taken, Took, Misfit, MayStand, take_main, misfit_by, misfit_among, plain_item, values}
 use Rattle.value_trees.specs.Leavings.{Leaving, Leaves, Misses, leaving, and_leaving, leaves_by, leaves_by_all}
 use Rattle.value_trees.specs.declared.reading.KeptFault.{KeptFault}
 use Rattle.value_trees.specs.declared.reading.KeptFault.TheVariants as fault

@@ -6,12 +6,11 @@ use Rattle.fc_values.specs.Values.{LocalValue, IntValue, BoolValue, PairValue, f
 use Rattle.fc_values.specs.BuiltinTypes.{inner}
 use Rattle.fc_values.specs.Exports.{SlotValue, FlatExport, slot_at}
 use Rattle.fc_nodes.specs.Terms.{Term, Terms, Plain, Apply, Nbr, Evolve, If, Let, NoMore, More, size, kept, kept_all, type_of}
-use Rattle.fc_nodes.specs.Program.{Unfolding}
 use Rattle.value_trees.specs.SlotFits.{SlotFits, SlotsFit, AllSlotsFit, truth_in}
 use Rattle.value_trees.specs.KeptLists.{kept_only}
 use Rattle.value_trees.specs.KeptReads.{has_type}
-use Rattle.value_trees.specs.KeptItems.{KeptItem, names_place, Taken, Took, Misfit, take_value, take_main, misfit_by, plain_item, values}
-use Rattle.value_trees.specs.Leavings.{Leaving, Leaves, Misses, leaving, and_leaving, leaves_by, leaves_by_all}
+use Rattle.value_trees.specs.KeptItems.{KeptItem, names_place, Taken, Took, Misfit, take_main, misfit_by, plain_item, values}
+use Rattle.value_trees.specs.Leavings.{Leaving, Leaves, Misses, leaving, and_leaving, leaves_by_all}
 use Rattle.value_trees.specs.KeptExports.{Keeps, ListsHaveExports}
 use Rattle.value_trees.specs.Filling.{left_at, own_at, Fills, IsHead, IsFirst}
 use Rattle.fc_values.specs.Trees.{Tree}

@@ -1,7 +1,6 @@
 -- Exports that are shaped for one program have one shape.
 use Rattle.std.proofs.Common.{◌≡◌, ℕ, zero, suc, ◌≤◌, List, [], ◌∷◌, length, take, drop, refl, sym, ◌∙◌, ap, arith}
 use Rattle.fc_values.specs.Types.{LocalType}
-use Rattle.fc_values.specs.Values.{LocalValue, IntValue, BoolValue, PairValue, SameForm, form_of}
 use Rattle.fc_values.specs.declared.exports.Slot.{Slot}
 use Rattle.fc_values.specs.Exports.{SlotValue, FlatExport, slot_of, slots_of}
 use Rattle.fc_nodes.specs.Program.{Unfolding}

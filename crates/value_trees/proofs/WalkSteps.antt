@@ -1,5 +1,5 @@
 -- Crates above cite this module: the steps of a walk over slots.
-use Rattle.std.proofs.Common.{◌≡◌, ℕ, zero, suc, ◌<◌, ◌≤◌, ◌+◌, List, [], ◌∷◌, length, refl, sym, ◌∙◌, ap, subst, arith, Bool, true, false, not, ◌&&◌, Option, Some, None, get_or}
+use Rattle.std.proofs.Common.{◌≡◌, ℕ, suc, ◌<◌, ◌+◌, List, length, sym, ◌∙◌, ap, subst, arith, Bool, true, false, not, ◌&&◌, Option, Some, None, get_or}
 use Rattle.std.proofs.lemmas.List.{length-map}
 use Rattle.std.proofs.lemmas.Bool.Decides.{nat_tests}
 use Rattle.fc_values.specs.declared.exports.Slot.{Slot}
@@ -8,11 +8,11 @@ use Rattle.fc_values.specs.Values.{LocalValue, Fits}
 use Rattle.fc_values.specs.BuiltinTypes.{inner}
 use Rattle.fc_values.specs.Exports.{SlotValue, FlatExport, slot_of, slots_of, slot_at}
 use Rattle.fc_nodes.specs.declared.nodes.Node.{Node}
-use Rattle.fc_nodes.specs.Terms.{Term, Plain, Apply, Nbr, Evolve, If, Let, type_of, kept, kept_all, Sort, OfLeaf, OfApply, OfNbr, OfEvolve, OfIf, OfLet, kept_type, term_at, terms_by, HasNode, Laid, is_branching}
+use Rattle.fc_nodes.specs.Terms.{Term, Plain, Apply, Nbr, Evolve, If, Let, type_of, kept, kept_all, Sort, kept_type, term_at, terms_by, HasNode, Laid, is_branching}
 use Rattle.fc_nodes.specs.Flat.{IsExport}
 use Rattle.fc_nodes.specs.Program.{Program, Unfolding, unfolding_of, IsProgram}
 use Rattle.fc_nodes.proofs.Places.{AllAbove, laid_within}
-use Rattle.fc_nodes.proofs.Kids.{ThreeKids, if_laid, kids_of, KidsAre, kids_are, own_type, branches, own_is, branches_is, three}
+use Rattle.fc_nodes.proofs.Kids.{kids_of, KidsAre, kids_are, own_type, branches, own_is, branches_is, three}
 use Rattle.value_trees.specs.SlotFits.{ValueSlotFits, SlotFits, SlotsFit, AllSlotsFit, OwnSlotFits, after_own, truth_in, WalkIs}
 use Rattle.value_trees.specs.Walks.{FitsMain, ends_at}
 use Rattle.fc_nodes.specs.Places.{StandsAt}

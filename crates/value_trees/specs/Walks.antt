@@ -7,7 +7,7 @@ use Rattle.fc_values.specs.BuiltinTypes.{inner}
 use Rattle.fc_values.specs.Exports.{slots_of}
 use Rattle.fc_nodes.specs.Terms.{type_of, term_at, terms_by, kept, kept_all}
 use Rattle.fc_nodes.specs.Program.{Program, Unfolding}
-use Rattle.value_trees.specs.SlotFits.{SlotFits, SlotsFit, AllSlotsFit, OwnSlotFits, after_own, WalkIs}
+use Rattle.value_trees.specs.SlotFits.{SlotsFit, AllSlotsFit, OwnSlotFits, after_own, WalkIs}
 
 -- a value that fits the type of `main`
 abbrev pub FitsMain : Unfolding → LocalValue → Type 0

@@ -33,5 +33,5 @@ pub struct Snap {
     pub device: u32,
     pub inputs: Vec<Local>,
     pub own: Option<Export>,
-    pub near: ArrayVec<Near, MOST_LINKS, Global>,
+    pub near: Box<ArrayVec<Near, MOST_LINKS, Global>>,
 }

@@ -39,7 +39,8 @@ use Rattle.walk_form.proofs.Gradients.{Gradient, gradient_is}
 use Rattle.walk_form.proofs.Under.{rests_first, shows_under}
 use Rattle.walk_form.proofs.Judging.{body_shows}
 use Rattle.walk_form.proofs.Parts.{Part, local_placed, step_placed, local_part, summand_part, step_part, whole_types}
-use Rattle.walk_form.proofs.Fielding.{solved_integers, one_field, lies, rests_on, entries, same_entries, heads, field_at, firsts_are, member_is, has_member}
+use Rattle.stable_field.proofs.OneField.{same_entries}
+use Rattle.walk_form.proofs.Fielding.{solved_integers, one_field, lies, rests_on, entries, heads, field_at, firsts_are, member_is, has_member}
 use Rattle.walk_form.proofs.Equation.{Gives, over_gives, heard_gives, Hood, sum_hood, Settled, settled}
 
 -- what is known of a network's neighbours

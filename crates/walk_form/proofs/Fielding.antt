@@ -1,5 +1,5 @@
 -- Crates above cite this module: the one field of a term of the walk form, and its integers.
-use Rattle.std.proofs.Common.{◌≡◌, inl, inr, ℕ, suc, ◌≤◌, ◌+◌, ◌-◌, List, [], ◌∷◌, map, refl, sym, ◌∙◌, ap, ap₂, subst, arith, Bool, true, false, ◌||◌, Some, None, nat_eq}
+use Rattle.std.proofs.Common.{◌≡◌, inl, inr, ℕ, suc, ◌≤◌, ◌+◌, List, [], ◌∷◌, map, refl, sym, ◌∙◌, ap, ap₂, subst, arith, Bool, true, false, ◌||◌, Some, None, nat_eq}
 use Rattle.std.specs.Prelude.{if◌then◌else◌}
 use Rattle.std.specs.List.{Contains}
 use Rattle.std.proofs.lemmas.Bool.{eqb-true, eq-eqb}
@@ -23,6 +23,7 @@ use Rattle.converge_laws.specs.Laws.{SolutionsAreOne}
 use Rattle.converge_laws.specs.Stabilising.{HasOneSolution}
 use Rattle.converge_laws.proofs.Agreement.{AgreeFor}
 use Rattle.converge_laws.proofs.Existing.{solves_vars}
+use Rattle.stable_field.proofs.OneField.{same_entries}
 use Rattle.stable_field.specs.Stable.{IsStableField}
 use Rattle.walks.proofs.Settling.{contains_first, contains_here, contains_later}
 use Rattle.walk_form.specs.Alone.{alone_term}
@@ -158,10 +159,6 @@ further n d ns e = by_test (nat_eq d n)
 
 abbrev pub entries : (ℕ → LocalValue) → List ℕ → Entries
 entries f ns = map {B = ℕ × LocalValue} (λ d. (d, f d)) ns
-
-pub same_entries : (f g : ℕ → LocalValue) (ns : List ℕ) → ((d : ℕ) → is_in d ns ≡ true → f d ≡ g d) → entries f ns ≡ entries g ns
-same_entries f g [] h = refl
-same_entries f g (n ∷ ns) h = ap₂ {A = LocalValue} {B = Entries} (λ v es. (n, v) ∷ es) (h n (here n ns)) (same_entries f g ns (λ d k. h d (further n d ns k)))
 
 are_integers : (f : ℕ → LocalValue) (ns : List ℕ) → ((d : ℕ) → is_in d ns ≡ true → f d ≡ IntValue (integer_in (f d))) → map as_integer (integers_in (entries f ns)) ≡ entries f ns
 are_integers f [] h = refl

@@ -1,5 +1,5 @@
 -- The costs of walks that a program of the walk form has on a network, and why there are none.
-use Rattle.std.specs.Prelude.{ℕ, ◌≡◌, List, length, Some, None}
+use Rattle.std.specs.Prelude.{ℕ, ◌≡◌, List, Some, None}
 use Rattle.fc_nodes.specs.declared.verdicts.Reason.{Reason}
 use Rattle.fc_nodes.specs.declared.verdicts.Verdict.TheVariants as verdict
 use Rattle.fc_nodes.specs.Program.{Program, Unfolding, unfolding_of}

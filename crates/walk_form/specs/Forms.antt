@@ -2,7 +2,7 @@
 -- is `nbr{x} + s` or `s + nbr{x}` for its variable x. Then s is local or `nbrLink`.
 use Rattle.std.specs.Prelude.{ℕ, suc, Bool, true, false, ◌+◌, if◌then◌else◌, Option, Some, None}
 use Rattle.std.specs.declared.result.Result.{Result}
-use Rattle.std.specs.declared.result.Result.TheVariants.{Ok, Err}
+use Rattle.std.specs.declared.result.Result.TheVariants.{Ok}
 use Rattle.fc_values.specs.declared.builtins.Builtin.TheVariants as op
 use Rattle.fc_values.specs.Types.{IntType, ValueType, TypeLocal, TypeField}
 use Rattle.fc_nodes.specs.declared.verdicts.Reason.{Reason}

@@ -59,8 +59,7 @@ fn push_steps(steps: &mut Vec<Step>, net: &Network, device: u32, add: &Add) -> R
     ensures { OnOk result (steps.new.items
         ≡ steps.old.items ++ map (step_to (added_of add.now) device) (near net.now device)) }
 {
-    let neighbours = net.neighbours(device);
-    for one in neighbours.as_slice() {
+    for one in net.neighbours(device) {
         steps.push(Step {
             from: device,
             to: one.0,

@@ -1,5 +1,7 @@
 mod Parts
 mod Passes
+mod Keeping
+mod RoomsCross
 mod Turns
 mod Closing
 mod Flights

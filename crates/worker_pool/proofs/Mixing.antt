@@ -28,7 +28,7 @@ use Rattle.worker_pool.specs.Working.{FiredOn}
 use Rattle.worker_pool.specs.Rounding.{AtMostOnce}
 use Rattle.worker_pool.specs.Mixing.{EditedThenEnded, MixedTogether}
 use Rattle.firing_core.proofs.Cuts.{plain_net}
-use Rattle.topology.proofs.Lemmas.{put_numbers}
+use Rattle.firing_core.proofs.Mixed.{mixed_numbers}
 use Rattle.worker_pool.proofs.Parts.{run_cut, end_front}
 use Rattle.worker_pool.proofs.Passes.{starts_trans}
 use Rattle.worker_pool.proofs.Closing.{closed_run, plain_entries, none_joins, since_none, live_number}
@@ -122,14 +122,6 @@ join_append d (x ∷ xs) ys p q = let k = or_no (is_join d x) (has_join d xs) p 
 
 mixed_none : (d first : ℕ) (among after : List EntryValue) (e : EditValue) → IsMixed e → has_edit among ≡ false → has_edit after ≡ false → has_join d (BeginEntry first ∷ among ++ EditEntry e ∷ after) ≡ false
 mixed_none d first among after e m p q = join_append d among (EditEntry e ∷ after) (none_joins d among p) (rw (mixed_joins d e m) (none_joins d after q))
-
-mixed_numbers : (U : Unfolding) (c : Core) (e : EditValue) → IsMixed e → numbers (edited U c e).net.devices ≡ numbers c.net.devices
-mixed_numbers U c (LinkEdit a b w) m = refl
-mixed_numbers U c (UnlinkEdit a b) m = refl
-mixed_numbers U c (SetEdit d i v) m = put_numbers d i v c.net.devices
-mixed_numbers U c (PokeEdit d x) m = refl
-mixed_numbers U c (JoinEdit x) m = absurd m
-mixed_numbers U c (LeaveEdit d) m = absurd m
 
 same_numbers : (U : Unfolding) (c last : Core) (first : ℕ) (among after : List EntryValue) (e : EditValue) → IsMixed e → has_edit among ≡ false → has_edit after ≡ false
     → Run U c (BeginEntry first ∷ among ++ EditEntry e ∷ after) last → numbers last.net.devices ≡ numbers c.net.devices

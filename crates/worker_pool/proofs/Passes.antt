@@ -1,5 +1,5 @@
 -- What a worker does to its pass, turn after turn, and two workers.
-use Rattle.std.proofs.Common.{◌≡◌, ℕ, ◌+◌, ◌*◌, ◌-◌, ◌/◌, ◌≤◌, List, [], ◌∷◌, ◌++◌, length, sym, ap, ◌∙◌, subst, arith, inl, inr, ◌⊎◌, ⊎_elim, false}
+use Rattle.std.proofs.Common.{◌≡◌, ℕ, ◌+◌, ◌*◌, ◌-◌, ◌/◌, ◌<◌, ◌≤◌, List, [], ◌∷◌, ◌++◌, length, sym, ap, ◌∙◌, subst, arith, inl, inr, ◌⊎◌, ⊎_elim, false}
 use Rattle.std.proofs.Math.Nat.{add-mul, mul-le-mul_right}
 use Rattle.std.proofs.lemmas.List.{append_assoc}
 use Rattle.firing_core.specs.Entries.{EntryValue}
@@ -56,11 +56,30 @@ comes_back v w1 w2 b name out other = (v.made, other.name ∙ ap (λ l. l ++ v.m
 
 -- ---- shares
 
-pub shares : (w h s : ℕ) → h ≤ w → (w - h) * s + h * s ≡ w * s
+shares : (w h s : ℕ) → h ≤ w → (w - h) * s + h * s ≡ w * s
 shares w h s l = sym (add-mul (w - h) h s) ∙ ap (λ k. k * s) (omega (arith, l))
 
 pub share_of_half : (w s : ℕ) → w / 2 * s ≤ w * s
 share_of_half w s = let l : w / 2 ≤ w = omega arith in mul-le-mul_right s l
 
-pub share_of_rest : (w s : ℕ) → (w - w / 2) * s ≤ w * s
+share_of_rest : (w s : ℕ) → (w - w / 2) * s ≤ w * s
 share_of_rest w s = let l : w - w / 2 ≤ w = omega arith in mul-le-mul_right s l
+
+-- what is left of a pass is enough for the workers that are left
+pub first_fits : (w n s left kept : ℕ) → 0 < w → n + w / 2 ≡ w → w * s ≤ left → kept ≡ left - w / 2 * s → (0 < n) × (n * s ≤ kept)
+first_fits w n s left kept some cut fits is =
+    let same : n * s ≡ (w - w / 2) * s = ap (λ k. k * s) (omega (arith, cut)) in
+    let sum = shares w (w / 2) s (omega arith) in
+    (omega (arith, some, cut), omega (arith, fits, is, same, sum))
+
+pub few_of_rest : (w n s : ℕ) → n + w / 2 ≡ w → w * s ≤ 32768 → n * s ≤ 32768
+few_of_rest w n s cut few =
+    let same : n * s ≡ (w - w / 2) * s = ap (λ k. k * s) (omega (arith, cut)) in
+    let l = share_of_rest w s in
+    omega (arith, few, same, l)
+
+pub few_of_half : (w n s : ℕ) → n ≡ w / 2 → w * s ≤ 32768 → n * s ≤ 32768
+few_of_half w n s cut few =
+    let same : n * s ≡ w / 2 * s = ap (λ k. k * s) cut in
+    let l = share_of_half w s in
+    omega (arith, few, same, l)

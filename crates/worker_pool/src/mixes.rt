@@ -1,6 +1,6 @@
 //! An edit among the firings of a round, and rounds after it.
 
-ghost use Rattle.std.specs.Prelude.{◌≡◌, ◌≤◌, IfOk, IfErr, OnOk, None};
+ghost use Rattle.std.specs.Prelude.{◌≡◌, ◌≤◌, IfOk, IfErr, OnOk, None, length};
 ghost use Rattle.fc_nodes.specs.Program.{unfolding_of};
 ghost use Rattle.firing_core.specs.Entries.{edit_of};
 ghost use Rattle.firing_core.specs.Cores.{EditFits, edit_fault};
@@ -9,10 +9,11 @@ ghost use Rattle.firing_core.specs.Stretches.{IsMixed, NoneFlies, MixedEdit, Gre
 ghost use Rattle.export_table.specs.Passing.{IsPassOf, on_log};
 ghost use Rattle.export_table.specs.Turns.{CanEnd};
 ghost use Rattle.worker_pool.specs.Mixing.{WentOn, EditedThenEnded, MixedTogether};
+ghost use Rattle.worker_pool.specs.Working.{AreRooms};
 
 use crate::fan::fan;
 use crate::plans::plan_of;
-use crate::rounds::run_rounds;
+use crate::rounds::{no_rooms, run_in};
 use crate::shorts::complete;
 use device_eval::fire;
 use export_table::{Firing, Gate, Held, Shared};
@@ -43,13 +44,17 @@ pub fn run_mixed<R: Threads + Wait + Sync, G: Gate + Sync>(
     ensures grew { IfErr result (λ e. GrewFrom book e.0) }
 {
     let mut book = book;
+    let mut rooms = match no_rooms(alloc, workers) {
+        Ok(rooms) => rooms,
+        Err(memory) => return Err((book, memory)),
+    };
     if let Err(memory) = book.settle(alloc) {
         return Err((book, memory));
     }
     let front = book.log().len();
-    let mut book = mix_together(rt, alloc, book, edit, workers, gate)?;
+    let mut book = mix_together(rt, alloc, book, edit, &mut rooms, gate)?;
     match complete(alloc, &mut book, front) {
-        Ok(()) => run_rounds(rt, alloc, book, rounds, workers, gate),
+        Ok(()) => run_in(rt, alloc, book, rounds, &mut rooms, gate),
         Err(memory) => Err((book, memory)),
     }
 }
@@ -60,15 +65,18 @@ fn mix_together<R: Threads + Wait + Sync, G: Gate + Sync>(
     alloc: Global,
     book: Book,
     edit: Edit,
-    workers: u32,
+    rooms: &mut [Option<Room>],
     gate: &G,
 ) -> Result<Book, (Book, Memory)>
-    requires workers { (1 ≤ workers) × (workers ≤ 16) }
+    requires workers { (1 ≤ length rooms.old) × (length rooms.old ≤ 16) }
+    requires rooms { AreRooms (unfolding_of book.program) rooms.old }
     requires rests { NoneFlies (core_of book.core) }
     requires mixed { IsMixed (edit_of edit) }
     requires fits { EditFits (unfolding_of book.program) (edit_of edit) }
     ensures mixed { IfOk result (MixedTogether book (edit_of edit)) }
     ensures grew { IfErr result (λ e. GrewFrom book e.0) }
+    ensures rooms { AreRooms (unfolding_of book.program) rooms.new }
+    ensures many { length rooms.new ≡ length rooms.old }
 {
     logs_decide();
     let program = match book.program().clone() {
@@ -78,22 +86,16 @@ fn mix_together<R: Threads + Wait + Sync, G: Gate + Sync>(
     let Ok(room) = Room::new(alloc, &program) else {
         return Err((book, Memory));
     };
-    let plan = plan_of(&book, workers);
-    let given = plan.workers * plan.share;
+    let plan = plan_of(&book, rooms.len());
+    let given = plan.workers as u64 * plan.share;
     let (shared, mut pass) = Shared::over(alloc, book, 1, given + 3)?;
     let Ok(firing) = shared.next(rt, &mut pass, room) else {
         unreachable!()
     };
     let mut other = shared.split(&mut pass, given);
+    let (busy, _) = rooms.split_at_mut(plan.workers);
     fan(
-        rt,
-        alloc,
-        &shared,
-        &program,
-        &mut other,
-        plan.workers,
-        plan.share,
-        gate,
+        rt, alloc, &shared, &program, &mut other, busy, plan.share, gate,
     );
     let mixed = edit_then_end(rt, alloc, &shared, &program, &mut pass, firing, edit);
     shared.join(&mut pass, other);

@@ -9,21 +9,22 @@ use firing_core::Book;
 /// As many workers, at most one a device, and for each of them turns for all firings of one round.
 #[derive(Drop)]
 pub(crate) struct Plan {
-    pub(crate) workers: u64,
+    pub(crate) workers: usize,
     pub(crate) share: u64,
 }
 
 /// The plan for a round of a book.
-pub(crate) fn plan_of(book: &Book, workers: u32) -> Plan
+pub(crate) fn plan_of(book: &Book, workers: usize) -> Plan
     requires workers { (1 ≤ workers) × (workers ≤ 16) }
     ensures some { 0 < result.workers }
+    ensures most { result.workers ≤ workers }
     ensures few { result.workers * result.share ≤ 32768 }
     ensures network { IsNetwork book.now.core.net }
     ensures book { IsBook book.now }
 {
-    let devices = book.core().net().devices().len() as u64;
+    let devices = book.core().net().devices().len();
     Plan {
-        workers: (workers as u64).min(devices),
-        share: 2 * devices,
+        workers: workers.min(devices),
+        share: 2 * devices as u64,
     }
 }

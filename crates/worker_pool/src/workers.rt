@@ -1,6 +1,6 @@
-//! What a worker does: it fires with a room of its own, until its turns end or nothing may begin.
+//! What a worker does: it fires in a room of its own, until its turns end or nothing may begin.
 
-ghost use Rattle.std.specs.Prelude.{◌≡◌, ◌<◌, ◌≤◌, IfSome};
+ghost use Rattle.std.specs.Prelude.{◌≡◌, ◌<◌, ◌≤◌, IfOk, IfErr, IfSome};
 ghost use Rattle.fc_nodes.specs.Program.{unfolding_of};
 ghost use Rattle.firing_core.specs.Rooms.{IsRoom};
 ghost use Rattle.export_table.specs.Passing.{IsPassOf, on_log};
@@ -14,6 +14,17 @@ use firing_core::Room;
 use std::alloc::Global;
 use std::sync::{Arc, Wait};
 use turn_lock::Pass;
+
+// The room that was kept, or a new one.
+fn room_of(alloc: Global, program: &Arc<Unfolded>, kept: Option<Room>) -> Option<Room>
+    requires { IfSome kept (IsRoom (unfolding_of program.now.value)) }
+    ensures { IfSome result (IsRoom (unfolding_of program.now.value)) }
+{
+    match kept {
+        Some(room) => Some(room),
+        None => Room::new(alloc, program).ok(),
+    }
+}
 
 // Evaluates what was begun, and ends it. Without memory the copy is dropped, and its device stays in flight.
 fn finish<W: Wait, G: Gate>(
@@ -42,7 +53,8 @@ fn finish<W: Wait, G: Gate>(
     }
 }
 
-// One firing, with the room that comes back of it. None comes back where nothing may begin, or for want of memory.
+// One firing, with the room that comes back of it. An error says that nothing may begin, and gives the room back, or
+// that memory is wanting.
 fn fire_next<W: Wait, G: Gate>(
     rt: &W,
     alloc: Global,
@@ -51,43 +63,50 @@ fn fire_next<W: Wait, G: Gate>(
     pass: &mut Pass<Held>,
     room: Room,
     gate: &G,
-) -> Option<Room>
+) -> Result<Room, Option<Room>>
     requires own { IsPassOf shared.now pass.old }
     requires some { 2 ≤ pass.old.left }
     requires program { program.now.value ≡ shared.now.opening.program }
     requires room { IsRoom (unfolding_of shared.now.opening.program) room }
     ensures own { IsPassOf shared.now pass.new }
     ensures fired { FiredOn (on_log pass.old) (on_log pass.new) }
-    ensures room { IfSome result (IsRoom (unfolding_of shared.now.opening.program)) }
+    ensures room { IfOk result (IsRoom (unfolding_of shared.now.opening.program)) }
+    ensures kept { IfErr result (λ k. IfSome k (IsRoom (unfolding_of shared.now.opening.program))) }
     ensures less { pass.new.left < pass.old.left }
 {
     match shared.next(rt, pass, room) {
-        Ok(firing) => finish(rt, alloc, shared, program, pass, firing, gate),
-        Err(_) => None,
+        Ok(firing) => match finish(rt, alloc, shared, program, pass, firing, gate) {
+            Some(back) => Ok(back),
+            None => Err(None),
+        },
+        Err(back) => Err(Some(back)),
     }
 }
 
-/// Fires until the turns of the pass end, nothing may begin, or memory is wanting.
+/// Fires until the turns of the pass end, nothing may begin, or memory is wanting, in the room that was kept or in a
+/// new one. The room is kept, if it is there at the end.
 pub(crate) fn work<W: Wait, G: Gate>(
     rt: &W,
     alloc: Global,
     shared: &Shared,
     program: &Arc<Unfolded>,
     pass: &mut Pass<Held>,
+    kept: Option<Room>,
     gate: &G,
-)
+) -> Option<Room>
     requires own { IsPassOf shared.now pass.old }
     requires program { program.now.value ≡ shared.now.opening.program }
+    requires kept { IfSome kept (IsRoom (unfolding_of shared.now.opening.program)) }
     ensures own { IsPassOf shared.now pass.new }
     ensures fired { FiredOn (on_log pass.old) (on_log pass.new) }
+    ensures kept { IfSome result (IsRoom (unfolding_of shared.now.opening.program)) }
 {
-    let Ok(mut room) = Room::new(alloc, program) else {
-        return;
-    };
+    let mut room = room_of(alloc, program, kept)?;
     while pass.left() >= 2 {
         match fire_next(rt, alloc, shared, program, pass, room, gate) {
-            Some(back) => room = back,
-            None => return,
+            Ok(back) => room = back,
+            Err(left) => return left,
         }
     }
+    Some(room)
 }

@@ -88,8 +88,7 @@ impl Core {
         ensures spare { IsSpare (program_of self.now) spare.new }
         ensures left { length spare.new.exports + length near.new.items ≡ length spare.old.exports }
     {
-        let neighbours = self.net.neighbours(device);
-        for (neighbour, weight) in neighbours.iter() {
+        for (neighbour, weight) in self.net.neighbours(device) {
             if let Some(export) = self.export(*neighbour) {
                 let export = spare.take(&self.program, export);
                 near.push(Near {

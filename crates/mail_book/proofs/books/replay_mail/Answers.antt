@@ -1,4 +1,4 @@
-use Rattle.std.proofs.Common.{◌≡◌, ◌<◌, ◌+◌, suc, length, arith}
+use Rattle.std.proofs.Common.{◌<◌, ◌+◌, length, arith}
 use Rattle.message_links.specs.MailEntries.{mail_entries}
 use Rattle.mail_book.specs.MailViews.{mail_of, unfolded_of}
 use Rattle.mail_book.specs.MailReplays.{FailsMail}

@@ -1,4 +1,4 @@
-use Rattle.std.proofs.Common.{◌≡◌, List, [], ◌∷◌, length, get_or, refl, sym, ◌∙◌, ap, arith}
+use Rattle.std.proofs.Common.{List, refl, ◌∙◌, ap}
 use Rattle.std.specs.List.{remove}
 use Rattle.mail_book.specs.declared.letters.Message.{Message}
 use Rattle.mail_book.proofs.MessageSteps.{first_there, some_items}

@@ -1,4 +1,4 @@
-use Rattle.std.proofs.Common.{◌≡◌, refl, ap, Some}
+use Rattle.std.proofs.Common.{refl, ap, Some}
 use Rattle.fc_values.specs.Exports.{FlatExport}
 use Rattle.mail_book.proofs.MessageSteps.{first_there, some_items}
 use Rattle.mail_book.proofs.letters.repeat.Goals as goal

@@ -1,5 +1,4 @@
-use Rattle.std.proofs.Common.{◌≡◌, List, [], ◌∷◌, ◌++◌, take, map, sym, ◌∙◌, ◌+◌, ap, subst, Vec, Global}
-use Rattle.std.proofs.lemmas.List.{map-append}
+use Rattle.std.proofs.Common.{◌≡◌, List, [], ◌∷◌, ◌++◌, take, sym, ◌∙◌, ◌+◌, ap, subst}
 use Rattle.mail_book.specs.declared.letters.Letters.{Letters}
 use Rattle.mail_book.specs.Letters.{SameRow}
 use Rattle.mail_book.specs.Rows.{lists_of, SameRows}

@@ -1,4 +1,4 @@
-use Rattle.std.proofs.Common.{◌≡◌, List, [], ◌∷◌, length, length-append, sym, ap, subst, arith}
+use Rattle.std.proofs.Common.{[], ◌∷◌, length, length-append, sym, ap, subst, arith}
 use Rattle.mail_book.specs.declared.letters.Letters.{Letters}
 use Rattle.mail_book.specs.Letters.{AllQuiet}
 use Rattle.mail_book.proofs.Copying.{quiet_more}

@@ -21,7 +21,7 @@ loop-device-preserved c =
     ∙ ap numbers (map-append device_of (take i ds) (c.device-item.result ∷ []))
     ∙ map-append (λ (n : NetDevice). n.id) (map device_of (take i ds)) (device_of c.device-item.result ∷ []) in
     let long : length c.in_ok-no_row.field-0.items ≡ length (near net c.device-item.result.id) =
-    c.in_ok-no_row.ensures.long ∙ c.len.ensures.value ∙ ap (length {A = ℕ × ℕ}) c.neighbours-neighbours.ensures.value in
+    c.in_ok-no_row.ensures.long ∙ ap (length {A = ℕ × ℕ}) c.neighbours.ensures.value in
     record {
       shape = subst (λ (l : List ℕ). AreRows net l (lists_of c.push.new.self.items)) (sym more) (subst (λ (rows : List (List Letters)). AreRows net (numbers (map device_of (take i ds)) ++ c.device-item.result.id ∷ []) rows) (sym new)
           (shape_more net (numbers (map device_of (take i ds))) (lists_of c.loop-device.rows.items) c.device-item.result.id c.in_ok-no_row.field-0.items c.loop-device.invariant.shape long));

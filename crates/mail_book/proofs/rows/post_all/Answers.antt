@@ -16,12 +16,12 @@ use Rattle.mail_book.proofs.rows.post_all.Goals as goal
 pub loop-neighbour-preserved : goal.loop-neighbour-preserved
 loop-neighbour-preserved c =
     let N = c.args.net.now in
-    let net = c.neighbours-neighbours.ensures.network in
+    let net = c.neighbours-neighbour-items.ensures.network in
     let d = c.args.sending.now.device in
-    let ns = c.deref-neighbour-items.result.now in
+    let ns = c.neighbours-neighbour-items.result.now in
     let i = c.loop-neighbour.neighbour-index in
     let n : ℕ × ℕ = get_or ns i (0, 0) in
-    let whole : ns ≡ near N d = c.deref-neighbour-items.ensures.0 ∙ c.neighbours-neighbours.ensures.value in
+    let whole : ns ≡ near N d = c.neighbours-neighbour-items.ensures.value in
     let apart : Distinct (near_numbers ns) = subst (λ (xs : List (ℕ × ℕ)). Distinct (near_numbers xs)) (sym whole) (near_apart_at N d net) in
     let linked : reaches N d n.0 ≡ true = sym (near_both N d n.0 net) ∙ ap (λ (xs : List (ℕ × ℕ)). is_in n.0 (near_numbers xs)) (sym whole) ∙ in_at ns i (0, 0) c.loop-neighbour-test.true in
     let one : i + 1 ≡ suc i = omega arith in
@@ -38,13 +38,13 @@ loop-neighbour-preserved c =
 pub returns : goal.returns
 returns c =
     let N = c.args.net.now in
-    let ns = c.deref-neighbour-items.result.now in
+    let ns = c.neighbours-neighbour-items.result.now in
     let i = c.loop-neighbour.neighbour-index in
     let all : length ns ≡ i = omega (arith, c.loop-neighbour-test.false, c.loop-neighbour.auto.neighbour-index-end) in
-    let whole : take i ns ≡ near N c.args.sending.now.device = take_all ns i all ∙ c.deref-neighbour-items.ensures.0 ∙ c.neighbours-neighbours.ensures.value in
+    let whole : take i ns ≡ near N c.args.sending.now.device = take_all ns i all ∙ c.neighbours-neighbour-items.ensures.value in
     record {
       posts = λ U letters typed. among_all U N c.args.sending.now.device (take i ns) c.args.sending.now.sent (tree_of U c.args.sending.now.export.now) (lists_of c.args.rows.now.items) (lists_of c.loop-neighbour.rows.items)
-          c.neighbours-neighbours.ensures.network whole (c.loop-neighbour.invariant.among U letters typed);
+          c.neighbours-neighbour-items.ensures.network whole (c.loop-neighbour.invariant.among U letters typed);
       shape = c.loop-neighbour.invariant.shape;
       letters = λ U letters typed. (c.loop-neighbour.invariant.among U letters typed).letters;
     }

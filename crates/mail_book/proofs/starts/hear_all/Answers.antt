@@ -1,4 +1,4 @@
-use Rattle.std.proofs.Common.{◌≡◌, List, length, arith, subst, take}
+use Rattle.std.proofs.Common.{◌≡◌, List, length, arith, subst}
 use Rattle.mail_book.specs.declared.starts.Post.{Post}
 use Rattle.mail_book.specs.Rows.{lists_of}
 use Rattle.mail_book.specs.Starts.{Hears, post_values}

@@ -1,13 +1,12 @@
-use Rattle.std.proofs.Common.{◌≡◌, ◌<◌, ◌≤◌, ◌+◌, ℕ, suc, List, [], ◌∷◌, length, map, drop, get_or, sym, ◌∙◌, ap, subst, arith}
+use Rattle.std.proofs.Common.{◌≡◌, ◌+◌, ℕ, suc, List, ◌∷◌, map, drop, get_or, sym, ◌∙◌, ap, subst, arith}
 use Rattle.std.proofs.Math.Seq.{drop-cons}
 use Rattle.std.proofs.lemmas.List.{drop_all}
 use Rattle.topology.specs.Networks.{Network, IsNetwork}
 use Rattle.firing_core.specs.CoreViews.{CoreValue}
 use Rattle.message_links.specs.declared.entries.MailEntry.{MailEntry}
 use Rattle.message_links.specs.declared.entries.MailEntry.TheVariants as entry
-use Rattle.message_links.specs.MailCores.{MailEntryValue}
 use Rattle.message_links.specs.MailEntries.{mail_entry, mail_entries}
-use Rattle.message_links.specs.MailRounds.{Posts, posts_of}
+use Rattle.message_links.specs.MailRounds.{posts_of}
 use Rattle.mail_book.specs.MailViews.{MailValue, mail_of, unfolded_of}
 use Rattle.mail_count.specs.declared.marks.Marks.{Marks}
 use Rattle.mail_count.specs.Marks.{Tells}

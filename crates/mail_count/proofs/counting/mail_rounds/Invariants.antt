@@ -1,10 +1,7 @@
-use Rattle.std.proofs.Common.{◌≡◌, ◌≤◌, List, map, drop, length}
-use Rattle.topology.specs.Networks.{IsNetwork}
-use Rattle.message_links.specs.MailCores.{MailEntryValue}
+use Rattle.std.proofs.Common.{◌≤◌, map, drop}
 use Rattle.message_links.specs.MailEntries.{mail_entry}
-use Rattle.message_links.specs.MailRounds.{posts_of, posts_along}
+use Rattle.message_links.specs.MailRounds.{posts_of}
 use Rattle.mail_book.specs.MailViews.{mail_of}
-use Rattle.mail_count.specs.Marks.{Tells}
 use Rattle.mail_count.proofs.Counts.{CountedSoFar}
 use Rattle.mail_count.proofs.counting.mail_rounds.Given as goal
 

@@ -1,4 +1,4 @@
-use Rattle.std.proofs.Common.{◌≡◌, ◌∙◌, sym, ap, true, refl, arith}
+use Rattle.std.proofs.Common.{◌∙◌, sym, ap, true, refl}
 use Rattle.std.specs.Prelude.{not, ◌&&◌, if◌then◌else◌, slice_set, ◌+◌}
 use Rattle.mail_count.specs.Seen.{missing}
 use Rattle.mail_count.proofs.Tables.{missing_set}

@@ -1,4 +1,4 @@
-use Rattle.std.proofs.Common.{◌≡◌, ◌<◌, List, [], length, map, replicate, sym, ◌∙◌, ap, refl, arith, Bool, true, false, vec_len}
+use Rattle.std.proofs.Common.{◌<◌, [], length, map, replicate, sym, ◌∙◌, ap, refl, arith, false, vec_len}
 use Rattle.std.proofs.lemmas.List.{length-map}
 use Rattle.mail_count.specs.declared.pairs.Bringing.{Bringing}
 use Rattle.mail_count.specs.Marks.{own_row, brought_row}

@@ -1,5 +1,4 @@
-use Rattle.std.proofs.Common.{◌≡◌, ◌≤◌, ℕ, zero, suc, List, [], ◌∷◌, length, refl, sym, ◌∙◌, ap, arith}
-use Rattle.std.specs.List.{remove}
+use Rattle.std.proofs.Common.{◌≡◌, ◌≤◌, ℕ, zero, suc, List, [], ◌∷◌, length, refl, ◌∙◌, ap, arith}
 use Rattle.message_links.specs.MailCores.{without}
 use Rattle.mail_book.proofs.MessageSteps.{without_remove}
 use Rattle.mail_count.proofs.pairs.lose.Goals as goal

@@ -1,4 +1,4 @@
-use Rattle.std.proofs.Common.{◌≡◌, ◌<◌, List, [], length, map, sym, ◌∙◌, ap, arith, Bool, false}
+use Rattle.std.proofs.Common.{◌<◌, [], length, sym, ◌∙◌, ap, arith, false}
 use Rattle.std.specs.Prelude.{slice_set}
 use Rattle.std.proofs.lemmas.List.{length-map}
 use Rattle.message_links.specs.MailCores.{pushed}

@@ -17,5 +17,5 @@ module _ (U : Unfolding) (device : ℕ) where
 pub returns-clause-near : goal.returns-clause-near
 returns-clause-near c =
     let U = unfolding_of c.args.program.now in
-    subst (NearRises U c.args.device) (sym c.in_room.ensures)
+    subst (NearRises U c.args.device) (sym c.in_ok-in_room.ensures)
     (near_rises U c.args.device c.in_ok-list.list.items c.in_ok-list.ensures.fit c.in_ok-list.ensures.rising)

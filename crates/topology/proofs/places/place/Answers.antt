@@ -6,6 +6,17 @@ use Rattle.topology.proofs.Devices.{at_in}
 use Rattle.topology.proofs.places.place.Goals as goal
 use Rattle.topology.proofs.places.place.Goals.{else-at-devices-via-then-at-devices+else-devices-at, else-at-devices-via-else-at-devices}
 
+pub returns-then-devices-own-clause-there : goal.returns-then-devices-own-clause-there
+returns-then-devices-own-clause-there c =
+    number_get c.args.devices.now c.args.id c.index-devices-own.result c.if-own-devices.true
+    ∙ c.if-devices-own.true
+
+pub returns-then-devices-own-clause-is_in : goal.returns-then-devices-own-clause-is_in
+returns-then-devices-own-clause-is_in c =
+    at_in c.args.id (numbers (map device_of c.args.devices.now)) c.args.id (omega (arith, numbers_length c.args.devices.now, c.if-own-devices.true))
+    (number_get c.args.devices.now c.args.id c.index-devices-own.result c.if-own-devices.true
+    ∙ c.if-devices-own.true)
+
 pub returns-then-devices-at-clause-there : goal.returns-then-devices-at-clause-there
 returns-then-devices-at-clause-there c =
     number_get c.args.devices.now c.room_for_device-at.result c.index-devices-at.result c.if-at-devices.true

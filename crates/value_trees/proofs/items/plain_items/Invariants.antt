@@ -1,4 +1,4 @@
-use Rattle.std.proofs.Common.{◌≡◌, ◌∷◌, map, take}
+use Rattle.std.proofs.Common.{◌≡◌, map}
 use Rattle.fc_values.specs.Values.{local_of}
 use Rattle.value_trees.specs.KeptItems.{kept_of, plain_item}
 use Rattle.value_trees.proofs.items.plain_items.Given as goal

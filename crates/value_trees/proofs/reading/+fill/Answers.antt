@@ -1,4 +1,4 @@
-use Rattle.std.proofs.Common.{◌≡◌, arith, refl, sym, ◌∙◌, ap, map}
+use Rattle.std.proofs.Common.{arith, refl, sym, ◌∙◌, map}
 use Rattle.std.proofs.lemmas.Result.{err_from_is_err_and}
 use Rattle.value_trees.specs.KeptItems.{kept_of}
 use Rattle.fc_values.specs.Exports.{slots_of}

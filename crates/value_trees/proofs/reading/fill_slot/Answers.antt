@@ -2,7 +2,7 @@ use Rattle.std.proofs.Common.{◌≡◌, ◌∷◌, ap, sym, subst, map, true, f
 use Rattle.fc_values.specs.Types.{local_type_of}
 use Rattle.fc_values.specs.Values.{LocalValue, local_of, Fits}
 use Rattle.fc_values.specs.Exports.{slots_of}
-use Rattle.value_trees.specs.KeptItems.{KeptItem, MayStand, kept_of, values}
+use Rattle.value_trees.specs.KeptItems.{MayStand, kept_of, values}
 use Rattle.value_trees.specs.Filling.{own_at}
 use Rattle.value_trees.proofs.FillSteps.{own_fits, own_misfits, slot_added, pushed, first_added}
 use Rattle.value_trees.proofs.reading.fill_slot.Goals as goal

@@ -1,8 +1,7 @@
-use Rattle.std.proofs.Common.{◌≡◌, ◌<◌, length, ap, sym, ◌∙◌, map, refl, arith}
+use Rattle.std.proofs.Common.{◌≡◌, ◌<◌, length, ap, ◌∙◌, map, refl, arith}
 use Rattle.std.proofs.lemmas.Result.{err_from_is_err_and}
 use Rattle.std.proofs.lemmas.Bool.Decides.{nat_tests}
 use Rattle.std.proofs.lemmas.List.{length-map}
-use Rattle.fc_values.specs.Values.{local_of}
 use Rattle.fc_values.specs.Exports.{slots_of, export_of}
 use Rattle.fc_nodes.specs.Program.{unfolding_of}
 use Rattle.value_trees.specs.KeptItems.{kept_of}

@@ -1,8 +1,8 @@
-use Rattle.std.proofs.Common.{◌≡◌, ap, sym, ◌∙◌, map, subst}
+use Rattle.std.proofs.Common.{ap, ◌∙◌, map, subst}
 use Rattle.std.proofs.lemmas.Result.{err_from_is_err_and}
 use Rattle.fc_values.specs.Values.{local_of}
 use Rattle.fc_nodes.specs.Program.{unfolding_of}
-use Rattle.value_trees.specs.KeptItems.{kept_of, plain_item}
+use Rattle.value_trees.specs.KeptItems.{kept_of}
 use Rattle.value_trees.specs.Filling.{IsItemFault, IsReadOff}
 use Rattle.value_trees.proofs.FillSteps.{plain_fault, plain_read}
 use Rattle.value_trees.proofs.reading.from_kept.Goals as goal

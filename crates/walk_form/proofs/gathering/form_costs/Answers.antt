@@ -1,4 +1,4 @@
-use Rattle.std.proofs.Common.{◌≡◌, ◌≤◌, ◌∙◌, ℕ, sym, ap, subst}
+use Rattle.std.proofs.Common.{◌≤◌, ◌∙◌, ℕ, sym, ap, subst}
 use Rattle.std.specs.List.{All}
 use Rattle.fc_values.specs.Types.{Declarations}
 use Rattle.walks.specs.Gathering.{AddFits, added_of, gathered}

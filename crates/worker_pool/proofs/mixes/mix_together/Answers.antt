@@ -1,4 +1,4 @@
-use Rattle.std.proofs.Common.{◌+◌, ◌*◌, subst}
+use Rattle.std.proofs.Common.{◌+◌, ◌*◌, ap, subst}
 use Rattle.firing_core.specs.Entries.{EntryValue, edit_of, entries_of}
 use Rattle.turn_lock.specs.Passes.{PassView}
 use Rattle.export_table.specs.Items.{Opening}
@@ -7,6 +7,7 @@ use Rattle.export_table.specs.Passing.{on_log}
 use Rattle.export_table.specs.Turns.{Began, Rested, Closes}
 use Rattle.worker_pool.specs.Working.{FiredOn}
 use Rattle.worker_pool.specs.Mixing.{EditedThenEnded}
+use Rattle.worker_pool.proofs.Keeping.{rooms_lent, rooms_home}
 use Rattle.worker_pool.proofs.Mixing.{never_rests, mixed_together}
 use Rattle.worker_pool.proofs.Mixed.{grew_caller}
 use Rattle.worker_pool.proofs.mixes.mix_together.Goals as goal
@@ -48,3 +49,21 @@ returns-clause-grew g c =
     (subst (λ (z : Opening × PassView EntryValue). Began z.0 z.1 v1 f) (λ i. (c.in_ok-shared.ensures.opening i, c.in_ok-shared.ensures.pass i)) c.in-Ok-next.ensures.began)
     c.split-other.ensures.kept c.in-Err-mixed.ensures.went c.join.ensures.seen.0
     (subst (λ (o : Opening). Closes o v4 new) c.in_ok-shared.ensures.opening c.close-book.ensures.closes)
+
+pub fan-requires-clause-rooms : goal.fan-requires-clause-rooms
+fan-requires-clause-rooms g c κs within =
+    let cut = c.split_at_mut-busy in
+    rooms_lent c.args.book.program c.in_ok-shared.shared.opening.program c.args.rooms.now cut.result.0.now cut.result.1.now
+    (ap (λ (o : Opening). o.program) c.in_ok-shared.ensures.opening) cut.ensures.value c.requires.rooms
+
+pub returns-in-Ok-mixed-clause-rooms : goal.returns-in-Ok-mixed-clause-rooms
+returns-in-Ok-mixed-clause-rooms g c =
+    let cut = c.split_at_mut-busy in
+    rooms_home c.args.book.program c.in_ok-shared.shared.opening.program c.args.rooms.now cut.result.0.now cut.result.1.now c.fan.new.rooms
+    (ap (λ (o : Opening). o.program) c.in_ok-shared.ensures.opening) cut.ensures.value c.requires.rooms c.fan.ensures.rooms
+
+pub returns-clause-rooms : goal.returns-clause-rooms
+returns-clause-rooms g c =
+    let cut = c.split_at_mut-busy in
+    rooms_home c.args.book.program c.in_ok-shared.shared.opening.program c.args.rooms.now cut.result.0.now cut.result.1.now c.fan.new.rooms
+    (ap (λ (o : Opening). o.program) c.in_ok-shared.ensures.opening) cut.ensures.value c.requires.rooms c.fan.ensures.rooms

@@ -1,16 +1,13 @@
-use Rattle.std.proofs.Common.{◌≡◌, subst, arith}
-use Rattle.firing_core.specs.Stretches.{RanRounds}
-use Rattle.worker_pool.proofs.Stretching.{grew_some, rounds_more, settled}
+use Rattle.std.proofs.Common.{[], sym, subst}
+use Rattle.fc_nodes.specs.Program.{unfolding_of}
+use Rattle.worker_pool.specs.Working.{AreRooms}
+use Rattle.worker_pool.proofs.Stretching.{grew_ran, ran_none}
 use Rattle.worker_pool.proofs.rounds.run_rounds.Goals as goal
 
 pub returns-in-Err-clause-grew : goal.returns-in-Err-clause-grew
-returns-in-Err-clause-grew g c = grew_some c.args.book c.settle.new.self c.in-Err.ensures.memory
+returns-in-Err-clause-grew g c = grew_ran c.args.book c.args.book [] (ran_none c.args.book)
 
-pub loop-init : goal.loop-init
-loop-init g c = record { ran = settled c.args.book c.settle.new.self c.in_default.ensures.ok c.in_default.ensures.rests }
-
-pub loop-preserved : goal.loop-preserved
-loop-preserved g c = record { ran = rounds_more c.args.book c.loop.book c.in_ok-book.book c.loop.counter 1 c.loop.invariant.ran c.in_ok-book.ensures.ran }
-
-pub returns-clause-ran : goal.returns-clause-ran
-returns-clause-ran g c = let e : c.loop.counter ≡ c.args.rounds = omega arith in subst (λ k. RanRounds c.args.book k c.loop.book) e c.loop.invariant.ran
+pub run_in-requires-clause-rooms : goal.run_in-requires-clause-rooms
+run_in-requires-clause-rooms g c κs within =
+    let U = unfolding_of c.args.book.program in
+    subst (AreRooms U) {y = c.deref_mut.result.now} (sym c.deref_mut.ensures.value) (c.in-Ok.ensures.rooms U)

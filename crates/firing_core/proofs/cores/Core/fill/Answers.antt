@@ -16,6 +16,7 @@ use Rattle.firing_core.specs.contracts.cores.Core.{the_view}
 use Rattle.firing_core.proofs.Borrowed.{read_value, where_read}
 use Rattle.firing_core.proofs.CoreSteps.{export_within, export_kept}
 use Rattle.firing_core.proofs.Taken.{Parts, device_inputs, there_forms, taken_copy, taken_snap}
+use Rattle.std.specs.Box.{with_value}
 use Rattle.firing_core.proofs.cores.Core.fill.Goals as goal
 use Rattle.firing_core.proofs.cores.Core.fill.Goals.{After-deref, Joined-blank}
 
@@ -50,7 +51,7 @@ take_own-own-requires-clause-own c =
 
 module _ (c : Joined-blank) where
   abbrev s : Snap
-  s = record { device = c.args.device; inputs = with_items c.args.blank.inputs c.overwrite_locals.new.target; own = c.take_own-own.result; near = c.fill_near.new.near }
+  s = record { device = c.args.device; inputs = with_items c.args.blank.inputs c.overwrite_locals.new.target; own = c.take_own-own.result; near = with_value c.args.blank.near c.fill_near.new.near }
 
   here : c.args.place < length (the_view c.self.inside).net.devices
   here = subst (λ (w : CoreValue). c.args.place < length w.net.devices) (sym c.self.view_is) c.requires.within

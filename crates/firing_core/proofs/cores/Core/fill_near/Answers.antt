@@ -14,8 +14,8 @@ program_is c = ap unfolding_of c.deref.ensures ∙ ap program_of c.self.view_is
 
 pub take-export-requires-clause-some : goal.take-export-requires-clause-some
 take-export-requires-clause-some c =
-    let long = ap length (c.deref-neighbour-items.ensures.0 ∙ c.neighbours-neighbours.ensures.value) in
-    let few = c.neighbours-neighbours.ensures.network.degree c.args.device in
+    let long = ap length c.neighbours-neighbour-items.ensures.value in
+    let few = c.neighbours-neighbour-items.ensures.network.degree c.args.device in
     let i = c.loop-neighbour.invariant in
     omega (arith, long, few, i.few, i.left, c.requires.enough)
 
@@ -32,7 +32,7 @@ loop-neighbour-preserved c = elim c.match-export.branch [
       let program : unfolding_of w.deref.result.now ≡ program_of c.args.self.now = ap unfolding_of w.deref.ensures ∙ ap program_of c.self.view_is in
       let i = c.loop-neighbour.invariant in
       record {
-        copies = rw w.near-is (near_more (program_of c.args.self.now) (core_of c.args.self.now).exports c.deref-neighbour-items.result.now c.loop-neighbour.neighbour-index _ c.loop-neighbour-test.true
+        copies = rw w.near-is (near_more (program_of c.args.self.now) (core_of c.args.self.now).exports c.neighbours-neighbour-items.result.now c.loop-neighbour.neighbour-index _ c.loop-neighbour-test.true
             c.loop-neighbour.near.items w.push.new.self.items _ _ (tree_of (program_of c.args.self.now) w.in-Some.export.now) w.push.ensures.items (cc) (sym w.in-Some.ensures.value) c.loop-neighbour.invariant.copies);
         exports = rw w.near-is (rw w.push.ensures.items (exports_more (program_of c.args.self.now) c.loop-neighbour.near.items _ c.loop-neighbour.invariant.exports (subst (IsExport (program_of c.args.self.now)) (sym w.take-export.ensures.same) w.in-Some.ensures.export)));
         few = rw w.near-is (rw w.push.ensures.items (longer c.loop-neighbour.near.items _ c.loop-neighbour.neighbour-index c.loop-neighbour.invariant.few));
@@ -40,7 +40,7 @@ loop-neighbour-preserved c = elim c.match-export.branch [
         left = rw (w.spare-is, w.near-is) (omega (arith, one_longer c.loop-neighbour.near.items w.push.new.self.items _ w.push.ensures.items, w.take-export.ensures.left, i.left));
       }
   | in_default w ↦ record {
-    copies = rw w.near-is (near_less (program_of c.args.self.now) (core_of c.args.self.now).exports c.deref-neighbour-items.result.now c.loop-neighbour.neighbour-index _ c.loop-neighbour-test.true
+    copies = rw w.near-is (near_less (program_of c.args.self.now) (core_of c.args.self.now).exports c.neighbours-neighbour-items.result.now c.loop-neighbour.neighbour-index _ c.loop-neighbour-test.true
         c.loop-neighbour.near.items _ (sym w.in_default.ensures.value) c.loop-neighbour.invariant.copies);
     exports = rw w.near-is c.loop-neighbour.invariant.exports;
     few = rw w.near-is (omega (arith, c.loop-neighbour.invariant.few));

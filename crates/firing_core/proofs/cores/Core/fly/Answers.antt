@@ -1,4 +1,4 @@
-use Rattle.std.proofs.Common.{◌≡◌, sym, subst, refl, Some, None, arith}
+use Rattle.std.proofs.Common.{◌≡◌, sym, subst, refl, Some, arith}
 use Rattle.std.specs.Prelude.{slice_set}
 use Rattle.value_trees.specs.Snaps.{IsSnap}
 use Rattle.firing_core.specs.Replays.{fault_of}

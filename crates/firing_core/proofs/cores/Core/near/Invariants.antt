@@ -7,7 +7,7 @@ use Rattle.firing_core.proofs.cores.Core.near.Given as goal
 
 abbrev pub invariant-loop-neighbour : goal.invariant-loop-neighbour
 invariant-loop-neighbour l = record {
-  copies : map (near_copy (program_of l.self)) l.near.items ++ near_copies (core_of l.self).exports (drop l.neighbour-index l.neighbour-items) ≡ near_copies (core_of l.self).exports (near l.self.net l.device);
-  exports : NearAreExports (program_of l.self) l.near.items;
-  few : length l.near.items ≤ l.neighbour-index;
+  copies : map (near_copy (program_of l.self)) l.near.value.items ++ near_copies (core_of l.self).exports (drop l.neighbour-index l.neighbour-items) ≡ near_copies (core_of l.self).exports (near l.self.net l.device);
+  exports : NearAreExports (program_of l.self) l.near.value.items;
+  few : length l.near.value.items ≤ l.neighbour-index;
 }

@@ -46,8 +46,8 @@ module _ (c : goal.In_ok-near) where
     device = refl;
     inputs = inputs;
     own = c.in_ok-own.ensures ∙ read_value export_of c.as_ref.result c.index.result.now c.as_ref.ensures.value;
-    near = subst (λ (w : CoreValue). map (near_copy (program_of w)) c.in_ok-near.near.items ≡ near_copies (core_of w).exports (near w.net c.args.device)) (sym c.self.view_is) c.in_ok-near.ensures.near;
-    exports = subst (λ (w : CoreValue). NearAreExports (program_of w) c.in_ok-near.near.items) (sym c.self.view_is) c.in_ok-near.ensures.exports;
+    near = subst (λ (w : CoreValue). map (near_copy (program_of w)) c.in_ok-near.near.value.items ≡ near_copies (core_of w).exports (near w.net c.args.device)) (sym c.self.view_is) c.in_ok-near.ensures.near;
+    exports = subst (λ (w : CoreValue). NearAreExports (program_of w) c.in_ok-near.near.value.items) (sym c.self.view_is) c.in_ok-near.ensures.exports;
   }
 
   copy_is : snap_copy (program_of c.args.self.now) (record { device = c.args.device; inputs = c.in_ok-inputs.inputs; own = c.in_ok-own.own; near = c.in_ok-near.near }) ≡ copy_of c.args.self.now.net (core_of c.args.self.now).exports c.args.device

@@ -1,4 +1,4 @@
-use Rattle.std.proofs.Common.{◌≡◌, ◌∙◌, sym, ap, subst, refl, Some, IfErr, OnOk}
+use Rattle.std.proofs.Common.{◌≡◌, ◌∙◌, sym, ap, subst, refl, IfErr}
 use Rattle.fc_values.specs.Trees.{Copy}
 use Rattle.value_trees.specs.Snaps.{snap_copy}
 use Rattle.firing_core.specs.Cores.{copy_of}

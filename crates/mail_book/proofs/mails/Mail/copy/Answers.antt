@@ -1,4 +1,4 @@
-use Rattle.std.proofs.Common.{◌≡◌, List, sym, ◌∙◌, ap, subst, Vec, Global}
+use Rattle.std.proofs.Common.{List, ◌∙◌, ap, subst, Vec, Global}
 use Rattle.mail_book.specs.declared.letters.Letters.{Letters}
 use Rattle.mail_book.specs.Rows.{lists_of, SameRows}
 use Rattle.mail_book.specs.MailViews.{mail_of}

@@ -1,13 +1,9 @@
-use Rattle.std.proofs.Common.{◌≡◌, ◌∙◌, sym, ap, subst, refl, Some, None, IfErr, OnOk}
+use Rattle.std.proofs.Common.{◌≡◌, sym, subst, Some, None, IfErr}
 use Rattle.fc_values.specs.Trees.{TreeExport}
 use Rattle.fc_nodes.specs.Program.{Program, unfolding_of}
 use Rattle.topology.specs.Networks.{Network, numbers}
 use Rattle.value_trees.specs.Snaps.{tree_of}
-use Rattle.firing_core.specs.declared.entries.StepFault.{StepFault}
-use Rattle.firing_core.specs.declared.entries.StepFault.TheVariants as step
 use Rattle.firing_core.specs.CoreViews.{core_of, program_of}
-use Rattle.firing_core.specs.Entries.{EndEntry}
-use Rattle.firing_core.specs.Replays.{fault_of}
 use Rattle.message_links.specs.MailCores.{MailEnd, MailStep}
 use Rattle.mail_book.specs.Pairs.{AreRows}
 use Rattle.mail_book.specs.Rows.{lists_of, AllRows, Posts}

@@ -1,11 +1,11 @@
-use Rattle.std.proofs.Common.{◌≡◌, ℕ, List, [], length, false, sym, ◌∙◌, ap, subst, arith}
+use Rattle.std.proofs.Common.{◌≡◌, [], length, false, sym, ◌∙◌, ap, subst, arith}
 use Rattle.std.proofs.lemmas.List.{length-map}
 use Rattle.topology.specs.Networks.{Network}
 use Rattle.firing_core.specs.CoreViews.{program_of}
 use Rattle.message_links.specs.MailCores.{Message as MailMessage, reaches}
 use Rattle.mail_book.specs.Pairs.{AtPair}
 use Rattle.mail_book.specs.Letters.{message_of}
-use Rattle.mail_book.specs.Rows.{lists_of, transit_at, transit_rows}
+use Rattle.mail_book.specs.Rows.{lists_of, transit_rows}
 use Rattle.mail_book.specs.MailViews.{MailValue, mail_of}
 use Rattle.mail_book.proofs.PairLookups.{pair_none}
 use Rattle.mail_book.proofs.LetterWrites.{row_there, item_there, item_is, transit_read}

@@ -1,20 +1,18 @@
-use Rattle.std.proofs.Common.{◌≡◌, ◌<◌, ◌∙◌, ℕ, List, [], length, map, get_or, sym, ap, subst, refl, arith, Some, None, Option, Vec, Global}
+use Rattle.std.proofs.Common.{◌≡◌, ◌<◌, ◌∙◌, ℕ, List, [], length, map, get_or, sym, ap, subst, arith, Some}
 use Rattle.std.specs.Prelude.{option_map}
 use Rattle.std.proofs.lemmas.List.{length-map}
-use Rattle.fc_values.specs.declared.exports.Export.{Export}
-use Rattle.fc_values.specs.Trees.{TreeExport, NearCopy}
 use Rattle.fc_values.specs.Values.{local_of}
-use Rattle.fc_values.specs.Exports.{FlatExport, export_of}
+use Rattle.fc_values.specs.Exports.{FlatExport}
 use Rattle.fc_nodes.specs.Program.{Unfolding}
 use Rattle.fc_nodes.specs.Flat.{tree_export, IsExport}
 use Rattle.value_trees.specs.declared.copies.Snap.{Snap}
 use Rattle.value_trees.specs.Copies.{WhereSome, FitsCopy}
-use Rattle.value_trees.specs.Snaps.{snap_copy, near_copy, tree_of, IsSnap, IsExportOf, NearAreExports}
+use Rattle.value_trees.specs.Snaps.{snap_copy, near_copy, tree_of, IsSnap, IsExportOf}
 use Rattle.topology.specs.declared.types.Device.{Device}
-use Rattle.topology.specs.Networks.{Network, NetDevice, device_of, numbers, inputs_in, near, Lives}
+use Rattle.topology.specs.Networks.{Network, NetDevice, numbers, inputs_in, near, Lives}
 use Rattle.topology.specs.Nearby.{AtPlace}
 use Rattle.firing_core.specs.Cores.{copy_of, near_copies}
-use Rattle.firing_core.specs.CoreViews.{CoreValue, core_of, program_of}
+use Rattle.firing_core.specs.CoreViews.{core_of, program_of}
 use Rattle.firing_core.proofs.Taken.{device_inputs, in_at}
 use Rattle.message_links.specs.MailCores.{sees}
 use Rattle.mail_book.specs.declared.letters.Letters.{Letters}
@@ -44,14 +42,19 @@ module _ (c : goal.After-deref-2) where
   row : get_or (lists_of c.self.inside.rows.items) c.args.place [] ≡ c.deref-2.result.now
   row = lists_get c.self.inside.rows.items c.args.place c.index.result.now in_rows c.index.ensures ∙ sym c.deref-2.ensures.value
 
-  neighbours : c.as_slice.result.now ≡ near c.self.inside.core.net c.args.device
-  neighbours = c.as_slice.ensures.value ∙ c.neighbours-neighbours.ensures.value ∙ ap (λ (N : Network). near N c.args.device) c.net-2.ensures.value
+  neighbours : c.neighbours-neighbours.result.now ≡ near c.self.inside.core.net c.args.device
+  neighbours = c.neighbours-neighbours.ensures.value ∙ ap (λ (N : Network). near N c.args.device) c.net-2.ensures.value
 
-  long : length c.deref-2.result.now ≡ length c.as_slice.result.now
+  long : length c.deref-2.result.now ≡ length c.neighbours-neighbours.result.now
   long =
       ap (length {A = Letters}) (sym row)
       ∙ row_is_long c.self.inside.core c.net.ensures.good (lists_of c.self.inside.rows.items) c.self.invariant.shape c.self.invariant.letters c.args.device c.args.place at
       ∙ ap (length {A = ℕ × ℕ}) (sym neighbours)
+
+pub heard_in-requires-clause-few : goal.heard_in-requires-clause-few
+heard_in-requires-clause-few c =
+    let degree = c.neighbours-neighbours.ensures.network.degree c.args.device in
+    omega (arith, degree, ap (length {A = ℕ × ℕ}) c.neighbours-neighbours.ensures.value)
 
 pub heard_in-requires-clause-long : goal.heard_in-requires-clause-long
 heard_in-requires-clause-long c = long c
@@ -71,8 +74,8 @@ module _ (c : goal.In_ok-near) where
   the_row : get_or (lists_of c.self.inside.rows.items) c.args.place [] ≡ c.deref-2.result.now
   the_row = lists_get c.self.inside.rows.items c.args.place c.index.result.now in_list c.index.ensures ∙ sym c.deref-2.ensures.value
 
-  the_near : c.as_slice.result.now ≡ near c.self.inside.core.net c.args.device
-  the_near = c.as_slice.ensures.value ∙ c.neighbours-neighbours.ensures.value ∙ ap (λ (N : Network). near N c.args.device) c.net-2.ensures.value
+  the_near : c.neighbours-neighbours.result.now ≡ near c.self.inside.core.net c.args.device
+  the_near = c.neighbours-neighbours.ensures.value ∙ ap (λ (N : Network). near N c.args.device) c.net-2.ensures.value
 
   inputs : map local_of c.in_ok-inputs.inputs.items ≡ inputs_in c.args.device c.self.inside.core.net.devices
   inputs =
@@ -92,7 +95,7 @@ module _ (c : goal.In_ok-near) where
     | in-None w ↦ (ap (option_map (tree_of (program_of c.self.inside.core))) w.own-is ∙ w.in-None.ensures.value, subst (WhereSome (IsExportOf (program_of c.self.inside.core))) (sym w.own-is) tt)
   ]
 
-  heard : map (near_copy (program_of c.self.inside.core)) c.in_ok-near.near.items ≡ near_copies (sees (mail_of (mail_with c.self.inside.core (lists_of c.self.inside.rows.items))) c.args.device) (near c.self.inside.core.net c.args.device)
+  heard : map (near_copy (program_of c.self.inside.core)) c.in_ok-near.near.value.items ≡ near_copies (sees (mail_of (mail_with c.self.inside.core (lists_of c.self.inside.rows.items))) c.args.device) (near c.self.inside.core.net c.args.device)
   heard =
       c.in_ok-near.ensures.near (program_of c.self.inside.core)
       ∙ ap (λ (ns : List (ℕ × ℕ)). heard_copies (program_of c.self.inside.core) ns c.deref-2.result.now) the_near

@@ -1,4 +1,4 @@
-use Rattle.std.proofs.Common.{◌≡◌, sym, ◌∙◌, ap, true}
+use Rattle.std.proofs.Common.{◌∙◌, ap, true}
 use Rattle.std.specs.Prelude.{slice_set}
 use Rattle.mail_count.proofs.Tables.{flag_write, flag_away}
 use Rattle.mail_count.proofs.marks.Marks.begin.Goals as goal

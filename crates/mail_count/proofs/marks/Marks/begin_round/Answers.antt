@@ -1,8 +1,7 @@
-use Rattle.std.proofs.Common.{◌≡◌, ℕ, List, length, map, replicate, refl, sym, ◌∙◌, ap, arith, Bool, false, Vec, Global, vec_len}
+use Rattle.std.proofs.Common.{◌≡◌, length, map, sym, ◌∙◌, ap, Bool, false, vec_len}
 use Rattle.std.specs.Vec.{with_items}
-use Rattle.std.proofs.lemmas.List.{length-map, length-replicate, with_items_is}
+use Rattle.std.proofs.lemmas.List.{length-map, with_items_is}
 use Rattle.topology.specs.Networks.{numbers}
-use Rattle.mail_count.specs.declared.pairs.Bringing.{Bringing}
 use Rattle.mail_count.specs.Seen.{missing}
 use Rattle.mail_count.specs.Marks.{own_rows, brought_rows, pair_rows, many, missing_rows}
 use Rattle.mail_count.proofs.Tables.{all_false, all_missing, rows_map, many_same, all_rows_missing}

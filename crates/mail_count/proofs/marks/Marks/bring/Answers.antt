@@ -1,8 +1,6 @@
-use Rattle.std.proofs.Common.{◌≡◌, ◌≤◌, ◌+◌, ℕ, Bool, true, false, refl, sym, ◌∙◌, ap, arith, Vec, Global}
-use Rattle.std.specs.Prelude.{nat_eq, not, ◌&&◌, ◌||◌, if◌then◌else◌}
-use Rattle.mail_count.specs.declared.pairs.Bringing.{Bringing}
+use Rattle.std.proofs.Common.{◌≡◌, Bool, true, refl, sym, ◌∙◌, ap, arith, Vec, Global}
+use Rattle.std.specs.Prelude.{nat_eq, ◌&&◌, ◌||◌}
 use Rattle.mail_count.specs.Seen.{ready, oldest_own}
-use Rattle.mail_count.specs.Marks.{missing_rows, brought_rows}
 use Rattle.mail_count.proofs.Tables.{item_away}
 use Rattle.mail_count.proofs.MarkSteps.{item_there, own_kept, heard, many_kept, fewer}
 use Rattle.mail_count.proofs.marks.Marks.bring.Goals as goal

@@ -1,9 +1,7 @@
-use Rattle.std.proofs.Common.{◌≡◌, ◌<◌, ◌+◌, ℕ, List, [], length, map, get_or, sym, ◌∙◌, ap, arith, Bool, true, false, Vec, Global, vec_len}
+use Rattle.std.proofs.Common.{◌≡◌, ◌<◌, [], length, map, get_or, sym, ◌∙◌, ap, arith, false, Vec, Global, vec_len}
 use Rattle.std.specs.Prelude.{slice_set, ◌||◌}
-use Rattle.std.specs.Vec.{with_item, with_items}
+use Rattle.std.specs.Vec.{with_items}
 use Rattle.std.proofs.lemmas.List.{length-map, with_items_is}
-use Rattle.std.proofs.Common.{length-set}
-use Rattle.topology.specs.Networks.{numbers}
 use Rattle.message_links.specs.MailCores.{posted, pushed}
 use Rattle.mail_book.proofs.Answered.{ok_both}
 use Rattle.mail_count.specs.declared.pairs.Bringing.{Bringing}

@@ -1,4 +1,4 @@
-use Rattle.std.proofs.Common.{◌≡◌, sym, ◌∙◌, ap, arith}
+use Rattle.std.proofs.Common.{sym, ◌∙◌, ap, arith}
 use Rattle.message_links.specs.MailCores.{without}
 use Rattle.mail_count.specs.Marks.{missing_rows}
 use Rattle.mail_count.proofs.Tables.{item_away}

@@ -1,15 +1,14 @@
-use Rattle.std.proofs.Common.{◌≡◌, ◌<◌, ◌≤◌, ◌*◌, ◌+◌, ℕ, List, [], ◌∷◌, ◌++◌, length, map, take, replicate, sym, ◌∙◌, ap, subst, arith, Bool, false, Vec, Global}
+use Rattle.std.proofs.Common.{◌≡◌, ◌≤◌, ◌+◌, ℕ, List, [], ◌∷◌, length, map, take, replicate, sym, ◌∙◌, ap, subst, arith, Bool, false, Vec, Global}
 use Rattle.std.proofs.lemmas.List.{length-map, map-append}
 use Rattle.topology.specs.declared.types.Device.{Device}
 use Rattle.topology.specs.Networks.{Network, NetDevice, IsNetwork, device_of, numbers, near}
 use Rattle.topology.specs.Nearby.{near_numbers}
 use Rattle.firing_core.specs.CoreViews.{CoreValue}
 use Rattle.message_links.specs.MailCores.{Pairs}
-use Rattle.message_links.specs.MailRounds.{posts_of}
 use Rattle.mail_book.specs.MailViews.{mail_of}
 use Rattle.mail_count.specs.declared.pairs.Bringing.{Bringing}
-use Rattle.mail_count.specs.Seen.{fresh, missing}
-use Rattle.mail_count.specs.Marks.{own_row, brought_row, own_rows, brought_rows, row_of, pair_rows, many, missing_rows}
+use Rattle.mail_count.specs.Seen.{missing}
+use Rattle.mail_count.specs.Marks.{brought_row, own_rows, brought_rows, row_of, pair_rows, many, missing_rows}
 use Rattle.mail_count.proofs.Rewriting.{take_all}
 use Rattle.mail_count.proofs.Tables.{all_false, all_missing, rows_missing}
 use Rattle.mail_count.proofs.NewMarks.{rows_more, many_more, fresh_own}

@@ -1,6 +1,5 @@
 use Rattle.std.proofs.Common.{◌≡◌, ◌≤◌, ◌*◌, length, map, take, replicate, false}
-use Rattle.topology.specs.Networks.{device_of, numbers, near}
-use Rattle.topology.specs.Nearby.{near_numbers}
+use Rattle.topology.specs.Networks.{device_of, numbers}
 use Rattle.mail_book.specs.MailViews.{mail_of}
 use Rattle.mail_count.specs.Marks.{own_rows, brought_rows, row_of, many}
 use Rattle.mail_count.proofs.marks.Marks.new.Given as goal

@@ -1,5 +1,5 @@
-use Rattle.std.proofs.Common.{◌≡◌, sym, ap, subst}
-use Rattle.message_links.specs.MailCores.{MailAgain, MailEntryValue}
+use Rattle.std.proofs.Common.{sym, subst}
+use Rattle.message_links.specs.MailCores.{MailAgain}
 use Rattle.message_links.specs.MailEntries.{mail_entry}
 use Rattle.message_links.specs.declared.entries.MailEntry.{MailEntry}
 use Rattle.mail_count.specs.Seen.{Seen, noted}

@@ -1,0 +1,12 @@
+use Rattle.std.proofs.Common.{◌≡◌, length}
+use Rattle.fc_nodes.specs.Program.{unfolding_of}
+use Rattle.firing_core.specs.Stretches.{RanRounds}
+use Rattle.worker_pool.specs.Working.{AreRooms}
+use Rattle.worker_pool.proofs.rounds.run_in.Given as goal
+
+abbrev pub invariant-loop : goal.invariant-loop
+invariant-loop g l = record {
+  ran : RanRounds l.fn.book l.counter l.book;
+  rooms : AreRooms (unfolding_of l.fn.book.program) l.rooms;
+  many : length l.rooms ≡ length l.fn.rooms;
+}
