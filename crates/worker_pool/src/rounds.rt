@@ -50,7 +50,7 @@ pub(crate) fn no_rooms(alloc: Global, workers: u32) -> Result<Vec<Option<Room>>,
     Ok(rooms)
 }
 
-/// The same by as many workers as there are places for rooms.
+/// What `run_rounds` does, by as many workers as there are places for rooms.
 pub(crate) fn run_in<R: Threads + Wait + Sync, G: Gate + Sync>(
     rt: &R,
     alloc: Global,
