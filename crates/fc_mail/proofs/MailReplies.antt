@@ -1,8 +1,7 @@
 -- What `mail` writes: something, and one thing.
-use Rattle.std.proofs.Common.{ℕ, ◌≡◌, ◌≤◌, List, [], ◌∷◌, length, refl, ap, ap₂, ◌∙◌, sym, subst, Bool, true, false, ◌++◌, map}
-use Rattle.std.specs.Prelude.{nat_lt, ◌||◌, nat_eq}
-use Rattle.fc_values.specs.Values.{LocalValue}
-use Rattle.fc_values.specs.Fields.{Entries, is_in}
+use Rattle.std.proofs.Common.{ℕ, ◌≡◌, ◌≤◌, List, length, refl, ap, ap₂, ◌∙◌, sym, subst, Bool, true, false, ◌++◌, map}
+use Rattle.std.specs.Prelude.{nat_lt}
+use Rattle.fc_values.specs.Fields.{Entries}
 use Rattle.fc_nodes.specs.Program.{IsProgram, Program, Unfolding, unfolding_of}
 use Rattle.fc_nodes.specs.declared.verdicts.Verdict.{Verdict}
 use Rattle.fc_nodes.specs.declared.verdicts.Verdict.TheVariants as verdict
@@ -22,7 +21,6 @@ use Rattle.mail_book.proofs.QuietStarts.{quiet_start}
 use Rattle.net_json.specs.Scenes.{SceneValue}
 use Rattle.report.specs.Texts.{field_text}
 use Rattle.report.specs.Verdicts.{rounds_text, verdict_text}
-use Rattle.stable_field.specs.Stable.{IsStableField}
 use Rattle.stable_field.proofs.OneField.{one_field}
 use Rattle.fc_inputs.specs.declared.sources.TheConstants.{MOST_BYTES}
 use Rattle.fc_inputs.specs.declared.refusal.Refusal.TheVariants as refusal
