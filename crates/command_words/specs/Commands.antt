@@ -1,7 +1,7 @@
 -- What commands are, and the limits of their numbers.
 use Rattle.std.specs.Prelude.{ℕ, ◌≤◌, nat_lt, if◌then◌else◌, List, codes, Option, Some, None}
 use Rattle.std.specs.Option.{option_or}
-use Rattle.command_words.specs.declared.commands.TheConstants.{MOST_WORKERS, MOST_DEVICES}
+use Rattle.fc_values.specs.declared.limits.TheConstants.{MOST_SCENARIO_DEVICES, MOST_WORKERS}
 use Rattle.command_words.specs.declared.commands.Command.{Command}
 use Rattle.command_words.specs.declared.commands.Command.TheVariants.{Check, Stable, Run, Replay, Format, Gen, Trace, Mail}
 use Rattle.command_words.specs.declared.commands.Limit.{Limit}
@@ -29,7 +29,7 @@ workers_limit n = if nat_lt MOST_WORKERS n then Some (Workers, n) else None
 
 -- too many devices pass the limit
 abbrev pub devices_limit : ℕ → Option (Limit × ℕ)
-devices_limit n = if nat_lt MOST_DEVICES n then Some (Devices, n) else None
+devices_limit n = if nat_lt MOST_SCENARIO_DEVICES n then Some (Devices, n) else None
 
 -- the limit that a command's numbers pass, with the number: workers are looked at before devices
 abbrev pub limit_of : Command → Option (Limit × ℕ)

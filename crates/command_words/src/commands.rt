@@ -3,6 +3,8 @@
 ghost use Rattle.std.specs.Prelude.{◌≡◌};
 ghost use Rattle.command_words.specs.Commands.{limit_of, limit_name};
 
+use fc_values::{MOST_SCENARIO_DEVICES, MOST_WORKERS};
+
 /// A command with its options.
 #[derive(Clone, Copy, Debug, PartialEq, Eq)]
 pub enum Command {
@@ -39,12 +41,6 @@ pub enum Command {
     },
 }
 
-/// The most workers.
-pub const MOST_WORKERS: u32 = 16;
-
-/// The most devices of a scenario.
-pub const MOST_DEVICES: u32 = 512;
-
 /// What a number of the words may pass.
 #[derive(Clone, Copy, Debug, PartialEq, Eq)]
 pub enum Limit {
@@ -76,7 +72,10 @@ pub fn passed_limit(command: Command) -> Option<(Limit, u32)>
     match command {
         Command::Run { workers, .. } if MOST_WORKERS < workers => Some((Limit::Workers, workers)),
         Command::Gen { workers, .. } if MOST_WORKERS < workers => Some((Limit::Workers, workers)),
-        Command::Gen { devices, .. } if MOST_DEVICES < devices => Some((Limit::Devices, devices)),
+        Command::Gen { devices, .. } if MOST_SCENARIO_DEVICES < devices => Some((
+            Limit::Devices,
+            devices,
+        )),
         _ => None,
     }
 }

@@ -7,7 +7,7 @@ mod options;
 mod settings;
 mod words;
 
-pub use commands::{Command, Limit, MOST_WORKERS, passed_limit};
+pub use commands::{Command, Limit, passed_limit};
 pub use words::{command, words_ask_for_commands};
 
 #[cfg(test)]

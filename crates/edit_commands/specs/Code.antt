@@ -3,6 +3,7 @@ use Rattle.std.specs.Prelude.{ℕ, Bool, false, ◌≡◌, ◌≤◌, List, map,
 use Rattle.std.specs.Borrow.{Bor}
 use Rattle.fc_values.specs.Values.{local_of}
 use Rattle.topology.specs.Networks.{device_of}
+use Rattle.topology.specs.declared.types.TheConstants.{GREATEST_NUMBER}
 use Rattle.firing_core.specs.CoreViews.{CoreValue, core_of}
 use Rattle.edit_commands.specs.declared.edits.EditLine.{EditLine as Line}
 use Rattle.edit_commands.specs.declared.edits.EditLine.TheVariants as line
@@ -31,13 +32,13 @@ line_of (line.Leave d) = LeaveLine d
 abbrev pub ReadsLine : Option EditLine → Option Line → Type 0
 ReadsLine line read = option_map line_of read ≡ option_map narrow_line line
 
--- a device that joins has a number of at most 65,535
+-- a device that joins has a number that a device can have
 abbrev pub LineFits : EditLine → Type 0
 LineFits (LinkLine a b w) = Unit {0}
 LineFits (UnlinkLine a b) = Unit {0}
 LineFits (SetLine d i v) = Unit {0}
 LineFits (PokeLine d v ks) = Unit {0}
-LineFits (JoinLine x) = x.id ≤ 65535
+LineFits (JoinLine x) = x.id ≤ GREATEST_NUMBER
 LineFits (LeaveLine d) = Unit {0}
 
 abbrev pub ReadFits : Option Line → Type 0

@@ -1,6 +1,7 @@
 //! Edits against the network that the lines before leave.
 
 ghost use Rattle.std.specs.Prelude.{◌≡◌, ◌≤◌, map, IfOk, IfErr, OnOk, None};
+ghost use Rattle.topology.specs.declared.types.TheConstants.{GREATEST_NUMBER};
 ghost use Rattle.fc_values.specs.Values.{local_of};
 ghost use Rattle.fc_nodes.specs.Program.{unfolding_of};
 ghost use Rattle.topology.specs.Networks.{device_of, lives};
@@ -85,7 +86,7 @@ fn set(
 
 // The device that joins.
 fn join(alloc: Global, net: &mut Network, device: Device) -> Result<Edit, LineFault>
-    requires { device.id ≤ 65535 }
+    requires { device.id ≤ GREATEST_NUMBER }
     ensures says { IfOk result (λ e. edit_of e ≡ JoinEdit (device_of device)) }
     ensures allowed { OnOk result (join_fault net.old (device_of device) ≡ None) }
     ensures after { OnOk result (net.new ≡ joined net.old (device_of device)) }

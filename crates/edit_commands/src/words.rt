@@ -4,11 +4,16 @@ ghost use Rattle.std.specs.Prelude.{◌≡◌};
 ghost use Rattle.edit_commands.specs.Words.{device_of};
 
 use fc_values::number;
+use topology::GREATEST_NUMBER;
 
 /// The number of a device that may join, if a word writes one.
 pub(crate) fn device_number(word: &[u8]) -> Option<u32>
     ensures { result ≡ device_of word.now }
 {
     let device = number(word)?;
-    if device <= 65535 { Some(device) } else { None }
+    if device <= GREATEST_NUMBER {
+        Some(device)
+    } else {
+        None
+    }
 }

@@ -18,7 +18,7 @@ use Rattle.fc_inputs.specs.Causes.{Cause, Plainly, Judged, Accepted, Refused, An
 use Rattle.fc_inputs.specs.Inputs.{InputOf, ReadsInput}
 use Rattle.fc_inputs.specs.Refusals.{Reply}
 use Rattle.fc_inputs.specs.Sections.{sections_of, other_number, WithTwo, WithThree}
-use Rattle.fc_inputs.specs.declared.sources.TheConstants.{MOST_BYTES}
+use Rattle.fc_values.specs.declared.limits.TheConstants.{MOST_BYTES}
 use Rattle.fc_check.specs.Checks.{Checks, ChecksScene, facts_behind, verdict_status}
 use Rattle.interval_facts.specs.Ranges.{ranges_of}
 use Rattle.report.specs.Facts.{facts_text}

@@ -9,10 +9,10 @@ use Rattle.command_words.specs.declared.commands.Command.{Command}
 use Rattle.command_words.specs.declared.commands.Command.TheVariants.{Check, Stable, Run, Replay, Format, Gen, Trace, Mail}
 use Rattle.command_words.specs.declared.commands.Limit.{Limit}
 use Rattle.command_words.specs.declared.commands.Limit.TheVariants.{Workers, Devices}
-use Rattle.command_words.specs.declared.commands.TheConstants.{MOST_WORKERS, MOST_DEVICES}
+use Rattle.fc_values.specs.declared.limits.TheConstants.{MOST_SCENARIO_DEVICES, MOST_WORKERS}
 use Rattle.command_words.specs.Commands.{IsCommand, devices_limit, limit_of, workers_limit}
 use Rattle.fc_inputs.specs.declared.refusal.Refusal.TheVariants.{Usage, Bytes}
-use Rattle.fc_inputs.specs.declared.sources.TheConstants.{MOST_BYTES}
+use Rattle.fc_values.specs.declared.limits.TheConstants.{MOST_BYTES}
 use Rattle.fc_inputs.specs.Causes.{Plainly, Judged, Accepted, Refused, judged_map}
 use Rattle.fc_inputs.specs.Refusals.{Reply}
 use Rattle.fc_inputs.specs.Sections.{sections_of, AreWithin, SectionsAreWithin, WithOne, WithTwo, WithThree, other_number}
@@ -36,13 +36,13 @@ use Rattle.fc_answers.specs.Laws.{SomeAnswer}
 
 -- a scenario whose numbers pass no limit has few devices
 few_devices : (workers devices : ℕ) → option_or (workers_limit workers) (devices_limit devices) ≡ None
-    → devices ≤ 512
-few_devices workers devices h = by_tests (nat_lt MOST_WORKERS workers) (nat_lt MOST_DEVICES devices) refl h
+    → devices ≤ MOST_SCENARIO_DEVICES
+few_devices workers devices h = by_tests (nat_lt MOST_WORKERS workers) (nat_lt MOST_SCENARIO_DEVICES devices) refl h
   where
-    by_tests : (p q : Bool) → nat_lt MOST_DEVICES devices ≡ q
+    by_tests : (p q : Bool) → nat_lt MOST_SCENARIO_DEVICES devices ≡ q
         → option_or {T = Limit × ℕ} (if p then Some (Workers, workers) else None)
         (if q then Some (Devices, devices) else None) ≡ None
-        → devices ≤ 512
+        → devices ≤ MOST_SCENARIO_DEVICES
     by_tests true q e h = absurd cc
     by_tests false true e h = absurd cc
     by_tests false false e h = grind (arith, nat_tests)

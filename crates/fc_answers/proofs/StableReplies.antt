@@ -12,7 +12,7 @@ use Rattle.stable_field.specs.Stable.{IsStableField}
 use Rattle.net_json.specs.FittingScenes.{AcceptedScenesFit}
 use Rattle.net_json.specs.Scenes.{SceneValue}
 use Rattle.report.specs.Texts.{field_text}
-use Rattle.fc_inputs.specs.declared.sources.TheConstants.{MOST_BYTES}
+use Rattle.fc_values.specs.declared.limits.TheConstants.{MOST_BYTES}
 use Rattle.fc_inputs.specs.Refusals.{Reply}
 use Rattle.fc_inputs.specs.Causes.{Cause, Judged, Accepted, Refused, AndThen}
 use Rattle.fc_inputs.specs.Inputs.{InputOf, OneInput, ReadsInput}

@@ -29,7 +29,8 @@ use Rattle.fc_check.specs.Checks.{Checks, ChecksScene, verdict_status}
 use Rattle.message_links.specs.MailCores.{MailCore, MailEntryValue}
 use Rattle.mail_lines.specs.MailLines.{mail_log}
 use Rattle.mail_book.specs.MailViews.{quiet}
-use Rattle.fc_mail.specs.Drives.{most, messages, DrivesWithin, DrivesBy, DrivesScene, DrivesMail}
+use Rattle.fc_mail.specs.Drives.{messages, DrivesWithin, DrivesBy, DrivesScene, DrivesMail}
+use Rattle.fc_mail.specs.declared.driven.TheConstants.{MOST_MESSAGES}
 use Rattle.fc_mail.specs.Mails.{MailsLines, MailsScene, Mails}
 use Rattle.walk_form.specs.Forms.{WalkTerms, walk_terms}
 use Rattle.fc_trace.specs.Traces.{TracedBy, TracesScene, Traces}
@@ -42,7 +43,7 @@ use Rattle.fc_inputs.specs.Inputs.{InputOf, with_scene, ReadsInput}
 use Rattle.fc_replay.specs.declared.replays.Options.{Options}
 use Rattle.fc_replay.specs.Stopping.{fault_in, first_stop}
 use Rattle.fc_replay.specs.Replays.{start_of, Shown, ReplaysEntries, ReplaysLog, Replays}
-use Rattle.fc_inputs.specs.declared.sources.TheConstants.{MOST_BYTES}
+use Rattle.fc_values.specs.declared.limits.TheConstants.{MOST_BYTES}
 use Rattle.fc_answers.specs.Asked.{reads, limit_refusal}
 use Rattle.fc_run.specs.declared.runs.RunOptions.{RunOptions}
 use Rattle.fc_run.specs.Runs.{RanValue, Runs, RunsScript, line_refusal}
@@ -283,7 +284,7 @@ mail_replies program network log j h = by_input h.judged (input_causes program n
 
 drives_by : (number : ℕ) (v : Verdict) (U : Unfolding) (N : Network) (j : Judged Reply) → DrivesBy number v U N j → ReplyJudges j
 drives_by number (verdict.No place why) U N j e = subst ReplyJudges (sym e) by_one
-drives_by number (verdict.Yes rounds) U N j h = by_limit (nat_lt most (messages N rounds)) h
+drives_by number (verdict.Yes rounds) U N j h = by_limit (nat_lt MOST_MESSAGES (messages N rounds)) h
   where
     by_limit : (b : Bool) → DrivesWithin b number U N rounds j → ReplyJudges j
     by_limit true e = subst ReplyJudges (sym e) by_four

@@ -22,7 +22,7 @@ use Rattle.fc_replay.specs.Replays.{Shown, Replays}
 use Rattle.fc_gen.specs.Gens.{GenValue, Gens}
 use Rattle.fc_run.specs.declared.runs.RunOptions.{RunOptions}
 use Rattle.fc_run.specs.Runs.{RanValue, Runs}
-use Rattle.fc_inputs.specs.declared.sources.TheConstants.{MOST_BYTES}
+use Rattle.fc_values.specs.declared.limits.TheConstants.{MOST_BYTES, MOST_SCENARIO_DEVICES}
 use Rattle.fc_answers.specs.Asked.{reads, limit_refusal}
 use Rattle.fc_trace.specs.Traces.{Traces}
 use Rattle.fc_answers.specs.Stabilised.{Stabilised}
@@ -79,7 +79,7 @@ generating g = record { status = 0; text = g.text; book = Some g.book; parts = g
 -- `gen` shows the run of a scenario. The number of its workers makes no difference
 pub record ShowsGen (number devices : ℕ) (j : Judged AnswerValue) : Type 0 where
   pub least : 3 ≤ devices
-  pub most : devices ≤ 512
+  pub most : devices ≤ MOST_SCENARIO_DEVICES
   pub gen : GenValue
   pub gens : Gens number devices gen
   pub shows : j ≡ Accepted (generating gen)

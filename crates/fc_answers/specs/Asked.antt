@@ -1,5 +1,6 @@
 -- What the words ask for, and what each command does with the outside.
-use Rattle.std.specs.Prelude.{ℕ, Bool, true, false, ◌&&◌, is_none, IfSome, Option, Some, None}
+use Rattle.std.specs.Prelude.{ℕ, Bool, true, false, ◌&&◌, min, max, is_none, IfSome, Option, Some, None}
+use Rattle.fc_values.specs.declared.limits.TheConstants.{MOST_WORKERS}
 use Rattle.command_words.specs.declared.commands.Command.{Command}
 use Rattle.command_words.specs.declared.commands.Command.TheVariants.{Check, Stable, Run, Replay}
 use Rattle.command_words.specs.declared.commands.Command.TheVariants.{Format, Gen, Trace, Mail}
@@ -40,6 +41,26 @@ limit_refusal Devices count = refusal.Devices count
 abbrev pub reads_source : Option Command → Bool
 reads_source None = false
 reads_source (Some command) = is_none (limit_of command) && reads command
+
+-- a number of workers, from one to the most
+abbrev pub few_workers : ℕ → ℕ
+few_workers workers = max 1 (min MOST_WORKERS workers)
+
+-- how many workers a command has: as many as its words say, from one to the most, and one where they say none
+abbrev pub workers_of : Command → ℕ
+workers_of (Run workers log table) = few_workers workers
+workers_of (Gen number devices workers) = few_workers workers
+workers_of Format = 1
+workers_of (Replay rounds table) = 1
+workers_of (Check facts) = 1
+workers_of Stable = 1
+workers_of Trace = 1
+workers_of (Mail number) = 1
+
+-- the same of what the words ask for
+abbrev pub workers_asked : Option Command → ℕ
+workers_asked None = 1
+workers_asked (Some command) = workers_of command
 
 -- what words can ask for
 abbrev pub MayAsk : Option Command → Type 0

@@ -7,7 +7,7 @@ ghost use Rattle.fc_inputs.specs.Stops.{StopsFor};
 ghost use Rattle.fc_answers.specs.Answers.{AnswersSections, AnswersUnread, Formats};
 ghost use Rattle.fc_answers.specs.Asked.{reads};
 ghost use Rattle.fc_answers.specs.Code.{value_of};
-ghost use Rattle.fc_inputs.specs.declared.sources.TheConstants.{MOST_BYTES};
+ghost use Rattle.fc_values.specs.declared.limits.TheConstants.{MOST_BYTES};
 
 use crate::stabilised::stabilised;
 use command_words::Command;

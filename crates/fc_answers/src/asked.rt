@@ -1,10 +1,12 @@
 //! What the words of a command line ask for.
 ghost use Rattle.std.specs.Prelude.{◌≡◌, ◌≤◌, option_map};
+ghost use Rattle.fc_values.specs.declared.limits.TheConstants.{MOST_WORKERS};
 ghost use Rattle.command_words.specs.Commands.{limit_of};
-ghost use Rattle.fc_answers.specs.Asked.{limit_refusal, reads as reads_of};
+ghost use Rattle.fc_answers.specs.Asked.{limit_refusal, reads as reads_of, workers_asked};
 
-use command_words::{Command, Limit, MOST_WORKERS, passed_limit};
+use command_words::{Command, Limit, passed_limit};
 use fc_inputs::Refusal;
+use fc_values::MOST_WORKERS;
 
 /// Whether a command reads the source.
 pub fn reads(command: Command) -> bool
@@ -33,11 +35,11 @@ pub fn past_limit(command: Command) -> Option<Refusal>
     }
 }
 
-/// How many workers what the words ask for has: one where it has none, or has a number past the limit, of which
-/// nothing is done.
+/// How many workers what the words ask for has: as many as they say, from one to the most, and one where they say none.
 pub fn workers_of(asked: Option<Command>) -> u32
+    ensures asked { result ≡ workers_asked asked }
     ensures some { 1 ≤ result }
-    ensures most { result ≤ 16 }
+    ensures most { result ≤ MOST_WORKERS }
 {
     match asked {
         Some(Command::Run { workers, .. } | Command::Gen { workers, .. }) => {

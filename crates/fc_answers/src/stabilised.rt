@@ -6,7 +6,7 @@ ghost use Rattle.fragment_check.specs.Verdicts.{verdict_of};
 ghost use Rattle.report.specs.Texts.{field_text};
 ghost use Rattle.fc_inputs.specs.Causes.{Accepted, Refused};
 ghost use Rattle.fc_inputs.specs.Stops.{StopsFor};
-ghost use Rattle.fc_inputs.specs.declared.sources.TheConstants.{MOST_BYTES};
+ghost use Rattle.fc_values.specs.declared.limits.TheConstants.{MOST_BYTES};
 ghost use Rattle.fc_answers.specs.Stabilised.{Stabilised, StabilisedBy};
 
 use fc_check::checked;

@@ -1,6 +1,8 @@
 //! Scenarios: their programs, the script runs over them, and what `gen` gives of these.
 
 ghost use Rattle.std.specs.Prelude.{◌≡◌, ◌≤◌, ◌+◌, ◌*◌, IfOk, length, map};
+ghost use Rattle.fc_values.specs.declared.limits.TheConstants.{MOST_SCENARIO_DEVICES};
+ghost use Rattle.edit_commands.specs.declared.scripts.TheConstants.{MOST_FIRINGS};
 ghost use Rattle.fc_values.specs.Fields.{Entries, entry_of};
 ghost use Rattle.fc_syntax.specs.Terms.{program_of};
 ghost use Rattle.firing_core.specs.CoreViews.{core_of};
@@ -45,7 +47,7 @@ pub struct Generated {
 // The nodes of the program of a ring. It is typed and within the limit, so only memory can be wanting.
 fn nodes(alloc: Global, program: Program, devices: u32) -> Result<Unfolded, Memory>
     requires least { 3 ≤ devices }
-    requires most { devices ≤ 512 }
+    requires most { devices ≤ MOST_SCENARIO_DEVICES }
     requires program { program_of program ≡ ring_program devices }
     ensures { IfOk result (λ nodes. unfolding_of nodes ≡ scenario_program devices) }
 {
@@ -72,7 +74,7 @@ fn field(alloc: Global, program: &Unfolded, net: &Network) -> Result<Vec<(u32, L
 
 // The rounds that the verdict on a scenario says.
 fn rounds_of(devices: u32) -> u32
-    requires { devices ≤ 512 }
+    requires { devices ≤ MOST_SCENARIO_DEVICES }
     ensures { result ≡ 2 + 2 * devices }
 {
     2 + 2 * devices
@@ -104,7 +106,7 @@ fn ran<W: Threads + Wait + Sync, G: Gate + Sync>(
     pool: &Pool<W, G>,
 ) -> Result<Session, Memory>
     requires least { 1 ≤ rounds }
-    requires few { rounds * length net.devices ≤ 1000000 }
+    requires few { rounds * length net.devices ≤ MOST_FIRINGS }
     requires declared { net.declared ≡ program.declared }
     ensures { IfOk result (IsRun program net number rounds) }
 {
@@ -152,7 +154,7 @@ pub fn generate<W: Threads + Wait + Sync, G: Gate + Sync>(
     pool: &Pool<W, G>,
 ) -> Result<Generated, Memory>
     requires least { 3 ≤ devices }
-    requires most { devices ≤ 512 }
+    requires most { devices ≤ MOST_SCENARIO_DEVICES }
     ensures { IfOk result (λ g. Gens number devices (gen_of g)) }
 {
     rings_are_networks();

@@ -17,7 +17,7 @@ use Rattle.fc_types.specs.Laws as types
 use Rattle.fc_nodes.specs.Program.{Unfolding}
 use Rattle.net_json.specs.Scenes.{scene_of}
 use Rattle.unfold.specs.declared.count.TheConstants.{MOST_COUNTED}
-use Rattle.unfold.specs.declared.unfolding.TheConstants.{MOST_NODES}
+use Rattle.fc_values.specs.declared.limits.TheConstants.{MOST_NODES}
 use Rattle.unfold.specs.Nodes.{Nodes}
 use Rattle.fc_inputs.specs.declared.refusal.Refusal.{Refusal}
 use Rattle.fc_inputs.specs.declared.refusal.Refusal.TheVariants.{Lexical, Tokens, Depth, Syntax, Types, Nodes as Size}

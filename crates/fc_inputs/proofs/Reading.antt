@@ -15,7 +15,7 @@ use Rattle.fc_types.specs.Faults.{FirstFault}
 use Rattle.fc_types.specs.Views.{IfFault}
 use Rattle.fc_nodes.specs.Program.{Unfolding}
 use Rattle.unfold.specs.declared.count.TheConstants.{MOST_COUNTED}
-use Rattle.unfold.specs.declared.unfolding.TheConstants.{MOST_NODES}
+use Rattle.fc_values.specs.declared.limits.TheConstants.{MOST_NODES}
 use Rattle.unfold.specs.declared.faults.UnfoldFault.{UnfoldFault}
 use Rattle.unfold.specs.declared.faults.UnfoldFault.TheVariants as size_fault
 use Rattle.unfold.specs.Nodes.{Nodes}

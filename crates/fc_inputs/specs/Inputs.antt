@@ -7,7 +7,7 @@ use Rattle.fc_syntax.specs.Terms.{Declaration}
 use Rattle.fc_nodes.specs.Program.{IsProgram, Program, Unfolding, unfolding_of}
 use Rattle.net_json.specs.Judging as scene
 use Rattle.net_json.specs.Scenes.{SceneValue, scene_of}
-use Rattle.fc_inputs.specs.declared.sources.TheConstants.{MOST_BYTES}
+use Rattle.fc_values.specs.declared.limits.TheConstants.{MOST_BYTES}
 use Rattle.fc_inputs.specs.Causes.{InScene, Judged, Accepted, Refused, AndThen}
 use Rattle.fc_inputs.specs.Sources.{IsProgramText, ReadsSource, ReadsProgram}
 

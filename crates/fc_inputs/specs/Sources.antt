@@ -16,7 +16,7 @@ use Rattle.fc_inputs.specs.declared.refusal.Refusal.TheVariants.{Lexical, Tokens
 use Rattle.fc_inputs.specs.declared.refusal.Refusal.TheVariants.{Nodes as Size}
 use Rattle.fc_inputs.specs.Causes.{Plainly, InScene, Judged, Accepted, Refused}
 use Rattle.unfold.specs.declared.count.TheConstants.{MOST_COUNTED}
-use Rattle.unfold.specs.declared.unfolding.TheConstants.{MOST_NODES}
+use Rattle.fc_values.specs.declared.limits.TheConstants.{MOST_NODES}
 use Rattle.unfold.specs.Nodes.{Nodes}
 use Rattle.unfold.specs.Unfolding.{main_term}
 

@@ -20,5 +20,5 @@ pub use laws::{
 };
 pub use refusal::{LineFault, Refusal, log_refusal, script_refusal};
 pub use reply::{Failure, Reply, rendered};
-pub use sources::{MOST_BYTES, read_program, read_source};
+pub use sources::{read_program, read_source};
 pub use stop::Stop;

@@ -1,5 +1,6 @@
 //! The program that the text of a section is.
 ghost use Rattle.std.specs.Prelude.{◌≤◌, IfErr, IfOk, length};
+ghost use Rattle.fc_values.specs.declared.limits.TheConstants.{MOST_BYTES};
 ghost use Rattle.fc_syntax.specs.Printable.{IsPrintable};
 ghost use Rattle.fc_syntax.specs.Terms.{program_of};
 ghost use Rattle.fc_nodes.specs.Program.{unfolding_of};
@@ -15,9 +16,6 @@ use fc_syntax::Program;
 use fc_types::check_types;
 use std::alloc::Global;
 use unfold::unfold;
-
-/// How many bytes an input has at most.
-pub const MOST_BYTES: usize = 1_048_576;
 
 /// The program that the tokens of a text derive.
 pub fn read_source(alloc: Global, text: &[u8]) -> Result<Program, Stop>

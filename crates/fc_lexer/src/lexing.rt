@@ -2,6 +2,7 @@
 
 ghost use Rattle.std.specs.Prelude.{◌≡◌, ◌≤◌, IfErr, IfOk, length};
 ghost use Rattle.std.specs.List.{count_by};
+ghost use Rattle.fc_values.specs.declared.limits.TheConstants.{MOST_BYTES};
 ghost use Rattle.fc_lexer.specs.Bytes.{is_line_feed};
 ghost use Rattle.fc_lexer.specs.Kinds.{tokens_of};
 ghost use Rattle.fc_lexer.specs.Lexes.{IsAlone, Lexes, Stops, StopsAlone};
@@ -20,7 +21,7 @@ fn line_feeds(bytes: &[u8]) -> usize
 
 /// The tokens of a text, each the longest that begins where it stands. `At` is the first byte at which nothing begins.
 pub fn lex(alloc: Global, text: &[u8]) -> Result<Vec<Token>, LexFault>
-    requires { length text.now ≤ 1048576 }
+    requires { length text.now ≤ MOST_BYTES }
     ensures reads { IfOk result (λ tokens. Lexes text.now (tokens_of tokens.items)) }
     ensures few { IfOk result (λ tokens. length tokens.items ≤ length text.now) }
     ensures only { IfOk result (λ tokens. IsAlone text.now (tokens_of tokens.items)) }

@@ -1,13 +1,14 @@
 //! The longest piece that begins a text.
 
 ghost use Rattle.std.specs.Prelude.{◌≡◌, ◌≤◌, length};
+ghost use Rattle.fc_values.specs.declared.limits.TheConstants.{MOST_BYTES};
 ghost use Rattle.fc_lexer.specs.Sizes.{size_of};
 
 use crate::bytes::{Class, class_of, digit_run, line_run, name_run, space_run};
 
 /// The size of the longest token, run of spaces or comment that begins here, or 0.
 pub fn piece_size(text: &[u8]) -> usize
-    requires { length text.now ≤ 1048576 }
+    requires { length text.now ≤ MOST_BYTES }
     ensures { result ≡ size_of text.now }
 {
     let [first, rest @ ..] = text else {

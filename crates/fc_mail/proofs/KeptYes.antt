@@ -24,7 +24,8 @@ use Rattle.fc_inputs.specs.Inputs.{InputOf, ReadsInput}
 use Rattle.fc_inputs.specs.Refusals.{Reply}
 use Rattle.fc_replay.specs.Laws.{InputsStart}
 use Rattle.fc_replay.specs.Replays.{start_of}
-use Rattle.fc_mail.specs.Drives.{messages, most, DrivesBy, DrivesScene, DrivesWithin, WritesDriven}
+use Rattle.fc_mail.specs.Drives.{messages, DrivesBy, DrivesScene, DrivesWithin, WritesDriven}
+use Rattle.fc_mail.specs.declared.driven.TheConstants.{MOST_MESSAGES}
 use Rattle.fc_mail.specs.Laws.{DrivenMailKeepsYes, DrivenMailsKeepYes, MailKeepsYes, MailsKeepYes}
 use Rattle.fc_mail.specs.Mails.{Mailed, MailsLines, MailsScene, ShowsMail, StopsMail, entries_in}
 use Rattle.fc_mail.proofs.Driving.{field_values, held}
@@ -141,7 +142,7 @@ module _ (starts : InputsStart) (law : YesStabilisesMail) (covers : DrivenRounds
   by_verdict (verdict.No place why) e h =
       let one : 0 ≡ 1 = sym zero_is ∙ ap (λ (x : Reply). x.status) (accepted_same r _ h) in
       absurd (cc one)
-  by_verdict (verdict.Yes k) e h = within (nat_lt most (messages i.1.net k)) k e h
+  by_verdict (verdict.Yes k) e h = within (nat_lt MOST_MESSAGES (messages i.1.net k)) k e h
 
 pub driven_mails_keep_yes : InputsStart → YesStabilisesMail → DrivenRounds → DrivenMailsKeepYes
 driven_mails_keep_yes starts law covers number program network r h zero = by_input h.judged h.reads h.ends

@@ -22,7 +22,7 @@ use Rattle.net_json.specs.Scenes.{SceneValue}
 use Rattle.report.specs.Texts.{field_text}
 use Rattle.report.specs.Verdicts.{rounds_text, verdict_text}
 use Rattle.stable_field.proofs.OneField.{one_field}
-use Rattle.fc_inputs.specs.declared.sources.TheConstants.{MOST_BYTES}
+use Rattle.fc_values.specs.declared.limits.TheConstants.{MOST_BYTES}
 use Rattle.fc_inputs.specs.declared.refusal.Refusal.TheVariants as refusal
 use Rattle.fc_inputs.specs.Refusals.{Reply}
 use Rattle.fc_inputs.specs.Causes.{Plainly, Judged, Accepted, Refused, AndThen}
@@ -32,7 +32,8 @@ use Rattle.fc_check.specs.Laws.{OneVerdict, SomeCheck}
 use Rattle.fc_replay.specs.Replays.{start_of}
 use Rattle.fc_replay.specs.Laws.{InputsStart}
 use Rattle.fc_mail.specs.Mails.{Mails, MailsLines, MailsScene}
-use Rattle.fc_mail.specs.Drives.{most, messages, DrivesWithin, DrivesBy, DrivesScene, DrivesMail}
+use Rattle.fc_mail.specs.Drives.{messages, DrivesWithin, DrivesBy, DrivesScene, DrivesMail}
+use Rattle.fc_mail.specs.declared.driven.TheConstants.{MOST_MESSAGES}
 use Rattle.fc_mail.proofs.MailEndings.{one_number, one_lines, some_lines}
 
 -- an accepted scene starts a log
@@ -97,7 +98,7 @@ module _ (number : ℕ) (U : Unfolding) (N : Network) (j k : Judged Reply) where
 
   one_driven_by : (v : Verdict) → DrivesBy number v U N j → DrivesBy number v U N k → j ≡ k
   one_driven_by (verdict.No place why) h g = h ∙ sym g
-  one_driven_by (verdict.Yes rounds) h g = one_within (nat_lt most (messages N rounds)) rounds h g
+  one_driven_by (verdict.Yes rounds) h g = one_within (nat_lt MOST_MESSAGES (messages N rounds)) rounds h g
 
 pub one_driven : OneInput → OneVerdict → (number : ℕ) (program network : List ℕ) (j k : Judged Reply) → DrivesMail number program network j → DrivesMail number program network k → j ≡ k
 one_driven input verdicts number program network j k h g =
@@ -125,7 +126,7 @@ module _ (law : YesStabilises) (greatest : SomeGreatestMail) (number : ℕ) (P :
 
   some_driven_by : (v : Verdict) → verdict_of P (length s.net.devices) ≡ v → (j : Judged Reply) × DrivesBy number v (unfolding_of P) s.net j
   some_driven_by (verdict.No place why) e = (Accepted (record { status = 1; text = verdict_text (verdict.No place why) }), refl)
-  some_driven_by (verdict.Yes rounds) e = some_within (nat_lt most (messages s.net rounds)) rounds e
+  some_driven_by (verdict.Yes rounds) e = some_within (nat_lt MOST_MESSAGES (messages s.net rounds)) rounds e
 
 pub some_driven : SomeCheck → InputsStart → YesStabilises → SomeGreatestMail → (number : ℕ) (program network : List ℕ) → length program ≤ MOST_BYTES → (j : Judged Reply) × DrivesMail number program network j
 some_driven check starts law greatest number program network short =

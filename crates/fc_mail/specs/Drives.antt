@@ -20,10 +20,7 @@ use Rattle.fc_inputs.specs.declared.refusal.Refusal.TheVariants as refusal
 use Rattle.fc_inputs.specs.Refusals.{Reply}
 use Rattle.fc_inputs.specs.Causes.{Plainly, Judged, Accepted, Refused, AndThen}
 use Rattle.fc_inputs.specs.Inputs.{InputOf, ReadsInput}
-
--- at most so many messages
-abbrev pub most : ℕ
-most = 1000000
+use Rattle.fc_mail.specs.declared.driven.TheConstants.{MOST_MESSAGES}
 
 -- so many rounds, times the sum of the devices and twice the links
 abbrev pub messages : Network → ℕ → ℕ
@@ -48,7 +45,7 @@ DrivesWithin false number U N rounds j = WritesDriven number U N rounds j
 abbrev pub DrivesBy : ℕ → Verdict → Unfolding → Network → Judged Reply → Type 0
 DrivesBy number (verdict.No place why) U N j =
     j ≡ Accepted (record { status = 1; text = verdict_text (verdict.No place why) })
-DrivesBy number (verdict.Yes rounds) U N j = DrivesWithin (nat_lt most (messages N rounds)) number U N rounds j
+DrivesBy number (verdict.Yes rounds) U N j = DrivesWithin (nat_lt MOST_MESSAGES (messages N rounds)) number U N rounds j
 
 -- a program and a scene of it: the program is unfolded
 pub record DrivesScene (number : ℕ) (U : Unfolding) (s : SceneValue) (j : Judged Reply) : Type 0 where

@@ -11,9 +11,9 @@ ghost use Rattle.mail_book.specs.MailViews.{mail_of};
 ghost use Rattle.report.specs.Verdicts.{verdict_text};
 ghost use Rattle.fc_inputs.specs.Causes.{Accepted, Refused};
 ghost use Rattle.fc_inputs.specs.Stops.{StopsFor};
-ghost use Rattle.fc_inputs.specs.declared.sources.TheConstants.{MOST_BYTES};
+ghost use Rattle.fc_values.specs.declared.limits.TheConstants.{MOST_BYTES};
 ghost use Rattle.fc_mail.specs.Code.{IsQuietOn};
-ghost use Rattle.fc_mail.specs.Drives.{DrivesBy, DrivesMail, WritesDriven, messages, most};
+ghost use Rattle.fc_mail.specs.Drives.{DrivesBy, DrivesMail, WritesDriven, messages};
 
 use crate::shown::show;
 use fc_inputs::{Refusal, Reply, Stop, read_input};
@@ -33,7 +33,7 @@ use std::sync::Arc;
 use topology::Network;
 
 // At most so many messages are driven.
-const MOST_MESSAGES: u64 = 1000000;
+pub const MOST_MESSAGES: u64 = 1_000_000;
 
 // The mail core of a scene in which flights are ended, smallest first, nothing was heard and nothing is in transit.
 fn settled(alloc: Global, program: &Arc<Unfolded>, scene: Scene) -> Result<Mail, Memory>

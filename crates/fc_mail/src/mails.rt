@@ -9,7 +9,7 @@ ghost use Rattle.mail_lines.specs.MailLines.{IsMailLog, mail_log, mailed};
 ghost use Rattle.mail_book.specs.MailViews.{mail_of, quiet};
 ghost use Rattle.fc_inputs.specs.Causes.{Accepted, Refused};
 ghost use Rattle.fc_inputs.specs.Stops.{StopsFor};
-ghost use Rattle.fc_inputs.specs.declared.sources.TheConstants.{MOST_BYTES};
+ghost use Rattle.fc_values.specs.declared.limits.TheConstants.{MOST_BYTES};
 ghost use Rattle.fc_replay.specs.Replays.{start_of};
 ghost use Rattle.fc_mail.specs.Code.{IsFaultyMail, IsMailed, IsStoppedMail, MailWithin, mail_stop};
 ghost use Rattle.fc_mail.specs.Mails.{Mails, mail_line_fault};

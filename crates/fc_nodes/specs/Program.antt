@@ -1,5 +1,6 @@
 -- What a program is once it is unfolded.
 use Rattle.std.specs.Prelude.{ℕ, List, [], ◌∷◌, ◌≡◌, ◌<◌, ◌≤◌, ◌^◌, length}
+use Rattle.fc_values.specs.declared.limits.TheConstants.{GREATEST, MOST_NODES}
 use Rattle.fc_values.specs.declared.types.InputTy.{InputTy}
 use Rattle.fc_values.specs.declared.types.InputTy.TheVariants as input
 use Rattle.fc_values.specs.Types.{LocalType, TypeLocal, Declarations, Input}
@@ -39,7 +40,7 @@ InputsAreLawful ceiling (i ∷ is) = InputIsLawful ceiling i.type × NoneNamed i
 
 pub record IsLawful (D : Declarations) : Type 0 where
   pub some : 1 ≤ D.ceiling
-  pub most : D.ceiling ≤ 1000000
+  pub most : D.ceiling ≤ GREATEST
   pub few : length D.inputs < 2 ^ 32
   pub inputs : InputsAreLawful D.ceiling D.inputs
   pub metric : IsRange D.ceiling D.least D.greatest
@@ -50,4 +51,4 @@ pub record IsProgram (p : Program) : Type 0 where
   pub formed : WellFormed p.nodes
   pub typed : HasType p.declared [] 0 (term_at p.nodes 0)
   pub root : (s : LocalType) × (type_of (term_at p.nodes 0) ≡ TypeLocal s)
-  pub short : length p.nodes ≤ 2048
+  pub short : length p.nodes ≤ MOST_NODES

@@ -2,6 +2,7 @@
 
 ghost use Rattle.std.specs.Prelude.{◌≡◌, ◌<◌, ◌≤◌, ◌^◌, [], ◌∷◌, ◌++◌, IfOk, OnOk, length, option_map, option_to_list, Some};
 ghost use Rattle.fc_values.specs.Values.{local_of, form_of};
+ghost use Rattle.fc_values.specs.declared.limits.TheConstants.{MOST_NODES};
 ghost use Rattle.fc_nodes.specs.Terms.{node_keeps, view_at, view_of, WellFormed};
 ghost use Rattle.fc_nodes.specs.Layouts.{IsLayout, number_in, forms_of, forms_kept, next_number};
 
@@ -36,7 +37,7 @@ impl Layout {
     // The layout of a program's nodes.
     pub(crate) fn of(alloc: Global, nodes: &[Node]) -> Result<Layout, Memory>
         requires formed { WellFormed nodes.now }
-        requires short { length nodes.now ≤ 2048 }
+        requires short { length nodes.now ≤ MOST_NODES }
         ensures { IfOk result (λ l. IsLayout nodes.now l) }
     {
         let size = nodes.len() as u32;

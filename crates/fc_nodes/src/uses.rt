@@ -2,6 +2,7 @@
 
 ghost use Rattle.std.specs.Prelude.{◌≡◌, ◌<◌, ◌≤◌, ◌+◌, IfOk, OnOk, length, nat_lt, replicate, []};
 ghost use Rattle.std.specs.List.{prefix_len};
+ghost use Rattle.fc_values.specs.declared.limits.TheConstants.{MOST_NODES};
 ghost use Rattle.fc_values.specs.Fields.{Rises};
 ghost use Rattle.fc_nodes.specs.Terms.{sort_of, term_at, size, WellFormed};
 ghost use Rattle.fc_nodes.specs.Occurrences.{AreEnds, AreEndsFrom, AreUsesBefore, lists_of, noted, noted_sort};
@@ -22,7 +23,7 @@ pub(crate) fn before(places: &[u32], place: u32) -> usize
 /// Of each place of a program, the first place behind the term there.
 pub(crate) fn ends_of(alloc: Global, nodes: &[Node]) -> Result<Vec<u32>, Memory>
     requires formed { WellFormed nodes.now }
-    requires short { length nodes.now ≤ 2048 }
+    requires short { length nodes.now ≤ MOST_NODES }
     ensures { IfOk result (λ ends. AreEnds nodes.now ends.items) }
 {
     let mut ends = vec![in alloc; 0; nodes.len()]?;
@@ -37,7 +38,7 @@ pub(crate) fn ends_of(alloc: Global, nodes: &[Node]) -> Result<Vec<u32>, Memory>
 // The first place behind the term at a place, by those of later terms.
 fn end_of(nodes: &[Node], place: u32, ends: &[u32]) -> u32
     requires formed { WellFormed nodes.now }
-    requires short { length nodes.now ≤ 2048 }
+    requires short { length nodes.now ≤ MOST_NODES }
     requires within { place < length nodes.now }
     requires later { AreEndsFrom nodes.now (place + 1) ends.now }
     ensures { result ≡ place + size (term_at nodes.now place) }
@@ -50,7 +51,7 @@ fn end_of(nodes: &[Node], place: u32, ends: &[u32]) -> u32
 
 /// Of each binder of a program, by its place, the places of its variable, rising.
 pub(crate) fn uses_of(alloc: Global, nodes: &[Node]) -> Result<Vec<Vec<u32>>, Memory>
-    requires { length nodes.now ≤ 2048 }
+    requires { length nodes.now ≤ MOST_NODES }
     ensures { IfOk result (λ uses. AreUsesBefore nodes.now (length nodes.now) (lists_of uses.items)) }
 {
     let mut uses = no_uses(alloc, nodes.len())?;

@@ -9,7 +9,7 @@ use Rattle.command_words.specs.declared.commands.Limit.{Limit}
 use Rattle.command_words.specs.Commands.{limit_of}
 use Rattle.fc_inputs.specs.declared.refusal.Refusal.{Refusal}
 use Rattle.fc_inputs.specs.declared.refusal.Refusal.TheVariants as refusal
-use Rattle.fc_inputs.specs.declared.sources.TheConstants.{MOST_BYTES}
+use Rattle.fc_values.specs.declared.limits.TheConstants.{MOST_BYTES}
 use Rattle.fc_inputs.specs.declared.stop.Stop.{Stop}
 use Rattle.fc_inputs.specs.declared.stop.Stop.TheVariants as stop
 use Rattle.fc_inputs.specs.Refusals.{Reply}

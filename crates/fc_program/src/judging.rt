@@ -15,8 +15,9 @@ use export_table::Gate;
 use fc_answers::{
     Answer, answer_statuses, answer_to, answer_unread, answers_keep, past_limit, reads,
 };
-use fc_inputs::{Failure, MOST_BYTES, Refusal, Stop, rendered};
+use fc_inputs::{Failure, Refusal, Stop, rendered};
 use fc_io::{ReadAll, Source, read_all};
+use fc_values::MOST_BYTES;
 use session::Pool;
 use std::alloc::Global;
 use std::sync::Wait;

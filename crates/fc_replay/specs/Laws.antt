@@ -1,7 +1,7 @@
 -- Texts are replayed to something, and to one thing in what is written.
 use Rattle.std.specs.Prelude.{ℕ, ◌≡◌, ◌≤◌, List, length}
 use Rattle.firing_core.specs.Cores.{IsGood}
-use Rattle.fc_inputs.specs.declared.sources.TheConstants.{MOST_BYTES}
+use Rattle.fc_values.specs.declared.limits.TheConstants.{MOST_BYTES}
 use Rattle.fc_inputs.specs.Causes.{Judged, Accepted, Refused}
 use Rattle.fc_inputs.specs.Inputs.{InputOf, ReadsInput}
 use Rattle.fc_inputs.specs.Sources.{IsProgramText}

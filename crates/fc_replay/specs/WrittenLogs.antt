@@ -6,7 +6,7 @@ use Rattle.firing_core.specs.Entries.{EntryValue}
 use Rattle.edit_commands.specs.Agreement.{SameEntries}
 use Rattle.edit_commands.specs.LineByLine.{WhereAccepted}
 use Rattle.log_texts.specs.ReadingBack.{log_lines}
-use Rattle.fc_inputs.specs.declared.sources.TheConstants.{MOST_BYTES}
+use Rattle.fc_values.specs.declared.limits.TheConstants.{MOST_BYTES}
 use Rattle.fc_inputs.specs.Causes.{Judged, Accepted}
 use Rattle.fc_inputs.specs.Inputs.{InputOf, ReadsInput}
 use Rattle.fc_replay.specs.declared.replays.Options.{Options}

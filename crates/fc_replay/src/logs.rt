@@ -5,7 +5,7 @@ ghost use Rattle.firing_core.specs.Entries.{entries_of};
 ghost use Rattle.firing_core.specs.Replays.{LogFits};
 ghost use Rattle.edit_commands.specs.Logs.{IsLog, log_of, logged};
 ghost use Rattle.fc_inputs.specs.Stops.{StopsFor};
-ghost use Rattle.fc_inputs.specs.declared.sources.TheConstants.{MOST_BYTES};
+ghost use Rattle.fc_values.specs.declared.limits.TheConstants.{MOST_BYTES};
 ghost use Rattle.fc_replay.specs.Code.{IsFaultOfLog, IsFaulty, StopsWithin, fault_stop, stop_at, stop_of};
 ghost use Rattle.fc_replay.specs.Stopping.{fault_in, step_fault};
 

@@ -9,7 +9,7 @@ ghost use Rattle.net_json.specs.SceneCode.{AreCopies, AreRows, value_of_scene};
 ghost use Rattle.edit_commands.specs.Logs.{logged};
 ghost use Rattle.fc_inputs.specs.Causes.{Accepted, Refused};
 ghost use Rattle.fc_inputs.specs.Stops.{StopsFor};
-ghost use Rattle.fc_inputs.specs.declared.sources.TheConstants.{MOST_BYTES};
+ghost use Rattle.fc_values.specs.declared.limits.TheConstants.{MOST_BYTES};
 ghost use Rattle.fc_replay.specs.Code.{IsReplayed, IsStopped, shown_of};
 ghost use Rattle.fc_replay.specs.Ledgers.{ledger_of};
 ghost use Rattle.fc_replay.specs.Replays.{Replays, start_of};

@@ -6,7 +6,7 @@ use Rattle.edit_commands.specs.LineByLine.{AllLines, StopsAt}
 use Rattle.edit_commands.specs.Scripts.{CommandValue, Script, TooManyLines, Within, script_of}
 use Rattle.log_texts.specs.ReadingBack.{log_lines}
 use Rattle.session.specs.Laws.{ScriptRunsLead}
-use Rattle.fc_inputs.specs.declared.sources.TheConstants.{MOST_BYTES}
+use Rattle.fc_values.specs.declared.limits.TheConstants.{MOST_BYTES}
 use Rattle.fc_inputs.specs.Causes.{Judged, Accepted, Refused, AndThen}
 use Rattle.fc_inputs.specs.Inputs.{InputOf, ReadsInput}
 use Rattle.fc_replay.specs.Replays.{start_of, book_of}

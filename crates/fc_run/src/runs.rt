@@ -6,7 +6,7 @@ ghost use Rattle.report.specs.Logs.{log_text};
 ghost use Rattle.fc_replay.specs.Replays.{table_line, where_asked};
 ghost use Rattle.fc_inputs.specs.Causes.{Accepted, Refused};
 ghost use Rattle.fc_inputs.specs.Stops.{StopsFor};
-ghost use Rattle.fc_inputs.specs.declared.sources.TheConstants.{MOST_BYTES};
+ghost use Rattle.fc_values.specs.declared.limits.TheConstants.{MOST_BYTES};
 ghost use Rattle.fc_run.specs.Code.{IsEnded, ran_of};
 ghost use Rattle.fc_run.specs.Runs.{Runs};
 

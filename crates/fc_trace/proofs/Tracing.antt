@@ -13,7 +13,7 @@ use Rattle.walk_form.specs.Laws.{FormsHaveCosts, OneCosts}
 use Rattle.net_json.specs.FittingScenes.{AcceptedScenesFit}
 use Rattle.net_json.specs.Scenes.{SceneValue}
 use Rattle.report.specs.Verdicts.{verdict_text}
-use Rattle.fc_inputs.specs.declared.sources.TheConstants.{MOST_BYTES}
+use Rattle.fc_values.specs.declared.limits.TheConstants.{MOST_BYTES}
 use Rattle.fc_inputs.specs.Refusals.{Reply}
 use Rattle.fc_inputs.specs.Causes.{Cause, Judged, Accepted, Refused, AndThen}
 use Rattle.fc_inputs.specs.Inputs.{InputOf, OneInput, ReadsInput}

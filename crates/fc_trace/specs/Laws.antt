@@ -1,6 +1,6 @@
 -- Texts are traced to something, and to one thing.
 use Rattle.std.specs.Prelude.{ℕ, ◌≡◌, ◌≤◌, List, length}
-use Rattle.fc_inputs.specs.declared.sources.TheConstants.{MOST_BYTES}
+use Rattle.fc_values.specs.declared.limits.TheConstants.{MOST_BYTES}
 use Rattle.fc_inputs.specs.Causes.{Judged}
 use Rattle.fc_inputs.specs.Refusals.{Reply}
 use Rattle.fc_trace.specs.Traces.{Traces}

@@ -8,7 +8,7 @@ ghost use Rattle.walks.specs.Walks.{AreTraced, IsCosts, claim_of, costs_of};
 ghost use Rattle.walk_form.specs.Forms.{walk_terms};
 ghost use Rattle.fc_inputs.specs.Causes.{Accepted, Refused};
 ghost use Rattle.fc_inputs.specs.Stops.{StopsFor};
-ghost use Rattle.fc_inputs.specs.declared.sources.TheConstants.{MOST_BYTES};
+ghost use Rattle.fc_values.specs.declared.limits.TheConstants.{MOST_BYTES};
 ghost use Rattle.fc_trace.specs.Texts.{walks_text};
 ghost use Rattle.fc_trace.specs.Traces.{TracedBy, Traces};
 

@@ -4,6 +4,7 @@ use Rattle.fc_values.specs.Trees.{TreeExport, NearCopy, Copy}
 use Rattle.fc_nodes.specs.Program.{Unfolding}
 use Rattle.fc_nodes.specs.Flat.{IsWellTyped, IsExport, tree_export}
 use Rattle.value_trees.specs.Copies.{FitsCopy}
+use Rattle.topology.specs.declared.types.TheConstants.{GREATEST_NUMBER}
 use Rattle.device_eval.specs.Copies.{EvaluatesCopy}
 use Rattle.topology.specs.declared.types.NetFault.{NetFault}
 use Rattle.topology.specs.declared.types.NetFault.TheVariants as fault
@@ -69,13 +70,13 @@ edit_fault c (LeaveEdit d) = first_fault (
     ∷ (nat_le (length c.net.devices) 1, fault.Last)
     ∷ [])
 
--- a poked export is one of the program, and a joined device has a number of at most 65,535
+-- a poked export is one of the program, and a joined device has a number that a device can have
 abbrev pub EditFits : Unfolding → EditValue → Type 0
 EditFits U (LinkEdit a b w) = Unit {0}
 EditFits U (UnlinkEdit a b) = Unit {0}
 EditFits U (SetEdit d i v) = Unit {0}
 EditFits U (PokeEdit d e) = IsExport U e
-EditFits U (JoinEdit x) = x.id ≤ 65535
+EditFits U (JoinEdit x) = x.id ≤ GREATEST_NUMBER
 EditFits U (LeaveEdit d) = Unit {0}
 
 abbrev pub on_net : Core → Network → Core

@@ -61,6 +61,8 @@ impl Core {
     ghost use Rattle.firing_core.specs.Refusals.{RefusesEdit};
     ghost use Rattle.fc_values.specs.Values.{local_of};
     ghost use Rattle.fc_values.specs.Exports.{export_of};
+    ghost use Rattle.fc_values.specs.declared.limits.TheConstants.{MOST_LINKS};
+    ghost use Rattle.topology.specs.declared.types.TheConstants.{GREATEST_NUMBER};
     ghost use Rattle.firing_core.specs.declared.entries.StepFault.TheVariants as fault;
 
     /// The core of a network with a table of exports, and with these copies in flight.
@@ -180,7 +182,7 @@ impl Core {
     fn near(&self, alloc: Global, device: u32) -> Result<Box<ArrayVec<Near, 32, Global>>, Memory>
         ensures near { IfOk result (λ ns. AreNear self.now device ns.value.items) }
         ensures exports { IfOk result (λ ns. NearAreExports (program_of self.now) ns.value.items) }
-        ensures few { IfOk result (λ ns. length ns.value.items ≤ 32) }
+        ensures few { IfOk result (λ ns. length ns.value.items ≤ MOST_LINKS) }
     {
         let mut near = Box::new(alloc, ArrayVec::new_in(alloc))?;
         for (neighbour, weight) in self.net.neighbours(device) {
@@ -355,7 +357,7 @@ impl Core {
     }
 
     fn join(&mut self, alloc: Global, device: &Device) -> Result<(), EditFault>
-        requires { device.now.id ≤ 65535 }
+        requires { device.now.id ≤ GREATEST_NUMBER }
         ensures ok { OnOk result (Edited self.old (JoinEdit (device_of device.now)) self.new) }
         ensures refused { IfErr result (RefusesEdit (core_of self.old) (JoinEdit (device_of device.now))) }
         ensures err { OnErr result (self.new ≡ self.old) }

@@ -13,7 +13,8 @@ use Rattle.firing_core.specs.Cores.{Core, copy_of, begun, Ends, GoodExport, Good
 use Rattle.firing_core.specs.Replays.{fault_of, begin_fault, end_fault}
 use Rattle.firing_core.specs.Laws.{StepsKeepGood, FaultlessStep, StepsAgree, CopiesFit}
 use Rattle.firing_core.proofs.Maps.{put_same}
-use Rattle.message_links.specs.MailCores.{reaches, Message as MailMessage, Pairs, put_pair, MailCore, MailEntryValue, MailBegin, MailEnd, MailIdle, MailDeliver, MailAgain, MailLose, most, rest_of, without, pushed, posted, sees, with_core, MailEnds, Hears, Loses, MailStep, AreOld, IsMailStart}
+use Rattle.message_links.specs.MailCores.{reaches, Message as MailMessage, Pairs, put_pair, MailCore, MailEntryValue, MailBegin, MailEnd, MailIdle, MailDeliver, MailAgain, MailLose, rest_of, without, pushed, posted, sees, with_core, MailEnds, Hears, Loses, MailStep, AreOld, IsMailStart}
+use Rattle.message_links.specs.declared.entries.TheConstants.{MOST_IN_TRANSIT}
 use Rattle.message_links.specs.declared.entries.MailFault.{MailFault}
 use Rattle.message_links.specs.declared.entries.MailFault.TheVariants as fault
 use Rattle.message_links.proofs.Reaching.{both_true}
@@ -56,7 +57,7 @@ good_snoc U N a [] m h k = (k, tt)
 good_snoc U N a (x ∷ ms) m h k = (h.0, good_snoc U N a ms m h.1 k)
 
 good_pushed : (U : Unfolding) (N : Network) (a : ℕ) (ms : List MailMessage) (m : MailMessage) → AllGood U N a ms → GoodExport U N a m.export → AllGood U N a (pushed ms m)
-good_pushed U N a ms m h k = by_test (nat_le most (length ms))
+good_pushed U N a ms m h k = by_test (nat_le MOST_IN_TRANSIT (length ms))
   where
     by_test : (b : Bool) → AllGood U N a ((if b then rest_of ms else ms) ++ m ∷ [])
     by_test true = good_snoc U N a (rest_of ms) m (good_rest U N a ms h) k

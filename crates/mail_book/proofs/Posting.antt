@@ -14,7 +14,8 @@ use Rattle.value_trees.specs.Copies.{WhereSome}
 use Rattle.value_trees.specs.Snaps.{tree_of, IsExportOf}
 use Rattle.topology.specs.Networks.{Network, IsNetwork, numbers, near}
 use Rattle.topology.specs.Nearby.{near_numbers}
-use Rattle.message_links.specs.MailCores.{Message as MailMessage, Pairs, put_pair, most, rest_of, pushed, posted, reaches}
+use Rattle.message_links.specs.MailCores.{Message as MailMessage, Pairs, put_pair, rest_of, pushed, posted, reaches}
+use Rattle.message_links.specs.declared.entries.TheConstants.{MOST_IN_TRANSIT}
 use Rattle.message_links.proofs.Reaching.{near_both}
 use Rattle.mail_book.specs.declared.letters.Letters.{Letters}
 use Rattle.mail_book.specs.declared.letters.Message.{Message}
@@ -28,16 +29,16 @@ use Rattle.mail_book.proofs.LetterWrites.{rewritten, rewritten_shape, rewritten_
 -- ---- one message more
 
 map_pushed : {A B : Type 0} (f : A → B) (xs : List A) (x : A) → map f (pushed xs x) ≡ pushed (map f xs) (f x)
-map_pushed {A} f xs x = by_test (nat_le most (length xs)) refl
+map_pushed {A} f xs x = by_test (nat_le MOST_IN_TRANSIT (length xs)) refl
   where
     rest : (ys : List A) → map f (rest_of ys) ≡ rest_of (map f ys)
     rest [] = refl
     rest (y ∷ ys) = refl
 
-    by_test : (b : Bool) → nat_le most (length xs) ≡ b → map f (pushed xs x) ≡ pushed (map f xs) (f x)
+    by_test : (b : Bool) → nat_le MOST_IN_TRANSIT (length xs) ≡ b → map f (pushed xs x) ≡ pushed (map f xs) (f x)
     by_test b q =
         let n = length-map xs f in
-        let k : nat_le most (length (map f xs)) ≡ b = rw n q in
+        let k : nat_le MOST_IN_TRANSIT (length (map f xs)) ≡ b = rw n q in
         rw (q, k) (by_case b)
       where
         by_case : (b : Bool) → map f ((if b then rest_of xs else xs) ++ x ∷ []) ≡ (if b then rest_of (map f xs) else map f xs) ++ f x ∷ []
@@ -53,7 +54,7 @@ all_more U [] m a k = (k, tt)
 all_more U (x ∷ ms) m a k = (a.0, all_more U ms m a.1 k)
 
 all_pushed : (U : Unfolding) (ms : List Message) (m : Message) → AllMessages U ms → IsExportOf U m.export → AllMessages U (pushed ms m)
-all_pushed U ms m a k = by_test (nat_le most (length ms))
+all_pushed U ms m a k = by_test (nat_le MOST_IN_TRANSIT (length ms))
   where
     by_test : (b : Bool) → AllMessages U ((if b then rest_of ms else ms) ++ m ∷ [])
     by_test true = all_more U (rest_of ms) m (all_rest U ms a) k

@@ -13,7 +13,8 @@ use Rattle.value_trees.specs.Snaps.{tree_of, IsExportOf}
 use Rattle.topology.specs.Networks.{Network, IsNetwork, numbers}
 use Rattle.firing_core.specs.Cores.{Core, GoodExport, IsGood}
 use Rattle.firing_core.specs.CoreViews.{CoreValue, core_of, program_of}
-use Rattle.message_links.specs.MailCores.{Message as MailMessage, MailCore, Pairs, put_pair, most, rest_of, pushed, Reaches, AreOld, IsMailStart}
+use Rattle.message_links.specs.MailCores.{Message as MailMessage, MailCore, Pairs, put_pair, rest_of, pushed, Reaches, AreOld, IsMailStart}
+use Rattle.message_links.specs.declared.entries.TheConstants.{MOST_IN_TRANSIT}
 use Rattle.message_links.proofs.Reaching.{both_true, sender}
 use Rattle.mail_book.specs.declared.letters.Letters.{Letters}
 use Rattle.mail_book.specs.declared.starts.Post.{Post}
@@ -103,7 +104,7 @@ module _ (U : Unfolding) (N : Network) (net : IsNetwork N) where
   IsHeard a b o = (e : TreeExport) → o ≡ Some e → Reaches N a b × GoodExport U N a e
 
   abbrev AreFew : ℕ → ℕ → List MailMessage → Type 0
-  AreFew a b ms = AreOld U N a b ms × (length ms ≤ most)
+  AreFew a b ms = AreOld U N a b ms × (length ms ≤ MOST_IN_TRANSIT)
 
   good_post : (p : Post) → Reaches N p.from p.to → IsExportOf U p.export → GoodExport U N p.from (tree_of U p.export)
   good_post p linked k = record { there = sender N net p.from p.to linked; typed = k.typed }
@@ -128,18 +129,18 @@ module _ (U : Unfolding) (N : Network) (net : IsNetwork N) where
   shorter (m ∷ ms) h = refl
 
   few_more : (a b : ℕ) (ms : List MailMessage) (e : TreeExport) → AreFew a b ms → Reaches N a b → GoodExport U N a e → AreFew a b (pushed ms (old_message e))
-  few_more a b ms e h linked k = by_test (nat_le most (length ms)) refl
+  few_more a b ms e h linked k = by_test (nat_le MOST_IN_TRANSIT (length ms)) refl
     where
-      by_test : (t : Bool) → nat_le most (length ms) ≡ t → AreFew a b ((if t then rest_of ms else ms) ++ old_message e ∷ [])
+      by_test : (t : Bool) → nat_le MOST_IN_TRANSIT (length ms) ≡ t → AreFew a b ((if t then rest_of ms else ms) ++ old_message e ∷ [])
       by_test true q =
           let l = length-append (rest_of ms) (old_message e ∷ []) in
-          let full = leb-true most (length ms) q in
+          let full = leb-true MOST_IN_TRANSIT (length ms) q in
           let s = shorter ms (omega arith) in
           let few = h.1 in
           (old_more a b (rest_of ms) e (old_rest a b ms h.0) linked k, omega arith)
       by_test false q =
           let l = length-append ms (old_message e ∷ []) in
-          let room = leb-false most (length ms) q in
+          let room = leb-false MOST_IN_TRANSIT (length ms) q in
           (old_more a b ms e h.0 linked k, omega arith)
 
   sent_good : (ps : List Post) (f : Pairs (List MailMessage)) → AreHeld U N ps → ((a b : ℕ) → AreFew a b (f a b)) → (a b : ℕ) → AreFew a b (sent_after f (post_values U ps) a b)

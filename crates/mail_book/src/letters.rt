@@ -8,11 +8,8 @@ ghost use Rattle.message_links.specs.declared.entries.MailFault.TheVariants as f
 ghost use Rattle.mail_book.specs.Letters.{letter_of, IsQuiet, Delivers, Repeats, SameLetters};
 
 use fc_values::{Export, Memory, copy_export};
-use message_links::MailFault;
+use message_links::{MOST_IN_TRANSIT, MailFault};
 use std::alloc::Global;
-
-// How many messages are in transit at most.
-const MOST_MESSAGES: usize = 4;
 
 /// A message: an export, and the position in the log of the end that sent it; none for what the start holds.
 #[derive(Drop)]
@@ -45,7 +42,7 @@ pub(crate) fn post(letters: &mut Letters, message: Message) -> Result<(), Memory
     ensures err { OnErr result (letters.new.transit.items ≡ letters.old.transit.items) }
 {
     letters.transit.push(message)?;
-    if letters.transit.len() > MOST_MESSAGES {
+    if letters.transit.len() > MOST_IN_TRANSIT {
         letters.transit.remove(0);
     }
     Ok(())

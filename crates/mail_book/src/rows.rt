@@ -1,6 +1,7 @@
 //! Rows of letters: a row for each device, in the order of the network, with what is kept for each of its neighbours.
 
 ghost use Rattle.std.specs.Prelude.{◌≡◌, ◌≤◌, IfOk, OnOk, length, map};
+ghost use Rattle.fc_values.specs.declared.limits.TheConstants.{MOST_LINKS};
 ghost use Rattle.fc_nodes.specs.Program.{Unfolding};
 ghost use Rattle.value_trees.specs.Snaps.{tree_of, near_copy, IsExportOf, NearAreExports};
 ghost use Rattle.topology.specs.Networks.{numbers};
@@ -75,7 +76,7 @@ pub(crate) fn heard_in(
     neighbours: &[(u32, u32)],
     row: &[Letters],
 ) -> Result<Box<ArrayVec<Near, 32, Global>>, Memory>
-    requires few { length neighbours.now ≤ 32 }
+    requires few { length neighbours.now ≤ MOST_LINKS }
     requires long { length row.now ≡ length neighbours.now }
     ensures near { (U : Unfolding)
         → IfOk result (λ ns. map (near_copy U) ns.value.items ≡ heard_copies U neighbours.now row.now) }

@@ -4,7 +4,8 @@ use Rattle.std.proofs.Math.Path.{fun_ext}
 use mathlib.Core.Logic.{⊎_elim}
 use Rattle.topology.specs.Networks.{Network, Lives}
 use Rattle.std.specs.Prelude.{nat_le, nat_eq, ◌&&◌, if◌then◌else◌, Option, Some, None}
-use Rattle.message_links.specs.MailCores.{MailEntryValue, MailBegin, MailEnd, MailIdle, MailDeliver, MailAgain, MailLose, reaches, rest_of, without, pushed, most}
+use Rattle.message_links.specs.MailCores.{MailEntryValue, MailBegin, MailEnd, MailIdle, MailDeliver, MailAgain, MailLose, reaches, rest_of, without, pushed}
+use Rattle.message_links.specs.declared.entries.TheConstants.{MOST_IN_TRANSIT}
 use Rattle.message_links.specs.MailRounds.{Posts, posts_after, posts_along, oldest_post, HasMailFiring, EndsOwnBegin, Brings, CoversMail, HasMailRounds}
 use Rattle.mail_count.specs.declared.marks.Marks.{Marks}
 use Rattle.mail_count.specs.Marks.{Tells}
@@ -242,7 +243,7 @@ early_one N at p (MailEnd d) h a b j k = by_test (nat_eq a d && reaches N a b) k
     by_full false k = ⊎_elim (λ q. let r = h a b j q in omega arith) (λ q. omega arith) (posted_snoc j at (p a b) k)
 
     by_test : (t : Bool) → Posted j (if t then pushed (p a b) (Some at) else p a b) → j < suc at
-    by_test true k = by_full (nat_le most (length (p a b))) k
+    by_test true k = by_full (nat_le MOST_IN_TRANSIT (length (p a b))) k
     by_test false k = let r = h a b j k in omega arith
 early_one N at p MailIdle h a b j k = let r = h a b j k in omega arith
 early_one N at p (MailDeliver c d) h a b j k = by_test (nat_eq a c && nat_eq b d) k

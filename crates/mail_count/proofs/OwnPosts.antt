@@ -5,7 +5,8 @@ use Rattle.std.proofs.lemmas.Bool.{eqb-true}
 use Rattle.std.proofs.Math.Seq.{take-append_seam}
 use mathlib.Core.Logic.{⊎_elim}
 use Rattle.topology.specs.Networks.{Network}
-use Rattle.message_links.specs.MailCores.{MailEntryValue, MailBegin, MailEnd, MailIdle, MailDeliver, MailAgain, MailLose, most, rest_of, without, pushed, reaches}
+use Rattle.message_links.specs.MailCores.{MailEntryValue, MailBegin, MailEnd, MailIdle, MailDeliver, MailAgain, MailLose, rest_of, without, pushed, reaches}
+use Rattle.message_links.specs.declared.entries.TheConstants.{MOST_IN_TRANSIT}
 use Rattle.message_links.specs.MailRounds.{Posts, posts_after, posts_along, EndsOwnBegin, oldest_post}
 use Rattle.message_links.proofs.Firings.{flies_along, own_flies}
 use Rattle.message_links.proofs.Along.{along_more}
@@ -90,8 +91,8 @@ module _ (at : ℕ) (part : List MailEntryValue) (a : ℕ) where
 
   flags_pushed : (fs : List Bool) (ss : List (Option ℕ)) (f : Bool) (s : Option ℕ) → AreFlags at part a fs ss → IsFlag at part a f s → AreFlags at part a (pushed fs f) (pushed ss s)
   flags_pushed fs ss f s h k =
-      subst (λ n. AreFlags at part a (pushed fs f) ((if nat_le most n then rest_of ss else ss) ++ s ∷ [])) (flags_many fs ss h)
-      (by_test (nat_le most (length fs)))
+      subst (λ n. AreFlags at part a (pushed fs f) ((if nat_le MOST_IN_TRANSIT n then rest_of ss else ss) ++ s ∷ [])) (flags_many fs ss h)
+      (by_test (nat_le MOST_IN_TRANSIT (length fs)))
     where
       by_test : (b : Bool) → AreFlags at part a ((if b then rest_of fs else fs) ++ f ∷ []) ((if b then rest_of ss else ss) ++ s ∷ [])
       by_test true = flags_snoc (rest_of fs) (rest_of ss) f s (flags_rest fs ss h) k

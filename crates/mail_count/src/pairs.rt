@@ -10,10 +10,8 @@ ghost use Rattle.mail_count.specs.Marks.{brought_row, brought_rows, own_row, own
 
 use fc_values::Memory;
 use mail_book::Mail;
+use message_links::MOST_IN_TRANSIT;
 use std::alloc::Global;
-
-// How many messages are in transit at most.
-const MOST_MESSAGES: usize = 4;
 
 /// Of an ordered pair: which messages in transit the round sent, the oldest first, and whether it brought one.
 #[derive(Drop)]
@@ -56,7 +54,7 @@ fn send(bringing: &mut Bringing, own: bool) -> Result<(), Memory>
     ensures own { OnOk result (bringing.new.own.items ≡ pushed bringing.old.own.items own) }
     ensures brought { bringing.new.brought ≡ bringing.old.brought }
 {
-    if bringing.own.len() >= MOST_MESSAGES {
+    if bringing.own.len() >= MOST_IN_TRANSIT {
         bringing.own.remove(0);
     }
     bringing.own.push(own)?;

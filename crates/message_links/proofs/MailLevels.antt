@@ -17,7 +17,8 @@ use Rattle.firing_core.specs.Cores.{Map as Table, Core, put, near_copies, copy_o
 use Rattle.firing_core.specs.Laws.{StepsKeepGood, CopiesFit}
 use Rattle.firing_core.proofs.Maps.{put_case, put_same}
 use Rattle.converge_laws.specs.CoreLevels.{ExportLevel, MaybeAt, AtLevel, Raises, SeenAt, IsFresh, HasFired, StepsRaise, LevelsOfSteps, LevelsBegin}
-use Rattle.message_links.specs.MailCores.{Reaches, reaches, Message, Pairs, put_pair, MailCore, MailEntryValue, MailBegin, MailEnd, MailIdle, MailDeliver, MailAgain, MailLose, most, rest_of, without, pushed, sees, MailStep, MailRun}
+use Rattle.message_links.specs.MailCores.{Reaches, reaches, Message, Pairs, put_pair, MailCore, MailEntryValue, MailBegin, MailEnd, MailIdle, MailDeliver, MailAgain, MailLose, rest_of, without, pushed, sees, MailStep, MailRun}
+use Rattle.message_links.specs.declared.entries.TheConstants.{MOST_IN_TRANSIT}
 use Rattle.message_links.specs.MailRounds.{posts_of, oldest_post}
 use Rattle.message_links.proofs.Posts.{pair_case}
 use Rattle.message_links.proofs.Reaching.{sender}
@@ -77,7 +78,7 @@ module _ (keeps : StepsKeepGood) (fit : CopiesFit) (P : ExportLevel) (p : Progra
   more_at j a (x ∷ ms) m h k = (h.0, more_at j a ms m h.1 k)
 
   pushed_at : (j a : ℕ) (ms : List Message) (m : Message) → AllAt j a ms → At j a m.export → AllAt j a (pushed ms m)
-  pushed_at j a ms m h k = by_test (nat_le most (length ms))
+  pushed_at j a ms m h k = by_test (nat_le MOST_IN_TRANSIT (length ms))
     where
       by_test : (t : Bool) → AllAt j a ((if t then rest_of ms else ms) ++ m ∷ [])
       by_test true = more_at j a (rest_of ms) m (rest_at j a ms h) k
@@ -101,7 +102,7 @@ module _ (keeps : StepsKeepGood) (fit : CopiesFit) (P : ExportLevel) (p : Progra
   more_below at (x ∷ ms) m h e = (h.0, more_below at ms m h.1 e)
 
   pushed_below : (at : ℕ) (ms : List Message) (m : Message) → AllBelow (suc at) ms → m.sent ≡ Some at → AllBelow (suc at) (pushed ms m)
-  pushed_below at ms m h e = by_test (nat_le most (length ms))
+  pushed_below at ms m h e = by_test (nat_le MOST_IN_TRANSIT (length ms))
     where
       by_test : (t : Bool) → AllBelow (suc at) ((if t then rest_of ms else ms) ++ m ∷ [])
       by_test true = more_below at (rest_of ms) m (rest_below (suc at) ms h) e
@@ -251,7 +252,7 @@ module _ (keeps : StepsKeepGood) (fit : CopiesFit) (P : ExportLevel) (p : Progra
     mixed_more F a (x ∷ ms) m (inr h) o k = inr ((h.0.0, more_at (suc j) a ms m h.0.1 (k h.1)), h.1)
 
     mixed_pushed : (F : Type 0) (a : ℕ) (ms : List Message) (m : Message) → Mixed a F ms → (Old a m ⊎ F) → (F → At (suc j) a m.export) → Mixed a F (pushed ms m)
-    mixed_pushed F a ms m h o k = by_test (nat_le most (length ms))
+    mixed_pushed F a ms m h o k = by_test (nat_le MOST_IN_TRANSIT (length ms))
       where
         by_test : (t : Bool) → Mixed a F ((if t then rest_of ms else ms) ++ m ∷ [])
         by_test true = mixed_more F a (rest_of ms) m (mixed_rest F a ms h) o k

@@ -7,6 +7,7 @@ use Rattle.fc_values.specs.Fields.{is_in}
 use Rattle.fc_nodes.specs.Program.{Unfolding}
 use Rattle.topology.specs.Networks.{Network, near}
 use Rattle.topology.specs.Nearby.{near_numbers}
+use Rattle.message_links.specs.declared.entries.TheConstants.{MOST_IN_TRANSIT}
 use Rattle.firing_core.specs.Entries.{BeginEntry}
 use Rattle.firing_core.specs.Cores.{Map as Table, Core, StepSeeing, Ends, GoodExport, IsGood}
 
@@ -45,10 +46,6 @@ pub data MailEntryValue : Type 0 where
   MailAgain : ℕ → ℕ → MailEntryValue
   MailLose : ℕ → ℕ → ℕ → MailEntryValue
 
--- at most four messages are in transit on an ordered pair
-abbrev pub most : ℕ
-most = 4
-
 -- a list without its first item, and without that at an index
 abbrev pub rest_of : {X : Type 0} → List X → List X
 rest_of [] = []
@@ -61,7 +58,7 @@ without (suc i) (x ∷ xs) = x ∷ without i xs
 
 -- one item more, for which a full list first loses its oldest
 abbrev pub pushed : {X : Type 0} → List X → X → List X
-pushed xs x = (if nat_le most (length xs) then rest_of xs else xs) ++ x ∷ []
+pushed xs x = (if nat_le MOST_IN_TRANSIT (length xs) then rest_of xs else xs) ++ x ∷ []
 
 -- a message of a device to each of its neighbours
 abbrev pub posted : {X : Type 0} → Network → Pairs (List X) → ℕ → X → Pairs (List X)
@@ -128,4 +125,4 @@ pub record IsMailStart (U : Unfolding) (c : MailCore) : Type 0 where
   pub good : IsGood U c.core
   pub heard : (a b : ℕ) (e : TreeExport) → c.heard a b ≡ Some e → Reaches c.core.net a b × GoodExport U c.core.net a e
   pub transit : (a b : ℕ) → AreOld U c.core.net a b (c.transit a b)
-  pub few : (a b : ℕ) → length (c.transit a b) ≤ most
+  pub few : (a b : ℕ) → length (c.transit a b) ≤ MOST_IN_TRANSIT

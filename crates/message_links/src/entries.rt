@@ -2,6 +2,9 @@
 
 use firing_core::StepFault;
 
+/// How many messages are in transit on an ordered pair at most.
+pub const MOST_IN_TRANSIT: usize = 4;
+
 /// An entry of a mail log: the begin or the end of a device's firing, nothing, or what happens to a message from a
 /// device to another. The oldest is delivered, or delivered and kept; or one is lost, by its place from the oldest.
 #[derive(Clone, Copy, Debug, PartialEq, Eq)]

@@ -5,5 +5,5 @@
 mod entries;
 mod laws;
 
-pub use entries::{MailEntry, MailFault, MailReplay};
+pub use entries::{MOST_IN_TRANSIT, MailEntry, MailFault, MailReplay};
 pub use laws::{mail_stabilises, yes_stabilises_mail};

@@ -8,7 +8,7 @@ ghost use Rattle.net_json.specs.Reading.{whole, small, value_of, integer_value, 
 ghost use Rattle.net_json.specs.Reading.{three_members, four_members};
 ghost use Rattle.serde_json.specs.Data.{array};
 
-use fc_values::{Local, Memory};
+use fc_values::{GREATEST, Local, Memory};
 use serde_json::Value;
 use std::alloc::Global;
 
@@ -24,7 +24,11 @@ pub(crate) fn small(value: &Value) -> Option<u32>
     ensures { result ≡ small (view value.now) }
 {
     let n = whole(value)?;
-    if n <= 1_000_000 { Some(n as u32) } else { None }
+    if n <= u64::from(GREATEST) {
+        Some(n as u32)
+    } else {
+        None
+    }
 }
 
 // A whole number as a local value. One past 32 bits fits nowhere, as the greatest of 32 bits.

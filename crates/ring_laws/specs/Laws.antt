@@ -3,7 +3,7 @@ use Rattle.std.specs.Prelude.{ℕ, ◌≡◌, ◌≤◌, ◌+◌, ◌*◌, lengt
 use Rattle.fc_syntax.specs.Printable.{IsPrintable}
 use Rattle.fc_types.specs.Before.{declared_by}
 use Rattle.fc_types.specs.Typing.{IsTyped}
-use Rattle.unfold.specs.declared.unfolding.TheConstants.{MOST_NODES}
+use Rattle.fc_values.specs.declared.limits.TheConstants.{MOST_NODES, MOST_SCENARIO_DEVICES}
 use Rattle.unfold.specs.Nodes.{Nodes}
 use Rattle.unfold.specs.Unfolding.{main_term}
 use Rattle.topology.specs.Networks.{IsNetwork}
@@ -22,7 +22,7 @@ pub record IsRingProgram (count : ℕ) : Type 0 where
   pub small : length (Nodes (ring_program count)) ≤ MOST_NODES
 
 abbrev pub RingsAreTyped : Type 0
-RingsAreTyped = (count : ℕ) → 3 ≤ count → count ≤ 512 → IsRingProgram count
+RingsAreTyped = (count : ℕ) → 3 ≤ count → count ≤ MOST_SCENARIO_DEVICES → IsRingProgram count
 
 -- a ring is a network of so many devices, with the declarations of its program
 pub record IsRingNetwork (number count : ℕ) : Type 0 where
@@ -31,11 +31,11 @@ pub record IsRingNetwork (number count : ℕ) : Type 0 where
   pub declared : (ring number count).declared ≡ (ring_unfolding count).declared
 
 abbrev pub RingsAreNetworks : Type 0
-RingsAreNetworks = (number count : ℕ) → 3 ≤ count → count ≤ 512 → IsRingNetwork number count
+RingsAreNetworks = (number count : ℕ) → 3 ≤ count → count ≤ MOST_SCENARIO_DEVICES → IsRingNetwork number count
 
 -- The verdict on the program of a ring, in whatever nodes it is held, is a yes for two rounds and two more for each
 -- device of the ring. It is so for each number of devices that the verdict is asked for
 abbrev pub RingsStabilise : Type 0
 RingsStabilise =
-    (P : Program) (count devices : ℕ) → 3 ≤ count → count ≤ 512 → unfolding_of P ≡ ring_unfolding count
+    (P : Program) (count devices : ℕ) → 3 ≤ count → count ≤ MOST_SCENARIO_DEVICES → unfolding_of P ≡ ring_unfolding count
     → verdict_of P devices ≡ verdict.Yes (2 + 2 * count)

@@ -1,6 +1,7 @@
 //! Scenarios: a program that counts hops to a source, on a ring.
 
 ghost use Rattle.std.specs.Prelude.{◌≡◌, ◌≤◌, ◌<◌, ◌%◌, ◌-◌, map, IfOk};
+ghost use Rattle.fc_values.specs.declared.limits.TheConstants.{MOST_SCENARIO_DEVICES};
 ghost use Rattle.fc_values.specs.Types.{declarations_of};
 ghost use Rattle.fc_syntax.specs.Terms.{program_of, term_of};
 ghost use Rattle.topology.specs.Networks.{device_of, edge_of};
@@ -15,7 +16,7 @@ use topology::{Device, Link, Network};
 /// The scenario of a number on so many devices: the program, and the ring on which one device is the source.
 pub fn scenario(alloc: Global, number: u32, devices: u32) -> Result<(Program, Network), Memory>
     requires least { 3 ≤ devices }
-    requires most { devices ≤ 512 }
+    requires most { devices ≤ MOST_SCENARIO_DEVICES }
     ensures program { IfOk result (λ s. program_of s.0 ≡ ring_program devices) }
     ensures network { IfOk result (λ s. s.1 ≡ ring number devices) }
 {
@@ -133,7 +134,7 @@ fn links_of(alloc: Global, count: u32) -> Result<Vec<Link>, Memory>
 
 fn network(alloc: Global, source: u32, count: u32) -> Result<Network, Memory>
     requires least { 3 ≤ count }
-    requires most { count ≤ 512 }
+    requires most { count ≤ MOST_SCENARIO_DEVICES }
     requires source { source < count }
     ensures { IfOk result (λ n. n ≡ ring_over source count) }
 {

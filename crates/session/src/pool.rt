@@ -1,6 +1,7 @@
 //! What runs the rounds of a script.
 
 ghost use Rattle.std.specs.Prelude.{◌≡◌, ◌≤◌, ◌+◌, IfOk, IfErr};
+ghost use Rattle.fc_values.specs.declared.limits.TheConstants.{MOST_WORKERS};
 ghost use Rattle.fc_nodes.specs.Program.{unfolding_of};
 ghost use Rattle.firing_core.specs.CoreViews.{core_of};
 ghost use Rattle.firing_core.specs.Entries.{edit_of};
@@ -23,14 +24,14 @@ pub struct Pool<'a, W, G> {
     gate: &'a G,
     workers: u32,
     ghost some: { 1 ≤ workers },
-    ghost most: { workers ≤ 16 },
+    ghost most: { workers ≤ MOST_WORKERS },
 }
 
 impl<'a, W: Threads + Wait + Sync, G: Gate + Sync> Pool<'a, W, G> {
     /// A pool of so many workers.
     pub fn new(rt: &'a W, gate: &'a G, workers: u32) -> Pool<'a, W, G>
         requires some { 1 ≤ workers }
-        requires most { workers ≤ 16 }
+        requires most { workers ≤ MOST_WORKERS }
     {
         Pool { rt, gate, workers }
     }

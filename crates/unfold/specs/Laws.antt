@@ -7,7 +7,7 @@ use Rattle.fc_types.specs.Typing.{IsTyped}
 use Rattle.fc_nodes.specs.declared.nodes.Node.{Node}
 use Rattle.fc_nodes.specs.Terms.{view_of, term_at}
 use Rattle.fc_nodes.specs.Program.{Program, IsProgram, unfolding_of}
-use Rattle.unfold.specs.declared.unfolding.TheConstants.{MOST_NODES}
+use Rattle.fc_values.specs.declared.limits.TheConstants.{MOST_NODES}
 use Rattle.unfold.specs.Unfolding.{main_term}
 use Rattle.unfold.specs.Nodes.{Nodes}
 use Rattle.unfold.specs.Counting.{main_count}

@@ -16,7 +16,7 @@ use Rattle.unfold.specs.declared.scopes.Argument.{Argument}
 use Rattle.unfold.specs.declared.scopes.Scope.{Scope as AScope}
 use Rattle.unfold.specs.declared.scopes.Scope.TheVariants as scope
 use Rattle.unfold.specs.declared.scopes.Sight.{Sight as ASight}
-use Rattle.unfold.specs.declared.unfolding.TheConstants.{MOST_NODES}
+use Rattle.fc_values.specs.declared.limits.TheConstants.{MOST_NODES}
 use Rattle.unfold.specs.Counting.{count, count_all, count_arguments, size_of}
 use Rattle.unfold.specs.Found.{FirstAt}
 use Rattle.unfold.specs.Nodes.{listed}

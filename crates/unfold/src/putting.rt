@@ -8,7 +8,7 @@ ghost use Rattle.fc_types.specs.Judging.{judge_builtin};
 ghost use Rattle.fc_types.specs.Views.{known_of};
 ghost use Rattle.unfold.specs.Unfolding.{binder_of, input_number, sense_by, type_given, untyped, variable_term};
 ghost use Rattle.unfold.specs.Writing.{IsWritten, input_term, scope_of};
-ghost use Rattle.unfold.specs.declared.unfolding.TheConstants.{MOST_NODES};
+ghost use Rattle.fc_values.specs.declared.limits.TheConstants.{MOST_NODES};
 
 use crate::names::find_input;
 use crate::scopes::{Scope, lookup};

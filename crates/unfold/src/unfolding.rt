@@ -1,6 +1,7 @@
 //! The nodes of a program.
 
 ghost use Rattle.std.specs.Prelude.{◌≡◌, ◌≤◌, ◌<◌, ◌^◌, IfOk, IfErr, length, map, min};
+ghost use Rattle.fc_values.specs.declared.limits.TheConstants.{MOST_NODES};
 ghost use Rattle.fc_syntax.specs.Printable.{IsPrintable};
 ghost use Rattle.fc_syntax.specs.Terms.{program_of};
 ghost use Rattle.fc_types.specs.Before.{and_all, declared_by, nothing};
@@ -19,11 +20,8 @@ use crate::writing::write;
 use fc_nodes::{Node, Unfolded};
 use fc_syntax::Program;
 use fc_types::{Known, Typed};
-use fc_values::Memory;
+use fc_values::{MOST_NODES, Memory};
 use std::alloc::Global;
-
-// The greatest number of nodes of a program.
-pub const MOST_NODES: u32 = 2_048;
 
 /// The nodes of a typed program: `main`, with each call replaced by one `let` per argument around the function's body.
 /// A program with more than 2,048 nodes is refused before one is made.

@@ -7,6 +7,7 @@ ghost use Rattle.fc_nodes.specs.Terms.{Has, sort_of, term_at, view_of};
 ghost use Rattle.walk_form.specs.Alone.{AreAlone, alone_term, alone_view, front_view};
 ghost use Rattle.walk_form.specs.Parts.{IsPart};
 ghost use Rattle.std.specs.Prelude.{Some};
+ghost use Rattle.fc_values.specs.declared.limits.TheConstants.{MOST_NODES};
 
 use crate::forms::Span;
 use fc_nodes::{Node, Op, Unfolded};
@@ -29,7 +30,7 @@ pub fn alone(alloc: Global, program: &Unfolded, term: Span) -> Result<Unfolded, 
 fn nodes_alone(alloc: Global, program: &Unfolded, term: Span) -> Result<Vec<Node>, Memory>
     requires end { term.end ≤ length program.now.nodes }
     requires from { 4 ≤ term.from }
-    requires few { term.from ≤ 2048 }
+    requires few { term.from ≤ MOST_NODES }
     ensures { IfOk result (λ v. AreAlone program.now.nodes term.from term.end v.items) }
 {
     let mut nodes = Vec::with_capacity(alloc, term.end as usize)?;
@@ -43,7 +44,7 @@ fn nodes_alone(alloc: Global, program: &Unfolded, term: Span) -> Result<Vec<Node
 // The node at a place.
 fn node_alone(alloc: Global, program: &Unfolded, from: u32, place: u32) -> Result<Node, Memory>
     requires from { 4 ≤ from }
-    requires few { from ≤ 2048 }
+    requires few { from ≤ MOST_NODES }
     requires place { place < length program.now.nodes }
     ensures { IfOk result (λ n. Some (view_of n) ≡ alone_view program.now.nodes from place) }
 {
@@ -56,7 +57,7 @@ fn node_alone(alloc: Global, program: &Unfolded, from: u32, place: u32) -> Resul
 // The node at a place before the term.
 fn front_node(alloc: Global, from: u32, place: u32) -> Result<Node, Memory>
     requires from { 4 ≤ from }
-    requires few { from ≤ 2048 }
+    requires few { from ≤ MOST_NODES }
     requires place { place < from }
     ensures { IfOk result (λ n. view_of n ≡ front_view from place) }
 {

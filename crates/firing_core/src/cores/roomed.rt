@@ -11,6 +11,7 @@ use value_trees::{Near, Snap};
 impl Core {
     ghost use Rattle.std.specs.Prelude.{◌≡◌, ◌<◌, ◌≤◌, ◌+◌, [], IfOk, OnOk, OnErr, IfErr};
     ghost use Rattle.std.specs.Prelude.{Some, None, true, false, length, slice_index};
+    ghost use Rattle.fc_values.specs.declared.limits.TheConstants.{MOST_LINKS};
     ghost use Rattle.value_trees.specs.Snaps.{snap_copy, NearAreExports, IsSnap};
     ghost use Rattle.topology.specs.Networks.{numbers};
     ghost use Rattle.firing_core.specs.Entries.{BeginEntry, EndEntry};
@@ -82,7 +83,7 @@ impl Core {
     fn fill_near(&self, near: &mut ArrayVec<Near, 32, Global>, spare: &mut Spare, device: u32)
         requires empty { near.old.items ≡ [] }
         requires spare { IsSpare (program_of self.now) spare.old }
-        requires enough { 32 ≤ length spare.old.exports }
+        requires enough { MOST_LINKS ≤ length spare.old.exports }
         ensures near { AreNear self.now device near.new.items }
         ensures exports { NearAreExports (program_of self.now) near.new.items }
         ensures spare { IsSpare (program_of self.now) spare.new }

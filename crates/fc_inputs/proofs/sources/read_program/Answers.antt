@@ -1,7 +1,7 @@
 use Rattle.std.proofs.Common.{subst, length, min, ◌<◌, ◌≡◌}
 use Rattle.fc_syntax.specs.declared.tree.Program.{Program}
 use Rattle.unfold.specs.declared.count.TheConstants.{MOST_COUNTED}
-use Rattle.unfold.specs.declared.unfolding.TheConstants.{MOST_NODES}
+use Rattle.fc_values.specs.declared.limits.TheConstants.{MOST_NODES}
 use Rattle.unfold.specs.Nodes.{Nodes}
 use Rattle.unfold.specs.Writing.{IfTooLarge}
 use Rattle.fc_syntax.specs.Terms.{program_of}
