@@ -1,4 +1,4 @@
-mod RisingLevels
+pub mod RisingLevels
 mod LowRanks
 mod Near
 mod Given

@@ -3,5 +3,5 @@ pub mod Along
 pub mod MailRuns
 mod Posts
 pub mod Firings
-mod MailLevels
-mod Rounds
+pub mod MailLevels
+pub mod Rounds

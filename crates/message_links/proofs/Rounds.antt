@@ -1,4 +1,5 @@
--- So many rounds over message links raise the level of a mail core so many times, and so a yes stabilises over them.
+-- Crates above cite this module. So many rounds over message links raise the level of a mail core so many times, and so a
+-- yes stabilises over them.
 use Rattle.std.proofs.Common.{◌≡◌, ◌+◌, ℕ, zero, suc, List, [], ◌∷◌, ◌++◌, length, refl, sym, ◌∙◌, ap, subst, arith, false, true, Option, Some, None, append_assoc, append-nil}
 use Rattle.fc_values.specs.Trees.{TreeExport}
 use Rattle.fc_nodes.specs.Program.{Program, Unfolding, unfolding_of, IsProgram}
@@ -95,7 +96,7 @@ module _ (keeps : StepsKeepGood) (fit : CopiesFit) (P : ExportLevel) (p : Progra
           run_renewed keeps fit P p N program net same r begins steps part at j (front ++ w.entry ∷ []) w.after [] parts.2.0 last a b l all next rest now
 
   -- so many rounds and a rest
-  run_rounds : (k j at : ℕ) (q : Posts) (log : List MailEntryValue) (c last : MailCore) → At j c → Under at c → SamePosts q (posts_of c) → MailRun U at c log last → HasMailRounds N at q log k → AtLevel P U N (j + k) last.core
+  pub run_rounds : (k j at : ℕ) (q : Posts) (log : List MailEntryValue) (c last : MailCore) → At j c → Under at c → SamePosts q (posts_of c) → MailRun U at c log last → HasMailRounds N at q log k → AtLevel P U N (j + k) last.core
   run_rounds zero j at q log c last h b posts run v =
       let z : j ≡ j + 0 = omega arith in
       let z' : at ≡ at + 0 = omega arith in
@@ -110,7 +111,7 @@ module _ (keeps : StepsKeepGood) (fit : CopiesFit) (P : ExportLevel) (p : Progra
       (run_rounds k (suc j) (at + length v.0) (posts_along N at q v.0) v.1 parts.0 last next (run_below at c parts.0 v.0 h.core.same b parts.1) (run_posts U N at q c parts.0 v.0 h.core.same posts parts.1) parts.2 v.4)
 
   -- a start is at level 0, and no end of the log sent what is in transit
-  start_at : (c : MailCore) → c.core.net ≡ N → IsMailStart U c → At 0 c × Under 0 c
+  pub start_at : (c : MailCore) → c.core.net ≡ N → IsMailStart U c → At 0 c × Under 0 c
   start_at c n s = (
     record { core = begins c.core n s.good; heard = heard; transit = λ a b l. (messages a b (c.transit a b) (s.transit a b)).0 },
     λ a b l. (messages a b (c.transit a b) (s.transit a b)).1,
