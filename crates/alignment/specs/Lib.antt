@@ -1,3 +1,4 @@
 pub mod Environments
 pub mod Slots
 pub mod References
+pub mod Hearing

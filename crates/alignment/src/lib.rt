@@ -1,10 +1,11 @@
-//! Alignment: a node sees the exports that took the same branches, and fields over their devices.
+//! Alignment: a node sees the exports that took the same branches, and fields over their devices; what the variable of
+//! a `share` hears of these exports, and what a `nbr` gives.
 #![tactic(auto)]
 
 mod environments;
+mod hearing;
 mod restriction;
-#[cfg(test)]
-mod tests;
 
 pub use environments::{Env, NearRef, same_branch};
+pub use hearing::{heard, heard_with, own_or};
 pub use restriction::restrict;

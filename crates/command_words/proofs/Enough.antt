@@ -26,6 +26,7 @@ chosen_once false x d h = cc
 
 set_enough : (s : Setting) (c d : Choices) → allows Gen s ≡ true → Enough c → with_setting s c ≡ Some d → Enough d
 set_enough set.Facts c d allowed enough h = absurd cc
+set_enough set.Settle c d allowed enough h = absurd cc
 set_enough set.Log c d allowed enough h = absurd cc
 set_enough set.Table c d allowed enough h = absurd cc
 set_enough set.Rounds c d allowed enough h = absurd cc

@@ -1,6 +1,7 @@
 mod Apps
 mod Taken
 mod Spelled
+mod FlagWords
 mod CheckWords
 mod ReplayWords
 mod BareWords

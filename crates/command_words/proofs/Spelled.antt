@@ -13,6 +13,7 @@ use Rattle.command_words.specs.Settings.{before, flag_of, is_equals, option_of, 
 -- how a flag is written
 abbrev pub spelled : Setting → List ℕ
 spelled set.Facts = codes "--facts"
+spelled set.Settle = codes "--settle"
 spelled set.Log = codes "--log"
 spelled set.Table = codes "--table"
 spelled set.Rounds = codes "--rounds"
@@ -21,6 +22,7 @@ spelled (set.Alone n) = []
 
 abbrev pub is_flag : Setting → Bool
 is_flag set.Facts = true
+is_flag set.Settle = true
 is_flag set.Log = true
 is_flag set.Table = true
 is_flag set.Rounds = true
@@ -35,17 +37,20 @@ both false b e = cc
 found : (s t : Setting) → Some s ≡ Some t → s ≡ t
 found s t e = cc
 
-flag_spelled : (word : List ℕ) (s : Setting) → flag_of word ≡ Some s → word ≡ spelled s
-flag_spelled word s e =
-    go (bytes_eq word (codes "--facts")) (bytes_eq word (codes "--log")) (bytes_eq word (codes "--table")) (bytes_eq word (codes "--rounds")) refl refl refl refl e
+-- a choice between a flag and the rest
+if_flag : (word : List ℕ) (t s : Setting) (rest : Option Setting) → (rest ≡ Some s → word ≡ spelled s)
+    → (if bytes_eq word (spelled t) then Some t else rest) ≡ Some s → word ≡ spelled s
+if_flag word t s rest further e = go (bytes_eq word (spelled t)) refl e
   where
-    go : (a b c d : Bool) → bytes_eq word (codes "--facts") ≡ a → bytes_eq word (codes "--log") ≡ b → bytes_eq word (codes "--table") ≡ c → bytes_eq word (codes "--rounds") ≡ d
-        → (if a then Some set.Facts else if b then Some set.Log else if c then Some set.Table else if d then Some set.Rounds else None) ≡ Some s → word ≡ spelled s
-    go true b c d p q r t h = (bytes_eq-Decides word (codes "--facts")).0 p ∙ ap spelled (found set.Facts s h)
-    go false true c d p q r t h = (bytes_eq-Decides word (codes "--log")).0 q ∙ ap spelled (found set.Log s h)
-    go false false true d p q r t h = (bytes_eq-Decides word (codes "--table")).0 r ∙ ap spelled (found set.Table s h)
-    go false false false true p q r t h = (bytes_eq-Decides word (codes "--rounds")).0 t ∙ ap spelled (found set.Rounds s h)
-    go false false false false p q r t h = cc
+    go : (b : Bool) → bytes_eq word (spelled t) ≡ b → (if b then Some t else rest) ≡ Some s → word ≡ spelled s
+    go true p h = (bytes_eq-Decides word (spelled t)).0 p ∙ ap spelled (found t s h)
+    go false p h = further h
+
+flag_spelled : (word : List ℕ) (s : Setting) → flag_of word ≡ Some s → word ≡ spelled s
+flag_spelled word s =
+    if_flag word set.Facts s _
+    (if_flag word set.Settle s _
+    (if_flag word set.Log s _ (if_flag word set.Table s _ (if_flag word set.Rounds s _ (λ e. cc)))))
 
 no_flag : (s t : Setting) → Some s ≡ Some t → is_flag s ≡ false → is_flag t ≡ true → ⊥
 no_flag s t e n h = true≢false (sym h ∙ sym (ap is_flag (found s t e)) ∙ n)

@@ -10,7 +10,7 @@ use Rattle.command_words.specs.declared.commands.Limit.TheVariants.{Workers, Dev
 -- a command with numbers that words can give it: a scenario has at least 3 devices
 abbrev pub IsCommand : Command → Type 0
 IsCommand (Gen number devices workers) = 3 ≤ devices
-IsCommand (Check facts) = Unit {0}
+IsCommand (Check facts settle) = Unit {0}
 IsCommand Stable = Unit {0}
 IsCommand (Run workers log table) = Unit {0}
 IsCommand (Replay rounds table) = Unit {0}
@@ -35,7 +35,7 @@ devices_limit n = if nat_lt MOST_SCENARIO_DEVICES n then Some (Devices, n) else 
 abbrev pub limit_of : Command → Option (Limit × ℕ)
 limit_of (Run workers log table) = workers_limit workers
 limit_of (Gen number devices workers) = option_or (workers_limit workers) (devices_limit devices)
-limit_of (Check facts) = None
+limit_of (Check facts settle) = None
 limit_of Stable = None
 limit_of (Replay rounds table) = None
 limit_of Format = None

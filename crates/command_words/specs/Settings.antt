@@ -13,6 +13,7 @@ use Rattle.command_words.specs.declared.settings.Numbered.TheVariants.{Workers, 
 abbrev pub flag_of : List ℕ → Option Setting
 flag_of word =
     if bytes_eq word (codes "--facts") then Some set.Facts else
+    if bytes_eq word (codes "--settle") then Some set.Settle else
     if bytes_eq word (codes "--log") then Some set.Log else
     if bytes_eq word (codes "--table") then Some set.Table else
     if bytes_eq word (codes "--rounds") then Some set.Rounds else None

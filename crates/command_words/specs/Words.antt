@@ -29,6 +29,7 @@ name_of word =
 -- the flags, options and numbers that a command takes: workers are at least 1, and devices at least 3
 abbrev pub allows : Name → Setting → Bool
 allows Check set.Facts = true
+allows Check set.Settle = true
 allows Run (set.Option Workers n) = nat_le 1 n
 allows Run set.Log = true
 allows Run set.Table = true
@@ -44,6 +45,7 @@ allows name setting = false
 abbrev pub no_choices : Choices
 no_choices = record {
   facts = false;
+  settle = false;
   log = false;
   table = false;
   rounds = false;
@@ -56,6 +58,7 @@ no_choices = record {
 -- what is set with one setting more, each at most once
 abbrev pub with_setting : Setting → Choices → Option Choices
 with_setting set.Facts c = if c.facts then None else Some (record c { facts = true })
+with_setting set.Settle c = if c.settle then None else Some (record c { settle = true })
 with_setting set.Log c = if c.log then None else Some (record c { log = true })
 with_setting set.Table c = if c.table then None else Some (record c { table = true })
 with_setting set.Rounds c = if c.rounds then None else Some (record c { rounds = true })
@@ -71,7 +74,7 @@ all_set c (s ∷ more) = option_and_then (λ d. all_set d more) (with_setting s 
 
 -- the command with what is set, and the defaults for the rest: 4 workers and 64 devices. `gen` needs its number
 abbrev pub command_with : Name → Choices → Option Command
-command_with Check c = Some (command.Check c.facts)
+command_with Check c = Some (command.Check c.facts c.settle)
 command_with Stable c = Some command.Stable
 command_with Run c = Some (command.Run (unwrap_or c.workers 4) c.log c.table)
 command_with Replay c = Some (command.Replay c.rounds c.table)

@@ -24,6 +24,7 @@ pub enum Name {
 #[derive(Clone, Copy, Debug, PartialEq, Eq)]
 pub struct Choices {
     facts: bool,
+    settle: bool,
     log: bool,
     table: bool,
     rounds: bool,
@@ -70,6 +71,7 @@ fn takes(name: Name, setting: Setting) -> bool
 {
     match (name, setting) {
         (Name::Check, Setting::Facts) => true,
+        (Name::Check, Setting::Settle) => true,
         (Name::Run, Setting::Option(Numbered::Workers, count)) => 1 <= count,
         (Name::Run, Setting::Log) => true,
         (Name::Run, Setting::Table) => true,
@@ -90,6 +92,10 @@ fn with(choices: Choices, setting: Setting) -> Option<Choices>
     match setting {
         Setting::Facts if !choices.facts => Some(Choices {
             facts: true,
+            ..choices
+        }),
+        Setting::Settle if !choices.settle => Some(Choices {
+            settle: true,
             ..choices
         }),
         Setting::Log if !choices.log => Some(Choices {
@@ -130,6 +136,7 @@ fn collected(settings: &[Setting]) -> Option<Choices>
 {
     let mut choices = Choices {
         facts: false,
+        settle: false,
         log: false,
         table: false,
         rounds: false,
@@ -151,6 +158,7 @@ fn chosen(name: Name, choices: Choices) -> Option<Command>
     match name {
         Name::Check => Some(Command::Check {
             facts: choices.facts,
+            settle: choices.settle,
         }),
         Name::Stable => Some(Command::Stable),
         Name::Run => Some(Command::Run {

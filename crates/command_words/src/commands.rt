@@ -8,9 +8,10 @@ use fc_values::{MOST_SCENARIO_DEVICES, MOST_WORKERS};
 /// A command with its options.
 #[derive(Clone, Copy, Debug, PartialEq, Eq)]
 pub enum Command {
-    /// The verdict, and the facts of each node where they are asked for.
+    /// The verdict, and where they are asked for the facts of each node and the rounds that each device needs.
     Check {
         facts: bool,
+        settle: bool,
     },
     /// The stabilised field.
     Stable,

@@ -9,6 +9,3 @@ mod words;
 
 pub use commands::{Command, Limit, passed_limit};
 pub use words::{command, words_ask_for_commands};
-
-#[cfg(test)]
-mod tests;

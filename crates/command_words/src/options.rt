@@ -17,10 +17,14 @@ fn check_options<'a>(alloc: Global) -> Result<Command<'a>, AllocError>
     let facts = Arg::new(alloc, "facts")
         .long("facts")
         .action(ArgAction::SetTrue);
+    let settle = Arg::new(alloc, "settle")
+        .long("settle")
+        .action(ArgAction::SetTrue);
     Command::new(alloc, "check")
         .disable_help_flag(true)
         .disable_version_flag(true)
-        .arg(facts)
+        .arg(facts)?
+        .arg(settle)
 }
 
 fn replay_options<'a>(alloc: Global) -> Result<Command<'a>, AllocError>
@@ -85,6 +89,7 @@ pub fn check(alloc: Global, words: &[String]) -> Result<Asked, Memory>
     match check_matches(alloc, words) {
         Ok(matches) => Ok(Asked::Check {
             facts: matches.get_flag("facts"),
+            settle: matches.get_flag("settle"),
         }),
         Err(_) => Err(Memory),
     }

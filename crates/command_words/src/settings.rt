@@ -22,6 +22,8 @@ pub enum Numbered {
 pub enum Setting {
     /// `--facts`
     Facts,
+    /// `--settle`
+    Settle,
     /// `--log`
     Log,
     /// `--table`
@@ -40,6 +42,9 @@ fn flag(word: &str) -> Option<Setting>
 {
     if word == "--facts" {
         return Some(Setting::Facts);
+    }
+    if word == "--settle" {
+        return Some(Setting::Settle);
     }
     if word == "--log" {
         return Some(Setting::Log);

@@ -18,7 +18,7 @@ use Rattle.device_eval.specs.Evaluation.{Situation, Vars, Outcome, own_or, heard
 use Rattle.fc_nodes.specs.Layouts.{LayoutValue, number_in}
 use Rattle.alignment.specs.Slots.{FlatEnv, NearSlots, OwnHas, NearHave}
 use Rattle.device_eval.specs.Environments.{env_at, near_at}
-use Rattle.share_op.specs.Hearing.{slot_entries, own_slot_or}
+use Rattle.alignment.specs.Hearing.{slot_entries, own_slot_or}
 use Rattle.device_eval.specs.Starts.{started}
 use Rattle.device_eval.specs.Walks.{SameIn, Can, Did, DidAt, Stands, IsLocal, Ready, ReadyAt}
 use Rattle.fc_values.proofs.SlotReads.{slot_set_same, slot_set_other}

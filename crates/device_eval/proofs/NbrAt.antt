@@ -18,7 +18,7 @@ use Rattle.device_eval.specs.Evaluation.{Situation, Vars, eval_of, heard, on_loc
 use Rattle.fc_nodes.specs.Layouts.{LayoutValue, number_in}
 use Rattle.alignment.specs.Slots.{FlatEnv, NearSlots, NearHave}
 use Rattle.device_eval.specs.Environments.{env_at, near_at}
-use Rattle.share_op.specs.Hearing.{slot_entries}
+use Rattle.alignment.specs.Hearing.{slot_entries}
 use Rattle.device_eval.specs.Walks.{SameIn, Can, Did, DidAt, Stands, IsLocal, Ready, ReadyAt}
 use Rattle.fc_values.proofs.SlotReads.{slot_set_same, slot_set_other}
 use Rattle.device_eval.proofs.Frames.{tree_same, marked_same, env_child, env_fits, room_part, still_then, still_set}

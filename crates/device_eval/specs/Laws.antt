@@ -7,7 +7,7 @@ use Rattle.fc_values.specs.Trees.{Tree, Trees}
 use Rattle.fc_nodes.specs.Terms.{ByRep, ByShare, Term, Terms, Nbr, Evolve, If, kept}
 use Rattle.alignment.specs.Environments.{Env, child_env, branch_env, near_numbers}
 use Rattle.alignment.specs.Slots.{FlatEnv, flat_branch}
-use Rattle.share_op.specs.Hearing.{slot_entries, own_slot_or}
+use Rattle.alignment.specs.Hearing.{slot_entries, own_slot_or}
 use Rattle.device_eval.specs.Neighbours.{kept_there}
 use Rattle.device_eval.specs.Evaluation.{Situation, Vars, own_or, heard, eval_of, eval_all, pick}
 use Rattle.device_eval.specs.Rules.{Evaluates, EvaluateAll}

@@ -4,7 +4,7 @@ use Rattle.fc_values.specs.Values.{LocalValue}
 use Rattle.fc_values.specs.Fields.{AnyValue, ValueLocal, ValueField, with_entry}
 use Rattle.fc_nodes.specs.Terms.{Evolution, ByRep, ByShare}
 use Rattle.alignment.specs.Slots.{FlatEnv}
-use Rattle.share_op.specs.Hearing.{own_slot_or, slot_entries}
+use Rattle.alignment.specs.Hearing.{own_slot_or, slot_entries}
 
 abbrev pub started : Evolution → ℕ → FlatEnv → ℕ → LocalValue → AnyValue
 started ByRep device env k first = ValueLocal (own_slot_or k first env.own)

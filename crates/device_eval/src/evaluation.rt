@@ -12,11 +12,10 @@ ghost use Rattle.device_eval.specs.Contexts.{vars_of, ReadyIn, ReadyFor, Evaluat
 ghost use Rattle.device_eval.specs.Walks.{IsLocal, IsTruth};
 
 use crate::links::links;
-use alignment::{Env, restrict, same_branch};
+use alignment::{Env, heard, heard_with, own_or, restrict, same_branch};
 use fc_nodes::{Node, Op, Unfolded};
 use fc_values::{Builtin, Local, Memory, Value, apply, copy};
 use flat_exports::{Draft, Layout};
-use share_op::{heard, heard_with, own_or};
 use std::alloc::Global;
 
 /// What an evaluation is of: a program, its layout, the device that fires, and the inputs of its copy.

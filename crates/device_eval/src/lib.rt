@@ -5,8 +5,6 @@ mod evaluation;
 mod firing;
 mod laws;
 mod links;
-#[cfg(test)]
-mod tests;
 
 pub use firing::{Fired, evaluate, fire};
 pub use laws::{nodes_have_outcomes, one_export, rules_agree, slots_stand_for_trees};

@@ -6,7 +6,7 @@ mod Ending
 mod Starting
 mod Passing
 mod Turning
-mod OwnFirings
+pub mod OwnFirings
 mod Calls
 pub mod Crosses
 pub mod Captures

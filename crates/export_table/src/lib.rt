@@ -6,8 +6,6 @@ mod firing;
 mod held;
 mod item;
 mod shared;
-#[cfg(test)]
-mod tests;
 
 pub use firing::{Firing, Gate, OpenGate};
 pub use held::Held;

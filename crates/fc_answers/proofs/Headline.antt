@@ -20,6 +20,8 @@ use Rattle.fc_inputs.specs.Refusals.{Reply}
 use Rattle.fc_inputs.specs.Sections.{sections_of, other_number, WithTwo, WithThree}
 use Rattle.fc_values.specs.declared.limits.TheConstants.{MOST_BYTES}
 use Rattle.fc_check.specs.Checks.{Checks, ChecksScene, facts_behind, verdict_status}
+use Rattle.fc_settle.specs.Settles.{Settles, SettlesScene}
+use Rattle.settle_rounds.specs.SettleTimes.{SettleTimesHold}
 use Rattle.interval_facts.specs.Ranges.{ranges_of}
 use Rattle.report.specs.Facts.{facts_text}
 use Rattle.report.specs.Texts.{field_text}
@@ -34,8 +36,8 @@ use Rattle.fc_run.specs.Runs.{RanValue, Runs}
 use Rattle.fc_answers.specs.Asked.{limit_refusal, reads}
 use Rattle.fc_answers.specs.Answers.{AnswerValue, AnswersInput}
 use Rattle.fc_answers.specs.Answers.{AnswersWithin, ShowsRun, WritesLogReply, WritesReply, answer_of, replied, run_options, running}
-use Rattle.fc_answers.specs.Headline.{AnswersKeep, ChecksYes, HasYes, MailPromises, OfThree, OfTwo, Promises}
-use Rattle.fc_answers.specs.Headline.{RunsKept, SolvesYes, TracesYes, stable_entries}
+use Rattle.fc_answers.specs.Headline.{AnswersKeep, ChecksYes, HasYes, IsAnswered, MailPromises, OfThree, OfTwo, Promises}
+use Rattle.fc_answers.specs.Headline.{RunsKept, SettlesKept, SolvesYes, TracesYes, stable_entries}
 use Rattle.stable_field.proofs.OneField.{one_field}
 use Rattle.fc_trace.proofs.Scenes.{scene_fits}
 use Rattle.fc_trace.specs.Traces.{TracedBy, Traces, TracesScene}
@@ -178,38 +180,87 @@ module _ (law : YesStabilises) (fit : AcceptedScenesFit) (least : SolutionsAreLe
           subst (λ j. Keeps TracesYes program network (reply_of j)) (sym e)
           (refused_keeps TracesYes program network (reply_to cause) c)
 
+module _ (hold : SettleTimesHold) (fit : AcceptedScenesFit) (program network : List ℕ) (facts : Bool) where
+  settle_keeps : (k : Judged Reply) → Settles facts program network k → (reply_of k).status ≤ 1
+      → SettlesKept facts program network (reply_of k).status (reply_of k).text
+  settle_keeps k h low = by_input h.judged h.reads (input_causes program network h.judged h.reads) h.ends
+    where
+      by_input : (i : Judged InputOf) → ReadsInput program network i → IfRefused CauseJudges i
+          → AndThen i (λ i k. SettlesScene facts i.0 i.1 k) k
+          → SettlesKept facts program network (reply_of k).status (reply_of k).text
+      by_input (Accepted i) r c e =
+          let fits = scene_fits fit program network i r in
+          let declared : i.1.net.declared ≡ e.nodes.declared =
+          fits.declared ∙ ap (λ (V : Unfolding). V.declared) (sym e.unfolded) in
+          record {
+            nodes = e.nodes;
+            is_program = e.is_program;
+            scene = i.1;
+            reads = subst (λ (V : Unfolding). ReadsInput program network (Accepted (V, i.1))) (sym e.unfolded) r;
+            well = hold e.nodes i.1.net e.is_program fits.net declared;
+            ends = ap (λ j. (reply_of j).status) e.settled;
+            writes = ap (λ j. (reply_of j).text) e.settled;
+          }
+      by_input (Refused cause) r c e =
+          let many = c.many in
+          let same : (reply_of k).status ≡ (reply_to cause).status = ap (λ j. (reply_of j).status) e in
+          absurd (omega (arith, many, low, same))
+
 -- ---- answers
-answer_keeps : (P : List ℕ → List ℕ → List ℕ → Type 0) (program network : List ℕ) (k : Judged Reply)
-    → Keeps P program network (reply_of k) → (answer_of (judged_map replied k)).status ≡ 0
-    → P program network (answer_of (judged_map replied k)).text
-answer_keeps P program network (Accepted reply) h zero = h zero
-answer_keeps P program network (Refused cause) h zero = h zero
+refused_low : {A : Type 0} (j : Judged AnswerValue) (cause : Cause) → j ≡ Refused cause → 3 ≤ (reply_to cause).status
+    → (answer_of j).status ≤ 1 → A
+refused_low j cause e many low =
+    let same : (answer_of j).status ≡ (reply_to cause).status = ap (λ k. (answer_of k).status) e in
+    absurd (omega (arith, many, low, same))
 
 refused_zero : {A : Type 0} (j : Judged AnswerValue) (cause : Cause) → j ≡ Refused cause → 3 ≤ (reply_to cause).status
     → (answer_of j).status ≡ 0 → A
-refused_zero j cause e many zero =
-    let same : (answer_of j).status ≡ (reply_to cause).status = ap (λ k. (answer_of k).status) e in
-    absurd (omega (arith, many, zero, same))
+refused_zero j cause e many zero = refused_low j cause e many (omega (arith, zero))
 
-module _ (Makes : List ℕ → List ℕ → Judged Reply → Type 0) (P : List ℕ → List ℕ → List ℕ → Type 0)
-    (keep : (program network : List ℕ) (k : Judged Reply) → Makes program network k
-    → Keeps P program network (reply_of k)) where
+-- two sections, and a promise of answers with low statuses
+module _ (Makes : List ℕ → List ℕ → Judged Reply → Type 0) (P : List ℕ → List ℕ → ℕ → List ℕ → Type 0)
+    (IsLow : ℕ → Type 0) (low : (n : ℕ) → IsLow n → n ≤ 1)
+    (keep : (program network : List ℕ) (k : Judged Reply) → Makes program network k → IsLow (reply_of k).status
+    → P program network (reply_of k).status (reply_of k).text) where
+  abbrev Kept : List ℕ → List ℕ → Judged AnswerValue → Type 0
+  Kept program network j = P program network (answer_of j).status (answer_of j).text
+
+  replied_keeps : (program network : List ℕ) (k : Judged Reply) → Makes program network k
+      → IsLow (answer_of (judged_map replied k)).status → Kept program network (judged_map replied k)
+  replied_keeps program network (Accepted reply) h is = keep program network (Accepted reply) h is
+  replied_keeps program network (Refused cause) h is = keep program network (Refused cause) h is
+
   sections_keep : (ss : List (List ℕ)) (j : Judged AnswerValue) → WithTwo (WritesReply Makes) ss j
-      → (answer_of j).status ≡ 0 → OfTwo (λ program network. P program network (answer_of j).text) ss
-  sections_keep [] j h zero = refused_zero j (other_number []) h (omega arith) zero
-  sections_keep (a ∷ []) j h zero = refused_zero j (other_number (a ∷ [])) h (omega arith) zero
-  sections_keep (a ∷ b ∷ []) j h zero =
-      subst (λ i. (answer_of i).status ≡ 0 → P a b (answer_of i).text) (sym h.writes)
-      (answer_keeps P a b h.judged (keep a b h.judged h.makes)) zero
-  sections_keep (a ∷ b ∷ c ∷ ss) j h zero = refused_zero j (other_number (a ∷ b ∷ c ∷ ss)) h (omega arith) zero
+      → IsLow (answer_of j).status → OfTwo (λ program network. Kept program network j) ss
+  sections_keep [] j h is = refused_low j (other_number []) h (omega arith) (low _ is)
+  sections_keep (a ∷ []) j h is = refused_low j (other_number (a ∷ [])) h (omega arith) (low _ is)
+  sections_keep (a ∷ b ∷ []) j h is =
+      subst (λ i. IsLow (answer_of i).status → Kept a b i) (sym h.writes) (replied_keeps a b h.judged h.makes) is
+  sections_keep (a ∷ b ∷ c ∷ ss) j h is =
+      refused_low j (other_number (a ∷ b ∷ c ∷ ss)) h (omega arith) (low _ is)
 
-  input_keeps : (input : List ℕ) (j : Judged AnswerValue) (long : Bool)
-      → (long ≡ true → j ≡ Refused (Plainly Bytes))
-      → (long ≡ false → WithTwo (WritesReply Makes) (sections_of input) j)
-      → (answer_of j).status ≡ 0
-      → OfTwo (λ program network. P program network (answer_of j).text) (sections_of input)
-  input_keeps input j true h k zero = refused_zero j (Plainly Bytes) (h refl) (omega arith) zero
-  input_keeps input j false h k zero = sections_keep (sections_of input) j (k refl) zero
+  low_keeps : (input : List ℕ) (j : Judged AnswerValue) (long : Bool) → (long ≡ true → j ≡ Refused (Plainly Bytes))
+      → (long ≡ false → WithTwo (WritesReply Makes) (sections_of input) j) → IsLow (answer_of j).status
+      → OfTwo (λ program network. Kept program network j) (sections_of input)
+  low_keeps input j true h k is = refused_low j (Plainly Bytes) (h refl) (omega arith) (low _ is)
+  low_keeps input j false h k is = sections_keep (sections_of input) j (k refl) is
+
+abbrev IsZero : ℕ → Type 0
+IsZero n = n ≡ 0
+
+zero_low : (n : ℕ) → IsZero n → n ≤ 1
+zero_low n e = omega (arith, e)
+
+abbrev IsAtMostOne : ℕ → Type 0
+IsAtMostOne n = n ≤ 1
+
+-- the promise of a text, with status 0
+input_keeps : (Makes : List ℕ → List ℕ → Judged Reply → Type 0) (P : List ℕ → List ℕ → List ℕ → Type 0)
+    → ((program network : List ℕ) (k : Judged Reply) → Makes program network k → Keeps P program network (reply_of k))
+    → (input : List ℕ) (j : Judged AnswerValue) (long : Bool) → (long ≡ true → j ≡ Refused (Plainly Bytes))
+    → (long ≡ false → WithTwo (WritesReply Makes) (sections_of input) j) → (answer_of j).status ≡ 0
+    → OfTwo (λ program network. P program network (answer_of j).text) (sections_of input)
+input_keeps Makes P keep = low_keeps Makes (λ program network status text. P program network text) IsZero zero_low keep
 
 -- ---- three sections
 module _ (Shows : List ℕ → List ℕ → List ℕ → Judged AnswerValue → Type 0)
@@ -314,15 +365,20 @@ gen_keeps agree number devices workers None input j h zero =
     subst (λ x. Agrees number devices (answer_of x).text) (sym h.shows)
     (agree number devices h.least h.most h.gen h.gens)
 
-module _ (law : YesStabilises) (fit : AcceptedScenesFit) (least : SolutionsAreLeast) (run : RunsKeepYes)
-    (agree : AllAgree) (log : MailsKeepYes) (driven : DrivenMailsKeepYes) where
+module _ (law : YesStabilises) (fit : AcceptedScenesFit) (hold : SettleTimesHold) (least : SolutionsAreLeast)
+    (run : RunsKeepYes) (agree : AllAgree) (log : MailsKeepYes) (driven : DrivenMailsKeepYes) where
   command_keeps : (command : Command) (input : List ℕ) (j : Judged AnswerValue)
-      → AnswersWithin (limit_of command) command input j → (answer_of j).status ≡ 0
+      → AnswersWithin (limit_of command) command input j → IsAnswered command (answer_of j).status
       → Promises command (sections_of input) (answer_of j)
-  command_keeps (Check facts) input j h zero =
+  command_keeps (Check facts false) input j h zero =
       input_keeps (Checks facts) ChecksYes (λ p n. check_keeps law fit p n facts) input j
-      (nat_lt MOST_BYTES (length input)) (λ e. subst (λ b. AnswersInput b (Check facts) input j) e h)
-      (λ e. subst (λ b. AnswersInput b (Check facts) input j) e h) zero
+      (nat_lt MOST_BYTES (length input)) (λ e. subst (λ b. AnswersInput b (Check facts false) input j) e h)
+      (λ e. subst (λ b. AnswersInput b (Check facts false) input j) e h) zero
+  command_keeps (Check facts true) input j h low =
+      low_keeps (Settles facts) (SettlesKept facts) IsAtMostOne (λ n e. e)
+      (λ p n. settle_keeps hold fit p n facts) input j
+      (nat_lt MOST_BYTES (length input)) (λ e. subst (λ b. AnswersInput b (Check facts true) input j) e h)
+      (λ e. subst (λ b. AnswersInput b (Check facts true) input j) e h) low
   command_keeps Stable input j h zero =
       input_keeps Stabilised SolvesYes (stable_keeps law fit) input j
       (nat_lt MOST_BYTES (length input)) (λ e. subst (λ b. AnswersInput b Stable input j) e h)
@@ -342,5 +398,5 @@ module _ (law : YesStabilises) (fit : AcceptedScenesFit) (least : SolutionsAreLe
   pub answers_keep : AnswersKeep
   answers_keep None input answer h = tt
   answers_keep (Some command) input answer h =
-      subst (λ (a : AnswerValue). a.status ≡ 0 → Promises command (sections_of input) a) (sym h.is)
+      subst (λ (a : AnswerValue). IsAnswered command a.status → Promises command (sections_of input) a) (sym h.is)
       (command_keeps command input h.judged h.makes)

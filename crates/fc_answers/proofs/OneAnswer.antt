@@ -13,6 +13,8 @@ use Rattle.fc_inputs.specs.Sections.{sections_of, WithOne, WithTwo, WithThree, o
 use Rattle.fc_inputs.specs.Inputs.{OneSource}
 use Rattle.fc_check.specs.Checks.{Checks}
 use Rattle.fc_check.specs.Laws.{OneCheck}
+use Rattle.fc_settle.specs.Laws.{OneSettle}
+use Rattle.fc_settle.specs.Settles.{Settles}
 use Rattle.fc_mail.specs.Drives.{DrivesMail}
 use Rattle.fc_mail.specs.Mails.{Mails}
 use Rattle.fc_mail.specs.Laws.{OneMail, OneDrivenMail}
@@ -81,8 +83,8 @@ same_reply Makes one (a ∷ b ∷ []) j k h g =
     (h.writes ∙ ap (judged_map replied) (one a b h.judged g.judged h.makes g.makes)) g.writes
 same_reply Makes one (a ∷ b ∷ c ∷ ss) j k h g = equal false (Refused (other_number (a ∷ b ∷ c ∷ ss))) j k h g
 
-module _ (source : OneSource) (check : OneCheck) (stable : OneReply Stabilised) (trace : OneReply Traces)
-    (replay : OneReplay) (run : OneRun) (gen : OneGen) (mail : OneMail) (driven : OneDrivenMail) where
+module _ (source : OneSource) (check : OneCheck) (settle : OneSettle) (stable : OneReply Stabilised)
+    (trace : OneReply Traces) (replay : OneReplay) (run : OneRun) (gen : OneGen) (mail : OneMail) (driven : OneDrivenMail) where
   same_format : (ss : List (List ℕ)) (j k : Judged AnswerValue) → WithOne Formats ss j → WithOne Formats ss k
       → Same false j k
   same_format [] j k h g = equal false (Refused (other_number [])) j k h g
@@ -130,7 +132,8 @@ module _ (source : OneSource) (check : OneCheck) (stable : OneReply Stabilised) 
       → AnswersSections command ss k → Same (runs_threads command) j k
   same_sections Format ss j k h g = same_format ss j k h g
   same_sections (Replay rounds table) ss j k h g = same_replay (options_of rounds table) ss j k h g
-  same_sections (Check facts) ss j k h g = same_reply (Checks facts) (check facts) ss j k h g
+  same_sections (Check facts false) ss j k h g = same_reply (Checks facts) (check facts) ss j k h g
+  same_sections (Check facts true) ss j k h g = same_reply (Settles facts) (settle facts) ss j k h g
   same_sections Stable ss j k h g = same_reply Stabilised stable ss j k h g
   same_sections (Run workers log table) ss j k h g = same_run (run_options log table) ss j k h g
   same_sections (Gen number devices workers) ss j k h g = absurd h
@@ -145,7 +148,7 @@ module _ (source : OneSource) (check : OneCheck) (stable : OneReply Stabilised) 
       (record { status = refl; text = agree.text }))
   same_unread Format j k h g = absurd h
   same_unread (Replay rounds table) j k h g = absurd h
-  same_unread (Check facts) j k h g = absurd h
+  same_unread (Check facts settles) j k h g = absurd h
   same_unread Stable j k h g = absurd h
   same_unread (Run workers log table) j k h g = absurd h
   same_unread Trace j k h g = absurd h

@@ -19,6 +19,8 @@ use Rattle.fc_inputs.specs.Sections.{sections_of, AreWithin, SectionsAreWithin, 
 use Rattle.fc_inputs.specs.Inputs.{OneSource}
 use Rattle.fc_check.specs.Checks.{Checks}
 use Rattle.fc_check.specs.Laws.{SomeCheck}
+use Rattle.fc_settle.specs.Laws.{SomeSettle}
+use Rattle.fc_settle.specs.Settles.{Settles}
 use Rattle.fc_mail.specs.Drives.{DrivesMail}
 use Rattle.fc_mail.specs.Mails.{Mails}
 use Rattle.fc_mail.specs.Laws.{SomeMail, SomeDrivenMail}
@@ -65,8 +67,8 @@ some_reply Makes some (a ∷ b ∷ []) w =
     (judged_map replied r.0, record { judged = r.0; makes = r.1; writes = refl })
 some_reply Makes some (a ∷ b ∷ c ∷ ss) w = (Refused (other_number (a ∷ b ∷ c ∷ ss)), refl)
 
-module _ (source : OneSource) (within : SectionsAreWithin) (check : SomeCheck) (stable : SomeReply Stabilised)
-    (trace : SomeReply Traces) (replay : SomeReplay) (run : SomeRun) (gen : SomeGen) (mail : SomeMail)
+module _ (source : OneSource) (within : SectionsAreWithin) (check : SomeCheck) (settle : SomeSettle)
+    (stable : SomeReply Stabilised) (trace : SomeReply Traces) (replay : SomeReplay) (run : SomeRun) (gen : SomeGen) (mail : SomeMail)
     (driven : SomeDrivenMail) where
   some_format : (ss : List (List ℕ)) → IsJudgedSo (WithOne Formats ss)
   some_format [] = (Refused (other_number []), refl)
@@ -111,7 +113,8 @@ module _ (source : OneSource) (within : SectionsAreWithin) (check : SomeCheck) (
       → IsJudgedSo (AnswersSections command ss)
   some_sections Format read ss w = some_format ss
   some_sections (Replay rounds table) read ss w = some_shown (options_of rounds table) ss w
-  some_sections (Check facts) read ss w = some_reply (Checks facts) (check facts) ss w
+  some_sections (Check facts false) read ss w = some_reply (Checks facts) (check facts) ss w
+  some_sections (Check facts true) read ss w = some_reply (Settles facts) (settle facts) ss w
   some_sections Stable read ss w = some_reply Stabilised stable ss w
   some_sections (Run workers log table) read ss w = some_ran (run_options log table) ss w
   some_sections (Gen number devices workers) read ss w = absurd cc
@@ -136,8 +139,8 @@ module _ (source : OneSource) (within : SectionsAreWithin) (check : SomeCheck) (
   some_reading Format input may past = some_input Format input refl (nat_lt MOST_BYTES (length input)) refl
   some_reading (Replay rounds table) input may past =
       some_input (Replay rounds table) input refl (nat_lt MOST_BYTES (length input)) refl
-  some_reading (Check facts) input may past =
-      some_input (Check facts) input refl (nat_lt MOST_BYTES (length input)) refl
+  some_reading (Check facts settles) input may past =
+      some_input (Check facts settles) input refl (nat_lt MOST_BYTES (length input)) refl
   some_reading Stable input may past = some_input Stable input refl (nat_lt MOST_BYTES (length input)) refl
   some_reading (Run workers log table) input may past =
       some_input (Run workers log table) input refl (nat_lt MOST_BYTES (length input)) refl

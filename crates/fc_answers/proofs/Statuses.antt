@@ -26,6 +26,7 @@ use Rattle.fc_nodes.specs.declared.verdicts.Verdict.TheVariants as verdict
 use Rattle.topology.specs.Networks.{Network}
 use Rattle.fragment_check.specs.Verdicts.{verdict_of}
 use Rattle.fc_check.specs.Checks.{Checks, ChecksScene, verdict_status}
+use Rattle.fc_settle.specs.Settles.{Settles, SettlesScene, settle_status, time_of}
 use Rattle.message_links.specs.MailCores.{MailCore, MailEntryValue}
 use Rattle.mail_lines.specs.MailLines.{mail_log}
 use Rattle.mail_book.specs.MailViews.{quiet}
@@ -268,6 +269,19 @@ trace_replies program network j h = by_input h.judged (input_causes program netw
         (trace_by (verdict_of e.nodes (length i.1.net.devices)) (walk_terms i.0) i.0 i.1.net e.reply e.writes)
     by_input (Refused cause) c e = subst ReplyJudges (sym e) c
 
+time_judges : (o : Option ℕ) → JudgesBy (settle_status o)
+time_judges (Some rounds) = by_zero
+time_judges None = by_one
+
+settle_replies : (facts : Bool) (program network : List ℕ) (j : Judged Reply) → Settles facts program network j
+    → ReplyJudges j
+settle_replies facts program network j h = by_input h.judged (input_causes program network h.judged h.reads) h.ends
+  where
+    by_input : (i : Judged InputOf) → IfRefused CauseJudges i → AndThen i (λ i k. SettlesScene facts i.0 i.1 k) j
+        → ReplyJudges j
+    by_input (Accepted i) c e = subst ReplyJudges (sym e.settled) (time_judges (time_of e.nodes i.1.net))
+    by_input (Refused cause) c e = subst ReplyJudges (sym e) c
+
 mail_lines_judge : (U : Unfolding) (start : MailCore) (lines : Lines (Unit {0}) MailEntryValue) (j : Judged Reply) → MailsLines U start lines j
     → ReplyJudges j
 mail_lines_judge U start (StopsAt at tt) j e = subst ReplyJudges (sym e) (log_judges at line_fault.Form)
@@ -343,7 +357,8 @@ sections_judge : (command : Command) (ss : List (List ℕ)) (j : Judged AnswerVa
     → JudgesWell j
 sections_judge Format ss j h = format_judges ss j h
 sections_judge (Replay rounds table) ss j h = replay_judges (options_of rounds table) ss j h
-sections_judge (Check facts) ss j h = reply_judges (Checks facts) (check_replies facts) ss j h
+sections_judge (Check facts false) ss j h = reply_judges (Checks facts) (check_replies facts) ss j h
+sections_judge (Check facts true) ss j h = reply_judges (Settles facts) (settle_replies facts) ss j h
 sections_judge Stable ss j h = reply_judges Stabilised stable_replies ss j h
 sections_judge (Run workers log table) ss j h = run_judges (run_options log table) ss j h
 sections_judge (Gen number devices workers) ss j h = absurd h
@@ -354,7 +369,7 @@ unread_judges : (command : Command) (j : Judged AnswerValue) → AnswersUnread c
 unread_judges (Gen number devices workers) j h = written_judges generating (λ x. refl) (Accepted h.gen) tt j h.shows
 unread_judges Format j h = absurd h
 unread_judges (Replay rounds table) j h = absurd h
-unread_judges (Check facts) j h = absurd h
+unread_judges (Check facts settle) j h = absurd h
 unread_judges Stable j h = absurd h
 unread_judges (Run workers log table) j h = absurd h
 unread_judges Trace j h = absurd h

@@ -24,6 +24,7 @@ use Rattle.fc_run.specs.declared.runs.RunOptions.{RunOptions}
 use Rattle.fc_run.specs.Runs.{RanValue, Runs}
 use Rattle.fc_values.specs.declared.limits.TheConstants.{MOST_BYTES, MOST_SCENARIO_DEVICES}
 use Rattle.fc_answers.specs.Asked.{reads, limit_refusal}
+use Rattle.fc_settle.specs.Settles.{Settles}
 use Rattle.fc_trace.specs.Traces.{Traces}
 use Rattle.fc_answers.specs.Stabilised.{Stabilised}
 
@@ -113,7 +114,8 @@ run_options log table = record { log = log; table = table }
 abbrev pub AnswersSections : Command → List (List ℕ) → Judged AnswerValue → Type 0
 AnswersSections Format sections j = WithOne Formats sections j
 AnswersSections (Replay rounds table) sections j = WithThree (ShowsReplay (options_of rounds table)) sections j
-AnswersSections (Check facts) sections j = WithTwo (WritesReply (Checks facts)) sections j
+AnswersSections (Check facts false) sections j = WithTwo (WritesReply (Checks facts)) sections j
+AnswersSections (Check facts true) sections j = WithTwo (WritesReply (Settles facts)) sections j
 AnswersSections Stable sections j = WithTwo (WritesReply Stabilised) sections j
 AnswersSections (Run workers log table) sections j = WithThree (ShowsRun (run_options log table)) sections j
 AnswersSections (Gen number devices workers) sections j = ⊥
@@ -130,7 +132,7 @@ abbrev pub AnswersUnread : Command → Judged AnswerValue → Type 0
 AnswersUnread (Gen number devices workers) j = ShowsGen number devices j
 AnswersUnread Format j = ⊥
 AnswersUnread (Replay rounds table) j = ⊥
-AnswersUnread (Check facts) j = ⊥
+AnswersUnread (Check facts settle) j = ⊥
 AnswersUnread Stable j = ⊥
 AnswersUnread (Run workers log table) j = ⊥
 AnswersUnread Trace j = ⊥

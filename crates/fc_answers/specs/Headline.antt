@@ -1,6 +1,7 @@
 -- What a yes promises: within its rounds the program stabilises on the scene's network, and on those that a script
 -- makes.
-use Rattle.std.specs.Prelude.{ℕ, ◌≡◌, ◌++◌, List, [], ◌∷◌, length, map, Option, Some, None}
+use Rattle.std.specs.Prelude.{ℕ, Bool, true, false, ◌≡◌, ◌≤◌}
+use Rattle.std.specs.Prelude.{◌++◌, List, [], ◌∷◌, length, map, Option, Some, None}
 use Rattle.fc_values.specs.Fields.{Entries}
 use Rattle.fc_nodes.specs.Program.{IsProgram, Program, unfolding_of}
 use Rattle.fc_nodes.specs.declared.verdicts.Verdict.TheVariants as verdict
@@ -11,12 +12,16 @@ use Rattle.walk_form.specs.Laws.{IsLeastAt}
 use Rattle.fragment_check.specs.Verdicts.{verdict_of}
 use Rattle.converge_laws.specs.Stabilising.{Stabilises}
 use Rattle.net_json.specs.Scenes.{SceneValue}
+use Rattle.settle_rounds.specs.SettleTimes.{SettlesWell}
+use Rattle.report.specs.Settling.{settling_text}
 use Rattle.report.specs.Texts.{field_text}
 use Rattle.report.specs.Verdicts.{verdict_text}
 use Rattle.command_words.specs.declared.commands.Command.{Command}
 use Rattle.command_words.specs.declared.commands.Command.TheVariants.{Check, Stable, Run, Replay}
 use Rattle.command_words.specs.declared.commands.Command.TheVariants.{Format, Gen, Trace, Mail}
 use Rattle.fc_inputs.specs.Causes.{Accepted}
+use Rattle.fc_check.specs.Checks.{checked_of}
+use Rattle.fc_settle.specs.Settles.{settle_status, settled_devices, time_of}
 use Rattle.fc_trace.specs.Texts.{walks_text}
 use Rattle.fc_inputs.specs.Inputs.{ReadsInput}
 use Rattle.fc_inputs.specs.Sections.{sections_of}
@@ -48,6 +53,19 @@ pub record ChecksYes (program network text : List ℕ) : Type 0 where
   pub yes : HasYes program network
   pub facts : List ℕ
   pub writes : text ≡ verdict_text (verdict.Yes yes.rounds) ++ facts
+
+-- `check --settle` writes behind the text of the verdict the settle time of the scene's network, and for each device its
+-- settle round and its value then; or that the network is open, with the same lines. These rounds and this time are as
+-- good as they say: they lead from every good core to these values
+pub record SettlesKept (facts : Bool) (program network : List ℕ) (status : ℕ) (text : List ℕ) : Type 0 where
+  pub nodes : Program
+  pub is_program : IsProgram nodes
+  pub scene : SceneValue
+  pub reads : ReadsInput program network (Accepted (unfolding_of nodes, scene))
+  pub well : SettlesWell nodes scene.net
+  pub ends : status ≡ settle_status (time_of nodes scene.net)
+  pub writes : text ≡ (checked_of facts nodes (length scene.net.devices)).text
+      ++ settling_text (time_of nodes scene.net) (settled_devices nodes scene.net)
 
 -- `stable` writes the one field
 pub record SolvesYes (program network text : List ℕ) : Type 0 where
@@ -94,9 +112,16 @@ MailPromises None sections answer =
 MailPromises (Some number) sections answer =
     OfTwo (λ program network. DrivenMailKeepsYes number program network answer.text) sections
 
--- what a command promises of an answer of status 0 to these sections
+-- the statuses of answers that promise something: `check --settle` ends with 1 where the network is open
+abbrev pub IsAnswered : Command → ℕ → Type 0
+IsAnswered (Check facts true) status = status ≤ 1
+IsAnswered command status = status ≡ 0
+
+-- what a command promises of an answer with such a status to these sections
 abbrev pub Promises : Command → List (List ℕ) → AnswerValue → Type 0
-Promises (Check facts) sections answer = OfTwo (λ program network. ChecksYes program network answer.text) sections
+Promises (Check facts false) sections answer = OfTwo (λ program network. ChecksYes program network answer.text) sections
+Promises (Check facts true) sections answer =
+    OfTwo (λ program network. SettlesKept facts program network answer.status answer.text) sections
 Promises Stable sections answer = OfTwo (λ program network. SolvesYes program network answer.text) sections
 Promises Format sections answer = Unit {0}
 Promises (Replay rounds table) sections answer = Unit {0}
@@ -108,7 +133,7 @@ Promises (Mail number) sections answer = MailPromises number sections answer
 
 abbrev pub IsKept : Option Command → List ℕ → AnswerValue → Type 0
 IsKept None input answer = Unit {0}
-IsKept (Some command) input answer = answer.status ≡ 0 → Promises command (sections_of input) answer
+IsKept (Some command) input answer = IsAnswered command answer.status → Promises command (sections_of input) answer
 
 -- each answer keeps what its command promises
 abbrev pub AnswersKeep : Type 0

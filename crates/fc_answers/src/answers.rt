@@ -18,6 +18,7 @@ use fc_inputs::{Reply, Stop, one_section, read_source, sections, three_sections,
 use fc_mail::{mail, mail_number};
 use fc_replay::{Options, replay};
 use fc_run::{Ran, RunOptions, run};
+use fc_settle::settled;
 use fc_syntax::print;
 use fc_trace::traced;
 use fc_values::Memory;
@@ -131,9 +132,19 @@ pub fn answer_to<W: Threads + Wait + Sync, G: Gate + Sync>(
             let (text, book) = replay(alloc, options, program, network, log)?;
             Ok(Answer::showing(alloc, text, book))
         }
-        Command::Check { facts } => {
+        Command::Check {
+            facts,
+            settle: false,
+        } => {
             let (program, network) = two_sections(&sections)?;
             Ok(Answer::replied(alloc, check(alloc, facts, program, network)?))
+        }
+        Command::Check {
+            facts,
+            settle: true,
+        } => {
+            let (program, network) = two_sections(&sections)?;
+            Ok(Answer::replied(alloc, settled(alloc, facts, program, network)?))
         }
         Command::Stable => {
             let (program, network) = two_sections(&sections)?;

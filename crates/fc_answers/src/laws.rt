@@ -9,8 +9,10 @@ use fc_inputs::{one_input, one_source, sections_are_within};
 use fc_mail::{mails_keep_yes, one_mail, some_mail};
 use fc_replay::{one_replay, some_replay};
 use fc_run::{one_run, runs_keep_yes, some_run};
+use fc_settle::{one_settle, some_settle};
 use fc_trace::{one_traced, some_traced};
 use net_json::accepted_scenes_fit;
+use settle_rounds::settle_times_hold;
 use walk_form::solutions_are_least;
 
 /// Two answers to one input have one status and one text; where threads make the log, one text for logs that agree.
@@ -20,6 +22,7 @@ pub fn one_answer()
     one_source();
     one_input();
     one_check();
+    one_settle();
     one_traced();
     one_replay();
     one_run();
@@ -36,6 +39,7 @@ pub fn some_answer()
     yes_stabilises();
     accepted_scenes_fit();
     some_check();
+    some_settle();
     some_traced();
     some_replay();
     some_run();
@@ -49,16 +53,19 @@ pub fn answer_statuses()
 {}
 
 /// Where `check`, `stable` or `trace` answers with status 0, the verdict on its input is a yes, and the program
-/// stabilises within its rounds on the scene's network: `check` writes these rounds, `stable` the one field, and `trace`
-/// the least costs, which are the values of that field, with the best walks. Where `run` answers with status 0, and the
-/// verdict on a network that its lines make is a yes, the program stabilises on it, and what a `show` writes after as
-/// many rounds is its one field there. `gen` writes that each device agrees with the one field of its scenario. What
-/// `mail` writes of a number, and of a log with as many rounds, is the one field too.
+/// stabilises within its rounds on the scene's network: `check` writes these rounds, `stable` the one field, and
+/// `trace` the least costs, which are the values of that field, with the best walks. Where `run` answers with status 0,
+/// and the verdict on a network that its lines make is a yes, the program stabilises on it, and what a `show` writes
+/// after as many rounds is its one field there. The settle rounds and the settle time that `check --settle` writes lead
+/// every device on the scene's network to the values that stand beside them, also of a network that is open. `gen`
+/// writes that each device agrees with the one field of its scenario. What `mail` writes of a number, and of a log with
+/// as many rounds, is the one field too.
 pub fn answers_keep()
     ensures { AnswersKeep }
 {
     yes_stabilises();
     accepted_scenes_fit();
+    settle_times_hold();
     solutions_are_least();
     runs_keep_yes();
     all_agree();

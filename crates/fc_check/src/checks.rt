@@ -1,6 +1,7 @@
 //! What `check` makes of a program and a scene.
 ghost use Rattle.std.specs.Prelude.{◌≡◌, ◌≤◌, IfErr, IfOk, length};
 ghost use Rattle.fc_nodes.specs.Program.{IsProgram};
+ghost use Rattle.fragment_check.specs.Verdicts.{verdict_of};
 ghost use Rattle.fc_inputs.specs.Causes.{Accepted, Refused};
 ghost use Rattle.fc_inputs.specs.Stops.{StopsFor};
 ghost use Rattle.fc_values.specs.declared.limits.TheConstants.{MOST_BYTES};
@@ -14,7 +15,31 @@ use report::{facts as write_facts, verdict as write_verdict};
 use round_bound::{levels, recognise};
 use std::alloc::Global;
 
-/// The verdict on a program for so many devices, and behind a yes the facts of each node, where they are asked for.
+/// The verdict on a program for so many devices, with its text: behind a yes the facts of each node, where they are
+/// asked for.
+pub fn verdict_text(
+    alloc: Global,
+    facts: bool,
+    program: &Unfolded,
+    devices: u32,
+) -> Result<(Verdict, Vec<u8>), Memory>
+    requires program { IsProgram program.now }
+    requires devices { 1 ≤ devices }
+    ensures verdict { IfOk result (λ r. r.0 ≡ verdict_of program.now devices) }
+    ensures text { IfOk result (λ r. r.1.items ≡ (checked_of facts program.now devices).text) }
+{
+    let ranges = ranges(alloc, program)?;
+    let verdict = recognise(alloc, program, &ranges, devices)?;
+    let mut text = Vec::new(alloc);
+    write_verdict(alloc, &mut text, &verdict)?;
+    if facts && matches!(verdict, Verdict::Yes(_)) {
+        let levels = levels(alloc, program, &ranges, devices)?;
+        write_facts(alloc, &mut text, program, &ranges, &levels)?;
+    }
+    Ok((verdict, text))
+}
+
+/// What is written of a program for so many devices, and the status.
 pub fn checked(
     alloc: Global,
     facts: bool,
@@ -25,18 +50,9 @@ pub fn checked(
     requires devices { 1 ≤ devices }
     ensures { IfOk result (λ r. r ≡ checked_of facts program.now devices) }
 {
-    let ranges = ranges(alloc, program)?;
-    let verdict = recognise(alloc, program, &ranges, devices)?;
-    let mut text = Vec::new(alloc);
-    write_verdict(alloc, &mut text, &verdict)?;
+    let (verdict, text) = verdict_text(alloc, facts, program, devices)?;
     match verdict {
-        Verdict::Yes(_) => {
-            if facts {
-                let levels = levels(alloc, program, &ranges, devices)?;
-                write_facts(alloc, &mut text, program, &ranges, &levels)?;
-            }
-            Ok(Reply::new(0, text))
-        }
+        Verdict::Yes(_) => Ok(Reply::new(0, text)),
         Verdict::No { .. } => Ok(Reply::new(1, text)),
     }
 }

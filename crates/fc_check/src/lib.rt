@@ -5,5 +5,5 @@
 mod checks;
 mod laws;
 
-pub use checks::{check, checked};
+pub use checks::{check, checked, verdict_text};
 pub use laws::{one_check, one_verdict, some_check};

@@ -10,8 +10,6 @@ mod refusal;
 mod reply;
 mod sources;
 mod stop;
-#[cfg(test)]
-mod tests;
 
 pub use cutting::{one_section, sections, three_sections, two_sections};
 pub use inputs::read_input;

@@ -6,8 +6,6 @@ mod memory_sink;
 mod memory_source;
 mod outside;
 mod standard;
-#[cfg(test)]
-mod tests;
 mod transfer;
 
 pub use lines::{first_line, line_text};

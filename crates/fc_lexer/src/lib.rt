@@ -12,6 +12,3 @@ pub use fc_values::Word;
 pub use laws::{names_are_read, one_reading, reads_back, spans_rise};
 pub use lexing::lex;
 pub use tokens::{Kind, LexFault, Mark, Token};
-
-#[cfg(test)]
-mod tests;

@@ -6,11 +6,11 @@ use Rattle.topology.specs.Networks.{Network, Lives}
 use Rattle.firing_core.specs.Cores.{Core}
 use Rattle.message_links.specs.MailCores.{MailCore, MailEntryValue, MailRun, IsMailStart}
 use Rattle.message_links.specs.MailRounds.{posts_of, HasMailRounds}
-use Rattle.message_links.specs.Laws.{MailStabilises}
+use Rattle.mail_laws.specs.Laws.{MailStabilises}
 use Rattle.message_links.proofs.MailRuns.{run_net}
 use Rattle.scramble.specs.Words.{words_of}
-use Rattle.script_laws.specs.Promises.{Holds, field_on}
-use Rattle.script_laws.proofs.Showing.{values_held}
+use Rattle.session.specs.Promises.{Holds, field_on}
+use Rattle.session.proofs.ShownFields.{values_held}
 use Rattle.mail_drive.specs.Drives.{driven}
 use Rattle.mail_drive.specs.Laws.{nothing}
 use Rattle.mail_book.specs.MailViews.{quiet}

@@ -7,7 +7,7 @@ use Rattle.fc_nodes.specs.declared.verdicts.Verdict.{Verdict}
 use Rattle.fc_nodes.specs.declared.verdicts.Verdict.TheVariants as verdict
 use Rattle.topology.specs.Networks.{IsNetwork}
 use Rattle.fragment_check.specs.Verdicts.{verdict_of}
-use Rattle.message_links.specs.Laws.{MailStabilises, YesStabilisesMail}
+use Rattle.mail_laws.specs.Laws.{MailStabilises, YesStabilisesMail}
 use Rattle.message_links.specs.MailCores.{MailEntryValue, IsMailStart}
 use Rattle.message_links.specs.MailRounds.{HasMailRounds}
 use Rattle.message_links.proofs.MailRuns.{fewer_rounds}
@@ -18,7 +18,7 @@ use Rattle.edit_commands.specs.LineByLine.{Lines, AllLines, StopsAt}
 use Rattle.mail_book.specs.MailViews.{quiet}
 use Rattle.report.specs.Texts.{field_text, values_text}
 use Rattle.report.specs.Verdicts.{rounds_text, verdict_text}
-use Rattle.script_laws.specs.Promises.{field_on}
+use Rattle.session.specs.Promises.{field_on}
 use Rattle.fc_inputs.specs.Causes.{Judged, Accepted, Refused, AndThen}
 use Rattle.fc_inputs.specs.Inputs.{InputOf, ReadsInput}
 use Rattle.fc_inputs.specs.Refusals.{Reply}

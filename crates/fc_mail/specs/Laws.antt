@@ -3,7 +3,7 @@ use Rattle.std.specs.Prelude.{ℕ, ◌≡◌, ◌≤◌, List, ◌++◌, length}
 use Rattle.fc_nodes.specs.Program.{IsProgram, Program, unfolding_of}
 use Rattle.fc_nodes.specs.declared.verdicts.Verdict.TheVariants as verdict
 use Rattle.fragment_check.specs.Verdicts.{verdict_of}
-use Rattle.message_links.specs.Laws.{MailStabilises}
+use Rattle.mail_laws.specs.Laws.{MailStabilises}
 use Rattle.message_links.specs.MailCores.{MailCore, MailRun}
 use Rattle.scramble.specs.Words.{words_of}
 use Rattle.mail_drive.specs.Drives.{driven}
@@ -12,7 +12,7 @@ use Rattle.mail_lines.specs.MailLines.{mail_log}
 use Rattle.edit_commands.specs.LineByLine.{AllLines}
 use Rattle.mail_book.specs.MailViews.{quiet}
 use Rattle.mail_count.specs.Laws.{IsGreatestMail}
-use Rattle.script_laws.specs.Promises.{Holds, field_on}
+use Rattle.session.specs.Promises.{Holds, field_on}
 use Rattle.net_json.specs.Scenes.{SceneValue}
 use Rattle.report.specs.Texts.{field_text, values_text}
 use Rattle.report.specs.Verdicts.{rounds_text, verdict_text}

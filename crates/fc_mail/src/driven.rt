@@ -24,7 +24,7 @@ use firing_core::StepFault;
 use interval_facts::ranges;
 use mail_book::{Mail, replay_mail};
 use mail_drive::{drive, driven_rounds_cover};
-use message_links::mail_stabilises;
+use mail_laws::mail_stabilises;
 use net_json::Scene;
 use report::verdict as write_verdict;
 use round_bound::recognise;

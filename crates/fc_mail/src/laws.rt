@@ -10,7 +10,7 @@ use fc_replay::inputs_start;
 use mail_book::mail_logs_end;
 use mail_count::some_greatest_mail;
 use mail_drive::driven_rounds_cover;
-use message_links::yes_stabilises_mail;
+use mail_laws::yes_stabilises_mail;
 
 /// Texts have one reply.
 pub fn one_mail()

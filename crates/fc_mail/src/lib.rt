@@ -5,8 +5,6 @@ mod driven;
 mod laws;
 mod mails;
 mod shown;
-#[cfg(test)]
-mod tests;
 
 pub use driven::mail_number;
 pub use laws::{mails_keep_yes, one_mail, some_mail};

@@ -5,5 +5,4 @@ pub mod Fresh
 mod Counted
 pub mod Kept
 pub mod Blanks
-pub mod PairProgram
 pub mod NarrowTypes

@@ -4,8 +4,6 @@
 mod layouts;
 mod nodes;
 mod program;
-#[cfg(test)]
-mod tests;
 mod uses;
 mod verdicts;
 

@@ -19,6 +19,3 @@ pub use laws::{derived_is_printable, few_declarations, one_meaning};
 pub use limits::{MOST_BRACKETS, MOST_TOKENS};
 pub use parsing::parse;
 pub use printing::round_trip;
-
-#[cfg(test)]
-mod tests;

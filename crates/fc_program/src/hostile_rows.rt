@@ -3,9 +3,6 @@
 
 ghost use Rattle.std.specs.Prelude.{◌<◌};
 
-use crate::check_rows::LINE;
-use crate::rows::HOPS;
-use crate::run_rows::FOUR;
 use crate::tests::words;
 use crate::top::fc;
 use export_table::OpenGate;
@@ -15,6 +12,18 @@ use std::process::Abort;
 use std::sync::Wait;
 use std::test::Fail;
 use std::thread::Threads;
+
+// The hop count to the nearest source, and three and four devices in a line with a source at device 0.
+const HOPS: &str =
+    "ceiling 10;\ninput src: bool;\nmain = rep(10){(d) => minHoodLoc(nbr{d} + 1, mux(sense src, 0, 10))};";
+
+const LINE: &str =
+    "{\"devices\":[{\"id\":0,\"inputs\":{\"src\":true}},{\"id\":1,\"inputs\":{\"src\":false}},{\"id\":2,\"inputs\":{\"src\":false}}],\"links\":[[0,1,1],[1,2,1]]}";
+
+const FOUR: &str =
+    "{\"devices\":[{\"id\":0,\"inputs\":{\"src\":true}},{\"id\":1,\"inputs\":{\"src\":false}},\
+    {\"id\":2,\"inputs\":{\"src\":false}},{\"id\":3,\"inputs\":{\"src\":false}}],\
+    \"links\":[[0,1,1],[1,2,1],[2,3,1]]}";
 
 const SCRIPT: &str = "run 22\nshow\nunlink 1 2\nrun 22\nshow\n";
 

@@ -3,20 +3,12 @@
 //! runs the scenario of a number.
 #![tactic(auto)]
 
-#[cfg(test)]
-mod check_rows;
 mod ending;
 #[cfg(test)]
-mod fields;
-#[cfg(test)]
-mod gen_rows;
+mod held_firing;
 #[cfg(test)]
 mod hostile_rows;
 mod judging;
-#[cfg(test)]
-mod rows;
-#[cfg(test)]
-mod run_rows;
 #[cfg(test)]
 mod tests;
 mod top;

@@ -1,13 +1,14 @@
-//! Tests of what no clause says: that memory suffices.
+//! Calls that are refused for their words or for the size of their input, with ample memory.
 
 use crate::top::{calm, fc};
 use export_table::OpenGate;
 use fc_io::{CalmSink, CalmSource};
 use session::Pool;
 use std::alloc::{AllocError, Global};
+use std::process::Abort;
+use std::sync::Wait;
 use std::test::Fail;
-
-pub const PROGRAM: &str = "ceiling 10; main = minHoodLoc(nbr{1} + 1, 5);\n";
+use std::thread::Threads;
 
 /// Words of a command line.
 pub fn words(alloc: Global, list: &[&str]) -> Result<Vec<String>, AllocError> {
@@ -18,22 +19,54 @@ pub fn words(alloc: Global, list: &[&str]) -> Result<Vec<String>, AllocError> {
     Ok(words)
 }
 
-/// Three sections as one input.
-pub fn input(alloc: Global, parts: [&str; 3]) -> Result<Vec<u8>, AllocError> {
-    let [program, network, log] = parts;
-    Ok(format!(in alloc; "{program}\n%%\n{network}\n%%\n{log}")?.into_bytes())
+// A call of `fc` with these words and this input.
+fn gives(
+    rt: &(impl Abort + Threads + Wait + Sync),
+    alloc: Global,
+    list: &[&str],
+    input: Vec<u8>,
+    status: u8,
+    text: &str,
+) -> Result<(), Fail> {
+    let words = words(alloc, list)?;
+    let mut source = CalmSource::new(input);
+    let mut sink = CalmSink::new(alloc, 100)?;
+    let outcome = fc(rt, alloc, &words, &mut source, &mut sink, &OpenGate);
+    assert_eq!(rt; sink.taken(), text.as_bytes());
+    assert_eq!(rt; outcome.status, status);
+    Ok(())
 }
 
+/// Words, a status, and the text that is written.
+type Refused = (&'static [&'static str], u8, &'static str);
+
+const REFUSED: [Refused; 3] = [
+    (
+        &["fc", "gen", "7", "--devices", "2"],
+        2,
+        "usage: fc check|stable|run|replay|format|gen|trace|mail\n",
+    ),
+    (
+        &["fc", "gen", "7", "--devices", "513"],
+        4,
+        "limit devices 513\n",
+    ),
+    (
+        &["fc", "gen", "7", "--workers", "17"],
+        4,
+        "limit workers 17\n",
+    ),
+];
+
 #[test]
-fn too_many_bytes(rt: HostRuntime) -> Result<(), Fail> {
+fn refused(rt: HostRuntime) -> Result<(), Fail> {
     let alloc = rt.alloc();
-    let words = words(alloc, &["fc", "replay"])?;
-    let mut source = CalmSource::new(vec![in alloc; b' '; 1_048_577]?);
-    let mut sink = CalmSink::new(alloc, 100)?;
-    let outcome = fc(&rt, alloc, &words, &mut source, &mut sink, &OpenGate);
-    assert_eq!(rt; outcome.status, 4);
-    assert_eq!(rt; sink.taken(), b"limit bytes 1048577\n".as_slice());
-    Ok(())
+    for (words, status, text) in &REFUSED {
+        gives(&rt, alloc, words, Vec::new(alloc), *status, text)?;
+    }
+    let long = vec![in alloc; b' '; 1_048_577]?;
+    let text = "limit bytes 1048577\n";
+    gives(&rt, alloc, &["fc", "replay"], long, 4, text)
 }
 
 #[test]

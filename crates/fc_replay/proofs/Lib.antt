@@ -7,5 +7,4 @@ pub mod Resuming
 pub mod Rereading
 pub mod OneReplay
 pub mod SomeReplay
-pub mod Rooms
 pub mod AskedRounds

@@ -4,8 +4,6 @@
 mod laws;
 mod logs;
 mod replays;
-#[cfg(test)]
-mod tests;
 mod texts;
 
 pub use laws::{inputs_start, one_replay, some_replay, tables_resume, written_logs_replay};

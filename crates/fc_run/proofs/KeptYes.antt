@@ -4,7 +4,7 @@ use Rattle.fc_nodes.specs.Program.{Unfolding}
 use Rattle.firing_core.specs.Cores.{IsGood}
 use Rattle.edit_commands.specs.LineByLine.{AllLines, StopsAt}
 use Rattle.edit_commands.specs.Scripts.{CommandValue, Script, TooManyLines, Within, IsScript, SaidByScript, script_of}
-use Rattle.script_laws.specs.Promises.{ScriptsKeepYes}
+use Rattle.session.specs.Promises.{ScriptsKeepYes}
 use Rattle.session.specs.ScriptRuns.{ScriptRun}
 use Rattle.fc_inputs.specs.Causes.{Judged, Accepted, Refused, AndThen}
 use Rattle.fc_inputs.specs.Inputs.{InputOf, ReadsInput}

@@ -8,7 +8,7 @@ use Rattle.net_json.specs.Scenes.{SceneValue}
 use Rattle.edit_commands.specs.Agreement.{SameEntries}
 use Rattle.edit_commands.specs.Scripts.{CommandValue, IsScript}
 use Rattle.session.specs.ScriptRuns.{ScriptRun}
-use Rattle.script_laws.specs.Promises.{KeepsYes}
+use Rattle.session.specs.Promises.{KeepsYes}
 use Rattle.fc_values.specs.declared.limits.TheConstants.{MOST_BYTES}
 use Rattle.fc_inputs.specs.Causes.{Judged, Accepted, Refused}
 use Rattle.fc_inputs.specs.Inputs.{ReadsInput}

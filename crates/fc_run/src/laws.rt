@@ -7,8 +7,7 @@ use edit_commands::{readings_agree, scripts_are_judged, scripts_have_commands};
 use fc_check::one_verdict;
 use fc_inputs::{one_input, texts_unfold};
 use fc_replay::{inputs_start, written_logs_replay};
-use script_laws::scripts_keep_yes;
-use session::{one_script_run, script_runs_lead, some_script_run};
+use session::{one_script_run, script_runs_lead, scripts_keep_yes, some_script_run};
 
 /// Texts are run to one text where the logs agree, or refused for one cause.
 pub fn one_run()

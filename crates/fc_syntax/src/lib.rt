@@ -9,6 +9,3 @@ mod words;
 pub use printer::{print, write_type};
 pub use tree::{Decl, Expr, Param, Program};
 pub use words::{builtin_strength, builtin_word};
-
-#[cfg(test)]
-mod tests;

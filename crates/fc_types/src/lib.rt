@@ -21,6 +21,3 @@ pub use laws::{one_first_fault, one_type, typed_or_at_fault};
 pub use refusal::Refusal;
 pub use typed::Typed;
 pub use types::{copy_local_type, copy_type, same_local_type, same_types};
-
-#[cfg(test)]
-mod tests;

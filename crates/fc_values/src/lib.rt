@@ -26,6 +26,3 @@ pub use names::{Word, find_word, is_digit, is_letter, is_name, is_name_byte};
 pub use operators::{add_cut, multiply_cut};
 pub use types::{Declared, InputDecl, InputTy, LocalTy, Name, Ty, copy_declared, inner};
 pub use values::{FieldVal, Local, Value, blank_of, compare, copy, copy_locals, fits, overwrite};
-
-#[cfg(test)]
-mod tests;

@@ -8,8 +8,6 @@ mod filling;
 mod laws;
 mod rooms;
 mod snaps;
-#[cfg(test)]
-mod tests;
 
 pub use books::{Book, replay};
 pub use cores::Core;

@@ -5,8 +5,6 @@ mod laws;
 mod node_facts;
 mod nodes;
 mod tables;
-#[cfg(test)]
-mod tests;
 mod walk;
 
 pub use laws::growth_law;

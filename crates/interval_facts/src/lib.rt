@@ -6,8 +6,6 @@ mod by_place;
 mod gathering;
 mod intervals;
 mod laws;
-#[cfg(test)]
-mod tests;
 
 pub use builtins::builtin_range;
 pub use by_place::Ranges;

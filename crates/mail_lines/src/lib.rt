@@ -4,6 +4,3 @@
 mod logs;
 
 pub use logs::{MailLineFault, MailLines, read_mail};
-
-#[cfg(test)]
-mod tests;

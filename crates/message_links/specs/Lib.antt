@@ -1,4 +1,3 @@
 pub mod MailCores
 pub mod MailRounds
-pub mod Laws
 pub mod MailEntries

@@ -3,7 +3,5 @@
 #![tactic(auto)]
 
 mod entries;
-mod laws;
 
 pub use entries::{MOST_IN_TRANSIT, MailEntry, MailFault, MailReplay};
-pub use laws::{mail_stabilises, yes_stabilises_mail};

@@ -27,12 +27,8 @@ pub fn entries(alloc: Global, out: &mut Vec<u8>, book: &Book) -> Result<(), Memo
     Ok(())
 }
 
-/// The lines of a log, where these inputs are declared.
-pub(crate) fn log_lines(
-    alloc: Global,
-    inputs: &[InputDecl],
-    log: &[Entry],
-) -> Result<Vec<u8>, Memory>
+// The lines of a log, where these inputs are declared.
+fn log_lines(alloc: Global, inputs: &[InputDecl], log: &[Entry]) -> Result<Vec<u8>, Memory>
     ensures { IfOk result (λ v. v.items ≡ log_text (map input_of inputs.now) (entries_of log.now)) }
 {
     let mut lines = Vec::new(alloc);

@@ -57,8 +57,8 @@ fn fact_lines(
     Ok(lines)
 }
 
-/// Appends the line of a node.
-pub(crate) fn write_fact(
+// Appends the line of a node.
+fn write_fact(
     alloc: Global,
     out: &mut Vec<u8>,
     place: u32,

@@ -3,8 +3,6 @@
 
 mod counts;
 mod laws;
-#[cfg(test)]
-mod tests;
 
 pub use counts::{rounds, turns};
 pub use laws::{rise_is_no_limit, rise_takes_turns};

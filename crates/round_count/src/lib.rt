@@ -6,6 +6,3 @@ mod laws;
 
 pub use counting::{after_last_edit, rounds};
 pub use laws::{rounds_grow, some_greatest};
-
-#[cfg(test)]
-mod tests;

@@ -10,3 +10,8 @@ mod SomeRuns
 mod OneRuns
 mod Rows
 mod Folding
+mod AfterEdits
+mod PartRounds
+mod Following
+mod KeptYes
+pub mod ShownFields

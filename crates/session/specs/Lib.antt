@@ -4,3 +4,5 @@ pub mod Growing
 pub mod Conditions
 pub mod Sessions
 pub mod Laws
+pub mod Since
+pub mod Promises

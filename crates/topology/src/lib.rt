@@ -18,6 +18,3 @@ pub use inputs::input_fault;
 pub use laws::{changes_keep_networks, neighbours_are_mutual, order_keeps_devices};
 pub use networks::Network;
 pub use types::{Device, GREATEST_NUMBER, JoinFault, Link, MOST_DEVICES, MakeFault, NetFault};
-
-#[cfg(test)]
-mod tests;

@@ -4,8 +4,6 @@
 mod kinds;
 mod lock;
 pub mod notes;
-#[cfg(test)]
-mod tests;
 mod views;
 
 pub use lock::{Logged, Pass, TurnLock};

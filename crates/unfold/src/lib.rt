@@ -15,6 +15,3 @@ pub use counting::count_nodes;
 pub use faults::UnfoldFault;
 pub use laws::{nodes_are_counted, programs_unfold, unfolding_is_program};
 pub use unfolding::unfold;
-
-#[cfg(test)]
-mod tests;

@@ -7,8 +7,6 @@ mod fitting;
 mod items;
 mod laws;
 mod reading;
-#[cfg(test)]
-mod tests;
 mod walks;
 
 pub use copies::{Near, Snap};

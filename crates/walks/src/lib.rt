@@ -15,6 +15,3 @@ pub use gathers::gather;
 pub use laws::{claims_are_least, fixed_values_are_least, traced_claims_hold, walks_are_one};
 pub use traces::trace;
 pub use types::{Add, Costs, Evidence, Step};
-
-#[cfg(test)]
-mod tests;

@@ -10,5 +10,8 @@ pub returns : goal.returns
 unfolding check_app
 returns c =
     let facts_is : rule_of c.action-facts.result ≡ flag_rule (codes "facts") = search rules in
-    let made = ap app_of_fields c.disable_version_flag.ensures ∙ ap versionless (ap app_of_fields c.disable_help_flag.ensures ∙ ap helpless c.new-2.ensures.app) in
-    IfOk-weaker c.arg.result _ _ (λ k h. h.shape (search rules) ∙ ap₂ with_rule made facts_is) c.arg.ensures
+    let settle_is : rule_of c.action-settle.result ≡ flag_rule (codes "settle") = search rules in
+    let made = ap app_of_fields c.disable_version_flag.ensures
+    ∙ ap versionless (ap app_of_fields c.disable_help_flag.ensures ∙ ap helpless c.new-3.ensures.app) in
+    let first = c.in_ok-arg.ensures.shape (search rules) ∙ ap₂ with_rule made facts_is in
+    IfOk-weaker c.arg-2.result _ _ (λ k h. h.shape (search rules) ∙ ap₂ with_rule first settle_is) c.arg-2.ensures

@@ -6,7 +6,7 @@ use Rattle.fragment_check.specs.Verdicts.{verdict_of}
 use Rattle.firing_core.specs.CoreViews.{CoreValue}
 use Rattle.message_links.specs.MailEntries.{mail_entries}
 use Rattle.message_links.specs.MailRounds.{HasMailRounds}
-use Rattle.message_links.specs.Laws.{MailStabilises}
+use Rattle.mail_laws.specs.Laws.{MailStabilises}
 use Rattle.scramble.specs.Words.{words_of}
 use Rattle.mail_drive.specs.Drives.{driven}
 use Rattle.mail_drive.specs.Laws.{nothing}

@@ -1,0 +1,226 @@
+use Rattle.std.proofs.Common.{◌∙◌, [], ◌∷◌, arith, ap, refl}
+use Rattle.std.proofs.lemmas.List.{map-append}
+use Rattle.value_bounds.specs.References.{any_bound_in, any_bounds_in}
+use Rattle.bound_firing.proofs.Frames.{slots_long}
+use Rattle.bound_firing.proofs.LeafAt.{lit_done, variable_done, sense_done, uid_done, links_done}
+use Rattle.bound_firing.proofs.LetAt.{let_kids, let_value, let_body, let_done}
+use Rattle.bound_firing.proofs.NbrAt.{nbr_kids, nbr_there, nbr_kid, nbr_within, nbr_done}
+use Rattle.bound_firing.proofs.EvolveAt.{evolve_kids, evolve_there, evolve_a, evolve_b, evolve_within, evolve_done}
+use Rattle.bound_firing.proofs.IfAt.{if_kids, if_condition, if_there, if_true, if_false, if_done}
+use Rattle.bound_firing.proofs.ApplyAt.{apply_ready, apply_done, apply_later, none_done, kid_there, rest_there}
+use Rattle.bound_firing.proofs.ApplyAt.{all_done}
+use Rattle.bound_firing.proofs.KidsAt.{ready_at}
+use Rattle.bound_firing.proofs.evaluation.+eval.Goals as goal
+
+pub eval-returns-in_ok-exactly-in-Lit : goal.eval-returns-in_ok-exactly-in-Lit
+eval-returns-in_ok-exactly-in-Lit t c =
+    lit_done _ _ (ready_at c.requires (rw c.in-Lit.is at c.node-node.ensures.node)) c.in_ok-exactly-in-Lit.ensures
+
+pub eval-returns-in_ok-variable-in-Var : goal.eval-returns-in_ok-variable-in-Var
+eval-returns-in_ok-variable-in-Var t c =
+    variable_done _ _ (ready_at c.requires (rw c.in-Var.is at c.node-node.ensures.node))
+    c.in_ok-variable-in-Var.ensures
+
+pub eval-returns-in_ok-input_bound-in-Sense : goal.eval-returns-in_ok-input_bound-in-Sense
+eval-returns-in_ok-input_bound-in-Sense t c =
+    sense_done _ _ (ready_at c.requires (rw c.in-Sense.is at c.node-node.ensures.node))
+    c.in_ok-input_bound-in-Sense.ensures
+
+pub eval-returns-in-Uid : goal.eval-returns-in-Uid
+eval-returns-in-Uid t c =
+    uid_done _ _ (ready_at c.requires (rw c.in-Uid.is at c.node-node.ensures.node)) c.uid.ensures
+
+pub eval-returns-in_ok-seat_weights-in-NbrLink : goal.eval-returns-in_ok-seat_weights-in-NbrLink
+eval-returns-in_ok-seat_weights-in-NbrLink t c =
+    links_done _ _ (ready_at c.requires (rw c.in-NbrLink.is at c.node-node.ensures.node))
+    (rw c.least_weight-least.ensures at c.in_ok-seat_weights-in-NbrLink.ensures)
+
+pub eval_apply-eval_kids-requires : goal.eval_apply-eval_kids-requires
+eval_apply-eval_kids-requires t c =
+    let d = c.decreases in
+    let l = apply_later c.requires c.as_slice-kids.ensures.value in
+    let w = c.requires.ready.stands.within in
+    (omega (arith, d, l, w), apply_ready c.requires _ _ c.as_slice-kids.ensures.value)
+
+pub eval_apply-returns : goal.eval_apply-returns
+eval_apply-returns t c =
+    let value = rw (c.as_slice.ensures.value, c.ceiling_of-ceiling.ensures) at c.in_ok-bound.ensures in
+    rw value (apply_done c.requires _ _ c.as_slice-kids.ensures.value (ap any_bounds_in c.in_ok-args.ensures.items)
+    c.in_ok-eval_kids.ensures)
+
+pub eval_kids-returns-in_default : goal.eval_kids-returns-in_default
+eval_kids-returns-in_default t c = none_done c.args.kids.now c.in_default.ensures.cases
+
+pub eval_kids-eval_kids-requires : goal.eval_kids-eval_kids-requires
+eval_kids-eval_kids-requires t c =
+    let d = c.decreases in
+    let k = kid_there _ _ _ _ _ _ c.in-Some.ensures.cases.0 c.requires in
+    let w = k.0 in
+    let e = k.1 in
+    let r = rest_there _ _ _ _ _ _ c.in-Some.ensures.cases.0 c.requires c.in_ok-bound.ensures in
+    let l = r.0 in
+    (omega (arith, d, w, e, l), r.1)
+
+pub eval_kids-returns : goal.eval_kids-returns
+eval_kids-returns t c =
+    let mid = ap any_bounds_in c.in_ok-push.ensures.items
+    ∙ map-append any_bound_in c.args.args.now.items (c.in_ok-bound.bound ∷ []) in
+    all_done _ _ _ _ _ _ c.in-Some.ensures.cases.0 c.requires c.in_ok-bound.ensures mid c.in_ok-eval_kids.ensures
+
+pub eval_nbr-index-requires : goal.eval_nbr-index-requires
+eval_nbr-index-requires t c =
+    let o = nbr_kids c.requires in
+    let l = o.long in
+    omega (arith, l)
+
+pub eval_nbr-eval-requires : goal.eval_nbr-eval-requires
+eval_nbr-eval-requires t c =
+    let d = c.decreases in
+    let r = nbr_kid c.requires c.index.ensures in
+    let m = r.0 in
+    let w = c.requires.ready.stands.within in
+    (omega (arith, d, m, w), r.1)
+
+pub eval_nbr-seat_field-requires : goal.eval_nbr-seat_field-requires
+eval_nbr-seat_field-requires t c =
+    let h = nbr_there c.requires c.slot_of-slot.ensures in
+    h.1
+
+pub eval_nbr-put-requires : goal.eval_nbr-put-requires
+eval_nbr-put-requires t c =
+    slots_long _ _ (nbr_within c.requires c.slot_of-slot.ensures c.in_ok-bound.ensures)
+
+pub eval_nbr-returns : goal.eval_nbr-returns
+eval_nbr-returns t c =
+    rw (c.in_ok-field.ensures, c.in_ok-copy_bound.ensures, c.put.ensures, c.into_local-own.ensures)
+    (nbr_done c.requires _ _ c.index.ensures c.slot_of-slot.ensures c.in_ok-bound.ensures)
+
+pub eval_evolve-index-requires : goal.eval_evolve-index-requires
+eval_evolve-index-requires t c =
+    let o = evolve_kids c.requires in
+    let l = o.long in
+    omega (arith, l)
+
+pub eval_evolve-index-requires-2 : goal.eval_evolve-index-requires-2
+eval_evolve-index-requires-2 t c =
+    let o = evolve_kids c.requires in
+    let l = o.long in
+    omega (arith, l)
+
+pub eval_evolve-eval-requires : goal.eval_evolve-eval-requires
+eval_evolve-eval-requires t c =
+    let d = c.decreases in
+    let r = evolve_a c.requires c.index.ensures in
+    let m = r.0 in
+    let w = c.requires.ready.stands.within in
+    (omega (arith, d, m, w), r.1)
+
+pub eval_evolve-starting_bound-requires : goal.eval_evolve-starting_bound-requires
+eval_evolve-starting_bound-requires t c =
+    let h = evolve_there c.requires c.slot_of-slot.ensures in
+    h.1
+
+pub eval_evolve-eval-requires-2 : goal.eval_evolve-eval-requires-2
+eval_evolve-eval-requires-2 t c =
+    let d = c.decreases in
+    let r = evolve_b c.requires _ _ c.index.ensures c.in_ok-first.ensures c.index-2.ensures in
+    let m = r.0 in
+    let w = c.requires.ready.stands.within in
+    (omega (arith, d, m, w), r.1)
+
+pub eval_evolve-put-requires : goal.eval_evolve-put-requires
+eval_evolve-put-requires t c =
+    slots_long _ _ (evolve_within c.requires _ _ c.index.ensures c.in_ok-first.ensures c.slot_of-slot.ensures
+    c.in_ok-bound.ensures)
+
+pub eval_evolve-returns : goal.eval_evolve-returns
+eval_evolve-returns t c =
+    rw (c.put.ensures, c.in_ok-copy_bound.ensures, c.into_local-own.ensures)
+    (evolve_done c.requires _ _ c.index.ensures c.in_ok-first.ensures c.slot_of-slot.ensures c.index-2.ensures
+    (rw c.into_local.ensures at c.in_ok-start.ensures) c.in_ok-bound.ensures)
+
+pub eval_if-index-requires : goal.eval_if-index-requires
+eval_if-index-requires t c =
+    let o = if_kids c.requires in
+    let l = o.long in
+    omega (arith, l)
+
+pub eval_if-index-requires-2 : goal.eval_if-index-requires-2
+eval_if-index-requires-2 t c =
+    let o = if_kids c.requires in
+    let l = o.long in
+    omega (arith, l)
+
+pub eval_if-index-requires-3 : goal.eval_if-index-requires-3
+eval_if-index-requires-3 t c =
+    let o = if_kids c.requires in
+    let l = o.long in
+    omega (arith, l)
+
+pub eval_if-eval-requires : goal.eval_if-eval-requires
+eval_if-eval-requires t c =
+    let d = c.decreases in
+    let r = if_condition c.requires c.index.ensures in
+    let m = r.0 in
+    let w = c.requires.ready.stands.within in
+    (omega (arith, d, m, w), r.1)
+
+pub eval_if-put-requires : goal.eval_if-put-requires
+eval_if-put-requires t c =
+    slots_long _ _ (if_there c.requires _ _ c.slot_of-slot.ensures c.index.ensures c.in_ok-condition.ensures refl)
+
+pub eval_if-eval_branch-requires : goal.eval_if-eval_branch-requires
+eval_if-eval_branch-requires t c =
+    let d = c.decreases in
+    let r = if_true c.requires _ _ c.slot_of-slot.ensures c.index.ensures c.in_ok-condition.ensures
+    (rw c.into_local.ensures at c.put.ensures) c.index-2.ensures in
+    let m = r.0 in
+    let w = c.requires.ready.stands.within in
+    (omega (arith, d, m, w), r.1)
+
+pub eval_if-eval_branch-requires-2 : goal.eval_if-eval_branch-requires-2
+eval_if-eval_branch-requires-2 t c =
+    let d = c.decreases in
+    let r = if_false c.requires _ _ c.slot_of-slot.ensures c.index.ensures c.in_ok-condition.ensures
+    (rw c.into_local.ensures at c.put.ensures) c.index-2.ensures _ _ c.in_ok-first.ensures c.index-3.ensures in
+    let m = r.0 in
+    let w = c.requires.ready.stands.within in
+    (omega (arith, d, m, w), r.1)
+
+pub eval_if-returns : goal.eval_if-returns
+eval_if-returns t c =
+    if_done c.requires _ _ c.slot_of-slot.ensures c.index.ensures c.in_ok-condition.ensures
+    (rw c.into_local.ensures at c.put.ensures) c.index-2.ensures _ _ c.in_ok-first.ensures c.index-3.ensures _ _
+    c.in_ok-second.ensures c.in_ok-bound.ensures
+
+pub eval_let-index-requires : goal.eval_let-index-requires
+eval_let-index-requires t c =
+    let o = let_kids c.requires in
+    let l = o.long in
+    omega (arith, l)
+
+pub eval_let-index-requires-2 : goal.eval_let-index-requires-2
+eval_let-index-requires-2 t c =
+    let o = let_kids c.requires in
+    let l = o.long in
+    omega (arith, l)
+
+pub eval_let-eval-requires : goal.eval_let-eval-requires
+eval_let-eval-requires t c =
+    let d = c.decreases in
+    let r = let_value c.requires c.index.ensures in
+    let m = r.0 in
+    let w = c.requires.ready.stands.within in
+    (omega (arith, d, m, w), r.1)
+
+pub eval_let-eval-requires-2 : goal.eval_let-eval-requires-2
+eval_let-eval-requires-2 t c =
+    let d = c.decreases in
+    let r = let_body c.requires _ _ c.index.ensures c.in_ok-value.ensures c.index-2.ensures in
+    let m = r.0 in
+    let w = c.requires.ready.stands.within in
+    (omega (arith, d, m, w), r.1)
+
+pub eval_let-returns : goal.eval_let-returns
+eval_let-returns t c =
+    let_done c.requires _ _ c.index.ensures c.in_ok-value.ensures c.index-2.ensures c.in_ok-bound.ensures

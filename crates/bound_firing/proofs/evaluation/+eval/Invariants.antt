@@ -1,0 +1,27 @@
+use Rattle.std.proofs.Common.{◌+◌, ◌-◌, ◌*◌, length, get_or}
+use Rattle.bound_firing.proofs.evaluation.+eval.Given as goal
+
+abbrev pub decreases-eval : goal.decreases-eval
+decreases-eval l = 3 * (length l.context.now.program.now.nodes - l.place) + 2
+
+abbrev pub decreases-eval_apply : goal.decreases-eval_apply
+decreases-eval_apply l = 3 * (length l.context.now.program.now.nodes - l.place) + 1
+
+abbrev pub decreases-eval_nbr : goal.decreases-eval_nbr
+decreases-eval_nbr l = 3 * (length l.context.now.program.now.nodes - l.place) + 1
+
+abbrev pub decreases-eval_evolve : goal.decreases-eval_evolve
+decreases-eval_evolve l = 3 * (length l.context.now.program.now.nodes - l.place) + 1
+
+abbrev pub decreases-eval_if : goal.decreases-eval_if
+decreases-eval_if l = 3 * (length l.context.now.program.now.nodes - l.place) + 1
+
+abbrev pub decreases-eval_branch : goal.decreases-eval_branch
+decreases-eval_branch l = 3 * (length l.context.now.program.now.nodes - l.place) + 3
+
+abbrev pub decreases-eval_let : goal.decreases-eval_let
+decreases-eval_let l = 3 * (length l.context.now.program.now.nodes - l.place) + 1
+
+abbrev pub decreases-eval_kids : goal.decreases-eval_kids
+decreases-eval_kids l = 3 * (length l.context.now.program.now.nodes - get_or l.kids.now 0
+    (length l.context.now.program.now.nodes)) + 3

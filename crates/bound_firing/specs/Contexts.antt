@@ -1,0 +1,75 @@
+-- What the contexts, scopes and sights of code stand for.
+use Rattle.std.specs.Prelude.{ℕ, Bool, List, [], ◌∷◌, map, Option, option_map}
+use Rattle.fc_values.specs.Types.{type_of}
+use Rattle.fc_values.specs.Values.{local_of}
+use Rattle.fc_nodes.specs.declared.nodes.Node.{Node}
+use Rattle.fc_nodes.specs.Terms.{Evolution, ByRep, ByShare, Sort}
+use Rattle.device_eval.specs.Evaluation.{Situation}
+use Rattle.value_bounds.specs.declared.bounds.LocalBound.{LocalBound}
+use Rattle.value_bounds.specs.declared.bounds.Bound.{Bound}
+use Rattle.value_bounds.specs.BoundBuiltins.{AnyBound}
+use Rattle.value_bounds.specs.References.{local_bounds_in, any_bound_in, any_bounds_in}
+use Rattle.bound_firing.specs.declared.evaluation.Context.{Context}
+use Rattle.bound_firing.specs.declared.evaluation.Scope.{Scope}
+use Rattle.bound_firing.specs.declared.evaluation.Scope.TheVariants as scope
+use Rattle.bound_firing.specs.declared.evaluation.Sight.{Sight}
+use Rattle.bound_firing.specs.declared.evaluation.Evolution.{Evolution as CodeEvolution}
+use Rattle.bound_firing.specs.declared.evaluation.Evolution.TheVariants as evolution
+use Rattle.bound_firing.specs.Firing.{BoundVars}
+use Rattle.bound_firing.specs.References.{flat_seats_in}
+use Rattle.bound_firing.specs.Walks.{Ready, ReadyAt, DidAt, EachReady, AllDid, BranchReady, BranchDid}
+
+-- the situation of a context
+abbrev pub situation_in : Context → Situation
+situation_in c = record {
+  device = c.device;
+  ceiling = c.program.now.declared.ceiling;
+  least = c.program.now.declared.least;
+  inputs = map local_of c.inputs.now;
+}
+
+-- the binders in scope
+abbrev pub vars_in : Scope → BoundVars
+vars_in scope.Empty = []
+vars_in (scope.Bind' n b p rest) = (n, any_bound_in b.now) ∷ vars_in rest
+
+abbrev pub evolution_in : CodeEvolution → Evolution
+evolution_in evolution.Rep = ByRep
+evolution_in evolution.Share = ByShare
+
+abbrev pub maybe_in : Option Bound → Option AnyBound
+maybe_in o = option_map any_bound_in o
+
+-- at this place evaluation may begin, with what is seen there and this draft
+abbrev pub ReadyIn : Context → ℕ → Sight → List LocalBound → Type 0
+ReadyIn c p s xs = Ready c.program.now.nodes c.layout.now p (flat_seats_in s.seats.now) (local_bounds_in xs)
+
+-- the same, and this node stands there
+abbrev pub ReadyFor : Context → ℕ → Sight → Node → Sort → List LocalBound → Type 0
+ReadyFor c p s n o xs = ReadyAt c.program.now.nodes c.layout.now p o (type_of n.ty) n.kids.items
+    (flat_seats_in s.seats.now) (local_bounds_in xs)
+
+-- what the evaluation makes of a draft, and the bound that it gives
+abbrev pub FiredTo : Context → ℕ → Sight → List LocalBound → List LocalBound → Bound → Type 0
+FiredTo c p s old new b = DidAt (situation_in c) c.program.now.nodes p (vars_in s.vars.now)
+    (flat_seats_in s.seats.now) (local_bounds_in old) (any_bound_in b) (local_bounds_in new)
+
+-- the same for places one after another, whose bounds are added to others
+abbrev pub ReadyKids : Context → List ℕ → Sight → List LocalBound → Type 0
+ReadyKids c ks s xs = EachReady (situation_in c) c.program.now.nodes c.layout.now ks (vars_in s.vars.now)
+    (flat_seats_in s.seats.now) (local_bounds_in xs)
+
+abbrev pub KidsFiredTo : Context → List ℕ → Sight → List LocalBound → List LocalBound → List Bound → List Bound
+    → Type 0
+KidsFiredTo c ks s old new before behind = AllDid (situation_in c) c.program.now.nodes ks (vars_in s.vars.now)
+    (flat_seats_in s.seats.now) (local_bounds_in old) (any_bounds_in before) (any_bounds_in behind)
+    (local_bounds_in new)
+
+-- and for a branch of the `if` with a slot
+abbrev pub ReadyBranch : Context → ℕ → ℕ → Bool → Sight → List LocalBound → Type 0
+ReadyBranch c p k truth s xs = BranchReady c.program.now.nodes c.layout.now p k truth (flat_seats_in s.seats.now)
+    (local_bounds_in xs)
+
+abbrev pub BranchFiredTo : Context → ℕ → ℕ → Bool → Sight → List LocalBound → List LocalBound → Option Bound → Type 0
+BranchFiredTo c p k truth s old new o = BranchDid (situation_in c) c.program.now.nodes p k truth (vars_in s.vars.now)
+    (flat_seats_in s.seats.now) (local_bounds_in old) (maybe_in o) (local_bounds_in new)

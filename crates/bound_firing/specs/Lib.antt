@@ -1,0 +1,9 @@
+pub mod BoundTrees
+pub mod Seats
+pub mod Firing
+pub mod Exports
+pub mod FlatSeats
+pub mod References
+pub mod Walks
+pub mod Contexts
+pub mod ExportReferences

@@ -1,0 +1,360 @@
+//! The evaluation of a program's nodes over bounds.
+
+ghost use Rattle.std.specs.Prelude.{◌≡◌, ◌<◌, IfOk, OnOk, IsSome, Some, length, map, min, slice_get, slice_set};
+ghost use Rattle.fc_values.specs.Values.{local_of};
+ghost use Rattle.fc_nodes.specs.Terms.{OfApply, OfNbr, OfEvolve, OfIf, OfLet};
+ghost use Rattle.fc_nodes.specs.Layouts.{number_in};
+ghost use Rattle.value_bounds.specs.BoundValues.{Between};
+ghost use Rattle.value_bounds.specs.References.{local_bound_in, local_bounds_in, any_bound_in};
+ghost use Rattle.bound_firing.specs.Seats.{cut_to};
+ghost use Rattle.bound_firing.specs.Firing.{variable_bound, local_part, input_bound as bound_of_input};
+ghost use Rattle.bound_firing.specs.FlatSeats.{SlotsHave, flat_maybes};
+ghost use Rattle.bound_firing.specs.References.{flat_seats_in};
+ghost use Rattle.bound_firing.specs.Walks.{started, one_of};
+ghost use Rattle.bound_firing.specs.Contexts.{vars_in, evolution_in, maybe_in, ReadyIn, ReadyFor, FiredTo, ReadyKids};
+ghost use Rattle.bound_firing.specs.Contexts.{KidsFiredTo, ReadyBranch, BranchFiredTo};
+
+use crate::seating::{
+    cut_to_seats, may_be, own_or_first, seat_field, seat_weights, seats_in_branch, slot_at,
+};
+use crate::seats::Seats;
+use fc_nodes::{Layout, Node, Op, Unfolded};
+use fc_values::{Builtin, Local, Memory};
+use std::alloc::Global;
+use value_bounds::{Bound, LocalBound, bound_of_builtin, copy_bound, either, exactly};
+
+/// What a firing is of: a program, its layout, the device, and its inputs.
+#[derive(Clone, Copy)]
+pub struct Context<'a> {
+    pub program: &'a Unfolded,
+    pub layout: &'a Layout,
+    pub device: u32,
+    pub inputs: &'a [Local],
+}
+
+/// The binders in scope, by their places, with their bounds.
+#[derive(Clone, Copy)]
+pub enum Scope<'a> {
+    Empty,
+    Bind(u32, &'a Bound, &'a Scope<'a>),
+}
+
+/// What a node sees: the exports that may be aligned there, and the binders in scope.
+#[derive(Clone, Copy)]
+pub struct Sight<'a, 'b> {
+    pub seats: &'a Seats<'b>,
+    pub vars: &'a Scope<'a>,
+}
+
+/// What the variable of an evolving value is: the kept value, or the field of it and of the neighbours'.
+#[derive(Clone, Copy)]
+pub enum Evolution {
+    Rep,
+    Share,
+}
+
+/// Evaluates a node: the bound of its value, and those of its slots in the draft.
+#[cycle(eval)]
+pub fn eval(
+    alloc: Global,
+    context: &Context<'_>,
+    place: u32,
+    sight: &Sight<'_, '_>,
+    draft: &mut [LocalBound],
+) -> Result<Bound, Memory>
+    requires { ReadyIn context.now place sight.now draft.old }
+    ensures { IfOk result (FiredTo context.now place sight.now draft.old draft.new) }
+{
+    let node = context.program.node(place);
+    match &node.op {
+        Op::Lit(value) => Ok(Bound::Local(exactly(alloc, value)?)),
+        Op::Var(binder) => Ok(variable(alloc, sight.vars, *binder, sight.seats)?),
+        Op::Sense(input) => Ok(Bound::Local(input_bound(alloc, context.inputs, *input)?)),
+        Op::Uid => Ok(Bound::Local(uid(context.device, context.program))),
+        Op::NbrLink => {
+            let least = least_weight(context.program);
+            Ok(Bound::Field(seat_weights(alloc, sight.seats, least)?))
+        }
+        Op::Apply(builtin) => eval_apply(alloc, context, place, node, *builtin, sight, draft),
+        Op::Nbr => eval_nbr(alloc, context, place, node, sight, draft),
+        Op::Rep => eval_evolve(alloc, context, place, node, Evolution::Rep, sight, draft),
+        Op::Share => eval_evolve(alloc, context, place, node, Evolution::Share, sight, draft),
+        Op::If => eval_if(alloc, context, place, node, sight, draft),
+        Op::Let => eval_let(alloc, context, place, node, sight, draft),
+    }
+}
+
+#[cycle(eval)]
+fn eval_apply(
+    alloc: Global,
+    context: &Context<'_>,
+    place: u32,
+    node: &Node,
+    builtin: Builtin,
+    sight: &Sight<'_, '_>,
+    draft: &mut [LocalBound],
+) -> Result<Bound, Memory>
+    requires { ReadyFor context.now place sight.now node.now (OfApply builtin) draft.old }
+    ensures { IfOk result (FiredTo context.now place sight.now draft.old draft.new) }
+{
+    let kids = node.kids.as_slice();
+    let mut args = Vec::with_capacity(alloc, kids.len())?;
+    eval_kids(alloc, context, kids, sight, draft, &mut args)?;
+    let ceiling = ceiling_of(context.program);
+    let bound = bound_of_builtin(alloc, builtin, args.as_slice(), context.device, ceiling)?;
+    Ok(bound)
+}
+
+// Evaluates nodes one after another, and adds the bounds of their values.
+#[cycle(eval)]
+fn eval_kids(
+    alloc: Global,
+    context: &Context<'_>,
+    kids: &[u32],
+    sight: &Sight<'_, '_>,
+    draft: &mut [LocalBound],
+    args: &mut Vec<Bound>,
+) -> Result<(), Memory>
+    requires { ReadyKids context.now kids.now sight.now draft.old }
+    ensures { OnOk result (KidsFiredTo context.now kids.now sight.now draft.old draft.new args.old.items
+        args.new.items) }
+{
+    let Some((first, rest)) = kids.split_first() else {
+        return Ok(());
+    };
+    let bound = eval(alloc, context, *first, sight, draft)?;
+    args.push(bound)?;
+    eval_kids(alloc, context, rest, sight, draft, args)?;
+    Ok(())
+}
+
+#[cycle(eval)]
+fn eval_nbr(
+    alloc: Global,
+    context: &Context<'_>,
+    place: u32,
+    node: &Node,
+    sight: &Sight<'_, '_>,
+    draft: &mut [LocalBound],
+) -> Result<Bound, Memory>
+    requires { ReadyFor context.now place sight.now node.now OfNbr draft.old }
+    ensures { IfOk result (FiredTo context.now place sight.now draft.old draft.new) }
+{
+    let slot = slot_of(context.layout, place);
+    let bound = eval(alloc, context, node.kids[0], sight, draft)?;
+    let own = into_local(bound);
+    let field = seat_field(alloc, sight.seats, slot, copy_bound(alloc, &own)?)?;
+    put(draft, slot, own);
+    Ok(Bound::Field(field))
+}
+
+#[cycle(eval)]
+fn eval_evolve(
+    alloc: Global,
+    context: &Context<'_>,
+    place: u32,
+    node: &Node,
+    evolution: Evolution,
+    sight: &Sight<'_, '_>,
+    draft: &mut [LocalBound],
+) -> Result<Bound, Memory>
+    requires { ReadyFor context.now place sight.now node.now (OfEvolve (evolution_in evolution)) draft.old }
+    ensures { IfOk result (FiredTo context.now place sight.now draft.old draft.new) }
+{
+    let slot = slot_of(context.layout, place);
+    let first = eval(alloc, context, node.kids[0], sight, draft)?;
+    let start = starting_bound(alloc, evolution, sight.seats, slot, into_local(first))?;
+    let evolving = Scope::Bind(place, &start, sight.vars);
+    let body = Sight {
+        seats: sight.seats,
+        vars: &evolving,
+    };
+    let bound = eval(alloc, context, node.kids[1], &body, draft)?;
+    let own = into_local(bound);
+    put(draft, slot, copy_bound(alloc, &own)?);
+    Ok(Bound::Local(own))
+}
+
+#[cycle(eval)]
+fn eval_if(
+    alloc: Global,
+    context: &Context<'_>,
+    place: u32,
+    node: &Node,
+    sight: &Sight<'_, '_>,
+    draft: &mut [LocalBound],
+) -> Result<Bound, Memory>
+    requires { ReadyFor context.now place sight.now node.now OfIf draft.old }
+    ensures { IfOk result (FiredTo context.now place sight.now draft.old draft.new) }
+{
+    let slot = slot_of(context.layout, place);
+    let condition = eval(alloc, context, node.kids[0], sight, draft)?;
+    put(draft, slot, into_local(condition));
+    let first = eval_branch(alloc, context, node.kids[1], slot, true, sight, draft)?;
+    let second = eval_branch(alloc, context, node.kids[2], slot, false, sight, draft)?;
+    let bound = either_of(alloc, first, second)?;
+    Ok(bound)
+}
+
+// Evaluates a branch of the `if` with a slot, unless the bound there says that it isn't taken.
+#[cycle(eval)]
+fn eval_branch(
+    alloc: Global,
+    context: &Context<'_>,
+    place: u32,
+    slot: u32,
+    truth: bool,
+    sight: &Sight<'_, '_>,
+    draft: &mut [LocalBound],
+) -> Result<Option<Bound>, Memory>
+    requires { ReadyBranch context.now place slot truth sight.now draft.old }
+    ensures { IfOk result (BranchFiredTo context.now place slot truth sight.now draft.old draft.new) }
+{
+    if !may_be(truth, slot_at(draft, slot)) {
+        return Ok(None);
+    }
+    let seats = seats_in_branch(alloc, sight.seats, slot, truth)?;
+    let taken = Sight {
+        seats: &seats,
+        vars: sight.vars,
+    };
+    let bound = eval(alloc, context, place, &taken, draft)?;
+    Ok(Some(bound))
+}
+
+#[cycle(eval)]
+fn eval_let(
+    alloc: Global,
+    context: &Context<'_>,
+    place: u32,
+    node: &Node,
+    sight: &Sight<'_, '_>,
+    draft: &mut [LocalBound],
+) -> Result<Bound, Memory>
+    requires { ReadyFor context.now place sight.now node.now OfLet draft.old }
+    ensures { IfOk result (FiredTo context.now place sight.now draft.old draft.new) }
+{
+    let value = eval(alloc, context, node.kids[0], sight, draft)?;
+    let inner = Scope::Bind(place, &value, sight.vars);
+    let body = Sight {
+        seats: sight.seats,
+        vars: &inner,
+    };
+    let bound = eval(alloc, context, node.kids[1], &body, draft)?;
+    Ok(bound)
+}
+
+// The bound of a variable at the seats of a node.
+fn variable(
+    alloc: Global,
+    vars: &Scope<'_>,
+    binder: u32,
+    seats: &Seats<'_>,
+) -> Result<Bound, Memory>
+    ensures { IfOk result (λ b. any_bound_in b ≡ cut_to (flat_maybes (flat_seats_in seats.now).near)
+        (variable_bound binder (vars_in vars.now))) }
+{
+    match vars {
+        Scope::Empty => Ok(Bound::Any),
+        Scope::Bind(place, bound, rest) => {
+            if *place == binder {
+                Ok(cut_to_seats(alloc, bound, seats)?)
+            } else {
+                Ok(variable(alloc, rest, binder, seats)?)
+            }
+        }
+    }
+}
+
+// The bound of an input.
+fn input_bound(alloc: Global, inputs: &[Local], index: u32) -> Result<LocalBound, Memory>
+    ensures { IfOk result (λ b. local_bound_in b ≡ bound_of_input (slice_get (map local_of inputs.now) index)) }
+{
+    match inputs.get(index as usize) {
+        Some(value) => Ok(exactly(alloc, value)?),
+        None => Ok(LocalBound::Unbounded),
+    }
+}
+
+// The bound of a device's number, which is cut at the ceiling.
+fn uid(device: u32, program: &Unfolded) -> LocalBound
+    ensures { local_bound_in result ≡ Between (min device program.now.declared.ceiling)
+        (min device program.now.declared.ceiling) }
+{
+    let number = device.min(ceiling_of(program));
+    LocalBound::Between(number, number)
+}
+
+// What the variable of an evolving value starts from.
+fn starting_bound(
+    alloc: Global,
+    evolution: Evolution,
+    seats: &Seats<'_>,
+    slot: u32,
+    first: LocalBound,
+) -> Result<Bound, Memory>
+    requires { SlotsHave slot (flat_seats_in seats.now) }
+    ensures { IfOk result (λ b. any_bound_in b ≡ started (evolution_in evolution) slot (flat_seats_in seats.now)
+        (local_bound_in first)) }
+{
+    let own = own_or_first(alloc, seats, slot, first)?;
+    match evolution {
+        Evolution::Rep => Ok(Bound::Local(own)),
+        Evolution::Share => Ok(Bound::Field(seat_field(alloc, seats, slot, own)?)),
+    }
+}
+
+// The bound of the value of an `if`, out of those of the branches that may be taken.
+fn either_of(alloc: Global, first: Option<Bound>, second: Option<Bound>) -> Result<Bound, Memory>
+    ensures { IfOk result (λ b. any_bound_in b ≡ one_of (maybe_in first) (maybe_in second)) }
+{
+    match (first, second) {
+        (Some(Bound::Local(a)), Some(Bound::Local(b))) => Ok(Bound::Local(either(alloc, &a, &b)?)),
+        (Some(a), None) => Ok(a),
+        (None, Some(b)) => Ok(b),
+        _ => Ok(Bound::Any),
+    }
+}
+
+/// The bound of a local value out of a bound; a field has none.
+pub fn into_local(bound: Bound) -> LocalBound
+    ensures { local_bound_in result ≡ local_part (any_bound_in bound) }
+{
+    match bound {
+        Bound::Local(local) => local,
+        Bound::Field(_) | Bound::Any => LocalBound::Unbounded,
+    }
+}
+
+// Writes a slot.
+fn put(draft: &mut [LocalBound], slot: u32, bound: LocalBound)
+    requires { slot < length draft.old }
+    ensures { local_bounds_in draft.new ≡ slice_set (local_bounds_in draft.old) slot (local_bound_in bound) }
+{
+    draft[slot as usize] = bound;
+}
+
+// The slot of a kept place.
+fn slot_of(layout: &Layout, place: u32) -> u32
+    requires { IsSome (number_in layout.now place) }
+    ensures { number_in layout.now place ≡ Some result }
+{
+    match layout.slot(place) {
+        Some(slot) => slot,
+        None => unreachable!(),
+    }
+}
+
+// The greatest integer of a program.
+fn ceiling_of(program: &Unfolded) -> u32
+    ensures { result ≡ program.now.declared.ceiling }
+{
+    program.declared().ceiling
+}
+
+// The least weight of a link.
+fn least_weight(program: &Unfolded) -> u32
+    ensures { result ≡ program.now.declared.least }
+{
+    program.declared().metric.0
+}

@@ -1,0 +1,17 @@
+-- Texts settle to something, and to one thing.
+use Rattle.std.specs.Prelude.{ℕ, Bool, ◌≡◌, ◌≤◌, List, length}
+use Rattle.fc_values.specs.declared.limits.TheConstants.{MOST_BYTES}
+use Rattle.fc_inputs.specs.Causes.{Judged}
+use Rattle.fc_inputs.specs.Refusals.{Reply}
+use Rattle.fc_settle.specs.Settles.{Settles}
+
+abbrev pub OneSettle : Type 0
+OneSettle =
+    (facts : Bool) (program network : List ℕ) (j k : Judged Reply) → Settles facts program network j
+    → Settles facts program network k → j ≡ k
+
+-- texts, of which that of the program is within the limit, settle to something
+abbrev pub SomeSettle : Type 0
+SomeSettle =
+    (facts : Bool) (program network : List ℕ) → length program ≤ MOST_BYTES
+    → (j : Judged Reply) × Settles facts program network j

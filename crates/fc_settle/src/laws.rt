@@ -1,0 +1,22 @@
+//! Laws of the definitions.
+
+ghost use Rattle.fc_settle.specs.Laws.{OneSettle, SomeSettle};
+
+use fc_check::{one_check, one_verdict, some_check};
+use fc_inputs::one_input;
+
+/// Texts settle to one thing.
+pub fn one_settle()
+    ensures { OneSettle }
+{
+    one_input();
+    one_check();
+    one_verdict();
+}
+
+/// Texts settle to something.
+pub fn some_settle()
+    ensures { SomeSettle }
+{
+    some_check();
+}

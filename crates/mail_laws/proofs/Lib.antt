@@ -1,0 +1,2 @@
+pub mod MailLevels
+pub mod Rounds

@@ -1,0 +1,6 @@
+//! Laws of convergence over message links. They take no memory and compute nothing.
+#![tactic(auto)]
+
+mod laws;
+
+pub use laws::{mail_stabilises, yes_stabilises_mail};

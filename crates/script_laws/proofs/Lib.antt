@@ -1,5 +1,0 @@
-mod AfterEdits
-mod PartRounds
-mod Following
-mod Lines
-pub mod Showing

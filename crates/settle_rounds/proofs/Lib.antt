@@ -1,0 +1,12 @@
+mod Rising
+mod Still
+mod Yes
+mod MailRounds
+mod Times
+mod Closeness
+mod Marks
+mod Places
+mod Standing
+mod Fired
+mod Rounding
+mod Settles

@@ -1,0 +1,92 @@
+-- How many rounds are looked at, which devices settle by then and to which values, and the settle time of a network.
+use Rattle.std.specs.Prelude.{ℕ, ◌≡◌, ◌≤◌, ◌/◌, min, max, List, [], ◌∷◌, map, length, Option, Some, None, option_map}
+use Rattle.std.specs.Option.{option_or}
+use Rattle.fc_values.specs.Values.{LocalValue}
+use Rattle.fc_nodes.specs.declared.verdicts.Verdict.{Verdict}
+use Rattle.fc_nodes.specs.declared.verdicts.Verdict.TheVariants as verdict
+use Rattle.fc_nodes.specs.Program.{Program, Unfolding, unfolding_of, IsProgram}
+use Rattle.topology.specs.Networks.{Network, IsNetwork, Lives, numbers}
+use Rattle.fragment_check.specs.Verdicts.{verdict_of}
+use Rattle.converge_laws.specs.Stabilising.{HasOneSolution}
+use Rattle.value_bounds.specs.BoundValues.{value_left}
+use Rattle.settle_rounds.specs.declared.limits.TheConstants.{MOST_BOUND_FIRINGS}
+use Rattle.settle_rounds.specs.Rounds.{bounds_after, ReachedAt}
+use Rattle.settle_rounds.specs.Settling.{settle_round}
+use Rattle.settle_rounds.specs.Mail.{MailReachedAt}
+
+-- at most so many rounds are looked at, of so many devices: all their firings are no more than the most, and with a yes
+-- the rounds are no more than it has
+abbrev pub settle_cap : Verdict → ℕ → ℕ
+settle_cap (verdict.Yes rounds) n = min (MOST_BOUND_FIRINGS / n) rounds
+settle_cap (verdict.No place reason) n = MOST_BOUND_FIRINGS / n
+
+-- the settle round of a device, up to a cap, with the value that is left then
+abbrev pub settles_to : Unfolding → Network → ℕ → ℕ → Option (ℕ × LocalValue)
+settles_to U N cap d = option_map (λ k. (k, value_left (bounds_after U N k d).value)) (settle_round U N cap d)
+
+-- those of all devices, by rising number
+abbrev pub all_settle_to : Unfolding → Network → ℕ → List (Option (ℕ × LocalValue))
+all_settle_to U N cap = map (settles_to U N cap) (numbers N.devices)
+
+-- those of a program on a network, up to its cap
+abbrev pub cap_of : Program → Network → ℕ
+cap_of P N = settle_cap (verdict_of P (length N.devices)) (length N.devices)
+
+abbrev pub settled_of : Program → Network → ℕ → Option (ℕ × LocalValue)
+settled_of P N d = settles_to (unfolding_of P) N (cap_of P N) d
+
+-- the greatest settle round, where each device has one
+abbrev pub greatest_round : List (Option (ℕ × LocalValue)) → Option ℕ
+greatest_round [] = Some 0
+greatest_round (None ∷ os) = None
+greatest_round (Some s ∷ os) = option_map (max s.0) (greatest_round os)
+
+abbrev pub rounds_of_yes : Verdict → Option ℕ
+rounds_of_yes (verdict.Yes rounds) = Some rounds
+rounds_of_yes (verdict.No place reason) = None
+
+-- the settle time: the greatest settle round, where each device has one; else that of a yes; and none with a no
+abbrev pub settle_time : Verdict → List (Option (ℕ × LocalValue)) → Option ℕ
+settle_time v os = option_or (greatest_round os) (rounds_of_yes v)
+
+abbrev pub IsSettleTime : Program → Network → ℕ → Type 0
+IsSettleTime P N R = settle_time (verdict_of P (length N.devices)) (map (settled_of P N) (numbers N.devices)) ≡ Some R
+
+-- ---- what settle rounds and settle times promise, where so many rounds lead a device to a value in some sense
+
+abbrev pub Leading : Type 1
+Leading = ℕ → ℕ → LocalValue → Type 0
+
+-- a device's settle round, and any more rounds, lead it to its value
+abbrev pub RoundsLead : Leading → Program → Network → Type 0
+RoundsLead Leads P N = (d k : ℕ) (v : LocalValue) → Lives N d → settled_of P N d ≡ Some (k, v)
+    → (m : ℕ) → k ≤ m → Leads m d v
+
+-- with a yes, that is the value of the one field
+pub record ValuesSolve (P : Program) (N : Network) : Type 0 where
+  pub one : HasOneSolution (unfolding_of P) N
+  pub values : (d k : ℕ) (v : LocalValue) → Lives N d → settled_of P N d ≡ Some (k, v) → v ≡ one.field d
+
+-- the settle time leads each device to the value of its settle round; where one has none, there is a yes for so many
+-- rounds, and they lead it to the value of the one field
+pub record TimeLeads (Leads : Leading) (P : Program) (N : Network) (R : ℕ) : Type 0 where
+  pub known : (d k : ℕ) (v : LocalValue) → Lives N d → settled_of P N d ≡ Some (k, v) → Leads R d v
+  pub only_yes : (d : ℕ) → Lives N d → settled_of P N d ≡ None → verdict_of P (length N.devices) ≡ verdict.Yes R
+  pub solved : (d : ℕ) → Lives N d → settled_of P N d ≡ None
+      → (one : HasOneSolution (unfolding_of P) N) × Leads R d (one.field d)
+
+-- it is no more than the rounds of a yes
+abbrev pub TimeIsLow : Program → Network → ℕ → Type 0
+TimeIsLow P N R = (K : ℕ) → verdict_of P (length N.devices) ≡ verdict.Yes K → R ≤ K
+
+-- so it is over firings, and over message links
+pub record SettlesWell (P : Program) (N : Network) : Type 0 where
+  pub rounds : RoundsLead (ReachedAt (unfolding_of P) N) P N
+  pub mail_rounds : RoundsLead (MailReachedAt (unfolding_of P) N) P N
+  pub solves : (K : ℕ) → verdict_of P (length N.devices) ≡ verdict.Yes K → ValuesSolve P N
+  pub time : (R : ℕ) → IsSettleTime P N R → TimeLeads (ReachedAt (unfolding_of P) N) P N R
+  pub mail_time : (R : ℕ) → IsSettleTime P N R → TimeLeads (MailReachedAt (unfolding_of P) N) P N R
+  pub low : (R : ℕ) → IsSettleTime P N R → TimeIsLow P N R
+
+abbrev pub SettleTimesHold : Type 0
+SettleTimesHold = (P : Program) (N : Network) → IsProgram P → IsNetwork N → N.declared ≡ P.declared → SettlesWell P N

@@ -1,0 +1,144 @@
+//! After how many rounds the devices of a network settle, and to which values.
+
+ghost use Rattle.std.specs.Prelude.{◌≡◌, ◌<◌, ◌+◌, false, IfOk, OnOk, IsTrue, All, IsSome, length, map};
+ghost use Rattle.std.specs.Prelude.{Option, None, option_map};
+ghost use Rattle.fc_nodes.specs.Program.{unfolding_of};
+ghost use Rattle.value_bounds.specs.References.{local_bound_in};
+ghost use Rattle.topology.specs.Networks.{IsNetwork};
+ghost use Rattle.settle_rounds.specs.Settling.{IsStill};
+ghost use Rattle.settle_rounds.specs.SettleTimes.{all_settle_to, greatest_round, settle_time};
+ghost use Rattle.settle_rounds.specs.declared.settling.Settled.{Settled};
+ghost use Rattle.settle_rounds.specs.References.{settled_in, noted, AreNoted, IsSettling};
+
+use crate::rounds::{Table, first_table, round};
+use bound_firing::ExportBound;
+use fc_nodes::{Unfolded, Verdict};
+use fc_values::{Local, Memory};
+use std::alloc::Global;
+use topology::Network;
+use value_bounds::{is_known, value_left};
+
+/// After how many rounds a device settles, and its value.
+#[derive(Drop)]
+pub struct Settled {
+    pub rounds: u32,
+    pub value: Local,
+}
+
+/// The settle round and the value of each device, by rising number; none where it isn't known after so many rounds.
+pub fn settle(
+    alloc: Global,
+    program: &Unfolded,
+    network: &Network,
+    cap: u32,
+) -> Result<Vec<Option<Settled>>, Memory>
+    requires { network.now.declared ≡ program.now.declared }
+    ensures { IfOk result (λ v. map (option_map settled_in) v.items
+        ≡ all_settle_to (unfolding_of program.now) network.now cap) }
+{
+    let mut table = first_table(alloc, program, network)?;
+    let mut settled = none_settled(alloc, network)?;
+    while table.rounds < cap {
+        let changes = advance(alloc, program, network, &mut table, &mut settled)?;
+        if !changes || all_settled(&settled) {
+            return Ok(settled);
+        }
+    }
+    Ok(settled)
+}
+
+// Makes a round, and notes the devices whose value is known then: whether the round changed a bound.
+fn advance(
+    alloc: Global,
+    program: &Unfolded,
+    network: &Network,
+    table: &mut Table,
+    settled: &mut [Option<Settled>],
+) -> Result<bool, Memory>
+    requires declared { network.now.declared ≡ program.now.declared }
+    requires settling { IsSettling (unfolding_of program.now) network.now table.old settled.old }
+    requires few { table.old.rounds < u32.MAX }
+    ensures settling { OnOk result (IsSettling (unfolding_of program.now) network.now table.new settled.new) }
+    ensures rounds { OnOk result (table.new.rounds ≡ table.old.rounds + 1) }
+    ensures still { IfOk result (λ c. c ≡ false → IsStill (unfolding_of program.now) network.now table.old.rounds) }
+    ensures network { OnOk result (IsNetwork network.now) }
+{
+    let changes = round(alloc, program, network, table)?;
+    note_reached(alloc, table.rounds, &table.bounds, settled)?;
+    Ok(changes)
+}
+
+/// The settle time of a network: the greatest settle round, where each device has one; else the rounds of a yes.
+pub fn settle_time(verdict: Verdict, settled: &[Option<Settled>]) -> Option<u64>
+    ensures { result ≡ settle_time verdict (map (option_map settled_in) settled.now) }
+{
+    match (greatest_round(settled), verdict) {
+        (Some(rounds), _) => Some(u64::from(rounds)),
+        (None, Verdict::Yes(rounds)) => Some(rounds),
+        (None, Verdict::No { .. }) => None,
+    }
+}
+
+// The greatest settle round, where each device has one.
+fn greatest_round(settled: &[Option<Settled>]) -> Option<u32>
+    ensures { result ≡ greatest_round (map (option_map settled_in) settled.now) }
+{
+    let Some((first, rest)) = settled.split_first() else {
+        return Some(0);
+    };
+    let Some(one) = first else {
+        return None;
+    };
+    let others = greatest_round(rest)?;
+    Some(one.rounds.max(others))
+}
+
+// No device has settled.
+fn none_settled(alloc: Global, network: &Network) -> Result<Vec<Option<Settled>>, Memory>
+    ensures many { IfOk result (λ v. length v.items ≡ length network.now.devices) }
+    ensures none { IfOk result (λ v. All (λ (o : Option Settled). o ≡ None) v.items) }
+{
+    let count = network.devices().len();
+    let mut settled = Vec::with_capacity(alloc, count)?;
+    for _ in 0..count {
+        settled.push(None)?;
+    }
+    Ok(settled)
+}
+
+// Notes the devices whose value is known for the first time.
+fn note_reached(
+    alloc: Global,
+    rounds: u32,
+    bounds: &[ExportBound],
+    settled: &mut [Option<Settled>],
+) -> Result<(), Memory>
+    requires { length bounds.now ≡ length settled.old }
+    ensures { OnOk result (AreNoted rounds bounds.now (length settled.old) settled.old settled.new) }
+{
+    for place in 0..settled.len() {
+        if settled[place].is_none() {
+            settled[place] = reached(alloc, rounds, &bounds[place])?;
+        }
+    }
+    Ok(())
+}
+
+// What is known of a device after so many rounds.
+fn reached(alloc: Global, rounds: u32, bound: &ExportBound) -> Result<Option<Settled>, Memory>
+    ensures { IfOk result (λ o. option_map settled_in o
+        ≡ noted rounds bound.now.sure (local_bound_in bound.now.value) None) }
+{
+    if !bound.sure || !is_known(&bound.value) {
+        return Ok(None);
+    }
+    let value = value_left(alloc, &bound.value)?;
+    Ok(Some(Settled { rounds, value }))
+}
+
+// Whether each device has settled.
+fn all_settled(settled: &[Option<Settled>]) -> bool
+    ensures { IsTrue result → All (λ (o : Option Settled). IsSome o) settled.now }
+{
+    settled.iter().all(|one| one.is_some())
+}

@@ -1,0 +1,8 @@
+pub mod Values
+mod Compare
+mod Operators
+pub mod Builtins
+mod InOrder
+mod Counts
+mod Starts
+mod Sizes

@@ -1,0 +1,10 @@
+use Rattle.std.proofs.Common.{◌≡◌, drop, true}
+use Rattle.value_bounds.specs.BoundBuiltins.{all_truths, all_bound}
+use Rattle.value_bounds.specs.BoundValues.{Truths}
+use Rattle.value_bounds.specs.References.{entries_in}
+use Rattle.value_bounds.proofs.hoods.all.Given as goal
+
+abbrev pub invariant-loop-entry : goal.invariant-loop-entry
+invariant-loop-entry l =
+    all_truths true (Truths l.is_true l.may_be_true) (all_bound (entries_in (drop l.entry-index l.entries)))
+    ≡ all_bound (entries_in l.entries)

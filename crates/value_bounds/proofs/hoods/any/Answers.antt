@@ -1,0 +1,6 @@
+use Rattle.value_bounds.specs.References.{entries_in}
+use Rattle.value_bounds.proofs.Starts.{any_from_none}
+use Rattle.value_bounds.proofs.hoods.any.Goals as goal
+
+pub loop-entry-init : goal.loop-entry-init
+loop-entry-init c = any_from_none (entries_in c.args.entries.now)

@@ -1,0 +1,4 @@
+pub mod BoundValues
+pub mod BoundBuiltins
+pub mod References
+pub mod Lookups
