@@ -125,6 +125,23 @@ def shows_of(text):
     return shows
 
 
+def settling_of(text):
+    """What `check --settle` wrote: its settle line, and by device the settle round and the value, None where it has none.
+
+    Nothing, where there is no settle line.
+    """
+    lines = text.splitlines()
+    place = next((place for place, line in enumerate(lines) if line == "open" or line.startswith("settles ")), None)
+    if place is None:
+        return None
+    rounds, values = {}, {}
+    for device, *rest in (line.split() for line in lines[place + 1 :]):
+        known = len(rest) == 2
+        rounds[int(device)] = int(rest[0]) if known else None
+        values[int(device)] = value_of(rest[1]) if known else None
+    return lines[place], rounds, values
+
+
 def verdict_of(text):
     """The last verdict's line of what fc wrote, or nothing."""
     lines = [line for line in text.splitlines() if line.startswith(("yes ", "no "))]
