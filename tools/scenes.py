@@ -65,9 +65,21 @@ def scene_of(path):
             "ids": sorted(device["id"] for device in scene["devices"]),
             "inputs": {device["id"]: device["inputs"] for device in scene["devices"]},
             "links": [tuple(link) for link in scene["links"]],
+            "state": {name: scene[name] for name in ("table", "pending") if name in scene},
         }
     except (ValueError, KeyError, TypeError):
         raise Fault(f"{path} is no scene: run fc on it, which says where it isn't") from None
+
+
+def table_of(path):
+    """The table of exports that `run --table` or `replay --table` wrote, on its last line."""
+    lines = text_of(path).splitlines()
+    try:
+        if lines[-1].startswith('{"format":2,'):
+            return json.loads(lines[-1])
+    except (IndexError, ValueError):
+        pass
+    raise Fault(f"{path} has no table: fc run --table and fc replay --table write one")
 
 
 def positions_of(path):

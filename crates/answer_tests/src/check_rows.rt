@@ -1,4 +1,5 @@
-//! Worked rows of `check`, `stable`, `trace` and `mail --number`, and of `check --settle`.
+//! Worked rows of `check`, `stable`, `trace` and `mail --number`, and of `check --settle` with and without
+//! `--from-table`.
 
 use crate::answering::gives;
 use crate::rows::{HOPS, PAIR, SHARED_HOPS, SOURCE};
@@ -148,6 +149,39 @@ const OPEN: Check = (
     "no 0 converging\nopen\n0 -\n1 -\n8 1 0\n",
 );
 
+// The line, whose devices hold the counts to device 0: with a second source at device 2, and with no source.
+const SECOND: &str =
+    "{\"devices\":[{\"id\":0,\"inputs\":{\"src\":true}},{\"id\":1,\"inputs\":{\"src\":false}},{\"id\":2,\"inputs\":{\"src\":true}}],\"links\":[[0,1,1],[1,2,1]],\"table\":[{\"id\":0,\"value\":0,\"kept\":[0,0]},{\"id\":1,\"value\":1,\"kept\":[1,1]},{\"id\":2,\"value\":2,\"kept\":[2,2]}]}";
+
+const OFF: &str =
+    "{\"devices\":[{\"id\":0,\"inputs\":{\"src\":false}},{\"id\":1,\"inputs\":{\"src\":false}},{\"id\":2,\"inputs\":{\"src\":false}}],\"links\":[[0,1,1],[1,2,1]],\"table\":[{\"id\":0,\"value\":0,\"kept\":[0,0]},{\"id\":1,\"value\":1,\"kept\":[1,1]},{\"id\":2,\"value\":2,\"kept\":[2,2]}]}";
+
+// The line, of which device 0 alone holds its count, and device 1 flies with an empty copy.
+const FLYING: &str =
+    "{\"devices\":[{\"id\":0,\"inputs\":{\"src\":true}},{\"id\":1,\"inputs\":{\"src\":false}},{\"id\":2,\"inputs\":{\"src\":false}}],\"links\":[[0,1,1],[1,2,1]],\"table\":[{\"id\":0,\"value\":0,\"kept\":[0,0]}],\"pending\":[{\"id\":1,\"inputs\":{\"src\":false},\"own\":null,\"near\":[]}]}";
+
+const FROM_TABLE: [Asked; 3] = [
+    (
+        &["fc", "check", "--settle", "--from-table"],
+        (HOPS, SECOND, "yes 22\nsettles 1\n0 0 0\n1 0 1\n2 1 0\n"),
+    ),
+    (
+        &["fc", "check", "--from-table", "--settle"],
+        (HOPS, OFF, "yes 22\nsettles 19\n0 17 10\n1 19 10\n2 17 10\n"),
+    ),
+    (
+        &["fc", "check", "--settle", "--from-table"],
+        (HOPS, FLYING, "yes 22\nsettles 3\n0 0 0\n1 1 1\n2 3 2\n"),
+    ),
+];
+
+// Two values that are told on and never settle.
+const APART: Check = (
+    "ceiling 10; main = rep(0){(x) => maxHoodLoc(nbr{x}, 0)};",
+    "{\"devices\":[{\"id\":0,\"inputs\":{}},{\"id\":1,\"inputs\":{}}],\"links\":[[0,1,1]],\"table\":[{\"id\":0,\"value\":3,\"kept\":[3,3]},{\"id\":1,\"value\":4,\"kept\":[4,4]}]}",
+    "no 0 converging\nopen\n0 -\n1 -\n",
+);
+
 // What is answered to these words, on this program and network.
 fn checks(
     rt: &(impl Abort + Threads + Wait + Sync),
@@ -179,6 +213,11 @@ fn worked_rows(rt: HostRuntime) -> Result<(), Fail> {
         checks(&rt, alloc, list, row, 0)?;
     }
     checks(&rt, alloc, &["fc", "check", "--settle"], &OPEN, 1)?;
+    for (list, row) in &FROM_TABLE {
+        checks(&rt, alloc, list, row, 0)?;
+    }
+    let from_table = &["fc", "check", "--settle", "--from-table"];
+    checks(&rt, alloc, from_table, &APART, 1)?;
     let row = (HOPS, "\n%%\n", "sections 3\n");
     checks(&rt, alloc, &["fc", "check"], &row, 3)
 }

@@ -1,4 +1,4 @@
--- Environments that are seen by seats: kids, branches, and fields that were bound outside of a branch.
+-- Crates above cite this module: environments that are seen by seats, in kids and branches, and fields from outside.
 use Rattle.std.proofs.Common.{◌≡◌, ℕ, List, [], ◌∷◌, map, refl, sym, ◌∙◌, ap, subst, Bool, true, false, ◌&&◌, ◌||◌}
 use Rattle.std.proofs.Common.{if◌then◌else◌, Option, Some, None, option_map}
 use Rattle.std.specs.Prelude.{filter, nat_eq}

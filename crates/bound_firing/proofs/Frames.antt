@@ -1,11 +1,8 @@
--- What is written in slots, and what stays as it was.
+-- Crates above cite this module: what is written in slots, and what stays as it was.
 use Rattle.std.proofs.Common.{◌≡◌, ◌≢◌, ℕ, zero, suc, ◌<◌, ◌≤◌, ◌+◌, List, [], ◌∷◌, length, refl, sym, ◌∙◌, subst}
 use Rattle.std.proofs.Common.{arith, Bool, length-set}
 use Rattle.std.specs.Prelude.{slice_set}
-use Rattle.std.proofs.lemmas.List.{length-map}
 use Rattle.value_bounds.specs.BoundValues.{BoundValue}
-use Rattle.value_bounds.specs.declared.bounds.LocalBound.{LocalBound}
-use Rattle.value_bounds.specs.References.{local_bound_in, local_bounds_in}
 use Rattle.bound_firing.specs.BoundTrees.{slot_bound}
 use Rattle.bound_firing.specs.FlatSeats.{FlatSeats, flat_branch}
 use Rattle.bound_firing.specs.Walks.{Room, SameOut, Reach}
@@ -25,9 +22,6 @@ set_other zero zero b (x ∷ xs) h = absurd (h refl)
 set_other zero (suc k) b (x ∷ xs) h = refl
 set_other (suc j) zero b (x ∷ xs) h = refl
 set_other (suc j) (suc k) b (x ∷ xs) h = set_other j k b xs (λ e. h (omega (arith, e)))
-
-pub slots_long : (xs : List LocalBound) (k : ℕ) → k < length (local_bounds_in xs) → k < length xs
-slots_long xs k h = omega (arith, h, length-map xs local_bound_in)
 
 -- ---- some slots
 

@@ -1,12 +1,12 @@
-mod Branch
+pub mod Branch
 mod Hearing
 pub mod Firings
 mod Seated
-mod SlotReads
+pub mod SlotReads
 mod SeatTests
-mod Slots
+pub mod Slots
 pub mod Anything
-mod Frames
+pub mod Frames
 mod KidsAt
 mod LetAt
 mod NbrAt

@@ -1,4 +1,4 @@
--- A slot of a list of slots, as code reads it.
+-- Crates above cite this module: a slot of a list of slots, as code reads it.
 use Rattle.std.proofs.Common.{◌≡◌, ℕ, zero, suc, ◌<◌, List, [], ◌∷◌, length, get_or, sym, ap, arith}
 use Rattle.std.proofs.lemmas.List.{length-map}
 use Rattle.value_bounds.specs.declared.bounds.LocalBound.{LocalBound}

@@ -1,4 +1,4 @@
--- Bounds of trees out of slots, as code has them: a tree depends on its own slots alone.
+-- Crates above cite this module: bounds of trees out of slots, as code has them; a tree depends on its own slots alone.
 use Rattle.std.proofs.Common.{◌≡◌, ℕ, suc, ◌≤◌, ◌<◌, ◌+◌, List, [], ◌∷◌, ◌++◌, map, length, refl, ap, subst, arith}
 use Rattle.std.proofs.lemmas.List.{length-append}
 use Rattle.fc_values.specs.Types.{LocalType}

@@ -9,4 +9,5 @@ mod seats;
 
 pub use firing::{ExportBound, any_export_bound, fire_bounds};
 pub use laws::firings_land;
+pub use seating::may_be;
 pub use seats::{NearSeat, OwnSeat, Seats};

@@ -1,6 +1,6 @@
 -- What words ask for is a command: `gen` has at least three devices.
-use Rattle.std.proofs.Common.{ℕ, ◌≡◌, ◌≤◌, Bool, true, false, if◌then◌else◌, List, [], ◌∷◌, refl, subst, arith}
-use Rattle.std.proofs.Common.{Option, Some, None, option_and_then}
+use Rattle.std.proofs.Common.{ℕ, ◌≡◌, ◌≤◌, Bool, true, false, ◌&&◌, not, if◌then◌else◌, List, [], ◌∷◌}
+use Rattle.std.proofs.Common.{refl, subst, arith, Option, Some, None, option_and_then}
 use Rattle.std.specs.Prelude.{IfSome, is_some, unwrap_or, option_map}
 use Rattle.std.specs.List.{list_all}
 use Rattle.std.proofs.lemmas.Bool.Decides.{nat_tests}
@@ -11,7 +11,7 @@ use Rattle.command_words.specs.declared.commands.Command.TheVariants as command
 use Rattle.command_words.specs.declared.settings.Numbered.TheVariants.{Workers, Devices, Number}
 use Rattle.command_words.specs.declared.settings.Setting.{Setting}
 use Rattle.command_words.specs.declared.settings.Setting.TheVariants as set
-use Rattle.command_words.specs.Commands.{IsCommand}
+use Rattle.command_words.specs.Commands.{IsCommand, start_asked}
 use Rattle.command_words.specs.Settings.{settings_of}
 use Rattle.command_words.specs.Words.{all_set, allows, asked, command_from, WordsAskForCommands, command_with, name_of}
 use Rattle.command_words.specs.Words.{no_choices, with_setting}
@@ -27,6 +27,7 @@ chosen_once false x d h = cc
 set_enough : (s : Setting) (c d : Choices) → allows Gen s ≡ true → Enough c → with_setting s c ≡ Some d → Enough d
 set_enough set.Facts c d allowed enough h = absurd cc
 set_enough set.Settle c d allowed enough h = absurd cc
+set_enough set.FromTable c d allowed enough h = absurd cc
 set_enough set.Log c d allowed enough h = absurd cc
 set_enough set.Table c d allowed enough h = absurd cc
 set_enough set.Rounds c d allowed enough h = absurd cc
@@ -55,7 +56,12 @@ all_enough (s ∷ ss) c allowed enough =
         further d rest (set_enough s c d yet enough is)
 
 chosen_enough : (n : Name) (c : Choices) → (n ≡ Gen → Enough c) → IfSome (command_with n c) IsCommand
-chosen_enough Check c enough = tt
+chosen_enough Check c enough = checked (c.from_table && not c.settle)
+  where
+    checked : (b : Bool) → IfSome (if b then None else Some (command.Check c.facts (start_asked c.settle c.from_table)))
+        IsCommand
+    checked true = tt
+    checked false = tt
 chosen_enough Stable c enough = tt
 chosen_enough Run c enough = tt
 chosen_enough Replay c enough = tt

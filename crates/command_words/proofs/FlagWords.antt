@@ -38,7 +38,7 @@ abbrev pub words_right : App → (Choices → List (List ℕ × Bool)) → List 
 words_right app flags words c = takes app words && flags_right app words (flags c)
 
 abbrev all_flags : List Setting
-all_flags = set.Facts ∷ set.Settle ∷ set.Log ∷ set.Table ∷ set.Rounds ∷ []
+all_flags = set.Facts ∷ set.Settle ∷ set.FromTable ∷ set.Log ∷ set.Table ∷ set.Rounds ∷ []
 
 -- after a setting that is allowed, and isn't there yet
 abbrev after : (Choices → Bool) → Bool → Option Choices → Bool
@@ -59,20 +59,23 @@ of_flag : (further : Setting → Bool) (s : Setting) → is_flag s ≡ true → 
 of_flag further s f e =
     let facts = both _ _ e in
     let settle = both _ _ facts.1 in
-    let log = both _ _ settle.1 in
+    let from = both _ _ settle.1 in
+    let log = both _ _ from.1 in
     let table = both _ _ log.1 in
     let rounds = both _ _ table.1 in
-    go s f facts.0 settle.0 log.0 table.0 rounds.0
+    go s f facts.0 settle.0 from.0 log.0 table.0 rounds.0
   where
     go : (s : Setting) → is_flag s ≡ true → further set.Facts ≡ true → further set.Settle ≡ true
-        → further set.Log ≡ true → further set.Table ≡ true → further set.Rounds ≡ true → further s ≡ true
-    go set.Facts f facts settle log table rounds = facts
-    go set.Settle f facts settle log table rounds = settle
-    go set.Log f facts settle log table rounds = log
-    go set.Table f facts settle log table rounds = table
-    go set.Rounds f facts settle log table rounds = rounds
-    go (set.Option o n) f facts settle log table rounds = cc
-    go (set.Alone n) f facts settle log table rounds = cc
+        → further set.FromTable ≡ true → further set.Log ≡ true → further set.Table ≡ true
+        → further set.Rounds ≡ true → further s ≡ true
+    go set.Facts f facts settle from log table rounds = facts
+    go set.Settle f facts settle from log table rounds = settle
+    go set.FromTable f facts settle from log table rounds = from
+    go set.Log f facts settle from log table rounds = log
+    go set.Table f facts settle from log table rounds = table
+    go set.Rounds f facts settle from log table rounds = rounds
+    go (set.Option o n) f facts settle from log table rounds = cc
+    go (set.Alone n) f facts settle from log table rounds = cc
 
 -- a command that takes flags alone
 abbrev pub TakesFlags : Name → Type 0

@@ -5,4 +5,5 @@ mod FlagWords
 mod CheckWords
 mod ReplayWords
 mod BareWords
+mod AskedWords
 mod Enough

@@ -18,6 +18,7 @@ replay_is_simple = refl
 replay_takes_flags : TakesFlags Replay
 replay_takes_flags set.Facts e = cc
 replay_takes_flags set.Settle e = cc
+replay_takes_flags set.FromTable e = cc
 replay_takes_flags set.Log e = cc
 replay_takes_flags set.Table e = refl
 replay_takes_flags set.Rounds e = refl

@@ -14,6 +14,7 @@ use Rattle.command_words.specs.Settings.{before, flag_of, is_equals, option_of, 
 abbrev pub spelled : Setting → List ℕ
 spelled set.Facts = codes "--facts"
 spelled set.Settle = codes "--settle"
+spelled set.FromTable = codes "--from-table"
 spelled set.Log = codes "--log"
 spelled set.Table = codes "--table"
 spelled set.Rounds = codes "--rounds"
@@ -23,6 +24,7 @@ spelled (set.Alone n) = []
 abbrev pub is_flag : Setting → Bool
 is_flag set.Facts = true
 is_flag set.Settle = true
+is_flag set.FromTable = true
 is_flag set.Log = true
 is_flag set.Table = true
 is_flag set.Rounds = true
@@ -50,7 +52,8 @@ flag_spelled : (word : List ℕ) (s : Setting) → flag_of word ≡ Some s → w
 flag_spelled word s =
     if_flag word set.Facts s _
     (if_flag word set.Settle s _
-    (if_flag word set.Log s _ (if_flag word set.Table s _ (if_flag word set.Rounds s _ (λ e. cc)))))
+    (if_flag word set.FromTable s _
+    (if_flag word set.Log s _ (if_flag word set.Table s _ (if_flag word set.Rounds s _ (λ e. cc))))))
 
 no_flag : (s t : Setting) → Some s ≡ Some t → is_flag s ≡ false → is_flag t ≡ true → ⊥
 no_flag s t e n h = true≢false (sym h ∙ sym (ap is_flag (found s t e)) ∙ n)

@@ -20,7 +20,9 @@ abbrev pub plain_app : List ℕ → App
 plain_app name = on_top without_help (new_app name)
 
 unfoldable pub check_app : App
-check_app = with_rule (with_rule (plain_app (codes "check")) (flag_rule (codes "facts"))) (flag_rule (codes "settle"))
+check_app =
+    with_rule (with_rule (with_rule (plain_app (codes "check")) (flag_rule (codes "facts")))
+    (flag_rule (codes "settle"))) (flag_rule (codes "from-table"))
 
 unfoldable pub replay_app : App
 replay_app = with_rule (with_rule (plain_app (codes "replay")) (flag_rule (codes "rounds"))) (flag_rule (codes "table"))

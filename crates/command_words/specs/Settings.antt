@@ -1,5 +1,6 @@
 -- What the words after the command set.
-use Rattle.std.specs.Prelude.{ℕ, Bool, is_some, ◌==◌, if◌then◌else◌, List, [], ◌∷◌, codes, Option, Some, None, option_map}
+use Rattle.std.specs.Prelude.{ℕ, Bool, is_some, ◌==◌, if◌then◌else◌, List, [], ◌∷◌, codes}
+use Rattle.std.specs.Prelude.{Option, Some, None, option_map}
 use Rattle.std.specs.List.{before_first, after_first}
 use Rattle.std.specs.Str.{bytes_eq}
 use Rattle.std.specs.Option.{option_or}
@@ -14,6 +15,7 @@ abbrev pub flag_of : List ℕ → Option Setting
 flag_of word =
     if bytes_eq word (codes "--facts") then Some set.Facts else
     if bytes_eq word (codes "--settle") then Some set.Settle else
+    if bytes_eq word (codes "--from-table") then Some set.FromTable else
     if bytes_eq word (codes "--log") then Some set.Log else
     if bytes_eq word (codes "--table") then Some set.Table else
     if bytes_eq word (codes "--rounds") then Some set.Rounds else None

@@ -1,5 +1,5 @@
 -- The command that the words of a command line ask for.
-use Rattle.std.specs.Prelude.{ℕ, Bool, true, false, nat_le, is_some, if◌then◌else◌, List, [], ◌∷◌, codes}
+use Rattle.std.specs.Prelude.{ℕ, Bool, true, false, ◌&&◌, not, nat_le, is_some, if◌then◌else◌, List, [], ◌∷◌, codes}
 use Rattle.std.specs.Prelude.{IfSome, Option, Some, None, option_map, option_and_then, unwrap_or}
 use Rattle.std.specs.List.{list_all}
 use Rattle.std.specs.Str.{bytes_eq}
@@ -11,7 +11,7 @@ use Rattle.command_words.specs.declared.choices.Choices.{Choices}
 use Rattle.command_words.specs.declared.settings.Numbered.TheVariants.{Workers, Devices, Number}
 use Rattle.command_words.specs.declared.settings.Setting.{Setting}
 use Rattle.command_words.specs.declared.settings.Setting.TheVariants as set
-use Rattle.command_words.specs.Commands.{IsCommand}
+use Rattle.command_words.specs.Commands.{IsCommand, start_asked}
 use Rattle.command_words.specs.Settings.{settings_of}
 
 -- the command that a word names
@@ -30,6 +30,7 @@ name_of word =
 abbrev pub allows : Name → Setting → Bool
 allows Check set.Facts = true
 allows Check set.Settle = true
+allows Check set.FromTable = true
 allows Run (set.Option Workers n) = nat_le 1 n
 allows Run set.Log = true
 allows Run set.Table = true
@@ -46,6 +47,7 @@ abbrev pub no_choices : Choices
 no_choices = record {
   facts = false;
   settle = false;
+  from_table = false;
   log = false;
   table = false;
   rounds = false;
@@ -59,6 +61,7 @@ no_choices = record {
 abbrev pub with_setting : Setting → Choices → Option Choices
 with_setting set.Facts c = if c.facts then None else Some (record c { facts = true })
 with_setting set.Settle c = if c.settle then None else Some (record c { settle = true })
+with_setting set.FromTable c = if c.from_table then None else Some (record c { from_table = true })
 with_setting set.Log c = if c.log then None else Some (record c { log = true })
 with_setting set.Table c = if c.table then None else Some (record c { table = true })
 with_setting set.Rounds c = if c.rounds then None else Some (record c { rounds = true })
@@ -72,9 +75,14 @@ abbrev pub all_set : Choices → List Setting → Option Choices
 all_set c [] = Some c
 all_set c (s ∷ more) = option_and_then (λ d. all_set d more) (with_setting s c)
 
+-- the `check` with its flags: `--from-table` stands beside `--settle` only
+abbrev pub check_with : Bool → Bool → Bool → Option Command
+check_with facts settle from_table =
+    if from_table && not settle then None else Some (command.Check facts (start_asked settle from_table))
+
 -- the command with what is set, and the defaults for the rest: 4 workers and 64 devices. `gen` needs its number
 abbrev pub command_with : Name → Choices → Option Command
-command_with Check c = Some (command.Check c.facts c.settle)
+command_with Check c = check_with c.facts c.settle c.from_table
 command_with Stable c = Some command.Stable
 command_with Run c = Some (command.Run (unwrap_or c.workers 4) c.log c.table)
 command_with Replay c = Some (command.Replay c.rounds c.table)

@@ -2,9 +2,10 @@
 
 ghost use Rattle.std.specs.Prelude.{◌≡◌};
 ghost use Rattle.std.specs.List.{list_all};
-ghost use Rattle.command_words.specs.Words.{all_set, allows, command_from, command_with, name_of, no_choices, with_setting};
+ghost use Rattle.command_words.specs.Words.{all_set, allows, check_with, command_from, command_with, name_of};
+ghost use Rattle.command_words.specs.Words.{no_choices, with_setting};
 
-use crate::commands::Command;
+use crate::commands::{Command, start_asked};
 use crate::settings::{Numbered, Setting};
 
 /// The name of a command.
@@ -25,6 +26,7 @@ pub enum Name {
 pub struct Choices {
     facts: bool,
     settle: bool,
+    from_table: bool,
     log: bool,
     table: bool,
     rounds: bool,
@@ -72,6 +74,7 @@ fn takes(name: Name, setting: Setting) -> bool
     match (name, setting) {
         (Name::Check, Setting::Facts) => true,
         (Name::Check, Setting::Settle) => true,
+        (Name::Check, Setting::FromTable) => true,
         (Name::Run, Setting::Option(Numbered::Workers, count)) => 1 <= count,
         (Name::Run, Setting::Log) => true,
         (Name::Run, Setting::Table) => true,
@@ -96,6 +99,10 @@ fn with(choices: Choices, setting: Setting) -> Option<Choices>
         }),
         Setting::Settle if !choices.settle => Some(Choices {
             settle: true,
+            ..choices
+        }),
+        Setting::FromTable if !choices.from_table => Some(Choices {
+            from_table: true,
             ..choices
         }),
         Setting::Log if !choices.log => Some(Choices {
@@ -137,6 +144,7 @@ fn collected(settings: &[Setting]) -> Option<Choices>
     let mut choices = Choices {
         facts: false,
         settle: false,
+        from_table: false,
         log: false,
         table: false,
         rounds: false,
@@ -151,15 +159,25 @@ fn collected(settings: &[Setting]) -> Option<Choices>
     Some(choices)
 }
 
+// The `check` of its flags: `--from-table` stands beside `--settle` only.
+fn check_with(facts: bool, settle: bool, from_table: bool) -> Option<Command>
+    ensures { result ≡ check_with facts settle from_table }
+{
+    if from_table && !settle {
+        return None;
+    }
+    Some(Command::Check {
+        facts,
+        settle: start_asked(settle, from_table),
+    })
+}
+
 // The command with what is chosen, and the defaults for the rest.
 fn chosen(name: Name, choices: Choices) -> Option<Command>
     ensures { result ≡ command_with name choices }
 {
     match name {
-        Name::Check => Some(Command::Check {
-            facts: choices.facts,
-            settle: choices.settle,
-        }),
+        Name::Check => check_with(choices.facts, choices.settle, choices.from_table),
         Name::Stable => Some(Command::Stable),
         Name::Run => Some(Command::Run {
             workers: choices.workers.unwrap_or(4),

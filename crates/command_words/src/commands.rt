@@ -1,9 +1,16 @@
 //! The commands, and the limits of their numbers.
 
 ghost use Rattle.std.specs.Prelude.{◌≡◌};
-ghost use Rattle.command_words.specs.Commands.{limit_of, limit_name};
+ghost use Rattle.command_words.specs.Commands.{limit_of, limit_name, start_asked};
 
 use fc_values::{MOST_SCENARIO_DEVICES, MOST_WORKERS};
+
+/// From which exports settle rounds are counted: any, or those of the scene's table and copies in flight.
+#[derive(Clone, Copy, Debug, PartialEq, Eq)]
+pub enum Start {
+    Any,
+    Table,
+}
 
 /// A command with its options.
 #[derive(Clone, Copy, Debug, PartialEq, Eq)]
@@ -11,7 +18,7 @@ pub enum Command {
     /// The verdict, and where they are asked for the facts of each node and the rounds that each device needs.
     Check {
         facts: bool,
-        settle: bool,
+        settle: Option<Start>,
     },
     /// The stabilised field.
     Stable,
@@ -63,6 +70,17 @@ impl Limit {
             Limit::Workers => "workers",
             Limit::Devices => "devices",
         }
+    }
+}
+
+/// The start from which settle rounds are counted, where they are asked for.
+pub fn start_asked(settle: bool, from_table: bool) -> Option<Start>
+    ensures { result ≡ start_asked settle from_table }
+{
+    match (settle, from_table) {
+        (true, true) => Some(Start::Table),
+        (true, false) => Some(Start::Any),
+        (false, _) => None,
     }
 }
 

@@ -7,5 +7,5 @@ mod options;
 mod settings;
 mod words;
 
-pub use commands::{Command, Limit, passed_limit};
+pub use commands::{Command, Limit, Start, passed_limit};
 pub use words::{command, words_ask_for_commands};

@@ -5,7 +5,7 @@ ghost use Rattle.clap.specs.Words.{HasMatchesOf, app_of, kind_of};
 ghost use Rattle.command_words.specs.Options.{bare_app, bare_of, check_app, check_of, replay_app, replay_of, takes_nothing};
 
 use crate::choices::Name;
-use crate::commands::Command as Asked;
+use crate::commands::{Command as Asked, start_asked};
 use clap::error::ErrorKind;
 use clap::{Arg, ArgAction, ArgMatches, Command, Error};
 use fc_values::Memory;
@@ -20,11 +20,15 @@ fn check_options<'a>(alloc: Global) -> Result<Command<'a>, AllocError>
     let settle = Arg::new(alloc, "settle")
         .long("settle")
         .action(ArgAction::SetTrue);
+    let from_table = Arg::new(alloc, "from-table")
+        .long("from-table")
+        .action(ArgAction::SetTrue);
     Command::new(alloc, "check")
         .disable_help_flag(true)
         .disable_version_flag(true)
         .arg(facts)?
-        .arg(settle)
+        .arg(settle)?
+        .arg(from_table)
 }
 
 fn replay_options<'a>(alloc: Global) -> Result<Command<'a>, AllocError>
@@ -89,7 +93,7 @@ pub fn check(alloc: Global, words: &[String]) -> Result<Asked, Memory>
     match check_matches(alloc, words) {
         Ok(matches) => Ok(Asked::Check {
             facts: matches.get_flag("facts"),
-            settle: matches.get_flag("settle"),
+            settle: start_asked(matches.get_flag("settle"), matches.get_flag("from-table")),
         }),
         Err(_) => Err(Memory),
     }

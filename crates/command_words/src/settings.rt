@@ -24,6 +24,8 @@ pub enum Setting {
     Facts,
     /// `--settle`
     Settle,
+    /// `--from-table`
+    FromTable,
     /// `--log`
     Log,
     /// `--table`
@@ -45,6 +47,9 @@ fn flag(word: &str) -> Option<Setting>
     }
     if word == "--settle" {
         return Some(Setting::Settle);
+    }
+    if word == "--from-table" {
+        return Some(Setting::FromTable);
     }
     if word == "--log" {
         return Some(Setting::Log);

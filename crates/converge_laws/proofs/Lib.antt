@@ -1,3 +1,4 @@
+pub mod RisingStarts
 pub mod RisingLevels
 mod LowRanks
 mod Near

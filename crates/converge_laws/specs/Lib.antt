@@ -1,4 +1,5 @@
 pub mod CoreLevels
+pub mod StartLevels
 pub mod Ranks
 pub mod Stages
 pub mod Fragment

@@ -10,6 +10,7 @@ use Rattle.net_json.specs.FittingScenes.{AcceptedScenesFit}
 use Rattle.net_json.specs.Scenes.{SceneValue}
 use Rattle.command_words.specs.declared.commands.Command.{Command}
 use Rattle.command_words.specs.declared.commands.Command.TheVariants.{Check, Stable, Run, Replay, Format, Gen, Trace, Mail}
+use Rattle.command_words.specs.declared.commands.Start.TheVariants.{Any, Table}
 use Rattle.command_words.specs.declared.commands.Limit.{Limit}
 use Rattle.command_words.specs.declared.commands.Limit.TheVariants.{Workers, Devices}
 use Rattle.command_words.specs.Commands.{limit_of}
@@ -20,8 +21,13 @@ use Rattle.fc_inputs.specs.Refusals.{Reply}
 use Rattle.fc_inputs.specs.Sections.{sections_of, other_number, WithTwo, WithThree}
 use Rattle.fc_values.specs.declared.limits.TheConstants.{MOST_BYTES}
 use Rattle.fc_check.specs.Checks.{Checks, ChecksScene, facts_behind, verdict_status}
-use Rattle.fc_settle.specs.Settles.{Settles, SettlesScene}
+use Rattle.fc_settle.specs.Settles.{Settles, SettlesScene, StartsFrom, settling_of}
+use Rattle.settle_rounds.specs.Rounds.{any_table}
 use Rattle.settle_rounds.specs.SettleTimes.{SettleTimesHold}
+use Rattle.settle_rounds.specs.StartTimes.{StartTimesHold}
+use Rattle.firing_core.specs.Cores.{IsGood}
+use Rattle.fc_replay.specs.Laws.{InputsStart}
+use Rattle.fc_replay.specs.Replays.{start_of}
 use Rattle.interval_facts.specs.Ranges.{ranges_of}
 use Rattle.report.specs.Facts.{facts_text}
 use Rattle.report.specs.Texts.{field_text}
@@ -35,9 +41,11 @@ use Rattle.fc_run.specs.Laws.{RunsKeepYes}
 use Rattle.fc_run.specs.Runs.{RanValue, Runs}
 use Rattle.fc_answers.specs.Asked.{limit_refusal, reads}
 use Rattle.fc_answers.specs.Answers.{AnswerValue, AnswersInput}
-use Rattle.fc_answers.specs.Answers.{AnswersWithin, ShowsRun, WritesLogReply, WritesReply, answer_of, replied, run_options, running}
-use Rattle.fc_answers.specs.Headline.{AnswersKeep, ChecksYes, HasYes, IsAnswered, MailPromises, OfThree, OfTwo, Promises}
-use Rattle.fc_answers.specs.Headline.{RunsKept, SettlesKept, SolvesYes, TracesYes, stable_entries}
+use Rattle.fc_answers.specs.Answers.{AnswersWithin, ShowsRun, WritesLogReply, WritesReply, answer_of, replied}
+use Rattle.fc_answers.specs.Answers.{run_options, running}
+use Rattle.fc_answers.specs.Headline.{AnswersKeep, ChecksYes, HasYes, IsAnswered, KeepsYes, MailPromises}
+use Rattle.fc_answers.specs.Headline.{OfThree, OfTwo}
+use Rattle.fc_answers.specs.Headline.{Promises, RunsKept, SettlesKept, SolvesYes, StartKept, TracesYes, stable_entries}
 use Rattle.stable_field.proofs.OneField.{one_field}
 use Rattle.fc_trace.proofs.Scenes.{scene_fits}
 use Rattle.fc_trace.specs.Traces.{TracedBy, Traces, TracesScene}
@@ -180,31 +188,83 @@ module _ (law : YesStabilises) (fit : AcceptedScenesFit) (least : SolutionsAreLe
           subst (λ j. Keeps TracesYes program network (reply_of j)) (sym e)
           (refused_keeps TracesYes program network (reply_to cause) c)
 
-module _ (hold : SettleTimesHold) (fit : AcceptedScenesFit) (program network : List ℕ) (facts : Bool) where
-  settle_keeps : (k : Judged Reply) → Settles facts program network k → (reply_of k).status ≤ 1
-      → SettlesKept facts program network (reply_of k).status (reply_of k).text
-  settle_keeps k h low = by_input h.judged h.reads (input_causes program network h.judged h.reads) h.ends
+-- a refusal has no low status
+refused_settles : {A : Type 0} (k : Judged Reply) (cause : Cause) → k ≡ Refused cause → CauseJudges cause
+    → (reply_of k).status ≤ 1 → A
+refused_settles k cause e c low =
+    let many = c.many in
+    let same : (reply_of k).status ≡ (reply_to cause).status = ap (λ j. (reply_of j).status) e in
+    absurd (omega (arith, many, low, same))
+
+-- a program and a scene that were read: its start is good, and a yes is kept on its network
+record IsRead (program network : List ℕ) (P : Program) (s : SceneValue) : Type 0 where
+  pub reads : ReadsInput program network (Accepted (unfolding_of P, s))
+  pub good : IsGood (unfolding_of P) (start_of s)
+  pub yes : KeepsYes P s.net
+
+module _ (law : YesStabilises) (start : InputsStart) (program network : List ℕ) (facts : Bool) where
+  is_read : (i : InputOf) (P : Program) → ReadsInput program network (Accepted i) → IsProgram P
+      → unfolding_of P ≡ i.0 → IsRead program network P i.1
+  is_read i P reads is unfolded =
+      let good : IsGood (unfolding_of P) (start_of i.1) =
+      subst (λ (V : Unfolding). IsGood V (start_of i.1)) (sym unfolded) (start program network i reads).good in
+      record {
+        reads = subst (λ (V : Unfolding). ReadsInput program network (Accepted (V, i.1))) (sym unfolded) reads;
+        good = good;
+        yes = λ k said. law P i.1.net k is good.net good.declared said;
+      }
+
+  -- from any exports
+  settle_keeps : SettleTimesHold → (k : Judged Reply) → Settles facts false program network k
+      → (reply_of k).status ≤ 1 → SettlesKept facts program network (reply_of k).status (reply_of k).text
+  settle_keeps hold k h low = by_input h.judged h.reads (input_causes program network h.judged h.reads) h.ends
     where
       by_input : (i : Judged InputOf) → ReadsInput program network i → IfRefused CauseJudges i
-          → AndThen i (λ i k. SettlesScene facts i.0 i.1 k) k
+          → AndThen i (λ i k. SettlesScene facts false i.0 i.1 k) k
           → SettlesKept facts program network (reply_of k).status (reply_of k).text
       by_input (Accepted i) r c e =
-          let fits = scene_fits fit program network i r in
-          let declared : i.1.net.declared ≡ e.nodes.declared =
-          fits.declared ∙ ap (λ (V : Unfolding). V.declared) (sym e.unfolded) in
+          let read = is_read i e.nodes r e.is_program e.unfolded in
+          let table : e.table ≡ any_table (unfolding_of e.nodes) = e.starts ∙ ap any_table (sym e.unfolded) in
+          let settled : k ≡ Accepted (settling_of facts e.nodes i.1.net (any_table (unfolding_of e.nodes))) =
+          e.settled ∙ ap (λ t. Accepted (settling_of facts e.nodes i.1.net t)) table in
           record {
             nodes = e.nodes;
             is_program = e.is_program;
             scene = i.1;
-            reads = subst (λ (V : Unfolding). ReadsInput program network (Accepted (V, i.1))) (sym e.unfolded) r;
-            well = hold e.nodes i.1.net e.is_program fits.net declared;
+            reads = read.reads;
+            yes = read.yes;
+            well = hold e.nodes i.1.net e.is_program read.good.net read.good.declared;
+            ends = ap (λ j. (reply_of j).status) settled;
+            writes = ap (λ j. (reply_of j).text) settled;
+          }
+      by_input (Refused cause) r c e = refused_settles k cause e c low
+
+  -- from the start of the scene
+  start_keeps : StartTimesHold → (k : Judged Reply) → Settles facts true program network k
+      → (reply_of k).status ≤ 1 → StartKept facts program network (reply_of k).status (reply_of k).text
+  start_keeps hold k h low = by_input h.judged h.reads (input_causes program network h.judged h.reads) h.ends
+    where
+      by_input : (i : Judged InputOf) → ReadsInput program network i → IfRefused CauseJudges i
+          → AndThen i (λ i k. SettlesScene facts true i.0 i.1 k) k
+          → StartKept facts program network (reply_of k).status (reply_of k).text
+      by_input (Accepted i) r c e =
+          let read = is_read i e.nodes r e.is_program e.unfolded in
+          let starts : StartsFrom true (unfolding_of e.nodes) i.1 e.table =
+          subst (λ (V : Unfolding). StartsFrom true V i.1 e.table) (sym e.unfolded) e.starts in
+          record {
+            nodes = e.nodes;
+            is_program = e.is_program;
+            scene = i.1;
+            reads = read.reads;
+            yes = read.yes;
+            table = e.table;
+            starts = starts;
+            from = hold e.nodes i.1.net e.is_program read.good.net read.good.declared (start_of i.1) read.good refl
+                e.table starts;
             ends = ap (λ j. (reply_of j).status) e.settled;
             writes = ap (λ j. (reply_of j).text) e.settled;
           }
-      by_input (Refused cause) r c e =
-          let many = c.many in
-          let same : (reply_of k).status ≡ (reply_to cause).status = ap (λ j. (reply_of j).status) e in
-          absurd (omega (arith, many, low, same))
+      by_input (Refused cause) r c e = refused_settles k cause e c low
 
 -- ---- answers
 refused_low : {A : Type 0} (j : Judged AnswerValue) (cause : Cause) → j ≡ Refused cause → 3 ≤ (reply_to cause).status
@@ -365,20 +425,26 @@ gen_keeps agree number devices workers None input j h zero =
     subst (λ x. Agrees number devices (answer_of x).text) (sym h.shows)
     (agree number devices h.least h.most h.gen h.gens)
 
-module _ (law : YesStabilises) (fit : AcceptedScenesFit) (hold : SettleTimesHold) (least : SolutionsAreLeast)
-    (run : RunsKeepYes) (agree : AllAgree) (log : MailsKeepYes) (driven : DrivenMailsKeepYes) where
+module _ (law : YesStabilises) (fit : AcceptedScenesFit) (start : InputsStart) (hold : SettleTimesHold)
+    (hold_from : StartTimesHold) (least : SolutionsAreLeast) (run : RunsKeepYes) (agree : AllAgree)
+    (log : MailsKeepYes) (driven : DrivenMailsKeepYes) where
   command_keeps : (command : Command) (input : List ℕ) (j : Judged AnswerValue)
       → AnswersWithin (limit_of command) command input j → IsAnswered command (answer_of j).status
       → Promises command (sections_of input) (answer_of j)
-  command_keeps (Check facts false) input j h zero =
+  command_keeps (Check facts None) input j h zero =
       input_keeps (Checks facts) ChecksYes (λ p n. check_keeps law fit p n facts) input j
-      (nat_lt MOST_BYTES (length input)) (λ e. subst (λ b. AnswersInput b (Check facts false) input j) e h)
-      (λ e. subst (λ b. AnswersInput b (Check facts false) input j) e h) zero
-  command_keeps (Check facts true) input j h low =
-      low_keeps (Settles facts) (SettlesKept facts) IsAtMostOne (λ n e. e)
-      (λ p n. settle_keeps hold fit p n facts) input j
-      (nat_lt MOST_BYTES (length input)) (λ e. subst (λ b. AnswersInput b (Check facts true) input j) e h)
-      (λ e. subst (λ b. AnswersInput b (Check facts true) input j) e h) low
+      (nat_lt MOST_BYTES (length input)) (λ e. subst (λ b. AnswersInput b (Check facts None) input j) e h)
+      (λ e. subst (λ b. AnswersInput b (Check facts None) input j) e h) zero
+  command_keeps (Check facts (Some Any)) input j h low =
+      low_keeps (Settles facts false) (SettlesKept facts) IsAtMostOne (λ n e. e)
+      (λ p n. settle_keeps law start p n facts hold) input j
+      (nat_lt MOST_BYTES (length input)) (λ e. subst (λ b. AnswersInput b (Check facts (Some Any)) input j) e h)
+      (λ e. subst (λ b. AnswersInput b (Check facts (Some Any)) input j) e h) low
+  command_keeps (Check facts (Some Table)) input j h low =
+      low_keeps (Settles facts true) (StartKept facts) IsAtMostOne (λ n e. e)
+      (λ p n. start_keeps law start p n facts hold_from) input j
+      (nat_lt MOST_BYTES (length input)) (λ e. subst (λ b. AnswersInput b (Check facts (Some Table)) input j) e h)
+      (λ e. subst (λ b. AnswersInput b (Check facts (Some Table)) input j) e h) low
   command_keeps Stable input j h zero =
       input_keeps Stabilised SolvesYes (stable_keeps law fit) input j
       (nat_lt MOST_BYTES (length input)) (λ e. subst (λ b. AnswersInput b Stable input j) e h)

@@ -26,7 +26,7 @@ use Rattle.fc_gen.specs.Laws.{OneGen}
 use Rattle.fc_run.specs.declared.runs.RunOptions.{RunOptions}
 use Rattle.fc_run.specs.Laws.{AlikeRuns, OneRun}
 use Rattle.fc_run.specs.Runs.{RanValue}
-use Rattle.fc_answers.specs.Asked.{reads, runs_threads}
+use Rattle.fc_answers.specs.Asked.{is_from_table, reads, runs_threads}
 use Rattle.fc_answers.specs.Stabilised.{Stabilised}
 use Rattle.fc_answers.specs.Answers.{AnswerValue, written, showing, running, generating, replied, answer_of, Formats, ShowsReplay, ShowsRun, WritesReply, WritesLogReply, AnswersMail}
 use Rattle.fc_answers.specs.Answers.{options_of, run_options, AnswersSections, AnswersInput, AnswersReading, AnswersUnread, AnswersWithin, AnswersAsked}
@@ -132,8 +132,9 @@ module _ (source : OneSource) (check : OneCheck) (settle : OneSettle) (stable : 
       → AnswersSections command ss k → Same (runs_threads command) j k
   same_sections Format ss j k h g = same_format ss j k h g
   same_sections (Replay rounds table) ss j k h g = same_replay (options_of rounds table) ss j k h g
-  same_sections (Check facts false) ss j k h g = same_reply (Checks facts) (check facts) ss j k h g
-  same_sections (Check facts true) ss j k h g = same_reply (Settles facts) (settle facts) ss j k h g
+  same_sections (Check facts None) ss j k h g = same_reply (Checks facts) (check facts) ss j k h g
+  same_sections (Check facts (Some start)) ss j k h g =
+      same_reply (Settles facts (is_from_table start)) (settle facts (is_from_table start)) ss j k h g
   same_sections Stable ss j k h g = same_reply Stabilised stable ss j k h g
   same_sections (Run workers log table) ss j k h g = same_run (run_options log table) ss j k h g
   same_sections (Gen number devices workers) ss j k h g = absurd h

@@ -31,7 +31,7 @@ use Rattle.fc_gen.specs.Laws.{SomeGen}
 use Rattle.fc_run.specs.declared.runs.RunOptions.{RunOptions}
 use Rattle.fc_run.specs.Laws.{SomeRun}
 use Rattle.fc_answers.specs.Stabilised.{Stabilised}
-use Rattle.fc_answers.specs.Asked.{limit_refusal, reads, MayAsk}
+use Rattle.fc_answers.specs.Asked.{is_from_table, limit_refusal, reads, MayAsk}
 use Rattle.fc_answers.specs.Answers.{AnswerValue, written, showing, running, generating, replied, answer_of, Formats, ShowsReplay, ShowsRun, WritesReply, WritesLogReply, AnswersMail}
 use Rattle.fc_answers.specs.Answers.{options_of, run_options, AnswersSections, AnswersInput, AnswersReading, AnswersWithin, AnswersAsked}
 use Rattle.fc_answers.specs.Laws.{SomeAnswer}
@@ -113,8 +113,9 @@ module _ (source : OneSource) (within : SectionsAreWithin) (check : SomeCheck) (
       → IsJudgedSo (AnswersSections command ss)
   some_sections Format read ss w = some_format ss
   some_sections (Replay rounds table) read ss w = some_shown (options_of rounds table) ss w
-  some_sections (Check facts false) read ss w = some_reply (Checks facts) (check facts) ss w
-  some_sections (Check facts true) read ss w = some_reply (Settles facts) (settle facts) ss w
+  some_sections (Check facts None) read ss w = some_reply (Checks facts) (check facts) ss w
+  some_sections (Check facts (Some start)) read ss w =
+      some_reply (Settles facts (is_from_table start)) (settle facts (is_from_table start)) ss w
   some_sections Stable read ss w = some_reply Stabilised stable ss w
   some_sections (Run workers log table) read ss w = some_ran (run_options log table) ss w
   some_sections (Gen number devices workers) read ss w = absurd cc

@@ -17,9 +17,10 @@ use Rattle.fc_inputs.specs.Refusals.{Reply}
 use Rattle.fc_inputs.specs.Causes.{Cause, Judged, Accepted, Refused, AndThen}
 use Rattle.fc_inputs.specs.Inputs.{InputOf, OneInput, ReadsInput}
 use Rattle.fc_check.specs.Checks.{ChecksScene, checked_of, verdict_status}
-use Rattle.fc_check.specs.Laws.{OneCheck, SomeCheck}
+use Rattle.fc_check.specs.Laws.{SomeCheck}
+use Rattle.fc_check.proofs.SamePrograms.{checked_alike}
 use Rattle.stable_field.proofs.OneField.{one_field}
-use Rattle.fc_trace.proofs.Scenes.{scene_fits, one_verdict}
+use Rattle.fc_trace.proofs.Scenes.{scene_fits}
 use Rattle.fc_answers.specs.Stabilised.{StabilisedBy, StabilisesScene, Stabilised}
 
 -- ---- one reply
@@ -45,29 +46,28 @@ module _ (P Q : Program) (N : Network) (r q : Reply) (same : unfolding_of P ≡ 
       absurd (cc none)
   one_reply (verdict.No place why) (verdict.No other because) e f h g = h ∙ alike ∙ sym g
 
-module _ (check : OneCheck) (program network : List ℕ) (U : Unfolding) (s : SceneValue)
-    (reads : ReadsInput program network (Accepted (U, s))) where
-  one_scene : (j k : Judged Reply) → StabilisesScene U s j → StabilisesScene U s k → j ≡ k
-  one_scene j k h g =
-      let alike = one_verdict check program network U s reads h.nodes g.nodes h.is_program g.is_program h.unfolded
-      g.unfolded in
-      h.is
-      ∙ ap Accepted (one_reply h.nodes g.nodes s.net h.reply g.reply (h.unfolded ∙ sym g.unfolded) alike
-      (verdict_of h.nodes (length s.net.devices)) (verdict_of g.nodes (length s.net.devices)) refl refl h.writes
-      g.writes)
-      ∙ sym g.is
+one_scene : (U : Unfolding) (s : SceneValue) (j k : Judged Reply) → StabilisesScene U s j → StabilisesScene U s k
+    → j ≡ k
+one_scene U s j k h g =
+    let n = length s.net.devices in
+    let same : unfolding_of h.nodes ≡ unfolding_of g.nodes = h.unfolded ∙ sym g.unfolded in
+    h.is
+    ∙ ap Accepted (one_reply h.nodes g.nodes s.net h.reply g.reply same
+    (checked_alike false h.nodes g.nodes h.is_program g.is_program same n) (verdict_of h.nodes n)
+    (verdict_of g.nodes n) refl refl h.writes g.writes)
+    ∙ sym g.is
 
-pub one_stable : OneCheck → OneInput → (program network : List ℕ) (j k : Judged Reply) → Stabilised program network j
+pub one_stable : OneInput → (program network : List ℕ) (j k : Judged Reply) → Stabilised program network j
     → Stabilised program network k → j ≡ k
-one_stable check input program network j k h g =
+one_stable input program network j k h g =
     let one = input program network in
     let same : h.judged ≡ g.judged = one.2 h.judged h.reads ∙ sym (one.2 g.judged g.reads) in
-    by_input g.judged g.reads (subst (λ i. AndThen i (λ i k. StabilisesScene i.0 i.1 k) j) same h.ends) g.ends
+    by_input g.judged (subst (λ i. AndThen i (λ i k. StabilisesScene i.0 i.1 k) j) same h.ends) g.ends
   where
-    by_input : (i : Judged InputOf) → ReadsInput program network i → AndThen i (λ i k. StabilisesScene i.0 i.1 k) j
+    by_input : (i : Judged InputOf) → AndThen i (λ i k. StabilisesScene i.0 i.1 k) j
         → AndThen i (λ i k. StabilisesScene i.0 i.1 k) k → j ≡ k
-    by_input (Refused cause) r e f = e ∙ sym f
-    by_input (Accepted i) r e f = one_scene check program network i.0 i.1 r j k e f
+    by_input (Refused cause) e f = e ∙ sym f
+    by_input (Accepted i) e f = one_scene i.0 i.1 j k e f
 
 -- ---- something
 module _ (law : YesStabilises) (P : Program) (is : IsProgram P) (N : Network) where

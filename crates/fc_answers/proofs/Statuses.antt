@@ -45,7 +45,7 @@ use Rattle.fc_replay.specs.declared.replays.Options.{Options}
 use Rattle.fc_replay.specs.Stopping.{fault_in, first_stop}
 use Rattle.fc_replay.specs.Replays.{start_of, Shown, ReplaysEntries, ReplaysLog, Replays}
 use Rattle.fc_values.specs.declared.limits.TheConstants.{MOST_BYTES}
-use Rattle.fc_answers.specs.Asked.{reads, limit_refusal}
+use Rattle.fc_answers.specs.Asked.{reads, is_from_table, limit_refusal}
 use Rattle.fc_run.specs.declared.runs.RunOptions.{RunOptions}
 use Rattle.fc_run.specs.Runs.{RanValue, Runs, RunsScript, line_refusal}
 use Rattle.edit_commands.specs.Scripts.{Script, TooManyLines, Within, OfLine, OfScrambles, OfFirings, script_of}
@@ -273,13 +273,14 @@ time_judges : (o : Option ℕ) → JudgesBy (settle_status o)
 time_judges (Some rounds) = by_zero
 time_judges None = by_one
 
-settle_replies : (facts : Bool) (program network : List ℕ) (j : Judged Reply) → Settles facts program network j
-    → ReplyJudges j
-settle_replies facts program network j h = by_input h.judged (input_causes program network h.judged h.reads) h.ends
+settle_replies : (facts from_table : Bool) (program network : List ℕ) (j : Judged Reply)
+    → Settles facts from_table program network j → ReplyJudges j
+settle_replies facts from_table program network j h =
+    by_input h.judged (input_causes program network h.judged h.reads) h.ends
   where
-    by_input : (i : Judged InputOf) → IfRefused CauseJudges i → AndThen i (λ i k. SettlesScene facts i.0 i.1 k) j
-        → ReplyJudges j
-    by_input (Accepted i) c e = subst ReplyJudges (sym e.settled) (time_judges (time_of e.nodes i.1.net))
+    by_input : (i : Judged InputOf) → IfRefused CauseJudges i
+        → AndThen i (λ i k. SettlesScene facts from_table i.0 i.1 k) j → ReplyJudges j
+    by_input (Accepted i) c e = subst ReplyJudges (sym e.settled) (time_judges (time_of e.nodes i.1.net e.table))
     by_input (Refused cause) c e = subst ReplyJudges (sym e) c
 
 mail_lines_judge : (U : Unfolding) (start : MailCore) (lines : Lines (Unit {0}) MailEntryValue) (j : Judged Reply) → MailsLines U start lines j
@@ -357,8 +358,9 @@ sections_judge : (command : Command) (ss : List (List ℕ)) (j : Judged AnswerVa
     → JudgesWell j
 sections_judge Format ss j h = format_judges ss j h
 sections_judge (Replay rounds table) ss j h = replay_judges (options_of rounds table) ss j h
-sections_judge (Check facts false) ss j h = reply_judges (Checks facts) (check_replies facts) ss j h
-sections_judge (Check facts true) ss j h = reply_judges (Settles facts) (settle_replies facts) ss j h
+sections_judge (Check facts None) ss j h = reply_judges (Checks facts) (check_replies facts) ss j h
+sections_judge (Check facts (Some start)) ss j h =
+    reply_judges (Settles facts (is_from_table start)) (settle_replies facts (is_from_table start)) ss j h
 sections_judge Stable ss j h = reply_judges Stabilised stable_replies ss j h
 sections_judge (Run workers log table) ss j h = run_judges (run_options log table) ss j h
 sections_judge (Gen number devices workers) ss j h = absurd h

@@ -23,7 +23,7 @@ use Rattle.fc_gen.specs.Gens.{GenValue, Gens}
 use Rattle.fc_run.specs.declared.runs.RunOptions.{RunOptions}
 use Rattle.fc_run.specs.Runs.{RanValue, Runs}
 use Rattle.fc_values.specs.declared.limits.TheConstants.{MOST_BYTES, MOST_SCENARIO_DEVICES}
-use Rattle.fc_answers.specs.Asked.{reads, limit_refusal}
+use Rattle.fc_answers.specs.Asked.{reads, is_from_table, limit_refusal}
 use Rattle.fc_settle.specs.Settles.{Settles}
 use Rattle.fc_trace.specs.Traces.{Traces}
 use Rattle.fc_answers.specs.Stabilised.{Stabilised}
@@ -114,8 +114,9 @@ run_options log table = record { log = log; table = table }
 abbrev pub AnswersSections : Command → List (List ℕ) → Judged AnswerValue → Type 0
 AnswersSections Format sections j = WithOne Formats sections j
 AnswersSections (Replay rounds table) sections j = WithThree (ShowsReplay (options_of rounds table)) sections j
-AnswersSections (Check facts false) sections j = WithTwo (WritesReply (Checks facts)) sections j
-AnswersSections (Check facts true) sections j = WithTwo (WritesReply (Settles facts)) sections j
+AnswersSections (Check facts None) sections j = WithTwo (WritesReply (Checks facts)) sections j
+AnswersSections (Check facts (Some start)) sections j =
+    WithTwo (WritesReply (Settles facts (is_from_table start))) sections j
 AnswersSections Stable sections j = WithTwo (WritesReply Stabilised) sections j
 AnswersSections (Run workers log table) sections j = WithThree (ShowsRun (run_options log table)) sections j
 AnswersSections (Gen number devices workers) sections j = ⊥

@@ -6,6 +6,8 @@ use Rattle.command_words.specs.declared.commands.Command.TheVariants.{Check, Sta
 use Rattle.command_words.specs.declared.commands.Command.TheVariants.{Format, Gen, Trace, Mail}
 use Rattle.command_words.specs.declared.commands.Limit.{Limit}
 use Rattle.command_words.specs.declared.commands.Limit.TheVariants.{Workers, Devices}
+use Rattle.command_words.specs.declared.commands.Start.{Start}
+use Rattle.command_words.specs.declared.commands.Start.TheVariants.{Any, Table}
 use Rattle.command_words.specs.Commands.{IsCommand, limit_of}
 use Rattle.fc_inputs.specs.declared.refusal.Refusal.{Refusal}
 use Rattle.fc_inputs.specs.declared.refusal.Refusal.TheVariants as refusal
@@ -31,6 +33,11 @@ runs_threads (Check facts settle) = false
 runs_threads Stable = false
 runs_threads Trace = false
 runs_threads (Mail number) = false
+
+-- whether settle rounds are counted from the scene's table and copies in flight
+abbrev pub is_from_table : Start → Bool
+is_from_table Any = false
+is_from_table Table = true
 
 -- the refusal of a number of the words that is past its limit
 abbrev pub limit_refusal : Limit → ℕ → Refusal

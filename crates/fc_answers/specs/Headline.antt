@@ -1,24 +1,29 @@
 -- What a yes promises: within its rounds the program stabilises on the scene's network, and on those that a script
 -- makes.
-use Rattle.std.specs.Prelude.{ℕ, Bool, true, false, ◌≡◌, ◌≤◌}
+use Rattle.std.specs.Prelude.{ℕ, Bool, ◌≡◌, ◌≤◌}
 use Rattle.std.specs.Prelude.{◌++◌, List, [], ◌∷◌, length, map, Option, Some, None}
 use Rattle.fc_values.specs.Fields.{Entries}
 use Rattle.fc_nodes.specs.Program.{IsProgram, Program, unfolding_of}
 use Rattle.fc_nodes.specs.declared.verdicts.Verdict.TheVariants as verdict
-use Rattle.topology.specs.Networks.{Lives, numbers}
+use Rattle.topology.specs.Networks.{Network, Lives, numbers}
 use Rattle.walks.specs.Walks.{AreTraced, CostsValue, EvidenceValue}
 use Rattle.walk_form.specs.Costs.{AreCostsOf}
 use Rattle.walk_form.specs.Laws.{IsLeastAt}
 use Rattle.fragment_check.specs.Verdicts.{verdict_of}
 use Rattle.converge_laws.specs.Stabilising.{Stabilises}
 use Rattle.net_json.specs.Scenes.{SceneValue}
+use Rattle.bound_rounds.specs.Rounds.{BoundTable}
+use Rattle.settle_rounds.specs.Rounds.{any_table}
+use Rattle.settle_rounds.specs.Starts.{StartTable, growing_cap}
 use Rattle.settle_rounds.specs.SettleTimes.{SettlesWell}
+use Rattle.settle_rounds.specs.StartTimes.{SettlesFrom}
 use Rattle.report.specs.Settling.{settling_text}
 use Rattle.report.specs.Texts.{field_text}
 use Rattle.report.specs.Verdicts.{verdict_text}
 use Rattle.command_words.specs.declared.commands.Command.{Command}
 use Rattle.command_words.specs.declared.commands.Command.TheVariants.{Check, Stable, Run, Replay}
 use Rattle.command_words.specs.declared.commands.Command.TheVariants.{Format, Gen, Trace, Mail}
+use Rattle.command_words.specs.declared.commands.Start.TheVariants.{Any, Table}
 use Rattle.fc_inputs.specs.Causes.{Accepted}
 use Rattle.fc_check.specs.Checks.{checked_of}
 use Rattle.fc_settle.specs.Settles.{settle_status, settled_devices, time_of}
@@ -27,6 +32,7 @@ use Rattle.fc_inputs.specs.Inputs.{ReadsInput}
 use Rattle.fc_inputs.specs.Sections.{sections_of}
 use Rattle.fc_gen.specs.Laws.{Agrees}
 use Rattle.fc_mail.specs.Laws.{DrivenMailKeepsYes, MailKeepsYes}
+use Rattle.fc_replay.specs.Replays.{start_of}
 use Rattle.fc_run.specs.declared.runs.RunOptions.{RunOptions}
 use Rattle.fc_run.specs.Laws.{RunKeepsYes}
 use Rattle.fc_run.specs.Runs.{RanValue}
@@ -54,18 +60,39 @@ pub record ChecksYes (program network text : List ℕ) : Type 0 where
   pub facts : List ℕ
   pub writes : text ≡ verdict_text (verdict.Yes yes.rounds) ++ facts
 
--- `check --settle` writes behind the text of the verdict the settle time of the scene's network, and for each device its
--- settle round and its value then; or that the network is open, with the same lines. These rounds and this time are as
--- good as they say: they lead from every good core to these values
+-- a yes for the devices of a network is kept there: within its rounds the program stabilises
+abbrev pub KeepsYes : Program → Network → Type 0
+KeepsYes P N = (K : ℕ) → verdict_of P (length N.devices) ≡ verdict.Yes K → Stabilises (unfolding_of P) N K
+
+-- `check --settle` writes behind the text of the verdict the settle time of the scene's network, and for each device
+-- its settle round and its value then; or that the network is open, with the same lines. These rounds and this time are
+-- as good as they say: they lead from every good core to these values
 pub record SettlesKept (facts : Bool) (program network : List ℕ) (status : ℕ) (text : List ℕ) : Type 0 where
   pub nodes : Program
   pub is_program : IsProgram nodes
   pub scene : SceneValue
   pub reads : ReadsInput program network (Accepted (unfolding_of nodes, scene))
+  pub yes : KeepsYes nodes scene.net
   pub well : SettlesWell nodes scene.net
-  pub ends : status ≡ settle_status (time_of nodes scene.net)
+  pub ends : status ≡ settle_status (time_of nodes scene.net (any_table (unfolding_of nodes)))
   pub writes : text ≡ (checked_of facts nodes (length scene.net.devices)).text
-      ++ settling_text (time_of nodes scene.net) (settled_devices nodes scene.net)
+      ++ settling_text (time_of nodes scene.net (any_table (unfolding_of nodes)))
+      (settled_devices nodes scene.net (any_table (unfolding_of nodes)))
+
+-- `check --settle --from-table` writes the same where rounds are counted from the start of the scene, its table and its
+-- copies in flight: they lead from there to these values
+pub record StartKept (facts : Bool) (program network : List ℕ) (status : ℕ) (text : List ℕ) : Type 0 where
+  pub nodes : Program
+  pub is_program : IsProgram nodes
+  pub scene : SceneValue
+  pub reads : ReadsInput program network (Accepted (unfolding_of nodes, scene))
+  pub yes : KeepsYes nodes scene.net
+  pub table : BoundTable
+  pub starts : StartTable (unfolding_of nodes) scene.net (growing_cap (length scene.net.devices)) (start_of scene) table
+  pub from : SettlesFrom nodes scene.net (start_of scene) table
+  pub ends : status ≡ settle_status (time_of nodes scene.net table)
+  pub writes : text ≡ (checked_of facts nodes (length scene.net.devices)).text
+      ++ settling_text (time_of nodes scene.net table) (settled_devices nodes scene.net table)
 
 -- `stable` writes the one field
 pub record SolvesYes (program network text : List ℕ) : Type 0 where
@@ -114,14 +141,17 @@ MailPromises (Some number) sections answer =
 
 -- the statuses of answers that promise something: `check --settle` ends with 1 where the network is open
 abbrev pub IsAnswered : Command → ℕ → Type 0
-IsAnswered (Check facts true) status = status ≤ 1
+IsAnswered (Check facts (Some start)) status = status ≤ 1
 IsAnswered command status = status ≡ 0
 
 -- what a command promises of an answer with such a status to these sections
 abbrev pub Promises : Command → List (List ℕ) → AnswerValue → Type 0
-Promises (Check facts false) sections answer = OfTwo (λ program network. ChecksYes program network answer.text) sections
-Promises (Check facts true) sections answer =
+Promises (Check facts None) sections answer =
+    OfTwo (λ program network. ChecksYes program network answer.text) sections
+Promises (Check facts (Some Any)) sections answer =
     OfTwo (λ program network. SettlesKept facts program network answer.status answer.text) sections
+Promises (Check facts (Some Table)) sections answer =
+    OfTwo (λ program network. StartKept facts program network answer.status answer.text) sections
 Promises Stable sections answer = OfTwo (λ program network. SolvesYes program network answer.text) sections
 Promises Format sections answer = Unit {0}
 Promises (Replay rounds table) sections answer = Unit {0}

@@ -9,6 +9,7 @@ ghost use Rattle.fc_answers.specs.Asked.{reads};
 ghost use Rattle.fc_answers.specs.Code.{value_of};
 ghost use Rattle.fc_values.specs.declared.limits.TheConstants.{MOST_BYTES};
 
+use crate::asked::is_from_table;
 use crate::stabilised::stabilised;
 use command_words::Command;
 use export_table::Gate;
@@ -134,17 +135,18 @@ pub fn answer_to<W: Threads + Wait + Sync, G: Gate + Sync>(
         }
         Command::Check {
             facts,
-            settle: false,
+            settle: None,
         } => {
             let (program, network) = two_sections(&sections)?;
             Ok(Answer::replied(alloc, check(alloc, facts, program, network)?))
         }
         Command::Check {
             facts,
-            settle: true,
+            settle: Some(start),
         } => {
             let (program, network) = two_sections(&sections)?;
-            Ok(Answer::replied(alloc, settled(alloc, facts, program, network)?))
+            let from_table = is_from_table(start);
+            Ok(Answer::replied(alloc, settled(alloc, facts, from_table, program, network)?))
         }
         Command::Stable => {
             let (program, network) = two_sections(&sections)?;

@@ -2,9 +2,9 @@
 ghost use Rattle.std.specs.Prelude.{◌≡◌, ◌≤◌, option_map};
 ghost use Rattle.fc_values.specs.declared.limits.TheConstants.{MOST_WORKERS};
 ghost use Rattle.command_words.specs.Commands.{limit_of};
-ghost use Rattle.fc_answers.specs.Asked.{limit_refusal, reads as reads_of, workers_asked};
+ghost use Rattle.fc_answers.specs.Asked.{is_from_table, limit_refusal, reads as reads_of, workers_asked};
 
-use command_words::{Command, Limit, passed_limit};
+use command_words::{Command, Limit, Start, passed_limit};
 use fc_inputs::Refusal;
 use fc_values::MOST_WORKERS;
 
@@ -13,6 +13,13 @@ pub fn reads(command: Command) -> bool
     ensures { result ≡ reads_of command }
 {
     !matches!(command, Command::Gen { .. })
+}
+
+/// Whether settle rounds are counted from the scene's table and copies in flight.
+pub fn is_from_table(start: Start) -> bool
+    ensures { result ≡ is_from_table start }
+{
+    matches!(start, Start::Table)
 }
 
 // The refusal of a number that is past a limit.

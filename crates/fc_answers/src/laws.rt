@@ -7,12 +7,12 @@ use fc_check::{one_check, some_check};
 use fc_gen::{all_agree, one_gen, some_gen};
 use fc_inputs::{one_input, one_source, sections_are_within};
 use fc_mail::{mails_keep_yes, one_mail, some_mail};
-use fc_replay::{one_replay, some_replay};
+use fc_replay::{inputs_start, one_replay, some_replay};
 use fc_run::{one_run, runs_keep_yes, some_run};
 use fc_settle::{one_settle, some_settle};
 use fc_trace::{one_traced, some_traced};
 use net_json::accepted_scenes_fit;
-use settle_rounds::settle_times_hold;
+use settle_rounds::{settle_times_hold, start_times_hold};
 use walk_form::solutions_are_least;
 
 /// Two answers to one input have one status and one text; where threads make the log, one text for logs that agree.
@@ -57,15 +57,18 @@ pub fn answer_statuses()
 /// `trace` the least costs, which are the values of that field, with the best walks. Where `run` answers with status 0,
 /// and the verdict on a network that its lines make is a yes, the program stabilises on it, and what a `show` writes
 /// after as many rounds is its one field there. The settle rounds and the settle time that `check --settle` writes lead
-/// every device on the scene's network to the values that stand beside them, also of a network that is open. `gen`
-/// writes that each device agrees with the one field of its scenario. What `mail` writes of a number, and of a log with
-/// as many rounds, is the one field too.
+/// every device on the scene's network to the values that stand beside them, also of a network that is open, from every
+/// good start; those that `check --settle --from-table` writes do so from the start of the scene. `gen` writes that
+/// each device agrees with the one field of its scenario. What `mail` writes of a number, and of a log with as many
+/// rounds, is the one field too.
 pub fn answers_keep()
     ensures { AnswersKeep }
 {
     yes_stabilises();
     accepted_scenes_fit();
+    inputs_start();
     settle_times_hold();
+    start_times_hold();
     solutions_are_least();
     runs_keep_yes();
     all_agree();

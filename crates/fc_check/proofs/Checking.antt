@@ -9,13 +9,14 @@ use Rattle.fc_inputs.specs.Sources.{IsProgramText, ReadsProgram}
 use Rattle.fc_inputs.specs.Inputs.{InputOf, OneInput, ReadsInput, TextsUnfold, with_scene}
 use Rattle.fc_check.specs.Checks.{Checks, ChecksScene, checked_of}
 use Rattle.fc_check.specs.Laws.{OneCheck, SomeCheck}
-use Rattle.fc_check.proofs.SamePrograms.{alike, one_reply}
+use Rattle.fc_check.proofs.SamePrograms.{checked_alike}
 
 -- ---- one thing
 one_scene : (facts : Bool) (U : Unfolding) (s : SceneValue) (j k : Judged Reply) → ChecksScene facts U s j → ChecksScene facts U s k → j ≡ k
 one_scene facts U s j k h g =
     h.checked
-    ∙ ap Accepted (one_reply h.nodes g.nodes (alike h.nodes g.nodes h.is_program g.is_program (h.unfolded ∙ sym g.unfolded)) (length s.net.devices) facts)
+    ∙ ap Accepted (checked_alike facts h.nodes g.nodes h.is_program g.is_program (h.unfolded ∙ sym g.unfolded)
+    (length s.net.devices))
     ∙ sym g.checked
 
 one_end : (facts : Bool) (i : Judged InputOf) (j k : Judged Reply) → AndThen i (λ i k. ChecksScene facts i.0 i.1 k) j → AndThen i (λ i k. ChecksScene facts i.0 i.1 k) k → j ≡ k

@@ -1,4 +1,5 @@
--- Two programs that unfold one program are checked alike: their nodes differ at most in how memory holds them.
+-- Crates above cite this module: two programs that unfold one program are checked alike, since their nodes differ at
+-- most in how memory holds them.
 use Rattle.std.proofs.Common.{ℕ, zero, suc, ◌≡◌, ◌<◌, ◌≤◌, ◌+◌, ◌-◌, Bool, true, false, List, ◌++◌, length, refl, ap, ap₂, ◌∙◌, sym, subst, arith, Option, None}
 use Rattle.std.specs.Prelude.{slice_index_or as get_or, nat_lt}
 use Rattle.std.proofs.Math.Path.{fun_ext}
@@ -134,3 +135,7 @@ module _ (P Q : Program) (h : Alike P Q) (n : ℕ) where
     where
       the : Reply → Reply
       the r = r
+
+pub checked_alike : (facts : Bool) (P Q : Program) → IsProgram P → IsProgram Q → unfolding_of P ≡ unfolding_of Q
+    → (n : ℕ) → checked_of facts P n ≡ checked_of facts Q n
+checked_alike facts P Q is other same n = one_reply P Q (alike P Q is other same) n facts

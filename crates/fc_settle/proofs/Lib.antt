@@ -1,2 +1,3 @@
-mod Settling
 mod Lines
+mod SameRounds
+mod Settling

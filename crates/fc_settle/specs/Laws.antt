@@ -7,11 +7,11 @@ use Rattle.fc_settle.specs.Settles.{Settles}
 
 abbrev pub OneSettle : Type 0
 OneSettle =
-    (facts : Bool) (program network : List ℕ) (j k : Judged Reply) → Settles facts program network j
-    → Settles facts program network k → j ≡ k
+    (facts from_table : Bool) (program network : List ℕ) (j k : Judged Reply)
+    → Settles facts from_table program network j → Settles facts from_table program network k → j ≡ k
 
 -- texts, of which that of the program is within the limit, settle to something
 abbrev pub SomeSettle : Type 0
 SomeSettle =
-    (facts : Bool) (program network : List ℕ) → length program ≤ MOST_BYTES
-    → (j : Judged Reply) × Settles facts program network j
+    (facts from_table : Bool) (program network : List ℕ) → length program ≤ MOST_BYTES
+    → (j : Judged Reply) × Settles facts from_table program network j

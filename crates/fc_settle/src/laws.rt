@@ -2,16 +2,19 @@
 
 ghost use Rattle.fc_settle.specs.Laws.{OneSettle, SomeSettle};
 
-use fc_check::{one_check, one_verdict, some_check};
+use fc_check::{one_verdict, some_check};
 use fc_inputs::one_input;
+use fc_replay::inputs_start;
+use settle_rounds::starts_hold;
 
 /// Texts settle to one thing.
 pub fn one_settle()
     ensures { OneSettle }
 {
     one_input();
-    one_check();
     one_verdict();
+    inputs_start();
+    starts_hold();
 }
 
 /// Texts settle to something.
@@ -19,4 +22,6 @@ pub fn some_settle()
     ensures { SomeSettle }
 {
     some_check();
+    inputs_start();
+    starts_hold();
 }

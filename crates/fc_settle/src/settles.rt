@@ -1,22 +1,29 @@
 //! What `check --settle` makes of a program and a scene.
 
-ghost use Rattle.std.specs.Prelude.{◌≡◌, ◌≤◌, ◌++◌, IfErr, IfOk, OnOk, length, map, option_map};
+ghost use Rattle.std.specs.Prelude.{◌≡◌, ◌≤◌, ◌++◌, IfErr, IfOk, OnOk, flat_map, length, map, option_map, true, zip};
 ghost use Rattle.fc_values.specs.Values.{local_of};
-ghost use Rattle.fc_nodes.specs.Program.{IsProgram};
+ghost use Rattle.fc_nodes.specs.Program.{IsProgram, unfolding_of};
 ghost use Rattle.fc_inputs.specs.Causes.{Accepted, Refused};
 ghost use Rattle.fc_inputs.specs.Stops.{StopsFor};
 ghost use Rattle.fc_values.specs.declared.limits.TheConstants.{MOST_BYTES};
 ghost use Rattle.settle_rounds.specs.References.{settled_in};
+ghost use Rattle.settle_rounds.specs.Rounds.{any_table};
+ghost use Rattle.net_json.specs.SceneCode.{AreCopies, AreRows, value_of_scene};
+ghost use Rattle.report.specs.Settling.{settled_device_text};
 ghost use Rattle.topology.specs.Networks.{numbers};
-ghost use Rattle.fc_settle.specs.Settles.{Settles, lines_of, settle_status, settling_of};
+ghost use Rattle.fc_settle.specs.Code.{SettlesBy, settled_reply};
+ghost use Rattle.fc_settle.specs.Settles.{Settles, settle_status, settling_of};
 
 use fc_check::verdict_text;
 use fc_inputs::{Reply, Stop, read_input};
-use fc_nodes::Unfolded;
+use fc_nodes::{Unfolded, Verdict};
+use fc_replay::start;
 use fc_values::{Local, Memory};
+use net_json::Scene;
 use report::{settle_line, settled_device};
-use settle_rounds::{Settled, settle, settle_cap, settle_time};
+use settle_rounds::{Settled, settle, settle_cap, settle_from, settle_time};
 use std::alloc::Global;
+use std::sync::Arc;
 use topology::Network;
 
 // A settle round and its value, to be shown.
@@ -37,8 +44,8 @@ fn write_devices(
     settled: &[Option<Settled>],
 ) -> Result<(), Memory>
     requires { length settled.now ≡ length net.now.devices }
-    ensures { OnOk result (out.new.items ≡ out.old.items
-        ++ lines_of (numbers net.now.devices) (map (option_map settled_in) settled.now)) }
+    ensures { OnOk result (out.new.items ≡ out.old.items ++ flat_map settled_device_text
+        (zip (numbers net.now.devices) (map (option_map settled_in) settled.now))) }
 {
     for (place, device) in net.devices().iter().enumerate() {
         settled_device(alloc, out, device.id, shown(&settled[place]))?;
@@ -56,29 +63,82 @@ fn status(time: Option<u64>) -> u8
     }
 }
 
-// The verdict's text, and after how many rounds the devices of a network settle.
-fn settling(alloc: Global, facts: bool, program: &Unfolded, net: &Network) -> Result<Reply, Memory>
-    requires program { IsProgram program.now }
-    requires declared { net.now.declared ≡ program.now.declared }
-    ensures { IfOk result (λ r. r ≡ settling_of facts program.now net.now) }
+// The reply of a verdict's text, and of what each device settles to.
+fn settled_reply(
+    alloc: Global,
+    verdict: Verdict,
+    mut text: Vec<u8>,
+    net: &Network,
+    settled: &[Option<Settled>],
+) -> Result<Reply, Memory>
+    requires { length settled.now ≡ length net.now.devices }
+    ensures { IfOk result (λ r. r ≡ settled_reply verdict text.items (numbers net.now.devices)
+        (map (option_map settled_in) settled.now)) }
 {
-    let devices = net.devices().len();
-    let (verdict, mut text) = verdict_text(alloc, facts, program, devices as u32)?;
-    let settled = settle(alloc, program, net, settle_cap(verdict, devices))?;
-    let time = settle_time(verdict, &settled);
+    let time = settle_time(verdict, settled);
     settle_line(alloc, &mut text, time)?;
-    write_devices(alloc, &mut text, net, &settled)?;
+    write_devices(alloc, &mut text, net, settled)?;
     Ok(Reply::new(status(time), text))
 }
 
-/// What `check --settle` writes of the texts of a program and a scene, and its status.
-pub fn settled(alloc: Global, facts: bool, program: &[u8], network: &[u8]) -> Result<Reply, Stop>
+// The verdict's text, and after how many rounds the devices of a network settle, from any exports.
+fn settle_any(
+    alloc: Global,
+    facts: bool,
+    program: &Unfolded,
+    net: &Network,
+) -> Result<Reply, Memory>
+    requires program { IsProgram program.now }
+    requires declared { net.now.declared ≡ program.now.declared }
+    ensures { IfOk result (λ r. r ≡ settling_of facts program.now net.now (any_table (unfolding_of program.now))) }
+{
+    let devices = net.devices().len();
+    let (verdict, text) = verdict_text(alloc, facts, program, devices as u32)?;
+    let settled = settle(alloc, program, net, settle_cap(verdict, devices))?;
+    settled_reply(alloc, verdict, text, net, &settled)
+}
+
+// The same from the table and the copies in flight of a scene.
+fn settle_scene(
+    alloc: Global,
+    facts: bool,
+    program: Unfolded,
+    scene: Scene,
+) -> Result<Reply, Memory>
+    requires program { IsProgram program }
+    requires declared { scene.net.declared ≡ program.declared }
+    requires rows { AreRows (unfolding_of program) scene.net scene.table.items }
+    requires copies { AreCopies (unfolding_of program) scene.net scene.pending.items }
+    ensures { IfOk result (SettlesBy facts true program (value_of_scene (unfolding_of program) scene)) }
+{
+    let program = Arc::new(alloc, program)?;
+    let mut core = start(alloc, &program, scene)?;
+    let devices = core.net().devices().len();
+    let (verdict, text) = verdict_text(alloc, facts, &program, devices as u32)?;
+    let settled = settle_from(alloc, &mut core, settle_cap(verdict, devices))?;
+    settled_reply(alloc, verdict, text, core.net(), &settled)
+}
+
+/// What `check --settle` writes of the texts of a program and a scene, and its status: settle rounds are counted from
+/// any exports, or from those of the scene's table and copies in flight.
+pub fn settled(
+    alloc: Global,
+    facts: bool,
+    from_table: bool,
+    program: &[u8],
+    network: &[u8],
+) -> Result<Reply, Stop>
     requires { length program.now ≤ MOST_BYTES }
-    ensures settles { IfOk result (λ r. Settles facts program.now network.now (Accepted r)) }
-    ensures refused { IfErr result (StopsFor (λ cause. Settles facts program.now network.now (Refused cause))) }
+    ensures settles { IfOk result (λ r. Settles facts from_table program.now network.now (Accepted r)) }
+    ensures refused { IfErr result (StopsFor (λ cause.
+        Settles facts from_table program.now network.now (Refused cause))) }
 {
     let (program, scene) = read_input(alloc, program, network)?;
     // Its clause: the nodes are a program.
     let _size = program.size();
-    Ok(settling(alloc, facts, &program, &scene.net)?)
+    if from_table {
+        Ok(settle_scene(alloc, facts, program, scene)?)
+    } else {
+        Ok(settle_any(alloc, facts, &program, &scene.net)?)
+    }
 }

@@ -18,10 +18,11 @@ use Rattle.fc_inputs.specs.Refusals.{Reply}
 use Rattle.fc_inputs.specs.Causes.{Cause, Judged, Accepted, Refused, AndThen}
 use Rattle.fc_inputs.specs.Inputs.{InputOf, OneInput, ReadsInput}
 use Rattle.fc_check.specs.Checks.{ChecksScene, verdict_status}
-use Rattle.fc_check.specs.Laws.{OneCheck, SomeCheck}
+use Rattle.fc_check.specs.Laws.{SomeCheck}
+use Rattle.fc_check.proofs.SamePrograms.{checked_alike}
 use Rattle.fc_trace.specs.Texts.{walks_text}
 use Rattle.fc_trace.specs.Traces.{WritesWalks, TracedBy, TracesScene, Traces}
-use Rattle.fc_trace.proofs.Scenes.{scene_fits, one_verdict}
+use Rattle.fc_trace.proofs.Scenes.{scene_fits}
 
 -- ---- one reply
 
@@ -46,29 +47,30 @@ module _ (costs : OneCosts) (trace : OneTrace) (U : Unfolding) (N : Network) (r 
   one_reply o (verdict.No place why) (verdict.Yes l) s t h g = absurd cc
   one_reply o (verdict.No place why) (verdict.No other because) s t h g = h ∙ ap (reply 1) t ∙ sym g
 
-module _ (check : OneCheck) (costs : OneCosts) (trace : OneTrace) (program network : List ℕ) (U : Unfolding) (s : SceneValue)
-    (reads : ReadsInput program network (Accepted (U, s))) where
+module _ (costs : OneCosts) (trace : OneTrace) (U : Unfolding) (s : SceneValue) where
   one_scene : (j k : Judged Reply) → TracesScene U s j → TracesScene U s k → j ≡ k
   one_scene j k h g =
       let n = length s.net.devices in
-      let alike = one_verdict check program network U s reads h.nodes g.nodes h.is_program g.is_program h.unfolded g.unfolded in
+      let alike = checked_alike false h.nodes g.nodes h.is_program g.is_program (h.unfolded ∙ sym g.unfolded) n in
       let line : verdict_text (verdict_of h.nodes n) ≡ verdict_text (verdict_of g.nodes n) =
-      sym (nothing_behind (verdict_text (verdict_of h.nodes n))) ∙ ap (λ (x : Reply). x.text) alike ∙ nothing_behind (verdict_text (verdict_of g.nodes n)) in
+      sym (nothing_behind (verdict_text (verdict_of h.nodes n))) ∙ ap (λ (x : Reply). x.text) alike
+      ∙ nothing_behind (verdict_text (verdict_of g.nodes n)) in
       h.is
-      ∙ ap Accepted (one_reply costs trace U s.net h.reply g.reply (walk_terms U) (verdict_of h.nodes n) (verdict_of g.nodes n)
-      (ap (λ (x : Reply). x.status) alike) line h.writes g.writes)
+      ∙ ap Accepted (one_reply costs trace U s.net h.reply g.reply (walk_terms U) (verdict_of h.nodes n)
+      (verdict_of g.nodes n) (ap (λ (x : Reply). x.status) alike) line h.writes g.writes)
       ∙ sym g.is
 
-pub one_traced : OneCheck → OneInput → OneCosts → OneTrace → (program network : List ℕ) (j k : Judged Reply) → Traces program network j → Traces program network k → j ≡ k
-one_traced check input costs trace program network j k h g =
+pub one_traced : OneInput → OneCosts → OneTrace → (program network : List ℕ) (j k : Judged Reply)
+    → Traces program network j → Traces program network k → j ≡ k
+one_traced input costs trace program network j k h g =
     let one = input program network in
     let same : h.judged ≡ g.judged = one.2 h.judged h.reads ∙ sym (one.2 g.judged g.reads) in
-    by_input g.judged g.reads (subst (λ i. AndThen i (λ i k. TracesScene i.0 i.1 k) j) same h.ends) g.ends
+    by_input g.judged (subst (λ i. AndThen i (λ i k. TracesScene i.0 i.1 k) j) same h.ends) g.ends
   where
-    by_input : (i : Judged InputOf) → ReadsInput program network i → AndThen i (λ i k. TracesScene i.0 i.1 k) j
+    by_input : (i : Judged InputOf) → AndThen i (λ i k. TracesScene i.0 i.1 k) j
         → AndThen i (λ i k. TracesScene i.0 i.1 k) k → j ≡ k
-    by_input (Refused cause) r e f = e ∙ sym f
-    by_input (Accepted i) r e f = one_scene check costs trace program network i.0 i.1 r j k e f
+    by_input (Refused cause) e f = e ∙ sym f
+    by_input (Accepted i) e f = one_scene costs trace i.0 i.1 j k e f
 
 -- ---- something
 

@@ -2,7 +2,7 @@
 
 ghost use Rattle.fc_trace.specs.Laws.{OneTraced, SomeTraced};
 
-use fc_check::{one_check, some_check};
+use fc_check::some_check;
 use fc_inputs::one_input;
 use net_json::accepted_scenes_fit;
 use walk_form::{forms_have_costs, one_costs};
@@ -13,7 +13,6 @@ pub fn one_traced()
     ensures { OneTraced }
 {
     one_input();
-    one_check();
     one_costs();
     walks_are_one();
 }

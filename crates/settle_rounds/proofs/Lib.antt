@@ -1,12 +1,10 @@
 mod Rising
-mod Still
+mod ReachFrom
+pub mod Still
 mod Yes
 mod MailRounds
 mod Times
-mod Closeness
-mod Marks
-mod Places
-mod Standing
-mod Fired
-mod Rounding
+mod Growing
+mod StartTables
 mod Settles
+mod States

@@ -12,12 +12,12 @@ use Rattle.settle_rounds.proofs.Rising.{bounds_raise, has_left}
 
 pub bounds_reach_mail : StepsKeepGood → CopiesFit → RunsCut → BoundsReachMail
 bounds_reach_mail keeps fit cuts P N program net same k d l h m g start last log s n run rounds =
-    let r = bounds_raise keeps fit cuts P N program net same in
+    let r = bounds_raise fit P N program net same in
     let begins = good_start keeps fit cuts (Within (unfolding_of P) N) P N program net same r in
     let steps = levels_of_steps keeps fit cuts (Within (unfolding_of P) N) P N program net same r in
     let at = start_at keeps fit (Within (unfolding_of P) N) P N program net same r begins steps start n s in
     let end = run_rounds keeps fit (Within (unfolding_of P) N) P N program net same r begins steps m 0 0
     (posts_of start) log start last at.0 at.1 (λ a b. refl) run rounds in
     let z : 0 + m ≡ m = omega arith in
-    has_left keeps fit cuts P N program net same k m d (last.core.exports d) g h
+    has_left (unfolding_of P) N k m d (last.core.exports d) g h
     (subst (λ i. MaybeAt (Within (unfolding_of P) N) i d (last.core.exports d)) z (end.exports d l))

@@ -1,47 +1,47 @@
--- A round that changes nothing is the last one that does.
-use Rattle.std.proofs.Common.{◌≡◌, ℕ, zero, suc, ◌+◌, ◌-◌, List, [], ◌∷◌, map, refl, sym, ◌≤◌, ◌∙◌, ap, arith, subst}
+-- Crates above cite this module: tables after rounds, and that a round which changes nothing is the last one that does.
+use Rattle.std.proofs.Common.{◌≡◌, ℕ, zero, suc, ◌+◌, ◌-◌, refl, sym, ◌≤◌, ◌∙◌, ap, arith, subst}
 use Rattle.std.proofs.Common.{true, ◌<◌, Bool, false, Some, None, if◌then◌else◌}
 use Rattle.std.specs.Prelude.{nat_eq, nat_le}
 use Rattle.fc_values.proofs.Rising.{strictly}
 use Rattle.value_bounds.proofs.Values.{nat_same}
-use Rattle.fc_values.specs.Types.{Declarations}
-use Rattle.fc_values.specs.Fields.{is_in}
 use Rattle.fc_nodes.specs.Program.{Unfolding}
-use Rattle.topology.specs.Networks.{Network, numbers, Lives, near, IsNetwork}
-use Rattle.topology.proofs.Lemmas.{AllNear, near_fits}
-use Rattle.settle_rounds.specs.Rounds.{is_reached, seat_in, fired, bounds_after}
+use Rattle.topology.specs.Networks.{Network, Lives, IsNetwork}
 use Rattle.bound_firing.specs.Exports.{ExportBound}
+use Rattle.bound_rounds.specs.declared.rounds.RoundKind.{RoundKind}
+use Rattle.bound_rounds.specs.declared.rounds.RoundKind.TheVariants as kind
+use Rattle.bound_rounds.specs.Rounds.{BoundTable, table_after, rounds_from, IsFixed}
+use Rattle.bound_rounds.proofs.Closeness.{next_live}
+use Rattle.settle_rounds.specs.Rounds.{is_reached}
 use Rattle.settle_rounds.specs.Settling.{IsStill, StillStays, first_reached, RoundsSettle}
 
-module _ (f g : ℕ → ExportBound) where
-  near_same : (D : Declarations) (ds : List ℕ) (d : ℕ) → ((n : ℕ) → is_in n ds ≡ true → f n ≡ g n) → (ns : List (ℕ × ℕ))
-      → AllNear D ds d ns → map (seat_in f) ns ≡ map (seat_in g) ns
-  near_same D ds d h [] a = refl
-  near_same D ds d h (n ∷ ns) a = let e = h n.0 a.0.there in let r = near_same D ds d h ns a.1 in rw (e, r) refl
+-- ---- a round depends on the bounds of devices that are there alone, and so do those after it
 
-  fired_same : (U : Unfolding) (N : Network) → IsNetwork N → ((n : ℕ) → Lives N n → f n ≡ g n) → (d : ℕ) → Lives N d
-      → fired U N f d ≡ fired U N g d
-  fired_same U N net h d l =
-      let e = h d l in
-      let r = near_same N.declared (numbers N.devices) d h (near N d) (near_fits N.declared (numbers N.devices) d
-      N.links net.links) in
-      rw (e, r) refl
+module _ (k : RoundKind) (U : Unfolding) (N : Network) (net : IsNetwork N) (f g : BoundTable)
+    (agree : (n : ℕ) → Lives N n → f n ≡ g n) where
+  pub after_same : (j d : ℕ) → Lives N d → table_after k U N f j d ≡ table_after k U N g j d
+  after_same zero d l = agree d l
+  after_same (suc j) d l = next_live k U N net (table_after k U N f j) (table_after k U N g j) (after_same j) d l
 
-module _ (U : Unfolding) (N : Network) (net : IsNetwork N) (j : ℕ) (s : IsStill U N j) where
-  more : (k i : ℕ) → i ≡ j + k → (n : ℕ) → Lives N n → bounds_after U N i n ≡ bounds_after U N j n
-  more zero i e n l = let same : i ≡ j = omega (arith, e) in ap (λ x. bounds_after U N x n) same
-  more (suc k) zero e n l = absurd (omega (arith, e))
-  more (suc k) (suc i) e n l = fired_same (bounds_after U N i) (bounds_after U N j) U N net
-      (more k i (omega (arith, e))) n l ∙ s n l
+  pub fixed_same : IsFixed k U N f → IsFixed k U N g
+  fixed_same fixed d l = sym (next_live k U N net f g agree d l) ∙ fixed d l ∙ agree d l
+
+module _ (k : RoundKind) (U : Unfolding) (N : Network) (net : IsNetwork N) (start : BoundTable) (j : ℕ)
+    (s : IsStill k U N start j) where
+  more : (m i : ℕ) → i ≡ j + m → (n : ℕ) → Lives N n → table_after k U N start i n ≡ table_after k U N start j n
+  more zero i e n l = let same : i ≡ j = omega (arith, e) in ap (λ x. table_after k U N start x n) same
+  more (suc m) zero e n l = absurd (omega (arith, e))
+  more (suc m) (suc i) e n l = next_live k U N net (table_after k U N start i) (table_after k U N start j)
+      (more m i (omega (arith, e))) n l ∙ s n l
 
 pub still_stays : StillStays
-still_stays U N net j i s l d m = more U N net j s (i - j) i (omega (arith, l)) d m
+still_stays k U N net start j i s l d m = more k U N net start j s (i - j) i (omega (arith, l)) d m
+
+-- ---- the first round after which a device is reached
 
 apart_less : (j k : ℕ) → j ≤ k → nat_eq j k ≡ false → j < k
 apart_less j k l t = strictly j k l (λ e. let e' : nat_eq k k ≡ false = subst (λ x. nat_eq x k ≡ false) e t in
     let s : nat_eq k k ≡ true = grind arith in absurd cc)
 
--- the first round after which a device is reached
 first_is : (b : ℕ → ExportBound) (n j k : ℕ) → ((i : ℕ) → i < j → is_reached (b i) ≡ false)
     → first_reached b n j ≡ Some k → (is_reached (b k) ≡ true) × ((i : ℕ) → i < k → is_reached (b i) ≡ false)
 first_is b zero j k h e = absurd cc
@@ -94,22 +94,25 @@ none_is : (b : ℕ → ExportBound) → ((i : ℕ) → is_reached (b i) ≡ fals
 none_is b h zero j = refl
 none_is b h (suc n) j = let q = h j in rw q (none_is b h n (suc j))
 
-module _ (U : Unfolding) (N : Network) (net : IsNetwork N) (j d : ℕ) (s : IsStill U N j) (l : Lives N d)
-    (h : (i : ℕ) → i ≤ j → is_reached (bounds_after U N i d) ≡ false) where
-  never_is : (i : ℕ) → is_reached (bounds_after U N i d) ≡ false
+module _ (U : Unfolding) (N : Network) (net : IsNetwork N) (start : BoundTable) (j d : ℕ)
+    (s : IsStill kind.Firing U N start j) (l : Lives N d)
+    (h : (i : ℕ) → i ≤ j → is_reached (rounds_from U N start i d) ≡ false) where
+  never_is : (i : ℕ) → is_reached (rounds_from U N start i d) ≡ false
   never_is i = by_test (nat_le i j) refl
     where
-      by_test : (c : Bool) → nat_le i j ≡ c → is_reached (bounds_after U N i d) ≡ false
+      by_test : (c : Bool) → nat_le i j ≡ c → is_reached (rounds_from U N start i d) ≡ false
       by_test true q = h i (grind (arith, q))
-      by_test false q = let e = still_stays U N net j i s (grind (arith, q)) d l in ap is_reached e ∙ h j (omega arith)
+      by_test false q =
+          let e = still_stays kind.Firing U N net start j i s (grind (arith, q)) d l in
+          ap is_reached e ∙ h j (omega arith)
 
 pub rounds_settle : RoundsSettle
-rounds_settle U N net = record {
+rounds_settle U N net start = record {
   settles = λ cap d k e.
-      let r = first_is (λ j. bounds_after U N j d) (suc cap) 0 k (λ i l. absurd (omega (arith, l))) e in
+      let r = first_is (λ j. rounds_from U N start j d) (suc cap) 0 k (λ i l. absurd (omega (arith, l))) e in
       record { reached = r.0; before = r.1 };
-  within = λ cap d k e. let l = first_within (λ j. bounds_after U N j d) (suc cap) 0 k e in omega (arith, l);
-  found = λ cap d k l s. found_is (λ j. bounds_after U N j d) (suc cap) 0 k (omega arith) (omega (arith, l)) s.reached
-      s.before;
-  never = λ cap d j s l h. none_is (λ i. bounds_after U N i d) (never_is U N net j d s l h) (suc cap) 0;
+  within = λ cap d k e. let l = first_within (λ j. rounds_from U N start j d) (suc cap) 0 k e in omega (arith, l);
+  found = λ cap d k l s. found_is (λ j. rounds_from U N start j d) (suc cap) 0 k (omega arith) (omega (arith, l))
+      s.reached s.before;
+  never = λ cap d j s l h. none_is (λ i. rounds_from U N start i d) (never_is U N net start j d s l h) (suc cap) 0;
 }

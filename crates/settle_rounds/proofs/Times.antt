@@ -6,7 +6,7 @@ use Rattle.fc_values.specs.Fields.{is_in}
 use Rattle.fc_values.specs.Values.{LocalValue}
 use Rattle.fc_nodes.specs.declared.verdicts.Verdict.{Verdict}
 use Rattle.fc_nodes.specs.declared.verdicts.Verdict.TheVariants as verdict
-use Rattle.fc_nodes.specs.Program.{Program, Unfolding, unfolding_of, IsProgram}
+use Rattle.fc_nodes.specs.Program.{Program, Unfolding, unfolding_of}
 use Rattle.topology.specs.Networks.{Network, IsNetwork, Lives, numbers}
 use Rattle.fragment_check.specs.Verdicts.{verdict_of}
 use Rattle.converge_laws.specs.Stabilising.{HasOneSolution}
@@ -14,17 +14,21 @@ use Rattle.converge_laws.specs.Verdicts.{YesStabilises}
 use Rattle.mail_laws.specs.Laws.{YesStabilisesMail}
 use Rattle.value_bounds.proofs.Values.{nat_same}
 use Rattle.value_bounds.specs.BoundValues.{value_left}
-use Rattle.settle_rounds.specs.Rounds.{bounds_after, is_reached, ReachedAt, BoundsReach}
+use Rattle.bound_rounds.specs.Rounds.{BoundTable, rounds_from}
+use Rattle.settle_rounds.specs.Rounds.{any_table, is_reached, ReachedAt, BoundsReach}
+use Rattle.settle_rounds.specs.Starts.{ReachedFrom, BoundsReachFrom, LeftIsSolvedFrom, YesLeavesFrom, StartsHold}
+use Rattle.settle_rounds.specs.Starts.{growing_cap}
 use Rattle.settle_rounds.specs.Settling.{settle_round, RoundsSettle, YesLeaves}
 use Rattle.settle_rounds.specs.Mail.{MailReachedAt, BoundsReachMail}
-use Rattle.settle_rounds.specs.SettleTimes.{settle_cap, settles_to, cap_of, settled_of, greatest_round, rounds_of_yes}
-use Rattle.settle_rounds.specs.SettleTimes.{settle_time, IsSettleTime, Leading, RoundsLead, ValuesSolve, TimeLeads}
-use Rattle.settle_rounds.specs.SettleTimes.{TimeIsLow, SettlesWell, SettleTimesHold}
+use Rattle.settle_rounds.specs.SettleTimes.{settle_cap, settles_to, cap_of, Settlings, settled_from, greatest_round}
+use Rattle.settle_rounds.specs.SettleTimes.{rounds_of_yes, settle_time, IsSettleTime, Leading, RoundsLead, ValuesSolve}
+use Rattle.settle_rounds.specs.SettleTimes.{TimeLeads, TimeIsLow, SettleTimesHold}
+use Rattle.settle_rounds.specs.StartTimes.{StartTimesHold}
 
 -- what a device settles to is what its settle round leaves
-pub record LeftAt (U : Unfolding) (N : Network) (most d k : ℕ) (v : LocalValue) : Type 0 where
-  pub round : settle_round U N most d ≡ Some k
-  pub left : v ≡ value_left (bounds_after U N k d).value
+record LeftAt (U : Unfolding) (N : Network) (start : BoundTable) (most d k : ℕ) (v : LocalValue) : Type 0 where
+  pub round : settle_round U N start most d ≡ Some k
+  pub left : v ≡ value_left (rounds_from U N start k d).value
 
 with_round : (f : ℕ → LocalValue) (o : Option ℕ) (k : ℕ) (v : LocalValue)
     → option_map {U = ℕ × LocalValue} (λ i. (i, f i)) o ≡ Some (k, v)
@@ -37,21 +41,21 @@ with_round f (Some i) k v e =
     let q : i ≡ k = ap (λ (w : ℕ × LocalValue). w.0) p in
     (ap Some q, sym (ap (λ (w : ℕ × LocalValue). w.1) p) ∙ ap f q)
 
-left_at : (U : Unfolding) (N : Network) (most d k : ℕ) (v : LocalValue) → settles_to U N most d ≡ Some (k, v)
-    → LeftAt U N most d k v
-left_at U N most d k v e =
-    let r = with_round (λ i. value_left (bounds_after U N i d).value) (settle_round U N most d) k v e in
+left_at : (U : Unfolding) (N : Network) (start : BoundTable) (most d k : ℕ) (v : LocalValue)
+    → settles_to U N start most d ≡ Some (k, v) → LeftAt U N start most d k v
+left_at U N start most d k v e =
+    let r = with_round (λ i. value_left (rounds_from U N start i d).value) (settle_round U N start most d) k v e in
     record { round = r.0; left = r.1 }
 
 -- ---- the greatest round is no less than that of each device
 
-pub record HasBelow (o : Option (ℕ × LocalValue)) (R : ℕ) : Type 0 where
+record HasBelow (o : Option (ℕ × LocalValue)) (R : ℕ) : Type 0 where
   pub answer : ℕ × LocalValue
   pub is : o ≡ Some answer
   pub below : answer.0 ≤ R
 
 module _ (f : ℕ → Option (ℕ × LocalValue)) where
-  pub greatest_all : (ds : List ℕ) (R : ℕ) → greatest_round (map f ds) ≡ Some R → (d : ℕ) → is_in d ds ≡ true
+  greatest_all : (ds : List ℕ) (R : ℕ) → greatest_round (map f ds) ≡ Some R → (d : ℕ) → is_in d ds ≡ true
       → HasBelow (f d) R
   greatest_all [] R e d h = absurd cc
   greatest_all (x ∷ ds) R e d h = by_first (f x) refl e (λ m p there. greatest_all ds m p d there)
@@ -118,87 +122,108 @@ time_from v os R e = by_greatest (greatest_round os) refl e
     by_greatest None q h = by_yes (by_verdict v h)
     by_greatest (Some m) q h = by_rounds (q ∙ h)
 
-module _ (reach : BoundsReach) (mail : BoundsReachMail) (are : RoundsSettle) (leaves : YesLeaves)
-    (steady : YesStabilises) (mail_steady : YesStabilisesMail)
-    (P : Program) (N : Network) (program : IsProgram P) (net : IsNetwork N) (same : N.declared ≡ P.declared) where
+-- ---- from a start
+
+module _ (are : RoundsSettle) (P : Program) (N : Network) (net : IsNetwork N) (start : BoundTable) where
   abbrev U : Unfolding
   U = unfolding_of P
 
   abbrev V : Verdict
   V = verdict_of P (length N.devices)
 
+  abbrev settled : Settlings
+  settled d = settled_from P N start d
+
+  settled_at : (d k : ℕ) (v : LocalValue) → settled d ≡ Some (k, v) → LeftAt U N start (cap_of P N) d k v
+  settled_at d k v e = left_at U N start (cap_of P N) d k v e
+
+  -- a settle round is no more than the rounds of a yes
+  round_low : (K : ℕ) → V ≡ verdict.Yes K → (d k : ℕ) (v : LocalValue) → settled d ≡ Some (k, v) → k ≤ K
+  round_low K y d k v e =
+      let w = (are U N net start).within (cap_of P N) d k (settled_at d k v e).round in
+      cap_low K (length N.devices) k (subst (λ x. k ≤ settle_cap x (length N.devices)) y w)
+
   -- the rounds of a device that settles lead it to its value
-  rounds_lead : (Leads : Leading) → ((k d : ℕ) → Lives N d → is_reached (bounds_after U N k d) ≡ true → (m : ℕ) → k ≤ m
-      → Leads m d (value_left (bounds_after U N k d).value))
-      → RoundsLead Leads P N
+  rounds_lead : (Leads : Leading) → ((k d : ℕ) → Lives N d → is_reached (rounds_from U N start k d) ≡ true → (m : ℕ)
+      → k ≤ m → Leads m d (value_left (rounds_from U N start k d).value))
+      → RoundsLead Leads N settled
   rounds_lead Leads law d k v l e m h =
-      let a = left_at U N (cap_of P N) d k v e in
-      let s = (are U N net).settles (cap_of P N) d k a.round in
+      let a = settled_at d k v e in
+      let s = (are U N net start).settles (cap_of P N) d k a.round in
       subst (Leads m d) (sym a.left) (law k d l s.reached m h)
 
-  values_solve : (K : ℕ) → V ≡ verdict.Yes K → ValuesSolve P N
-  values_solve K y =
-      let left = leaves P N K program net same y in record {
-        one = left.one;
-        values = λ d k v l e.
-            let a = left_at U N (cap_of P N) d k v e in
-            a.left ∙ left.left k d l ((are U N net).settles (cap_of P N) d k a.round).reached;
-      }
+  values_solve : LeftIsSolvedFrom P N start → ValuesSolve P N settled
+  values_solve left = record {
+    one = left.one;
+    values = λ d k v l e.
+        let a = settled_at d k v e in
+        a.left ∙ left.left k d l ((are U N net start).settles (cap_of P N) d k a.round).reached;
+  }
 
-  time_leads : (Leads : Leading) → RoundsLead Leads P N
+  time_leads : (Leads : Leading) → RoundsLead Leads N settled
       → ((K : ℕ) → V ≡ verdict.Yes K → (one : HasOneSolution U N) × ((d : ℕ) → Lives N d → Leads K d (one.field d)))
-      → (R : ℕ) → IsSettleTime P N R → TimeLeads Leads P N R
-  time_leads Leads rounds solve R e = by_time (time_from V (map (settled_of P N) (numbers N.devices)) R e)
+      → (R : ℕ) → IsSettleTime P N settled R → TimeLeads Leads P N settled R
+  time_leads Leads rounds solve R e = by_time (time_from V (map settled (numbers N.devices)) R e)
     where
-      by_time : TimeFrom V (map (settled_of P N) (numbers N.devices)) R → TimeLeads Leads P N R
+      by_time : TimeFrom V (map settled (numbers N.devices)) R → TimeLeads Leads P N settled R
       by_time (by_rounds q) = record {
         known = λ d k v l h.
-            let b = greatest_all (settled_of P N) (numbers N.devices) R q d l in
+            let b = greatest_all settled (numbers N.devices) R q d l in
             let w : b.answer ≡ (k, v) = cc in
             rounds d k v l h R (subst (λ (x : ℕ × LocalValue). x.0 ≤ R) w b.below);
-        only_yes = λ d l h. let b = greatest_all (settled_of P N) (numbers N.devices) R q d l in absurd (cc (b.is, h));
-        solved = λ d l h. let b = greatest_all (settled_of P N) (numbers N.devices) R q d l in absurd (cc (b.is, h));
+        only_yes = λ d l h. let b = greatest_all settled (numbers N.devices) R q d l in absurd (cc (b.is, h));
+        solved = λ d l h. let b = greatest_all settled (numbers N.devices) R q d l in absurd (cc (b.is, h));
       }
       by_time (by_yes y) = record {
-        known = λ d k v l h.
-            let a = left_at U N (cap_of P N) d k v h in
-            let w = (are U N net).within (cap_of P N) d k a.round in
-            rounds d k v l h R (cap_low R (length N.devices) k (subst (λ x. k ≤ settle_cap x (length N.devices)) y w));
+        known = λ d k v l h. rounds d k v l h R (round_low R y d k v h);
         only_yes = λ d l h. y;
         solved = λ d l h. let s = solve R y in (s.0, s.1 d l);
       }
 
-  time_low : (R : ℕ) → IsSettleTime P N R → TimeIsLow P N R
-  time_low R e K y = by_time (time_from V (map (settled_of P N) (numbers N.devices)) R e)
+  time_low : (R : ℕ) → IsSettleTime P N settled R → TimeIsLow P N R
+  time_low R e K y = by_time (time_from V (map settled (numbers N.devices)) R e)
     where
-      low : (d k : ℕ) (v : LocalValue) → settled_of P N d ≡ Some (k, v) → k ≤ K
-      low d k v h =
-          let a = left_at U N (cap_of P N) d k v h in
-          let w = (are U N net).within (cap_of P N) d k a.round in
-          cap_low K (length N.devices) k (subst (λ x. k ≤ settle_cap x (length N.devices)) y w)
-
-      by_time : TimeFrom V (map (settled_of P N) (numbers N.devices)) R → R ≤ K
-      by_time (by_rounds q) = greatest_low (settled_of P N) K low (numbers N.devices) R q
+      by_time : TimeFrom V (map settled (numbers N.devices)) R → R ≤ K
+      by_time (by_rounds q) = greatest_low settled K (round_low K y) (numbers N.devices) R q
       by_time (by_yes z) = let e : verdict.Yes R ≡ verdict.Yes K = sym z ∙ y in let w : R ≡ K = cc in omega (arith, w)
 
-  settles_well : SettlesWell P N
-  settles_well =
-      let rounds = rounds_lead (ReachedAt U N) (λ k d l h m g. reach P N program net same k d l h m g) in
-      let mail_rounds = rounds_lead (MailReachedAt U N) (λ k d l h m g. mail P N program net same k d l h m g) in
-      record {
-        rounds = rounds;
-        mail_rounds = mail_rounds;
-        solves = values_solve;
-        time = time_leads (ReachedAt U N) rounds (λ K y.
-            let s = steady P N K program net same y in
-            (s.one, λ d l start last log good is run has. s.reached start last log good is run has d l));
-        mail_time = time_leads (MailReachedAt U N) mail_rounds (λ K y.
-            let s = mail_steady P N K program net same y in
-            (s.one, λ d l start last log good is run has. s.reached start last log good is run has d l));
-        low = time_low;
-      }
+-- ---- from any exports, and from the table of a core
 
 pub settle_times_hold : BoundsReach → BoundsReachMail → RoundsSettle → YesLeaves → YesStabilises → YesStabilisesMail
     → SettleTimesHold
 settle_times_hold reach mail are leaves steady mail_steady P N program net same =
-    settles_well reach mail are leaves steady mail_steady P N program net same
+    let U = unfolding_of P in
+    let rounds = rounds_lead are P N net (any_table U) (ReachedAt U N)
+    (λ k d l h m g. reach P N program net same k d l h m g) in
+    let mail_rounds = rounds_lead are P N net (any_table U) (MailReachedAt U N)
+    (λ k d l h m g. mail P N program net same k d l h m g) in
+    record {
+      rounds = rounds;
+      mail_rounds = mail_rounds;
+      solves = λ K y.
+          let s = leaves P N K program net same y in
+          values_solve are P N net (any_table U) (record { one = s.one; left = s.left });
+      time = time_leads are P N net (any_table U) (ReachedAt U N) rounds (λ K y.
+          let s = steady P N K program net same y in
+          (s.one, λ d l start last log good is run has. s.reached start last log good is run has d l));
+      mail_time = time_leads are P N net (any_table U) (MailReachedAt U N) mail_rounds (λ K y.
+          let s = mail_steady P N K program net same y in
+          (s.one, λ d l start last log good is run has. s.reached start last log good is run has d l));
+      low = time_low are P N net (any_table U);
+    }
+
+pub start_times_hold : StartsHold → BoundsReachFrom → RoundsSettle → YesLeavesFrom → YesStabilises → StartTimesHold
+start_times_hold starts reach are leaves steady P N program net same c good on table from =
+    let U = unfolding_of P in
+    let h = (starts P N program net same c good on (growing_cap (length N.devices))).hold table from in
+    let rounds = rounds_lead are P N net table (ReachedFrom U N c)
+    (λ k d l r m g. reach P N program net same table h.closed c good on h.holds k d l r m g) in
+    record {
+      rounds = rounds;
+      solves = λ K y.
+          values_solve are P N net table (leaves P N K program net same y table h.closed c good on h.holds);
+      time = time_leads are P N net table (ReachedFrom U N c) rounds (λ K y.
+          let s = steady P N K program net same y in
+          (s.one, λ d l last r. s.reached c last r.log good on r.run r.rounds d l));
+      low = time_low are P N net table;
+    }

@@ -1,97 +1,137 @@
--- With a yes, the value that is left is the solution's: synchronous firings from no exports reach both levels.
+-- With a yes, the value that is left from a core is the solution's: synchronous firings from its exports are within the
+-- bounds, and rise to the solution.
 use Rattle.std.proofs.Common.{◌≡◌, ℕ, zero, suc, ◌+◌, refl, sym, ◌∙◌, subst, arith, Bool, true, false, Option, Some}
 use Rattle.std.proofs.Common.{None}
 use Rattle.fc_values.specs.Trees.{TreeExport}
 use Rattle.fc_nodes.specs.Program.{Program, Unfolding, unfolding_of, IsProgram}
 use Rattle.fc_nodes.specs.Flat.{IsWellTyped}
 use Rattle.device_eval.specs.Copies.{HasOneExport}
-use Rattle.device_eval.proofs.OneExport.{program_export}
 use Rattle.topology.specs.Networks.{Network, lives, Lives, IsNetwork}
-use Rattle.firing_core.specs.Cores.{Map as Table, copy_of, GoodExport}
-use Rattle.firing_core.specs.Laws.{StepsKeepGood, CopiesFit, RunsCut}
+use Rattle.firing_core.specs.Cores.{Map as Table, Core, copy_of, GoodExport, IsGood}
+use Rattle.firing_core.specs.Laws.{CopiesFit}
 use Rattle.converge_laws.specs.CoreLevels.{ExportLevel, MaybeAt, TableAt, GoodTable, Raises}
+use Rattle.converge_laws.specs.StartLevels.{TableFrom}
 use Rattle.converge_laws.specs.Verdicts.{level_by, RaisesTo, YesRaises}
-use Rattle.value_bounds.specs.BoundValues.{is_known, value_left}
-use Rattle.settle_rounds.specs.Rounds.{Within, bounds_after, is_reached}
-use Rattle.settle_rounds.specs.Settling.{YesLeaves}
+use Rattle.value_bounds.specs.BoundValues.{is_known}
 use Rattle.value_bounds.proofs.Values.{both_parts}
-use Rattle.settle_rounds.proofs.Rising.{bounds_raise, left_is}
+use Rattle.bound_rounds.specs.Rounds.{BoundTable, rounds_from}
+use Rattle.settle_rounds.specs.Rounds.{any_table}
+use Rattle.settle_rounds.specs.Settling.{YesLeaves}
+use Rattle.settle_rounds.specs.Starts.{MaybeLies, IsClosed, HoldsCore, YesLeavesFrom}
+use Rattle.settle_rounds.proofs.Rising.{left_is, WithinFrom, one_of, lifts, any_closed}
+use Rattle.settle_rounds.proofs.ReachFrom.{held_start, any_holds}
 
--- a table at two levels
-record Reaches (Q R : ExportLevel) (U : Unfolding) (N : Network) (j : ℕ) : Type 0 where
+-- a table of exports within the bounds of a table, and at a level
+record Reaches (start : BoundTable) (R : ExportLevel) (U : Unfolding) (N : Network) (j : ℕ) : Type 0 where
   pub table : Table TreeExport
   pub good : GoodTable U N table
-  pub first : TableAt Q N j table
+  pub first : TableFrom (WithinFrom U N start) N j table
   pub second : TableAt R N j table
 
 module _ (fit : CopiesFit) (P : Program) (N : Network) (program : IsProgram P) (net : IsNetwork N)
-    (same : N.declared ≡ P.declared) where
+    (same : N.declared ≡ P.declared) (table : BoundTable) (closed : IsClosed (unfolding_of P) N table) (start : Core)
+    (good : IsGood (unfolding_of P) start) (on : start.net ≡ N) (held : HoldsCore (unfolding_of P) N table start)
+    (R : ExportLevel) (r : Raises R (unfolding_of P) N) where
   abbrev U : Unfolding
   U = unfolding_of P
 
-  module _ (Q R : ExportLevel) (q : Raises Q U N) (r : Raises R U N) where
-    module _ (j : ℕ) (b : Reaches Q R U N j) where
-      one_of : (d : ℕ) → Lives N d → HasOneExport U (copy_of N b.table d)
-      one_of d l = program_export P (copy_of N b.table d) program (fit U
-          (record { net = N; exports = b.table; flying = λ e. None }) d
-          (record { net = net; declared = same; exports = b.good; flying = λ e x h. absurd cc }) l)
+  -- each device that is there fires
+  module _ (j : ℕ) (b : Reaches table R U N j) where
+    one : (d : ℕ) → Lives N d → HasOneExport U (copy_of N b.table d)
+    one d l = one_of fit P N program net same b.table b.good d l
 
-      pick : (d : ℕ) (c : Bool) → lives N d ≡ c → Option TreeExport
-      unfolding one_of
-      pick d true l = Some (one_of d l).export
-      pick d false l = None
+    pick : (d : ℕ) (c : Bool) → lives N d ≡ c → Option TreeExport
+    pick d true l = Some (one d l).export
+    pick d false l = None
 
-      good_pick : (d : ℕ) (c : Bool) (l : lives N d ≡ c) (e : TreeExport) → pick d c l ≡ Some e → GoodExport U N d e
-      unfolding pick one_of
-      good_pick d true l e h = let s : (one_of d l).export ≡ e = cc in
-          record { there = l; typed = subst (IsWellTyped U) s (one_of d l).typed }
-      good_pick d false l e h = absurd cc
+    good_pick : (d : ℕ) (c : Bool) (l : lives N d ≡ c) (e : TreeExport) → pick d c l ≡ Some e → GoodExport U N d e
+    unfolding pick
+    good_pick d true l e h =
+        let s : (one d l).export ≡ e = cc in
+        record { there = l; typed = subst (IsWellTyped U) s (one d l).typed }
+    good_pick d false l e h = absurd cc
 
-      at_pick : (S : ExportLevel) → Raises S U N → TableAt S N j b.table → (d : ℕ) (c : Bool) (l : lives N d ≡ c)
-          → c ≡ true → MaybeAt S (suc j) d (pick d c l)
-      unfolding pick one_of
-      at_pick S s h d true l t = s.fires j b.table b.good h d l (one_of d l).export (one_of d l).evaluates
-      at_pick S s h d false l t = absurd cc
+    first_pick : (d : ℕ) (c : Bool) (l : lives N d ≡ c) → c ≡ true → WithinFrom U N table (suc j) d (pick d c l)
+    unfolding pick
+    first_pick d true l t = (lifts fit P N program net same table closed).fires j b.table b.good b.first d l
+        (one d l).export (one d l).evaluates
+    first_pick d false l t = absurd cc
 
-      next : Reaches Q R U N (suc j)
-      next = record {
-        table = λ d. pick d (lives N d) refl;
-        good = λ d e h. good_pick d (lives N d) refl e h;
-        first = λ d l. at_pick Q q b.first d (lives N d) refl l;
-        second = λ d l. at_pick R r b.second d (lives N d) refl l;
-      }
+    second_pick : (d : ℕ) (c : Bool) (l : lives N d ≡ c) → c ≡ true → MaybeAt R (suc j) d (pick d c l)
+    unfolding pick
+    second_pick d true l t = r.fires j b.table b.good b.second d l (one d l).export (one d l).evaluates
+    second_pick d false l t = absurd cc
 
-    after : (j : ℕ) → Reaches Q R U N j
-    after zero = record { table = λ d. None; good = λ d e h. absurd cc; first = λ d l. tt; second = λ d l. tt }
-    after (suc j) = next j (after j)
+    next : Reaches table R U N (suc j)
+    next = record {
+      table = λ d. pick d (lives N d) refl;
+      good = λ d e h. good_pick d (lives N d) refl e h;
+      first = λ d l. first_pick d (lives N d) refl l;
+      second = λ d l. second_pick d (lives N d) refl l;
+    }
 
-  down_to : (S : ExportLevel) → Raises S U N → (d : ℕ) → Lives N d → (o : Option TreeExport) (i j n : ℕ) → n ≡ j + i
-      → MaybeAt S n d o → MaybeAt S j d o
-  down_to S s d l o zero j n e h = let t : n ≡ j = omega (arith, e) in subst (λ x. MaybeAt S x d o) t h
-  down_to S s d l o (suc i) j zero e h = absurd (omega (arith, e))
-  down_to S s d l o (suc i) j (suc n) e h = down_to S s d l o i j n (omega (arith, e)) (by_export o h)
+  good_start : GoodTable U N start.exports
+  good_start = subst (λ n. GoodTable U n start.exports) on good.exports
+
+  after : (j : ℕ) → Reaches table R U N j
+  after zero = record {
+    table = start.exports;
+    good = good_start;
+    first = (held_start P N program table start good on held).exports;
+    second = λ d l. by_export d l (start.exports d) refl;
+  }
     where
-      by_export : (o : Option TreeExport) → MaybeAt S (suc n) d o → MaybeAt S n d o
-      by_export (Some x) h = s.down n d x l h
+      by_export : (d : ℕ) → Lives N d → (o : Option TreeExport) → start.exports d ≡ o → MaybeAt R 0 d o
+      by_export d l (Some e) q = r.first d e l (good_start d e q).typed
+      by_export d l None q = tt
+  after (suc j) = next j (after j)
+
+  down_to : (d : ℕ) → Lives N d → (o : Option TreeExport) (i j n : ℕ) → n ≡ j + i → MaybeAt R n d o → MaybeAt R j d o
+  down_to d l o zero j n e h = let t : n ≡ j = omega (arith, e) in subst (λ x. MaybeAt R x d o) t h
+  down_to d l o (suc i) j zero e h = absurd (omega (arith, e))
+  down_to d l o (suc i) j (suc n) e h = down_to d l o i j n (omega (arith, e)) (by_export o h)
+    where
+      by_export : (o : Option TreeExport) → MaybeAt R (suc n) d o → MaybeAt R n d o
+      by_export (Some x) h = r.down n d x l h
       by_export None h = absurd h
 
-  module _ (K : ℕ) (y : RaisesTo P N K) (raise : Raises (Within U N) U N) where
-    left_solved : (k d : ℕ) → Lives N d → is_reached (bounds_after U N k d) ≡ true
-        → value_left (bounds_after U N k d).value ≡ y.one.field d
-    left_solved k d l h =
-        let a = after (Within U N) (level_by P N y.one) raise y.raises (k + K) in
-        let w = down_to (Within U N) raise d l (a.table d) K k (k + K) refl (a.first d l) in
-        let v = down_to (level_by P N y.one) y.raises d l (a.table d) k K (k + K) (omega arith) (a.second d l) in
-        let x = y.reached d (a.table d) v in
-        let p = both_parts (bounds_after U N k d).sure (is_known (bounds_after U N k d).value) h in
-        let w' : MaybeAt (Within U N) k d (Some x.0) = subst (MaybeAt (Within U N) k d) x.1 w in
-        sym (left_is (bounds_after U N k d).value x.0.value p.1 (w'.lies k (omega arith)).value) ∙ x.2
+  -- after k and K rounds the export of a device is within the bounds, and at level K
+  both_at : (k K d : ℕ) → Lives N d
+      → (o : Option TreeExport) × MaybeLies U (rounds_from U N table k d) o × MaybeAt R K d o
+  both_at k K d l =
+      let a = after (k + K) in
+      (a.table d, a.first d l k (omega arith), down_to d l (a.table d) k K (k + K) (omega arith) (a.second d l))
 
-pub yes_leaves : StepsKeepGood → CopiesFit → RunsCut → YesRaises → YesLeaves
-yes_leaves keeps fit cuts says P N K program net same v =
-    let y = says P N K program net same v in
+pub yes_leaves_from : CopiesFit → YesRaises → YesLeavesFrom
+yes_leaves_from fit says P N K program net same v table closed start good on held =
+    let U = unfolding_of P in
+    let y : RaisesTo P N K = says P N K program net same v in
     record {
       one = y.one;
-      left = left_solved fit P N program net same K y
-          (bounds_raise keeps fit cuts P N program net same);
+      left = λ k d l q.
+          let b = both_at fit P N program net same table closed start good on held (level_by P N y.one) y.raises k K d l
+          in
+          let x = y.reached d b.0 b.2 in
+          let p = both_parts (rounds_from U N table k d).sure (is_known (rounds_from U N table k d).value) q in
+          let w = subst (MaybeLies U (rounds_from U N table k d)) x.1 b.1 in
+          sym (left_is (rounds_from U N table k d).value x.0.value p.1 w.value) ∙ x.2;
     }
+
+-- ---- from any exports
+
+-- a core without exports and copies
+abbrev empty_core : Network → Core
+empty_core N = record { net = N; exports = λ d. None; flying = λ d. None }
+
+pub yes_leaves : YesLeavesFrom → YesLeaves
+yes_leaves from P N K program net same v =
+    let U = unfolding_of P in
+    let good : IsGood U (empty_core N) = record {
+      net = net;
+      declared = same;
+      exports = λ d e q. absurd cc;
+      flying = λ d s q. absurd cc;
+    } in
+    let l = from P N K program net same v (any_table U) (any_closed U N) (empty_core N) good refl
+    (any_holds U N (empty_core N) good) in
+    record { one = l.one; left = l.left }

@@ -1,6 +1,7 @@
 pub mod Rounds
+pub mod Starts
 pub mod Settling
 pub mod Mail
 pub mod SettleTimes
-pub mod Tables
+pub mod StartTimes
 pub mod References

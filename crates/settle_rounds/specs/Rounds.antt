@@ -1,43 +1,24 @@
--- Tables of bounds, rounds of bounds, and what is reached after so many rounds.
-use Rattle.std.specs.Prelude.{ℕ, zero, suc, Bool, true, ◌≡◌, ◌≤◌, ◌&&◌, List, [], map, Some}
+-- Rounds of bounds from any exports, and what is reached after so many rounds.
+use Rattle.std.specs.Prelude.{ℕ, Bool, true, ◌≡◌, ◌≤◌, ◌&&◌, List, Some}
 use Rattle.fc_values.specs.Values.{LocalValue}
 use Rattle.fc_values.specs.Trees.{TreeExport}
 use Rattle.fc_nodes.specs.Program.{Program, Unfolding, unfolding_of, IsProgram}
 use Rattle.fc_nodes.specs.Flat.{IsWellTyped}
-use Rattle.device_eval.specs.Evaluation.{Situation}
-use Rattle.topology.specs.Networks.{Network, IsNetwork, Lives, numbers, near, inputs_in}
+use Rattle.topology.specs.Networks.{Network, IsNetwork, Lives, numbers}
 use Rattle.firing_core.specs.Entries.{EntryValue}
 use Rattle.firing_core.specs.Cores.{Core, Run, IsGood}
 use Rattle.firing_core.specs.Rounds.{HasRounds}
 use Rattle.value_bounds.specs.BoundValues.{is_known, value_left}
-use Rattle.bound_firing.specs.Exports.{ExportBound, any_export, bound_export, ExportLies}
-use Rattle.bound_firing.specs.Seats.{NearSeat, Seats}
-use Rattle.bound_firing.specs.Firing.{bound_of}
+use Rattle.bound_firing.specs.Exports.{ExportBound, any_export, ExportLies}
+use Rattle.bound_rounds.specs.Rounds.{BoundTable, rounds_from}
 
--- the seats of a device's neighbours by a table of bounds
-abbrev pub seat_in : (ℕ → ExportBound) → ℕ × ℕ → NearSeat
-seat_in table n = record { device = n.0; weight = n.1; sure = (table n.0).sure; tree = (table n.0).tree }
+-- any export, or none
+abbrev pub any_table : Unfolding → BoundTable
+any_table U d = any_export U
 
-abbrev pub seats_in : (ℕ → ExportBound) → Network → ℕ → Seats
-seats_in table N d =
-    record { own = Some ((table d).sure, (table d).tree); near = map (seat_in table) (near N d) }
-
-abbrev pub situation_at : Unfolding → Network → ℕ → Situation
-situation_at U N d = record {
-  device = d;
-  ceiling = U.declared.ceiling;
-  least = U.declared.least;
-  inputs = inputs_in d N.devices;
-}
-
--- the firing of a device over a table of bounds
-abbrev pub fired : Unfolding → Network → (ℕ → ExportBound) → ℕ → ExportBound
-fired U N table d = bound_export (bound_of (situation_at U N d) 0 U.main [] (seats_in table N d))
-
--- the table of bounds after so many rounds
-abbrev pub bounds_after : Unfolding → Network → ℕ → ℕ → ExportBound
-bounds_after U N zero d = any_export U
-bounds_after U N (suc j) d = fired U N (bounds_after U N j) d
+-- the table of bounds after so many rounds from there
+abbrev pub bounds_after : Unfolding → Network → ℕ → BoundTable
+bounds_after U N j d = rounds_from U N (any_table U) j d
 
 -- the levels of exports: well-typed, and within the bounds after each number of rounds up to the level
 pub record Within (U : Unfolding) (N : Network) (j d : ℕ) (e : TreeExport) : Type 0 where

@@ -10,9 +10,14 @@ use Rattle.fragment_check.specs.Verdicts.{verdict_of}
 use Rattle.converge_laws.specs.Stabilising.{HasOneSolution}
 use Rattle.value_bounds.specs.BoundValues.{value_left}
 use Rattle.settle_rounds.specs.declared.limits.TheConstants.{MOST_BOUND_FIRINGS}
-use Rattle.settle_rounds.specs.Rounds.{bounds_after, ReachedAt}
+use Rattle.bound_rounds.specs.Rounds.{BoundTable, rounds_from}
+use Rattle.settle_rounds.specs.Rounds.{any_table, ReachedAt}
 use Rattle.settle_rounds.specs.Settling.{settle_round}
 use Rattle.settle_rounds.specs.Mail.{MailReachedAt}
+
+-- the settle round of each device with its value then, if it has one
+abbrev pub Settlings : Type 0
+Settlings = ℕ → Option (ℕ × LocalValue)
 
 -- at most so many rounds are looked at, of so many devices: all their firings are no more than the most, and with a yes
 -- the rounds are no more than it has
@@ -20,20 +25,24 @@ abbrev pub settle_cap : Verdict → ℕ → ℕ
 settle_cap (verdict.Yes rounds) n = min (MOST_BOUND_FIRINGS / n) rounds
 settle_cap (verdict.No place reason) n = MOST_BOUND_FIRINGS / n
 
--- the settle round of a device, up to a cap, with the value that is left then
-abbrev pub settles_to : Unfolding → Network → ℕ → ℕ → Option (ℕ × LocalValue)
-settles_to U N cap d = option_map (λ k. (k, value_left (bounds_after U N k d).value)) (settle_round U N cap d)
+-- the settle round of a device from a start, up to a cap, with the value that is left then
+abbrev pub settles_to : Unfolding → Network → BoundTable → ℕ → ℕ → Option (ℕ × LocalValue)
+settles_to U N start cap d =
+    option_map (λ k. (k, value_left (rounds_from U N start k d).value)) (settle_round U N start cap d)
 
 -- those of all devices, by rising number
-abbrev pub all_settle_to : Unfolding → Network → ℕ → List (Option (ℕ × LocalValue))
-all_settle_to U N cap = map (settles_to U N cap) (numbers N.devices)
+abbrev pub all_settle_to : Unfolding → Network → BoundTable → ℕ → List (Option (ℕ × LocalValue))
+all_settle_to U N start cap = map (settles_to U N start cap) (numbers N.devices)
 
--- those of a program on a network, up to its cap
+-- those of a program on a network, up to its cap: from a start, and from any exports
 abbrev pub cap_of : Program → Network → ℕ
 cap_of P N = settle_cap (verdict_of P (length N.devices)) (length N.devices)
 
-abbrev pub settled_of : Program → Network → ℕ → Option (ℕ × LocalValue)
-settled_of P N d = settles_to (unfolding_of P) N (cap_of P N) d
+abbrev pub settled_from : Program → Network → BoundTable → Settlings
+settled_from P N start d = settles_to (unfolding_of P) N start (cap_of P N) d
+
+abbrev pub settled_of : Program → Network → Settlings
+settled_of P N d = settled_from P N (any_table (unfolding_of P)) d
 
 -- the greatest settle round, where each device has one
 abbrev pub greatest_round : List (Option (ℕ × LocalValue)) → Option ℕ
@@ -49,8 +58,8 @@ rounds_of_yes (verdict.No place reason) = None
 abbrev pub settle_time : Verdict → List (Option (ℕ × LocalValue)) → Option ℕ
 settle_time v os = option_or (greatest_round os) (rounds_of_yes v)
 
-abbrev pub IsSettleTime : Program → Network → ℕ → Type 0
-IsSettleTime P N R = settle_time (verdict_of P (length N.devices)) (map (settled_of P N) (numbers N.devices)) ≡ Some R
+abbrev pub IsSettleTime : Program → Network → Settlings → ℕ → Type 0
+IsSettleTime P N settled R = settle_time (verdict_of P (length N.devices)) (map settled (numbers N.devices)) ≡ Some R
 
 -- ---- what settle rounds and settle times promise, where so many rounds lead a device to a value in some sense
 
@@ -58,35 +67,37 @@ abbrev pub Leading : Type 1
 Leading = ℕ → ℕ → LocalValue → Type 0
 
 -- a device's settle round, and any more rounds, lead it to its value
-abbrev pub RoundsLead : Leading → Program → Network → Type 0
-RoundsLead Leads P N = (d k : ℕ) (v : LocalValue) → Lives N d → settled_of P N d ≡ Some (k, v)
+abbrev pub RoundsLead : Leading → Network → Settlings → Type 0
+RoundsLead Leads N settled = (d k : ℕ) (v : LocalValue) → Lives N d → settled d ≡ Some (k, v)
     → (m : ℕ) → k ≤ m → Leads m d v
 
 -- with a yes, that is the value of the one field
-pub record ValuesSolve (P : Program) (N : Network) : Type 0 where
+pub record ValuesSolve (P : Program) (N : Network) (settled : Settlings) : Type 0 where
   pub one : HasOneSolution (unfolding_of P) N
-  pub values : (d k : ℕ) (v : LocalValue) → Lives N d → settled_of P N d ≡ Some (k, v) → v ≡ one.field d
+  pub values : (d k : ℕ) (v : LocalValue) → Lives N d → settled d ≡ Some (k, v) → v ≡ one.field d
 
 -- the settle time leads each device to the value of its settle round; where one has none, there is a yes for so many
 -- rounds, and they lead it to the value of the one field
-pub record TimeLeads (Leads : Leading) (P : Program) (N : Network) (R : ℕ) : Type 0 where
-  pub known : (d k : ℕ) (v : LocalValue) → Lives N d → settled_of P N d ≡ Some (k, v) → Leads R d v
-  pub only_yes : (d : ℕ) → Lives N d → settled_of P N d ≡ None → verdict_of P (length N.devices) ≡ verdict.Yes R
-  pub solved : (d : ℕ) → Lives N d → settled_of P N d ≡ None
+pub record TimeLeads (Leads : Leading) (P : Program) (N : Network) (settled : Settlings) (R : ℕ) : Type 0 where
+  pub known : (d k : ℕ) (v : LocalValue) → Lives N d → settled d ≡ Some (k, v) → Leads R d v
+  pub only_yes : (d : ℕ) → Lives N d → settled d ≡ None → verdict_of P (length N.devices) ≡ verdict.Yes R
+  pub solved : (d : ℕ) → Lives N d → settled d ≡ None
       → (one : HasOneSolution (unfolding_of P) N) × Leads R d (one.field d)
 
 -- it is no more than the rounds of a yes
 abbrev pub TimeIsLow : Program → Network → ℕ → Type 0
 TimeIsLow P N R = (K : ℕ) → verdict_of P (length N.devices) ≡ verdict.Yes K → R ≤ K
 
--- so it is over firings, and over message links
+-- so it is from every start, over firings and over message links
 pub record SettlesWell (P : Program) (N : Network) : Type 0 where
-  pub rounds : RoundsLead (ReachedAt (unfolding_of P) N) P N
-  pub mail_rounds : RoundsLead (MailReachedAt (unfolding_of P) N) P N
-  pub solves : (K : ℕ) → verdict_of P (length N.devices) ≡ verdict.Yes K → ValuesSolve P N
-  pub time : (R : ℕ) → IsSettleTime P N R → TimeLeads (ReachedAt (unfolding_of P) N) P N R
-  pub mail_time : (R : ℕ) → IsSettleTime P N R → TimeLeads (MailReachedAt (unfolding_of P) N) P N R
-  pub low : (R : ℕ) → IsSettleTime P N R → TimeIsLow P N R
+  pub rounds : RoundsLead (ReachedAt (unfolding_of P) N) N (settled_of P N)
+  pub mail_rounds : RoundsLead (MailReachedAt (unfolding_of P) N) N (settled_of P N)
+  pub solves : (K : ℕ) → verdict_of P (length N.devices) ≡ verdict.Yes K → ValuesSolve P N (settled_of P N)
+  pub time : (R : ℕ) → IsSettleTime P N (settled_of P N) R
+      → TimeLeads (ReachedAt (unfolding_of P) N) P N (settled_of P N) R
+  pub mail_time : (R : ℕ) → IsSettleTime P N (settled_of P N) R
+      → TimeLeads (MailReachedAt (unfolding_of P) N) P N (settled_of P N) R
+  pub low : (R : ℕ) → IsSettleTime P N (settled_of P N) R → TimeIsLow P N R
 
 abbrev pub SettleTimesHold : Type 0
 SettleTimesHold = (P : Program) (N : Network) → IsProgram P → IsNetwork N → N.declared ≡ P.declared → SettlesWell P N

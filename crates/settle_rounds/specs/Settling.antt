@@ -7,16 +7,19 @@ use Rattle.fragment_check.specs.Verdicts.{verdict_of}
 use Rattle.converge_laws.specs.Stabilising.{HasOneSolution}
 use Rattle.value_bounds.specs.BoundValues.{value_left}
 use Rattle.bound_firing.specs.Exports.{ExportBound}
+use Rattle.bound_rounds.specs.declared.rounds.RoundKind.TheVariants as kind
+use Rattle.bound_rounds.specs.declared.rounds.RoundKind.{RoundKind}
+use Rattle.bound_rounds.specs.Rounds.{BoundTable, table_after, rounds_from, IsFixed}
 use Rattle.settle_rounds.specs.Rounds.{bounds_after, is_reached}
 
 -- a round that changes no bound of a device that is there
-abbrev pub IsStill : Unfolding → Network → ℕ → Type 0
-IsStill U N j = (d : ℕ) → Lives N d → bounds_after U N (suc j) d ≡ bounds_after U N j d
+abbrev pub IsStill : RoundKind → Unfolding → Network → BoundTable → ℕ → Type 0
+IsStill k U N start j = IsFixed k U N (table_after k U N start j)
 
 -- after it nothing changes, so what isn't known by then never will be
 abbrev pub StillStays : Type 0
-StillStays = (U : Unfolding) (N : Network) → IsNetwork N → (j i : ℕ) → IsStill U N j → j ≤ i → (d : ℕ) → Lives N d
-    → bounds_after U N i d ≡ bounds_after U N j d
+StillStays = (k : RoundKind) (U : Unfolding) (N : Network) → IsNetwork N → (start : BoundTable) (j i : ℕ)
+    → IsStill k U N start j → j ≤ i → (d : ℕ) → Lives N d → table_after k U N start i d ≡ table_after k U N start j d
 
 -- where the verdict is a yes, the value that is left is that of the one field
 pub record LeftIsSolved (P : Program) (N : Network) : Type 0 where
@@ -33,22 +36,22 @@ abbrev pub first_reached : (ℕ → ExportBound) → ℕ → ℕ → Option ℕ
 first_reached b zero j = None
 first_reached b (suc n) j = if is_reached (b j) then Some j else first_reached b n (suc j)
 
-abbrev pub settle_round : Unfolding → Network → ℕ → ℕ → Option ℕ
-settle_round U N cap d = first_reached (λ j. bounds_after U N j d) (suc cap) 0
+abbrev pub settle_round : Unfolding → Network → BoundTable → ℕ → ℕ → Option ℕ
+settle_round U N start cap d = first_reached (λ j. rounds_from U N start j d) (suc cap) 0
 
 -- it is one after which the device is reached, and it isn't before
-pub record SettlesAfter (U : Unfolding) (N : Network) (d k : ℕ) : Type 0 where
-  pub reached : is_reached (bounds_after U N k d) ≡ true
-  pub before : (i : ℕ) → i < k → is_reached (bounds_after U N i d) ≡ false
+pub record SettlesAfter (U : Unfolding) (N : Network) (start : BoundTable) (d k : ℕ) : Type 0 where
+  pub reached : is_reached (rounds_from U N start k d) ≡ true
+  pub before : (i : ℕ) → i < k → is_reached (rounds_from U N start i d) ≡ false
 
 -- the settle round is that number, where it is at most the cap; and there is none where a round is still and the device
 -- isn't reached by then
-pub record RoundsAre (U : Unfolding) (N : Network) : Type 0 where
-  pub settles : (cap d k : ℕ) → settle_round U N cap d ≡ Some k → SettlesAfter U N d k
-  pub within : (cap d k : ℕ) → settle_round U N cap d ≡ Some k → k ≤ cap
-  pub found : (cap d k : ℕ) → k ≤ cap → SettlesAfter U N d k → settle_round U N cap d ≡ Some k
-  pub never : (cap d j : ℕ) → IsStill U N j → Lives N d
-      → ((i : ℕ) → i ≤ j → is_reached (bounds_after U N i d) ≡ false) → settle_round U N cap d ≡ None
+pub record RoundsAre (U : Unfolding) (N : Network) (start : BoundTable) : Type 0 where
+  pub settles : (cap d k : ℕ) → settle_round U N start cap d ≡ Some k → SettlesAfter U N start d k
+  pub within : (cap d k : ℕ) → settle_round U N start cap d ≡ Some k → k ≤ cap
+  pub found : (cap d k : ℕ) → k ≤ cap → SettlesAfter U N start d k → settle_round U N start cap d ≡ Some k
+  pub never : (cap d j : ℕ) → IsStill kind.Firing U N start j → Lives N d
+      → ((i : ℕ) → i ≤ j → is_reached (rounds_from U N start i d) ≡ false) → settle_round U N start cap d ≡ None
 
 abbrev pub RoundsSettle : Type 0
-RoundsSettle = (U : Unfolding) (N : Network) → IsNetwork N → RoundsAre U N
+RoundsSettle = (U : Unfolding) (N : Network) → IsNetwork N → (start : BoundTable) → RoundsAre U N start

@@ -1,17 +1,18 @@
 //! After how many rounds the devices of a network settle, and to which values.
 
-ghost use Rattle.std.specs.Prelude.{◌≡◌, ◌<◌, ◌+◌, false, IfOk, OnOk, IsTrue, All, IsSome, length, map};
+ghost use Rattle.std.specs.Prelude.{◌≡◌, IfOk, OnOk, IsTrue, All, IsSome, length, map};
 ghost use Rattle.std.specs.Prelude.{Option, None, option_map};
 ghost use Rattle.fc_nodes.specs.Program.{unfolding_of};
 ghost use Rattle.value_bounds.specs.References.{local_bound_in};
-ghost use Rattle.topology.specs.Networks.{IsNetwork};
-ghost use Rattle.settle_rounds.specs.Settling.{IsStill};
+ghost use Rattle.bound_rounds.specs.Rounds.{BoundTable};
+ghost use Rattle.bound_rounds.specs.Tables.{FitTable, Stand};
+ghost use Rattle.settle_rounds.specs.Rounds.{any_table};
 ghost use Rattle.settle_rounds.specs.SettleTimes.{all_settle_to, greatest_round, settle_time};
 ghost use Rattle.settle_rounds.specs.declared.settling.Settled.{Settled};
-ghost use Rattle.settle_rounds.specs.References.{settled_in, noted, AreNoted, IsSettling};
+ghost use Rattle.settle_rounds.specs.References.{settled_in, noted, AreNoted};
 
-use crate::rounds::{Table, first_table, round};
-use bound_firing::ExportBound;
+use bound_firing::{ExportBound, any_export_bound};
+use bound_rounds::{RoundKind, round, table_of};
 use fc_nodes::{Unfolded, Verdict};
 use fc_values::{Local, Memory};
 use std::alloc::Global;
@@ -25,7 +26,8 @@ pub struct Settled {
     pub value: Local,
 }
 
-/// The settle round and the value of each device, by rising number; none where it isn't known after so many rounds.
+/// The settle round and the value of each device from any exports, by rising number; none where its value isn't known
+/// after so many rounds.
 pub fn settle(
     alloc: Global,
     program: &Unfolded,
@@ -34,38 +36,59 @@ pub fn settle(
 ) -> Result<Vec<Option<Settled>>, Memory>
     requires { network.now.declared ≡ program.now.declared }
     ensures { IfOk result (λ v. map (option_map settled_in) v.items
-        ≡ all_settle_to (unfolding_of program.now) network.now cap) }
+        ≡ all_settle_to (unfolding_of program.now) network.now (any_table (unfolding_of program.now)) cap) }
 {
-    let mut table = first_table(alloc, program, network)?;
+    let start = any_bounds(alloc, program, network)?;
+    settle_over(alloc, program, network, &start, cap)
+}
+
+// The same from a table of bounds.
+pub(crate) fn settle_over(
+    alloc: Global,
+    program: &Unfolded,
+    network: &Network,
+    start: &[ExportBound],
+    cap: u32,
+) -> Result<Vec<Option<Settled>>, Memory>
+    requires declared { network.now.declared ≡ program.now.declared }
+    requires fits { FitTable (unfolding_of program.now) network.now start.now }
+    ensures { IfOk result (λ v. (table : BoundTable) → Stand (unfolding_of program.now) network.now table start.now
+        → map (option_map settled_in) v.items ≡ all_settle_to (unfolding_of program.now) network.now table cap) }
+{
+    let mut table = table_of(alloc, program, network, start)?;
     let mut settled = none_settled(alloc, network)?;
-    while table.rounds < cap {
-        let changes = advance(alloc, program, network, &mut table, &mut settled)?;
-        if !changes || all_settled(&settled) {
+    let mut rounds = 0;
+    note_reached(alloc, rounds, &table.bounds, &mut settled)?;
+    while rounds < cap {
+        if all_settled(&settled) {
             return Ok(settled);
         }
+        let changes = round(alloc, RoundKind::Firing, program, network, &mut table)?;
+        if !changes {
+            return Ok(settled);
+        }
+        rounds += 1;
+        note_reached(alloc, rounds, &table.bounds, &mut settled)?;
     }
     Ok(settled)
 }
 
-// Makes a round, and notes the devices whose value is known then: whether the round changed a bound.
-fn advance(
+// As many bounds of any export as there are devices.
+fn any_bounds(
     alloc: Global,
     program: &Unfolded,
     network: &Network,
-    table: &mut Table,
-    settled: &mut [Option<Settled>],
-) -> Result<bool, Memory>
-    requires declared { network.now.declared ≡ program.now.declared }
-    requires settling { IsSettling (unfolding_of program.now) network.now table.old settled.old }
-    requires few { table.old.rounds < u32.MAX }
-    ensures settling { OnOk result (IsSettling (unfolding_of program.now) network.now table.new settled.new) }
-    ensures rounds { OnOk result (table.new.rounds ≡ table.old.rounds + 1) }
-    ensures still { IfOk result (λ c. c ≡ false → IsStill (unfolding_of program.now) network.now table.old.rounds) }
-    ensures network { OnOk result (IsNetwork network.now) }
+) -> Result<Vec<ExportBound>, Memory>
+    ensures fits { IfOk result (λ v. FitTable (unfolding_of program.now) network.now v.items) }
+    ensures any { IfOk result (λ v. Stand (unfolding_of program.now) network.now (any_table (unfolding_of program.now))
+        v.items) }
 {
-    let changes = round(alloc, program, network, table)?;
-    note_reached(alloc, table.rounds, &table.bounds, settled)?;
-    Ok(changes)
+    let count = network.devices().len();
+    let mut bounds = Vec::with_capacity(alloc, count)?;
+    for _ in 0..count {
+        bounds.push(any_export_bound(alloc, program)?)?;
+    }
+    Ok(bounds)
 }
 
 /// The settle time of a network: the greatest settle round, where each device has one; else the rounds of a yes.

@@ -1,6 +1,6 @@
 //! Lines of words with the commands that they ask for, with ample memory.
 
-use command_words::{Command, Limit, command, passed_limit};
+use command_words::{Command, Limit, Start, command, passed_limit};
 use std::alloc::Global;
 use std::test::Fail;
 
@@ -13,7 +13,7 @@ fn asked(alloc: Global, line: &str) -> Result<Option<Command>, Fail> {
     Ok(command(alloc, &words)?)
 }
 
-const OUTSIDE: [&str; 54] = [
+const OUTSIDE: [&str; 60] = [
     "fc",
     "fc ",
     "fc help",
@@ -68,6 +68,12 @@ const OUTSIDE: [&str; 54] = [
     "fc check --facts --settle --facts",
     "fc replay --settle",
     "fc format --table",
+    "fc check --from-table",
+    "fc check --facts --from-table",
+    "fc check --from-table --settle --from-table",
+    "fc check --settle --from-table=1",
+    "fc stable --settle --from-table",
+    "fc replay --from-table",
 ];
 
 #[test]
@@ -85,28 +91,49 @@ fn words_inside(rt: HostRuntime) -> Result<(), Fail> {
             "fc check",
             Command::Check {
                 facts: false,
-                settle: false,
+                settle: None,
             },
         ),
         (
             "fc check --facts",
             Command::Check {
                 facts: true,
-                settle: false,
+                settle: None,
             },
         ),
         (
             "fc check --settle",
             Command::Check {
                 facts: false,
-                settle: true,
+                settle: Some(Start::Any),
             },
         ),
         (
             "fc check --settle --facts",
             Command::Check {
                 facts: true,
-                settle: true,
+                settle: Some(Start::Any),
+            },
+        ),
+        (
+            "fc check --settle --from-table",
+            Command::Check {
+                facts: false,
+                settle: Some(Start::Table),
+            },
+        ),
+        (
+            "fc check --from-table --settle",
+            Command::Check {
+                facts: false,
+                settle: Some(Start::Table),
+            },
+        ),
+        (
+            "fc check --from-table --facts --settle",
+            Command::Check {
+                facts: true,
+                settle: Some(Start::Table),
             },
         ),
         ("fc stable", Command::Stable),

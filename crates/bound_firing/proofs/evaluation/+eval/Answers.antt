@@ -1,7 +1,7 @@
 use Rattle.std.proofs.Common.{◌∙◌, [], ◌∷◌, arith, ap, refl}
 use Rattle.std.proofs.lemmas.List.{map-append}
 use Rattle.value_bounds.specs.References.{any_bound_in, any_bounds_in}
-use Rattle.bound_firing.proofs.Frames.{slots_long}
+use Rattle.bound_firing.proofs.SlotReads.{slots_long}
 use Rattle.bound_firing.proofs.LeafAt.{lit_done, variable_done, sense_done, uid_done, links_done}
 use Rattle.bound_firing.proofs.LetAt.{let_kids, let_value, let_body, let_done}
 use Rattle.bound_firing.proofs.NbrAt.{nbr_kids, nbr_there, nbr_kid, nbr_within, nbr_done}

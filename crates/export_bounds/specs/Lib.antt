@@ -1,0 +1,4 @@
+pub mod Exports
+pub mod Laws
+pub mod Slots
+pub mod Widening

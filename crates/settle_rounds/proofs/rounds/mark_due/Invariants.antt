@@ -1,5 +1,0 @@
-use Rattle.settle_rounds.specs.Tables.{AllMarked}
-use Rattle.settle_rounds.proofs.rounds.mark_due.Given as goal
-
-abbrev pub invariant-loop-place : goal.invariant-loop-place
-invariant-loop-place l = AllMarked l.network l.changed l.place l.due

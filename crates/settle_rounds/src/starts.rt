@@ -1,0 +1,187 @@
+//! Settle rounds from the exports of a core and its copies in flight.
+
+ghost use Rattle.std.specs.Prelude.{◌≡◌, IfOk, IfSome, OnOk, None, length, map, option_map, true};
+ghost use Rattle.fc_nodes.specs.Program.{unfolding_of};
+ghost use Rattle.fc_nodes.specs.Terms.{kept};
+ghost use Rattle.value_trees.specs.Snaps.{IsExportOf, IsSnap, snap_copy, tree_of};
+ghost use Rattle.topology.specs.Networks.{lives};
+ghost use Rattle.firing_core.specs.Cores.{Core as PlainCore};
+ghost use Rattle.firing_core.specs.CoreViews.{IsSameCore, core_of, program_of};
+ghost use Rattle.bound_firing.specs.ExportReferences.{export_bound_in};
+ghost use Rattle.bound_rounds.specs.Tables.{FitTable};
+ghost use Rattle.settle_rounds.specs.Starts.{FirstBound};
+ghost use Rattle.settle_rounds.specs.References.{FirstBounds, GrowsOn, HasState, IsGrown, IsSettledFrom};
+ghost use Rattle.settle_rounds.specs.References.{LandingBound, SameButFlight, StateBound, settled_in};
+
+use crate::limits::growing_cap;
+use crate::settling::{Settled, settle, settle_over};
+use bound_firing::ExportBound;
+use bound_rounds::{RoundKind, round, table_of};
+use device_eval::evaluate;
+use export_bounds::{exact_export_bound, widen_bound};
+use fc_nodes::Unfolded;
+use fc_values::{Export, Memory};
+use firing_core::Core;
+use std::alloc::Global;
+use topology::Network;
+use value_trees::Snap;
+
+/// The settle round and the value of each device from the exports of a core and its copies in flight, by rising number;
+/// none where its value isn't known after so many rounds. A device that has neither begins a firing.
+pub fn settle_from(alloc: Global, core: &mut Core, cap: u32) -> Result<Vec<Option<Settled>>, Memory>
+    ensures settled { IfOk result (λ v. IsSettledFrom (program_of core.old) core.old.net cap (core_of core.old)
+        (map (option_map settled_in) v.items)) }
+    ensures same { IsSameCore core.old core.new }
+{
+    let first = first_bounds(alloc, core)?;
+    let settled = settle_grown(alloc, core.program(), core.net(), &first, cap)?;
+    Ok(settled)
+}
+
+// The same from first bounds.
+fn settle_grown(
+    alloc: Global,
+    program: &Unfolded,
+    network: &Network,
+    first: &[ExportBound],
+    cap: u32,
+) -> Result<Vec<Option<Settled>>, Memory>
+    requires declared { network.now.declared ≡ program.now.declared }
+    requires fits { FitTable (unfolding_of program.now) network.now first.now }
+    ensures { IfOk result (λ v. (c : PlainCore) → FirstBounds (unfolding_of program.now) network.now c first.now
+        → IsSettledFrom (unfolding_of program.now) network.now cap c (map (option_map settled_in) v.items)) }
+{
+    let most = growing_cap(network.devices().len());
+    let settled = match grow(alloc, program, network, first, most)? {
+        Some(start) => settle_over(alloc, program, network, &start, cap)?,
+        None => settle(alloc, program, network, cap)?,
+    };
+    Ok(settled)
+}
+
+// What first bounds grow to until they are full, unless they grow longer than so many rounds.
+fn grow(
+    alloc: Global,
+    program: &Unfolded,
+    network: &Network,
+    first: &[ExportBound],
+    most: u32,
+) -> Result<Option<Vec<ExportBound>>, Memory>
+    requires declared { network.now.declared ≡ program.now.declared }
+    requires fits { FitTable (unfolding_of program.now) network.now first.now }
+    ensures grown { IfOk result (λ o. IfSome o (λ v. IsGrown (unfolding_of program.now) network.now most first.now
+        v.items)) }
+    ensures longer { IfOk result (λ o. o ≡ None → GrowsOn (unfolding_of program.now) network.now most first.now) }
+{
+    let mut table = table_of(alloc, program, network, first)?;
+    let mut rounds = 0;
+    loop {
+        let grows = round(alloc, RoundKind::Growing, program, network, &mut table)?;
+        if !grows {
+            return Ok(Some(table.bounds));
+        }
+        if rounds == most {
+            return Ok(None);
+        }
+        rounds += 1;
+    }
+}
+
+// The first bound of each device.
+fn first_bounds(alloc: Global, core: &mut Core) -> Result<Vec<ExportBound>, Memory>
+    ensures first { IfOk result (λ v. FirstBounds (program_of core.old) core.old.net (core_of core.old) v.items) }
+    ensures same { IsSameCore core.old core.new }
+{
+    let count = core.net().devices().len();
+    let mut bounds = Vec::with_capacity(alloc, count)?;
+    for place in 0..count {
+        let device = core.net().devices()[place].id;
+        bounds.push(first_bound(alloc, core, device)?)?;
+    }
+    Ok(bounds)
+}
+
+// The first bound of a device. One that has neither an export nor a copy in flight begins a firing.
+fn first_bound(alloc: Global, core: &mut Core, device: u32) -> Result<ExportBound, Memory>
+    requires { lives core.old.net device ≡ true }
+    ensures bound { IfOk result (λ b. FirstBound (program_of core.old) core.old.net (core_of core.old) device
+        (export_bound_in (program_of core.old) b)) }
+    ensures slots { IfOk result (λ b. length b.slots.items ≡ kept (program_of core.old).main) }
+    ensures same { SameButFlight core.old device core.new }
+{
+    take_off(alloc, core, device)?;
+    let bound = state_bound(
+        alloc,
+        core.program(),
+        core.export(device),
+        core.flying(device),
+    )?;
+    Ok(bound)
+}
+
+// Begins a firing of a device that has neither an export nor a copy in flight.
+fn take_off(alloc: Global, core: &mut Core, device: u32) -> Result<(), Memory>
+    requires { lives core.old.net device ≡ true }
+    ensures state { OnOk result (HasState core.old.net (core_of core.old) (core_of core.new) device) }
+    ensures same { SameButFlight core.old device core.new }
+{
+    if core.export(device).is_some() || core.flying(device).is_some() {
+        return Ok(());
+    }
+    match core.begin(alloc, device) {
+        Ok(()) => Ok(()),
+        Err(_) => Err(Memory),
+    }
+}
+
+// What an export and a copy in flight hold, of which one at least is there.
+fn state_bound(
+    alloc: Global,
+    program: &Unfolded,
+    export: Option<&Export>,
+    flying: Option<&Snap>,
+) -> Result<ExportBound, Memory>
+    requires export { IfSome export (λ e. IsExportOf (unfolding_of program.now) e.now) }
+    requires flying { IfSome flying (λ s. IsSnap (unfolding_of program.now) s.now) }
+    requires some { export ≡ None → flying ≡ None → ⊥ }
+    ensures bound { IfOk result (λ b. StateBound (unfolding_of program.now)
+        (option_map (λ e. tree_of (unfolding_of program.now) e.now) export.entry)
+        (option_map (λ s. snap_copy (unfolding_of program.now) s.now) flying.entry)
+        (export_bound_in (unfolding_of program.now) b)) }
+    ensures slots { IfOk result (λ b. length b.slots.items ≡ kept (unfolding_of program.now).main) }
+{
+    match (export, flying) {
+        (Some(export), Some(snap)) => {
+            let stands = exact_export_bound(alloc, export, true)?;
+            let mut both = landing(alloc, program, snap, true)?;
+            widen_bound(alloc, program, &stands, &mut both)?;
+            Ok(both)
+        }
+        (Some(export), None) => {
+            let stands = exact_export_bound(alloc, export, true)?;
+            Ok(stands)
+        }
+        (None, Some(snap)) => {
+            let lands = landing(alloc, program, snap, false)?;
+            Ok(lands)
+        }
+        (None, None) => unreachable!(),
+    }
+}
+
+// The bound of the export that a copy evaluates to.
+fn landing(
+    alloc: Global,
+    program: &Unfolded,
+    snap: &Snap,
+    sure: bool,
+) -> Result<ExportBound, Memory>
+    requires { IsSnap (unfolding_of program.now) snap.now }
+    ensures bound { IfOk result (LandingBound (unfolding_of program.now) (snap_copy (unfolding_of program.now) snap.now)
+        sure) }
+    ensures slots { IfOk result (λ b. length b.slots.items ≡ kept (unfolding_of program.now).main) }
+{
+    let export = evaluate(alloc, program, snap)?;
+    let bound = exact_export_bound(alloc, &export, sure)?;
+    Ok(bound)
+}
