@@ -1,0 +1,111 @@
+"""Finds the program `fc` and runs it: words and bytes in, a status and bytes out."""
+
+from __future__ import annotations
+
+import os
+import shutil
+import subprocess
+import sys
+from collections.abc import Callable, Sequence
+from dataclasses import dataclass
+from pathlib import Path
+
+from .refusals import Call, Fault, Refusal, Section
+
+PACKAGE = Path(__file__).resolve().parent
+INSTALLED = ("libexec/fc/fc", "libexec/fc")
+TICK = 0.2
+
+
+@dataclass(frozen=True)
+class Reply:
+    """How `fc` ended: its status, and all that it wrote on standard output."""
+
+    status: int
+    output: bytes
+
+    @property
+    def text(self) -> str:
+        """The output as text."""
+        return text_of(self.output)
+
+
+def text_of(content: bytes) -> str:
+    """Bytes as text; what isn't UTF-8 is kept, and `bytes_of` gives it back."""
+    return content.decode("utf-8", "surrogateescape")
+
+
+def bytes_of(text: str) -> bytes:
+    """The bytes of a text that came from `text_of`, or of any other."""
+    return text.encode("utf-8", "surrogateescape")
+
+
+def checkout() -> Path | None:
+    """The folder of the repository from which this package runs, or nothing where it is installed."""
+    folder = PACKAGE.parent.parent
+    return folder if (folder / "crates.txt").exists() and (folder / "fc").exists() else None
+
+
+def find() -> str:
+    """The path of `fc`.
+
+    It is what the variable FC names; else the installed program, under `libexec` of a folder that holds this package or
+    Python; else `fc` of the checkout, which runs the proved program, or says that it isn't built.
+
+    Raises Fault where none is there.
+    """
+    named = os.environ.get("FC")
+    if named:
+        found = shutil.which(named)
+        if found is None:
+            raise Fault(f"{named} isn't a program: the variable FC has to name fc")
+        return found
+    for folder in (*PACKAGE.parents, Path(sys.prefix)):
+        for place in INSTALLED:
+            if os.access(folder / place, os.X_OK) and (folder / place).is_file():
+                return str(folder / place)
+    here = checkout()
+    if here is not None:
+        return str(here / "fc")
+    raise Fault("fc isn't there: install it with ./build --prefix, or let the variable FC name it")
+
+
+def joined(sections: Sequence[Section]) -> bytes:
+    """The input of `fc`: the sections with a line `%%` between each two of them."""
+    ended = [s.text if not s.text or s.text.endswith("\n") else s.text + "\n" for s in sections[:-1]]
+    return bytes_of("%%\n".join([*ended, *(s.text for s in sections[-1:])]))
+
+
+def ask(call: Call, waiting: Callable[[], None] | None = None) -> Reply:
+    """Runs `fc` on a call to its end, whatever its status.
+
+    `waiting` is called about five times a second as long as it runs. What `fc` writes on standard error goes there.
+    Raises Fault where `fc` can't be started.
+    """
+    content: bytes | None = joined(call.sections)
+    try:
+        process = subprocess.Popen([find(), *call.words], stdin=subprocess.PIPE, stdout=subprocess.PIPE)
+    except OSError as error:
+        raise Fault(f"{find()} can't be run: {error.strerror}") from None
+    try:
+        while True:
+            try:
+                output, _ = process.communicate(content, timeout=TICK)
+                return Reply(process.returncode, output)
+            except subprocess.TimeoutExpired:
+                content = None
+                if waiting is not None:
+                    waiting()
+    except BaseException:
+        process.kill()
+        process.wait()
+        raise
+
+
+def answered(call: Call, waiting: Callable[[], None] | None = None) -> Reply:
+    """Runs `fc` on a call. Raises Refusal where its status is above 1, or it was killed."""
+    reply = ask(call, waiting)
+    if reply.status not in (0, 1):
+        line = reply.text.strip("\n") if reply.status in (2, 3, 4) else ""
+        raise Refusal(reply.status, line.split(" ")[0].rstrip(":"), line, call)
+    return reply

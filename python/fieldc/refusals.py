@@ -1,0 +1,101 @@
+"""What is asked of `fc`, what it refuses, and how a refusal is explained to a person."""
+
+from __future__ import annotations
+
+import importlib
+from dataclasses import dataclass
+
+
+class Fault(Exception):
+    """What `fieldc` itself refuses, in one line: a wrong file, option or graph. Its status is 2."""
+
+    status = 2
+
+
+@dataclass(frozen=True)
+class Section:
+    """One section of an input.
+
+    `kind` is "program", "network", "script" or "log"; `name` is the file as the user typed it, "-" for standard input, or
+    "" for a text that came from no file; `first_line` is the line of that file on which the section begins, from 1.
+    """
+
+    kind: str
+    name: str
+    first_line: int
+    text: str
+
+
+@dataclass(frozen=True)
+class Call:
+    """What `fc` is asked: the words of its command line behind `fc`, and the sections of its input."""
+
+    words: tuple[str, ...]
+    sections: tuple[Section, ...]
+
+
+@dataclass(frozen=True)
+class Explanation:
+    """A refusal, or the reason of a no, in plain words.
+
+    `what` is one plain sentence. `section`, `line` and `column` are the place, `line` in the user's file and both from 1;
+    `name` is the name that is meant, `hint` what to try, and `page` where to read on. Each but `what` may be missing.
+    """
+
+    what: str
+    section: Section | None = None
+    line: int | None = None
+    column: int | None = None
+    name: str | None = None
+    hint: str | None = None
+    page: str | None = None
+
+
+@dataclass(eq=False)
+class Refusal(Exception):
+    """An answer of `fc` with a status above 1.
+
+    `status` is that of `fc` (2 to 7), `line` the whole line that it wrote ("" where it wrote none), `word` the first word of
+    that line, and `call` what was asked. It isn't frozen, as Python itself sets an exception's traceback; nobody else
+    changes it.
+    """
+
+    status: int
+    word: str
+    line: str
+    call: Call
+
+    def __post_init__(self) -> None:
+        super().__init__(self.status, self.word, self.line, self.call)
+
+    def __str__(self) -> str:
+        return self.line or f"status {self.status}"
+
+    @property
+    def explanation(self) -> Explanation:
+        """The explanation of this refusal; only what `fc` said where nothing more is known."""
+        return explained(self.call, self)
+
+
+UNSAID = {
+    5: "Reading the input failed.",
+    6: "Writing the output failed.",
+    7: "There was not enough memory.",
+}
+
+
+def plain_explanation(refusal: Refusal) -> Explanation:
+    """What `fc` said, with nothing added."""
+    page = "docs/formats.md#statuses"
+    if refusal.line:
+        return Explanation(what=refusal.line, page=page)
+    return Explanation(what=UNSAID.get(refusal.status, f"fc ended with status {refusal.status}."), page=page)
+
+
+def explained(call: Call, refusal: Refusal) -> Explanation:
+    """The explanation of a refusal or of a no; only what `fc` said where the explaining part isn't there."""
+    try:
+        explain = importlib.import_module("fieldc.explain").explain
+    except ImportError:
+        return plain_explanation(refusal)
+    return explain(call, refusal)

@@ -1,0 +1,300 @@
+"""What `fc` answers, as frozen dataclasses, and the readers of its texts. Nothing of the calculus is computed here."""
+
+from __future__ import annotations
+
+import json
+from collections.abc import Iterator, Mapping
+from dataclasses import dataclass, field
+from types import MappingProxyType
+from typing import Any, Union
+
+from .refusals import Fault
+
+Value = Union[int, bool, tuple["Value", "Value"]]
+"""A value of the calculus: a whole number, a truth value, or a pair of values."""
+
+Values = Mapping[int, Union[Value, None]]
+"""By device, rising, its value, or nothing where it has published none (or none is known)."""
+
+
+@dataclass(frozen=True)
+class Verdict:
+    """`yes K` with the `rounds` K, or `no PLACE REASON`; `line` is as `fc` wrote it."""
+
+    line: str
+    rounds: int | None = None
+    place: int | None = None
+    reason: str | None = None
+
+    @property
+    def stabilises(self) -> bool:
+        """Whether it is a yes."""
+        return self.rounds is not None
+
+
+@dataclass(frozen=True)
+class Fact:
+    """What is known of a node of the unfolded `main`, as `check --facts` writes it."""
+
+    place: int
+    operator: str
+    type: str
+    range: str
+    level: int
+
+
+@dataclass(frozen=True)
+class Checked:
+    """The verdict, and the facts of each node where they were asked for and it is a yes."""
+
+    verdict: Verdict
+    facts: tuple[Fact, ...] = ()
+
+
+@dataclass(frozen=True)
+class Settled:
+    """After how many rounds each device of the network holds its value.
+
+    `rounds` is the settle time, and nothing where the network is open. `by_device` has each device's settle round, and
+    `values` the value that it then holds; both have nothing for a device without a settle round. `from_table` says
+    whether the rounds are counted from the table and the pending firings of the network, or from every start.
+    """
+
+    verdict: Verdict
+    rounds: int | None
+    by_device: Mapping[int, int | None]
+    values: Values
+    from_table: bool = False
+    facts: tuple[Fact, ...] = ()
+
+    @property
+    def open(self) -> bool:
+        """Whether no number of rounds is known for some device."""
+        return self.rounds is None
+
+
+@dataclass(frozen=True)
+class Stable:
+    """The value to which each device stabilises; none where the verdict is a no. With a yes `verdict` is nothing."""
+
+    values: Values
+    verdict: Verdict | None = None
+
+
+@dataclass(frozen=True)
+class Traced:
+    """For each device its value and a least walk that ends in it. `walks` is nothing where there are none."""
+
+    verdict: Verdict
+    values: Values = field(default_factory=dict)
+    walks: Mapping[int, tuple[int, ...]] | None = None
+
+
+@dataclass(frozen=True)
+class Show:
+    """What a line of a script showed: `line` is its number, `values` what the devices held.
+
+    `rounds` is how many rounds the script asked for between the last edit before that line and the line itself, and
+    `edited` whether there was an edit at all. Both are of the script, and nothing where it isn't known.
+    """
+
+    line: int
+    values: Values
+    rounds: int | None = None
+    edited: bool | None = None
+
+
+@dataclass(frozen=True)
+class Ran:
+    """A run: the verdict at the start, the shows, the verdicts behind joins and leaves by the number of the show before
+    which they were written, the log's lines and the table of exports where they were asked for."""
+
+    verdict: Verdict
+    shows: tuple[Show, ...]
+    verdicts: tuple[tuple[int, Verdict], ...] = ()
+    log: tuple[str, ...] | None = None
+    table: Mapping[str, Any] | None = None
+
+
+@dataclass(frozen=True)
+class Replayed:
+    """What the devices hold after a log, and the rounds and the table where they were asked for."""
+
+    values: Values
+    rounds: int | None = None
+    table: Mapping[str, Any] | None = None
+
+
+@dataclass(frozen=True)
+class Mailed:
+    """What the devices hold after a mail log, and its rounds. `verdict` is that of a log that was made from a number."""
+
+    values: Values
+    rounds: int | None
+    verdict: Verdict | None = None
+
+
+@dataclass(frozen=True)
+class Generated:
+    """The summary of the scenario of a number."""
+
+    number: int
+    devices: int
+    verdict: Verdict
+    firings: int
+    agree: int
+    sum: int
+
+
+Result = Union[Checked, Settled, Stable, Traced, Ran, Replayed, Mailed, Generated]
+
+
+def value_of(word: str) -> Value | None:
+    """A value as `fc` writes it; nothing for `-`. Raises Fault for any other word."""
+    if word == "-":
+        return None
+    try:
+        return _paired(json.loads(word.replace("(", "[").replace(")", "]")))
+    except (ValueError, TypeError):
+        raise Fault(f"{word} is no value that fc writes") from None
+
+
+def _paired(found: Any) -> Value:
+    if isinstance(found, list):
+        first, second = found
+        return (_paired(first), _paired(second))
+    if isinstance(found, bool) or (isinstance(found, int) and found >= 0):
+        return found
+    raise ValueError
+
+
+def word_of(value: Value | None) -> str:
+    """A value in the words of `fc`: `-` for nothing, `(1,true)` for a pair."""
+    if value is None:
+        return "-"
+    if isinstance(value, tuple):
+        return "(" + ",".join(word_of(part) for part in value) + ")"
+    return json.dumps(value)
+
+
+def verdict_of(line: str) -> Verdict:
+    """The verdict of its line. Raises Fault where it is none."""
+    words = line.split(" ")
+    if len(words) == 2 and words[0] == "yes" and words[1].isdigit():
+        return Verdict(line, rounds=int(words[1]))
+    if len(words) == 3 and words[0] == "no" and words[1].isdigit():
+        return Verdict(line, place=int(words[1]), reason=words[2])
+    raise Fault(f"{line!r} is no verdict")
+
+
+def is_verdict(line: str) -> bool:
+    """Whether a line is a verdict's."""
+    return line.startswith("yes ") or (line.startswith("no ") and line != "no walks")
+
+
+def _values(lines: list[str]) -> Values:
+    rows = (line.split(" ") for line in lines)
+    return _kept({int(row[0]): value_of(row[1]) for row in rows})
+
+
+def _kept(found: dict) -> Mapping:
+    return MappingProxyType(found)
+
+
+def _facts(lines: list[str]) -> Iterator[Fact]:
+    for line in lines:
+        place, operator, kind, *span, level = line.split(" ")
+        yield Fact(int(place), operator, kind, " ".join(span), int(level))
+
+
+def checked(text: str) -> Checked:
+    """What `check`, with or without `--facts`, wrote."""
+    first, *rest = text.splitlines()
+    return Checked(verdict_of(first), tuple(_facts(rest)))
+
+
+def settled(text: str, from_table: bool = False) -> Settled:
+    """What `check --settle` wrote. Raises Fault where there is no settle line."""
+    lines = text.splitlines()
+    place = next((i for i, line in enumerate(lines) if line == "open" or line.startswith("settles ")), None)
+    if place is None:
+        raise Fault("there is no line of check --settle")
+    rounds: dict[int, int | None] = {}
+    values: dict[int, Value | None] = {}
+    for device, *rest in (line.split(" ") for line in lines[place + 1 :]):
+        known = len(rest) == 2
+        rounds[int(device)] = int(rest[0]) if known else None
+        values[int(device)] = value_of(rest[1]) if known else None
+    time = None if lines[place] == "open" else int(lines[place].split(" ")[1])
+    facts = tuple(_facts(lines[1:place]))
+    return Settled(verdict_of(lines[0]), time, _kept(rounds), _kept(values), from_table, facts)
+
+
+def stable(text: str) -> Stable:
+    """What `stable` wrote."""
+    lines = text.splitlines()
+    if lines and is_verdict(lines[0]):
+        return Stable(_kept({}), verdict_of(lines[0]))
+    return Stable(_values(lines))
+
+
+def traced(text: str) -> Traced:
+    """What `trace` wrote."""
+    first, *rest = text.splitlines()
+    if not rest or rest == ["no walks"]:
+        return Traced(verdict_of(first), _kept({}))
+    rows = [line.split(" ") for line in rest]
+    walks = {int(row[0]): tuple(int(word) for word in row[2:]) for row in rows}
+    return Traced(verdict_of(first), _values(rest), _kept(walks))
+
+
+def _table(lines: list[str]) -> tuple[list[str], Mapping[str, Any] | None]:
+    """The lines before a table, and the table, which stands on the last line."""
+    if lines and lines[-1].startswith('{"format":2,'):
+        return lines[:-1], _kept(json.loads(lines[-1]))
+    return lines, None
+
+
+def ran(text: str) -> Ran:
+    """What `run` wrote."""
+    lines, table = _table(text.splitlines())
+    log = None
+    if "log" in lines:
+        log = tuple(lines[lines.index("log") + 1 :])
+        lines = lines[: lines.index("log")]
+    first, *rest = lines
+    shows: list[tuple[int, list[str]]] = []
+    verdicts: list[tuple[int, Verdict]] = []
+    for line in rest:
+        if line.startswith("@"):
+            shows.append((int(line[1:]), []))
+        elif is_verdict(line):
+            verdicts.append((len(shows), verdict_of(line)))
+        else:
+            shows[-1][1].append(line)
+    found = tuple(Show(number, _values(rows)) for number, rows in shows)
+    return Ran(verdict_of(first), found, tuple(verdicts), log, table)
+
+
+def replayed(text: str) -> Replayed:
+    """What `replay` wrote."""
+    lines, table = _table(text.splitlines())
+    rounds = None
+    if lines and lines[-1].startswith("rounds "):
+        rounds = int(lines.pop().split(" ")[1])
+    return Replayed(_values(lines), rounds, table)
+
+
+def mailed(text: str) -> Mailed:
+    """What `mail` wrote, of a log or of a number."""
+    lines = text.splitlines()
+    verdict = verdict_of(lines.pop(0)) if lines and is_verdict(lines[0]) else None
+    rounds = int(lines.pop().split(" ")[1]) if lines and lines[-1].startswith("rounds ") else None
+    return Mailed(_values(lines), rounds, verdict)
+
+
+def generated(text: str) -> Generated:
+    """What `gen` wrote."""
+    rows = dict(line.split(" ", 1) for line in text.splitlines())
+    numbers = {name: int(rows[name]) for name in ("number", "devices", "firings", "agree", "sum")}
+    return Generated(verdict=verdict_of(rows["verdict"]), **numbers)
