@@ -1,7 +1,63 @@
-"""A front for people over `fc`, the interpreter and proved checker of the field calculus."""
+"""A front for people over `fc`, the interpreter and proved checker of the first-order field calculus.
+
+    import fieldc, networkx
+
+    graph = networkx.path_graph(3)
+    networkx.set_node_attributes(graph, {0: True, 1: False, 2: False}, "src")
+    hops = "ceiling 10; input src: bool; main = rep(10){(d) => minHoodLoc(nbr{d} + 1, mux(sense src, 0, 10))};"
+    fieldc.stable(hops, graph).values           # {0: 0, 1: 1, 2: 2}
+
+Each call takes a program's text and a network: a networkx graph with inputs as node attributes and weights as edge
+attributes, a `Network`, or a scene, as a mapping or as JSON. Verdicts, values, rounds and logs come from `fc` alone. What
+`fc` refuses is raised as a `Refusal`, whose `explanation` has the place, and what is no network as a `Fault`.
+"""
 
 from __future__ import annotations
 
+from .library import check, format, generate, mail, replay, run, settle, stable, trace
+from .network import Network, from_graph, read_scene
 from .refusals import Call, Explanation, Fault, Refusal, Section
+from .results import (
+    Checked,
+    Fact,
+    Generated,
+    Mailed,
+    Ran,
+    Replayed,
+    Settled,
+    Show,
+    Stable,
+    Traced,
+    Verdict,
+)
 
-__all__ = ["Call", "Explanation", "Fault", "Refusal", "Section"]
+__all__ = [
+    "Call",
+    "Checked",
+    "Explanation",
+    "Fact",
+    "Fault",
+    "Generated",
+    "Mailed",
+    "Network",
+    "Ran",
+    "Refusal",
+    "Replayed",
+    "Section",
+    "Settled",
+    "Show",
+    "Stable",
+    "Traced",
+    "Verdict",
+    "check",
+    "format",
+    "from_graph",
+    "generate",
+    "mail",
+    "read_scene",
+    "replay",
+    "run",
+    "settle",
+    "stable",
+    "trace",
+]

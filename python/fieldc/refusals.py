@@ -7,9 +7,19 @@ from dataclasses import dataclass
 
 
 class Fault(Exception):
-    """What `fieldc` itself refuses, in one line: a wrong file, option or graph. Its status is 2."""
+    """What `fieldc` itself refuses, in one line.
 
-    status = 2
+    Its status is one of `fc`: 2 for options, 3 for what a file or graph says, 5 and 6 for files that can't be read and
+    written.
+    """
+
+    def __init__(self, message: str, status: int = 2) -> None:
+        super().__init__(message, status)
+        self.message = message
+        self.status = status
+
+    def __str__(self) -> str:
+        return self.message
 
 
 @dataclass(frozen=True)

@@ -3,6 +3,7 @@
 from __future__ import annotations
 
 import json
+import re
 from collections.abc import Iterator, Mapping
 from dataclasses import dataclass, field
 from types import MappingProxyType
@@ -40,7 +41,7 @@ class Fact:
     operator: str
     type: str
     range: str
-    level: int
+    level: int | None
 
 
 @dataclass(frozen=True)
@@ -201,10 +202,16 @@ def _kept(found: dict) -> Mapping:
     return MappingProxyType(found)
 
 
+FACT = re.compile(r"(\d+) (\S+(?: \d+)?) ((?:field )?(?:int|bool|\(.*\))) (\S+) (\d+|-)")
+
+
 def _facts(lines: list[str]) -> Iterator[Fact]:
     for line in lines:
-        place, operator, kind, *span, level = line.split(" ")
-        yield Fact(int(place), operator, kind, " ".join(span), int(level))
+        found = FACT.fullmatch(line)
+        if found is None:
+            raise Fault(f"{line!r} is no fact of a node")
+        place, operator, kind, span, level = found.groups()
+        yield Fact(int(place), operator, kind, span, None if level == "-" else int(level))
 
 
 def checked(text: str) -> Checked:

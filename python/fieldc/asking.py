@@ -1,0 +1,102 @@
+"""What the commands that ask `fc` have in common: files in, the answer out, and the explanation of a no beside it."""
+
+from __future__ import annotations
+
+import argparse
+import sys
+from collections.abc import Callable, Mapping, Sequence
+
+from . import program as fc
+from . import results
+from .files import names_from
+from .json_results import written
+from .progress import Progress, described
+from .refusals import Call, Explanation, Refusal, explained, plain_explanation
+from .sections import sections, write
+from .telling import place_of, quoted
+
+WHY_NO = "docs/language.md#when-check-says-no"
+OF_DEVICES = ("stable", "trace", "run", "replay", "mail", "settle")
+
+
+def add_files(parser: argparse.ArgumentParser, kinds: Sequence[str]) -> None:
+    """The files of a command: one for each section, or some sections joined by lines `%%` in one file."""
+    wanted = " ".join(kind.upper() for kind in kinds)
+    parser.add_argument(
+        "files",
+        nargs="+",
+        metavar="FILE",
+        help=f"{wanted}: a file each, or joined by lines %% in one; - is standard input",
+    )
+
+
+def add_answers(parser: argparse.ArgumentParser, names: bool = True) -> None:
+    """How the answer is written."""
+    parser.add_argument("--json", action="store_true", help="writes the answer, and a refusal, as JSON")
+    if names:
+        parser.add_argument("--names", metavar="FILE", help="a file of lines id,name: devices are called by these names")
+
+
+def ask(
+    options: argparse.Namespace,
+    words: Sequence[str],
+    kinds: Sequence[str],
+    reader: Callable[[str, Call], results.Result | str],
+) -> tuple[Call, results.Result | str, int]:
+    """Asks `fc`, writes its answer, and tells why where it is a no. Answers the call, the result and the status.
+
+    Raises Refusal and Fault.
+    """
+    names = names_from(options.names) if getattr(options, "names", None) else {}
+    call = Call(tuple(words), sections(options.files, kinds))
+    with Progress(lambda: described(call)) as waiting:
+        reply = fc.answered(call, waiting)
+    result = reader(reply.text, call)
+    if options.json:
+        write("-", written(result, names))
+    elif names:
+        write("-", named(reply.text, names, "settle" if "--settle" in words else words[0]))
+    else:
+        sys.stdout.buffer.write(reply.output)
+        sys.stdout.buffer.flush()
+    if reply.status == 1:
+        tell_no(call, reply.text)
+    return call, result, reply.status
+
+
+def named(text: str, names: Mapping[int, str], command: str) -> str:
+    """An answer of `fc` in which devices are called by their names, where they have one."""
+    if command not in OF_DEVICES:
+        return text
+    lines = text.splitlines()
+    first = next((i + 1 for i, line in enumerate(lines) if line == "open" or line.startswith("settles ")), 0)
+    last = lines.index("log") if "log" in lines else len(lines)
+    call = lambda word: names.get(int(word), word)  # noqa: E731
+    for place in range(first, last):
+        device, *rest = lines[place].split(" ")
+        if device.isdigit():
+            walk = [call(word) for word in rest[1:]] if command == "trace" else rest[1:]
+            lines[place] = " ".join([call(device), *rest[:1], *walk])
+    return "".join(line + "\n" for line in lines)
+
+
+def tell_no(call: Call, text: str) -> None:
+    """Tells on standard error why an answer is a no, is open, or has no walks."""
+    lines = text.splitlines()
+    for line in [line for line in lines[:1] if line.startswith("no ")] + [line for line in lines if line == "no walks"]:
+        explanation = explained(call, Refusal(1, "no", line, call))
+        if explanation == plain_explanation(Refusal(1, "no", line, call)):
+            explanation = Explanation(what=line, page=WHY_NO)
+        print_explanation(explanation, line)
+
+
+def print_explanation(explanation: Explanation, line: str) -> None:
+    """Writes an explanation of a line that stands on standard output already."""
+    if explanation.what != line:
+        print(f"fieldc: {place_of(explanation)}{explanation.what}", file=sys.stderr)
+    for row in quoted(explanation):
+        print("    " + row, file=sys.stderr)
+    if explanation.hint:
+        print(f"try: {explanation.hint}", file=sys.stderr)
+    if explanation.page:
+        print(f"read: {explanation.page}", file=sys.stderr)

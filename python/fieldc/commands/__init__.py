@@ -1,0 +1,1 @@
+"""The commands of `fieldc`, a module each with `SUMMARY`, `arguments(parser)` and `perform(options)`."""

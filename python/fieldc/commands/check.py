@@ -1,0 +1,33 @@
+"""`fieldc check`: whether a program stabilises, and after how many rounds."""
+
+from __future__ import annotations
+
+import argparse
+
+from .. import results
+from ..asking import add_answers, add_files, ask
+from ..refusals import Fault
+from .settle import settle_arguments, why_open
+
+SUMMARY = "says whether a program stabilises, and after how many rounds"
+KINDS = ("program", "network")
+
+
+def arguments(parser: argparse.ArgumentParser) -> None:
+    add_files(parser, KINDS)
+    parser.add_argument("--facts", action="store_true", help="adds what is known of each node of the unfolded main")
+    parser.add_argument("--settle", action="store_true", help="adds after how many rounds each device holds its value")
+    settle_arguments(parser)
+    add_answers(parser)
+
+
+def perform(options: argparse.Namespace) -> int:
+    if not options.settle and (options.from_table or options.why):
+        raise Fault("--from-table and --why stand beside --settle only")
+    words = ["check"] + ["--facts"] * options.facts
+    if not options.settle:
+        return ask(options, words, KINDS, lambda text, _: results.checked(text))[2]
+    words += ["--settle"] + ["--from-table"] * options.from_table
+    call, found, status = ask(options, words, KINDS, lambda text, _: results.settled(text, options.from_table))
+    why_open(options, call, found)
+    return status

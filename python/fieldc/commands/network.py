@@ -1,0 +1,242 @@
+"""`fieldc network`: a network made by a rule, or from a file."""
+
+from __future__ import annotations
+
+import argparse
+import json
+import math
+import sys
+from collections.abc import Callable, Sequence
+from dataclasses import replace
+
+from .. import files, network
+from ..network import Network
+from ..refusals import Fault
+from ..sections import cut, read, writable, write
+
+SUMMARY = "makes a network: a line, ring, grid or torus, devices in a square, or from a file of positions, links or a graph"
+EPILOG = """\
+Example: fieldc network --grid 8x5 --set source=true@0 > grid.json
+
+Names of devices that are no numbers are numbered in the order of the file, and kept in a file of lines id,name: NET.names.csv
+beside -o NET.json, or where --names says. fieldc picture --names and the commands that write values take it."""
+
+
+def whole(least: int, what: str) -> Callable[[str], int]:
+    """A reader of a whole number that is at least so great."""
+
+    def read_number(word: str) -> int:
+        if not word.isdecimal() or int(word) < least:
+            raise argparse.ArgumentTypeError(f"{word} isn't {what} of at least {least}")
+        return int(word)
+
+    return read_number
+
+
+def length(word: str) -> float:
+    """A length: finite, and at least 0."""
+    try:
+        found = float(word)
+    except ValueError:
+        found = math.nan
+    if not math.isfinite(found) or found < 0:
+        raise argparse.ArgumentTypeError(f"{word} isn't a length: a number, and at least 0")
+    return found
+
+
+def sides(word: str) -> tuple[int, int]:
+    """WxH."""
+    width, cross, height = word.partition("x")
+    if not cross or not width.isdecimal() or not height.isdecimal() or not int(width) or not int(height):
+        raise argparse.ArgumentTypeError(f"{word} isn't WxH, as 8x5")
+    return int(width), int(height)
+
+
+def span(word: str) -> tuple[int, int]:
+    """LOW..HIGH."""
+    low, dots, high = word.partition("..")
+    if not dots or not low.isdecimal() or not high.isdecimal():
+        raise argparse.ArgumentTypeError(f"{word} isn't LOW..HIGH, as 1..9")
+    if int(low) > int(high):
+        raise argparse.ArgumentTypeError(f"{word} is upside down: the least weight comes first")
+    return int(low), int(high)
+
+
+def setting(word: str) -> tuple[str, int | bool, list[str] | None]:
+    """NAME=VALUE or NAME=VALUE@ID,ID.. ."""
+    name, equals, rest = word.partition("=")
+    text, at, listed = rest.partition("@")
+    try:
+        value = json.loads(text)
+    except ValueError:
+        value = None
+    if not name or not equals or not isinstance(value, int) or value < 0 or (at and not all(listed.split(","))):
+        raise argparse.ArgumentTypeError(f"{word} isn't NAME=VALUE or NAME=VALUE@ID,ID.., with true, false or a number")
+    return name, value, listed.split(",") if at else None
+
+
+def arguments(parser: argparse.ArgumentParser) -> None:
+    shape = parser.add_mutually_exclusive_group(required=True)
+    count = whole(1, "a number of devices")
+    shape.add_argument("--line", metavar="N", type=count, help="N devices, each linked to the next")
+    shape.add_argument("--ring", metavar="N", type=count, help="a line whose ends are linked")
+    shape.add_argument("--grid", metavar="WxH", type=sides, help="W times H devices, linked to the left and right, up and down")
+    shape.add_argument("--torus", metavar="WxH", type=sides, help="a grid whose opposite borders are linked")
+    shape.add_argument("--disk", metavar="N", type=count, help="N devices at random in a square; needs --range")
+    shape.add_argument("--points", metavar="FILE", help="rows id, x, y, or with the names of columns first; needs --range")
+    shape.add_argument("--edges", metavar="FILE", help="links, one line 'a b' or 'a b weight' each, or GraphML, or GML")
+    shape.add_argument("--scene", metavar="FILE", help="a network in JSON, or an input of fc whose second section is one")
+    parser.add_argument("-o", "--output", metavar="FILE", default="-", help="where the network is written (standard output)")
+    _shaping(parser)
+    _filling(parser)
+
+
+def _shaping(parser: argparse.ArgumentParser) -> None:
+    parser.add_argument("--range", metavar="R", type=length, help="devices at most this far apart are linked")
+    parser.add_argument("--side", metavar="S", type=length, default=100.0, help="the side of the square (100)")
+    parser.add_argument("--seed", metavar="S", type=whole(0, "a seed"), default=0, help="the seed of --disk (0)")
+    parser.add_argument("--undirected", action="store_true", help="the edges of a directed graph are links both ways")
+    parser.add_argument("--weight", metavar="W", type=whole(0, "a weight"), help="the weight of each link (1, or that of the file)")
+    parser.add_argument("--metric", metavar="LOW..HIGH", type=span, help="weights by distance, rounded into this range")
+    parser.add_argument("--unit", metavar="U", type=length, default=1.0, help="how far a weight of 1 is (1)")
+    parser.add_argument("--round", action="store_true", help="rounds the file's weights to whole numbers")
+    parser.add_argument(
+        "--max-degree", metavar="N", type=whole(1, "a number of links"), help="keeps the nearest links, at most N of each device"
+    )
+
+
+def _filling(parser: argparse.ArgumentParser) -> None:
+    parser.add_argument(
+        "--set",
+        metavar="NAME=VALUE[@ID,ID..]",
+        type=setting,
+        action="append",
+        default=[],
+        help="an input of all devices, or of those named; else it is as in the file, or false",
+    )
+    parser.add_argument("--inputs", metavar="NAME,NAME..", help="the columns or attributes of the file that are inputs (all)")
+    parser.add_argument("--program", metavar="FILE", help="a program: its inputs are taken, and types and weights are checked")
+    parser.add_argument("--table", metavar="FILE", help="starts from the table that fc run --table wrote, with nothing in flight")
+    parser.add_argument("--positions", metavar="FILE", help="writes the positions there, one line id,x,y each")
+    parser.add_argument("--names", metavar="FILE", help="writes the names of devices there, one line id,name each")
+
+
+def perform(options: argparse.Namespace) -> int:
+    for name in filter(None, (options.positions, options.names, options.output if options.output != "-" else None)):
+        writable(name)
+    program = cut(options.program, read(options.program))[0][1] if options.program else None
+    found = shaped(options, program)
+    found = weighed(network.with_inputs(found, placed(options.set, found)), options)
+    if options.max_degree is not None:
+        found = thinned(found, options.max_degree)
+    found = network.within_limits(found)
+    if program is not None:
+        found = network.judged(found, program)
+    if options.table:
+        found = replace(found, state={"table": files.table_of(options.table)})
+    if options.positions and not found.positions:
+        raise Fault("--positions: this network has no positions to write")
+    keep_beside(options, found)
+    write(options.output, found.scene())
+    return 0
+
+
+def shaped(options: argparse.Namespace, program: str | None) -> Network:
+    """The devices, positions and links of the shape or file that is asked for."""
+    inputs = options.inputs.split(",") if options.inputs is not None else None
+    if options.scene:
+        sections = cut(options.scene, read(options.scene))
+        return network.read_scene(sections[1 if len(sections) > 1 else 0][1], options.scene)
+    if options.edges:
+        return files.network(options.edges, program, inputs, options.round, options.undirected)
+    if options.line is not None:
+        return network.line(options.line)
+    if options.ring is not None:
+        return network.ring(options.ring)
+    if options.grid or options.torus:
+        return network.grid(*(options.grid or options.torus), closed=options.torus is not None)
+    if options.range is None:
+        raise Fault("--disk and --points need a --range")
+    if options.disk is not None:
+        return network.disk(at_most(options.disk), options.side, options.range, options.seed)
+    points = files.points(options.points, program, inputs)
+    if points.left_out:
+        say(f"{options.points}: left out, as no inputs: {', '.join(points.left_out)}")
+    at_most(len(points.positions))
+    return replace(network.in_range(points.positions, options.range), names=points.names, inputs=points.inputs)
+
+
+def at_most(count: int) -> int:
+    """A number of devices that `fc` takes, so that no more are linked in vain."""
+    if count > network.MOST_DEVICES:
+        raise Fault(f"{count:,} devices, and fc takes 1 to {network.MOST_DEVICES:,}", 4)
+    return count
+
+
+def placed(
+    settings: Sequence[tuple[str, int | bool, list[str] | None]], found: Network
+) -> list[tuple[str, int | bool, list[int] | None]]:
+    """Settings with the numbers of their devices, which the user may call by their names."""
+    by_name = {found.called(device): device for device in found.devices}
+    numbers = []
+    for name, value, listed in settings:
+        for word in listed or ():
+            if word not in by_name:
+                raise Fault(f"--set {name}={json.dumps(value)}@{','.join(listed or ())}: there is no device {word}")
+        numbers.append((name, value, None if listed is None else [by_name[word] for word in listed]))
+    return numbers
+
+
+def weighed(found: Network, options: argparse.Namespace) -> Network:
+    """The links with their weights: by distance, or one for all, or the file's, or 1."""
+    if options.metric:
+        return network.weighed(found, *options.metric, options.unit)
+    return found if options.weight is None else network.with_weight(found, options.weight)
+
+
+def thinned(found: Network, most: int) -> Network:
+    """The network with the nearest links kept; how many were left out is said on standard error."""
+    if max(network.degrees(found).values(), default=0) <= most:
+        return found
+    kept = network.nearest(found, most)
+    lost = len(found.links) - len(kept.links)
+    more = f"; it falls into {parts(kept)} parts, and was in {parts(found)}" if parts(kept) > parts(found) else ""
+    say(f"--max-degree {most}: {lost} of {len(found.links)} links are left out{more}")
+    return kept
+
+
+def parts(found: Network) -> int:
+    """How many parts a network has between which there are no links."""
+    near: dict[int, list[int]] = {device: [] for device in found.devices}
+    for a, b, _ in found.links:
+        near[a].append(b)
+        near[b].append(a)
+    count, seen = 0, set()
+    for device in near:
+        if device in seen:
+            continue
+        count, todo = count + 1, [device]
+        seen.add(device)
+        while todo:
+            fresh = [other for other in near[todo.pop()] if other not in seen]
+            seen.update(fresh)
+            todo += fresh
+    return count
+
+
+def keep_beside(options: argparse.Namespace, found: Network) -> None:
+    """Writes the positions and the names where they are wanted; says so where names would be lost."""
+    if options.positions:
+        write(options.positions, files.positions_text(found.positions))
+    if found.names:
+        name = options.names or (files.beside(options.output, "names") if options.output != "-" else None)
+        if name is None:
+            say(f"{len(found.names)} devices have names: --names FILE keeps them")
+        else:
+            write(name, files.names_text(found.names))
+            say(f"the names of the devices are in {name}")
+
+
+def say(line: str) -> None:
+    """One line on standard error."""
+    print(f"fieldc network: {line}", file=sys.stderr)

@@ -1,0 +1,3 @@
+"""x"""
+def arguments(parser): pass
+def perform(options): return 0

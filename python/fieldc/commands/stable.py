@@ -1,0 +1,20 @@
+"""`fieldc stable`: the value to which each device stabilises."""
+
+from __future__ import annotations
+
+import argparse
+
+from .. import results
+from ..asking import add_answers, add_files, ask
+
+SUMMARY = "writes the value to which each device stabilises, without running the program"
+KINDS = ("program", "network")
+
+
+def arguments(parser: argparse.ArgumentParser) -> None:
+    add_files(parser, KINDS)
+    add_answers(parser)
+
+
+def perform(options: argparse.Namespace) -> int:
+    return ask(options, ["stable"], KINDS, lambda text, _: results.stable(text))[2]

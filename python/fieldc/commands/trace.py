@@ -1,0 +1,20 @@
+"""`fieldc trace`: a least walk for each device."""
+
+from __future__ import annotations
+
+import argparse
+
+from .. import results
+from ..asking import add_answers, add_files, ask
+
+SUMMARY = "writes for each device its value and a least walk that costs so much"
+KINDS = ("program", "network")
+
+
+def arguments(parser: argparse.ArgumentParser) -> None:
+    add_files(parser, KINDS)
+    add_answers(parser)
+
+
+def perform(options: argparse.Namespace) -> int:
+    return ask(options, ["trace"], KINDS, lambda text, _: results.traced(text))[2]

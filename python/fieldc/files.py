@@ -1,0 +1,297 @@
+"""Networks from real files: positions as separated values, GraphML, GML, lists of links; and the files beside a scene."""
+
+from __future__ import annotations
+
+import csv
+import json
+import re
+from collections.abc import Mapping, Sequence
+from dataclasses import dataclass
+from pathlib import Path
+from typing import Any
+
+from .network import Declared, Input, Network, Position, declared, finite, fitting, from_graph, input_of, numbered
+from .refusals import Fault
+from .sections import read
+
+DELIMITERS = (",", ";", "\t", "|", " ")
+IDS = ("id", "device", "name", "node")
+ENDS = {"source", "target", "from", "to", "weight", "u", "v", "a", "b", "node1", "node2"}
+
+
+@dataclass(frozen=True)
+class Points:
+    """Positions of devices, rising, with the names that were no numbers, and inputs from further columns."""
+
+    positions: Mapping[int, Position]
+    names: Mapping[int, str]
+    inputs: Mapping[int, Mapping[str, Input]]
+    left_out: tuple[str, ...] = ()
+
+
+def text_of_file(name: str) -> str:
+    """The text of a file in UTF-8, without a byte order mark. Raises Fault where it isn't in UTF-8."""
+    text = read(name)
+    try:
+        text.encode("utf-8")
+    except UnicodeEncodeError:
+        raise Fault(f"{name} isn't in UTF-8", 3) from None
+    return text.removeprefix("\ufeff")
+
+
+# ---- positions -----------------------------------------------------------------------------------------------------
+
+
+def points(name: str, program: str | None = None, inputs: Sequence[str] | None = None) -> Points:
+    """The positions of a file of rows `id x y` and further columns, parted by commas, semicolons, tabs, bars or spaces.
+
+    A row of names may stand first; with it the columns may stand in any order, and further ones are inputs: those that
+    `program` declares or `inputs` names, else all. Raises Fault, of status 3, with the line that is at fault.
+    """
+    rows = _rows(name)
+    header, body = _header(name, rows)
+    columns = {word.lower(): place for place, word in enumerate(header)}
+    at = columns.get(next((word for word in IDS if word in columns), header[0].lower()), 0)
+    x, y = columns["x"], columns["y"]
+    wanted = declared(program) if program is not None else None
+    taken, left_out = _taken(name, [word for place, word in enumerate(header) if place not in (at, x, y)], wanted, inputs)
+    number, names = _numbered_rows(name, body, at)
+    positions, found = {}, {}
+    for line, row in body:
+        device, where = number[row[at]], f"{name} line {line}"
+        positions[device] = (finite(row[x], f"{where}: x"), finite(row[y], f"{where}: y"))
+        found[device] = {
+            word: _input(row[header.index(word)], f"{where}: {word}", wanted, word) for word in taken
+        }
+    return Points(dict(sorted(positions.items())), names, dict(sorted(found.items())), left_out)
+
+
+def _rows(name: str) -> list[tuple[int, list[str]]]:
+    """The rows of a file that aren't empty, with their lines; all have as many fields as the first."""
+    lines = [(number, line) for number, line in enumerate(text_of_file(name).splitlines(), 1) if line.strip()]
+    if not lines:
+        raise Fault(f"{name} has no rows", 3)
+    delimiter = next((mark for mark in DELIMITERS if len(_fields(lines[0][1], mark)) >= 3), None)
+    if delimiter is None:
+        raise Fault(f"{name} line {lines[0][0]}: not a row id, x, y", 3)
+    rows = [(number, _fields(line, delimiter)) for number, line in lines]
+    for number, row in rows:
+        if len(row) != len(rows[0][1]):
+            raise Fault(f"{name} line {number}: {len(row)} fields, and line {rows[0][0]} has {len(rows[0][1])}", 3)
+    return rows
+
+
+def _fields(line: str, delimiter: str) -> list[str]:
+    if delimiter == " ":
+        return line.split()
+    return [field.strip() for field in next(csv.reader([line], delimiter=delimiter, skipinitialspace=True))]
+
+
+def _is_number(word: str) -> bool:
+    try:
+        float(word)
+    except ValueError:
+        return False
+    return True
+
+
+def _header(name: str, rows: list[tuple[int, list[str]]]) -> tuple[list[str], list[tuple[int, list[str]]]]:
+    """The names of the columns, and the rows behind them: id, x, y and no more where no names stand first."""
+    line, first = rows[0]
+    lowered = [word.lower() for word in first]
+    if "x" in lowered and "y" in lowered:
+        if len(set(lowered)) < len(lowered):
+            raise Fault(f"{name} line {line}: two columns have one name", 3)
+        if len(rows) == 1:
+            raise Fault(f"{name} has no rows behind the names of its columns", 3)
+        return first, rows[1:]
+    if not (_is_number(first[1]) and _is_number(first[2])):
+        raise Fault(f"{name} line {line}: neither a row id, x, y, nor names of columns with x and y among them", 3)
+    if len(first) > 3:
+        raise Fault(f"{name} line {line}: {len(first)} fields, and no names of columns stand first", 3)
+    return ["id", "x", "y"], rows
+
+
+def _taken(
+    name: str, further: Sequence[str], wanted: Declared | None, inputs: Sequence[str] | None
+) -> tuple[list[str], tuple[str, ...]]:
+    """The further columns that are inputs, and those that are left out."""
+    named = list(inputs) if inputs is not None else [word for word in wanted.inputs if word in further] if wanted else None
+    if named is None:
+        return list(further), ()
+    for word in named:
+        if word not in further:
+            raise Fault(f"{name} has no column {word}", 3)
+    return named, tuple(word for word in further if word not in named)
+
+
+def _numbered_rows(name: str, body: list[tuple[int, list[str]]], at: int) -> tuple[dict[str, int], dict[int, str]]:
+    seen: dict[str, int] = {}
+    for line, row in body:
+        if not row[at]:
+            raise Fault(f"{name} line {line}: the device has no name", 3)
+        if row[at] in seen:
+            raise Fault(f"{name} line {line}: device {row[at]} stands on line {seen[row[at]]} already", 3)
+        seen[row[at]] = line
+    return numbered(list(seen))
+
+
+def _input(word: str, where: str, wanted: Declared | None, name: str) -> Input:
+    """The value of an input in a field: a whole number, or true or false in any letters."""
+    value: Any = int(word) if re.fullmatch("[0-9]+", word) else {"true": True, "false": False}.get(word.lower(), word)
+    if wanted is not None and name in wanted.inputs:
+        return fitting(value, wanted.inputs[name], where)
+    return input_of(value, where)
+
+
+def positions_for(name: str, devices: Sequence[int], names: Mapping[int, str]) -> dict[int, Position]:
+    """The positions of these devices from a file, where they stand by their numbers or names.
+
+    Raises Fault where one has none.
+    """
+    found = points(name, inputs=())
+    by_name = {found.names.get(device, str(device)): place for device, place in found.positions.items()}
+    placed = {}
+    for device in devices:
+        place = by_name.get(names.get(device, str(device)), by_name.get(str(device)))
+        if place is None:
+            raise Fault(f"{name} has no position of device {names.get(device, str(device))}", 3)
+        placed[device] = place
+    return placed
+
+
+def positions_text(positions: Mapping[int, Position]) -> str:
+    """A file of positions, one line `id,x,y` for each device, which `points` reads back."""
+    return "id,x,y\n" + "".join(f"{d},{x:.6g},{y:.6g}\n" for d, (x, y) in sorted(positions.items()))
+
+
+# ---- names ---------------------------------------------------------------------------------------------------------
+
+
+def names_text(names: Mapping[int, str]) -> str:
+    """A file of names, one line `id,name` for each device, which `names_from` reads back."""
+    quoted = lambda word: '"' + word.replace('"', '""') + '"' if re.search('[",\n\r]', word) or word != word.strip() else word  # noqa: E731
+    return "id,name\n" + "".join(f"{device},{quoted(word)}\n" for device, word in sorted(names.items()))
+
+
+def names_from(name: str) -> dict[int, str]:
+    """The names by device of a file of lines `id,name`. Raises Fault, of status 3, with the line that is at fault."""
+    found: dict[int, str] = {}
+    for line, row in enumerate(csv.reader(text_of_file(name).splitlines()), 1):
+        if not row or (line == 1 and row == ["id", "name"]):
+            continue
+        if len(row) != 2 or not row[0].isdigit() or int(row[0]) in found:
+            raise Fault(f"{name} line {line}: not id,name, or twice", 3)
+        found[int(row[0])] = row[1]
+    return found
+
+
+def beside(name: str, part: str) -> str:
+    """The name of a file that is written beside a scene: `net.names.csv` beside `net.json`."""
+    path = Path(name)
+    return str(path.with_name(f"{path.stem}.{part}.csv"))
+
+
+# ---- graphs --------------------------------------------------------------------------------------------------------
+
+
+def graph(name: str) -> Any:
+    """The networkx graph of a file in GraphML or GML, or of a list of links. Raises Fault, of status 3, for any other."""
+    try:
+        import networkx
+    except ImportError:
+        raise Fault("graphs need networkx (Debian: python3-networkx)") from None
+    text = text_of_file(name)
+    try:
+        if re.search(r"<graphml\b", text[:4000]):
+            return networkx.parse_graphml(text)
+        if re.search(r"^\s*graph\s*\[", text, re.MULTILINE):
+            label = "label" if re.search(r"^\s*label\b", text, re.MULTILINE) else "id"
+            found = networkx.parse_gml(text, label=label)
+            found.graph["gml"] = True
+            return found
+    except Exception as error:  # networkx raises whatever its parsers meet
+        raise Fault(f"{name} is no graph: {error}", 3) from None
+    return listed(name, text)
+
+
+def listed(name: str, text: str) -> Any:
+    """The graph of a list of links: lines `a b`, `a b weight` or `a b {'weight': 2}`, as networkx writes them.
+
+    Words may be parted by spaces, tabs, commas or semicolons. Lines that begin with `#`, and a first line of names such as
+    `source,target,weight`, are skipped. Raises Fault, of status 3, with the line that is at fault.
+    """
+    import networkx
+
+    found = networkx.Graph()
+    rows = [(number, line.strip()) for number, line in enumerate(text.splitlines(), 1)]
+    rows = [(number, line) for number, line in rows if line and not line.startswith("#")]
+    if not rows:
+        raise Fault(f"{name} has no links", 3)
+    if set(re.split(r"[\s,;]+", rows[0][1].lower())) <= ENDS and len(rows) > 1:
+        rows = rows[1:]
+    delimiter = next((mark for mark in ",;" if mark in rows[0][1].split("{")[0]), None)
+    for number, line in rows:
+        one = _link(f"{name} line {number}", line, delimiter)
+        ((a, b),) = one.edges
+        if found.has_edge(a, b):
+            raise Fault(f"{name} line {number}: {a} and {b} are linked already", 3)
+        found.update(one)
+    return found
+
+
+def _link(where: str, line: str, delimiter: str | None) -> Any:
+    """The graph of one line of a list, as networkx reads it."""
+    import networkx
+
+    head = line.split("{")[0]
+    words = [word.strip() for word in head.split(delimiter)]
+    words = words[:-1] if "{" in line and words and not words[-1] else words
+    data: Any = True if "{" in line else (("weight", str),)[: len(words) - 2]
+    if len(words) not in (2, 3) or (len(words) == 3 and ("{" in line or not _is_number(words[2]))) or not all(words):
+        raise Fault(f"{where}: not a link 'a b' or 'a b weight'", 3)
+    if re.search(r"[<>\[\]\"]", head):
+        raise Fault(f"{where}: this is no list of links", 3)
+    try:
+        one = networkx.parse_edgelist([line], comments=None, delimiter=delimiter, data=data)
+    except Exception as error:
+        raise Fault(f"{where}: {error}", 3) from None
+    if one.number_of_edges() != 1:
+        raise Fault(f"{where}: not a link 'a b' or 'a b weight'", 3)
+    return networkx.relabel_nodes(one, {node: node.strip() for node in one})
+
+
+def network(
+    name: str, program: str | None = None, inputs: Sequence[str] | None = None, rounds: bool = False, undirected: bool = False
+) -> Network:
+    """The network of a graph's file: node attributes are inputs, those that `inputs` names or `program` declares, else all
+    but positions and names. In GML, which has no truth values, 0 and 1 stand for those that `program` declares.
+
+    Raises Fault, of status 3, with what is wrong.
+    """
+    found, wanted = graph(name), declared(program).inputs if program is not None else {}
+    keep = set(inputs) if inputs is not None else set(wanted) if program is not None else None
+    for node, data in found.nodes(data=True):
+        missing = [word for word in inputs or () if word not in data]
+        if missing:
+            raise Fault(f"{name}: device {node} has no {missing[0]}", 3)
+        for word in [word for word in data if keep is not None and word not in keep and word not in ("x", "y", "pos")]:
+            del data[word]
+        for word in wanted:
+            if found.graph.get("gml") and wanted[word] is None and data.get(word) in (0, 1):
+                data[word] = bool(data[word])
+    try:
+        return from_graph(found, rounds=rounds, undirected=undirected)
+    except Fault as fault:
+        raise Fault(f"{name}: {fault}", fault.status) from None
+
+
+def table_of(name: str) -> Any:
+    """The table of exports that `run --table` or `replay --table` wrote, on the last line of its output."""
+    lines = read(name).splitlines()
+    try:
+        if lines[-1].startswith('{"format":2,'):
+            return json.loads(lines[-1])
+    except (IndexError, ValueError):
+        pass
+    raise Fault(f"{name} has no table: fc run --table and fc replay --table write one", 3)

@@ -1,0 +1,429 @@
+"""Networks: devices with inputs, weighted links, positions and names; made by a rule, from a graph, or read from a scene."""
+
+from __future__ import annotations
+
+import json
+import math
+import operator
+import random
+import re
+from collections.abc import Iterable, Mapping, Sequence
+from dataclasses import dataclass, field, replace
+from typing import Any, Union
+
+from .refusals import Fault
+
+GREATEST_DEVICE = 65_535
+GREATEST_NUMBER = 1_000_000
+MOST_DEVICES = 1_024
+MOST_LINKS = 32
+PLACES = ("x", "y", "pos", "position", "label", "name", "id")
+
+Input = Union[int, bool]
+Position = tuple[float, float]
+Pair = tuple[int, int]
+
+
+@dataclass(frozen=True)
+class Declared:
+    """What a program declares of its network.
+
+    `inputs` has for each input its least and greatest value, or nothing for a truth value; `metric` the least and greatest
+    weight of a link. It is read from the words of the declarations alone; `fc` judges the program.
+    """
+
+    inputs: Mapping[str, Pair | None]
+    metric: Pair
+    ceiling: int | None
+
+
+@dataclass(frozen=True)
+class Network:
+    """A network.
+
+    `inputs` has each device, rising, with its inputs; `links` each link once as `(a, b, weight)`. `positions` are there for
+    all devices or for none; `names` are what the devices were called in the file or graph, where these were no numbers.
+    `state` may have the `table` and the `pending` firings of a scene, as they stand in its JSON.
+    """
+
+    inputs: Mapping[int, Mapping[str, Input]]
+    links: tuple[tuple[int, int, int], ...]
+    positions: Mapping[int, Position] = field(default_factory=dict)
+    names: Mapping[int, str] = field(default_factory=dict)
+    state: Mapping[str, Any] = field(default_factory=dict)
+
+    @property
+    def devices(self) -> tuple[int, ...]:
+        """The numbers of the devices, rising."""
+        return tuple(self.inputs)
+
+    def called(self, device: int) -> str:
+        """The name of a device, or its number where it has none."""
+        return self.names.get(device, str(device))
+
+    def named(self, values: Mapping[int, Any]) -> dict[str, Any]:
+        """Values by the names of the devices."""
+        return {self.called(device): value for device, value in values.items()}
+
+    def scene(self) -> str:
+        """The scene in JSON, with a line for each device and link, and one for its table and for its pending firings."""
+        short = lambda part: json.dumps(part, separators=(",", ":"))  # noqa: E731
+        in_lines = lambda items: "[\n  " + ",\n  ".join(items) + "]" if items else "[]"  # noqa: E731
+        devices = in_lines([json.dumps({"id": device, "inputs": dict(own)}) for device, own in self.inputs.items()])
+        rest = "".join(f',\n "{name}": {short(part)}' for name, part in self.state.items())
+        return f'{{"devices": {devices},\n "links": {in_lines([short(link) for link in self.links])}{rest}}}\n'
+
+    def graph(self) -> Any:
+        """The network as a networkx graph of numbers: inputs, `pos` and `name` on nodes, `weight` on edges."""
+        import networkx
+
+        graph = networkx.Graph()
+        for device, own in self.inputs.items():
+            graph.add_node(device, **own)
+            if device in self.positions:
+                graph.nodes[device]["pos"] = self.positions[device]
+            if device in self.names:
+                graph.nodes[device]["name"] = self.names[device]
+        graph.add_weighted_edges_from(self.links)
+        return graph
+
+
+def declared(program: str) -> Declared:
+    """What a program's text declares of its network."""
+    text = re.sub(r"//[^\n]*", "", program)
+    inputs: dict[str, Pair | None] = {}
+    for name, kind, low, high in re.findall(r"\binput\s+(\w+)\s*:\s*(?:(bool)|int\s+(\d+)\s*\.\.\s*(\d+))", text):
+        inputs[name] = None if kind else (int(low), int(high))
+    metric = re.search(r"\bmetric\s+(\d+)\s*\.\.\s*(\d+)", text)
+    ceiling = re.search(r"\bceiling\s+(\d+)", text)
+    span = (int(metric[1]), int(metric[2])) if metric else (1, 1)
+    return Declared(inputs, span, int(ceiling[1]) if ceiling else None)
+
+
+def numbered(names: Sequence[Any]) -> tuple[dict[Any, int], dict[int, str]]:
+    """The number of each device by its name in a file or graph, and the names by number.
+
+    Names that are all whole numbers up to 65,535 are the numbers; else devices are numbered from 0 in their order, and
+    their names are kept. Raises Fault where two have one name.
+    """
+    words = [str(name) for name in names]
+    if len(set(words)) < len(words):
+        twice = next(word for place, word in enumerate(words) if word in words[:place])
+        raise Fault(f"two devices are called {twice}", 3)
+    if all(re.fullmatch("0|[1-9][0-9]{0,4}", word) and int(word) <= GREATEST_DEVICE for word in words):
+        return {name: int(word) for name, word in zip(names, words)}, {}
+    return {name: place for place, name in enumerate(names)}, dict(enumerate(words))
+
+
+def plain(value: Any) -> Any:
+    """A truth value or whole number of numpy or of a file as Python's own; anything else as it is."""
+    if isinstance(value, bool) or type(value).__name__ in ("bool_", "bool"):
+        return bool(value)
+    try:
+        return operator.index(value)
+    except TypeError:
+        return value
+
+
+def kind_of(span: Pair | None) -> str:
+    """How the type of a declared input is said."""
+    return "true or false" if span is None else f"a whole number from {span[0]} to {span[1]}"
+
+
+def fitting(value: Any, span: Pair | None, where: str) -> Input:
+    """A value of a declared input. Raises Fault, which names `where`, if it isn't of the input's type and range."""
+    found = plain(value)
+    truth = isinstance(found, bool)
+    if truth != (span is None) or not isinstance(found, int) or (span and not span[0] <= found <= span[1]):
+        raise Fault(f"{where} is {value!r}, and has to be {kind_of(span)}", 3)
+    return found
+
+
+def input_of(value: Any, where: str) -> Input:
+    """A value of an input of which nothing is declared. Raises Fault, which names `where`, if it can't be one."""
+    found = plain(value)
+    if not isinstance(found, int) or not 0 <= found <= GREATEST_NUMBER:
+        raise Fault(f"{where} is {value!r}, and an input is true, false or a whole number from 0 to {GREATEST_NUMBER:,}", 3)
+    return found
+
+
+def weight_of(value: Any, where: str, rounds: bool = False, span: Pair = (0, GREATEST_NUMBER)) -> int:
+    """The weight of a link; with `rounds` it is rounded to a whole number.
+
+    Raises Fault, which names `where`, if it is no whole number, or outside `span`.
+    """
+    found = plain(value)
+    if isinstance(found, str):
+        try:
+            found = int(found) if found.isdigit() else float(found)
+        except ValueError:
+            raise Fault(f"{where} weighs {value!r}, which is no number", 3) from None
+    if isinstance(found, bool) or not isinstance(found, (int, float)) or not math.isfinite(found):
+        raise Fault(f"{where} weighs {value!r}, which is no number", 3)
+    if found != int(found) and not rounds:
+        raise Fault(f"{where} weighs {value!r}, and a weight is a whole number: round it (--round), or scale the weights", 3)
+    if not span[0] <= round(found) <= span[1]:
+        raise Fault(f"{where} weighs {value!r}, and a weight is from {span[0]:,} to {span[1]:,}", 3)
+    return round(found)
+
+
+def finite(value: Any, where: str) -> float:
+    """A number that is finite. Raises Fault, which names `where`, for any other."""
+    try:
+        found = float(value)
+    except (TypeError, ValueError):
+        raise Fault(f"{where} is {value!r}, which is no number", 3) from None
+    if not math.isfinite(found):
+        raise Fault(f"{where} is {value!r}, and has to be a finite number", 3)
+    return found
+
+
+def from_graph(
+    graph: Any, program: str | None = None, weight: str = "weight", rounds: bool = False, undirected: bool = False
+) -> Network:
+    """The network of a networkx graph.
+
+    Nodes are devices, by their own numbers or numbered in their order. Node attributes are inputs: those that `program`
+    declares, or, without a program, all but positions (`x` and `y`, or `pos`) and names. The edge attribute `weight` is
+    the weight of a link, 1 where no edge has it; `rounds` rounds weights. With `undirected` the edges of a directed graph
+    are links both ways.
+
+    Raises Fault, of status 3, where an input is missing or of another type, an edge leads from a node to itself, two edges
+    join the same nodes, or some edges have a weight and others none.
+    """
+    number, names = numbered(list(graph.nodes))
+    wanted = declared(program) if program is not None else None
+    inputs = {number[node]: _inputs(str(node), data, wanted) for node, data in graph.nodes(data=True)}
+    positions = {number[node]: place for node, data in graph.nodes(data=True) if (place := _place(str(node), data))}
+    if graph.is_directed() and not undirected:
+        raise Fault("the graph is directed, and a link has no direction: make it undirected (--undirected)", 3)
+    links = _links(graph, number, weight, rounds, wanted.metric if wanted else (0, GREATEST_NUMBER))
+    ordered = {device: inputs[device] for device in sorted(inputs)}
+    return Network(ordered, links, dict(sorted(positions.items())) if len(positions) == len(inputs) else {}, names)
+
+
+def _inputs(name: str, data: Mapping[str, Any], wanted: Declared | None) -> dict[str, Input]:
+    where = f"{{}} of device {name}"
+    if wanted is None:
+        own = {key: value for key, value in data.items() if str(key).lower() not in PLACES}
+        return {key: input_of(value, where.format(key)) for key, value in own.items()}
+    for key in wanted.inputs:
+        if key not in data:
+            raise Fault(f"device {name} has no {key}, which the program declares as an input", 3)
+    return {key: fitting(data[key], span, where.format(key)) for key, span in wanted.inputs.items()}
+
+
+def _place(name: str, data: Mapping[str, Any]) -> Position | None:
+    """The position of a node, from `x` and `y`, or `pos`; nothing where it has none."""
+    found = data.get("pos", data.get("position"))
+    if found is None and "x" in data and "y" in data:
+        found = (data["x"], data["y"])
+    if found is None or isinstance(found, str) or len(found) != 2:
+        return None
+    return (finite(found[0], f"x of device {name}"), finite(found[1], f"y of device {name}"))
+
+
+def _links(
+    graph: Any, number: Mapping[Any, int], weight: str, rounds: bool, span: Pair
+) -> tuple[tuple[int, int, int], ...]:
+    """The links of a graph, rising."""
+    found: dict[Pair, Any] = {}
+    for a, b, data in graph.edges(data=True):
+        pair = (min(number[a], number[b]), max(number[a], number[b]))
+        if a == b:
+            raise Fault(f"device {a} is linked to itself", 3)
+        if pair in found and (not graph.is_directed() or found[pair] != data.get(weight)):
+            raise Fault(f"devices {a} and {b} are linked twice", 3)
+        found[pair] = data.get(weight)
+    bare = [pair for pair, value in found.items() if value is None]
+    if bare and len(bare) < len(found):
+        called = {place: str(node) for node, place in number.items()}
+        raise Fault(f"the link of {called[bare[0][0]]} and {called[bare[0][1]]} has no weight, and others have one", 3)
+    where = {place: str(node) for node, place in number.items()}
+    return tuple(
+        (a, b, 1 if value is None else weight_of(value, f"the link of {where[a]} and {where[b]}", rounds, span))
+        for (a, b), value in sorted(found.items())
+    )
+
+
+def read_scene(text: str, name: str = "the network") -> Network:
+    """The network of a scene. Raises Fault, of status 3, where the text isn't one; `fc` says where it isn't."""
+    try:
+        scene = json.loads(text)
+        inputs = {device["id"]: dict(device["inputs"]) for device in scene["devices"]}
+        links = tuple((int(a), int(b), int(weight)) for a, b, weight in scene["links"])
+        whole = len(inputs) == len(scene["devices"]) and all(isinstance(device, int) for device in inputs)
+        if not inputs or not whole or any(a not in inputs or b not in inputs for a, b, _ in links):
+            raise ValueError
+        state = {part: scene[part] for part in ("table", "pending") if part in scene}
+        return Network({device: inputs[device] for device in sorted(inputs)}, links, state=state)
+    except (ValueError, KeyError, TypeError, AttributeError):
+        raise Fault(f"{name} is no scene: fieldc check says where it isn't", 3) from None
+
+
+def judged(network: Network, program: str) -> Network:
+    """The network, where it has exactly the inputs that a program declares, of their types, and weights in its metric.
+
+    Raises Fault, of status 3, with what isn't so.
+    """
+    wanted = declared(program)
+    for device, own in network.inputs.items():
+        called = network.called(device)
+        for name, span in wanted.inputs.items():
+            if name not in own:
+                raise Fault(f"device {called} has no {name}, which the program declares as an input: --set {name}=VALUE", 3)
+            fitting(own[name], span, f"{name} of device {called}")
+        for name in own:
+            if name not in wanted.inputs:
+                raise Fault(f"device {called} has {name}, which the program doesn't declare as an input", 3)
+    for a, b, weight in network.links:
+        weight_of(weight, f"the link of {network.called(a)} and {network.called(b)}", span=wanted.metric)
+    return network
+
+
+# ---- networks by a rule --------------------------------------------------------------------------------------------
+
+
+def shaped(positions: Mapping[int, Position], links: Iterable[Pair]) -> Network:
+    """A network without inputs, whose links weigh 1."""
+    ordered = dict(sorted(positions.items()))
+    return Network({device: {} for device in ordered}, tuple((a, b, 1) for a, b in sorted(links)), ordered)
+
+
+def line(count: int) -> Network:
+    """So many devices, each linked to the next."""
+    return shaped({d: (float(d), 0.0) for d in range(count)}, [(d, d + 1) for d in range(count - 1)])
+
+
+def ring(count: int) -> Network:
+    """A line whose ends are linked."""
+    turn = 2 * math.pi / max(count, 1)
+    radius = 1 / (2 * math.sin(turn / 2)) if count > 1 else 0.0
+    closing = [(0, count - 1)] if count > 2 else []
+    places = {d: (radius * math.cos(d * turn), radius * math.sin(d * turn)) for d in range(count)}
+    return shaped(places, [(d, d + 1) for d in range(count - 1)] + closing)
+
+
+def grid(width: int, height: int, closed: bool = False) -> Network:
+    """Devices row by row, linked to the left and right, up and down; closed, opposite borders are linked too."""
+    number = lambda x, y: (y % height) * width + x % width  # noqa: E731
+    links = set()
+    for y in range(height):
+        for x in range(width):
+            for right, down in ((1, 0), (0, 1)):
+                inside = x + right < width and y + down < height
+                a, b = number(x, y), number(x + right, y + down)
+                if (inside or closed) and a != b:
+                    links.add((min(a, b), max(a, b)))
+    return shaped({number(x, y): (float(x), float(y)) for y in range(height) for x in range(width)}, links)
+
+
+def disk(count: int, side: float, reach: float, seed: int = 0) -> Network:
+    """Devices at random in a square of this side, linked where they are at most `reach` apart."""
+    dice = random.Random(seed)
+    return in_range({d: (dice.uniform(0, side), dice.uniform(0, side)) for d in range(count)}, reach)
+
+
+def in_range(positions: Mapping[int, Position], reach: float) -> Network:
+    """Devices at positions, linked where they are at most `reach` apart. Raises Fault where `reach` isn't a length."""
+    if not math.isfinite(reach) or reach < 0:
+        raise Fault(f"a range of {reach:g}: it has to be a number, and at least 0")
+    rows = sorted((x, y, device) for device, (x, y) in positions.items())
+    links, first = [], 0
+    for place, (x, y, device) in enumerate(rows):
+        while rows[first][0] < x - reach - 1e-9 * (abs(x) + reach):
+            first += 1
+        links += [tuple(sorted((device, d))) for ox, oy, d in rows[first:place] if math.dist((x, y), (ox, oy)) <= reach]
+    return shaped(positions, links)
+
+
+# ---- changes of a network ------------------------------------------------------------------------------------------
+
+
+def weighed(network: Network, low: int, high: int, unit: float = 1.0) -> Network:
+    """Weights by distance, in units of so long, rounded into `low` to `high`.
+
+    Raises Fault where there are no positions, or `low` is above `high`.
+    """
+    if not network.positions:
+        raise Fault("weights by distance need positions, and the network has none")
+    if not 0 <= low <= high <= GREATEST_NUMBER:
+        raise Fault(f"a metric of {low}..{high}: it goes from its least to its greatest weight")
+    if not math.isfinite(unit) or unit <= 0:
+        raise Fault(f"a unit of {unit:g}: it has to be above 0")
+    at = network.positions
+    links = [(a, b, min(max(round(math.dist(at[a], at[b]) / unit), low), high)) for a, b, _ in network.links]
+    return replace(network, links=tuple(links))
+
+
+def with_weight(network: Network, weight: int) -> Network:
+    """The network with one weight on all links."""
+    found = weight_of(weight, "each link")
+    return replace(network, links=tuple((a, b, found) for a, b, _ in network.links))
+
+
+def with_inputs(network: Network, settings: Sequence[tuple[str, Input, Sequence[int] | None]]) -> Network:
+    """The network with inputs `(name, value, devices)` set one after the other; no devices stand for all.
+
+    Where a truth value is set on some devices alone, it is false on those that have none. Raises Fault where a device
+    isn't there, or a number is set on some devices and others have none.
+    """
+    inputs = {device: dict(own) for device, own in network.inputs.items()}
+    for name, value, devices in settings:
+        for device in inputs if devices is None else devices:
+            if device not in inputs:
+                raise Fault(f"{name} is set on device {device}, which isn't there")
+            inputs[device][name] = value
+    for name, value, _ in settings:
+        for device, own in inputs.items():
+            if name not in own and not isinstance(value, bool):
+                raise Fault(f"{name} isn't set on device {network.called(device)}: set it on all devices first")
+            own.setdefault(name, False)
+    return replace(network, inputs=inputs)
+
+
+def degrees(network: Network) -> dict[int, int]:
+    """How many links each device has."""
+    found = dict.fromkeys(network.inputs, 0)
+    for a, b, _ in network.links:
+        found[a] += 1
+        found[b] += 1
+    return found
+
+
+def nearest(network: Network, most: int) -> Network:
+    """The network with the nearest links kept, so that no device has more than `most`.
+
+    Links are taken from the shortest on, and kept where both devices have room. Raises Fault where links have neither
+    lengths nor different weights, so that none is the nearest.
+    """
+    at = network.positions
+    far = (lambda link: math.dist(at[link[0]], at[link[1]])) if at else (lambda link: link[2])
+    if not at and len({weight for _, _, weight in network.links}) < 2:
+        raise Fault("the nearest neighbours can't be told: there are no positions, and all links weigh the same")
+    count = dict.fromkeys(network.inputs, 0)
+    kept = []
+    for link in sorted(network.links, key=lambda link: (far(link), link)):
+        if count[link[0]] < most and count[link[1]] < most:
+            kept.append(link)
+            count[link[0]] += 1
+            count[link[1]] += 1
+    return replace(network, links=tuple(sorted(kept)))
+
+
+def within_limits(network: Network) -> Network:
+    """The network, where `fc` takes so many devices and links. Raises Fault, of status 4, with what to do."""
+    devices = network.devices
+    if not 1 <= len(devices) <= MOST_DEVICES:
+        raise Fault(f"{len(devices):,} devices, and fc takes 1 to {MOST_DEVICES:,}", 4)
+    if devices[0] < 0 or devices[-1] > GREATEST_DEVICE:
+        raise Fault(f"a device's number is 0 to {GREATEST_DEVICE:,}", 3)
+    count = degrees(network)
+    crowded = max(devices, key=lambda device: count[device])
+    if count[crowded] > MOST_LINKS:
+        raise Fault(
+            f"device {network.called(crowded)} has {count[crowded]} links, and fc takes {MOST_LINKS}: "
+            f"--max-degree {MOST_LINKS} keeps the nearest, or choose a smaller range",
+            4,
+        )
+    return network

@@ -1,0 +1,52 @@
+"""How refusals are told to a person: the line of `fc`, the sentence, the line of the file with a caret, and what to try."""
+
+from __future__ import annotations
+
+from .refusals import Explanation, Refusal
+
+WIDEST = 160
+
+
+def told(refusal: Refusal, explanation: Explanation) -> str:
+    """The lines for standard error, each ended by a line feed."""
+    lines = [f"fieldc: {refusal.line or 'status ' + str(refusal.status)}"]
+    if explanation.what != refusal.line:
+        lines.append(place_of(explanation) + explanation.what)
+    lines += ["    " + line for line in quoted(explanation)]
+    if explanation.hint:
+        lines.append(f"try: {explanation.hint}")
+    if explanation.page:
+        lines.append(f"read: {explanation.page}")
+    return "\n".join(lines) + "\n"
+
+
+def place_of(explanation: Explanation) -> str:
+    """The front of a sentence: `mine.fc:3:12: `, or as much of it as is known."""
+    section = explanation.section
+    if section is None:
+        return ""
+    parts = ["standard input" if section.name == "-" else section.name or section.kind]
+    if explanation.line is not None:
+        parts.append(str(explanation.line))
+        if explanation.column is not None:
+            parts.append(str(explanation.column))
+    return ":".join(parts) + ": "
+
+
+def quoted(explanation: Explanation) -> list[str]:
+    """The line of the file that is meant, and below it a caret at the place; nothing where they aren't known."""
+    section, line = explanation.section, explanation.line
+    if section is None or line is None:
+        return []
+    rows = section.text.split("\n")
+    place = line - section.first_line
+    if not 0 <= place < len(rows):
+        return []
+    row, column = rows[place].rstrip("\r"), explanation.column
+    if column is None:
+        return [row if len(row) <= WIDEST else row[: WIDEST - 2] + ".."]
+    front = max(0, column - 1 - WIDEST // 2) if len(row) > WIDEST else 0
+    shown = row[front : front + WIDEST]
+    lead, tail = ".." if front else "", ".." if front + WIDEST < len(row) else ""
+    under = "".join("\t" if mark == "\t" else " " for mark in lead + row[front : column - 1])
+    return [lead + shown + tail, under + "^"]
