@@ -1,3 +1,113 @@
-"""x"""
-def arguments(parser): pass
-def perform(options): return 0
+"""`fieldc picture`: a network with values, as a picture or as a page with a slider."""
+
+from __future__ import annotations
+
+import argparse
+from collections.abc import Sequence
+from dataclasses import replace
+from pathlib import Path
+
+from .. import program as fc
+from ..asking import tell_no
+from ..drawing import draw, pyplot_ready
+from ..files import names_from, positions_for
+from ..network import Network, read_scene
+from ..page import page
+from ..picture import Picture, at_places, check_marks, everywhere, gathered
+from ..progress import Progress, described
+from ..refusals import Call, Fault, Section
+from ..sections import PAGES, PICTURES, read, sections, writable, write
+
+SUMMARY = "draws a network with the values of its devices, as SVG, PNG or PDF, or as a page with a slider over the shows of a run"
+EPILOG = """\
+Example: fieldc picture hops.fc net.json --of stable --positions points.csv -o hops.svg
+
+The files are a program and a network; for a run its script too, and for a replay its log, since each show is drawn on the
+network as it is then. A network alone is drawn without values. What fc wrote is read by --values, or asked for by --of."""
+OF = {
+    "stable": ("stable",),
+    "settle": ("check", "--settle"),
+    "from-table": ("check", "--settle", "--from-table"),
+    "trace": ("trace",),
+    "run": ("run",),
+    "replay": ("replay",),
+    "mail": ("mail",),
+}
+WITH_LINES = ("run", "replay", "mail")
+KINDS = ("program", "network", "script")
+
+
+def arguments(parser: argparse.ArgumentParser) -> None:
+    parser.add_argument("files", nargs="+", metavar="FILE", help="PROGRAM NETWORK [SCRIPT or LOG], joined or not; or a network")
+    parser.add_argument("-o", "--output", metavar="FILE", required=True, help="the picture, by its ending .svg, .png, .pdf, .html")
+    values = parser.add_mutually_exclusive_group()
+    values.add_argument("--values", metavar="FILE", help="what fc wrote of this network (- is standard input)")
+    values.add_argument("--of", choices=tuple(OF), help="asks fc for the values")
+    parser.add_argument("--show", metavar="N", type=int, help="which show of a run is drawn, from 1 (the last)")
+    parser.add_argument("--page", action="store_true", help="a page of HTML, with a slider over all shows")
+    parser.add_argument("--positions", metavar="FILE", help="positions, one line id,x,y each (else a layout is made)")
+    parser.add_argument("--names", metavar="FILE", help="names of devices, one line id,name each")
+    parser.add_argument("--numbers", action="store_true", help="writes the number, or name, beside each device")
+    parser.add_argument("--mark", metavar="NAME", action="append", default=[], help="marks devices whose input NAME is true")
+    parser.add_argument("--title", default="", help="a line above the picture")
+
+
+def perform(options: argparse.Namespace) -> int:
+    as_page = options.page or options.output.lower().endswith(PAGES)
+    writable(options.output, PAGES if as_page else (*PICTURES, *PAGES))
+    pyplot_ready()
+    parts = parted(options.files)
+    network = replace(read_scene(parts[1].text, parts[1].name), names=names_from(options.names) if options.names else {})
+    answer = read(options.values) if options.values else asked(options.of, parts) if options.of else None
+    program, lines = (parts[0].text or None), (parts[2].text if len(parts) > 2 else None)
+    picture = check_marks(gathered(program, network, lines, answer), options.mark)
+    picture = replace(picture, title=options.title, numbers=options.numbers)
+    with Progress(lambda: f"draws {len(everywhere(picture)[0]):,} devices"):
+        drawn(options, placed(options.positions, picture, network), as_page)
+    if picture.said:
+        print(picture.said)
+    return 0
+
+
+def parted(names: Sequence[str]) -> tuple[Section, ...]:
+    """The program, network, and script or log of the files; a network alone has an empty program before it."""
+    parts = sections(names, KINDS)
+    if len(parts) == 1 and parts[0].text.lstrip()[:1] in ("{", "["):
+        return (Section("program", "", 1, ""), replace(parts[0], kind="network"))
+    if len(parts) not in (2, 3):
+        raise Fault(f"{len(parts)} sections: PROGRAM NETWORK and, of a run or replay, SCRIPT or LOG; or a network alone")
+    return parts
+
+
+def asked(of: str, parts: Sequence[Section]) -> str:
+    """What `fc` writes of the sections. Raises Refusal where it refuses them."""
+    if (len(parts) > 2) < (of in WITH_LINES):
+        raise Fault(f"--of {of}: the files have no {'script' if of == 'run' else 'log'}")
+    if not parts[0].text:
+        raise Fault(f"--of {of}: a network alone has no values: give the program before it")
+    call = Call(OF[of], tuple(parts if of in WITH_LINES else parts[:2]))
+    with Progress(lambda: described(call)) as waiting:
+        reply = fc.answered(call, waiting)
+    if reply.status == 1:
+        tell_no(call, reply.text)
+    return reply.text
+
+
+def placed(positions: str | None, picture: Picture, network: Network) -> Picture:
+    """The picture with places, from a file or from a layout."""
+    if positions is None:
+        return at_places(picture, None)
+    return at_places(picture, positions_for(positions, everywhere(picture)[0], network.names))
+
+
+def drawn(options: argparse.Namespace, picture: Picture, as_page: bool) -> None:
+    """Draws the picture, or the page of all its shows. Raises Fault where there is no such show."""
+    count = len(picture.frames)
+    if options.show is not None and not 1 <= options.show <= count:
+        raise Fault(f"--show {options.show}: there {'is 1 show' if count == 1 else f'are {count} shows'}")
+    if options.show is not None or not as_page:
+        picture = picture.one((options.show or count) - 1)
+    if as_page:
+        write(str(Path(options.output)), page(picture))
+    else:
+        draw(picture, options.output)

@@ -1,0 +1,127 @@
+"""What colours mean in a picture: a scale for each part of a value, and colours for what stands outside of a scale."""
+
+from __future__ import annotations
+
+from collections.abc import Iterable, Sequence
+from dataclasses import dataclass
+
+from .results import Value, word_of
+
+GREY, WHITE, FALSE, TRUE, APART, LAST, MARK, LINK = (
+    "#c9c9c9", "#ffffff", "#d9d9d9", "#1b7837", "#f29ac0", "#d6381e", "#111111", "#b5b5b5",
+)  # fmt: skip
+MOST_APART = 4
+MAP = "viridis_r"
+
+
+@dataclass(frozen=True)
+class Meaning:
+    """What the numbers of a picture are.
+
+    `scale` names the scale, `none` what a device without a value is, which has the colour `bare`; with `resting` a 0 has
+    the colour grey and this meaning. `ceiling` is that of the program, where it is known: it has a colour of its own.
+    """
+
+    scale: str = "value"
+    none: str = "nothing published"
+    bare: str = GREY
+    resting: str = ""
+    ceiling: int | None = None
+
+
+@dataclass(frozen=True)
+class Scale:
+    """The colours of one part of the values: numbers from `low` to `high`, or truth values.
+
+    `apart` is a number outside of the scale with a colour of its own: the ceiling, or one that is far above all others.
+    """
+
+    label: str
+    low: int | None
+    high: int | None
+    apart: int | None
+    truths: bool
+    resting: str
+
+    def colour(self, part: int | bool) -> str:
+        """The colour of a number or truth value, as `#rrggbb`."""
+        from matplotlib import colormaps, colors
+
+        if isinstance(part, bool):
+            return TRUE if part else FALSE
+        if part == self.apart:
+            return APART
+        if self.resting and part == 0:
+            return GREY
+        if self.low is None or self.high is None:
+            return WHITE
+        return colors.to_hex(colormaps[MAP]((part - self.low) / max(self.high - self.low, 1)))
+
+
+def parts_of(value: Value) -> tuple[int | bool, ...]:
+    """The numbers and truth values of a value, from left to right: one, or those of the pairs."""
+    if isinstance(value, tuple):
+        return parts_of(value[0]) + parts_of(value[1])
+    return (value,)
+
+
+def scales_of(values: Iterable[Value | None], meaning: Meaning) -> tuple[Scale, ...]:
+    """A scale for each part of the values, so that one colour is one number in all of them."""
+    columns = list(zip(*(parts_of(value) for value in values if value is not None)))
+    labels = [meaning.scale] if len(columns) < 2 else [f"{meaning.scale}, part {place}" for place in range(1, len(columns) + 1)]
+    return tuple(_scale(label, column, meaning) for label, column in zip(labels, columns))
+
+
+def _scale(label: str, column: Sequence[int | bool], meaning: Meaning) -> Scale:
+    numbers = sorted({part for part in column if not isinstance(part, bool) and not (meaning.resting and part == 0)})
+    apart = _apart(numbers, meaning.ceiling)
+    inside = [number for number in numbers if number != apart]
+    low, high = (inside[0], inside[-1]) if inside else (None, None)
+    truths = any(isinstance(part, bool) for part in column)
+    resting = meaning.resting if any(part == 0 and not isinstance(part, bool) for part in column) else ""
+    return Scale(label, low, high, apart, truths, resting)
+
+
+def _apart(numbers: Sequence[int], ceiling: int | None) -> int | None:
+    """The number that stands outside of the scale: the ceiling, or one that would take most of the scale."""
+    if ceiling is not None:
+        return ceiling if ceiling in numbers else None
+    if len(numbers) > 2 and numbers[-1] - numbers[-2] > MOST_APART * (numbers[-2] - numbers[0]):
+        return numbers[-1]
+    return None
+
+
+def colours_of(value: Value | None, scales: Sequence[Scale], meaning: Meaning) -> tuple[str, ...]:
+    """The colours of a device: one for each part of its value."""
+    if value is None:
+        return (meaning.bare,)
+    return tuple(scale.colour(part) for scale, part in zip(scales, parts_of(value)))
+
+
+def is_dark(colours: Sequence[str]) -> bool:
+    """Whether white letters are read better on these colours than black ones."""
+    light = 0.0
+    for colour in colours:
+        red, green, blue = (int(colour[place : place + 2], 16) for place in (1, 3, 5))
+        light += 0.3 * red + 0.59 * green + 0.11 * blue
+    return light / len(colours) < 130
+
+
+def entries(scales: Sequence[Scale], some_none: bool, meaning: Meaning) -> list[tuple[str, str]]:
+    """The legend beside the scales: colours, and what they mean."""
+    found = []
+    if any(scale.truths for scale in scales):
+        found += [(TRUE, "true"), (FALSE, "false")]
+    for number in dict.fromkeys(scale.apart for scale in scales if scale.apart is not None):
+        name = "the ceiling" if number == meaning.ceiling else "apart from the scale"
+        found.append((APART, f"{number:,}, {name}"))
+    if some_none:
+        found.append((meaning.bare, meaning.none))
+    if meaning.resting and any(scale.resting for scale in scales):
+        found.append((GREY, meaning.resting))
+    return found
+
+
+def label_of(value: Value | None) -> str:
+    """What is written in a device: its whole value."""
+    return word_of(value)

@@ -1,0 +1,157 @@
+"""Draws one frame of a picture as SVG, PNG or PDF, with matplotlib."""
+
+from __future__ import annotations
+
+import math
+from collections.abc import Sequence
+from typing import Any
+
+from .colours import LAST, LINK, MAP, MARK, Scale, colours_of, entries, is_dark, label_of, scales_of
+from .picture import Frame, Picture
+from .refusals import Fault
+
+WALK = LAST
+BORDER = "#555555"
+MOST_LABELS = 120
+
+
+def pyplot_ready() -> Any:
+    """matplotlib's pyplot, which draws to files alone. Raises Fault where it isn't there."""
+    try:
+        import matplotlib
+    except ImportError:
+        raise Fault("matplotlib isn't there (Debian: python3-matplotlib)") from None
+    matplotlib.use("Agg")
+    matplotlib.rcParams["svg.hashsalt"] = "fc"
+    from matplotlib import pyplot
+
+    return pyplot
+
+
+def saved(figure: Any, name: str) -> None:
+    """Writes a figure to a file, the same each time. Raises Fault, of status 6, where it can't be written."""
+    dated = name.lower().endswith((".svg", ".pdf"))
+    key = "Date" if name.lower().endswith(".svg") else "CreationDate"
+    try:
+        figure.savefig(name, dpi=120, metadata={key: None} if dated else None)
+    except OSError as error:
+        raise Fault(f"{name} can't be written: {error.strerror or error}", 6) from None
+
+
+def draw(picture: Picture, name: str) -> None:
+    """Draws the last frame of a picture into a file, by its ending `.svg`, `.png` or `.pdf`."""
+    pyplot, frame = pyplot_ready(), picture.frames[-1]
+    figure, axes = pyplot.subplots(figsize=(9, 7), layout="constrained")
+    scales = scales_of(frame.values.values(), picture.meaning)
+    _links(axes, picture, frame)
+    _devices(axes, picture, frame, scales)
+    _labels(axes, picture, frame, scales)
+    _legend(axes, picture, frame, scales)
+    _bars(figure, axes, scales)
+    axes.set_title(" ".join(filter(None, (picture.title, frame.title))))
+    axes.set_aspect("equal", adjustable="datalim")
+    axes.margins(0.06)
+    axes.axis("off")
+    saved(figure, name)
+    pyplot.close(figure)
+
+
+def walked(frame: Frame) -> set[tuple[int, int]]:
+    """The pairs of devices between which a least walk leads."""
+    return {(min(pair), max(pair)) for walk in frame.walks.values() for pair in zip(walk, walk[1:])}
+
+
+def _links(axes: Any, picture: Picture, frame: Frame) -> None:
+    from matplotlib.collections import LineCollection
+
+    thick, at = walked(frame), picture.places
+    on_walk = [(min(a, b), max(a, b)) in thick for a, b, _ in frame.network.links]
+    rows = [(at[a], at[b]) for a, b, _ in frame.network.links]
+    colours = [WALK if one else LINK for one in on_walk]
+    axes.add_collection(LineCollection(rows, colors=colours, linewidths=[3 if one else 0.8 for one in on_walk], zorder=1))
+
+
+def area(count: int) -> float:
+    """The area of a device's circle, in square points, among so many."""
+    return min(420.0, 30_000 / count)
+
+
+def _devices(axes: Any, picture: Picture, frame: Frame, scales: Sequence[Scale]) -> None:
+    """A circle for each device; of pairs, a sector for each part, the first at the upper left."""
+    devices, marked = frame.network.devices, picture.marked(frame)
+    xs, ys = zip(*(picture.places[device] for device in devices))
+    size = area(len(devices))
+    colours = {device: colours_of(frame.values.get(device), scales, picture.meaning) for device in devices}
+    whole = [device for device in devices if len(colours[device]) == 1]
+    if whole:
+        places = list(zip(*(picture.places[device] for device in whole)))
+        axes.scatter(*places, s=size, c=[colours[device][0] for device in whole], linewidths=0, zorder=2)
+    parted = [device for device in devices if len(colours[device]) > 1]
+    for place in range(len(scales) if parted else 0):
+        corners = sector(place, len(scales))
+        reach = max(abs(part) for corner in corners for part in corner)
+        places = list(zip(*(picture.places[device] for device in parted)))
+        shades = [colours[device][place] for device in parted]
+        axes.scatter(*places, s=size * reach**2, c=shades, marker=corners, linewidths=0, zorder=2)
+    edges = [LAST if d in picture.last else MARK if d in marked else BORDER for d in devices]
+    widths = [2.5 if d in picture.last or d in marked else 0.5 for d in devices]
+    axes.scatter(xs, ys, s=size, facecolors="none", edgecolors=edges, linewidths=widths, zorder=3)
+
+
+def sector(place: int, count: int) -> list[tuple[float, float]]:
+    """The corners of one of so many equal sectors of a circle of radius 1, counted to the right from straight down."""
+    start, turn = -math.pi / 2 - place * 2 * math.pi / count, 2 * math.pi / count
+    steps = max(4, 48 // count)
+    angles = [start - turn * step / steps for step in range(steps + 1)]
+    return [(0.0, 0.0), *((math.cos(angle), math.sin(angle)) for angle in angles)]
+
+
+def _labels(axes: Any, picture: Picture, frame: Frame, scales: Sequence[Scale]) -> None:
+    """The value in each circle, whole, where there are few devices; and the numbers or names beside, where asked for."""
+    devices = frame.network.devices
+    across = math.sqrt(area(len(devices)))
+    for device in devices:
+        value, at = frame.values.get(device), picture.places[device]
+        if frame.values and len(devices) <= MOST_LABELS:
+            text = label_of(value)
+            ink = "white" if is_dark(colours_of(value, scales, picture.meaning)) else "black"
+            font = min(8 if len(devices) <= 60 else 6, across / (0.55 * len(text)))
+            axes.annotate(text, at, ha="center", va="center", fontsize=font, color=ink, zorder=4)
+        if picture.numbers:
+            away = (across * 0.38, across * 0.38)
+            axes.annotate(
+                frame.network.called(device), at, xytext=away, textcoords="offset points", color="#404040",
+                fontsize=7 if len(devices) <= MOST_LABELS else 4, zorder=5,
+            )  # fmt: skip
+
+
+def _legend(axes: Any, picture: Picture, frame: Frame, scales: Sequence[Scale]) -> None:
+    from matplotlib.lines import Line2D
+
+    def dot(colour: str, label: str, edge: str = BORDER) -> Line2D:
+        return Line2D([], [], marker="o", ls="", color=colour, mec=edge, ms=9, label=label)
+
+    some_none = any(frame.values.get(device) is None for device in frame.network.devices)
+    shown = some_none and bool(frame.values) and not picture.last
+    handles = [dot(colour, label) for colour, label in entries(scales, shown, picture.meaning)]
+    if picture.marks:
+        handles.append(dot("white", " and ".join(picture.marks), MARK))
+    if picture.last:
+        handles.append(dot("white", picture.said.partition("; ")[0], LAST))
+    if frame.walks:
+        handles.append(Line2D([], [], color=WALK, lw=3, label="least walks"))
+    if handles:
+        axes.legend(handles=handles, loc="upper left", bbox_to_anchor=(0, -0.01), ncols=min(len(handles), 4), frameon=False)
+
+
+def _bars(figure: Any, axes: Any, scales: Sequence[Scale]) -> None:
+    """A bar of colours for each part of the values that has numbers."""
+    from matplotlib import colormaps, colors
+    from matplotlib.cm import ScalarMappable
+    from matplotlib.ticker import MaxNLocator
+
+    for scale in scales:
+        if scale.low is not None and scale.high is not None:
+            span = colors.Normalize(scale.low, max(scale.high, scale.low + 1))
+            mapped = ScalarMappable(span, colormaps[MAP])
+            figure.colorbar(mapped, ax=axes, label=scale.label, shrink=0.8, ticks=MaxNLocator(integer=True))

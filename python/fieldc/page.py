@@ -1,0 +1,198 @@
+"""A page of HTML that shows the frames of a picture one after the other: a slider, a play button, and device numbers."""
+
+from __future__ import annotations
+
+import html
+import json
+import math
+from collections.abc import Mapping, Sequence
+from typing import Any
+
+from .colours import Scale, colours_of, entries, is_dark, label_of, scales_of
+from .drawing import sector, walked
+from .picture import Picture, everywhere
+
+PAGE = """<!doctype html>
+<html lang="en"><meta charset="utf-8"><title>{title}</title>
+<style>
+ * {{ box-sizing: border-box }}
+ body {{ font: 15px sans-serif; margin: 1em auto; padding: 0 1em; max-width: 60em; color: #222 }}
+ svg {{ width: 100%; height: auto; border: 1px solid #ddd }}
+ line {{ stroke: #b5b5b5 }} line.walk {{ stroke: #d6381e; stroke-width: 3 }}
+ circle {{ stroke: #555; fill: none }} .marked circle {{ stroke: #111; stroke-width: 3 }}
+ .last circle {{ stroke: #d6381e; stroke-width: 3 }}
+ text {{ text-anchor: middle; dominant-baseline: central; pointer-events: none }}
+ text.number {{ text-anchor: start; fill: #404040; visibility: hidden }} svg.numbered text.number {{ visibility: visible }}
+ .away {{ display: none }}
+ #slider {{ width: 100%; margin: 0 }}
+ .swatch {{ display: inline-block; width: 1em; height: 1em; border: 1px solid #555; margin: 0 .3em 0 1em }}
+</style>
+<h1>{title}</h1>
+<p id="verdict">{verdict}</p>
+<p><label>Show <output id="which"></output><input id="slider" type="range" min="0" max="{last}" value="0"></label></p>
+<p><button id="play" type="button">Play</button>
+<label><input id="numbers" type="checkbox"{numbered}> device numbers</label></p>
+{picture}
+<p>{legend}</p>
+<script>
+ const looks = {looks};
+ const shows = {shows};
+ const devices = [...document.querySelectorAll("g.device")];
+ const links = [...document.querySelectorAll("line")];
+ const slider = document.getElementById("slider"), play = document.getElementById("play");
+ const numbers = document.getElementById("numbers"), drawn = document.querySelector("svg");
+ let playing = null;
+ function draw() {{
+  const show = shows[slider.value];
+  document.getElementById("which").textContent = (Number(slider.value) + 1) + " of " + shows.length + (show.title && ": " + show.title);
+  devices.forEach((node, place) => {{
+   const look = looks[show.devices[place]];
+   node.classList.toggle("away", !look);
+   if (!look) return;
+   node.classList.toggle("marked", show.marked.includes(place));
+   node.querySelectorAll("path").forEach((part, at) => part.setAttribute("fill", look[1][at % look[1].length]));
+   const text = node.querySelector("text.value");
+   text.setAttribute("fill", look[2]);
+   text.setAttribute("font-size", Math.min({font}, {radius} * 3.4 / Math.max(look[0].length, 1)));
+   text.textContent = look[0];
+  }});
+  links.forEach((line, place) => line.classList.toggle("away", show.away.includes(place)));
+ }}
+ function stop() {{
+  clearInterval(playing);
+  playing = null;
+  play.textContent = "Play";
+ }}
+ play.addEventListener("click", () => {{
+  if (playing) return stop();
+  if (Number(slider.value) === shows.length - 1) slider.value = 0;
+  draw();
+  play.textContent = "Pause";
+  playing = setInterval(() => {{
+   if (Number(slider.value) === shows.length - 1) return stop();
+   slider.value = Number(slider.value) + 1;
+   draw();
+  }}, 700);
+ }});
+ slider.addEventListener("input", draw);
+ const number = () => drawn.classList.toggle("numbered", numbers.checked);
+ numbers.addEventListener("change", number);
+ number();
+ draw();
+</script>
+</html>
+"""
+
+
+def page(picture: Picture) -> str:
+    """The page of a picture's frames, as a text of HTML that needs nothing beside it."""
+    values = [value for frame in picture.frames for value in frame.values.values()]
+    scales = scales_of(values, picture.meaning)
+    drawn, radius = _network(picture, max(len(scales), 1))
+    looks, shows = _shows(picture, scales)
+    return PAGE.format(
+        title=html.escape(picture.title or "A run of fc"),
+        verdict=html.escape(picture.verdict),
+        last=len(picture.frames) - 1,
+        numbered=" checked" if picture.numbers else "",
+        picture=drawn,
+        radius=f"{radius:.1f}",
+        font=f"{radius * 0.8:.1f}",
+        legend=_legend(picture, scales),
+        looks=_script(looks),
+        shows=_script(shows),
+    )
+
+
+def _script(data: Any) -> str:
+    """Data as a text within a script."""
+    return json.dumps(data, separators=(",", ":")).replace("</", "<\\/")
+
+
+def _network(picture: Picture, sectors: int) -> tuple[str, float]:
+    """All devices and links of all frames as SVG, which the script shows, hides and colours; and the radius of a device."""
+    devices, links = everywhere(picture)
+    xs, ys = zip(*(picture.places[device] for device in devices))
+    scale = 900 / (max(max(xs) - min(xs), max(ys) - min(ys)) or 1)
+    at = {d: (40 + (picture.places[d][0] - min(xs)) * scale, 40 + (max(ys) - picture.places[d][1]) * scale) for d in devices}
+    width, height = 80 + (max(xs) - min(xs)) * scale, 80 + (max(ys) - min(ys)) * scale
+    radius = max(4, min(22, 220 / len(devices) ** 0.5))
+    thick = set().union(*(walked(frame) for frame in picture.frames))
+    parts = [f'<svg viewBox="0 0 {width:.0f} {height:.0f}" xmlns="http://www.w3.org/2000/svg">']
+    for a, b in links:
+        (x1, y1), (x2, y2) = at[a], at[b]
+        walk = ' class="walk"' if (a, b) in thick else ""
+        parts.append(f'<line{walk} x1="{x1:.1f}" y1="{y1:.1f}" x2="{x2:.1f}" y2="{y2:.1f}"/>')
+    names = {device: frame.network.called(device) for frame in picture.frames for device in frame.network.devices}
+    paths = [_path(sector(place, sectors), radius) if sectors > 1 else _disk(radius) for place in range(sectors)]
+    for device in devices:
+        x, y = at[device]
+        last = " last" if device in picture.last else ""
+        parts.append(
+            f'<g class="device{last}" data-id="{device}" transform="translate({x:.1f},{y:.1f})">'
+            f"<title>device {html.escape(names[device])}</title>{''.join(paths)}"
+            f'<circle r="{radius:.1f}"/><text class="value"></text>'
+            f'<text class="number" x="{radius * 0.8:.1f}" y="{-radius * 0.9:.1f}" font-size="{max(radius * 0.6, 5):.1f}">'
+            f"{html.escape(names[device])}</text></g>"
+        )
+    return "\n".join([*parts, "</svg>"]), radius
+
+
+def _path(corners: Sequence[tuple[float, float]], radius: float) -> str:
+    (x1, y1), (x2, y2) = corners[1], corners[-1]
+    large = 1 if len(corners) < 4 else 0
+    r = f"{radius:.1f}"
+    first, last = f"{x1 * radius:.1f},{-y1 * radius:.1f}", f"{x2 * radius:.1f},{-y2 * radius:.1f}"
+    return f'<path d="M0,0 L{first} A{r},{r} 0 {large} 1 {last} Z"/>'
+
+
+def _disk(radius: float) -> str:
+    r = f"{radius:.1f}"
+    return f'<path d="M-{r},0 A{r},{r} 0 1 1 {r},0 A{r},{r} 0 1 1 -{r},0 Z"/>'
+
+
+def _shows(picture: Picture, scales: Sequence[Scale]) -> tuple[list[list[Any]], list[dict[str, Any]]]:
+    """The looks of devices, each once, and the frames by numbers of looks: -1 where a device isn't there."""
+    devices, links = everywhere(picture)
+    place = {device: number for number, device in enumerate(devices)}
+    looks: dict[str, int] = {}
+    shows = []
+    for frame in picture.frames:
+        there = {(min(a, b), max(a, b)) for a, b, _ in frame.network.links}
+        row = [
+            _look(frame.values, device, scales, picture, looks) if device in frame.network.inputs else -1
+            for device in devices
+        ]
+        away = [number for number, link in enumerate(links) if link not in there]
+        marked = sorted(place[device] for device in picture.marked(frame))
+        shows.append({"title": frame.title, "devices": row, "marked": marked, "away": away})
+    return [json.loads(look) for look in looks], shows
+
+
+def _look(
+    values: Mapping[int, Any], device: int, scales: Sequence[Scale], picture: Picture, looks: dict[str, int]
+) -> int:
+    """The number of the look of a device: what is written in it, its colours, and the ink."""
+    colours = colours_of(values.get(device), scales, picture.meaning)
+    text = label_of(values.get(device)) if values else ""
+    look = json.dumps([text, colours, "#ffffff" if is_dark(colours) else "#000000"])
+    return looks.setdefault(look, len(looks))
+
+
+def _legend(picture: Picture, scales: Sequence[Scale]) -> str:
+    """The legend: of each scale five of its numbers, and what else colours and borders mean."""
+
+    def swatch(colour: str, label: str) -> str:
+        return f'<span class="swatch" style="background:{colour}"></span>{html.escape(label)}'
+
+    rows = []
+    for scale in scales:
+        if scale.low is not None and scale.high is not None:
+            steps = {scale.low + math.floor((scale.high - scale.low) * part / 4 + 0.5) for part in range(5)}
+            label = html.escape(scale.label) + ":" if len(scales) > 1 else ""
+            rows.append(" ".join([label, *(swatch(scale.colour(number), f"{number:,}") for number in sorted(steps))]))
+    none = any(v is None for frame in picture.frames for v in frame.values.values())
+    more = [swatch(colour, label) for colour, label in entries(scales, none, picture.meaning)]
+    more += [html.escape("thick border: " + " and ".join(picture.marks))] if picture.marks else []
+    more += [html.escape("red border: " + picture.said.partition("; ")[0])] if picture.last else []
+    return "<br>".join(filter(None, [*rows, " ".join(more)]))

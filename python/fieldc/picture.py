@@ -1,0 +1,178 @@
+"""Pictures of networks with values: what is drawn is gathered here, and `drawing` and `page` draw it."""
+
+from __future__ import annotations
+
+from collections.abc import Mapping, Sequence
+from dataclasses import dataclass, field, replace
+
+from . import results
+from .colours import WHITE, Meaning
+from .edits import Moment, moments
+from .layout import laid_out
+from .network import Network, Position, declared
+from .refusals import Fault
+from .results import Values
+
+LINES_OF_A_RUN = ("run", "mix", "show", "scramble")
+
+
+@dataclass(frozen=True)
+class Frame:
+    """One view of a network: its title, the network as it is then, values by device, and least walks where there are some."""
+
+    title: str
+    network: Network
+    values: Values
+    walks: Mapping[int, tuple[int, ...]] = field(default_factory=dict)
+
+
+@dataclass(frozen=True)
+class Picture:
+    """All that is drawn: frames over the same places, what their numbers mean, and which devices have a border.
+
+    `last` are devices with a red border, of which `said` tells; `marks` are inputs whose devices have a thick border where
+    they are true.
+    """
+
+    frames: tuple[Frame, ...]
+    places: Mapping[int, Position]
+    meaning: Meaning = Meaning()
+    verdict: str = ""
+    title: str = ""
+    marks: tuple[str, ...] = ()
+    last: tuple[int, ...] = ()
+    said: str = ""
+    numbers: bool = False
+
+    def marked(self, frame: Frame) -> set[int]:
+        """The devices of a frame for which one of the marks is true then."""
+        return {d for d, own in frame.network.inputs.items() if any(own.get(name) is True for name in self.marks)}
+
+    def one(self, place: int) -> Picture:
+        """The picture of one frame alone."""
+        return replace(self, frames=(self.frames[place],))
+
+
+def gathered(program: str | None, network: Network, lines: str | None, answer: str | None) -> Picture:
+    """The picture of a network and what `fc` answered of it, without places.
+
+    `program` is the program's text, where there is one, `lines` the script or log that `answer` belongs to. Raises Fault,
+    of status 3, where the answer isn't of this network, or a script is missing without which it can't be told which
+    network a show is of.
+    """
+    ceiling = declared(program).ceiling if program is not None else None
+    inputs = tuple(declared(program).inputs) if program is not None else ()
+    if answer is None:
+        return Picture((Frame("", network, {}),), {}, Meaning(none=""))
+    texts = answer.splitlines()
+    verdict = next((line for line in texts[:1] if results.is_verdict(line)), "")
+    if any(line == "open" or line.startswith("settles ") for line in texts):
+        return _settling(network, results.settled(answer), verdict)
+    if any(line.startswith("@") for line in texts):
+        found = _run(network, results.ran(answer), lines, inputs)
+    else:
+        found = (_one(network, answer, lines, inputs),)
+    for frame in found:
+        _agree(frame)
+    return Picture(found, {}, Meaning(ceiling=ceiling), verdict)
+
+
+def _run(network: Network, run: results.Ran, lines: str | None, inputs: tuple[str, ...]) -> tuple[Frame, ...]:
+    """A frame for each show of a run, on the network as it is at that line of the script."""
+    if lines is None:
+        raise Fault("these are shows of a run: give its script too, since it may edit the network", 3)
+    by_line = {moment.line: moment for moment in moments(network, lines, inputs)}
+    missing = [show.line for show in run.shows if show.line not in by_line]
+    if missing or len(by_line) != len(run.shows):
+        raise Fault(f"these shows aren't of this script: line {missing[0] if missing else max(by_line)}", 3)
+    return tuple(Frame(when(by_line[show.line]), by_line[show.line].network, show.values) for show in run.shows)
+
+
+def when(moment: Moment) -> str:
+    """When a show of a script is: so many rounds after the last edit, or after the start."""
+    since = "the last edit" if moment.edited else "the start"
+    if not moment.rounds:
+        return f"right after {since}" if moment.edited else "at the start"
+    return f"{moment.rounds} round{'s' if moment.rounds > 1 else ''} after {since}"
+
+
+def is_script(lines: str) -> bool:
+    """Whether lines are those of a script, and not of a log."""
+    return any(line.split(" ")[0] in LINES_OF_A_RUN for line in lines.split("\n"))
+
+
+def _one(network: Network, answer: str, lines: str | None, inputs: tuple[str, ...]) -> Frame:
+    """The frame of `stable`, `trace`, `mail` or `replay`; that of a log is of the network behind it."""
+    texts = answer.splitlines()
+    if any(len(line.split(" ")) > 2 for line in texts if line[:1].isdigit()):
+        traced = results.traced(answer)
+        return Frame("", network, traced.values, traced.walks or {})
+    while texts and results.is_verdict(texts[0]):
+        texts.pop(0)
+    if not texts or not texts[0][:1].isdigit():
+        raise Fault("there are no values of devices in it", 3)
+    values = results.replayed("\n".join(texts)).values
+    if lines is not None and not is_script(lines):
+        network = moments(network, lines, inputs)[0].network
+    return Frame("", network, values)
+
+
+def _agree(frame: Frame) -> None:
+    """Refuses values of other devices than those of the network."""
+    there = set(frame.network.inputs)
+    for device in sorted(there ^ set(frame.values)):
+        lacks, has = ("values have", "network hasn't") if device not in there else ("network has", "values haven't")
+        raise Fault(f"the values aren't of this network: the {lacks} device {device}, and the {has}", 3)
+
+
+def _settling(network: Network, found: results.Settled, verdict: str) -> Picture:
+    """The picture of settle rounds: grey where a device rests, a red border where it is the last."""
+    title = "open" if found.open else f"settles {found.rounds}"
+    last, said = latest(found.by_device, network.names)
+    still = sum(rounds == 0 for rounds in found.by_device.values())
+    resting = f"{still} of {len(found.by_device)} hold their value now" if still else ""
+    frame = Frame(f"({title})", network, found.by_device)
+    _agree(frame)
+    meaning = Meaning("settle round", "no settle round", WHITE, resting)
+    return Picture((frame,), {}, meaning, verdict, last=last, said="; ".join(filter(None, (said, resting))))
+
+
+def latest(rounds: Mapping[int, int | None], called: Mapping[int, str] | None = None) -> tuple[tuple[int, ...], str]:
+    """The devices that are known last, and how that is said: those without a settle round where there are some."""
+    greatest = max((r for r in rounds.values() if r is not None), default=0)
+    last = tuple(device for device, r in rounds.items() if r is None)
+    how = "no settle round"
+    if not last and not greatest:
+        return (), ""
+    if not last:
+        last = tuple(device for device, r in rounds.items() if r == greatest)
+        how = f"the last, after {greatest} round{'s' if greatest > 1 else ''}"
+    more = f" and {len(last) - 8} more" if len(last) > 8 else ""
+    words = ", ".join((called or {}).get(device, str(device)) for device in last[:8])
+    return last, f"{how}: device{'s' if len(last) > 1 else ''} {words}{more}"
+
+
+def everywhere(picture: Picture) -> tuple[list[int], list[tuple[int, int]]]:
+    """All devices and links of all frames, so that a device has one place throughout."""
+    devices = sorted({device for frame in picture.frames for device in frame.network.inputs})
+    links = sorted({(min(a, b), max(a, b)) for frame in picture.frames for a, b, _ in frame.network.links})
+    return devices, links
+
+
+def at_places(picture: Picture, positions: Mapping[int, Position] | None) -> Picture:
+    """The picture with places: positions of all its devices, or a layout of its own. Raises Fault where one is missing."""
+    devices, links = everywhere(picture)
+    if positions is None:
+        return replace(picture, places=laid_out(devices, links))
+    for device in devices:
+        if device not in positions:
+            raise Fault(f"there is no position of device {device}", 3)
+    return replace(picture, places={device: positions[device] for device in devices})
+
+
+def check_marks(picture: Picture, marks: Sequence[str]) -> Picture:
+    """The picture with marks. Raises Fault where no device has such an input."""
+    for name in marks:
+        if not any(name in own for frame in picture.frames for own in frame.network.inputs.values()):
+            raise Fault(f"--mark {name}: no device has this input")
+    return replace(picture, marks=tuple(marks))
