@@ -108,15 +108,19 @@ def sector(place: int, count: int) -> list[tuple[float, float]]:
 
 def _labels(axes: Any, picture: Picture, frame: Frame, scales: Sequence[Scale]) -> None:
     """The value in each circle, whole, where there are few devices; and the numbers or names beside, where asked for."""
+    from matplotlib.patheffects import withStroke
+
     devices = frame.network.devices
     across = math.sqrt(area(len(devices)))
     for device in devices:
         value, at = frame.values.get(device), picture.places[device]
         if frame.values and len(devices) <= MOST_LABELS:
             text = label_of(value)
-            ink = "white" if is_dark(colours_of(value, scales, picture.meaning)) else "black"
+            colours = colours_of(value, scales, picture.meaning)
+            ink, halo = ("white", "black") if is_dark(colours) else ("black", "white")
             font = min(8 if len(devices) <= 60 else 6, across / (0.55 * len(text)))
-            axes.annotate(text, at, ha="center", va="center", fontsize=font, color=ink, zorder=4)
+            round_it = [withStroke(linewidth=1.2, foreground=halo)] if len(colours) > 1 else None
+            axes.annotate(text, at, ha="center", va="center", fontsize=font, color=ink, zorder=4, path_effects=round_it)
         if picture.numbers:
             away = (across * 0.38, across * 0.38)
             axes.annotate(
@@ -150,7 +154,7 @@ def _bars(figure: Any, axes: Any, scales: Sequence[Scale]) -> None:
     from matplotlib.cm import ScalarMappable
     from matplotlib.ticker import MaxNLocator
 
-    for scale in scales:
+    for scale in reversed(scales):
         if scale.low is not None and scale.high is not None:
             span = colors.Normalize(scale.low, max(scale.high, scale.low + 1))
             mapped = ScalarMappable(span, colormaps[MAP])

@@ -21,8 +21,10 @@ PAGE = """<!doctype html>
  line {{ stroke: #b5b5b5 }} line.walk {{ stroke: #d6381e; stroke-width: 3 }}
  circle {{ stroke: #555; fill: none }} .marked circle {{ stroke: #111; stroke-width: 3 }}
  .last circle {{ stroke: #d6381e; stroke-width: 3 }}
- text {{ text-anchor: middle; dominant-baseline: central; pointer-events: none }}
- text.number {{ text-anchor: start; fill: #404040; visibility: hidden }} svg.numbered text.number {{ visibility: visible }}
+ text {{ text-anchor: middle; stroke-width: 0; dominant-baseline: central; pointer-events: none }}
+ .parted text.value {{ paint-order: stroke; stroke-width: 2px }}
+ text.number {{ text-anchor: start; fill: #404040; visibility: hidden }} svg.numbered .parted text.value {{ paint-order: stroke; stroke-width: 2px }}
+ text.number {{ visibility: visible }}
  .away {{ display: none }}
  #slider {{ width: 100%; margin: 0 }}
  .swatch {{ display: inline-block; width: 1em; height: 1em; border: 1px solid #555; margin: 0 .3em 0 1em }}
@@ -53,6 +55,8 @@ PAGE = """<!doctype html>
    node.querySelectorAll("path").forEach((part, at) => part.setAttribute("fill", look[1][at % look[1].length]));
    const text = node.querySelector("text.value");
    text.setAttribute("fill", look[2]);
+   text.setAttribute("stroke", look[2] === "#ffffff" ? "#000000" : "#ffffff");
+   node.classList.toggle("parted", look[1].length > 1);
    text.setAttribute("font-size", Math.min({font}, {radius} * 3.4 / Math.max(look[0].length, 1)));
    text.textContent = look[0];
   }});

@@ -1,3 +1,49 @@
-"""x"""
-def arguments(parser): pass
-def perform(options): return 0
+"""`fieldc rounds`: how many devices hold their value, round by round, from tables of rubbish."""
+
+from __future__ import annotations
+
+import argparse
+
+from .. import rounds
+from ..drawing import pyplot_ready
+from ..progress import Progress
+from ..refusals import Fault
+from ..sections import PICTURES, sections, writable
+
+SUMMARY = "draws against the rounds how many devices hold their value, from tables of rubbish"
+EPILOG = """\
+Example: fieldc rounds hops.fc net.json --number 1 --number 2 -o rounds.svg
+
+For each table it writes NUMBER ROUNDS R K: after how many rounds it had settled, the settle time and the bound of the
+verdict (- with a no)."""
+
+
+def arguments(parser: argparse.ArgumentParser) -> None:
+    parser.add_argument("files", nargs="+", metavar="FILE", help="PROGRAM NETWORK, joined or not (further sections are left out)")
+    parser.add_argument("-o", "--output", metavar="FILE", required=True, help="the picture, by its ending .svg, .png or .pdf")
+    parser.add_argument("--number", metavar="N", type=int, action="append", help="the rubbish of this number (1); several give several curves")
+    parser.add_argument("--rounds", metavar="R", type=int, help=f"how many rounds are run (R, at most {rounds.MOST_ROUNDS:,})")
+    parser.add_argument("--workers", metavar="W", type=int, default=4, help="threads that fire devices in each run (4)")
+    parser.add_argument("--title", default="", help="a line above the picture")
+
+
+def perform(options: argparse.Namespace) -> int:
+    writable(options.output, PICTURES)
+    pyplot_ready()
+    parts = sections(options.files, ("program", "network"))
+    if len(parts) < 2:
+        raise Fault("the files have one section: PROGRAM NETWORK are wanted")
+    program, network = parts[0].text, parts[1].text
+    numbers = list(dict.fromkeys(options.number or [1]))
+    with Progress(lambda: "fc check --settle") as waiting:
+        promise = rounds.promised(program, network, waiting)
+    count = promise.time if options.rounds is None else options.rounds
+    what = f"{len(numbers)} runs of {count:,} rounds on {len(promise.values):,} devices"
+    with Progress(lambda: what) as waiting:
+        found = rounds.curves(program, network, promise, numbers, count, options.workers, waiting)
+    rounds.draw(promise, found, options.output, options.title)
+    for one in found:
+        settled = one.settled(len(promise.values))
+        bound = promise.verdict.rounds
+        print(f"{one.number} {'unsettled' if settled is None else settled} {promise.time} {'-' if bound is None else bound}")
+    return 0
