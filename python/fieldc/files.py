@@ -245,13 +245,13 @@ def _link(where: str, line: str, delimiter: str | None) -> Any:
     import networkx
 
     head = line.split("{")[0]
+    if not head or re.search(r"[<>\[\]\"]", head):
+        raise Fault(f"{where}: this is no list of links", 3)
     words = [word.strip() for word in head.split(delimiter)]
     words = words[:-1] if "{" in line and words and not words[-1] else words
     data: Any = True if "{" in line else (("weight", str),)[: len(words) - 2]
     if len(words) not in (2, 3) or (len(words) == 3 and ("{" in line or not _is_number(words[2]))) or not all(words):
         raise Fault(f"{where}: not a link 'a b' or 'a b weight'", 3)
-    if re.search(r"[<>\[\]\"]", head):
-        raise Fault(f"{where}: this is no list of links", 3)
     try:
         one = networkx.parse_edgelist([line], comments=None, delimiter=delimiter, data=data)
     except Exception as error:

@@ -23,8 +23,7 @@ PAGE = """<!doctype html>
  .last circle {{ stroke: #d6381e; stroke-width: 3 }}
  text {{ text-anchor: middle; stroke-width: 0; dominant-baseline: central; pointer-events: none }}
  .parted text.value {{ paint-order: stroke; stroke-width: 2px }}
- text.number {{ text-anchor: start; fill: #404040; visibility: hidden }} svg.numbered .parted text.value {{ paint-order: stroke; stroke-width: 2px }}
- text.number {{ visibility: visible }}
+ text.number {{ text-anchor: start; fill: #404040; visibility: hidden }} svg.numbered text.number {{ visibility: visible }}
  .away {{ display: none }}
  #slider {{ width: 100%; margin: 0 }}
  .swatch {{ display: inline-block; width: 1em; height: 1em; border: 1px solid #555; margin: 0 .3em 0 1em }}
