@@ -11,9 +11,9 @@ from . import results
 from .files import names_from
 from .json_results import written
 from .progress import Progress, described
-from .refusals import Call, Explanation, Refusal, explained, plain_explanation
+from .refusals import Call, Explanation, Refusal, explained, plain_explanation, warned
 from .sections import sections, write
-from .telling import place_of, quoted
+from .telling import place_of, rest_of
 
 WHY_NO = "docs/language.md#when-check-says-no"
 OF_DEVICES = ("stable", "trace", "run", "replay", "mail", "settle")
@@ -61,6 +61,8 @@ def ask(
         sys.stdout.buffer.flush()
     if reply.status == 1:
         tell_no(call, reply.text)
+    for warning in warned(call):
+        print_explanation(warning, front="fieldc: warning: ")
     return call, result, reply.status
 
 
@@ -81,22 +83,15 @@ def named(text: str, names: Mapping[int, str], command: str) -> str:
 
 
 def tell_no(call: Call, text: str) -> None:
-    """Tells on standard error why an answer is a no, is open, or has no walks."""
+    """Tells on standard error why an answer is a no, or has no walks."""
     lines = text.splitlines()
     for line in [line for line in lines[:1] if line.startswith("no ")] + [line for line in lines if line == "no walks"]:
-        explanation = explained(call, Refusal(1, "no", line, call))
-        if explanation == plain_explanation(Refusal(1, "no", line, call)):
-            explanation = Explanation(what=line, page=WHY_NO)
-        print_explanation(explanation, line)
+        refusal = Refusal(1, "no", line, call)
+        explanation = explained(call, refusal)
+        print_explanation(Explanation(line, page=WHY_NO) if explanation == plain_explanation(refusal) else explanation)
 
 
-def print_explanation(explanation: Explanation, line: str) -> None:
-    """Writes an explanation of a line that stands on standard output already."""
-    if explanation.what != line:
-        print(f"fieldc: {place_of(explanation)}{explanation.what}", file=sys.stderr)
-    for row in quoted(explanation):
-        print("    " + row, file=sys.stderr)
-    if explanation.hint:
-        print(f"try: {explanation.hint}", file=sys.stderr)
-    if explanation.page:
-        print(f"read: {explanation.page}", file=sys.stderr)
+def print_explanation(explanation: Explanation, front: str = "fieldc: ") -> None:
+    """Writes an explanation on standard error: of a line that stands on standard output already, or a warning."""
+    sys.stdout.flush()
+    sys.stderr.write(f"{front}{place_of(explanation)}{explanation.what}\n{rest_of(explanation)}")

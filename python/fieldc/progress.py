@@ -69,8 +69,8 @@ def _devices(network: str) -> str:
 def _nodes(program: str) -> str:
     """How many nodes the unfolded program has, where the package's own reader of programs is there and can read it."""
     try:
-        count = importlib.import_module("fieldc.language").count_nodes(program)
-        return f"{count:,} nodes"
+        found = importlib.import_module("fieldc.language").reading(program).unfolded
+        return f"{len(found.nodes):,} nodes"
     except Exception:  # only a word beside a clock: without it the line says less
         return ""
 

@@ -109,3 +109,11 @@ def explained(call: Call, refusal: Refusal) -> Explanation:
     except ImportError:
         return plain_explanation(refusal)
     return explain(call, refusal)
+
+
+def warned(call: Call) -> tuple[Explanation, ...]:
+    """What `fc` takes and a user may not have meant; nothing where the explaining part isn't there."""
+    try:
+        return importlib.import_module("fieldc.explain").warnings(call)
+    except (ImportError, AttributeError):
+        return ()

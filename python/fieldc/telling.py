@@ -12,12 +12,14 @@ def told(refusal: Refusal, explanation: Explanation) -> str:
     lines = [f"fieldc: {refusal.line or 'status ' + str(refusal.status)}"]
     if explanation.what != refusal.line:
         lines.append(place_of(explanation) + explanation.what)
-    lines += ["    " + line for line in quoted(explanation)]
-    if explanation.hint:
-        lines.append(f"try: {explanation.hint}")
-    if explanation.page:
-        lines.append(f"read: {explanation.page}")
-    return "\n".join(lines) + "\n"
+    return "\n".join(lines) + "\n" + rest_of(explanation)
+
+
+def rest_of(explanation: Explanation) -> str:
+    """The lines behind the sentence: the line of the file with a caret, what to try, and the page to read."""
+    lines = ["    " + line for line in quoted(explanation)]
+    lines += [f"try: {explanation.hint}"] * bool(explanation.hint) + [f"read: {explanation.page}"] * bool(explanation.page)
+    return "".join(line + "\n" for line in lines)
 
 
 def place_of(explanation: Explanation) -> str:
