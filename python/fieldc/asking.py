@@ -11,7 +11,7 @@ from . import results
 from .files import names_from
 from .json_results import written
 from .progress import Progress, described
-from .refusals import Call, Explanation, Refusal, explained, plain_explanation, warned
+from .refusals import Call, Explanation, Fault, Refusal, explained, plain_explanation, warned
 from .sections import sections, write
 from .telling import place_of, rest_of
 
@@ -51,7 +51,7 @@ def ask(
     call = Call(tuple(words), sections(options.files, kinds))
     with Progress(lambda: described(call)) as waiting:
         reply = fc.answered(call, waiting)
-    result = reader(reply.text, call)
+    result = understood(reader, reply.text, call)
     if options.json:
         write("-", written(result, names))
     elif names:
@@ -64,6 +64,16 @@ def ask(
     for warning in warned(call):
         print_explanation(warning, front="fieldc: warning: ")
     return call, result, reply.status
+
+
+def understood(
+    reader: Callable[[str, Call], results.Result | str], text: str, call: Call
+) -> results.Result | str:
+    """What `fc` wrote, as a result. Raises Fault where it is no answer of its."""
+    try:
+        return reader(text, call)
+    except (Fault, ValueError, KeyError, IndexError, TypeError):
+        raise Fault(f"{fc.find()} doesn't answer as fc does: {text[:60]!r}") from None
 
 
 def named(text: str, names: Mapping[int, str], command: str) -> str:
