@@ -6,8 +6,10 @@ With --from-table the lines are those of `check --settle --from-table`, and the 
 with up to three edits behind them, half of them with firings in flight; a device with 0 rounds has to hold its value at
 once, and all along.
 
-It runs ./fc, or what the variable FC names. Build the program first (./build): else each run takes a minute.
+It runs the built program, or what the variable FC names.
 """
+
+from __future__ import annotations
 
 import argparse
 import bisect
@@ -15,7 +17,10 @@ import itertools
 import json
 import random
 
-from scenes import Fault, main_of, run_fc
+import helping  # noqa: F401
+
+from fieldc import Call, Section
+from fieldc import program as fc
 
 HOP = "rep({c}){{(d) => minHoodLoc(nbr{{d}} + 1, mux(sense src, 0, {c}))}}"
 PROGRAMS = (
@@ -39,6 +44,15 @@ PROGRAMS = (
     "ceiling {c}; main = rep(0){{(x) => maxHoodLoc(nbr{{x}}, 0)}};",
 )
 NO_TABLE = {"format": 2, "rows": []}
+
+
+class Broken(Exception):
+    """A run that breaks a line."""
+
+
+def run_fc(words, sections):
+    """What `fc` writes of sections of input."""
+    return fc.answered(Call(tuple(words), tuple(Section("", "", 1, text) for text in sections))).text
 
 
 def weight(dice, program):
@@ -226,7 +240,7 @@ def settled_lines(program, scene, words):
 
 
 def tried(dice, from_table):
-    """One start and schedule: the rounds of its lines, and whether a firing is in flight; a fault where a line breaks."""
+    """One start and schedule: the rounds of its lines, and whether a firing is in flight. Raises Broken."""
     program = dice.choice(PROGRAMS).format(c=dice.choice([12, 20]))
     scene = network(dice, program)
     if from_table:
@@ -241,23 +255,28 @@ def tried(dice, from_table):
     stretches = [one_round(dice, numbers_of(start), flying) for _ in range(max(rounds, default=0) + 1)]
     line = broken_line(dice, program, start, settled, stretches)
     if line is not None:
-        raise Fault(f"broken: {line} of {program} on {json.dumps(start)} by {stretches}")
+        raise Broken(f"{line} of {program} on {json.dumps(start)} by {stretches}")
     return rounds, flies
 
 
-def look():
+def looked(count, seed, from_table):
+    """Looks at so many starts and schedules, and says how many. Raises Broken."""
+    dice = random.Random(seed)
+    found = [tried(dice, from_table) for _ in range(count)]
+    lines = [after for rounds, _ in found for after in rounds]
+    flights = sum(flies for _, flies in found)
+    more = f", {lines.count(0)} of them of 0 rounds, {flights} starts with firings in flight" if from_table else ""
+    return f"{count} starts and schedules, {len(lines)} lines{more}, none broken"
+
+
+def main():
     parser = argparse.ArgumentParser(description=__doc__, formatter_class=argparse.RawDescriptionHelpFormatter)
     parser.add_argument("--count", type=int, default=1000, help="how many tables and schedules (1000)")
     parser.add_argument("--seed", type=int, default=1, help="of the random numbers (1)")
     parser.add_argument("--from-table", action="store_true", help="looks at lines from one start, such as an edit leaves")
     words = parser.parse_args()
-    dice = random.Random(words.seed)
-    found = [tried(dice, words.from_table) for _ in range(words.count)]
-    lines = [after for rounds, _ in found for after in rounds]
-    flights = sum(flies for _, flies in found)
-    more = f", {lines.count(0)} of them of 0 rounds, {flights} starts with firings in flight" if words.from_table else ""
-    print(f"{words.count} starts and schedules, {len(lines)} lines{more}, none broken")
+    print(looked(words.count, words.seed, words.from_table))
 
 
 if __name__ == "__main__":
-    main_of(look)
+    main()
