@@ -5,13 +5,14 @@ from __future__ import annotations
 import argparse
 import sys
 from collections.abc import Callable, Mapping, Sequence
+from dataclasses import replace
 
 from . import program as fc
 from . import results
 from .files import names_from
 from .json_results import written
 from .progress import Progress, described
-from .refusals import Call, Explanation, Fault, Refusal, explained, plain_explanation, warned
+from .refusals import Call, Explanation, Fault, Refusal, explained, warned
 from .sections import sections, write
 from .telling import place_of, rest_of
 
@@ -96,9 +97,8 @@ def tell_no(call: Call, text: str) -> None:
     """Tells on standard error why an answer is a no, or has no walks."""
     lines = text.splitlines()
     for line in [line for line in lines[:1] if line.startswith("no ")] + [line for line in lines if line == "no walks"]:
-        refusal = Refusal(1, "no", line, call)
-        explanation = explained(call, refusal)
-        print_explanation(Explanation(line, page=WHY_NO) if explanation == plain_explanation(refusal) else explanation)
+        explanation = explained(call, Refusal(1, "no", line, call))
+        print_explanation(replace(explanation, page=WHY_NO) if explanation.what == line else explanation)
 
 
 def print_explanation(explanation: Explanation, front: str = "fieldc: ") -> None:

@@ -119,14 +119,22 @@ def _labels(axes: Any, picture: Picture, frame: Frame, scales: Sequence[Scale]) 
             colours = colours_of(value, scales, picture.meaning)
             ink, halo = ("white", "black") if is_dark(colours) else ("black", "white")
             font = min(8 if len(devices) <= 60 else 6, across / (0.55 * len(text)))
-            round_it = [withStroke(linewidth=1.2, foreground=halo)] if len(colours) > 1 else None
-            axes.annotate(text, at, ha="center", va="center", fontsize=font, color=ink, zorder=4, path_effects=round_it)
+            mixed = len({is_dark([colour]) for colour in colours}) > 1
+            round_it = [withStroke(linewidth=0.14 * font, foreground=halo)] if mixed else None
+            axes.text(
+                *at, text, ha="center", va="center", fontsize=font, color=ink, zorder=4, path_effects=round_it
+            ).set_in_layout(False)
         if picture.numbers:
             away = (across * 0.38, across * 0.38)
             axes.annotate(
-                frame.network.called(device), at, xytext=away, textcoords="offset points", color="#404040",
-                fontsize=7 if len(devices) <= MOST_LABELS else 4, zorder=5,
-            )  # fmt: skip
+                frame.network.called(device),
+                at,
+                xytext=away,
+                textcoords="offset points",
+                color="#404040",
+                fontsize=7 if len(devices) <= MOST_LABELS else 4,
+                zorder=5,
+            ).set_in_layout(False)
 
 
 def _legend(axes: Any, picture: Picture, frame: Frame, scales: Sequence[Scale]) -> None:

@@ -22,7 +22,7 @@ PAGE = """<!doctype html>
  circle {{ stroke: #555; fill: none }} .marked circle {{ stroke: #111; stroke-width: 3 }}
  .last circle {{ stroke: #d6381e; stroke-width: 3 }}
  text {{ text-anchor: middle; stroke-width: 0; dominant-baseline: central; pointer-events: none }}
- .parted text.value {{ paint-order: stroke; stroke-width: 2px }}
+ .mixed text.value {{ paint-order: stroke; stroke-width: 1.5px }}
  text.number {{ text-anchor: start; fill: #404040; visibility: hidden }} svg.numbered text.number {{ visibility: visible }}
  .away {{ display: none }}
  #slider {{ width: 100%; margin: 0 }}
@@ -55,7 +55,7 @@ PAGE = """<!doctype html>
    const text = node.querySelector("text.value");
    text.setAttribute("fill", look[2]);
    text.setAttribute("stroke", look[2] === "#ffffff" ? "#000000" : "#ffffff");
-   node.classList.toggle("parted", look[1].length > 1);
+   node.classList.toggle("mixed", look[3]);
    text.setAttribute("font-size", Math.min({font}, {radius} * 3.4 / Math.max(look[0].length, 1)));
    text.textContent = look[0];
   }});
@@ -178,7 +178,8 @@ def _look(
     """The number of the look of a device: what is written in it, its colours, and the ink."""
     colours = colours_of(values.get(device), scales, picture.meaning)
     text = label_of(values.get(device)) if values else ""
-    look = json.dumps([text, colours, "#ffffff" if is_dark(colours) else "#000000"])
+    mixed = len({is_dark([colour]) for colour in colours}) > 1
+    look = json.dumps([text, colours, "#ffffff" if is_dark(colours) else "#000000", mixed])
     return looks.setdefault(look, len(looks))
 
 

@@ -3,7 +3,7 @@
 from __future__ import annotations
 
 import importlib
-from dataclasses import dataclass
+from dataclasses import dataclass, replace
 
 
 class Fault(Exception):
@@ -106,8 +106,9 @@ def explained(call: Call, refusal: Refusal) -> Explanation:
     """The explanation of a refusal or of a no; only what `fc` said where the explaining part isn't there."""
     try:
         explain = importlib.import_module("fieldc.explain").explain
-    except ImportError:
-        return plain_explanation(refusal)
+    except ImportError as error:
+        hint = "Debian's python3-lark lets fieldc say where and why" if error.name == "lark" else None
+        return replace(plain_explanation(refusal), hint=hint)
     return explain(call, refusal)
 
 

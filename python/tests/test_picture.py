@@ -220,12 +220,12 @@ class Command(InFolder):
         self.picture(CROWD, "--values", EXAMPLES / "crowd_run.expected", "--mark", "beacon", "-o", "run.html")
         which, drawn = self.seen("")
         self.assertEqual(which, "1 of 2: 402 rounds after the last edit")
-        self.assertEqual(drawn[17], ("marked parted", "(0,17)"))
+        self.assertEqual(drawn[17], ("marked mixed", "(0,17)"))
         self.assertEqual(drawn[36][0], "away")
         which, drawn = self.seen('slider.value = 1; slider.dispatchEvent(new Event("input"));')
         self.assertEqual(which, "2 of 2: 402 rounds after the last edit")
-        self.assertEqual(drawn[17], ("parted", "(15,30)"))
-        self.assertEqual((drawn[9][0], drawn[36]), ("parted away", ("parted", "(7,4)")))
+        self.assertEqual(drawn[17], ("mixed", "(15,30)"))
+        self.assertEqual((drawn[9][0], drawn[36]), ("away", ("", "(7,4)")))
         self.assertEqual(self.seen("play.click();", wait=3000)[0][:6], "2 of 2")
 
     @needs_browser
