@@ -250,15 +250,31 @@ def read_scene(text: str, name: str = "the network") -> Network:
     """The network of a scene. Raises Fault, of status 3, where the text isn't one; `fc` says where it isn't."""
     try:
         scene = json.loads(text)
-        inputs = {device["id"]: dict(device["inputs"]) for device in scene["devices"]}
-        links = tuple((int(a), int(b), int(weight)) for a, b, weight in scene["links"])
-        whole = len(inputs) == len(scene["devices"]) and all(isinstance(device, int) for device in inputs)
-        if not inputs or not whole or any(a not in inputs or b not in inputs for a, b, _ in links):
+        inputs = {_whole(device["id"]): _scene_inputs(device) for device in scene["devices"]}
+        links = tuple(tuple(map(_whole, link)) for link in scene["links"])
+        pairs = {frozenset((a, b)) for a, b, _ in links}
+        known = {"devices", "links", "table", "pending"}.issuperset(scene)
+        right = len(inputs) == len(scene["devices"]) > 0 and len(pairs) == len(links) and known
+        if not right or any(len(pair) != 2 or not pair <= inputs.keys() for pair in pairs):
             raise ValueError
-        state = {part: scene[part] for part in ("table", "pending") if part in scene}
-        return Network({device: inputs[device] for device in sorted(inputs)}, links, state=state)
     except (ValueError, KeyError, TypeError, AttributeError):
         raise Fault(f"{name} is no scene: fieldc check says where it isn't", 3) from None
+    state = {part: scene[part] for part in ("table", "pending") if part in scene}
+    return Network({device: inputs[device] for device in sorted(inputs)}, links, state=state)
+
+
+def _whole(value: Any) -> int:
+    """A whole number of JSON that isn't negative. Raises ValueError for any other value."""
+    if type(value) is not int or value < 0:
+        raise ValueError
+    return value
+
+
+def _scene_inputs(device: Mapping[str, Any]) -> dict[str, Input]:
+    """The inputs of a device of a scene. Raises ValueError where they are none, or it has more members."""
+    if set(device) != {"id", "inputs"}:
+        raise ValueError
+    return {name: value if isinstance(value, bool) else _whole(value) for name, value in device["inputs"].items()}
 
 
 def judged(network: Network, program: str) -> Network:

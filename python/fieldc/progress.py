@@ -5,6 +5,7 @@ from __future__ import annotations
 import importlib
 import json
 import sys
+import threading
 import time
 from collections.abc import Callable
 from types import TracebackType
@@ -20,20 +21,32 @@ PATIENCE = 1.0
 class Progress:
     """Shows the line while it is called now and then, and takes it away at the end.
 
-    `what` says what is done; it is asked once, when the line first shows.
+    `what` says what is done; it is asked once, when the line first shows. With `ticking` a thread calls it, for work that
+    can't.
     """
 
-    def __init__(self, what: Callable[[], str], stream: TextIO | None = None) -> None:
+    def __init__(self, what: Callable[[], str], ticking: bool = False, stream: TextIO | None = None) -> None:
         self._what = what
         self._stream = sys.stderr if stream is None else stream
         self._start = time.monotonic()
         self._said: str | None = None
         self._width = 0
+        self._over = threading.Event()
+        self._ticker = threading.Thread(target=self._tick, daemon=True) if ticking else None
+
+    def _tick(self) -> None:
+        while not self._over.wait(fc.TICK):
+            self()
 
     def __enter__(self) -> Progress:
+        if self._ticker is not None:
+            self._ticker.start()
         return self
 
     def __exit__(self, kind: type[BaseException] | None, error: BaseException | None, trace: TracebackType | None) -> None:
+        self._over.set()
+        if self._ticker is not None:
+            self._ticker.join()
         if self._width:
             self._stream.write("\r" + " " * self._width + "\r")
             self._stream.flush()

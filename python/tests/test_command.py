@@ -13,6 +13,7 @@ from pathlib import Path
 from helping import EXAMPLES, HOPS, LINE, TOP, expected, fieldc, needs_fc
 from test_files import InFolder
 
+from fieldc import network
 from fieldc.command import COMMANDS, modules, parser
 
 
@@ -179,6 +180,11 @@ class LongWork(InFolder):
         self.assertIn("23 rounds: 2 s", said)
         self.assertTrue(said.endswith("\r"))
         self.assertEqual(said.split("\r")[-2].strip(), "")
+
+    def test_drawing_says_so_too(self) -> None:
+        self.file(network.grid(32, 32).scene(), "net.json")
+        said = self.on_a_terminal("picture", self.folder / "net.json", "-o", self.folder / "net.png", fc="fc")
+        self.assertRegex(said, "fieldc: draws 1,024 devices: [1-9][0-9]* s")
 
     def test_quick_work_and_pipes_are_silent(self) -> None:
         program, scene = self.file(HOPS, "hops.fc"), self.file(LINE, "line.json")

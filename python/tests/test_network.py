@@ -93,8 +93,20 @@ class Changes(unittest.TestCase):
         made = network.with_inputs(network.grid(3, 2), [("src", True, [4])])
         found = read_scene(made.scene())
         self.assertEqual((found.inputs, found.links), (made.inputs, made.links))
-        for text in ("", "[]", "{}", '{"devices":[],"links":[]}', '{"devices":[{"id":0,"inputs":{}}],"links":[[0,1,1]]}'):
-            with self.assertRaisesRegex(Fault, "no scene"):
+
+    def test_what_is_no_scene(self) -> None:
+        right = '{"devices":[{"id":0,"inputs":{"w":1}},{"id":1,"inputs":{"w":1}}],"links":[[0,1,1]]}'
+        self.assertEqual(len(read_scene(right).devices), 2)
+        wrong = [
+            "", "[]", "{}", "3", '{"devices":[],"links":[]}',
+            right.replace("[0,1,1]", "[0,2,1]"), right.replace("[0,1,1]", "[0,0,1]"), right.replace("[0,1,1]", "[0,1]"),
+            right.replace("[0,1,1]", "[0,1,1.5]"), right.replace("[0,1,1]", "[0,1,true]"), right.replace("[0,1,1]", "[0,1,-1]"),
+            right.replace("[0,1,1]", "[0,1,1],[1,0,1]"), right.replace('"id":1', '"id":0'), right.replace('"id":1', '"id":"1"'),
+            right.replace('"w":1', '"w":"1"'), right.replace('"w":1', '"w":1.5'), right.replace('"w":1', '"w":NaN'),
+            right.replace('"id":1', '"id":1,"name":"mill"'), right.replace('"links"', '"more":1,"links"'),
+        ]
+        for text in wrong:
+            with self.subTest(text), self.assertRaisesRegex(Fault, "no scene"):
                 read_scene(text)
 
 

@@ -62,7 +62,7 @@ def perform(options: argparse.Namespace) -> int:
     program, lines = (parts[0].text or None), (parts[2].text if len(parts) > 2 else None)
     picture = check_marks(gathered(program, network, lines, answer), options.mark)
     picture = replace(picture, title=options.title, numbers=options.numbers)
-    with Progress(lambda: f"draws {len(everywhere(picture)[0]):,} devices"):
+    with Progress(lambda: f"draws {len(everywhere(picture)[0]):,} devices", ticking=True):
         drawn(options, placed(options.positions, picture, network), as_page)
     if picture.said:
         print(picture.said)
