@@ -68,7 +68,8 @@ def parts_of(value: Value) -> tuple[int | bool, ...]:
 def scales_of(values: Iterable[Value | None], meaning: Meaning) -> tuple[Scale, ...]:
     """A scale for each part of the values, so that one colour is one number in all of them."""
     columns = list(zip(*(parts_of(value) for value in values if value is not None)))
-    labels = [meaning.scale] if len(columns) < 2 else [f"{meaning.scale}, part {place}" for place in range(1, len(columns) + 1)]
+    labels = [f"{meaning.scale}, part {place}" for place in range(1, len(columns) + 1)]
+    labels = labels if len(columns) > 1 else [meaning.scale]
     return tuple(_scale(label, column, meaning) for label, column in zip(labels, columns))
 
 

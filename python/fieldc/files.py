@@ -3,6 +3,7 @@
 from __future__ import annotations
 
 import csv
+import io
 import json
 import re
 from collections.abc import Mapping, Sequence
@@ -54,7 +55,8 @@ def points(name: str, program: str | None = None, inputs: Sequence[str] | None =
     at = columns.get(next((word for word in IDS if word in columns), header[0].lower()), 0)
     x, y = columns["x"], columns["y"]
     wanted = declared(program) if program is not None else None
-    taken, left_out = _taken(name, [word for place, word in enumerate(header) if place not in (at, x, y)], wanted, inputs)
+    further = [word for place, word in enumerate(header) if place not in (at, x, y)]
+    taken, left_out = _taken(name, further, wanted, inputs)
     number, names = _numbered_rows(name, body, at)
     positions, found = {}, {}
     for line, row in body:
@@ -116,9 +118,9 @@ def _taken(
     name: str, further: Sequence[str], wanted: Declared | None, inputs: Sequence[str] | None
 ) -> tuple[list[str], tuple[str, ...]]:
     """The further columns that are inputs, and those that are left out."""
-    named = list(inputs) if inputs is not None else [word for word in wanted.inputs if word in further] if wanted else None
-    if named is None:
+    if inputs is None and wanted is None:
         return list(further), ()
+    named = list(inputs or ()) if wanted is None or inputs is not None else [w for w in wanted.inputs if w in further]
     for word in named:
         if word not in further:
             raise Fault(f"{name} has no column {word}", 3)
@@ -170,8 +172,11 @@ def positions_text(positions: Mapping[int, Position]) -> str:
 
 def names_text(names: Mapping[int, str]) -> str:
     """A file of names, one line `id,name` for each device, which `names_from` reads back."""
-    quoted = lambda word: '"' + word.replace('"', '""') + '"' if re.search('[",\n\r]', word) or word != word.strip() else word  # noqa: E731
-    return "id,name\n" + "".join(f"{device},{quoted(word)}\n" for device, word in sorted(names.items()))
+    written = io.StringIO()
+    rows = csv.writer(written, lineterminator="\n")
+    rows.writerow(("id", "name"))
+    rows.writerows(sorted(names.items()))
+    return written.getvalue()
 
 
 def names_from(name: str) -> dict[int, str]:
@@ -262,7 +267,11 @@ def _link(where: str, line: str, delimiter: str | None) -> Any:
 
 
 def network(
-    name: str, program: str | None = None, inputs: Sequence[str] | None = None, rounds: bool = False, undirected: bool = False
+    name: str,
+    program: str | None = None,
+    inputs: Sequence[str] | None = None,
+    rounds: bool = False,
+    undirected: bool = False,
 ) -> Network:
     """The network of a graph's file: node attributes are inputs, those that `inputs` names or `program` declares, else all
     but positions and names. In GML, which has no truth values, 0 and 1 stand for those that `program` declares.

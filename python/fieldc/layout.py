@@ -81,7 +81,7 @@ def _all_hops(part: Sequence[int], near: Mapping[int, Sequence[int]]) -> Any:
         bits = numpy.frombuffer(b"".join(reached.to_bytes(width, "little") for reached in seen), dtype=numpy.uint8)
         table = numpy.unpackbits(bits.reshape(len(part), width), axis=1, bitorder="little")[:, : len(part)]
         far += 1 - table
-        seen = [functools.reduce(operator.or_, (seen[other] for other in row), seen[number]) for number, row in enumerate(rows)]
+        seen = [functools.reduce(operator.or_, (seen[other] for other in row), own) for own, row in zip(seen, rows)]
     return far
 
 

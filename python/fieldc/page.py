@@ -45,7 +45,8 @@ PAGE = """<!doctype html>
  let playing = null;
  function draw() {{
   const show = shows[slider.value];
-  document.getElementById("which").textContent = (Number(slider.value) + 1) + " of " + shows.length + (show.title && ": " + show.title);
+  const place = (Number(slider.value) + 1) + " of " + shows.length;
+  document.getElementById("which").textContent = place + (show.title && ": " + show.title);
   devices.forEach((node, place) => {{
    const look = looks[show.devices[place]];
    node.classList.toggle("away", !look);
@@ -117,7 +118,8 @@ def _network(picture: Picture, sectors: int) -> tuple[str, float]:
     devices, links = everywhere(picture)
     xs, ys = zip(*(picture.places[device] for device in devices))
     scale = 900 / (max(max(xs) - min(xs), max(ys) - min(ys)) or 1)
-    at = {d: (40 + (picture.places[d][0] - min(xs)) * scale, 40 + (max(ys) - picture.places[d][1]) * scale) for d in devices}
+    across, down = [40 + (x - min(xs)) * scale for x in xs], [40 + (max(ys) - y) * scale for y in ys]
+    at = dict(zip(devices, zip(across, down)))
     width, height = 80 + (max(xs) - min(xs)) * scale, 80 + (max(ys) - min(ys)) * scale
     radius = max(4, min(22, 220 / len(devices) ** 0.5))
     thick = set().union(*(walked(frame) for frame in picture.frames))

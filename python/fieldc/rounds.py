@@ -51,7 +51,8 @@ def promised(program: str, network: library.Networks, waiting: Callable[[], None
     asked = library.call_of(["check", "--settle"], program=program, network=scene)
     found = results.settled(fc.answered(asked, waiting).text)
     if found.rounds is None:
-        raise Fault(f"{found.verdict.line}, and the network is open: not all devices are known to settle (docs/patterns.md)", 1)
+        open_too = "and the network is open: not all devices are known to settle (docs/patterns.md)"
+        raise Fault(f"{found.verdict.line}, {open_too}", 1)
     values = found.values
     if None in values.values():
         values = library.stable(program, network).values
@@ -60,7 +61,7 @@ def promised(program: str, network: library.Networks, waiting: Callable[[], None
     return Promise(found.verdict, time, by_device, values)
 
 
-def curve(program: str, scene: str, values: Mapping[int, results.Value], number: int, rounds: int, workers: int) -> Curve:
+def curve(program: str, scene: str, values: Values, number: int, rounds: int, workers: int) -> Curve:
     """Runs a program from the rubbish of a number, and counts after each round who holds its value. Raises Refusal."""
     script = ["scramble " + str(number), "show"] + ["run 1", "show"] * rounds
     shows = library.run(program, scene, script, workers=workers).shows

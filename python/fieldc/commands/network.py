@@ -14,7 +14,7 @@ from ..network import Network
 from ..refusals import Fault
 from ..sections import cut, read, writable, write
 
-SUMMARY = "makes a network: a line, ring, grid or torus, devices in a square, or from a file of positions, links or a graph"
+SUMMARY = "makes a network: a line, ring, grid, torus, devices in a square, or from positions, links or a graph"
 EPILOG = """\
 Example: fieldc network --grid 8x5 --set source=true@0 > grid.json
 
@@ -80,7 +80,7 @@ def arguments(parser: argparse.ArgumentParser) -> None:
     count = whole(1, "a number of devices")
     shape.add_argument("--line", metavar="N", type=count, help="N devices, each linked to the next")
     shape.add_argument("--ring", metavar="N", type=count, help="a line whose ends are linked")
-    shape.add_argument("--grid", metavar="WxH", type=sides, help="W times H devices, linked to the left and right, up and down")
+    shape.add_argument("--grid", metavar="WxH", type=sides, help="W times H devices, linked across and up and down")
     shape.add_argument("--torus", metavar="WxH", type=sides, help="a grid whose opposite borders are linked")
     shape.add_argument("--disk", metavar="N", type=count, help="N devices at random in a square; needs --range")
     shape.add_argument("--points", metavar="FILE", help="rows id, x, y, or with the names of columns first; needs --range")
@@ -96,13 +96,13 @@ def _shaping(parser: argparse.ArgumentParser) -> None:
     parser.add_argument("--side", metavar="S", type=length, default=100.0, help="the side of the square (100)")
     parser.add_argument("--seed", metavar="S", type=whole(0, "a seed"), default=0, help="the seed of --disk (0)")
     parser.add_argument("--undirected", action="store_true", help="the edges of a directed graph are links both ways")
-    parser.add_argument("--weight", metavar="W", type=whole(0, "a weight"), help="the weight of each link (1, or that of the file)")
+    weight = whole(0, "a weight")
+    parser.add_argument("--weight", metavar="W", type=weight, help="the weight of each link (1, or that of the file)")
     parser.add_argument("--metric", metavar="LOW..HIGH", type=span, help="weights by distance, rounded into this range")
     parser.add_argument("--unit", metavar="U", type=length, default=1.0, help="how far a weight of 1 is (1)")
     parser.add_argument("--round", action="store_true", help="rounds the file's weights to whole numbers")
-    parser.add_argument(
-        "--max-degree", metavar="N", type=whole(1, "a number of links"), help="keeps the nearest links, at most N of each device"
-    )
+    most = whole(1, "a number of links")
+    parser.add_argument("--max-degree", metavar="N", type=most, help="keeps the nearest links, at most N of each device")
 
 
 def _filling(parser: argparse.ArgumentParser) -> None:
@@ -115,8 +115,8 @@ def _filling(parser: argparse.ArgumentParser) -> None:
         help="an input of all devices, or of those named; else it is as in the file, or false",
     )
     parser.add_argument("--inputs", metavar="NAME,NAME..", help="the columns or attributes of the file that are inputs (all)")
-    parser.add_argument("--program", metavar="FILE", help="a program: its inputs are taken, and types and weights are checked")
-    parser.add_argument("--table", metavar="FILE", help="starts from the table that fc run --table wrote, with nothing in flight")
+    parser.add_argument("--program", metavar="FILE", help="a program whose inputs are taken, and checked with the weights")
+    parser.add_argument("--table", metavar="FILE", help="starts from the table of fc run --table, with nothing in flight")
     parser.add_argument("--positions", metavar="FILE", help="writes the positions there, one line id,x,y each")
     parser.add_argument("--names", metavar="FILE", help="writes the names of devices there, one line id,name each")
 

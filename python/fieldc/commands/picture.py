@@ -18,7 +18,7 @@ from ..progress import Progress, described
 from ..refusals import Call, Fault, Section
 from ..sections import PAGES, PICTURES, read, sections, writable, write
 
-SUMMARY = "draws a network with the values of its devices, as SVG, PNG or PDF, or as a page with a slider over the shows of a run"
+SUMMARY = "draws a network with the values of its devices, or a run as a page with a slider over its shows"
 EPILOG = """\
 Example: fieldc picture hops.fc net.json --of stable --positions points.csv -o hops.svg
 
@@ -56,6 +56,8 @@ def perform(options: argparse.Namespace) -> int:
     as_page = options.page or options.output.lower().endswith(PAGES)
     writable(options.output, PAGES if as_page else (*PICTURES, *PAGES))
     pyplot_ready()
+    if options.values == "-" and "-" in options.files:
+        raise Fault("standard input can be read once: name it by one -")
     parts = parted(options.files)
     network = replace(read_scene(parts[1].text, parts[1].name), names=names_from(options.names) if options.names else {})
     answer = read(options.values) if options.values else asked(options.of, parts) if options.of else None
