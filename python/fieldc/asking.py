@@ -13,7 +13,7 @@ from .files import names_from
 from .json_results import written
 from .progress import Progress, described
 from .refusals import Call, Explanation, Fault, Refusal, explained, warned
-from .sections import sections, write
+from .sections import pour, sections, write
 from .telling import place_of, rest_of
 
 WHY_NO = "docs/language.md#when-check-says-no"
@@ -58,8 +58,7 @@ def ask(
     elif names:
         write("-", named(reply.text, names, "settle" if "--settle" in words else words[0]))
     else:
-        sys.stdout.buffer.write(reply.output)
-        sys.stdout.buffer.flush()
+        pour(reply.output)
     if reply.status == 1:
         tell_no(call, reply.text)
     for warning in warned(call):

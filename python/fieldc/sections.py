@@ -37,14 +37,21 @@ def write(name: str, text: str) -> None:
     """Writes a text to a file, or to standard output for `-`. Raises Fault, of status 6, where it can't be written."""
     try:
         if name == "-":
-            sys.stdout.buffer.write(bytes_of(text))
-            sys.stdout.buffer.flush()
+            pour(bytes_of(text))
         else:
             Path(name).write_bytes(bytes_of(text))
     except BrokenPipeError:
         raise
     except OSError as error:
         raise Fault(f"{name} can't be written: {error.strerror}", 6) from None
+
+
+def pour(content: bytes) -> None:
+    """Writes bytes to standard output, all of them: a stream without a buffer takes a part at a time."""
+    left = memoryview(content)
+    while left:
+        left = left[sys.stdout.buffer.write(left) or 0 :]
+    sys.stdout.buffer.flush()
 
 
 def cut(name: str, text: str) -> list[tuple[int, str]]:

@@ -134,14 +134,13 @@ class Answers(InFolder):
         rows = f'{{"devices":[{devices}],"links":[]}}'
         script = self.file("\n".join(["show"] * 200), "script.txt")
         command = [sys.executable, "-B", "-m", "fieldc", "run", program, self.file(rows, "net.json"), script]
-        environment = dict(os.environ, PYTHONPATH=str(TOP / "python"))
-        process = subprocess.Popen(command, stdout=subprocess.PIPE, stderr=subprocess.PIPE, env=environment)
-        assert process.stdout is not None and process.stderr is not None
-        process.stdout.read(10)
-        process.stdout.close()
-        self.assertEqual(process.stderr.read(), b"")
-        self.assertEqual(process.wait(), 6)
-        process.stderr.close()
+        for unbuffered in ("", "1"):
+            environment = dict(os.environ, PYTHONPATH=str(TOP / "python"), PYTHONUNBUFFERED=unbuffered)
+            with subprocess.Popen(command, stdout=subprocess.PIPE, stderr=subprocess.PIPE, env=environment) as process:
+                assert process.stdout is not None and process.stderr is not None
+                process.stdout.read(10)
+                process.stdout.close()
+                self.assertEqual((process.stderr.read(), process.wait()), (b"", 6))
 
     def test_the_settled_value_goes_into_a_picture(self) -> None:
         done = fieldc("picture", EXAMPLES / "sensor_field_stable.txt", "--of", "settle", "-o", "x.svg", folder=self.folder)
