@@ -53,16 +53,15 @@ def ask(
     with Progress(lambda: described(call)) as waiting:
         reply = fc.answered(call, waiting)
     result = understood(reader, reply.text, call)
+    why, warnings = why_no(call, reply.text) if reply.status == 1 else None, warned(call)
     if options.json:
-        write("-", written(result, names))
-    elif names:
+        write("-", written(result, names, why, warnings))
+        return call, result, reply.status
+    if names:
         write("-", named(reply.text, names, "settle" if "--settle" in words else words[0]))
     else:
         pour(reply.output)
-    if reply.status == 1:
-        tell_no(call, reply.text)
-    for warning in warned(call):
-        print_explanation(warning, front="fieldc: warning: ")
+    tell(why, warnings)
     return call, result, reply.status
 
 
@@ -92,15 +91,19 @@ def named(text: str, names: Mapping[int, str], command: str) -> str:
     return "".join(line + "\n" for line in lines)
 
 
-def tell_no(call: Call, text: str) -> None:
-    """Tells on standard error why an answer is a no, or has no walks."""
+def why_no(call: Call, text: str) -> Explanation | None:
+    """Why an answer is a no, or has no walks; nothing where it is neither."""
     lines = text.splitlines()
-    for line in [line for line in lines[:1] if line.startswith("no ")] + [line for line in lines if line == "no walks"]:
-        explanation = explained(call, Refusal(1, "no", line, call))
-        print_explanation(replace(explanation, page=WHY_NO) if explanation.what == line else explanation)
+    line = next((line for line in [*lines[:1], *lines[1:2]] if line.startswith("no ")), None)
+    if line is None:
+        return None
+    explanation = explained(call, Refusal(1, "no", line, call))
+    return replace(explanation, page=WHY_NO) if explanation.what == line else explanation
 
 
-def print_explanation(explanation: Explanation, front: str = "fieldc: ") -> None:
-    """Writes an explanation on standard error: of a line that stands on standard output already, or a warning."""
-    sys.stdout.flush()
-    sys.stderr.write(f"{front}{place_of(explanation)}{explanation.what}\n{rest_of(explanation)}")
+def tell(why: Explanation | None, warnings: Sequence[Explanation] = ()) -> None:
+    """Tells on standard error why an answer is a no, whose line stands on standard output, and warnings."""
+    if why is not None:
+        sys.stderr.write(f"fieldc: {place_of(why)}{why.what}\n{rest_of(why)}")
+    for warning in warnings:
+        sys.stderr.write(f"fieldc: warning: {place_of(warning)}{warning.what}\n{rest_of(warning)}")

@@ -3,16 +3,26 @@
 from __future__ import annotations
 
 import json
-from collections.abc import Mapping
+from collections.abc import Mapping, Sequence
 from typing import Any
 
 from . import results
 from .refusals import Explanation, Refusal
 
 
-def written(result: results.Result | str, names: Mapping[int, str] | None = None) -> str:
-    """A result as a text of JSON that ends with a line feed. Devices with a name have it beside their number."""
-    return json.dumps(plain(result, names or {}), indent=1) + "\n"
+def written(
+    result: results.Result | str,
+    names: Mapping[int, str],
+    why: Explanation | None = None,
+    warnings: Sequence[Explanation] = (),
+) -> str:
+    """A result as a text of JSON that ends with a line feed. Devices with a name have it beside their number.
+
+    `why` explains a no, and stands in the member `explanation`, where it is there; so do `warnings`.
+    """
+    beside: dict[str, Any] = {} if why is None else {"explanation": explained(why)}
+    beside |= {"warnings": [explained(one) for one in warnings]} if warnings else {}
+    return json.dumps(plain(result, names) | beside, indent=1) + "\n"
 
 
 def plain(result: results.Result | str, names: Mapping[int, str]) -> dict[str, Any]:
@@ -90,7 +100,11 @@ def _table(table: Mapping[str, Any] | None) -> dict[str, Any]:
 
 def refused(refusal: Refusal, explanation: Explanation) -> str:
     """A refusal as a text of JSON, for standard error."""
+    return json.dumps({"status": refusal.status, "line": refusal.line, "explanation": explained(explanation)}) + "\n"
+
+
+def explained(explanation: Explanation) -> dict[str, Any]:
+    """An explanation as a dictionary; what isn't known is null."""
     place = {"line": explanation.line, "column": explanation.column, "name": explanation.name}
     file = explanation.section.name if explanation.section else None
-    told = {"what": explanation.what, "file": file, **place, "hint": explanation.hint, "page": explanation.page}
-    return json.dumps({"status": refusal.status, "line": refusal.line, "explanation": told}) + "\n"
+    return {"what": explanation.what, "file": file, **place, "hint": explanation.hint, "page": explanation.page}

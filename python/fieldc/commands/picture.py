@@ -8,7 +8,7 @@ from dataclasses import replace
 from pathlib import Path
 
 from .. import program as fc
-from ..asking import tell_no
+from ..asking import tell, why_no
 from ..drawing import draw, pyplot_ready
 from ..files import names_from, positions_for
 from ..network import Network, read_scene
@@ -90,8 +90,7 @@ def asked(of: str, parts: Sequence[Section]) -> str:
     call = Call(OF[of], tuple(parts if of in WITH_LINES else parts[:2]))
     with Progress(lambda: described(call)) as waiting:
         reply = fc.answered(call, waiting)
-    if reply.status == 1:
-        tell_no(call, reply.text)
+    tell(why_no(call, reply.text) if reply.status == 1 else None)
     return reply.text
 
 
