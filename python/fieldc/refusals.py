@@ -79,7 +79,18 @@ class Refusal(Exception):
         super().__init__(self.status, self.word, self.line, self.call)
 
     def __str__(self) -> str:
-        return self.line or f"status {self.status}"
+        """The line of `fc`, and the explanation where more is known."""
+        line, explanation = self.line or f"status {self.status}", self.explanation
+        if explanation.what == line:
+            return line
+        place = "" if explanation.line is None else f"line {explanation.line}, column {explanation.column}: "
+        hint = f" {explanation.hint}" if explanation.hint else ""
+        return f"{line}: {place}{explanation.what}{hint}"
+
+    @property
+    def place(self) -> str:
+        """What `fc` said behind the word: the place, and the reason."""
+        return self.line.removeprefix(self.word).lstrip(": ")
 
     @property
     def explanation(self) -> Explanation:

@@ -23,6 +23,8 @@ class Install(unittest.TestCase):
         with tempfile.TemporaryDirectory() as kept:
             folder = Path(kept)
             shutil.copytree(TOP / "python", folder / "python", ignore=shutil.ignore_patterns("__pycache__", "tests"))
+            if (TOP / "library").is_dir():
+                shutil.copytree(TOP / "library", folder / "library")
             environment = {name: value for name, value in os.environ.items() if name not in ("FC", "PYTHONPATH")}
             run = lambda *words: subprocess.run(words, cwd=folder, env=environment, capture_output=True, text=True, check=True)  # noqa: E731
             run(sys.executable, "-m", "venv", "--system-site-packages", "there")
@@ -34,6 +36,10 @@ class Install(unittest.TestCase):
             program.chmod(0o755)
             (folder / "x.fc").write_text("main = 3;")
             self.assertEqual(run("there/bin/fieldc", "format", "x.fc").stdout, "main = 3;\n")
+            if (TOP / "library").is_dir():
+                listed = run("there/bin/fieldc", "compose", "--list").stdout.splitlines()
+                self.assertEqual(listed, run(TOP / "fieldc", "compose", "--list").stdout.splitlines())
+                self.assertTrue(listed)
             call = "import fieldc; print(fieldc.format('main = 3;'), fieldc.__file__)"
             self.assertRegex(run("there/bin/python3", "-c", call).stdout, "^main = 3;\n /.*/there/lib/")
 
