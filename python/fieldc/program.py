@@ -70,6 +70,12 @@ def find() -> str:
     raise Fault("fc isn't there: install it with ./build --prefix, or let the variable FC name it")
 
 
+def built() -> bool:
+    """Whether `fc` is a built program; `./fc` of a checkout that isn't built takes a minute each time."""
+    here = checkout()
+    return here is None or find() != str(here / "fc") or (here / "crates/fc_program/out/fc_program").exists()
+
+
 def joined(sections: Sequence[Section]) -> bytes:
     """The input of `fc`: the sections with a line `%%` between each two of them."""
     ended = [s.text if not s.text or s.text.endswith("\n") else s.text + "\n" for s in sections[:-1]]

@@ -92,7 +92,7 @@ def _rounds(call: Call, texts: dict[str, str]) -> str:
     """The rounds that a script asks for; else the bound of the verdict."""
     if "script" in texts:
         return f"{sum(rounds for _, _, rounds in steps(texts['script'])):,} rounds"
-    if call.words[:1] in (("check",), ("stable",), ("mail",)) and "network" in texts:
+    if call.words[:1] in (("check",), ("stable",), ("mail",)) and "network" in texts and fc.built():
         asked = fc.ask(Call(("check",), tuple(s for s in call.sections if s.kind in ("program", "network"))))
         return f"at most {int(asked.text.split()[1]):,} rounds" if asked.text.startswith("yes ") else ""
     return ""
