@@ -68,6 +68,7 @@ def parser() -> argparse.ArgumentParser:
             description=summary[:1].upper() + summary[1:] + ".",
             epilog=getattr(module, "EPILOG", None),
             formatter_class=argparse.RawDescriptionHelpFormatter,
+            allow_abbrev=False,
         )
         module.arguments(one)
         one.set_defaults(perform=module.perform)
@@ -82,16 +83,26 @@ def released() -> str:
         return VERSION
 
 
+def take_rest(options: argparse.Namespace, rest: Sequence[str]) -> None:
+    """Takes files that stand behind an option. Raises Fault where there is another word that the command doesn't know."""
+    wrong = [word for word in rest if not hasattr(options, "files") or (word.startswith("-") and word != "-")]
+    if wrong:
+        raise Fault(f"{wrong[0]} is no option of it, nor a word that it takes: fieldc {options.command} --help")
+    if rest:
+        options.files = [*options.files, *rest]
+
+
 def main(words: Sequence[str] | None = None) -> int:
     """Reads a command line (without `fieldc`; else that of the process), does it, and answers the status.
 
     Whatever is refused is told on standard error.
     """
     try:
-        options = parser().parse_args(words)
+        options, rest = parser().parse_known_args(words)
     except SystemExit as end:
         return end.code if isinstance(end.code, int) else 2
     try:
+        take_rest(options, rest)
         return options.perform(options)
     except Refusal as refusal:
         if getattr(options, "json", False):

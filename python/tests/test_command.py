@@ -31,10 +31,14 @@ class Words(unittest.TestCase):
         self.assertEqual(fieldc("--version").output, "fieldc 1.0\n")
 
     def test_wrong_words(self) -> None:
-        for words in ((), ("chek", "x"), ("check",), ("check", "--fact", "x", "--nonsense"), ("gen", "x"), ("network",)):
+        for words in ((), ("chek", "x"), ("check",), ("run", "x", "--workers", "two"), ("gen", "x"), ("network",)):
             done = fieldc(*words)
             self.assertEqual((done.status, done.output), (2, ""), words)
             self.assertIn("usage: fieldc", done.errors)
+        for words in (("check", "x", "--fact"), ("stable", "x", "--facts"), ("gen", "3", "4"), ("run", "x", "--work", "2")):
+            done = fieldc(*words)
+            self.assertEqual((done.status, done.output), (2, ""), words)
+            self.assertIn(f"fieldc {words[0]} --help", done.errors)
         done = fieldc("check", "--from-table", "x", "y")
         self.assertEqual((done.status, done.output), (2, ""))
         self.assertIn("beside --settle", done.errors)
@@ -80,7 +84,8 @@ class Answers(InFolder):
         self.assertEqual(fieldc("stable", "-", text=f"{HOPS}%%\n{LINE}").output, wanted)
         self.assertEqual(fieldc("stable", program, "-", text=LINE).output, wanted)
         self.assertEqual(fieldc("stable", "-", scene, text=HOPS).output, wanted)
-        for files in ((program, scene, script), (both, script)):
+        self.assertEqual(fieldc("check", program, "--facts", scene, "--settle").output.splitlines()[-1], "2 5 2")
+        for files in ((program, scene, script), (both, script), (program, "--workers", 2, scene, script)):
             self.assertEqual(fieldc("run", *files).output, "yes 22\n@2\n" + wanted)
 
     def test_json(self) -> None:
