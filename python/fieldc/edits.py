@@ -62,10 +62,12 @@ class _Changing:
         self.declared = declared
         self.inputs: dict[int, Mapping[str, Input]] = dict(network.inputs)
         self.links = {(a, b): weight for a, b, weight in network.links}
+        self.made: Network | None = None
 
     def take(self, words: list[str]) -> None:
         """Takes one edit; lines that leave the network as it is change nothing."""
         kind = words[0]
+        self.made = None if kind in EDITS else self.made
         if kind == "link":
             a, b, weight = (int(word) for word in words[1:])
             self.links[self._pair(a, b)] = weight
@@ -85,10 +87,12 @@ class _Changing:
         return (b, a) if (b, a) in self.links else (a, b) if (a, b) in self.links else (min(a, b), max(a, b))
 
     def now(self) -> Network:
-        """The network as it is now."""
-        inputs = {device: self.inputs[device] for device in sorted(self.inputs)}
-        links = tuple((a, b, weight) for (a, b), weight in sorted(self.links.items()))
-        return replace(self.start, inputs=inputs, links=links, state={})
+        """The network as it is now; the same one as long as no edit comes."""
+        if self.made is None:
+            inputs = {device: self.inputs[device] for device in sorted(self.inputs)}
+            links = tuple((a, b, weight) for (a, b), weight in sorted(self.links.items()))
+            self.made = replace(self.start, inputs=inputs, links=links, state={})
+        return self.made
 
 
 def value(word: str) -> Input:

@@ -15,7 +15,7 @@ from .network import Declared, Input, Network, Position, declared, finite, fitti
 from .refusals import Fault
 from .sections import read
 
-DELIMITERS = (",", ";", "\t", "|", " ")
+DELIMITERS = (",", ";", "\t", "|", ":", " ")
 IDS = ("id", "device", "name", "node")
 ENDS = {"source", "target", "from", "to", "weight", "u", "v", "a", "b", "node1", "node2"}
 
@@ -44,7 +44,7 @@ def text_of_file(name: str) -> str:
 
 
 def points(name: str, program: str | None = None, inputs: Sequence[str] | None = None) -> Points:
-    """The positions of a file of rows `id x y` and further columns, parted by commas, semicolons, tabs, bars or spaces.
+    """The positions of a file of rows `id x y` and further columns, parted by commas, semicolons, tabs, bars, colons or spaces.
 
     A row of names may stand first; with it the columns may stand in any order, and further ones are inputs: those that
     `program` declares or `inputs` names, else all. Raises Fault, of status 3, with the line that is at fault.

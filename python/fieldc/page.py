@@ -5,12 +5,13 @@ from __future__ import annotations
 import html
 import json
 import math
-from collections.abc import Mapping, Sequence
+from collections.abc import Sequence
 from typing import Any
 
 from .colours import Scale, colours_of, entries, is_dark, label_of, scales_of
 from .drawing import sector, walked
 from .picture import Picture, everywhere
+from .results import Value
 
 PAGE = """<!doctype html>
 <html lang="en"><meta charset="utf-8"><title>{title}</title>
@@ -37,6 +38,7 @@ PAGE = """<!doctype html>
 <p>{legend}</p>
 <script>
  const looks = {looks};
+ const gone = {gone};
  const shows = {shows};
  const devices = [...document.querySelectorAll("g.device")];
  const links = [...document.querySelectorAll("line")];
@@ -44,14 +46,14 @@ PAGE = """<!doctype html>
  const numbers = document.getElementById("numbers"), drawn = document.querySelector("svg");
  let playing = null;
  function draw() {{
-  const show = shows[slider.value];
+  const show = shows[slider.value], marked = new Set(show.marked), away = new Set(gone[show.away]);
   const place = (Number(slider.value) + 1) + " of " + shows.length;
   document.getElementById("which").textContent = place + (show.title && ": " + show.title);
   devices.forEach((node, place) => {{
    const look = looks[show.devices[place]];
    node.classList.toggle("away", !look);
    if (!look) return;
-   node.classList.toggle("marked", show.marked.includes(place));
+   node.classList.toggle("marked", marked.has(place));
    node.querySelectorAll("path").forEach((part, at) => part.setAttribute("fill", look[1][at % look[1].length]));
    const text = node.querySelector("text.value");
    text.setAttribute("fill", look[2]);
@@ -60,7 +62,7 @@ PAGE = """<!doctype html>
    text.setAttribute("font-size", Math.min({font}, {radius} * 3.4 / Math.max(look[0].length, 1)));
    text.textContent = look[0];
   }});
-  links.forEach((line, place) => line.classList.toggle("away", show.away.includes(place)));
+  links.forEach((line, place) => line.classList.toggle("away", away.has(place)));
  }}
  function stop() {{
   clearInterval(playing);
@@ -90,10 +92,9 @@ PAGE = """<!doctype html>
 
 def page(picture: Picture) -> str:
     """The page of a picture's frames, as a text of HTML that needs nothing beside it."""
-    values = [value for frame in picture.frames for value in frame.values.values()]
-    scales = scales_of(values, picture.meaning)
+    scales = scales_of({value for frame in picture.frames for value in frame.values.values()}, picture.meaning)
     drawn, radius = _network(picture, max(len(scales), 1))
-    looks, shows = _shows(picture, scales)
+    looks, gone, shows = _shows(picture, scales)
     return PAGE.format(
         title=html.escape(picture.title or "A run of fc"),
         verdict=html.escape(picture.verdict),
@@ -104,6 +105,7 @@ def page(picture: Picture) -> str:
         font=f"{radius * 0.8:.1f}",
         legend=_legend(picture, scales),
         looks=_script(looks),
+        gone=_script(gone),
         shows=_script(shows),
     )
 
@@ -156,33 +158,40 @@ def _disk(radius: float) -> str:
     return f'<path d="M-{r},0 A{r},{r} 0 1 1 {r},0 A{r},{r} 0 1 1 -{r},0 Z"/>'
 
 
-def _shows(picture: Picture, scales: Sequence[Scale]) -> tuple[list[list[Any]], list[dict[str, Any]]]:
-    """The looks of devices, each once, and the frames by numbers of looks: -1 where a device isn't there."""
+def _shows(
+    picture: Picture, scales: Sequence[Scale]
+) -> tuple[list[list[Any]], list[list[int]], list[dict[str, Any]]]:
+    """The looks of devices and the sets of links that aren't there, each once, and the frames by their numbers.
+
+    A device that isn't there has the look -1.
+    """
     devices, links = everywhere(picture)
     place = {device: number for number, device in enumerate(devices)}
-    looks: dict[str, int] = {}
+    looks: dict[str, list[Any]] = {}
+    numbers: dict[str, int] = {}
+    gone: dict[tuple[int, ...], int] = {}
     shows = []
     for frame in picture.frames:
+        texts = [label_of(frame.values.get(d)) if frame.values else "" for d in frame.network.devices]
+        for device, text in zip(frame.network.devices, texts):
+            if text not in looks:
+                numbers[text] = len(looks)
+                looks[text] = _look(text, frame.values.get(device), scales, picture)
+        row = [-1] * len(devices)
+        for device, text in zip(frame.network.devices, texts):
+            row[place[device]] = numbers[text]
         there = {(min(a, b), max(a, b)) for a, b, _ in frame.network.links}
-        row = [
-            _look(frame.values, device, scales, picture, looks) if device in frame.network.inputs else -1
-            for device in devices
-        ]
-        away = [number for number, link in enumerate(links) if link not in there]
+        away = tuple(number for number, link in enumerate(links) if link not in there)
         marked = sorted(place[device] for device in picture.marked(frame))
-        shows.append({"title": frame.title, "devices": row, "marked": marked, "away": away})
-    return [json.loads(look) for look in looks], shows
+        shows.append({"title": frame.title, "devices": row, "marked": marked, "away": gone.setdefault(away, len(gone))})
+    return list(looks.values()), [list(away) for away in gone], shows
 
 
-def _look(
-    values: Mapping[int, Any], device: int, scales: Sequence[Scale], picture: Picture, looks: dict[str, int]
-) -> int:
-    """The number of the look of a device: what is written in it, its colours, and the ink."""
-    colours = colours_of(values.get(device), scales, picture.meaning)
-    text = label_of(values.get(device)) if values else ""
+def _look(text: str, value: Value | None, scales: Sequence[Scale], picture: Picture) -> list[Any]:
+    """The look of a device: what is written in it, its colours, the ink, and whether dark and light colours meet."""
+    colours = colours_of(value, scales, picture.meaning)
     mixed = len({is_dark([colour]) for colour in colours}) > 1
-    look = json.dumps([text, colours, "#ffffff" if is_dark(colours) else "#000000", mixed])
-    return looks.setdefault(look, len(looks))
+    return [text, colours, "#ffffff" if is_dark(colours) else "#000000", mixed]
 
 
 def _legend(picture: Picture, scales: Sequence[Scale]) -> str:

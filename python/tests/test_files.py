@@ -31,7 +31,7 @@ class InFolder(unittest.TestCase):
 class Positions(InFolder):
     def test_any_delimiter_and_order(self) -> None:
         wanted = {3: (1.5, -2.0), 4: (0.0, 1e3)}
-        for mark in (",", ";", "\t", "|", " ", "  "):
+        for mark in (",", ";", "\t", "|", ":", " ", "  "):
             for rows in (("3 1.5 -2", "4 0 1e3"), ("id x y", "3 1.5 -2", "4 0 1e3"), ("Y X ID", "-2 1.5 3", "1e3 0 4")):
                 text = "\n".join(rows).replace(" ", mark) + "\n"
                 self.assertEqual(files.points(self.file(text)).positions, wanted, text)

@@ -208,8 +208,9 @@ class Command(InFolder):
         for show, gone in zip(shows, (36, 9)):
             self.assertEqual([devices[at] for at, look in enumerate(show["devices"]) if look < 0], [gone])
         self.assertEqual([[devices[at] for at in show["marked"]] for show in shows], [[4, 17, 30], [4, 30]])
-        self.assertEqual(len(shows[0]["away"]), 2)
-        self.assertLess(max(shows[1]["away"]), len(ends))
+        gone = json.loads(re.search(r"const gone = (.*);", page)[1])
+        self.assertEqual(len(gone[shows[0]["away"]]), 2)
+        self.assertLess(max(gone[shows[1]["away"]]), len(ends))
         written = [looks[look][0] for look in shows[1]["devices"] if look >= 0]
         last = expected("crowd_run").split("@10\n")[-1] if "@10\n" in expected("crowd_run") else expected("crowd_run")
         self.assertEqual(written, [line.split(" ")[1] for line in last.splitlines()[-36:]])
