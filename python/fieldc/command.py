@@ -10,7 +10,7 @@ from collections.abc import Sequence
 from importlib.metadata import PackageNotFoundError, version
 from types import ModuleType
 
-from .json_results import refused
+from .json_results import faulted, refused
 from .refusals import Fault, Refusal
 from .telling import told
 
@@ -111,7 +111,8 @@ def main(words: Sequence[str] | None = None) -> int:
             sys.stderr.write(told(refusal, refusal.explanation))
         return refusal.status if 0 < refusal.status < 128 else 70
     except Fault as fault:
-        print(f"fieldc {options.command}: {fault}", file=sys.stderr)
+        json_too = getattr(options, "json", False)
+        sys.stderr.write(faulted(fault) if json_too else f"fieldc {options.command}: {fault}\n")
         return fault.status
     except BrokenPipeError:
         os.dup2(os.open(os.devnull, os.O_WRONLY), sys.stdout.fileno())

@@ -7,7 +7,7 @@ from collections.abc import Mapping, Sequence
 from typing import Any
 
 from . import results
-from .refusals import Explanation, Refusal
+from .refusals import Explanation, Fault, Refusal
 
 
 def written(
@@ -101,6 +101,12 @@ def _table(table: Mapping[str, Any] | None) -> dict[str, Any]:
 def refused(refusal: Refusal, explanation: Explanation) -> str:
     """A refusal as a text of JSON, for standard error."""
     return json.dumps({"status": refusal.status, "line": refusal.line, "explanation": explained(explanation)}) + "\n"
+
+
+def faulted(fault: Fault) -> str:
+    """What `fieldc` itself refuses, as a text of JSON, in the form of a refusal without a line of `fc`."""
+    told = explained(Explanation(str(fault)))
+    return json.dumps({"status": fault.status, "line": None, "explanation": told}) + "\n"
 
 
 def explained(explanation: Explanation) -> dict[str, Any]:

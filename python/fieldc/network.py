@@ -4,6 +4,7 @@ from __future__ import annotations
 
 import json
 import math
+import numbers
 import operator
 import random
 import re
@@ -158,7 +159,7 @@ def weight_of(value: Any, where: str, rounds: bool = False, span: Pair = (0, GRE
             found = int(found) if found.isdigit() else float(found)
         except ValueError:
             raise Fault(f"{where} weighs {value!r}, which is no number", 3) from None
-    if isinstance(found, bool) or not isinstance(found, (int, float)) or not math.isfinite(found):
+    if isinstance(found, bool) or not isinstance(found, numbers.Real) or not math.isfinite(found):
         raise Fault(f"{where} weighs {value!r}, which is no number", 3)
     if found != int(found) and not rounds:
         raise Fault(f"{where} weighs {value!r}, and a weight is a whole number: round it (--round), or scale the weights", 3)

@@ -48,6 +48,9 @@ class Words(unittest.TestCase):
         self.assertEqual((done.status, done.output), (5, ""))
         self.assertIn("none.fc can't be read: No such file", done.errors)
         self.assertIn("standard input can be read once", fieldc("check", "-", "-").errors)
+        told = json.loads(fieldc("check", "none.fc", "none.json", "--json").errors)
+        self.assertEqual((told["status"], told["line"]), (5, None))
+        self.assertIn("can't be read", told["explanation"]["what"])
 
     def test_no_fc(self) -> None:
         done = fieldc("gen", 3, FC="/none/fc")

@@ -158,6 +158,9 @@ class Graphs(unittest.TestCase):
         found = from_graph(self.graph(a=numpy.bool_(True), b=numpy.int64(4)))
         self.assertEqual(found.inputs[1], {"src": False, "w": 2, "a": True, "b": 4})
         self.assertIs(type(found.inputs[1]["a"]), bool)
+        heavy = self.graph()
+        heavy.edges[0, 1]["weight"], heavy.edges[1, 2]["weight"] = numpy.float32(4), numpy.int32(5)
+        self.assertEqual(from_graph(heavy).links, ((0, 1, 4), (1, 2, 5)))
 
     def test_names_are_kept(self) -> None:
         import networkx
