@@ -1,0 +1,233 @@
+"""What is wrong with the types of a program, in one sentence, and what to try."""
+
+from __future__ import annotations
+
+from collections.abc import Mapping
+from dataclasses import dataclass
+from typing import TYPE_CHECKING
+
+from .elsewhere import hint_for, similar
+from .tree import At, Declaration, Expr, Parameter, Type, quoted
+
+if TYPE_CHECKING:
+    from .types import Bound, Known
+
+OUT_OF_A_FIELD = "One value is taken out of a field by `minHoodLoc`, `maxHoodLoc`, `sumHood`, `anyHood` or `allHood`."
+ANOTHER_NAME = "Give one of them another name."
+PLURAL = {"int": "integers", "bool": "truth values"}
+SYMBOLS = ("+", "-", "*", "<", "=", "and", "or")
+
+
+@dataclass(frozen=True)
+class Complaint:
+    """A sentence, its place, the name that is meant, and a hint."""
+
+    what: str
+    at: At | None
+    name: str | None = None
+    hint: str | None = None
+
+
+def kind_text(kind: Type) -> str:
+    """A type with an article, in quotes of code."""
+    return f"{'an' if str(kind).startswith('int') else 'a'} `{kind}`"
+
+
+def no_ceiling(place: At) -> Complaint:
+    return Complaint("The ceiling is 0, and has to be at least 1.", place, "ceiling", "Take the greatest number that is needed.")
+
+
+def bad_range(declaration: Declaration, ceiling: int) -> Complaint:
+    (low, low_at), (high, high_at) = declaration.bounds
+    of = f"the input `{declaration.name}`" if declaration.form == "input" else "the metric"
+    name = declaration.name or "metric"
+    if low > high:
+        return Complaint(f"The range of {of} has its least, {low}, above its greatest, {high}.", low_at, name, "Turn them round.")
+    hint = f"Lower it, or raise the ceiling to {high}."
+    return Complaint(f"The range of {of} ends at {high}, above the ceiling {ceiling}.", high_at, name, hint)
+
+
+def twice(what: str, name: str, place: At | None, before: At | None) -> Complaint:
+    where = f"line {before.line}, column {before.column}" if before else "another line"
+    return Complaint(f"{what} `{name}` is declared before, on {where}.", place, name, ANOTHER_NAME)
+
+
+def second_metric(place: At, before: At) -> Complaint:
+    what = f"A second metric is declared; the first stands on line {before.line}, column {before.column}."
+    return Complaint(what, place, "metric", "Keep one of them.")
+
+
+def bound_twice(expr: Expr, before: At) -> Complaint:
+    what = f"`{expr.name}` is bound here, and round it already, on line {before.line}, column {before.column}."
+    return Complaint(what, expr.bound, expr.name, "Give one of them another name: no name hides another.")
+
+
+def wide(what: str, count: int, place: At | None) -> Complaint:
+    hint = "Keep what belongs together in two values, or put two small numbers into one."
+    return Complaint(f"{what} has {count} integers and truth values, and at most 8 are allowed.", place, None, hint)
+
+
+def great_literal(expr: Expr, ceiling: int) -> Complaint:
+    what = f"The number {expr.value} is above the ceiling {ceiling}."
+    return Complaint(what, expr.at, str(expr.value), f"Lower it, or raise the ceiling to {expr.value}.")
+
+
+def unknown_variable(expr: Expr, scope: Mapping[str, Bound], known: Known) -> Complaint:
+    name = expr.name
+    what = f"Nothing named `{name}` is bound here."
+    near = similar(name, scope)
+    if name in known.inputs:
+        hint = f"An input is read by `sense {name}`."
+    elif name in known.functions:
+        hint = f"A function is called with round brackets: `{name}({', '.join('..' for _ in known.functions[name].parameters)})`."
+    elif hint_for(name):
+        hint = hint_for(name)
+    elif near:
+        hint = f"Is `{near}` meant?"
+    elif similar(name, known.inputs):
+        hint = f"Is the input `sense {similar(name, known.inputs)}` meant?"
+    else:
+        hint = "A name is a parameter, or is bound round its place by `let`, `rep` or `share`."
+    return Complaint(what, expr.at, name, hint)
+
+
+def unknown_input(expr: Expr, scope: Mapping[str, Bound], known: Known) -> Complaint:
+    name = expr.name
+    what = f"No input named `{name}` is declared before."
+    near = similar(name, known.inputs)
+    if any(part.form == "input" and part.name == name for part in known.later):
+        hint = "It is declared further down: move its declaration up."
+    elif name in scope:
+        hint = f"`{name}` is a variable: write it without `sense`."
+    elif near:
+        hint = f"Is `sense {near}` meant?"
+    else:
+        hint = f"Declare it: `input {name}: bool;`."
+    return Complaint(what, expr.bound, name, hint)
+
+
+def unknown_function(expr: Expr, scope: Mapping[str, Bound], known: Known) -> Complaint:
+    name = expr.name
+    what = f"No function named `{name}` is declared before."
+    near = similar(name, known.functions)
+    later = [part for part in known.later if part.form == "def" and part.name == name]
+    if later and later[0] is known.later[0]:
+        hint = "A function can't call itself: what goes on from firing to firing is kept by `rep`."
+    elif later:
+        hint = "It is declared further down: move its declaration up."
+    elif hint_for(name):
+        hint = hint_for(name)
+    elif near:
+        hint = f"Is `{near}` meant?"
+    elif name in scope:
+        hint = f"`{name}` is a variable, and has no brackets."
+    else:
+        hint = f"Declare it: `def {name}(..): int = ..;`."
+    return Complaint(what, expr.at, name, hint)
+
+
+def other_count(expr: Expr, function: Declaration) -> Complaint:
+    count = len(function.parameters)
+    wanted = f"{count} argument{'' if count == 1 else 's'}"
+    what = f"`{expr.name}` takes {wanted}, and is given {len(expr.kids)}."
+    names = ", ".join(f"{part.name}: {part.type}" for part in function.parameters)
+    return Complaint(what, expr.at, expr.name, f"It is declared as `{expr.name}({names})`.")
+
+
+def other_argument(text: str, expr: Expr, kid: Expr, found: Type, parameter: Parameter) -> Complaint:
+    what = f"The argument `{parameter.name}` of `{expr.name}` is {kind_text(parameter.type)}, and {quoted(text, kid)} is {kind_text(found)}."
+    return Complaint(what, kid.at, parameter.name, _towards(parameter.type, found))
+
+
+def other_result(declaration: Declaration, found: Type) -> Complaint:
+    assert declaration.result is not None and declaration.body is not None
+    what = f"The body of `{declaration.name}` is {kind_text(found)}, and its result is declared as {kind_text(declaration.result)}."
+    hint = _towards(declaration.result, found) or f"Declare the result as `{found}`, or change the body."
+    return Complaint(what, declaration.body.at, declaration.name, hint)
+
+
+def field_in_main(text: str, body: Expr) -> Complaint:
+    return Complaint(f"`main` has to be local, and {quoted(text, body)} is a field.", body.at, "main", OUT_OF_A_FIELD)
+
+
+def field_in_nbr(text: str, expr: Expr) -> Complaint:
+    kid = expr.kids[0]
+    return Complaint(f"`nbr` shares a local value, and {quoted(text, kid)} is a field.", kid.at, "nbr", OUT_OF_A_FIELD)
+
+
+def field_in_keeping(text: str, expr: Expr, part: Expr) -> Complaint:
+    of = "first value" if part is expr.kids[0] else "body"
+    what = f"The {of} of a `{expr.form}` has to be local, and {quoted(text, part)} is a field."
+    return Complaint(what, part.at, expr.name, OUT_OF_A_FIELD)
+
+
+def field_in_if(text: str, expr: Expr, kid: Expr) -> Complaint:
+    of = "condition" if kid is expr.kids[0] else "branch"
+    what = f"The {of} of an `if` has to be local, and {quoted(text, kid)} is a field."
+    return Complaint(what, kid.at, "if", "`mux(c, a, b)` chooses between fields, neighbour by neighbour.")
+
+
+def other_body(text: str, expr: Expr, first: Type, body: Type) -> Complaint:
+    what = f"The body of this `{expr.form}` is {kind_text(body)}, and its first value {quoted(text, expr.kids[0])} is {kind_text(first)}."
+    return Complaint(what, expr.kids[1].at, expr.name, "Both have the type of what is kept.")
+
+
+def no_condition(text: str, word: str, kid: Expr, found: Type) -> Complaint:
+    what = f"The condition of `{word}` is a truth value, and {quoted(text, kid)} is {kind_text(found)}."
+    hint = "Compare it, as in `x = 1`." if found.local == "int" else None
+    return Complaint(what, kid.at, word, hint)
+
+
+def other_choices(text: str, word: str, kid: Expr, first: Type, second: Type) -> Complaint:
+    what = f"Both choices of `{word}` have one type; the first is {kind_text(first)}, and {quoted(text, kid)} is {kind_text(second)}."
+    return Complaint(what, kid.at, word, None)
+
+
+def mismatch(text: str, expr: Expr, found: list[Type]) -> Complaint:
+    """A builtin whose arguments fit none of its types."""
+    name = expr.name
+    if name.endswith(("Hood", "HoodLoc")):
+        return _hood_mismatch(text, expr, found)
+    if name == "mux":
+        if found[0].local != "bool":
+            return no_condition(text, "mux", expr.kids[0], found[0])
+        return other_choices(text, "mux", expr.kids[2], found[1], found[2])
+    if name in ("fst", "snd"):
+        what = f"`{name}` takes a part of a pair, and {quoted(text, expr.kids[0])} is {kind_text(found[0])}."
+        return Complaint(what, expr.kids[0].at, name, None)
+    if name in ("min", "max", "<", "="):
+        what = f"`{name}` takes two values of one type; the first is {kind_text(found[0])}, and the second is {kind_text(found[1])}."
+        return Complaint(what, expr.kids[1].at, name, None)
+    wanted = "bool" if name in ("and", "or", "not") else "int"
+    place = next(place for place, kind in enumerate(found) if kind.local != wanted)
+    what = f"`{name}` takes {PLURAL[wanted]}, and {quoted(text, expr.kids[place])} is {kind_text(found[place])}."
+    if len(found) == 1:
+        what = f"`{name}` takes a truth value, and {quoted(text, expr.kids[0])} is {kind_text(found[0])}."
+    hint = "A truth value is made a number by `mux(c, 1, 0)`." if wanted == "int" and found[place].local == "bool" else None
+    hint = "Compare it, as in `x = 1`." if wanted == "bool" and found[place].local == "int" else hint
+    return Complaint(what, expr.kids[place].at, name, hint)
+
+
+def _hood_mismatch(text: str, expr: Expr, found: list[Type]) -> Complaint:
+    name, kid = expr.name, expr.kids[0]
+    if not found[0].field:
+        what = f"`{name}` takes a field of what the neighbours share, and {quoted(text, kid)} is {kind_text(found[0])}."
+        return Complaint(what, kid.at, name, "What the neighbours share is `nbr{..}`.")
+    if name in ("minHoodLoc", "maxHoodLoc"):
+        second = expr.kids[1]
+        what = f"The second argument of `{name}` is one value of the type of the first one's; {quoted(text, second)} is {kind_text(found[1])}"
+        what += f", and wanted is {kind_text(Type(found[0].local))}."
+        return Complaint(what, second.at, name, OUT_OF_A_FIELD if found[1].field else None)
+    wanted = "int" if name == "sumHood" else "bool"
+    what = f"`{name}` takes a field of {PLURAL[wanted]}, and {quoted(text, kid)} is {kind_text(found[0])}."
+    hint = "Count what is true by `sumHood(mux(f, 1, 0))`." if wanted == "int" and found[0].local == "bool" else None
+    return Complaint(what, kid.at, name, hint)
+
+
+def _towards(wanted: Type, found: Type) -> str | None:
+    """What to try where a type of one kind stands in the place of another."""
+    if found.field and not wanted.field:
+        return OUT_OF_A_FIELD
+    if wanted.field and not found.field:
+        return "The field of what the neighbours have is `nbr{..}`."
+    return None
