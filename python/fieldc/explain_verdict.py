@@ -1,0 +1,181 @@
+"""Explains a `no PLACE REASON`: which `rep` or `share` it is, how `main` comes to it, and which part of it is to blame."""
+
+from __future__ import annotations
+
+from .language import At, Node, Unfolded
+from .language.patterns import Blame, Patterns
+from .language.tree import quoted
+from .places import Said
+
+PATTERNS = "docs/patterns.md"
+GUARD = "mux(nbr{p} < p, nbr{x}, 0)"
+
+
+class Verdict:
+    """Puts the reason of a no into words."""
+
+    def __init__(self, program: Unfolded) -> None:
+        self.program = program
+        self.nodes = program.nodes
+
+    def said(self, place: int, reason: str) -> Said | None:
+        """What is said of a no; nothing where the reader finds another place or reason than `fc`."""
+        blame = Patterns(self.program).first()
+        if blame is None or (blame.place, blame.reason) != (place, reason):
+            return None
+        node = self.nodes[place]
+        why, hint = getattr(self, "_" + reason.replace("-", "_"))(blame)
+        what = f"This `{node.form}` of `{node.name}`{self.way(node)} isn't of a form that is known to stabilise: {why}."
+        return Said(what, node.expr.at, node.name, hint, f"{PATTERNS}#{reason}")
+
+    def way(self, node: Node) -> str:
+        """The function in which a node stands, and the calls that lead to it, the innermost first."""
+        if not node.calls:
+            return ""
+        steps = [f"`{site.function}`, called on {self.where(site.at)}" for site in reversed(node.calls)]
+        return ", in " + ", in ".join(steps) + ","
+
+    def where(self, at: At) -> str:
+        """A place in words."""
+        return f"line {at.line}, column {at.column}"
+
+    def part(self, place: int) -> str:
+        """A part of the program in code, and where it stands."""
+        node = self.nodes[place]
+        return f"{quoted(self.program.text, node.expr)} on {self.where(node.expr.at)}"
+
+    def heard(self, blame: Blame) -> str:
+        """What is heard, as a program writes it."""
+        node = self.nodes[blame.place]
+        return f"nbr{{{node.name}}}" if node.form == "rep" else node.name
+
+    def _nested(self, blame: Blame) -> tuple[str, str]:
+        node, outer = self.nodes[blame.place], self.nodes[blame.round]
+        use = f"its `{node.name}` on {self.where(self.nodes[blame.part].expr.at)}"
+        if blame.case == "if":
+            hint = f"Choose by `mux`, which parts nobody, or put the whole `{node.form}` into the branches of the `if`."
+            return f"{use} stands beneath the `if` on {self.where(outer.expr.at)}, where only those are heard that take the same branch", hint
+        if blame.case == "let" and outer.expr.form == "call":
+            hint = f"Write the body of `{outer.expr.name}` out here, or call it outside of the `{node.form}`."
+            call = f"the call of `{outer.expr.name}` on {self.where(outer.expr.at)}"
+            return f"{use} stands beneath {call}, whose arguments are bound by a `let` when it is unfolded", hint
+        if blame.case == "nbr":
+            if node.form == "share":
+                hint = f"In a `share`, `{node.name}` is what is heard already: leave the `nbr` out."
+                return f"{use} stands beneath the `nbr` on {self.where(outer.expr.at)}", hint
+            hint = f"Share `{node.name}` alone, and compute with what is heard: `nbr{{{node.name}}} + 1` in place of `nbr{{{node.name} + 1}}`."
+            return f"{self.part(blame.round)} shares more than `{node.name}` alone", hint
+        hint = f"Move it out of the body, and write `{self.heard(blame)}` where it is used."
+        return f"{use} stands beneath the `{outer.form}` of `{outer.name}` on {self.where(outer.expr.at)}", hint
+
+    def _unguarded(self, blame: Blame) -> tuple[str, str]:
+        name = self.nodes[blame.place].name
+        why = f"its `{name}` on {self.where(self.nodes[blame.part].expr.at)} is what the device itself held"
+        if self.nodes[blame.round].name == "rise":
+            return why, f"Only the second argument of a `rise(a, {name}, s)` that is the whole body may be that."
+        return why, f"Use what the neighbours held, `nbr{{{name}}}`, inside `minHoodLoc` or behind a guard `mux(nbr{{p}} < p, nbr{{{name}}}, 0)`."
+
+    def _potential(self, blame: Blame) -> tuple[str, str]:
+        guard, part = self.part(blame.round), self.nodes[blame.part]
+        hint = "Bind one integer by a `let` outside, as `let p = .. in`, and write `nbr{p} < p` with it in every guard."
+        if blame.case == "no-integer":
+            return f"its guard {guard} compares `{part.name}`, which is a `{part.type}` and no integer", hint
+        if blame.case == "another":
+            return f"its guard {guard} compares `{part.name}` with another potential", hint
+        return f"its guard {guard} compares {quoted(self.program.text, part.expr)}, which isn't a name that is bound outside", hint
+
+    def _no_growth(self, blame: Blame) -> tuple[str, str]:
+        heard = self.heard(blame)
+        part = self.part(blame.part)
+        if blame.case == "-":
+            hint = f"Add to what is heard, as `{heard} + 1`, and subtract outside of the `{self.nodes[blame.place].form}`."
+            return f"what it hears may shrink from neighbour to neighbour, by {part}", hint
+        if blame.case == "without":
+            hint = "Move it into the second argument of `minHoodLoc`."
+            return f"{part} stands beside what it hears, and doesn't grow from neighbour to neighbour", hint
+        if blame.case == "no-integer":
+            hint = "Keep a pair whose first part is an integer that grows, as a hop count."
+            return f"what it hears, {part}, is of type `{self.nodes[blame.part].type.local}`, and only an integer grows", hint
+        if blame.case == "times-zero":
+            return f"what it hears may be multiplied by 0, in {part}", "Multiply by what is at least 1, such as `max(1, ..)`."
+        if blame.case == "twice":
+            return f"what it hears stands on both sides of {part}", f"Write `{heard}` once: in place of a sum of two, `2 * {heard}`."
+        if blame.case == "choice":
+            return f"what it hears decides the choice of {part}", f"Choose by what doesn't depend on `{self.nodes[blame.place].name}`."
+        if blame.case == "pair":
+            hint = f"The first part has to be an integer that grows, and the second one `snd({heard})`, or without `{self.nodes[blame.place].name}`."
+            return f"of the pair {part} it isn't known that it grows", hint
+        return f"of {part} it isn't known that it grows from neighbour to neighbour", f"Add to what is heard, as `{heard} + 1`."
+
+    def _growth_zero(self, blame: Blame) -> tuple[str, str]:
+        why = f"what it hears, {self.part(blame.part)}, may stay as it is from neighbour to neighbour"
+        if blame.case == "weights":
+            low = self.program.metric[0]
+            if low == 0:
+                return f"{why}, as links may weigh 0", "Declare a metric from 1 on, as `metric 1..9;`, or add 1 besides."
+        if blame.case == "plain":
+            return why, f"Add 1: `{self.heard(blame)} + 1`."
+        return why, "Add what is at least 1: a number, or `nbrLink` with a metric from 1 on."
+
+    def _lead_at_ceiling(self, blame: Blame) -> tuple[str, str]:
+        ceiling = self.program.ceiling
+        why = f"its local pair {self.part(blame.part)} may have the ceiling {ceiling} as its first part, where pairs no longer grow"
+        return why, f"Keep the first part below the ceiling, at {ceiling - 1}."
+
+    def _rise_zero(self, blame: Blame) -> tuple[str, str]:
+        return f"the limit of its `rise`, {self.part(blame.part)}, may be 0, and then nothing may rise", "Take a limit of at least 1."
+
+    def _converging(self, blame: Blame) -> tuple[str, str]:
+        name, heard, part = self.nodes[blame.place].name, self.heard(blame), self.part(blame.part)
+        guard = GUARD.replace("nbr{x}", heard)
+        words = {
+            "behind": (
+                f"what stands behind its guard, {part}, isn't `{heard}` alone",
+                f"Guard first, `{guard}`, and compute with that outside of the guard.",
+            ),
+            "turned": (
+                f"its guard {part} has the neighbour's value on the right",
+                "Write `nbr{p} < p`, which hears those that are lower; to hear those that are higher, bind the potential the other way round.",
+            ),
+            "otherwise": (
+                f"{part} stands where its guard isn't true, as the third argument of `mux`",
+                f"Write `{guard}`, with what is heard as the second argument.",
+            ),
+            "both": (
+                f"behind its guard, beside what is heard, {part} hears `{name}` too",
+                f"Write `{guard}`, with a third argument that is without `{name}`.",
+            ),
+            "maxHoodLoc": (
+                f"{part} takes a greatest value, which may be handed round for ever",
+                f"Take a least value that grows: `minHoodLoc({heard} + 1, ..)`; or collect along a potential, behind guards.",
+            ),
+            "minHoodLoc": (
+                f"{part} isn't the whole body, and what is done with it is of no known form",
+                f"Keep the `minHoodLoc` alone in the `{self.nodes[blame.place].form}`, and compute with it outside.",
+            ),
+            "limit": (f"the limit of its `rise`, {part}, depends on `{name}`", "Take a limit that doesn't."),
+            "risen": (
+                f"the first argument of its `rise`, {part}, isn't a `minHoodLoc`",
+                f"Write `rise(minHoodLoc({heard} + 1, ..), {name}, s)`.",
+            ),
+            "local": (
+                f"the second argument of its `minHoodLoc`, {part}, hears `{name}` too",
+                "Take a second argument that doesn't.",
+            ),
+            "": (f"its body {part} is none of the known ones", "Write it as a least value over the neighbours, or collect along a potential."),
+        }
+        collected = (
+            f"{part} hears all neighbours, without a guard",
+            f"Bind a potential outside, as `let p = .. in`, and hear those alone that are lower: `{guard}`.",
+        )
+        return words.get(blame.case, collected)
+
+
+def no_walks(program: Unfolded, main: At) -> Said:
+    """What is said where a program has no walks."""
+    root = program.nodes[0]
+    what = "The program stabilises, but isn't of the form that has walks."
+    hint = "The root of `main` has to be a `rep` of integers whose body is `minHoodLoc(nbr{x} + s, l)`."
+    if root.form == "let":
+        hint += f" Here it is a `{'call' if root.expr.form == 'call' else 'let'}`."
+    return Said(what, main, "main", hint, "docs/formats.md#the-output")

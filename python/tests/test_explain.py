@@ -1,0 +1,185 @@
+"""Tests the explanations of refusals and of noes, against tables that were written by hand."""
+
+from __future__ import annotations
+
+import os
+import re
+import subprocess
+import sys
+import unittest
+from pathlib import Path
+
+ROOT = Path(__file__).resolve().parents[2]
+sys.path[:0] = [str(ROOT / "python"), str(ROOT / "python" / "tests")]
+
+import wrong_inputs
+from fieldc.explain import explain, rendered, warnings
+from fieldc.program import joined
+from fieldc.refusals import Call, Refusal, Section
+
+FC = os.environ.get("FC")
+CASES = wrong_inputs.all_cases()
+TABLE = re.compile(r"^\| `([^`|]+)` \|", re.MULTILINE)
+
+
+def headings(path: Path) -> set[str]:
+    """The anchors of a page, as its readers write them."""
+    found = re.findall(r"^#+ (.*)$", path.read_text(encoding="utf-8"), re.MULTILINE)
+    return {re.sub(r"[^a-z0-9 -]", "", heading.lower()).replace(" ", "-") for heading in found}
+
+
+class Tables(unittest.TestCase):
+    """Each wrong input of the tables is explained as it is wanted."""
+
+    def test_sentences_and_places(self):
+        for file, case in CASES:
+            with self.subTest(file=file, case=case.name):
+                call = case.call()
+                found = explain(call, case.refusal())
+                self.assertEqual(found.what, case.says)
+                where = None if found.section is None else (found.section.kind, found.line, found.column)
+                self.assertEqual(where, case.at)
+                if case.hint is not None:
+                    self.assertEqual(found.hint, case.hint)
+
+    def test_pages(self):
+        anchors = {}
+        for file, case in CASES:
+            with self.subTest(file=file, case=case.name):
+                page = explain(case.call(), case.refusal()).page
+                self.assertIsNotNone(page)
+                path, _, anchor = page.partition("#")
+                if path not in anchors:
+                    anchors[path] = headings(ROOT / path)
+                if anchor:
+                    self.assertIn(anchor, anchors[path])
+
+    def test_carets(self):
+        for file, case in CASES:
+            with self.subTest(file=file, case=case.name):
+                found = explain(case.call(), case.refusal())
+                lines = rendered(found).split("\n")
+                if case.at is None:
+                    self.assertEqual(lines[0], case.says)
+                    continue
+                self.assertTrue(lines[0].startswith(f"{case.at[0]}.txt:{case.at[1]}:{case.at[2]}: "))
+                text = found.section.text.split("\n")[case.at[1] - 1]
+                caret = lines[2].index("^")
+                self.assertEqual(lines[1][caret : caret + 1], text[case.at[2] - 1 : case.at[2]])
+
+    @unittest.skipUnless(FC, "FC doesn't name the built fc, so its lines aren't compared")
+    def test_lines_of_fc(self):
+        for file, case in CASES:
+            if case.status in (5, 6, 7):
+                continue
+            with self.subTest(file=file, case=case.name):
+                done = subprocess.run([FC, *case.words], input=joined(case.call().sections), capture_output=True, check=False)
+                self.assertIn(case.line, done.stdout.decode("utf-8").split("\n")[:2])
+
+
+class Words(unittest.TestCase):
+    """No word of the documents is without a case."""
+
+    def words_of(self, document: str, heading: str) -> set[str]:
+        text = (ROOT / "docs" / document).read_text(encoding="utf-8")
+        part = text.split(f"\n{heading}\n", 1)[1]
+        part = re.split(r"\n#+ ", part, maxsplit=1)[0]
+        return {word for row in re.findall(r"^\| ([^|]*) \|", part, re.MULTILINE) for word in re.findall(r"`([^`]+)`", row)}
+
+    def told(self) -> set[str]:
+        return {word for _, case in CASES for word in case.line.split(" ")}
+
+    def test_reasons(self):
+        self.assertLessEqual(self.words_of("language.md", "## When `check` says no"), self.told())
+
+    def test_kinds_of_types(self):
+        kinds = {w for w in self.words_of("language.md", "## Types") if re.fullmatch(r"range|twice|unknown|literal|count|mismatch|not-local|result|wide", w)}
+        self.assertEqual(len(kinds), 9)
+        self.assertLessEqual(kinds, self.told())
+
+    def test_words_of_lines(self):
+        text = (ROOT / "docs" / "formats.md").read_text(encoding="utf-8")
+        part = text.split("\n| Word | When |\n", 1)[1].split("\n\n", 1)[0]
+        words = {word for row in re.findall(r"^\| ([^|]*) \|", part, re.MULTILINE) for word in re.findall(r"`([^`]+)`", row)}
+        self.assertGreaterEqual(len(words), 14)
+        self.assertLessEqual(words | {"empty"}, self.told())
+
+    def test_statuses(self):
+        text = (ROOT / "docs" / "formats.md").read_text(encoding="utf-8")
+        part = text.split("\n## Statuses\n", 1)[1]
+        lines = {line for row in re.findall(r"^\| [1-7] \| ([^|]*) \|", part, re.MULTILINE) for line in re.findall(r"`([^`]+)`", row)}
+        first = {" ".join(line.split(" ")[: 2 if line.startswith("limit") else 1]) for line in lines}
+        told = {" ".join(case.line.split(" ")[: 2 if case.line.startswith("limit") else 1]) for _, case in CASES}
+        self.assertGreaterEqual(len(first), 20)
+        self.assertLessEqual(first, told)
+        self.assertLessEqual({5, 6, 7}, {case.status for _, case in CASES})
+
+    def test_count(self):
+        self.assertGreaterEqual(len(CASES), 120)
+
+
+class Disagreement(unittest.TestCase):
+    """Where the reader finds something else than `fc` wrote, only what `fc` wrote is said."""
+
+    def said(self, line: str, program: str, status: int = 3) -> str:
+        sections = (Section("program", "p", 1, program), Section("network", "n", 1, wrong_inputs.ONE))
+        call = Call(("check",), sections)
+        found = explain(call, Refusal(status, line.split(" ")[0], line, call))
+        self.assertIsNone(found.line)
+        return found.what
+
+    def test_another_declaration(self):
+        self.assertEqual(self.said("syntax 1 1", "ceiling 10;\nmain = 1 == 2;\n"), "syntax 1 1")
+
+    def test_another_word(self):
+        self.assertEqual(self.said("types 2 unknown", "ceiling 10;\nmain = 1 + true;\n"), "types 2 unknown")
+
+    def test_another_place(self):
+        self.assertEqual(self.said("no 1 unguarded", "ceiling 10;\nmain = rep(0){(x) => x + 1};\n", 1), "no 1 unguarded")
+
+    def test_another_reason(self):
+        self.assertEqual(self.said("no 0 nested", "ceiling 10;\nmain = rep(0){(x) => x + 1};\n", 1), "no 0 nested")
+
+    def test_no_fault(self):
+        self.assertEqual(self.said("lexical 5", "ceiling 10;\nmain = 1;\n"), "lexical 5")
+
+    def test_a_line_that_is_unknown(self):
+        self.assertEqual(self.said("new-word 1 2", "ceiling 10;\nmain = 1;\n"), "new-word 1 2")
+
+
+class Joined(unittest.TestCase):
+    """Lines are those of the user's file, also where one file has several sections."""
+
+    def test_a_section_that_begins_further_down(self):
+        text = '{"devices": [{"id": 0, "inputs": {}}],\n "links": [[0, 0, 1]]}\n'
+        call = Call(("check",), (Section("program", "all", 1, "ceiling 10;\nmain = 1;\n"), Section("network", "all", 4, text)))
+        found = explain(call, Refusal(3, "network", "network /links/0 self-link", call))
+        self.assertEqual((found.line, found.column), (5, 12))
+        self.assertIn("all:5:12:", rendered(found))
+
+
+class Warned(unittest.TestCase):
+    """A `uid` that the ceiling cuts is warned of."""
+
+    def warned(self, program: str, ids: list[int]) -> list[str]:
+        devices = ", ".join(f'{{"id": {number}, "inputs": {{}}}}' for number in ids)
+        scene = f'{{"devices": [{devices}], "links": []}}'
+        call = Call(("stable",), (Section("program", "p", 1, program), Section("network", "n", 1, scene)))
+        return [f"{found.line}:{found.column}: {found.what}" for found in warnings(call)]
+
+    def test_one_device(self):
+        found = self.warned("ceiling 10;\nmain = uid;\n", [3, 10, 12])
+        self.assertEqual(found, ["2:8: `uid` is cut at the ceiling 10, so it is 10 at device 12."])
+
+    def test_several(self):
+        found = self.warned("ceiling 10;\ndef f(): int = uid;\nmain = f();\n", [3, 11, 12, 200])
+        self.assertEqual(found, ["2:16: `uid` is cut at the ceiling 10, so it is 10 at the 3 devices from 11 on."])
+
+    def test_none(self):
+        self.assertEqual(self.warned("ceiling 12;\nmain = uid;\n", [3, 12]), [])
+        self.assertEqual(self.warned("ceiling 10;\nmain = 1;\n", [3, 12]), [])
+        self.assertEqual(self.warned("ceiling 10;\ndef f(): int = uid;\nmain = 1;\n", [12]), [])
+
+
+if __name__ == "__main__":
+    unittest.main()
