@@ -26,6 +26,7 @@ class Verdict:
         node = self.nodes[place]
         why, hint = getattr(self, "_" + reason.replace("-", "_"))(blame)
         what = f"This `{node.form}` of `{node.name}`{self.way(node)} isn't of a form that is known to stabilise: {why}."
+        what = what.replace(",,", ",").replace(",.", ".")
         return Said(what, node.expr.at, node.name, hint, f"{PATTERNS}#{reason}")
 
     def way(self, node: Node) -> str:
@@ -33,11 +34,11 @@ class Verdict:
         if not node.calls:
             return ""
         steps = [f"`{site.function}`, called on {self.where(site.at)}" for site in reversed(node.calls)]
-        return ", in " + ", in ".join(steps) + ","
+        return ", in " + " in ".join(steps)
 
     def where(self, at: At) -> str:
-        """A place in words."""
-        return f"line {at.line}, column {at.column}"
+        """A place in words, with the comma that follows it within a sentence."""
+        return f"line {at.line}, column {at.column},"
 
     def part(self, place: int) -> str:
         """A part of the program in code, and where it stands."""

@@ -91,7 +91,7 @@ def form_fault(line: Line, kind: str) -> Said | None:
     for word in line.words:
         if word.text == "" or "\t" in word.text or "\r" in word.text:
             return Said("Words stand one space apart, and none in front or behind.", word.at, None, None, PAGES[kind])
-    if line.verb not in LINES[kind]:
+    if line.verb not in LINES[kind] or line.words[0].text in ("B", "E"):
         return _strange(line, kind)
     rules = {"mix": _mix, "poke": _poke, "join": _join, "set": _set}
     return rules.get(line.verb, _plain)(line.words, kind)
@@ -104,8 +104,8 @@ def _strange(line: Line, kind: str) -> Said:
         if line.verb in lines and other != kind:
             hint = f"It is a line of {TITLES[other]}, and this is {TITLES[kind]}."
             break
-    if first.text in ("B", "E") and len(line.words) > 1:
-        hint = f"Write `{first.text}{line.words[1].text}`, without a space."
+    if first.text in ("B", "E") and "B" in LINES[kind]:
+        hint = f"Write `{first.text}{line.words[1].text if len(line.words) > 1 else 3}`, without a space."
     elif first.text.lower() in LINES[kind]:
         hint = f"Write `{first.text.lower()}`."
     elif re.fullmatch(r"[be][0-9]+", first.text) and "B" in LINES[kind]:
@@ -150,8 +150,6 @@ def _plain(words: tuple[Word, ...], kind: str) -> Said | None:
         verb = verb[0]
     form = LINES[kind][verb]
     if verb in ("B", "E"):
-        if len(verb) == len(words[0].text):
-            return Said(f"Behind `{verb}` stands the number of a device.", words[0].at, verb, f"Write `{form}`.", page)
         form = verb
     fault = _count(words, form, page) or next((found for word in words[1:] if (found := _number(word, page))), None)
     if fault is None and verb == "run" and int(words[1].text) == 0:

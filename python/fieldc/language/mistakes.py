@@ -313,7 +313,7 @@ def _in_main(stuck: Stuck) -> Advice | None:
 def in_let(stuck: Stuck) -> Advice | None:
     """Faults of a `let`."""
     if stuck.kind == "LET" and stuck.operand:
-        what = "A `let` that isn't the whole of what stands between two brackets or marks stands in brackets of its own."
+        what = "A `let` to the right of an operator stands in brackets of its own."
         return advice(stuck.here, what, "Write `1 + (let x = 2 in x)`.")
     if "IN" in stuck.expected:
         what = "A `let` needs `in` and the expression in which its name stands, and here is {}."

@@ -215,23 +215,29 @@ def within_limits(piece: Piece) -> None:
 def declaration_of(piece: Piece, start: str, second: bool) -> Declaration:
     """The declaration of a piece, of the form that its place allows. Raises Fault where it isn't."""
     state = parser().parse_interactive(start=start)
-    for index, token in enumerate(piece.tokens):
-        wrong = token.type in ("SHARE", "RISE") and not second
-        wrong = wrong or (token.type == "NUMBER" and index == 1 and start == "first" and _other_language(piece))
-        before = state.accepts() if wrong else set()
-        if wrong:
-            raise syntax(Stuck(piece.number, piece.tokens, index, frozenset(before), start, second))
-        try:
-            state.feed_token(token)
-        except UnexpectedToken as error:
-            expected = frozenset(error.accepts or error.expected)
-            raise syntax(Stuck(piece.number, piece.tokens, index, expected, start, second)) from None
+    place = 0
     try:
-        found = state.feed_eof()
-    except UnexpectedToken as error:
-        expected = frozenset(error.accepts or error.expected)
-        raise syntax(Stuck(piece.number, piece.tokens, len(piece.tokens), expected, start, second)) from None
-    return replace(found, number=piece.number)
+        for place, token in enumerate(piece.tokens):
+            if _of_language_2(token, second) or (place == 1 and _other_language(piece)):
+                raise UnexpectedToken(token, set())
+            state.feed_token(token)
+        place = len(piece.tokens)
+        return replace(state.feed_eof(), number=piece.number)
+    except UnexpectedToken:
+        expected = accepted(piece, start, place)
+        raise syntax(Stuck(piece.number, piece.tokens, place, expected, start, second)) from None
+
+
+def accepted(piece: Piece, start: str, count: int) -> frozenset[str]:
+    """The kinds of tokens that may follow the first `count` of a piece."""
+    state = parser().parse_interactive(start=start)
+    for token in piece.tokens[:count]:
+        state.feed_token(token)
+    return frozenset(state.accepts())
+
+
+def _of_language_2(token: Token, second: bool) -> bool:
+    return token.type in ("SHARE", "RISE") and not second
 
 
 def _other_language(piece: Piece) -> bool:

@@ -69,6 +69,10 @@ class Expr:
     value: int | bool = 0
     bound: At | None = None
 
+    def __deepcopy__(self, _memo: object) -> Expr:
+        """Itself, as an expression never changes."""
+        return self
+
 
 @dataclass(frozen=True, eq=False)
 class Parameter:
