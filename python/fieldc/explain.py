@@ -25,8 +25,6 @@ SILENT = {
     7: Said("There was not enough memory.", None, None, "Take fewer devices, or a program of fewer nodes.", STATUSES),
 }
 
-Found = "tuple[Section | None, Said | None]"
-
 
 def explain(call: Call, refusal: Refusal) -> Explanation:
     """The explanation of a refusal, or of the line of a no; only what `fc` said where nothing more is known."""
@@ -204,34 +202,3 @@ def _cut(found: Reading, above: list[int], at) -> Said:
     what = f"`uid` is cut at the ceiling {ceiling}, so it is {ceiling} at {devices}."
     hint = f"Raise the ceiling to {above[-1]}, or give the devices lower numbers."
     return Said(what, at, "uid", hint, "docs/language.md#what-a-program-means")
-
-
-def rendered(found: Explanation) -> str:
-    """An explanation as text: the sentence, the line with a caret beneath its place, the hint and the page."""
-    lines = []
-    if found.line is not None and found.section is not None:
-        where = found.section.name if found.section.name not in ("", "-") else f"the {found.section.kind}"
-        lines.append(f"{where}:{found.line}:{found.column}: {found.what}")
-        lines.extend(_caret(found))
-    else:
-        lines.append(found.what)
-    if found.hint:
-        lines.append(f"  try: {found.hint}")
-    if found.page:
-        lines.append(f"  more: {found.page}")
-    return "\n".join(lines)
-
-
-def _caret(found: Explanation) -> list[str]:
-    """The line of the place and a caret beneath it, cut where the line is long."""
-    if found.section is None or found.line is None or found.column is None:
-        return []
-    lines = found.section.text.split("\n")
-    row = found.line - found.section.first_line
-    if not 0 <= row < len(lines):
-        return []
-    text = lines[row].rstrip("\r")
-    start = max(0, found.column - 61)
-    shown = "".join(sign if sign.isprintable() else " " for sign in text[start : start + 100])
-    front, back = (".. " if start else ""), (" .." if start + 100 < len(text) else "")
-    return [f"    {front}{shown}{back}", f"    {' ' * (len(front) + found.column - 1 - start)}^"]

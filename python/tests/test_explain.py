@@ -13,9 +13,10 @@ ROOT = Path(__file__).resolve().parents[2]
 sys.path[:0] = [str(ROOT / "python"), str(ROOT / "python" / "tests")]
 
 import wrong_inputs
-from fieldc.explain import explain, rendered, warnings
+from fieldc.explain import explain, warnings
 from fieldc.program import joined
 from fieldc.refusals import Call, Refusal, Section
+from fieldc.telling import place_of, quoted
 
 FC = os.environ.get("FC")
 CASES = wrong_inputs.all_cases()
@@ -58,14 +59,14 @@ class Tables(unittest.TestCase):
         for file, case in CASES:
             with self.subTest(file=file, case=case.name):
                 found = explain(case.call(), case.refusal())
-                lines = rendered(found).split("\n")
                 if case.at is None:
-                    self.assertEqual(lines[0], case.says)
+                    self.assertEqual(quoted(found), [])
                     continue
-                self.assertTrue(lines[0].startswith(f"{case.at[0]}.txt:{case.at[1]}:{case.at[2]}: "))
-                text = found.section.text.split("\n")[case.at[1] - 1]
-                caret = lines[2].index("^")
-                self.assertEqual(lines[1][caret : caret + 1], text[case.at[2] - 1 : case.at[2]])
+                kind, line, column = case.at
+                self.assertEqual(place_of(found), f"{kind}.txt:{line}:{column}: ")
+                shown, under = quoted(found)
+                text = found.section.text.split("\n")[line - 1]
+                self.assertEqual(shown[len(under) - 1 :][:1], text[column - 1 : column])
 
     @unittest.skipUnless(FC, "FC doesn't name the built fc, so its lines aren't compared")
     def test_lines_of_fc(self):
@@ -155,7 +156,7 @@ class Joined(unittest.TestCase):
         call = Call(("check",), (Section("program", "all", 1, "ceiling 10;\nmain = 1;\n"), Section("network", "all", 4, text)))
         found = explain(call, Refusal(3, "network", "network /links/0 self-link", call))
         self.assertEqual((found.line, found.column), (5, 12))
-        self.assertIn("all:5:12:", rendered(found))
+        self.assertEqual(place_of(found), "all:5:12: ")
 
 
 class Warned(unittest.TestCase):

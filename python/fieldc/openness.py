@@ -1,0 +1,309 @@
+"""Why a network stays open: looks for two starts from which the devices come to rest at different values.
+
+Everything is run by `fc`. A rest is a table of exports that a round in which all begin before one ends leaves as it is: then
+no firing changes anything, in whatever order. Two rests with different values are evidence that the program doesn't settle
+on this network, and so is a round that comes back after two to where it was with other values in between. Both are given
+to `fc` once more as they are written to files. That nothing is found says nothing.
+"""
+
+from __future__ import annotations
+
+import argparse
+import itertools
+import json
+import sys
+from collections.abc import Callable, Iterator, Mapping, Sequence
+from dataclasses import dataclass, replace
+from pathlib import Path
+from typing import Any
+
+from . import program as fc
+from . import results
+from .language import Unfolded, reading
+from .places import counted, listed
+from .progress import Progress
+from .refusals import Call, Fault, Section
+from .results import Values, word_of
+from .sections import write
+
+MOST_BYTES = 1_000_000
+MOST_FIRINGS = 100_000
+NUMBERS = (1, 2, 3, 4)
+SHOWN = 8
+TOGETHER, IN_TURN, BACKWARDS = "all begin before one ends", "one after the other", "one after the other, from the last on"
+ORDERS = (TOGETHER, IN_TURN, BACKWARDS)
+PAGE = "docs/settle.md"
+
+
+@dataclass(frozen=True)
+class Rest:
+    """Where the devices came to rest.
+
+    `start` says what they held at first, `order` in which order they fired, and `rounds` how many rounds it took at most.
+    `values` is what they hold, and `text` an input of `fc replay` that shows it: its log ends with a round that changes
+    nothing.
+    """
+
+    start: str
+    order: str
+    rounds: int
+    values: Values
+    text: str
+
+
+@dataclass(frozen=True)
+class Swing:
+    """A start and an order from which the devices come back after two rounds, with other values in between.
+
+    `text` is an input of `fc replay` with one round, after which they hold `after`; two rounds lead back to `before`.
+    """
+
+    start: str
+    before: Values
+    after: Values
+    text: str
+
+
+@dataclass(frozen=True)
+class Openness:
+    """What was found: two rests with different values, or a swing, or neither; and what was tried, a line each."""
+
+    rests: tuple[Rest, Rest] | None
+    swing: Swing | None
+    tried: tuple[str, ...]
+
+    @property
+    def devices(self) -> tuple[int, ...]:
+        """The devices on which the two rests, or the two rounds of the swing, differ."""
+        if self.rests is not None:
+            return differing(self.rests[0].values, self.rests[1].values)
+        return () if self.swing is None else differing(self.swing.before, self.swing.after)
+
+
+def differing(first: Values, second: Values) -> tuple[int, ...]:
+    """The devices that hold different values."""
+    return tuple(device for device in first if first[device] != second[device])
+
+
+def round_of(devices: Sequence[int], order: str) -> str:
+    """The log of a round in an order."""
+    if order == TOGETHER:
+        return "".join(f"B{d}\n" for d in devices) + "".join(f"E{d}\n" for d in devices)
+    return "".join(f"B{d}\nE{d}\n" for d in (devices if order == IN_TURN else reversed(devices)))
+
+
+class Search:
+    """Runs one program on one network from tables, by `fc`."""
+
+    def __init__(self, program: str, scene: Mapping[str, Any], waiting: Callable[[], None] | None = None) -> None:
+        self.program = program
+        self.scene = dict(scene)
+        self.waiting = waiting
+        self.devices = sorted(device["id"] for device in scene["devices"])
+        self.together = round_of(self.devices, TOGETHER)
+
+    def with_table(self, table: Mapping[str, Any] | None) -> str:
+        """The network with a table and nothing in flight, as JSON."""
+        kept = {name: self.scene[name] for name in ("devices", "links")}
+        return json.dumps(kept if table is None else {**kept, "table": table}, separators=(",", ":"))
+
+    def text(self, scene: str, log: str) -> str:
+        """An input of `fc replay`."""
+        return fc.text_of(fc.joined(self.call(scene, log).sections))
+
+    def call(self, scene: str, log: str, kind: str = "log") -> Call:
+        """What `fc replay` or `fc run` is asked."""
+        texts = (("program", self.program), ("network", scene), (kind, log))
+        words = ("replay", "--table") if kind == "log" else ("run", "--table")
+        return Call(words, tuple(Section(kind, "", 1, text) for kind, text in texts))
+
+    def replayed(self, scene: str, log: str) -> results.Replayed:
+        """What the devices hold after a log, and the table. Raises Refusal."""
+        return results.replayed(fc.answered(self.call(scene, log), self.waiting).text)
+
+    def rubbish(self, number: int) -> Mapping[str, Any] | None:
+        """The table of rubbish of a number. Raises Refusal."""
+        call = self.call(self.with_table(None), f"scramble {number}\n", "script")
+        return results.ran(fc.answered(call, self.waiting).text).table
+
+    def still(self, table: Mapping[str, Any] | None) -> bool:
+        """Whether a round in which all begin before one ends leaves a table as it is."""
+        return self.replayed(self.with_table(table), self.together).table == table
+
+    def rest(self, start: str, scene: str, before: str, order: str) -> Rest | str:
+        """Where the devices come to rest from a network by an order; what is said of the attempt where they don't.
+
+        `before` is a log that comes first. The rounds are doubled until one more changes nothing.
+        """
+        one = round_of(self.devices, order)
+        most = max(1, MOST_FIRINGS // len(self.devices))
+        rounds, log = 0, before
+        now = scene
+        while rounds < most:
+            fitting = max(1, (MOST_BYTES - len(now) - len(self.program) - len(before)) // len(one))
+            count = min(max(1, rounds), fitting, most - rounds)
+            log = (before if not rounds else "") + one * count
+            found = self.replayed(now, log)
+            rounds += count
+            now = self.with_table(found.table)
+            if self.still(found.table):
+                return Rest(start, order, rounds, found.values, self.text(now, self.together))
+        return f"no rest in {rounds:,} rounds"
+
+    def swing(self, start: str, scene: str) -> Swing | None:
+        """A swing after some rounds in which all begin before one ends, from a network; nothing where there is none."""
+        fitting = max(1, (MOST_BYTES - len(scene) - len(self.program)) // len(self.together))
+        count = min(fitting, max(1, MOST_FIRINGS // len(self.devices)))
+        first = self.replayed(scene, self.together * count)
+        now = self.with_table(first.table)
+        second = self.replayed(now, self.together)
+        third = self.replayed(self.with_table(second.table), self.together)
+        if third.table != first.table or not differing(first.values, second.values):
+            return None
+        return Swing(start, first.values, second.values, self.text(now, self.together))
+
+
+def filled(value: Any, whole: int, truth: bool) -> Any:
+    """A value of JSON with one number in the place of all numbers, and one truth value in that of all others."""
+    if isinstance(value, list):
+        return [filled(part, whole, truth) for part in value]
+    return truth if isinstance(value, bool) else whole
+
+
+def filled_table(table: Mapping[str, Any], program: Unfolded, whole: int, truth: bool) -> dict[str, Any]:
+    """A table with one number and one truth value everywhere, but for the branches that were taken."""
+    branches = {node.place for node in program.nodes if node.form == "if"}
+    rows = [
+        {
+            "id": row["id"],
+            "kept": [[place, kept if place in branches else filled(kept, whole, truth)] for place, kept in row["kept"]],
+            "value": filled(row["value"], whole, truth),
+        }
+        for row in table["rows"]
+    ]
+    return {"format": 2, "rows": rows}
+
+
+def starts(search: Search) -> Iterator[tuple[str, Mapping[str, Any] | None]]:
+    """Tables to start from, each with what it is."""
+    first = search.replayed(search.with_table(None), search.together)
+    known = reading(search.program).unfolded
+    if known is not None and first.table is not None:
+        yield "everything least", filled_table(first.table, known, 0, False)
+        yield "everything greatest", filled_table(first.table, known, known.ceiling, True)
+    yield "no exports", None
+    for number in NUMBERS:
+        yield f"the rubbish of {number}", search.rubbish(number)
+
+
+def look(
+    program: str, scene: Mapping[str, Any], *, from_table: bool = False, waiting: Callable[[], None] | None = None
+) -> Openness:
+    """Looks for two rests with different values, from several tables and by several orders.
+
+    With `from_table` all starts are the table and the pending firings of the network, and only the orders differ. Raises
+    Refusal where `fc` refuses program or network.
+    """
+    search = Search(program, scene, waiting)
+    tried: list[str] = []
+    found: list[Rest] = []
+    for start, given, before in _given(search, from_table):
+        for order in ORDERS:
+            rest = search.rest(start, given, before, order)
+            tried.append(f"{start}, {order}: {_outcome(rest)}")
+            if isinstance(rest, str):
+                swing = search.swing(start, given) if order == TOGETHER and not before else None
+                if swing is not None and not from_table:
+                    return Openness(None, swing, tuple(tried))
+                continue
+            other = next((old for old in found if differing(old.values, rest.values)), None)
+            if other is not None:
+                pair = (other, rest)
+                if from_table:
+                    pair = (_led(search, given, before, other), _led(search, given, before, rest))
+                return Openness(confirmed(search, pair), None, tuple(tried))
+            found.append(rest)
+    return Openness(None, None, tuple(tried))
+
+
+def _outcome(rest: Rest | str) -> str:
+    return rest if isinstance(rest, str) else f"at rest after at most {counted(rest.rounds, 'round')}"
+
+
+def _given(search: Search, from_table: bool) -> Iterator[tuple[str, str, str]]:
+    """The networks to start from, each with what it is and the log that comes first."""
+    if not from_table:
+        for start, table in starts(search):
+            yield start, search.with_table(table), ""
+        return
+    pending = sorted(copy["id"] for copy in search.scene.get("pending", ()))
+    before = "".join(f"E{device}\n" for device in pending)
+    yield "the table of the network", json.dumps(search.scene, separators=(",", ":")), before
+
+
+def _led(search: Search, scene: str, before: str, rest: Rest) -> Rest:
+    """A rest whose input begins at the network itself, where it isn't too long for that."""
+    log = before + round_of(search.devices, rest.order) * rest.rounds + search.together
+    text = search.text(scene, log)
+    return replace(rest, text=text) if len(text) <= MOST_BYTES else rest
+
+
+def confirmed(search: Search, pair: tuple[Rest, Rest]) -> tuple[Rest, Rest]:
+    """The two rests, once `fc replay` has said of each input that it leads to these values. Raises Fault where it hasn't."""
+    for rest in pair:
+        program, scene, log = rest.text.split("\n%%\n")
+        if search.replayed(scene, log).values != rest.values:
+            raise Fault("a rest that was found isn't confirmed by fc: please report this with the program and network")
+    return pair
+
+
+def told(found: Openness, names: Sequence[str]) -> str:
+    """What was found, in words; `names` are the files to which the inputs were written."""
+    if found.rests is not None:
+        lines = ["Two starts rest apart, so the program doesn't settle on this network:"]
+        for rest, name in zip(found.rests, names):
+            lines.append(f"  from {rest.start}, {rest.order}, at most {counted(rest.rounds, 'round')}: {shown(rest.values, found.devices)}")
+            lines.append(f"    fc replay < {name} writes these values, and --table the table that no firing changes")
+        return "\n".join([*lines, _differ(found.devices)]) + "\n"
+    if found.swing is not None:
+        swing = found.swing
+        lines = [
+            "The devices swing for ever, so the program doesn't settle on this network:",
+            f"  from {swing.start}, where {TOGETHER}, they hold in turn",
+            f"    {shown(swing.before, found.devices)}",
+            f"    {shown(swing.after, found.devices)}",
+            f"    fc replay --table < {names[0]} makes one round; a second one leads back",
+        ]
+        return "\n".join([*lines, _differ(found.devices)]) + "\n"
+    lines = ["No two starts were found that rest apart. That doesn't say that there are none. Tried from"]
+    return "\n".join([*lines, *(f"  {line}" for line in found.tried)]) + "\n"
+
+
+def _differ(devices: Sequence[int]) -> str:
+    named = listed([str(device) for device in devices[:SHOWN]] + [f"{len(devices) - SHOWN:,} more"] * (len(devices) > SHOWN))
+    return f"They differ at {'device' if len(devices) == 1 else 'the devices'} {named}."
+
+
+def shown(values: Values, devices: Sequence[int]) -> str:
+    """The values of some devices, and that there are more."""
+    words = [f"{device}: {word_of(values[device])}" for device in devices[:SHOWN]]
+    return ", ".join(words) + (", .." if len(devices) > SHOWN else "")
+
+
+def free_names(count: int, folder: Path) -> list[str]:
+    """Names of files that aren't there yet."""
+    free = (f"open_{number}.txt" for number in itertools.count(1))
+    return list(itertools.islice((name for name in free if not (folder / name).exists()), count))
+
+
+def perform(options: argparse.Namespace, call: Call) -> None:
+    """Looks, writes the inputs that show what was found to files here, and tells of it on standard error."""
+    texts = {section.kind: section.text for section in call.sections}
+    scene = json.loads(texts["network"])
+    with Progress(lambda: "looking for two starts that rest apart") as waiting:
+        found = look(texts["program"], scene, from_table=getattr(options, "from_table", False), waiting=waiting)
+    inputs = [rest.text for rest in found.rests] if found.rests else [found.swing.text] if found.swing else []
+    names = free_names(len(inputs), Path.cwd())
+    for name, text in zip(names, inputs):
+        write(name, text)
+    sys.stderr.write(told(found, names))
