@@ -20,9 +20,9 @@ from .refusals import Call, Explanation, Refusal, Section, plain_explanation
 STATUSES = FORMATS + "#statuses"
 PROGRAM_LIMITS = ("tokens", "depth", "nodes")
 SILENT = {
-    5: Said("Reading the input failed, so nothing was done.", None, None, "Try it once more, or give the input as a file.", STATUSES),
-    6: Said("Writing the output failed, so only a part of it is there.", None, None, "Look whether the disk is full, or the reader of a pipe ended.", STATUSES),
-    7: Said("There was not enough memory.", None, None, "Take fewer devices, or a program of fewer nodes.", STATUSES),
+    5: ("Reading the input failed, so nothing was done.", "Try it once more, or give the input as a file."),
+    6: ("Writing the output failed, so only a part of it is there.", "Look whether the disk is full, or a pipe ended."),
+    7: ("There was not enough memory.", "Take fewer devices, or a program of fewer nodes."),
 }
 
 
@@ -37,7 +37,10 @@ def explain(call: Call, refusal: Refusal) -> Explanation:
 
 def _said(call: Call, refusal: Refusal) -> tuple[Section | None, Said | None]:
     if not refusal.line:
-        return None, SILENT.get(refusal.status)
+        if refusal.status not in SILENT:
+            return None, None
+        what, hint = SILENT[refusal.status]
+        return None, Said(what, None, None, hint, STATUSES)
     words = refusal.line.split(" ")
     rule = RULES.get(refusal.word)
     return rule(call, words) if rule is not None else (None, None)
@@ -73,7 +76,8 @@ def _no(call: Call, words: list[str]) -> tuple[Section | None, Said | None]:
 
 
 def _open(_call: Call, _words: list[str]) -> tuple[Section | None, Said | None]:
-    what = "For some device no number of rounds was found after which it holds one value, whatever the devices hold at the start."
+    what = "For some device no number of rounds was found after which it holds one value"
+    what += ", whatever the devices hold at the start."
     hint = "`fieldc settle` looks for two starts from which the devices come to rest at different values."
     return None, Said(what, None, None, hint, "docs/settle.md")
 
@@ -151,10 +155,15 @@ def _network_limit(call: Call, name: str, count: int) -> tuple[Section | None, S
 def _other_limit(call: Call, name: str, count: int) -> Said | None:
     words = {
         "workers": (f"{count} workers are asked for, and at most 16 may work.", "Write `--workers 16`.", "#the-calls"),
-        "devices": (f"{count} devices are asked for, and a scenario has at most 512.", "Write `--devices 512`.", "#the-scenario-of-a-number"),
+        "devices": (
+            f"{count} devices are asked for, and a scenario has at most 512.",
+            "Write `--devices 512`.",
+            "#the-scenario-of-a-number",
+        ),
         "bytes": ("The input has more than 1,048,576 bytes.", "Take a smaller network, or a shorter log.", "#the-input"),
         "mail": (
-            f"It would take {count:,} steps, the rounds of the verdict times the sum of the devices and twice the links, and at most 1,000,000 are made.",
+            f"It would take {count:,} steps, the rounds of the verdict times the sum of the devices and twice the links"
+            ", and at most 1,000,000 are made.",
             "Take a smaller network, or a lower ceiling, with which the verdict has fewer rounds.",
             "#statuses",
         ),

@@ -72,14 +72,16 @@ def _object(text: str, found: Json, form: str) -> Said | None:
         if form == "table" and found.kind == "array":
             return None
         hint = f"It has the members {names}." if form != "table" else "It is an array of rows, or what `--table` writes."
-        return Said(f"{FORMS[form].capitalize()} is an object, and {shown(found, text)} is none.", found.at, None, hint, SCENE)
+        what = f"{FORMS[form].capitalize()} is an object, and {shown(found, text)} is none."
+        return Said(what, found.at, None, hint, SCENE)
     for name, place in found.keys.items():
         if name not in needed + more:
             what = f"{FORMS[form].capitalize()} has no member `{name}`."
             return Said(what, place, name, f"Its members are {listed([f'`{word}`' for word in needed + more])}.", SCENE)
     for name in needed:
         if name not in found.members:
-            return Said(f"The member `{name}` is missing here.", found.at, name, f"{FORMS[form].capitalize()} has {names}.", SCENE)
+            hint = f"{FORMS[form].capitalize()} has {names}."
+            return Said(f"The member `{name}` is missing here.", found.at, name, hint, SCENE)
     return None
 
 
@@ -98,7 +100,8 @@ def _member(text: str, scene: Json, path: str, found: Json, program: Unfolded) -
     if step == "weight" and found.whole is None:
         return Said(f"A weight is a whole number, and {shown(found, text)} is none.", found.at, step, None, SCENE)
     if step == "format":
-        return Said(f"There is no format {shown(found, text)} of tables.", found.at, step, "Write `2`, as `--table` does.", SCENE)
+        what = f"There is no format {shown(found, text)} of tables."
+        return Said(what, found.at, step, "Write `2`, as `--table` does.", SCENE)
     if step == "own":
         return Said(f"`own` is an export or `null`, and {shown(found, text)} is neither.", found.at, step, None, SCENE)
     return None
@@ -145,12 +148,16 @@ def _inputs(text: str, _scene: Json, path: str, found: Json, program: Unfolded) 
             return Said(what, place, name, f"It declares {_declared(program)}.", NETWORK)
     for name in names:
         if name not in found.members:
-            return Said(f"The input `{name}` has no value here.", found.at, name, f"The program declares {_declared(program)}.", NETWORK)
+            hint = f"The program declares {_declared(program)}."
+            return Said(f"The input `{name}` has no value here.", found.at, name, hint, NETWORK)
     return None
 
 
 def _declared(program: Unfolded) -> str:
-    kinds = [f"`{p.name}: int {p.bounds[0][0]}..{p.bounds[1][0]}`" if p.bounds else f"`{p.name}: bool`" for p in program.inputs]
+    kinds = []
+    for part in program.inputs:
+        kind = f"int {part.bounds[0][0]}..{part.bounds[1][0]}" if part.bounds else "bool"
+        kinds.append(f"`{part.name}: {kind}`")
     return listed(kinds) if kinds else "no inputs"
 
 
@@ -220,7 +227,8 @@ def network(text: str, scene: Json, path: str, word: str, program: Unfolded) -> 
     if word == "twice":
         before = _before(scene, path.rpartition("/")[0], found.whole)
         where = f", on line {before.line}, column {before.column}" if before is not None else ""
-        return Said(f"Device {found.whole} stands there before{where}.", found.at, str(found.whole), "Give it another number.", NETWORK)
+        what = f"Device {found.whole} stands there before{where}."
+        return Said(what, found.at, str(found.whole), "Give it another number.", NETWORK)
     if word == "weight":
         weight = found.items[2] if found.kind == "array" and len(found.items) == 3 else found
         return _weight(weight, program)
@@ -266,7 +274,8 @@ def _weight(found: Json, program: Unfolded) -> Said | None:
     low, high = program.metric
     if (low, high) == (1, 1):
         hint = "Write 1, or declare a metric in the program, as `metric 1..9;`."
-        return Said(f"Each link weighs 1 in this program, and this one {found.whole}.", found.at, str(found.whole), hint, NETWORK)
+        what = f"Each link weighs 1 in this program, and this one {found.whole}."
+        return Said(what, found.at, str(found.whole), hint, NETWORK)
     what = f"The metric of the program is {low} to {high}, and this link weighs {found.whole}."
     return Said(what, found.at, str(found.whole), "Change the weight, or the metric in the program.", NETWORK)
 

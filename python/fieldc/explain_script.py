@@ -95,7 +95,8 @@ def _no_input(line: Line, kind: str, _net: Net, program: Unfolded) -> Said:
         what = f"Device {device} joins with {given}, and the program declares {wanted}."
         return Said(what, line.words[1].at, device, f"Write a value for each, in declared order: {names}.", PAGES[kind])
     name = line.words[2]
-    return Said(f"The program declares no input named `{name.text}`.", name.at, name.text, f"It declares {names}.", PAGES[kind])
+    what = f"The program declares no input named `{name.text}`."
+    return Said(what, name.at, name.text, f"It declares {names}.", PAGES[kind])
 
 
 def _inputs(line: Line, program: Unfolded) -> list[tuple[Declaration, Word]]:
@@ -189,8 +190,8 @@ def _empty(line: Line, kind: str, net: Net, _program: Unfolded) -> Said:
     count = net.transit.get((a, b), 0)
     if line.verb == "lose" and count:
         place = line.words[3]
-        numeral = "One message" if count == 1 else f"{count} messages"
-        what = f"{numeral} from {a} to {b} {'is' if count == 1 else 'are'} in transit at this line, counted from 0, and none is number {place.text}."
+        numeral = f"One message from {a} to {b} is" if count == 1 else f"{count} messages from {a} to {b} are"
+        what = f"{numeral} in transit at this line, counted from 0, and none is number {place.text}."
         return Said(what, place.at, place.text, None, PAGES[kind])
     what = f"No message from {a} to {b} is in transit at this line."
     return Said(what, word.at, f"{a} {b}", f"Device {a} sends one whenever it ends a firing.", PAGES[kind])
@@ -228,7 +229,8 @@ def limit_scrambles(section: Section) -> Said | None:
     found = [line for line in in_order(lines_of(section), "script") if line.verb == "scramble"]
     if len(found) <= MOST_SCRAMBLES:
         return None
-    return Said("This is the fifth `scramble`, and a script has at most four.", found[MOST_SCRAMBLES].at, "scramble", None, PAGES["script"])
+    what = "This is the fifth `scramble`, and a script has at most four."
+    return Said(what, found[MOST_SCRAMBLES].at, "scramble", None, PAGES["script"])
 
 
 def limit_firings(section: Section, count: int, scene: Json) -> Said | None:
@@ -240,8 +242,10 @@ def limit_firings(section: Section, count: int, scene: Json) -> Said | None:
         if total > MOST_FIRINGS:
             if total != count:
                 return None
-            what = f"Up to this line the script asks for {count:,} firings, rounds times devices, and at most {MOST_FIRINGS:,} are run."
-            return Said(what, line.words[1].at, None, "Run fewer rounds: `check --settle` says how many are enough.", PAGES["script"])
+            what = f"Up to this line the script asks for {count:,} firings, rounds times devices"
+            what += f", and at most {MOST_FIRINGS:,} are run."
+            hint = "Run fewer rounds: `check --settle` says how many are enough."
+            return Said(what, line.words[1].at, None, hint, PAGES["script"])
         net.step(line)
     return None
 

@@ -55,7 +55,8 @@ class Verdict:
         use = f"its `{node.name}` on {self.where(self.nodes[blame.part].expr.at)}"
         if blame.case == "if":
             hint = f"Choose by `mux`, which parts nobody, or put the whole `{node.form}` into the branches of the `if`."
-            return f"{use} stands beneath the `if` on {self.where(outer.expr.at)}, where only those are heard that take the same branch", hint
+            why = f"{use} stands beneath the `if` on {self.where(outer.expr.at)}"
+            return f"{why} where only those are heard that take the same branch", hint
         if blame.case == "let" and outer.expr.form == "call":
             hint = f"Write the body of `{outer.expr.name}` out here, or call it outside of the `{node.form}`."
             call = f"the call of `{outer.expr.name}` on {self.where(outer.expr.at)}"
@@ -64,7 +65,8 @@ class Verdict:
             if node.form == "share":
                 hint = f"In a `share`, `{node.name}` is what is heard already: leave the `nbr` out."
                 return f"{use} stands beneath the `nbr` on {self.where(outer.expr.at)}", hint
-            hint = f"Share `{node.name}` alone, and compute with what is heard: `nbr{{{node.name}}} + 1` in place of `nbr{{{node.name} + 1}}`."
+            share = f"`{self.heard(blame)} + 1` in place of `nbr{{{node.name} + 1}}`"
+            hint = f"Share `{node.name}` alone, and compute with what is heard: {share}."
             return f"{self.part(blame.round)} shares more than `{node.name}` alone", hint
         hint = f"Move it out of the body, and write `{self.heard(blame)}` where it is used."
         return f"{use} stands beneath the `{outer.form}` of `{outer.name}` on {self.where(outer.expr.at)}", hint
@@ -74,7 +76,9 @@ class Verdict:
         why = f"its `{name}` on {self.where(self.nodes[blame.part].expr.at)} is what the device itself held"
         if self.nodes[blame.round].name == "rise":
             return why, f"Only the second argument of a `rise(a, {name}, s)` that is the whole body may be that."
-        return why, f"Use what the neighbours held, `nbr{{{name}}}`, inside `minHoodLoc` or behind a guard `mux(nbr{{p}} < p, nbr{{{name}}}, 0)`."
+        heard = f"nbr{{{name}}}"
+        guard = GUARD.replace("nbr{x}", heard)
+        return why, f"Use what the neighbours held, `{heard}`, inside `minHoodLoc` or behind a guard `{guard}`."
 
     def _potential(self, blame: Blame) -> tuple[str, str]:
         guard, part = self.part(blame.round), self.nodes[blame.part]
@@ -83,10 +87,11 @@ class Verdict:
             return f"its guard {guard} compares `{part.name}`, which is a `{part.type}` and no integer", hint
         if blame.case == "another":
             return f"its guard {guard} compares `{part.name}` with another potential", hint
-        return f"its guard {guard} compares {quoted(self.program.text, part.expr)}, which isn't a name that is bound outside", hint
+        compared = quoted(self.program.text, part.expr)
+        return f"its guard {guard} compares {compared}, which isn't a name that is bound outside", hint
 
     def _no_growth(self, blame: Blame) -> tuple[str, str]:
-        heard = self.heard(blame)
+        heard, name = self.heard(blame), self.nodes[blame.place].name
         part = self.part(blame.part)
         if blame.case == "-":
             hint = f"Add to what is heard, as `{heard} + 1`, and subtract outside of the `{self.nodes[blame.place].form}`."
@@ -100,13 +105,16 @@ class Verdict:
         if blame.case == "times-zero":
             return f"what it hears may be multiplied by 0, in {part}", "Multiply by what is at least 1, such as `max(1, ..)`."
         if blame.case == "twice":
-            return f"what it hears stands on both sides of {part}", f"Write `{heard}` once: in place of a sum of two, `2 * {heard}`."
+            hint = f"Write `{heard}` once: in place of a sum of two, `2 * {heard}`."
+            return f"what it hears stands on both sides of {part}", hint
         if blame.case == "choice":
-            return f"what it hears decides the choice of {part}", f"Choose by what doesn't depend on `{self.nodes[blame.place].name}`."
+            return f"what it hears decides the choice of {part}", f"Choose by what doesn't depend on `{name}`."
         if blame.case == "pair":
-            hint = f"The first part has to be an integer that grows, and the second one `snd({heard})`, or without `{self.nodes[blame.place].name}`."
+            hint = "The first part has to be an integer that grows"
+            hint += f", and the second one `snd({heard})`, or without `{name}`."
             return f"of the pair {part} it isn't known that it grows", hint
-        return f"of {part} it isn't known that it grows from neighbour to neighbour", f"Add to what is heard, as `{heard} + 1`."
+        why = f"of {part} it isn't known that it grows from neighbour to neighbour"
+        return why, f"Add to what is heard, as `{heard} + 1`."
 
     def _growth_zero(self, blame: Blame) -> tuple[str, str]:
         why = f"what it hears, {self.part(blame.part)}, may stay as it is from neighbour to neighbour"
@@ -120,23 +128,35 @@ class Verdict:
 
     def _lead_at_ceiling(self, blame: Blame) -> tuple[str, str]:
         ceiling = self.program.ceiling
-        why = f"its local pair {self.part(blame.part)} may have the ceiling {ceiling} as its first part, where pairs no longer grow"
-        return why, f"Keep the first part below the ceiling, at {ceiling - 1}."
+        why = f"its local pair {self.part(blame.part)} may have the ceiling {ceiling} as its first part"
+        return f"{why}, where pairs no longer grow", f"Keep the first part below the ceiling, at {ceiling - 1}."
 
     def _rise_zero(self, blame: Blame) -> tuple[str, str]:
-        return f"the limit of its `rise`, {self.part(blame.part)}, may be 0, and then nothing may rise", "Take a limit of at least 1."
+        why = f"the limit of its `rise`, {self.part(blame.part)}, may be 0, and then nothing may rise"
+        return why, "Take a limit of at least 1."
 
     def _converging(self, blame: Blame) -> tuple[str, str]:
-        name, heard, part = self.nodes[blame.place].name, self.heard(blame), self.part(blame.part)
+        heard, part = self.heard(blame), self.part(blame.part)
         guard = GUARD.replace("nbr{x}", heard)
-        words = {
+        words = self._half_guarded(blame, heard, part, guard) | self._half_formed(blame, heard, part)
+        collected = (
+            f"{part} hears all neighbours, without a guard",
+            f"Bind a potential outside, as `let p = .. in`, and hear those alone that are lower: `{guard}`.",
+        )
+        return words.get(blame.case, collected)
+
+    def _half_guarded(self, blame: Blame, heard: str, part: str, guard: str) -> dict[str, tuple[str, str]]:
+        """What is said where a guard isn't quite one."""
+        name = self.nodes[blame.place].name
+        return {
             "behind": (
                 f"what stands behind its guard, {part}, isn't `{heard}` alone",
                 f"Guard first, `{guard}`, and compute with that outside of the guard.",
             ),
             "turned": (
                 f"its guard {part} has the neighbour's value on the right",
-                "Write `nbr{p} < p`, which hears those that are lower; to hear those that are higher, bind the potential the other way round.",
+                "Write `nbr{p} < p`, which hears those that are lower; to hear those that are higher, "
+                "bind the potential the other way round.",
             ),
             "otherwise": (
                 f"{part} stands where its guard isn't true, as the third argument of `mux`",
@@ -146,30 +166,34 @@ class Verdict:
                 f"behind its guard, beside what is heard, {part} hears `{name}` too",
                 f"Write `{guard}`, with a third argument that is without `{name}`.",
             ),
+        }
+
+    def _half_formed(self, blame: Blame, heard: str, part: str) -> dict[str, tuple[str, str]]:
+        """What is said where a least value, or a rise, isn't quite of the form."""
+        node = self.nodes[blame.place]
+        return {
             "maxHoodLoc": (
                 f"{part} takes a greatest value, which may be handed round for ever",
                 f"Take a least value that grows: `minHoodLoc({heard} + 1, ..)`; or collect along a potential, behind guards.",
             ),
             "minHoodLoc": (
                 f"{part} isn't the whole body, and what is done with it is of no known form",
-                f"Keep the `minHoodLoc` alone in the `{self.nodes[blame.place].form}`, and compute with it outside.",
+                f"Keep the `minHoodLoc` alone in the `{node.form}`, and compute with it outside.",
             ),
-            "limit": (f"the limit of its `rise`, {part}, depends on `{name}`", "Take a limit that doesn't."),
+            "limit": (f"the limit of its `rise`, {part}, depends on `{node.name}`", "Take a limit that doesn't."),
             "risen": (
                 f"the first argument of its `rise`, {part}, isn't a `minHoodLoc`",
-                f"Write `rise(minHoodLoc({heard} + 1, ..), {name}, s)`.",
+                f"Write `rise(minHoodLoc({heard} + 1, ..), {node.name}, s)`.",
             ),
             "local": (
-                f"the second argument of its `minHoodLoc`, {part}, hears `{name}` too",
+                f"the second argument of its `minHoodLoc`, {part}, hears `{node.name}` too",
                 "Take a second argument that doesn't.",
             ),
-            "": (f"its body {part} is none of the known ones", "Write it as a least value over the neighbours, or collect along a potential."),
+            "": (
+                f"its body {part} is none of the known ones",
+                "Write it as a least value over the neighbours, or collect along a potential.",
+            ),
         }
-        collected = (
-            f"{part} hears all neighbours, without a guard",
-            f"Bind a potential outside, as `let p = .. in`, and hear those alone that are lower: `{guard}`.",
-        )
-        return words.get(blame.case, collected)
 
 
 def no_walks(program: Unfolded, main: At) -> Said:

@@ -61,7 +61,8 @@ def usage(words: tuple[str, ...]) -> Said | None:
     if command == "gen" and not numbers:
         return Said("`gen` needs the number of a scenario.", None, "gen", "Write `gen 7`.", CALLS)
     if "--from-table" in seen and "--settle" not in seen:
-        return Said("`--from-table` stands beside `--settle` alone.", None, "--from-table", "Write `check --settle --from-table`.", CALLS)
+        hint = "Write `check --settle --from-table`."
+        return Said("`--from-table` stands beside `--settle` alone.", None, "--from-table", hint, CALLS)
     return None
 
 

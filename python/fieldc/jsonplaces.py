@@ -186,8 +186,8 @@ class _Reader:
             raise self.ended(kind, start)
         if sign not in (",", closer):
             place = self.at(start)
-            what = f"A `,` or `{closer}` is missing here, in the {kind} that begins on line {place.line}, column {place.column}."
-            raise self.fault(what)
+            where = f"the {kind} that begins on line {place.line}, column {place.column}"
+            raise self.fault(f"A `,` or `{closer}` is missing here, in {where}.")
         self.place += 1
         if sign == "," and self.spaces() == closer:
             comma = self.text.rindex(",", 0, self.place)
@@ -208,7 +208,8 @@ class _Reader:
                 raise self.ended("object", start)
             if sign != '"':
                 word = _whole(NAME, self.text, self.place) or sign
-                raise self.fault(f"The name of a member stands in double quotes, and here is `{_shown(word)}`.", word, 'Write `"id"`.')
+                what = f"The name of a member stands in double quotes, and here is `{_shown(word)}`."
+                raise self.fault(what, word, 'Write `"id"`.')
             key_at = self.at(self.place)
             name = self.string()
             if self.spaces() != ":":

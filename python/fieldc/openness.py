@@ -262,7 +262,8 @@ def told(found: Openness, names: Sequence[str]) -> str:
     if found.rests is not None:
         lines = ["Two starts rest apart, so the program doesn't settle on this network:"]
         for rest, name in zip(found.rests, names):
-            lines.append(f"  from {rest.start}, {rest.order}, at most {counted(rest.rounds, 'round')}: {shown(rest.values, found.devices)}")
+            way = f"from {rest.start}, {rest.order}, at most {counted(rest.rounds, 'round')}"
+            lines.append(f"  {way}: {shown(rest.values, found.devices)}")
             lines.append(f"    fc replay < {name} writes these values, and --table the table that no firing changes")
         return "\n".join([*lines, _differ(found.devices)]) + "\n"
     if found.swing is not None:

@@ -114,7 +114,8 @@ def _strange(line: Line, kind: str) -> Said:
         hint = "There are no comments here."
     elif hint is None:
         near = difflib.get_close_matches(first.text, LINES[kind], 1)
-        hint = f"Is `{near[0]}` meant?" if near else f"The lines are {', '.join(f'`{form}`' for form in LINES[kind].values())}."
+        forms = ", ".join(f"`{form}`" for form in LINES[kind].values())
+        hint = f"Is `{near[0]}` meant?" if near else f"The lines are {forms}."
     return Said(f"`{first.text}` begins no line of {TITLES[kind]}.", first.at, first.text, hint, PAGES[kind])
 
 
@@ -190,7 +191,8 @@ def _mix(words: tuple[Word, ...], kind: str) -> Said | None:
     page = PAGES[kind]
     if len(words) < 3:
         place = At(words[-1].at.line, words[-1].at.column + len(words[-1].text))
-        return Said("Behind `mix` stand a number of rounds and an edit.", place, "mix", "Write `mix 5 set 0 src false`.", page)
+        what = "Behind `mix` stand a number of rounds and an edit."
+        return Said(what, place, "mix", "Write `mix 5 set 0 src false`.", page)
     fault = _number(words[1], page)
     if fault is not None:
         return fault

@@ -34,7 +34,8 @@ def kind_text(kind: Type) -> str:
 
 
 def no_ceiling(place: At) -> Complaint:
-    return Complaint("The ceiling is 0, and has to be at least 1.", place, "ceiling", "Take the greatest number that is needed.")
+    what = "The ceiling is 0, and has to be at least 1."
+    return Complaint(what, place, "ceiling", "Take the greatest number that is needed.")
 
 
 def bad_range(declaration: Declaration, ceiling: int) -> Complaint:
@@ -42,7 +43,8 @@ def bad_range(declaration: Declaration, ceiling: int) -> Complaint:
     of = f"the input `{declaration.name}`" if declaration.form == "input" else "the metric"
     name = declaration.name or "metric"
     if low > high:
-        return Complaint(f"The range of {of} has its least, {low}, above its greatest, {high}.", low_at, name, "Turn them round.")
+        what = f"The range of {of} has its least, {low}, above its greatest, {high}."
+        return Complaint(what, low_at, name, "Turn them round.")
     hint = f"Lower it, or raise the ceiling to {high}."
     return Complaint(f"The range of {of} ends at {high}, above the ceiling {ceiling}.", high_at, name, hint)
 
@@ -79,7 +81,8 @@ def unknown_variable(expr: Expr, scope: Mapping[str, Bound], known: Known) -> Co
     if name in known.inputs:
         hint = f"An input is read by `sense {name}`."
     elif name in known.functions:
-        hint = f"A function is called with round brackets: `{name}({', '.join('..' for _ in known.functions[name].parameters)})`."
+        dots = ", ".join(".." for _ in known.functions[name].parameters)
+        hint = f"A function is called with round brackets: `{name}({dots})`."
     elif hint_for(name):
         hint = hint_for(name)
     elif near:
@@ -135,13 +138,15 @@ def other_count(expr: Expr, function: Declaration) -> Complaint:
 
 
 def other_argument(text: str, expr: Expr, kid: Expr, found: Type, parameter: Parameter) -> Complaint:
-    what = f"The argument `{parameter.name}` of `{expr.name}` is {kind_text(parameter.type)}, and {quoted(text, kid)} is {kind_text(found)}."
+    wanted = f"The argument `{parameter.name}` of `{expr.name}` is {kind_text(parameter.type)}"
+    what = f"{wanted}, and {quoted(text, kid)} is {kind_text(found)}."
     return Complaint(what, kid.at, parameter.name, _towards(parameter.type, found))
 
 
 def other_result(declaration: Declaration, found: Type) -> Complaint:
     assert declaration.result is not None and declaration.body is not None
-    what = f"The body of `{declaration.name}` is {kind_text(found)}, and its result is declared as {kind_text(declaration.result)}."
+    what = f"The body of `{declaration.name}` is {kind_text(found)}"
+    what += f", and its result is declared as {kind_text(declaration.result)}."
     hint = _towards(declaration.result, found) or f"Declare the result as `{found}`, or change the body."
     return Complaint(what, declaration.body.at, declaration.name, hint)
 
@@ -168,7 +173,8 @@ def field_in_if(text: str, expr: Expr, kid: Expr) -> Complaint:
 
 
 def other_body(text: str, expr: Expr, first: Type, body: Type) -> Complaint:
-    what = f"The body of this `{expr.form}` is {kind_text(body)}, and its first value {quoted(text, expr.kids[0])} is {kind_text(first)}."
+    what = f"The body of this `{expr.form}` is {kind_text(body)}"
+    what += f", and its first value {quoted(text, expr.kids[0])} is {kind_text(first)}."
     return Complaint(what, expr.kids[1].at, expr.name, "Both have the type of what is kept.")
 
 
@@ -179,7 +185,8 @@ def no_condition(text: str, word: str, kid: Expr, found: Type) -> Complaint:
 
 
 def other_choices(text: str, word: str, kid: Expr, first: Type, second: Type) -> Complaint:
-    what = f"Both choices of `{word}` have one type; the first is {kind_text(first)}, and {quoted(text, kid)} is {kind_text(second)}."
+    what = f"Both choices of `{word}` have one type; the first is {kind_text(first)}"
+    what += f", and {quoted(text, kid)} is {kind_text(second)}."
     return Complaint(what, kid.at, word, None)
 
 
@@ -196,7 +203,8 @@ def mismatch(text: str, expr: Expr, found: list[Type]) -> Complaint:
         what = f"`{name}` takes a part of a pair, and {quoted(text, expr.kids[0])} is {kind_text(found[0])}."
         return Complaint(what, expr.kids[0].at, name, None)
     if name in ("min", "max", "<", "="):
-        what = f"`{name}` takes two values of one type; the first is {kind_text(found[0])}, and the second is {kind_text(found[1])}."
+        what = f"`{name}` takes two values of one type; the first is {kind_text(found[0])}"
+        what += f", and the second is {kind_text(found[1])}."
         return Complaint(what, expr.kids[1].at, name, None)
     wanted = "bool" if name in ("and", "or", "not") else "int"
     place = next(place for place, kind in enumerate(found) if kind.local != wanted)
@@ -215,8 +223,8 @@ def _hood_mismatch(text: str, expr: Expr, found: list[Type]) -> Complaint:
         return Complaint(what, kid.at, name, "What the neighbours share is `nbr{..}`.")
     if name in ("minHoodLoc", "maxHoodLoc"):
         second = expr.kids[1]
-        what = f"The second argument of `{name}` is one value of the type of the first one's; {quoted(text, second)} is {kind_text(found[1])}"
-        what += f", and wanted is {kind_text(Type(found[0].local))}."
+        what = f"The second argument of `{name}` is one value of the type of the first one's; "
+        what += f"{quoted(text, second)} is {kind_text(found[1])}, and wanted is {kind_text(Type(found[0].local))}."
         return Complaint(what, second.at, name, OUT_OF_A_FIELD if found[1].field else None)
     wanted = "int" if name == "sumHood" else "bool"
     what = f"`{name}` takes a field of {PLURAL[wanted]}, and {quoted(text, kid)} is {kind_text(found[0])}."

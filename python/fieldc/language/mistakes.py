@@ -342,7 +342,8 @@ def in_keeping(stuck: Stuck) -> Advice | None:
         return advice(here, "Between the variable of a `rep` or `share` and its body stands `=>`.", form)
     if stuck.kind in ("COLON", "COMMA") and stuck.kind_of(stuck.index - 3) == "BEGIN":
         if stuck.kind == "COLON":
-            return advice(here, "The variable of a `rep` or `share` has the type of the first value, and none is written.", form)
+            what = "The variable of a `rep` or `share` has the type of the first value, and none is written."
+            return advice(here, what, form)
         return advice(here, "A `rep` or `share` has one variable.", "Keep two values as a pair: `rep((0, 0)){(p) => ..}`.")
     return None
 
@@ -395,11 +396,15 @@ def in_brackets(stuck: Stuck) -> Advice | None:
         if CLOSERS[first.type] != stuck.kind:
             what = f"The {code(first)} on line {first.line}, column {first.column}, is closed by {code(stuck.here)}."
             return advice(stuck.here, what, f"Close it by `{MARKS[CLOSERS[first.type]]}`.")
-    ends = stuck.here is None or stuck.kind == "SEMI" or stuck.kind in DECLARING
-    if ends and brackets:
-        first = stuck.tokens[brackets[-1]]
-        if CLOSERS[first.type] in stuck.expected:
-            return advice(first, f"This {code(first)} is never closed.", f"Write `{MARKS[CLOSERS[first.type]]}` where it ends.")
+    if not brackets or not stuck.expected & {CLOSERS[stuck.kind_of(brackets[-1])], "COMMA"}:
+        return None
+    first = stuck.tokens[brackets[-1]]
+    hint = f"Write `{MARKS[CLOSERS[first.type]]}` where it ends."
+    if stuck.here is None or stuck.kind == "SEMI" or stuck.kind in DECLARING:
+        return advice(first, f"This {code(first)} is never closed.", hint)
+    if stuck.kind == "COMMA" and first.type == "BEGIN":
+        what = f"The {code(first)} on line {first.line}, column {first.column}, isn't closed before this `,`."
+        return advice(stuck.here, what, hint)
     return None
 
 

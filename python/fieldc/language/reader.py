@@ -241,7 +241,8 @@ def _of_language_2(token: Token, second: bool) -> bool:
 
 
 def _other_language(piece: Piece) -> bool:
-    return piece.tokens[0].type == "LANGUAGE" and number_of(piece.tokens[1]) != 2
+    word, number = piece.tokens[:2]
+    return word.type == "LANGUAGE" and number.type == "NUMBER" and number_of(number) != 2
 
 
 def read(text: str) -> Program:

@@ -146,7 +146,10 @@ RULES = {"language": _language, "ceiling": _ceiling, "input": _input, "metric": 
 
 
 def type_of(expr: Expr, scope: Scope, known: Known) -> Type:
-    """The type of an expression in a scope. Raises Wrong with the first fault, kids from left to right before their parent."""
+    """The type of an expression in a scope.
+
+    Raises Wrong with the first fault, kids from left to right before their parent.
+    """
     found = FORMS[expr.form](expr, scope, known)
     known.types[expr] = found
     return found
