@@ -10,12 +10,14 @@ from __future__ import annotations
 from collections.abc import Callable
 
 from . import explain_network, explain_script
+from .explain_script import in_order
 from .explain_verdict import Verdict, no_walks
 from .explain_words import usage, wrong_sections
 from .jsonplaces import Json, JsonFault
-from .language import Reading
+from .language import Unfolded
 from .places import FORMATS, Said, in_file, moved, program_of, scene_of, section_of
 from .refusals import Call, Explanation, Refusal, Section, plain_explanation
+from .scripts import lines_of
 
 STATUSES = FORMATS + "#statuses"
 PROGRAM_LIMITS = ("tokens", "depth", "nodes")
@@ -94,7 +96,7 @@ def _scene(call: Call, words: list[str]) -> tuple[Section | None, Said | None]:
     return section, _in_scene(section.text, scene, words, program)
 
 
-def _in_scene(text: str, scene: Json, words: list[str], program) -> Said | None:
+def _in_scene(text: str, scene: Json, words: list[str], program: Unfolded) -> Said | None:
     if words[0] == "shape":
         return explain_network.shape(text, scene, words[1], program)
     if words[0] == "kept":
@@ -194,20 +196,24 @@ RULES: dict[str, Callable[[Call, list[str]], tuple[Section | None, Said | None]]
 
 def warnings(call: Call) -> tuple[Explanation, ...]:
     """What `fc` takes, and a user may not have meant: a `uid` that the ceiling cuts."""
-    section, found, scene = section_of(call, "program"), program_of(call), scene_of(call)
-    if found.unfolded is None or not isinstance(scene, Json):
+    section, found, scene = section_of(call, "program"), program_of(call).unfolded, scene_of(call)
+    if found is None or not isinstance(scene, Json):
         return ()
-    uses = [node for node in found.unfolded.nodes if node.form == "uid"]
-    ceiling = found.unfolded.ceiling
-    above = sorted(number for number in explain_network.device_numbers(scene) if number > ceiling)
+    uses = [node for node in found.nodes if node.form == "uid"]
+    numbers = {*explain_network.device_numbers(scene), *_joining(call)}
+    above = sorted(number for number in numbers if number > found.ceiling)
     if not uses or not above:
         return ()
-    return (in_file(section, _cut(found, above, moved(section, uses[0].expr.at))),)
-
-
-def _cut(found: Reading, above: list[int], at) -> Said:
-    ceiling = found.unfolded.ceiling if found.unfolded is not None else 0
-    devices = f"device {above[0]}" if len(above) == 1 else f"the {len(above)} devices from {above[0]} on"
-    what = f"`uid` is cut at the ceiling {ceiling}, so it is {ceiling} at {devices}."
+    devices = f"device {above[0]}" if len(above) == 1 else f"the {len(above):,} devices from {above[0]} on"
+    what = f"`uid` is cut at the ceiling {found.ceiling}, so it is {found.ceiling} at {devices}."
     hint = f"Raise the ceiling to {above[-1]}, or give the devices lower numbers."
-    return Said(what, at, "uid", hint, "docs/language.md#what-a-program-means")
+    place = moved(section, uses[0].expr.at)
+    return (in_file(section, Said(what, place, "uid", hint, "docs/language.md#what-a-program-means")),)
+
+
+def _joining(call: Call) -> list[int]:
+    """The numbers of the devices that join in a script or log."""
+    section, kind = _lines(call)
+    if section is None or kind == "mail":
+        return []
+    return [int(line.words[1].text) for line in in_order(lines_of(section), kind) if line.verb == "join"]

@@ -197,7 +197,7 @@ def _id(text: str, scene: Json, path: str, found: Json) -> Said | None:
         return Said(f"Device {number} has a {kind} before, on line {before.line}.", found.at, str(number), None, NETWORK)
     if "/near/" in path:
         return Said(f"Device {number} is no neighbour of itself.", found.at, str(number), None, NETWORK)
-    return Said(f"There is no device {number} in this network.", found.at, str(number), "Its row can be taken away.", NETWORK)
+    return Said(f"There is no device {number} in this network.", found.at, str(number), "Take it away.", NETWORK)
 
 
 def _before(scene: Json, path: str, number: int) -> At | None:

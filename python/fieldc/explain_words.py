@@ -47,6 +47,8 @@ def usage(words: tuple[str, ...]) -> Said | None:
             if fault is not None:
                 return fault
             seen.add(word)
+            if word not in VALUED and "=" in words[place - 1]:
+                return Said(f"`{word}` takes no value.", None, word, f"Write `{word}` alone.", CALLS)
             if word in VALUED:
                 if "=" not in words[place - 1]:
                     value = words[place] if place < len(words) else ""

@@ -53,9 +53,10 @@ class Rest:
 
 @dataclass(frozen=True)
 class Swing:
-    """A start and an order from which the devices come back after two rounds, with other values in between.
+    """A start from which the devices get to where two rounds lead back, with other values in between.
 
-    `text` is an input of `fc replay` with one round, after which they hold `after`; two rounds lead back to `before`.
+    In these rounds all begin before one ends. `text` is an input of `fc replay` with one of them, after which the devices
+    hold `after`; a second one leads back to `before`.
     """
 
     start: str
@@ -126,41 +127,27 @@ class Search:
         call = self.call(self.with_table(None), f"scramble {number}\n", "script")
         return results.ran(fc.answered(call, self.waiting).text).table
 
-    def still(self, table: Mapping[str, Any] | None) -> bool:
-        """Whether a round in which all begin before one ends leaves a table as it is."""
-        return self.replayed(self.with_table(table), self.together).table == table
-
-    def rest(self, start: str, scene: str, before: str, order: str) -> Rest | str:
-        """Where the devices come to rest from a network by an order; what is said of the attempt where they don't.
+    def rest(self, start: str, scene: str, before: str, order: str) -> Rest | Swing | str:
+        """Where the devices come to rest from a network by an order, or between what they swing; else what was tried.
 
         `before` is a log that comes first. The rounds are doubled until one more changes nothing.
         """
         one = round_of(self.devices, order)
         most = max(1, MOST_FIRINGS // len(self.devices))
-        rounds, log = 0, before
-        now = scene
+        rounds, now = 0, scene
         while rounds < most:
             fitting = max(1, (MOST_BYTES - len(now) - len(self.program) - len(before)) // len(one))
             count = min(max(1, rounds), fitting, most - rounds)
-            log = (before if not rounds else "") + one * count
-            found = self.replayed(now, log)
+            found = self.replayed(now, ("" if rounds else before) + one * count)
             rounds += count
             now = self.with_table(found.table)
-            if self.still(found.table):
+            after = self.replayed(now, self.together)
+            if after.table == found.table:
                 return Rest(start, order, rounds, found.values, self.text(now, self.together))
+            back = self.replayed(self.with_table(after.table), self.together)
+            if back.table == found.table and differing(found.values, after.values):
+                return Swing(start, found.values, after.values, self.text(now, self.together))
         return f"no rest in {rounds:,} rounds"
-
-    def swing(self, start: str, scene: str) -> Swing | None:
-        """A swing after some rounds in which all begin before one ends, from a network; nothing where there is none."""
-        fitting = max(1, (MOST_BYTES - len(scene) - len(self.program)) // len(self.together))
-        count = min(fitting, max(1, MOST_FIRINGS // len(self.devices)))
-        first = self.replayed(scene, self.together * count)
-        now = self.with_table(first.table)
-        second = self.replayed(now, self.together)
-        third = self.replayed(self.with_table(second.table), self.together)
-        if third.table != first.table or not differing(first.values, second.values):
-            return None
-        return Swing(start, first.values, second.values, self.text(now, self.together))
 
 
 def filled(value: Any, whole: int, truth: bool) -> Any:
@@ -208,13 +195,13 @@ def look(
     tried: list[str] = []
     found: list[Rest] = []
     for start, given, before in _given(search, from_table):
+        swing: Swing | None = None
         for order in ORDERS:
             rest = search.rest(start, given, before, order)
             tried.append(f"{start}, {order}: {_outcome(rest)}")
-            if isinstance(rest, str):
-                swing = search.swing(start, given) if order == TOGETHER and not before else None
-                if swing is not None and not from_table:
-                    return Openness(None, swing, tuple(tried))
+            if isinstance(rest, Swing):
+                swing = swing or rest
+            if not isinstance(rest, Rest):
                 continue
             other = next((old for old in found if differing(old.values, rest.values)), None)
             if other is not None:
@@ -223,10 +210,14 @@ def look(
                     pair = (_led(search, given, before, other), _led(search, given, before, rest))
                 return Openness(confirmed(search, pair), None, tuple(tried))
             found.append(rest)
+        if swing is not None:
+            return Openness(None, swing, tuple(tried))
     return Openness(None, None, tuple(tried))
 
 
-def _outcome(rest: Rest | str) -> str:
+def _outcome(rest: Rest | Swing | str) -> str:
+    if isinstance(rest, Swing):
+        return "swings for ever"
     return rest if isinstance(rest, str) else f"at rest after at most {counted(rest.rounds, 'round')}"
 
 

@@ -151,7 +151,7 @@ def _plain(words: tuple[Word, ...], kind: str) -> Said | None:
         verb = verb[0]
     form = LINES[kind][verb]
     if verb in ("B", "E"):
-        form = verb
+        form = words[0].text
     fault = _count(words, form, page) or next((found for word in words[1:] if (found := _number(word, page))), None)
     if fault is None and verb == "run" and int(words[1].text) == 0:
         return Said("A `run` has at least one round.", words[1].at, "run", None, page)

@@ -5,12 +5,13 @@ from __future__ import annotations
 import os
 import re
 import subprocess
-import sys
 import unittest
 from pathlib import Path
 
-ROOT = Path(__file__).resolve().parents[2]
-sys.path[:0] = [str(ROOT / "python"), str(ROOT / "python" / "tests")]
+from helping import TOP, missing, needs_fc
+
+if missing("lark"):
+    raise unittest.SkipTest(missing("lark"))
 
 import wrong_inputs
 from fieldc.explain import explain, warnings
@@ -18,9 +19,13 @@ from fieldc.program import joined
 from fieldc.refusals import Call, Refusal, Section
 from fieldc.telling import place_of, quoted
 
-FC = os.environ.get("FC")
 CASES = wrong_inputs.all_cases()
-TABLE = re.compile(r"^\| `([^`|]+)` \|", re.MULTILINE)
+
+
+def words_in_first_columns(text: str) -> set[str]:
+    """What stands in quotes of code in the first column of a table."""
+    rows = re.findall(r"^\| ([^|]*) \|", text, re.MULTILINE)
+    return {word for row in rows for word in re.findall(r"`([^`]+)`", row)}
 
 
 def headings(path: Path) -> set[str]:
@@ -51,7 +56,7 @@ class Tables(unittest.TestCase):
                 self.assertIsNotNone(page)
                 path, _, anchor = page.partition("#")
                 if path not in anchors:
-                    anchors[path] = headings(ROOT / path)
+                    anchors[path] = headings(TOP / path)
                 if anchor:
                     self.assertIn(anchor, anchors[path])
 
@@ -68,13 +73,14 @@ class Tables(unittest.TestCase):
                 text = found.section.text.split("\n")[line - 1]
                 self.assertEqual(shown[len(under) - 1 :][:1], text[column - 1 : column])
 
-    @unittest.skipUnless(FC, "FC doesn't name the built fc, so its lines aren't compared")
+    @needs_fc
     def test_lines_of_fc(self):
         for file, case in CASES:
             if case.status in (5, 6, 7):
                 continue
             with self.subTest(file=file, case=case.name):
-                done = subprocess.run([FC, *case.words], input=joined(case.call().sections), capture_output=True, check=False)
+                words = [os.environ["FC"], *case.words]
+                done = subprocess.run(words, input=joined(case.call().sections), capture_output=True, check=False)
                 self.assertIn(case.line, done.stdout.decode("utf-8").split("\n")[:2])
 
 
@@ -82,10 +88,10 @@ class Words(unittest.TestCase):
     """No word of the documents is without a case."""
 
     def words_of(self, document: str, heading: str) -> set[str]:
-        text = (ROOT / "docs" / document).read_text(encoding="utf-8")
+        text = (TOP / "docs" / document).read_text(encoding="utf-8")
         part = text.split(f"\n{heading}\n", 1)[1]
         part = re.split(r"\n#+ ", part, maxsplit=1)[0]
-        return {word for row in re.findall(r"^\| ([^|]*) \|", part, re.MULTILINE) for word in re.findall(r"`([^`]+)`", row)}
+        return words_in_first_columns(part)
 
     def told(self) -> set[str]:
         return {word for _, case in CASES for word in case.line.split(" ")}
@@ -94,21 +100,23 @@ class Words(unittest.TestCase):
         self.assertLessEqual(self.words_of("language.md", "## When `check` says no"), self.told())
 
     def test_kinds_of_types(self):
-        kinds = {w for w in self.words_of("language.md", "## Types") if re.fullmatch(r"range|twice|unknown|literal|count|mismatch|not-local|result|wide", w)}
+        text = (TOP / "docs" / "language.md").read_text(encoding="utf-8")
+        kinds = words_in_first_columns(text.split("\n| Kind | What to mend |\n", 1)[1].split("\n\n", 1)[0])
         self.assertEqual(len(kinds), 9)
         self.assertLessEqual(kinds, self.told())
 
     def test_words_of_lines(self):
-        text = (ROOT / "docs" / "formats.md").read_text(encoding="utf-8")
+        text = (TOP / "docs" / "formats.md").read_text(encoding="utf-8")
         part = text.split("\n| Word | When |\n", 1)[1].split("\n\n", 1)[0]
-        words = {word for row in re.findall(r"^\| ([^|]*) \|", part, re.MULTILINE) for word in re.findall(r"`([^`]+)`", row)}
+        words = words_in_first_columns(part)
         self.assertGreaterEqual(len(words), 14)
         self.assertLessEqual(words | {"empty"}, self.told())
 
     def test_statuses(self):
-        text = (ROOT / "docs" / "formats.md").read_text(encoding="utf-8")
+        text = (TOP / "docs" / "formats.md").read_text(encoding="utf-8")
         part = text.split("\n## Statuses\n", 1)[1]
-        lines = {line for row in re.findall(r"^\| [1-7] \| ([^|]*) \|", part, re.MULTILINE) for line in re.findall(r"`([^`]+)`", row)}
+        rows = re.findall(r"^\| [1-7] \| ([^|]*) \|", part, re.MULTILINE)
+        lines = {line for row in rows for line in re.findall(r"`([^`]+)`", row)}
         first = {" ".join(line.split(" ")[: 2 if line.startswith("limit") else 1]) for line in lines}
         told = {" ".join(case.line.split(" ")[: 2 if case.line.startswith("limit") else 1]) for _, case in CASES}
         self.assertGreaterEqual(len(first), 20)

@@ -17,6 +17,8 @@ import re
 from dataclasses import dataclass, field
 from pathlib import Path
 
+import helping  # noqa: F401
+
 from fieldc.refusals import Call, Refusal, Section
 
 FOLDER = Path(__file__).resolve().parent / "wrong"

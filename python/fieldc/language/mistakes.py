@@ -20,6 +20,7 @@ TAKES = {
     **dict.fromkeys(("MUX", "RISE"), ("three arguments", "(a, b, c)")),
 }
 KEEPING = ("REP", "SHARE")
+SIGNS = "There are letters, digits, spaces, comments behind `//`, and `( ) { } , ; : .. = => + - * <`."
 
 
 @dataclass(frozen=True, eq=False)
@@ -119,7 +120,7 @@ def lexical(text: str, offset: int, place: At) -> Fault:
     around = text[max(0, offset - 1) : offset + 2]
     shown = sign if sign.isprintable() and not sign.isspace() else f"U+{ord(sign):04X}"
     what = f"`{shown}` isn't a sign of the language."
-    hint = CHARACTERS.get(sign)
+    hint = CHARACTERS.get(sign, SIGNS)
     if around.startswith("->"):
         place, what = At(place.line, place.column - 1), "`->` isn't a sign of the language."
         hint = "The variable of a `rep` is followed by `=>`, and the type of a result by `:` before it: `def f(x: int): int`."

@@ -191,7 +191,7 @@ def within_limits(piece: Piece) -> None:
     if count > MOST_TOKENS:
         raise Fault(
             f"limit tokens {count}",
-            f"Declaration {piece.number} has {count} tokens, and at most {MOST_TOKENS} are read.",
+            f"Declaration {piece.number} has {count:,} tokens, and at most {MOST_TOKENS:,} are read.",
             at(piece.tokens[0]),
             hint="Move parts of it into functions.",
             page=LIMITS,
