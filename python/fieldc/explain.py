@@ -10,14 +10,13 @@ from __future__ import annotations
 from collections.abc import Callable
 
 from . import explain_network, explain_script
-from .explain_script import in_order
+from .explain_script import with_words
 from .explain_verdict import Verdict, no_walks
 from .explain_words import usage, wrong_sections
 from .jsonplaces import Json, JsonFault
 from .language import Unfolded
 from .places import FORMATS, Said, in_file, moved, program_of, scene_of, section_of
 from .refusals import Call, Explanation, Refusal, Section, plain_explanation
-from .scripts import lines_of
 
 STATUSES = FORMATS + "#statuses"
 PROGRAM_LIMITS = ("tokens", "depth", "nodes")
@@ -216,4 +215,4 @@ def _joining(call: Call) -> list[int]:
     section, kind = _lines(call)
     if section is None or kind == "mail":
         return []
-    return [int(line.words[1].text) for line in in_order(lines_of(section), kind) if line.verb == "join"]
+    return [int(line.words[1].text) for line in with_words(section) if line.verb == "join"]

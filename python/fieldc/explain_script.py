@@ -30,14 +30,14 @@ def line_fault(section: Section, kind: str, number: int, word: str, scene: Json,
     fault = form_fault(line, kind)
     if word == "form" or fault is not None:
         return fault if word == "form" else None
-    net = after(start_of(scene), in_order(lines[: number - 1], kind))
+    net = after(start_of(scene, kind == "mail"), (part for part in lines[: number - 1] if part.words))
     rule = RULES.get(word)
     return rule(edit_of(line), kind, net, program) if rule is not None else None
 
 
-def in_order(lines: list[Line], kind: str) -> list[Line]:
-    """The lines that have a form of their section."""
-    return [line for line in lines if line.words and form_fault(line, kind) is None]
+def with_words(section: Section) -> list[Line]:
+    """The lines of a section that aren't empty."""
+    return [line for line in lines_of(section) if line.words]
 
 
 def edit_of(line: Line) -> Line:
@@ -226,7 +226,7 @@ def limit_lines(section: Section, count: int) -> Said | None:
 
 def limit_scrambles(section: Section) -> Said | None:
     """The fifth `scramble` of a script."""
-    found = [line for line in in_order(lines_of(section), "script") if line.verb == "scramble"]
+    found = [line for line in with_words(section) if line.verb == "scramble"]
     if len(found) <= MOST_SCRAMBLES:
         return None
     what = "This is the fifth `scramble`, and a script has at most four."
@@ -236,7 +236,7 @@ def limit_scrambles(section: Section) -> Said | None:
 def limit_firings(section: Section, count: int, scene: Json) -> Said | None:
     """The line up to which a script asks for too many firings."""
     net, total = start_of(scene), 0
-    for line in in_order(lines_of(section), "script"):
+    for line in with_words(section):
         if line.verb in ("run", "mix"):
             total += (int(line.words[1].text) + (line.verb == "mix")) * len(net.devices)
         if total > MOST_FIRINGS:
@@ -253,15 +253,15 @@ def limit_firings(section: Section, count: int, scene: Json) -> Said | None:
 def limit_degree(section: Section, kind: str, scene: Json) -> Said | None:
     """The line that would give a device a 33rd link."""
     net = start_of(scene)
-    for line in in_order(lines_of(section), kind):
+    for line in with_words(section):
         edit = edit_of(line)
         if edit.verb == "link" and edit.words:
             ends = devices_of(edit)
-            if frozenset(device for device, _ in ends) not in net.links:
+            if not net.linked(ends[0][0], ends[1][0]):
                 for device, word in ends:
-                    if len(net.neighbours(device)) >= MOST_LINKS:
+                    if len(net.near.get(device, ())) >= MOST_LINKS:
                         what = f"Device {device} has {MOST_LINKS} links at this line, and a device has at most {MOST_LINKS}."
-                        return Said(what, word.at, str(device), f"Take another of its links away before.", PAGES[kind])
+                        return Said(what, word.at, str(device), "Take another of its links away before.", PAGES[kind])
         net.step(line)
     return None
 
@@ -269,7 +269,7 @@ def limit_degree(section: Section, kind: str, scene: Json) -> Said | None:
 def limit_devices(section: Section, kind: str, scene: Json) -> Said | None:
     """The line on which a device joins that is one too many."""
     net = start_of(scene)
-    for line in in_order(lines_of(section), kind):
+    for line in with_words(section):
         if line.verb == "join" and len(net.devices) >= MOST_DEVICES:
             device = line.words[1]
             what = f"The network has {MOST_DEVICES:,} devices at this line, and may have no more."

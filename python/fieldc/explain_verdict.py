@@ -153,6 +153,10 @@ class Verdict:
                 f"what stands behind its guard, {part}, isn't `{heard}` alone",
                 f"Guard first, `{guard}`, and compute with that outside of the guard.",
             ),
+            "condition": (
+                f"the condition of its guard, {part}, isn't of the form `nbr{{p}} < p`",
+                f"Write `{guard}` with one comparison, and choose by anything else outside of the guard.",
+            ),
             "turned": (
                 f"its guard {part} has the neighbour's value on the right",
                 "Write `nbr{p} < p`, which hears those that are lower; to hear those that are higher, "

@@ -4,7 +4,7 @@ from __future__ import annotations
 
 import difflib
 import re
-from collections.abc import Iterable
+from collections.abc import Collection, Iterable
 from dataclasses import dataclass, field
 
 from .jsonplaces import Json, find
@@ -207,21 +207,37 @@ def _mix(words: tuple[Word, ...], kind: str) -> Said | None:
 
 @dataclass
 class Net:
-    """What lines change: devices, links with weights, where firings were begun, and messages in transit by ordered pair.
+    """What lines change: devices, who is linked to whom, where firings were begun, and messages in transit by ordered pair.
 
     A device of `flying` has the line on which its firing was begun, 0 where it is pending at the start. `left` has the line
-    on which a device left.
+    on which a device left. Messages are counted where `mail` is true.
     """
 
-    devices: set[int] = field(default_factory=set)
-    links: dict[frozenset[int], int] = field(default_factory=dict)
+    near: dict[int, set[int]] = field(default_factory=dict)
     flying: dict[int, int] = field(default_factory=dict)
     left: dict[int, int] = field(default_factory=dict)
     transit: dict[tuple[int, int], int] = field(default_factory=dict)
+    mail: bool = False
 
-    def neighbours(self, device: int) -> list[int]:
-        """The devices that are linked to a device."""
-        return [other for pair in self.links if device in pair for other in pair if other != device]
+    @property
+    def devices(self) -> Collection[int]:
+        """The numbers of the devices."""
+        return self.near.keys()
+
+    def linked(self, a: int, b: int) -> bool:
+        """Whether two devices are linked."""
+        return b in self.near.get(a, ())
+
+    def link(self, a: int, b: int) -> None:
+        """Links two devices."""
+        if a in self.near and b in self.near:
+            self.near[a].add(b)
+            self.near[b].add(a)
+
+    def unlink(self, a: int, b: int) -> None:
+        """Takes a link away, where there is one."""
+        self.near.get(a, set()).discard(b)
+        self.near.get(b, set()).discard(a)
 
     def step(self, line: Line) -> None:
         """What a line of any section that is in order changes."""
@@ -230,13 +246,13 @@ class Net:
             words, self.flying = words[2:], {}
         verb = line.verb if line.verb in ("B", "E") else words[0]
         if verb in ("B", "E"):
-            self._fire(verb, int(line.words[0].text[1:]), line)
+            self._fire(verb, int(words[0][1:]), line.at.line)
         elif verb == "link":
-            self.links[frozenset((int(words[1]), int(words[2])))] = int(words[3])
+            self.link(int(words[1]), int(words[2]))
         elif verb == "unlink":
-            self.links.pop(frozenset((int(words[1]), int(words[2]))), None)
+            self.unlink(int(words[1]), int(words[2]))
         elif verb == "join":
-            self.devices.add(int(words[1]))
+            self.near.setdefault(int(words[1]), set())
         elif verb == "leave":
             self._leave(int(words[1]), line.at.line)
         elif verb == "run":
@@ -245,29 +261,28 @@ class Net:
             pair = (int(words[1]), int(words[2]))
             self.transit[pair] = max(0, self.transit.get(pair, 0) - 1)
 
-    def _fire(self, verb: str, device: int, line: Line) -> None:
+    def _fire(self, verb: str, device: int, row: int) -> None:
         if verb == "B":
-            self.flying[device] = line.at.line
+            self.flying[device] = row
             return
         self.flying.pop(device, None)
-        for other in self.neighbours(device):
+        for other in self.near.get(device, ()) if self.mail else ():
             self.transit[device, other] = min(4, self.transit.get((device, other), 0) + 1)
 
-    def _leave(self, device: int, line: int) -> None:
-        self.devices.discard(device)
-        self.left[device] = line
-        self.links = {pair: weight for pair, weight in self.links.items() if device not in pair}
+    def _leave(self, device: int, row: int) -> None:
+        for other in self.near.pop(device, ()):
+            self.near[other].discard(device)
+        self.left[device] = row
 
 
-def start_of(scene: Json) -> Net:
-    """The network of a scene that `fc` took."""
-    net = Net()
+def start_of(scene: Json, mail: bool = False) -> Net:
+    """The network of a scene that `fc` took; with `mail` its messages are counted."""
+    net = Net(mail=mail)
     devices, links, pending = (find(scene, path) for path in ("/devices", "/links", "/pending"))
     for device in devices.items if devices is not None else ():
-        net.devices.add(device.members["id"].whole or 0)
+        net.near[device.members["id"].whole or 0] = set()
     for link in links.items if links is not None else ():
-        a, b, weight = (item.whole or 0 for item in link.items)
-        net.links[frozenset((a, b))] = weight
+        net.link(link.items[0].whole or 0, link.items[1].whole or 0)
     for copy in pending.items if pending is not None else ():
         net.flying[copy.members["id"].whole or 0] = 0
     return net
@@ -276,6 +291,5 @@ def start_of(scene: Json) -> Net:
 def after(net: Net, lines: Iterable[Line]) -> Net:
     """The network after lines that are in order."""
     for line in lines:
-        if line.words:
-            net.step(line)
+        net.step(line)
     return net

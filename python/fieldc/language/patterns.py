@@ -294,23 +294,28 @@ class Patterns:
         """A guard round an occurrence that isn't quite one."""
         if self.guard(place, use) is not None:
             return None
-        inner = use
-        body = self.nodes[place].kids[1]
+        inner, body = use, self.nodes[place].kids[1]
         while inner != body:
             below, inner = inner, self.nodes[inner].parent
             node = self.nodes[inner]
-            if node.form != "apply" or node.name != "mux" or below == node.kids[0]:
-                continue
-            less = self.nodes[node.kids[0]]
-            if less.form != "apply" or less.name != "<" or self.has(place, less.place):
-                continue
-            shares = [self.nodes[kid].form == "nbr" for kid in less.kids]
-            if shares == [False, True]:
-                return Blame(place, "converging", less.place, "turned", inner)
-            if shares == [True, False]:
-                if below == node.kids[2]:
-                    return Blame(place, "converging", below, "otherwise", inner)
-                if self.has(place, node.kids[2]):
-                    return Blame(place, "converging", node.kids[2], "both", inner)
-                return Blame(place, "converging", below, "behind", inner)
+            if node.form == "apply" and node.name == "mux" and not self.has(place, node.kids[0]):
+                found = self._as_guard(place, node, below)
+                if found is not None:
+                    return found
         return None
+
+    def _as_guard(self, place: int, choice: Node, below: int) -> Blame | None:
+        """What is wrong with a `mux` as a guard of what stands below it; nothing where none is meant."""
+        condition = self.nodes[choice.kids[0]]
+        if all(self.nodes[inner].form != "nbr" for inner in self.program.within(condition.place)):
+            return None
+        shares = [self.nodes[kid].form == "nbr" for kid in condition.kids]
+        if condition.form != "apply" or condition.name != "<" or shares not in ([True, False], [False, True]):
+            return Blame(place, "converging", condition.place, "condition", choice.place)
+        if shares == [False, True]:
+            return Blame(place, "converging", condition.place, "turned", choice.place)
+        if below == choice.kids[2]:
+            return Blame(place, "converging", below, "otherwise", choice.place)
+        if self.has(place, choice.kids[2]):
+            return Blame(place, "converging", choice.kids[2], "both", choice.place)
+        return Blame(place, "converging", below, "behind", choice.place)
