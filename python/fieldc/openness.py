@@ -106,7 +106,7 @@ class Search:
     def with_table(self, table: Mapping[str, Any] | None) -> str:
         """The network with a table and nothing in flight, as JSON."""
         kept = {name: self.scene[name] for name in ("devices", "links")}
-        return json.dumps(kept if table is None else {**kept, "table": table}, separators=(",", ":"))
+        return json.dumps(kept if table is None else {**kept, "table": dict(table)}, separators=(",", ":"))
 
     def text(self, scene: str, log: str) -> str:
         """An input of `fc replay`."""

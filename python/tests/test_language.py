@@ -60,7 +60,9 @@ def programs() -> list[tuple[str, str]]:
     found = [(f"docs/patterns.md, {verdict}", text) for verdict, text in DOCUMENTED]
     for path in sorted([*EXAMPLES.glob("*.txt"), *EXAMPLES.glob("*.fc")]):
         found.append((path.name, path.read_text(encoding="utf-8").split("\n%%\n")[0]))
-    found += [(f"wrong/{file}.txt, {case.name}", case.call().sections[0].text) for file, case in wrong_inputs.all_cases() if case.call().sections]
+    for file, case in wrong_inputs.all_cases():
+        texts = [section.text for section in case.call().sections[:1] if len(section.text) <= 1_048_576]
+        found += [(f"wrong/{file}.txt, {case.name}", text) for text in texts]
     return found
 
 
