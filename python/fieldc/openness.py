@@ -66,12 +66,25 @@ class Swing:
 
 
 @dataclass(frozen=True)
+class Attempt:
+    """A start and an order that were tried, and what came of it."""
+
+    start: str
+    order: str
+    outcome: str
+
+
+@dataclass(frozen=True)
 class Openness:
-    """What was found: two rests with different values, or a swing, or neither; and what was tried, a line each."""
+    """What was found: two rests with different values, or a swing, or neither; and what was tried.
+
+    `from_table` says whether the table and the pending firings of the network were the only start.
+    """
 
     rests: tuple[Rest, Rest] | None
     swing: Swing | None
-    tried: tuple[str, ...]
+    tried: tuple[Attempt, ...]
+    from_table: bool = False
 
     @property
     def devices(self) -> tuple[int, ...]:
@@ -192,13 +205,13 @@ def look(
     Refusal where `fc` refuses program or network.
     """
     search = Search(program, scene, waiting)
-    tried: list[str] = []
+    tried: list[Attempt] = []
     found: list[Rest] = []
     for start, given, before in _given(search, from_table):
         swing: Swing | None = None
         for order in ORDERS:
             rest = search.rest(start, given, before, order)
-            tried.append(f"{start}, {order}: {_outcome(rest)}")
+            tried.append(Attempt(start, order, _outcome(rest)))
             if isinstance(rest, Swing):
                 swing = swing or rest
             if not isinstance(rest, Rest):
@@ -208,11 +221,11 @@ def look(
                 pair = (other, rest)
                 if from_table:
                     pair = (_led(search, given, before, other), _led(search, given, before, rest))
-                return Openness(confirmed(search, pair), None, tuple(tried))
+                return Openness(confirmed(search, pair), None, tuple(tried), from_table)
             found.append(rest)
         if swing is not None:
-            return Openness(None, swing, tuple(tried))
-    return Openness(None, None, tuple(tried))
+            return Openness(None, swing, tuple(tried), from_table)
+    return Openness(None, None, tuple(tried), from_table)
 
 
 def _outcome(rest: Rest | Swing | str) -> str:
@@ -240,7 +253,7 @@ def _led(search: Search, scene: str, before: str, rest: Rest) -> Rest:
 
 
 def confirmed(search: Search, pair: tuple[Rest, Rest]) -> tuple[Rest, Rest]:
-    """The two rests, once `fc replay` has said of each input that it leads to these values. Raises Fault where it hasn't."""
+    """The two rests, once `fc replay` has led from each input to these values. Raises Fault where it hasn't."""
     for rest in pair:
         program, scene, log = rest.text.split("\n%%\n")
         if search.replayed(scene, log).values != rest.values:
@@ -251,28 +264,55 @@ def confirmed(search: Search, pair: tuple[Rest, Rest]) -> tuple[Rest, Rest]:
 def told(found: Openness, names: Sequence[str]) -> str:
     """What was found, in words; `names` are the files to which the inputs were written."""
     if found.rests is not None:
-        lines = ["Two starts rest apart, so the program doesn't settle on this network:"]
-        for rest, name in zip(found.rests, names):
-            way = f"from {rest.start}, {rest.order}, at most {counted(rest.rounds, 'round')}"
-            lines.append(f"  {way}: {shown(rest.values, found.devices)}")
-            lines.append(f"    fc replay < {name} writes these values, and --table the table that no firing changes")
-        return "\n".join([*lines, _differ(found.devices)]) + "\n"
-    if found.swing is not None:
-        swing = found.swing
-        lines = [
-            "The devices swing for ever, so the program doesn't settle on this network:",
-            f"  from {swing.start}, where {TOGETHER}, they hold in turn",
-            f"    {shown(swing.before, found.devices)}",
-            f"    {shown(swing.after, found.devices)}",
-            f"    fc replay --table < {names[0]} makes one round; a second one leads back",
-        ]
-        return "\n".join([*lines, _differ(found.devices)]) + "\n"
-    lines = ["No two starts were found that rest apart. That doesn't say that there are none. Tried from"]
-    return "\n".join([*lines, *(f"  {line}" for line in found.tried)]) + "\n"
+        lines = _told_rests(found, found.rests, names)
+    elif found.swing is not None:
+        lines = _told_swing(found, found.swing, names[0])
+    else:
+        things = "orders of firings" if found.from_table else "starts"
+        first = f"No two {things} were found that rest apart. That doesn't say that there are none. Tried from"
+        lines = [first, *_told_tries(found)]
+    return "\n".join(lines) + "\n"
+
+
+def _told_rests(found: Openness, rests: tuple[Rest, Rest], names: Sequence[str]) -> list[str]:
+    lines = ["Two starts rest apart, so the program doesn't settle on this network:"]
+    if found.from_table:
+        lines = ["Two orders of firings rest apart, so the program doesn't settle from the table of this network:"]
+    for rest, name in zip(rests, names):
+        lines.append(f"  from {rest.start}, {rest.order}, after at most {counted(rest.rounds, 'round')}:")
+        lines.append(f"    {shown(rest.values, found.devices)}")
+        lines.append(f"    fieldc replay {name} runs one round from there, which changes nothing")
+    if found.from_table:
+        lines = [line.replace("runs one round from there", "gets there, and ends with a round") for line in lines]
+    return [*lines, _differ(found.devices)]
+
+
+def _told_swing(found: Openness, swing: Swing, name: str) -> list[str]:
+    return [
+        "The devices swing for ever, so the program doesn't settle on this network:",
+        f"  from {swing.start} they come to where they hold in turn, when {TOGETHER},",
+        f"    {shown(swing.before, found.devices)}",
+        f"    {shown(swing.after, found.devices)}",
+        f"    fieldc replay {name} makes one round; a second one leads back",
+        _differ(found.devices),
+    ]
+
+
+def _told_tries(found: Openness) -> list[str]:
+    """What was tried, the orders of one start on one line where they came to the same."""
+    lines = []
+    for start, tries in itertools.groupby(found.tried, lambda attempt: attempt.start):
+        all_tries = list(tries)
+        if len({attempt.outcome for attempt in all_tries}) == 1:
+            lines.append(f"  {start}, in {len(all_tries)} orders of firings: {all_tries[0].outcome}")
+        else:
+            lines.extend(f"  {start}, {attempt.order}: {attempt.outcome}" for attempt in all_tries)
+    return lines
 
 
 def _differ(devices: Sequence[int]) -> str:
-    named = listed([str(device) for device in devices[:SHOWN]] + [f"{len(devices) - SHOWN:,} more"] * (len(devices) > SHOWN))
+    more = len(devices) - SHOWN
+    named = listed([*map(str, devices[:SHOWN]), *([f"{more:,} more"] if more > 0 else [])])
     return f"They differ at {'device' if len(devices) == 1 else 'the devices'} {named}."
 
 

@@ -99,7 +99,7 @@ class Rests(unittest.TestCase):
         self.assertEqual(len(found.tried), 21)
         text = openness.told(found, [])
         self.assertIn("No two starts were found that rest apart. That doesn't say that there are none.", text)
-        self.assertIn("everything greatest, all begin before one ends: at rest after at most 1 round", text)
+        self.assertIn("everything greatest, in 3 orders of firings: at rest after at most 1 round", text)
 
     def test_a_program_that_settles(self):
         self.assertIsNone(openness.look(helping.HOPS, json.loads(LINE)).rests)
@@ -117,7 +117,8 @@ class Rests(unittest.TestCase):
         scene = {**json.loads(PAIR), "pending": [copy]}
         found = openness.look(FIRST_COME, scene, from_table=True)
         self.assertIsNone(found.rests)
-        self.assertIn("the table of the network, one after the other: at rest after at most 1 round", found.tried)
+        self.assertIn(("one after the other", "at rest after at most 1 round"), [(t.order, t.outcome) for t in found.tried])
+        self.assertTrue(openness.told(found, []).startswith("No two orders of firings were found that rest apart."))
 
 
 @needs_fc
@@ -133,8 +134,10 @@ class Command(unittest.TestCase):
             done = helping.fieldc("settle", "--why", "max.fc", "line.json", folder=place)
             self.assertEqual(done.status, 1)
             self.assertEqual((place / "open_1.txt").read_text(), "mine")
-            self.assertIn("from everything least, all begin before one ends", done.errors)
-            self.assertIn("fc replay < open_2.txt", done.errors)
+            self.assertIn("from everything least, all begin before one ends, after at most 8 rounds:", done.errors)
+            self.assertIn("fieldc replay open_2.txt runs one round from there, which changes nothing", done.errors)
+            again_by_command = helping.fieldc("replay", "open_3.txt", folder=place)
+            self.assertEqual(again_by_command.output, "0 10\n1 10\n2 10\n")
             self.assertIn("They differ at the devices 0, 1 and 2.", done.errors)
             values = [dict(again((place / f"open_{number}.txt").read_text())[0].values) for number in (2, 3)]
             self.assertEqual(values, [{0: 3, 1: 3, 2: 3}, {0: 10, 1: 10, 2: 10}])
