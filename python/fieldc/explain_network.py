@@ -71,7 +71,10 @@ def _object(text: str, found: Json, form: str) -> Said | None:
     if found.kind != "object":
         if form == "table" and found.kind == "array":
             return None
-        hint = f"It has the members {names}." if form != "table" else "It is an array of rows, or what `--table` writes."
+        hint = {
+            "table": "It is an array of rows, or what `--table` writes.",
+            "own": f"It has the members {names}; where the device had none, write `null`.",
+        }.get(form, f"It has the members {names}.")
         what = f"{FORMS[form].capitalize()} is an object, and {shown(found, text)} is none."
         return Said(what, found.at, None, hint, SCENE)
     for name, place in found.keys.items():
@@ -102,8 +105,6 @@ def _member(text: str, scene: Json, path: str, found: Json, program: Unfolded) -
     if step == "format":
         what = f"There is no format {shown(found, text)} of tables."
         return Said(what, found.at, step, "Write `2`, as `--table` does.", SCENE)
-    if step == "own":
-        return Said(f"`own` is an export or `null`, and {shown(found, text)} is neither.", found.at, step, None, SCENE)
     return None
 
 
@@ -132,7 +133,7 @@ def _link(text: str, scene: Json, path: str, found: Json, _program: Unfolded) ->
     for other in links.items[: int(path.rpartition("/")[2])] if links is not None else ():
         if other.kind == "array" and {item.whole for item in other.items[:2]} == ends:
             a, b = found.items[0].whole, found.items[1].whole
-            what = f"The devices {a} and {b} are linked before, on line {other.at.line}, column {other.at.column}."
+            what = f"The devices {a} and {b} are linked already, on line {other.at.line}, column {other.at.column}."
             return Said(what, found.at, None, "Take one of the two links away; a link goes both ways.", NETWORK)
     return None
 
@@ -194,7 +195,7 @@ def _id(text: str, scene: Json, path: str, found: Json) -> Said | None:
     before = _before(scene, owner, number)
     if before is not None:
         kind = "neighbour" if "/near/" in path else "pending firing" if path.startswith("/pending") else "row"
-        return Said(f"Device {number} has a {kind} before, on line {before.line}.", found.at, str(number), None, NETWORK)
+        return Said(f"Device {number} has a {kind} already, on line {before.line}.", found.at, str(number), None, NETWORK)
     if "/near/" in path:
         return Said(f"Device {number} is no neighbour of itself.", found.at, str(number), None, NETWORK)
     return Said(f"There is no device {number} in this network.", found.at, str(number), "Take it away.", NETWORK)
@@ -227,7 +228,7 @@ def network(text: str, scene: Json, path: str, word: str, program: Unfolded) -> 
     if word == "twice":
         before = _before(scene, path.rpartition("/")[0], found.whole)
         where = f", on line {before.line}, column {before.column}" if before is not None else ""
-        what = f"Device {found.whole} stands there before{where}."
+        what = f"Device {found.whole} is there already{where}."
         return Said(what, found.at, str(found.whole), "Give it another number.", NETWORK)
     if word == "weight":
         weight = found.items[2] if found.kind == "array" and len(found.items) == 3 else found

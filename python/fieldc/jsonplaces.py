@@ -213,7 +213,8 @@ class _Reader:
             key_at = self.at(self.place)
             name = self.string()
             if self.spaces() != ":":
-                raise self.fault(f'A `:` is missing behind `"{name}"`.', name, None)
+                shown = name if len(name) <= 30 else name[:30] + ".."
+                raise self.fault(f'A `:` is missing behind `"{shown}"`.', name, None)
             self.place += 1
             members[name] = self.value(depth)
             keys[name] = key_at
@@ -245,7 +246,10 @@ def read(text: str, first_line: int = 1) -> Json:
     if reader.spaces() == "":
         raise JsonFault("The text is empty.", At(first_line, 1), None, 'A network begins with `{"devices": [`.')
     found = reader.value(0)
-    if reader.spaces() != "":
+    sign = reader.spaces()
+    if sign in ("}", "]"):
+        raise reader.fault(f"This `{sign}` closes nothing.", sign, "Take it away, or look for one that stands too early.")
+    if sign != "":
         raise reader.fault("More text stands behind the end of the value.", None, "A line `%%` parts two sections.")
     return found
 

@@ -127,7 +127,7 @@ def _count(words: tuple[Word, ...], form: str, page: str) -> Said | None:
     verb = words[0].text
     place = words[wanted + 1].at if given > wanted else At(words[-1].at.line, words[-1].at.column + len(words[-1].text))
     numeral = f"{wanted} word{'' if wanted == 1 else 's'}" if wanted else "no word"
-    what = f"Behind `{verb}` stands {numeral}, and {given} {'is' if given == 1 else 'are'} given."
+    what = f"Behind `{verb}` stands {numeral}, and {given or 'none'} {'are' if given > 1 else 'is'} given."
     what = what.replace("stands", "stand") if wanted > 1 else what
     return Said(what, place, verb, f"Write `{form}`.", page)
 

@@ -51,7 +51,7 @@ def bad_range(declaration: Declaration, ceiling: int) -> Complaint:
 
 def twice(what: str, name: str, place: At | None, before: At | None) -> Complaint:
     where = f"line {before.line}, column {before.column}" if before else "another line"
-    return Complaint(f"{what} `{name}` is declared before, on {where}.", place, name, ANOTHER_NAME)
+    return Complaint(f"{what} `{name}` is declared already, on {where}.", place, name, ANOTHER_NAME)
 
 
 def second_metric(place: At, before: At) -> Complaint:
