@@ -148,7 +148,7 @@ class _Reader:
             if sign < " ":
                 place = self.at(start)
                 what = f"The text that begins on line {place.line}, column {place.column}, goes over the end of its line."
-                raise self.fault(what, None, 'Close it by `"`.') if sign in "\r\n" else self.fault("A text has no such sign.")
+                raise self.fault(what, None, 'Close it by `"`.') if sign in "\r\n" else self.fault("A text of JSON has no such character.")
             if "\udc80" <= sign <= "\udcff":
                 raise self.fault("This isn't UTF-8.", None, "Save the file as UTF-8.")
             found.append(self.escape() if sign == "\\" else sign)

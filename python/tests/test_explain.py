@@ -161,7 +161,8 @@ class Joined(unittest.TestCase):
 
     def test_a_section_that_begins_further_down(self):
         text = '{"devices": [{"id": 0, "inputs": {}}],\n "links": [[0, 0, 1]]}\n'
-        call = Call(("check",), (Section("program", "all", 1, "ceiling 10;\nmain = 1;\n"), Section("network", "all", 4, text)))
+        sections = (Section("program", "all", 1, "ceiling 10;\nmain = 1;\n"), Section("network", "all", 4, text))
+        call = Call(("check",), sections)
         found = explain(call, Refusal(3, "network", "network /links/0 self-link", call))
         self.assertEqual((found.line, found.column), (5, 12))
         self.assertEqual(place_of(found), "all:5:12: ")

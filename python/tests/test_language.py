@@ -162,7 +162,8 @@ class Nodes(unittest.TestCase):
 
     def test_names_in_calls(self):
         found = unfolded("ceiling 10; def f(a: int, b: int): int = a - b; main = let b = 7 in f(b, 2);")
-        self.assertEqual([line.split(" int")[0] for line in facts(found)], ["0 let", "1 7", "2 let", "3 var 0", "4 let", "5 2", "6 -", "7 var 2", "8 var 4"])
+        wanted = ["0 let", "1 7", "2 let", "3 var 0", "4 let", "5 2", "6 -", "7 var 2", "8 var 4"]
+        self.assertEqual([line.split(" int")[0] for line in facts(found)], wanted)
 
     def test_calls(self):
         text = "ceiling 10;\ndef f(): int = uid;\ndef g(): int = f() + f();\nmain = g();\n"

@@ -58,7 +58,8 @@ class Wrong:
         kinds = SECTIONS.get(self.words[0] if self.words else "", ("program", "network"))
         if "--number" in self.words:
             kinds = ("program", "network")
-        if self.line.startswith(("usage", "sections", "limit workers", "limit bytes")) or self.status > 4 or "gen" in self.words:
+        judged_before = self.line.startswith(("usage", "sections", "limit workers", "limit bytes"))
+        if judged_before or self.status > 4 or "gen" in self.words:
             kinds = tuple(texts)
         if "program" not in texts:
             texts.setdefault("network", THREE)

@@ -34,11 +34,13 @@ def kind_text(kind: Type) -> str:
 
 
 def no_ceiling(place: At) -> Complaint:
+    """A ceiling of 0."""
     what = "The ceiling is 0, and has to be at least 1."
     return Complaint(what, place, "ceiling", "Take the greatest number that is needed.")
 
 
 def bad_range(declaration: Declaration, ceiling: int) -> Complaint:
+    """A range that is turned round, or that passes the ceiling."""
     (low, low_at), (high, high_at) = declaration.bounds
     of = f"the input `{declaration.name}`" if declaration.form == "input" else "the metric"
     name = declaration.name or "metric"
@@ -50,31 +52,37 @@ def bad_range(declaration: Declaration, ceiling: int) -> Complaint:
 
 
 def twice(what: str, name: str, place: At | None, before: At | None) -> Complaint:
+    """An input, function or parameter whose name is declared already."""
     where = f"line {before.line}, column {before.column}" if before else "another line"
     return Complaint(f"{what} `{name}` is declared already, on {where}.", place, name, ANOTHER_NAME)
 
 
 def second_metric(place: At, before: At) -> Complaint:
+    """A metric behind another one."""
     what = f"A second metric is declared; the first stands on line {before.line}, column {before.column}."
     return Complaint(what, place, "metric", "Keep one of them.")
 
 
 def bound_twice(expr: Expr, before: At) -> Complaint:
+    """A `let`, `rep` or `share` that binds a name which is bound round it."""
     what = f"`{expr.name}` is bound here, and round it already, on line {before.line}, column {before.column}."
     return Complaint(what, expr.bound, expr.name, "Give one of them another name: no name hides another.")
 
 
 def wide(what: str, count: int, place: At | None) -> Complaint:
+    """A type of more than 8 integers and truth values."""
     hint = "Keep what belongs together in two values, or put two small numbers into one."
     return Complaint(f"{what} has {count} integers and truth values, and at most 8 are allowed.", place, None, hint)
 
 
 def great_literal(expr: Expr, ceiling: int) -> Complaint:
+    """A number above the ceiling."""
     what = f"The number {expr.value} is above the ceiling {ceiling}."
     return Complaint(what, expr.at, str(expr.value), f"Lower it, or raise the ceiling to {expr.value}.")
 
 
 def unknown_variable(expr: Expr, scope: Mapping[str, Bound], known: Known) -> Complaint:
+    """A name that nothing binds."""
     name = expr.name
     what = f"Nothing named `{name}` is bound here."
     near = similar(name, scope)
@@ -95,6 +103,7 @@ def unknown_variable(expr: Expr, scope: Mapping[str, Bound], known: Known) -> Co
 
 
 def unknown_input(expr: Expr, scope: Mapping[str, Bound], known: Known) -> Complaint:
+    """A `sense` of what is no input, or of one that is declared later."""
     name = expr.name
     what = f"No input named `{name}` is declared before."
     near = similar(name, known.inputs)
@@ -110,6 +119,7 @@ def unknown_input(expr: Expr, scope: Mapping[str, Bound], known: Known) -> Compl
 
 
 def unknown_function(expr: Expr, scope: Mapping[str, Bound], known: Known) -> Complaint:
+    """A call of what is no function, or of one that is declared later."""
     name = expr.name
     what = f"No function named `{name}` is declared before."
     near = similar(name, known.functions)
@@ -130,6 +140,7 @@ def unknown_function(expr: Expr, scope: Mapping[str, Bound], known: Known) -> Co
 
 
 def other_count(expr: Expr, function: Declaration) -> Complaint:
+    """A call with another number of arguments."""
     count = len(function.parameters)
     wanted = f"{count} argument{'' if count == 1 else 's'}"
     what = f"`{expr.name}` takes {wanted}, and is given {len(expr.kids)}."
@@ -138,12 +149,14 @@ def other_count(expr: Expr, function: Declaration) -> Complaint:
 
 
 def other_argument(text: str, expr: Expr, kid: Expr, found: Type, parameter: Parameter) -> Complaint:
+    """An argument of another type than its parameter."""
     wanted = f"The argument `{parameter.name}` of `{expr.name}` is {kind_text(parameter.type)}"
     what = f"{wanted}, and {quoted(text, kid)} is {kind_text(found)}."
     return Complaint(what, kid.at, parameter.name, _towards(parameter.type, found))
 
 
 def other_result(declaration: Declaration, found: Type) -> Complaint:
+    """A body of another type than the result of its function."""
     assert declaration.result is not None and declaration.body is not None
     what = f"The body of `{declaration.name}` is {kind_text(found)}"
     what += f", and its result is declared as {kind_text(declaration.result)}."
@@ -152,39 +165,46 @@ def other_result(declaration: Declaration, found: Type) -> Complaint:
 
 
 def field_in_main(text: str, body: Expr) -> Complaint:
+    """A `main` that is a field."""
     return Complaint(f"`main` has to be local, and {quoted(text, body)} is a field.", body.at, "main", OUT_OF_A_FIELD)
 
 
 def field_in_nbr(text: str, expr: Expr) -> Complaint:
+    """A field that would be shared."""
     kid = expr.kids[0]
     return Complaint(f"`nbr` shares a local value, and {quoted(text, kid)} is a field.", kid.at, "nbr", OUT_OF_A_FIELD)
 
 
 def field_in_keeping(text: str, expr: Expr, part: Expr) -> Complaint:
+    """A `rep` or `share` whose first value or body is a field."""
     of = "first value" if part is expr.kids[0] else "body"
     what = f"The {of} of a `{expr.form}` has to be local, and {quoted(text, part)} is a field."
     return Complaint(what, part.at, expr.name, OUT_OF_A_FIELD)
 
 
 def field_in_if(text: str, expr: Expr, kid: Expr) -> Complaint:
+    """An `if` with a part that is a field."""
     of = "condition" if kid is expr.kids[0] else "branch"
     what = f"The {of} of an `if` has to be local, and {quoted(text, kid)} is a field."
     return Complaint(what, kid.at, "if", "`mux(c, a, b)` chooses between fields, neighbour by neighbour.")
 
 
 def other_body(text: str, expr: Expr, first: Type, body: Type) -> Complaint:
+    """A `rep` or `share` whose body is of another type than its first value."""
     what = f"The body of this `{expr.form}` is {kind_text(body)}"
     what += f", and its first value {quoted(text, expr.kids[0])} is {kind_text(first)}."
     return Complaint(what, expr.kids[1].at, expr.name, "Both have the type of what is kept.")
 
 
 def no_condition(text: str, word: str, kid: Expr, found: Type) -> Complaint:
+    """A condition that is no truth value."""
     what = f"The condition of `{word}` is a truth value, and {quoted(text, kid)} is {kind_text(found)}."
     hint = "Compare it, as in `x = 1`." if found.local == "int" else None
     return Complaint(what, kid.at, word, hint)
 
 
 def other_choices(text: str, word: str, kid: Expr, first: Type, second: Type) -> Complaint:
+    """Two choices of different types."""
     what = f"Both choices of `{word}` have one type; the first is {kind_text(first)}"
     what += f", and {quoted(text, kid)} is {kind_text(second)}."
     return Complaint(what, kid.at, word, None)

@@ -119,10 +119,10 @@ def lexical(text: str, offset: int, place: At) -> Fault:
     sign = text[offset]
     around = text[max(0, offset - 1) : offset + 2]
     shown = sign if sign.isprintable() and not sign.isspace() else f"U+{ord(sign):04X}"
-    what = f"`{shown}` isn't a sign of the language."
+    what = f"`{shown}` isn't a character of the language."
     hint = CHARACTERS.get(sign, SIGNS)
     if around.startswith("->"):
-        place, what = At(place.line, place.column - 1), "`->` isn't a sign of the language."
+        place, what = At(place.line, place.column - 1), "`->` isn't a mark of the language."
         hint = "The variable of a `rep` is followed by `=>`, and the type of a result by `:` before it: `def f(x: int): int`."
         shown = "->"
     elif sign == "." and offset and text[offset - 1].isalpha():

@@ -160,7 +160,7 @@ class Patterns:
         return Blame(place, "potential", uses[0])
 
     def minimising(self, place: int) -> Blame | None:
-        """What the rules of the least value and of limited rise say: a blame or nothing, or NotImplemented where none applies."""
+        """What the rules of the least value and of limited rise say: a blame or nothing; NotImplemented where none applies."""
         body = self.nodes[self.nodes[place].kids[1]]
         rising = self.nodes[place].form == "rep" and body.form == "apply" and body.name == "rise"
         if rising and (self.nodes[body.kids[1]].binder != place or self.has(place, body.kids[2])):

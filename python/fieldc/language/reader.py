@@ -54,7 +54,7 @@ def number_of(token: Token) -> int:
 
 @v_args(inline=True)
 class Builder(Transformer):
-    """Makes declarations and expressions of what the grammar finds."""
+    """Makes declarations and expressions of what the grammar finds: a method for each rule, with the parts of that rule."""
 
     def first(self, found: Declaration) -> Declaration:
         return found
