@@ -7,6 +7,7 @@ from dataclasses import dataclass
 from typing import TYPE_CHECKING
 
 from .elsewhere import hint_for, similar
+from .grammar import WORDS
 from .tree import At, Declaration, Expr, Parameter, Type, quoted
 
 if TYPE_CHECKING:
@@ -15,7 +16,7 @@ if TYPE_CHECKING:
 OUT_OF_A_FIELD = "One value is taken out of a field by `minHoodLoc`, `maxHoodLoc`, `sumHood`, `anyHood` or `allHood`."
 ANOTHER_NAME = "Give one of them another name."
 PLURAL = {"int": "integers", "bool": "truth values"}
-SYMBOLS = ("+", "-", "*", "<", "=", "and", "or")
+CALLED = [word for word in WORDS if word.endswith(("Hood", "Loc")) or word in ("min", "max", "mux", "fst", "snd", "rise")]
 
 
 @dataclass(frozen=True)
@@ -85,7 +86,7 @@ def unknown_variable(expr: Expr, scope: Mapping[str, Bound], known: Known) -> Co
     """A name that nothing binds."""
     name = expr.name
     what = f"Nothing named `{name}` is bound here."
-    near = similar(name, scope)
+    near = similar(name, [*scope, "uid", "true", "false", "nbrLink"])
     if name in known.inputs:
         hint = f"An input is read by `sense {name}`."
     elif name in known.functions:
@@ -122,7 +123,7 @@ def unknown_function(expr: Expr, scope: Mapping[str, Bound], known: Known) -> Co
     """A call of what is no function, or of one that is declared later."""
     name = expr.name
     what = f"No function named `{name}` is declared before."
-    near = similar(name, known.functions)
+    near = similar(name, [*known.functions, *CALLED])
     later = [part for part in known.later if part.form == "def" and part.name == name]
     if later and later[0] is known.later[0]:
         hint = "A function can't call itself: what goes on from firing to firing is kept by `rep`."

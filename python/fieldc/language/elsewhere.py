@@ -15,6 +15,7 @@ FUNCTION = "A function is declared by `def f(x: int): int = x + 1;`."
 WEIGHT = "The weight of the link to each neighbour is `nbrLink`."
 NUMBERS = "The number of the device is `uid`."
 TRUTHS = "Truth values are `true` and `false`."
+PARTS = "The parts of a pair are `fst(p)` and `snd(p)`."
 KINDS = "The types are `int`, `bool`, pairs as `(int, bool)`, and `field` in front of one of these."
 WHOLE = "All numbers are whole: take a smaller unit, as 15 tenths in place of 1.5."
 
@@ -60,6 +61,10 @@ HINTS = {
     "nbrRange": WEIGHT,
     "nbrDist": WEIGHT,
     "nbrRangeHood": WEIGHT,
+    "any": "Whether it is true of one neighbour is `anyHood(f)`.",
+    "all": "Whether it is true of all neighbours is `allHood(f)`.",
+    "fold": FOLDS,
+    "reduce": FOLDS,
     "branch": "Devices are parted by `if (c) {a} {b}`, and a value is chosen by `mux(c, a, b)`.",
     "sum": "A sum over the neighbours is `sumHood(f)`; of two numbers it is `a + b`.",
     "abs": "Numbers are never negative; the distance of two is `max(a - b, b - a)`.",

@@ -3,115 +3,17 @@
 from __future__ import annotations
 
 from collections.abc import Callable
-from dataclasses import dataclass
 
 from lark import Token
 
-from .elsewhere import CHARACTERS, KEPT, KINDS, hint_for
+from .elsewhere import CHARACTERS, KEPT, KINDS, PARTS, hint_for
 from .faults import GRAMMAR, TOKENS, TWO, TYPES, Fault
+from .forms import in_brackets, in_choice, in_commas, in_keeping, in_let, in_operators, in_words
 from .grammar import MARKS, WORDS
+from .stuck import DECLARING, Advice, Stuck, advice, behind, code
 from .tree import At
 
-DECLARING = ("LANGUAGE", "CEILING", "INPUT", "METRIC", "DEF", "MAIN")
-CLOSERS = {"OPEN": "CLOSE", "BEGIN": "END"}
-TAKES = {
-    **dict.fromkeys(("FST", "SND", "SUMHOOD", "ANYHOOD", "ALLHOOD"), ("one argument", "(a)")),
-    **dict.fromkeys(("MIN", "MAX", "MINHOODLOC", "MAXHOODLOC"), ("two arguments", "(a, b)")),
-    **dict.fromkeys(("MUX", "RISE"), ("three arguments", "(a, b, c)")),
-}
-KEEPING = ("REP", "SHARE")
 SIGNS = "There are letters, digits, spaces, comments behind `//`, and `( ) { } , ; : .. = => + - * <`."
-
-
-@dataclass(frozen=True, eq=False)
-class Stuck:
-    """Where reading a declaration ended: its number, its tokens, the index of the first that can't stand where it does (as
-    many as there are tokens where the declaration ends too early), the kinds of tokens that could, the place of the
-    declaration (first, second, item or end), and whether the program is of language 2."""
-
-    number: int
-    tokens: tuple[Token, ...]
-    index: int
-    expected: frozenset[str]
-    start: str
-    second: bool
-
-    @property
-    def here(self) -> Token | None:
-        """The token at fault; nothing at the end."""
-        return self.tokens[self.index] if self.index < len(self.tokens) else None
-
-    @property
-    def kind(self) -> str:
-        """The kind of the token at fault."""
-        return self.here.type if self.here is not None else "END_OF_TEXT"
-
-    @property
-    def before(self) -> Token | None:
-        """The token before the one at fault."""
-        return self.tokens[self.index - 1] if self.index else None
-
-    @property
-    def operand(self) -> bool:
-        """Whether an expression could begin here."""
-        return "NUMBER" in self.expected and "TRUE" in self.expected
-
-    def kind_of(self, index: int) -> str:
-        """The kind of a token, and nothing outside of the declaration."""
-        return self.tokens[index].type if 0 <= index < len(self.tokens) else ""
-
-    def opener(self, index: int) -> int:
-        """The index of the bracket that the closing one at this index closes, or -1."""
-        depth = 0
-        for place in range(index, -1, -1):
-            kind = self.kind_of(place)
-            depth += (kind in ("CLOSE", "END")) - (kind in ("OPEN", "BEGIN"))
-            if depth == 0:
-                return place
-        return -1
-
-    def open_brackets(self) -> list[int]:
-        """The indices of the brackets that are open before the token at fault."""
-        found: list[int] = []
-        for place in range(self.index):
-            kind = self.kind_of(place)
-            if kind in CLOSERS:
-                found.append(place)
-            elif kind in CLOSERS.values() and found:
-                found.pop()
-        return found
-
-    def owner(self) -> str:
-        """The kind of the word whose round brackets, or whose first curly ones, end right before the token at fault."""
-        place = self.index - 1
-        while self.kind_of(place) in ("CLOSE", "END"):
-            place = self.opener(place) - 1
-        return self.kind_of(place)
-
-
-Advice = tuple[At, str, "str | None", "str | None", str]
-"""A place, a sentence, the name that is meant, a hint and a page."""
-
-
-def place_of(token: Token) -> At:
-    """Where a token begins."""
-    return At(token.line, token.column)
-
-
-def behind(token: Token) -> At:
-    """The place right behind a token."""
-    return At(token.end_line, token.end_column)
-
-
-def code(token: Token | None) -> str:
-    """A token in quotes of code."""
-    return f"`{token.value}`" if token is not None else "the end of the text"
-
-
-def advice(token: Token | None, what: str, hint: str | None = None, page: str = GRAMMAR, *, end: bool = False) -> Advice:
-    """An advice at a token, or right behind it."""
-    place = At(1, 1) if token is None else behind(token) if end else place_of(token)
-    return (place, what, token.value if token is not None and not end else None, hint, page)
 
 
 def lexical(text: str, offset: int, place: At) -> Fault:
@@ -125,6 +27,8 @@ def lexical(text: str, offset: int, place: At) -> Fault:
         place, what = At(place.line, place.column - 1), "`->` isn't a mark of the language."
         hint = "The variable of a `rep` is followed by `=>`, and the type of a result by `:` before it: `def f(x: int): int`."
         shown = "->"
+    elif sign == "." and text[:offset].endswith(")"):
+        hint = PARTS
     elif sign == "." and offset and text[offset - 1].isalpha():
         hint = "Nothing has members: a function is called by its name alone, as `f(x)`."
     elif sign.isalpha():
@@ -269,6 +173,8 @@ def _in_ceiling(stuck: Stuck) -> Advice | None:
 
 def _in_input(stuck: Stuck) -> Advice | None:
     here = stuck.here
+    if stuck.index == 1 and stuck.expected == {"NAME"} and here is not None and here.value not in WORDS:
+        return advice(here, f"An input has a name, and here is {code(here)}.", "Write `input src: bool;`.")
     if "COLON" in stuck.expected:
         return advice(here, "Between the name of an input and its type stands `:`.", "Write `input src: bool;`.")
     if "BOOL" in stuck.expected:
@@ -279,6 +185,8 @@ def _in_input(stuck: Stuck) -> Advice | None:
         return advice(here, what, "Write `int 0..10`." if stuck.kind_of(0) == "INPUT" else "Write `metric 1..9;`.")
     if "DOTS" in stuck.expected:
         return advice(here, "Between the least and the greatest number of a range stands `..`.", "Write `0..10`.")
+    if stuck.kind == "COMMA" and stuck.expected == {"SEMI"}:
+        return advice(here, "Each input has a declaration of its own.", "Write `input a: bool; input b: bool;`.")
     if stuck.kind == "IS":
         return advice(here, "An input gets its value from the network, and none in the program.", "End it with `;`.")
     return None
@@ -286,6 +194,8 @@ def _in_input(stuck: Stuck) -> Advice | None:
 
 def _in_define(stuck: Stuck) -> Advice | None:
     here, expected = stuck.here, stuck.expected
+    if stuck.index == 1 and here is not None and here.value not in WORDS:
+        return advice(here, f"A function has a name, and here is {code(here)}.", "Write `def f(x: int): int = x;`.")
     if stuck.index == 2 and expected == {"OPEN"}:
         what = "Behind the name of a function stand round brackets, also where it has no parameters."
         return advice(here, what, "Write `def f(): int = 1;`.")
@@ -293,6 +203,9 @@ def _in_define(stuck: Stuck) -> Advice | None:
         if stuck.kind == "FIELD":
             return advice(here, "A field is of a local type, and no part of a pair or of a field.", KINDS, TYPES)
         return advice(here, f"A type is missing here, and {code(here)} is none.", KINDS, TYPES)
+    if expected == {"COMMA"} and stuck.kind == "CLOSE":
+        what = "Brackets of a type hold a pair, which has two parts."
+        return advice(here, what, "Write `(int, bool)`, or one type without brackets.", TYPES)
     if expected == {"COLON"}:
         if stuck.kind in ("COMMA", "CLOSE"):
             what = f"The parameter {code(stuck.before)} has no type."
@@ -308,128 +221,6 @@ def _in_define(stuck: Stuck) -> Advice | None:
 def _in_main(stuck: Stuck) -> Advice | None:
     if stuck.index == 1:
         return advice(stuck.here, "Behind `main` stands `=` and one expression.", "Write `main = ..;`.")
-    return None
-
-
-def in_let(stuck: Stuck) -> Advice | None:
-    """Faults of a `let`."""
-    if stuck.kind == "LET" and stuck.operand:
-        what = "A `let` to the right of an operator stands in brackets of its own."
-        return advice(stuck.here, what, "Write `1 + (let x = 2 in x)`.")
-    if "IN" in stuck.expected:
-        what = "A `let` needs `in` and the expression in which its name stands, and here is {}."
-        return advice(stuck.here or stuck.before, what.format(code(stuck.here)), "Write `let x = 1 in x + 1`.")
-    if stuck.kind_of(stuck.index - 1) == "LET":
-        return advice(stuck.here, "A `let` binds one name.", "The parts of a pair are `fst(p)` and `snd(p)`.")
-    if stuck.kind_of(stuck.index - 2) == "LET" and stuck.expected == {"IS"}:
-        return advice(stuck.here, "Behind the name of a `let` stands `=`: it has the type of what it is bound to.")
-    return None
-
-
-def in_keeping(stuck: Stuck) -> Advice | None:
-    """Faults of the form of `rep`, `share` and `nbr`."""
-    before, here = stuck.kind_of(stuck.index - 1), stuck.here
-    form = "Write `rep(0){(x) => x + 1}`."
-    if before == "NBR":
-        return advice(here, "What `nbr` shares stands in curly brackets.", "Write `nbr{x}`.")
-    if before in KEEPING:
-        what = f"The first value of a {code(stuck.before)} stands in round brackets."
-        return advice(here, what, form)
-    if stuck.expected == {"BEGIN"} and before == "CLOSE" and stuck.owner() in KEEPING:
-        return advice(here, "The variable and the body of a `rep` or `share` stand in curly brackets.", form)
-    if stuck.expected == {"OPEN"} and before == "BEGIN":
-        return advice(here, "The variable of a `rep` or `share` stands in round brackets.", form)
-    if stuck.expected == {"ARROW"}:
-        return advice(here, "Between the variable of a `rep` or `share` and its body stands `=>`.", form)
-    if stuck.kind in ("COLON", "COMMA") and stuck.kind_of(stuck.index - 3) == "BEGIN":
-        if stuck.kind == "COLON":
-            what = "The variable of a `rep` or `share` has the type of the first value, and none is written."
-            return advice(here, what, form)
-        return advice(here, "A `rep` or `share` has one variable.", "Keep two values as a pair: `rep((0, 0)){(p) => ..}`.")
-    return None
-
-
-def in_choice(stuck: Stuck) -> Advice | None:
-    """Faults of the form of `if`."""
-    form = "Write `if (c) {a} {b}`."
-    before = stuck.kind_of(stuck.index - 1)
-    if before == "IF":
-        return advice(stuck.here, "The condition of an `if` stands in round brackets.", form)
-    if stuck.expected == {"BEGIN"} and stuck.owner() == "IF":
-        if before == "END":
-            return advice(stuck.here or stuck.before, "An `if` has two branches, and the second is missing.", form)
-        return advice(stuck.here, "A branch of an `if` stands in curly brackets.", form)
-    if stuck.kind == "IF" and not stuck.operand:
-        return advice(stuck.here, "An `if` stands in front of its condition and its two branches.", form)
-    return None
-
-
-def in_words(stuck: Stuck) -> Advice | None:
-    """Faults of `sense`, `uid`, `nbrLink` and of the arguments of builtins."""
-    before, here = stuck.kind_of(stuck.index - 1), stuck.here
-    if before == "SENSE":
-        return advice(here, "Behind `sense` stands the name of an input, without brackets.", "Write `sense src`.")
-    if before in ("UID", "NBRLINK") and stuck.kind == "OPEN":
-        return advice(here, f"{code(stuck.before)} is no function, and has no brackets.", "Take them away.")
-    if before in TAKES:
-        count, form = TAKES[before]
-        what = f"The arguments of {code(stuck.before)} stand in round brackets."
-        return advice(here, what, f"Write `{stuck.before.value}{form}`.")
-    brackets = stuck.open_brackets()
-    owner = stuck.kind_of(brackets[-1] - 1) if brackets else ""
-    if owner in TAKES and stuck.kind in ("COMMA", "CLOSE"):
-        word = stuck.tokens[brackets[-1] - 1]
-        count, form = TAKES[owner]
-        what = f"{code(word)} takes {count}."
-        return advice(here, what, f"Write `{word.value}{form}`.")
-    if stuck.kind == "COMMA" and brackets and stuck.kind_of(brackets[-1]) == "OPEN" and "CLOSE" in stuck.expected:
-        return advice(here, "A pair has two parts, and here comes a third.", "Nest pairs: `((a, b), c)`.")
-    return None
-
-
-def in_brackets(stuck: Stuck) -> Advice | None:
-    """Brackets that don't fit each other."""
-    brackets = stuck.open_brackets()
-    if stuck.kind in CLOSERS.values():
-        if not brackets:
-            return advice(stuck.here, f"This {code(stuck.here)} closes no bracket.", "Take it away.")
-        first = stuck.tokens[brackets[-1]]
-        if CLOSERS[first.type] != stuck.kind:
-            what = f"The {code(first)} on line {first.line}, column {first.column}, is closed by {code(stuck.here)}."
-            return advice(stuck.here, what, f"Close it by `{MARKS[CLOSERS[first.type]]}`.")
-    if not brackets or not stuck.expected & {CLOSERS[stuck.kind_of(brackets[-1])], "COMMA"}:
-        return None
-    first = stuck.tokens[brackets[-1]]
-    hint = f"Write `{MARKS[CLOSERS[first.type]]}` where it ends."
-    if stuck.here is None or stuck.kind == "SEMI" or stuck.kind in DECLARING:
-        return advice(first, f"This {code(first)} is never closed.", hint)
-    if stuck.kind == "COMMA" and first.type == "BEGIN":
-        what = f"The {code(first)} on line {first.line}, column {first.column}, isn't closed before this `,`."
-        return advice(stuck.here, what, hint)
-    return None
-
-
-def in_operators(stuck: Stuck) -> Advice | None:
-    """Operands and operators that are missing or one too many."""
-    here, before = stuck.here, stuck.before
-    if stuck.operand:
-        if stuck.kind == "MINUS":
-            what = "There are no negative numbers: `-` stands between two operands."
-            return advice(here, what, "Numbers are 0 to the ceiling, and a difference is never below 0.", TYPES)
-        if stuck.kind == "BEGIN":
-            return advice(here, "Curly brackets don't stand round an expression alone.", "Take round ones.")
-        if stuck.kind in DECLARING:
-            return advice(before, f"An expression is missing behind {code(before)}.", end=True)
-        return advice(here or before, f"An expression is missing between {code(before)} and {code(here)}.")
-    if "STAR" not in stuck.expected:
-        return None
-    if stuck.kind in ("LESS", "IS"):
-        what = "A comparison takes no other beside it."
-        return advice(here, what, "Join two by `and`, as `a < b and b < c`, or put one in brackets.")
-    if "SEMI" in stuck.expected and (here is None or stuck.kind in DECLARING):
-        return None
-    if stuck.kind not in ("SEMI", "COMMA", "COLON", "ARROW", "IN", "DOTS") and here is not None:
-        return advice(here, f"An operator is missing between {code(before)} and {code(here)}.")
     return None
 
 
@@ -467,6 +258,7 @@ RULES = (
     in_let,
     in_keeping,
     in_choice,
+    in_commas,
     in_brackets,
     in_words,
     in_operators,

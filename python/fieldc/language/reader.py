@@ -10,7 +10,8 @@ from lark import Lark, Token, Transformer, UnexpectedCharacters, UnexpectedToken
 
 from .faults import LIMITS, Fault
 from .grammar import GRAMMAR, STARTS
-from .mistakes import Stuck, lexical, missing_main, syntax
+from .mistakes import lexical, missing_main, syntax
+from .stuck import Stuck
 from .tree import At, Declaration, Expr, Local, Pair, Parameter, Type
 
 MOST_TOKENS = 4096
