@@ -26,7 +26,6 @@ class Verdict:
         node = self.nodes[place]
         why, hint = getattr(self, "_" + reason.replace("-", "_"))(blame)
         what = f"This `{node.form}` of `{node.name}`{self.way(node)} isn't of a form that is known to stabilise: {why}."
-        what = what.replace(",,", ",").replace(",.", ".")
         return Said(what, node.expr.at, node.name, hint, f"{PATTERNS}#{reason}")
 
     def way(self, node: Node) -> str:
@@ -34,11 +33,11 @@ class Verdict:
         if not node.calls:
             return ""
         steps = [f"`{site.function}`, called on {self.where(site.at)}" for site in reversed(node.calls)]
-        return ", in " + " in ".join(steps)
+        return ", in " + ", in ".join(steps) + ","
 
     def where(self, at: At) -> str:
-        """A place in words, with the comma that follows it within a sentence."""
-        return f"line {at.line}, column {at.column},"
+        """A place in words."""
+        return f"line {at.line}, column {at.column}"
 
     def part(self, place: int) -> str:
         """A part of the program in code, and where it stands."""
@@ -55,25 +54,25 @@ class Verdict:
         use = f"its `{node.name}` on {self.where(self.nodes[blame.part].expr.at)}"
         if blame.case == "if":
             hint = f"Choose by `mux`, which parts nobody, or put the whole `{node.form}` into the branches of the `if`."
-            why = f"{use} stands beneath the `if` on {self.where(outer.expr.at)}"
-            return f"{why} where only those are heard that take the same branch", hint
+            why = f"{use}, stands beneath the `if` on {self.where(outer.expr.at)}"
+            return f"{why}, where only those are heard that take the same branch", hint
         if blame.case == "let" and outer.expr.form == "call":
             hint = f"Write the body of `{outer.expr.name}` out here, or call it outside of the `{node.form}`."
             call = f"the call of `{outer.expr.name}` on {self.where(outer.expr.at)}"
-            return f"{use} stands beneath {call}, whose arguments are bound by a `let` when it is unfolded", hint
+            return f"{use}, stands beneath {call}, whose arguments are bound by a `let` when it is unfolded", hint
         if blame.case == "nbr":
             if node.form == "share":
                 hint = f"In a `share`, `{node.name}` is what is heard already: leave the `nbr` out."
-                return f"{use} stands beneath the `nbr` on {self.where(outer.expr.at)}", hint
+                return f"{use}, stands beneath the `nbr` on {self.where(outer.expr.at)}", hint
             share = f"`{self.heard(blame)} + 1` in place of `nbr{{{node.name} + 1}}`"
             hint = f"Share `{node.name}` alone, and compute with what is heard: {share}."
-            return f"{self.part(blame.round)} shares more than `{node.name}` alone", hint
+            return f"{self.part(blame.round)}, shares more than `{node.name}` alone", hint
         hint = f"Move it out of the body, and write `{self.heard(blame)}` where it is used."
-        return f"{use} stands beneath the `{outer.form}` of `{outer.name}` on {self.where(outer.expr.at)}", hint
+        return f"{use}, stands beneath the `{outer.form}` of `{outer.name}` on {self.where(outer.expr.at)}", hint
 
     def _unguarded(self, blame: Blame) -> tuple[str, str]:
         name = self.nodes[blame.place].name
-        why = f"its `{name}` on {self.where(self.nodes[blame.part].expr.at)} is what the device itself held"
+        why = f"its `{name}` on {self.where(self.nodes[blame.part].expr.at)}, is what the device itself held"
         if self.nodes[blame.round].name == "rise":
             return why, f"Only the second argument of a `rise(a, {name}, s)` that is the whole body may be that."
         heard = f"nbr{{{name}}}"
@@ -84,11 +83,11 @@ class Verdict:
         guard, part = self.part(blame.round), self.nodes[blame.part]
         hint = "Bind one integer by a `let` outside, as `let p = .. in`, and write `nbr{p} < p` with it in every guard."
         if blame.case == "no-integer":
-            return f"its guard {guard} compares `{part.name}`, which is a `{part.type}` and no integer", hint
+            return f"its guard {guard}, compares `{part.name}`, which is a `{part.type}` and no integer", hint
         if blame.case == "another":
-            return f"its guard {guard} compares `{part.name}` with another potential", hint
+            return f"its guard {guard}, compares `{part.name}` with another potential", hint
         compared = quoted(self.program.text, part.expr)
-        return f"its guard {guard} compares {compared}, which isn't a name that is bound outside", hint
+        return f"its guard {guard}, compares {compared}, which isn't a name that is bound outside", hint
 
     def _no_growth(self, blame: Blame) -> tuple[str, str]:
         heard, name = self.heard(blame), self.nodes[blame.place].name
@@ -98,7 +97,7 @@ class Verdict:
             return f"what it hears may shrink from neighbour to neighbour, by {part}", hint
         if blame.case == "without":
             hint = "Move it into the second argument of `minHoodLoc`."
-            return f"{part} stands beside what it hears, and doesn't grow from neighbour to neighbour", hint
+            return f"{part}, stands beside what it hears, and doesn't grow from neighbour to neighbour", hint
         if blame.case == "no-integer":
             hint = "Keep a pair whose first part is an integer that grows, as a hop count."
             return f"what it hears, {part}, is of type `{self.nodes[blame.part].type.local}`, and only an integer grows", hint
@@ -112,8 +111,8 @@ class Verdict:
         if blame.case == "pair":
             hint = "The first part has to be an integer that grows"
             hint += f", and the second one `snd({heard})`, or without `{name}`."
-            return f"of the pair {part} it isn't known that it grows", hint
-        why = f"of {part} it isn't known that it grows from neighbour to neighbour"
+            return f"of the pair {part}, it isn't known that it grows", hint
+        why = f"of {part}, it isn't known that it grows from neighbour to neighbour"
         return why, f"Add to what is heard, as `{heard} + 1`."
 
     def _growth_zero(self, blame: Blame) -> tuple[str, str]:
@@ -128,7 +127,7 @@ class Verdict:
 
     def _lead_at_ceiling(self, blame: Blame) -> tuple[str, str]:
         ceiling = self.program.ceiling
-        why = f"its local pair {self.part(blame.part)} may have the ceiling {ceiling} as its first part"
+        why = f"its local pair {self.part(blame.part)}, may have the ceiling {ceiling} as its first part"
         return f"{why}, where pairs no longer grow", f"Keep the first part below the ceiling, at {ceiling - 1}."
 
     def _rise_zero(self, blame: Blame) -> tuple[str, str]:
@@ -140,7 +139,7 @@ class Verdict:
         guard = GUARD.replace("nbr{x}", heard)
         words = self._half_guarded(blame, heard, part, guard) | self._half_formed(blame, heard, part)
         collected = (
-            f"{part} hears all neighbours, without a guard",
+            f"{part}, hears all neighbours, without a guard",
             f"Bind a potential outside, as `let p = .. in`, and hear those alone that are lower: `{guard}`.",
         )
         return words.get(blame.case, collected)
@@ -158,16 +157,16 @@ class Verdict:
                 f"Write `{guard}` with one comparison, and choose by anything else outside of the guard.",
             ),
             "turned": (
-                f"its guard {part} has the neighbour's value on the right",
+                f"its guard {part}, has the neighbour's value on the right",
                 "Write `nbr{p} < p`, which hears those that are lower; to hear those that are higher, "
                 "bind the potential the other way round.",
             ),
             "otherwise": (
-                f"{part} stands where its guard isn't true, as the third argument of `mux`",
+                f"{part}, stands where its guard isn't true, as the third argument of `mux`",
                 f"Write `{guard}`, with what is heard as the second argument.",
             ),
             "both": (
-                f"behind its guard, beside what is heard, {part} hears `{name}` too",
+                f"behind its guard, beside what is heard, {part}, hears `{name}` too",
                 f"Write `{guard}`, with a third argument that is without `{name}`.",
             ),
         }
@@ -177,11 +176,11 @@ class Verdict:
         node = self.nodes[blame.place]
         return {
             "maxHoodLoc": (
-                f"{part} takes a greatest value, which may be handed round for ever",
+                f"{part}, takes a greatest value, which may be handed round for ever",
                 f"Take a least value that grows: `minHoodLoc({heard} + 1, ..)`; or collect along a potential, behind guards.",
             ),
             "minHoodLoc": (
-                f"{part} isn't the whole body, and what is done with it is of no known form",
+                f"{part}, isn't the whole body, and what is done with it is of no known form",
                 f"Keep the `minHoodLoc` alone in the `{node.form}`, and compute with it outside.",
             ),
             "limit": (f"the limit of its `rise`, {part}, depends on `{node.name}`", "Take a limit that doesn't."),
@@ -194,7 +193,7 @@ class Verdict:
                 "Take a second argument that doesn't.",
             ),
             "": (
-                f"its body {part} is none of the known ones",
+                f"its body {part}, is none of the known ones",
                 "Write it as a least value over the neighbours, or collect along a potential.",
             ),
         }

@@ -276,14 +276,14 @@ def told(found: Openness, names: Sequence[str]) -> str:
 
 def _told_rests(found: Openness, rests: tuple[Rest, Rest], names: Sequence[str]) -> list[str]:
     lines = ["Two starts rest apart, so the program doesn't settle on this network:"]
+    does = "runs one round from there, which changes nothing"
     if found.from_table:
         lines = ["Two orders of firings rest apart, so the program doesn't settle from the table of this network:"]
+        does = "gets there, and ends with a round that changes nothing"
     for rest, name in zip(rests, names):
         lines.append(f"  from {rest.start}, {rest.order}, after at most {counted(rest.rounds, 'round')}:")
         lines.append(f"    {shown(rest.values, found.devices)}")
-        lines.append(f"    fieldc replay {name} runs one round from there, which changes nothing")
-    if found.from_table:
-        lines = [line.replace("runs one round from there", "gets there, and ends with a round") for line in lines]
+        lines.append(f"    fieldc replay {name} {does}")
     return [*lines, _differ(found.devices)]
 
 
