@@ -79,7 +79,7 @@ def _no(call: Call, words: list[str]) -> tuple[Section | None, Said | None]:
 def _open(_call: Call, _words: list[str]) -> tuple[Section | None, Said | None]:
     what = "For some device no number of rounds was found after which it holds one value"
     what += ", whatever the devices hold at the start."
-    hint = "`fieldc settle` looks for two starts from which the devices come to rest at different values."
+    hint = "`fieldc settle --why` looks for two starts from which the devices come to rest at different values."
     return None, Said(what, None, None, hint, "docs/settle.md")
 
 

@@ -69,7 +69,8 @@ def in_choice(stuck: Stuck) -> Advice | None:
             return advice(stuck.here or stuck.before, "An `if` has two branches, and the second is missing.", IF)
         return advice(stuck.here, "A branch of an `if` stands in curly brackets.", IF)
     if stuck.kind == "BEGIN" and before == "END" and stuck.owner() == "IF":
-        return advice(stuck.here, "An `if` has two branches, and here comes a third.", "Nest: `if (c) {a} {if (d) {b} {e}}`.")
+        what = "An `if` has two branches, and here comes a third."
+        return advice(stuck.here, what, "Nest: `if (c) {a} {if (d) {b} {e}}`.")
     if stuck.kind == "IF" and not stuck.operand:
         return advice(stuck.here, "An `if` stands in front of its condition and its two branches.", IF)
     return None
@@ -165,7 +166,8 @@ def in_operators(stuck: Stuck) -> Advice | None:
         return None
     if stuck.kind == "NAME" and before.type == "NUMBER" and before.end_pos == here.start_pos:
         whole = before.value + here.value
-        place, what, _, hint, page = advice(before, f"`{whole}` is no number of the language.", "A number is decimal digits alone.")
+        hint = "A number is decimal digits alone."
+        place, what, _, hint, page = advice(before, f"`{whole}` is no number of the language.", hint)
         return (place, what, whole, hint, page)
     if stuck.kind not in ("SEMI", "COMMA", "COLON", "ARROW", "IN", "DOTS") and here is not None:
         return advice(here, f"An operator is missing between {code(before)} and {code(here)}.")

@@ -25,7 +25,7 @@ def lexical(text: str, offset: int, place: At) -> Fault:
     hint = CHARACTERS.get(sign, SIGNS)
     if around.startswith("->"):
         place, what = At(place.line, place.column - 1), "`->` isn't a mark of the language."
-        hint = "The variable of a `rep` is followed by `=>`, and the type of a result by `:` before it: `def f(x: int): int`."
+        hint = "Behind the variable of a `rep` stands `=>`, and before the type of a result `:`, as `def f(x: int): int`."
         shown = "->"
     elif sign == "." and text[:offset].endswith(")"):
         hint = PARTS
