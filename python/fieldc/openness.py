@@ -22,7 +22,7 @@ from . import results
 from .language import Unfolded, reading
 from .places import counted, listed
 from .progress import Progress
-from .refusals import Call, Fault, Section
+from .refusals import Call, Fault, Refusal, Section
 from .results import Values, word_of
 from .sections import write
 
@@ -210,7 +210,7 @@ def look(
     for start, given, before in _given(search, from_table):
         swing: Swing | None = None
         for order in ORDERS:
-            rest = search.rest(start, given, before, order)
+            rest = _tried(search, start, given, before, order)
             tried.append(Attempt(start, order, _outcome(rest)))
             if isinstance(rest, Swing):
                 swing = swing or rest
@@ -226,6 +226,16 @@ def look(
         if swing is not None:
             return Openness(None, swing, tuple(tried), from_table)
     return Openness(None, None, tuple(tried), from_table)
+
+
+def _tried(search: Search, start: str, scene: str, before: str, order: str) -> Rest | Swing | str:
+    """What comes of a start and an order; a table that is too long for an input is told, and no refusal."""
+    try:
+        return search.rest(start, scene, before, order)
+    except Refusal as refusal:
+        if refusal.word != "limit":
+            raise
+        return f"not tried to its end, {refusal.line}"
 
 
 def _outcome(rest: Rest | Swing | str) -> str:
