@@ -202,11 +202,11 @@ def beside(name: str, part: str) -> str:
 
 def graph(name: str) -> Any:
     """The networkx graph of a file in GraphML or GML, or of a list of links. Raises Fault, of status 3, for any other."""
+    text = text_of_file(name)
     try:
         import networkx
     except ImportError:
         raise Fault("graphs need networkx (Debian: python3-networkx)") from None
-    text = text_of_file(name)
     try:
         if re.search(r"<graphml\b", text[:4000]):
             return networkx.parse_graphml(text)

@@ -10,7 +10,7 @@ import sys
 import unittest
 from pathlib import Path
 
-from helping import EXAMPLES, HOPS, LINE, TOP, expected, fieldc, needs_fc
+from helping import EXAMPLES, HOPS, LINE, TOP, expected, fieldc, needs, needs_fc
 from test_files import InFolder
 
 from fieldc import network
@@ -154,6 +154,7 @@ class Answers(InFolder):
                 process.stdout.close()
                 self.assertEqual((process.stderr.read(), process.wait()), (b"", 6))
 
+    @needs("matplotlib")
     def test_the_settled_value_goes_into_a_picture(self) -> None:
         done = fieldc("picture", EXAMPLES / "sensor_field_stable.txt", "--of", "settle", "-o", "x.svg", folder=self.folder)
         self.assertEqual(done.status, 0, done.errors)
@@ -192,6 +193,7 @@ class LongWork(InFolder):
         self.assertTrue(said.endswith("\r"))
         self.assertEqual(said.split("\r")[-2].strip(), "")
 
+    @needs("matplotlib")
     def test_drawing_says_so_too(self) -> None:
         self.file(network.grid(32, 32).scene(), "net.json")
         said = self.on_a_terminal("picture", self.folder / "net.json", "-o", self.folder / "net.png", fc="fc")

@@ -17,7 +17,7 @@ ABSENT = [name for name in ("ensurepip", "wheel") if importlib.util.find_spec(na
 
 
 @needs("setuptools")
-@unittest.skipIf(bool(ABSENT), f"{', '.join(ABSENT)} isn't there (Debian: python3-venv, python3-wheel)")
+@unittest.skipIf(bool(ABSENT), f"{' and '.join(ABSENT)} isn't there (Debian: python3-venv and python3-wheel)")
 class Install(unittest.TestCase):
     def test_pip_installs_the_command(self) -> None:
         with tempfile.TemporaryDirectory() as kept:

@@ -153,6 +153,7 @@ class Graphs(unittest.TestCase):
         self.assertEqual(found.positions[2], (1.0, 2.5))
         self.assertEqual(from_graph(self.graph(note="x"), PROGRAM).inputs[1], {"src": False, "w": 2})
 
+    @needs("numpy")
     def test_values_of_numpy_are_taken(self) -> None:
         numpy = __import__("numpy")
         found = from_graph(self.graph(a=numpy.bool_(True), b=numpy.int64(4)))

@@ -1,14 +1,16 @@
-"""The pages stay true: the programs of docs/patterns.md have the verdicts and settle lines that stand there, and the
-commands of docs/tour.md write what stands below them."""
+"""The pages stay true: the programs of docs/patterns.md have the verdicts and settle lines that stand there, the commands
+of docs/tour.md write what stands below them, and the calls of docs/fieldc.md answer what stands beside them."""
 
 from __future__ import annotations
 
+import ast
 import os
 import re
 import shutil
 import subprocess
 import tempfile
 import unittest
+from collections.abc import Mapping
 from pathlib import Path
 
 from helping import TOP, needs, needs_fc
@@ -66,6 +68,33 @@ def commands_of(tour: str) -> list[tuple[str, str]]:
                 command.append(next(lines))
             commands.append(("\n".join(command), []))
     return [(command, "".join(line + "\n" for line in expected)) for command, expected in commands]
+
+
+def plain(value: object) -> object:
+    """A value with dictionaries in the place of mappings."""
+    if isinstance(value, Mapping):
+        return dict(value)
+    return tuple(map(plain, value)) if isinstance(value, tuple) else value
+
+
+@needs_fc
+@needs("networkx")
+class Library(unittest.TestCase):
+    def test_the_calls_of_the_page_answer_what_stands_beside_them(self) -> None:
+        page = (TOP / "docs/fieldc.md").read_text()
+        code = re.search(r"^```python\n(.*?)^```$", page, re.MULTILINE | re.DOTALL)
+        assert code is not None
+        names: dict[str, object] = {}
+        lines, compared = code[1].splitlines(), 0
+        for statement in ast.parse(code[1]).body:
+            text = ast.get_source_segment(code[1], statement) or ""
+            beside = lines[(statement.end_lineno or 0) - 1].partition("  # ")[2]
+            if isinstance(statement, ast.Expr):
+                self.assertEqual(plain(eval(text, names)), ast.literal_eval(beside), text)
+                compared += 1
+            else:
+                exec(text, names)
+        self.assertEqual(compared, 5)
 
 
 def vivid(path: Path) -> int:

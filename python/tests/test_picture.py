@@ -67,6 +67,7 @@ class Gathered(unittest.TestCase):
         (frame,) = gathered(program, read_scene(scene), None, expected("sensor_field_trace")).frames
         self.assertEqual(frame.walks[7], (0, 1, 2, 3, 4, 5, 6, 15, 7))
 
+    @needs("numpy")
     def test_positions_of_all_devices_of_all_shows(self) -> None:
         program, scene, script = sections_of("crowd_run.txt")
         found = gathered(program, read_scene(scene), script, expected("crowd_run"))
