@@ -89,7 +89,7 @@ class Library(unittest.TestCase):
         for statement in ast.parse(code[1]).body:
             text = ast.get_source_segment(code[1], statement) or ""
             beside = lines[(statement.end_lineno or 0) - 1].partition("  # ")[2]
-            if isinstance(statement, ast.Expr):
+            if isinstance(statement, ast.Expr) and beside:
                 self.assertEqual(plain(eval(text, names)), ast.literal_eval(beside), text)
                 compared += 1
             else:
