@@ -4,6 +4,7 @@ from __future__ import annotations
 
 import importlib
 import json
+import shutil
 import sys
 import threading
 import time
@@ -58,15 +59,15 @@ class Progress:
             return
         if self._said is None:
             self._said = self._what()
-        line = f"fieldc: {self._said}: {past:.0f} s{more}"
+        line = f"fieldc: {self._said}: {past:.0f} s{more}"[: shutil.get_terminal_size().columns - 1]
         self._stream.write("\r" + line.ljust(self._width))
         self._stream.flush()
         self._width = max(self._width, len(line))
 
 
 def described(call: Call) -> str:
-    """What a call does, in a few words: its command, and how many devices, nodes and rounds it has, as far as is known."""
-    parts = [" ".join(["fc", *call.words[:1], *(word for word in call.words[1:] if word.startswith("--"))])]
+    """What a call does, in a few words: its words, and how many devices, nodes and rounds it has, as far as is known."""
+    parts = [" ".join(["fc", *call.words])]
     texts = {section.kind: section.text for section in call.sections}
     counts = [_devices(texts.get("network", "")), _nodes(texts.get("program", "")), _rounds(call, texts)]
     return ", ".join([*parts, *(count for count in counts if count)])

@@ -188,7 +188,7 @@ class LongWork(InFolder):
         program, scene = self.file(HOPS, "hops.fc"), self.file(LINE, "line.json")
         script = self.file("scramble 1\nrun 20\nmix 3 set 0 src false\nshow\n", "script.txt")
         said = self.on_a_terminal("run", program, scene, script, fc=self.slow(2.5))
-        self.assertIn("fieldc: fc run --workers, 3 devices", said)
+        self.assertIn("fieldc: fc run --workers 4, 3 devices", said)
         self.assertIn("23 rounds: 2 s", said)
         self.assertTrue(said.endswith("\r"))
         self.assertEqual(said.split("\r")[-2].strip(), "")
