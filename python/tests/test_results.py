@@ -12,6 +12,7 @@ from fieldc import Call, Fault, Refusal, Section, Verdict, results
 from fieldc.json_results import plain, refused
 from fieldc.program import joined
 from fieldc.refusals import plain_explanation
+from fieldc.sections import cut
 from fieldc.telling import told
 
 
@@ -63,6 +64,25 @@ class Readers(unittest.TestCase):
             found.values[0] = 1  # type: ignore[index]
         with self.assertRaises(AttributeError):
             found.rounds = 1  # type: ignore[misc]
+
+
+class Sections(unittest.TestCase):
+    def test_they_keep_their_lines(self) -> None:
+        rows = {
+            "a\nb\n%%\nc\n": [(1, "a\nb\n"), (4, "c\n")],
+            "%%\n%%": [(1, ""), (2, ""), (3, "")],
+            "a\r\n%%\r\nb": [(1, "a\r\n"), (3, "b")],
+            " %%\n%% \n%%%\n": [(1, " %%\n%% \n%%%\n")],
+            "a\x0b%%\x85\u2028%%\rb": [(1, "a\x0b%%\x85\u2028%%\rb")],
+            "": [(1, "")],
+        }
+        for text, wanted in rows.items():
+            self.assertEqual(cut("-", text), wanted, repr(text))
+
+    def test_an_input_is_put_together_as_it_was(self) -> None:
+        for text in ("a\nb\n%%\nc\n", "a\n%%\n%%\nb", "%%\nx\n%%\n"):
+            parts = [Section("x", "-", first, part) for first, part in cut("-", text)]
+            self.assertEqual(joined(parts), text.encode())
 
 
 class Json(unittest.TestCase):
