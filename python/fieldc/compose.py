@@ -1,0 +1,260 @@
+"""Programs made of blocks: puts the blocks that a program calls in front of it."""
+
+from __future__ import annotations
+
+import argparse
+import json
+import os
+import re
+import sys
+from collections.abc import Iterable, Sequence
+from dataclasses import dataclass, field, replace
+from pathlib import Path
+
+from . import program as fc
+from .blocks import Block, Declaration, Library, Token, declarations, listing, not_there, own_library, read_library, shown, tokens
+from .refusals import Call, Explanation, Fault, Refusal, Section, explained, plain_explanation
+from .sections import cut, read, write
+from .telling import place_of, quoted
+
+SUMMARY = "puts the blocks that a program calls in front of it"
+EPILOG = "docs/blocks.md has the blocks. Example: fieldc compose mine.fc > composed.fc"
+NUMBERS = re.compile(r"device numbers of 0 to (\d+)")
+OF_PROGRAMS = ("lexical", "syntax", "types", "limit tokens", "limit depth", "limit nodes")
+
+
+@dataclass(frozen=True)
+class Composition:
+    """A program with the blocks that it calls.
+
+    `own` is the program as it was; `taken` are the blocks, each behind what it calls, and `asked` has for each the line of
+    `own` that led to it. `inserted` stands in `text` at the offset `at`.
+    """
+
+    own: str
+    at: int
+    inserted: str
+    taken: tuple[Block, ...] = ()
+    asked: dict[str, int] = field(default_factory=dict)
+
+    @property
+    def text(self) -> str:
+        """The composed program."""
+        return self.own[: self.at] + self.inserted + self.own[self.at :]
+
+    def origin(self, line: int) -> tuple[int, Block | None]:
+        """Where a line of `text` comes from: the line of `own`, or the line that led to the block in which it stands."""
+        last = self.own.count("\n", 0, self.at) + self.inserted.startswith("\n")
+        if line <= last:
+            return line, None
+        for block in self.taken:
+            last += block.text.count("\n") + 2
+            if line <= last:
+                return self.asked[block.name], block
+        return line - self.inserted.count("\n"), None
+
+
+def _unknown(called: Sequence[Token], library: Library) -> Fault:
+    """The refusal of names that no block has, each at its first line with what is near it."""
+    first = {token.text: token for token in reversed(called)}
+    wanted = sorted(first.values(), key=lambda token: token.at)
+    return Fault("\n".join(f"line {token.line}: {not_there(token.text, library)}" for token in wanted), 3)
+
+
+def _with_their_own(called: Iterable[Token], library: Library) -> dict[str, int]:
+    """The blocks that are called and what they call, each behind its own, with the line that led to it.
+
+    Raises Fault where a block calls what isn't there or comes back to itself.
+    """
+    asked: dict[str, int] = {}
+
+    def take(name: str, line: int, over: tuple[str, ...]) -> None:
+        if name in over:
+            raise Fault(f"the library: {' calls '.join([*over[over.index(name):], name])}", 3)
+        if name in asked:
+            return
+        for inner in library[name].calls:
+            if inner not in library:
+                raise Fault(f"the library: {name} of {library[name].file} calls {inner}, which no block is", 3)
+            take(inner, line, (*over, name))
+        asked[name] = line
+
+    for token in called:
+        take(token.text, token.line, ())
+    return asked
+
+
+def _refuse_clashes(parts: Sequence[Declaration], taken: Sequence[Block], asked: dict[str, int]) -> None:
+    """Raises Fault where the program declares a name that a taken block has, or isn't of the language of one."""
+    names = {block.name for block in taken}
+    for part in parts:
+        if part.kind in ("def", "input") and part.name in names:
+            user = next((f"that {block.name} calls" for block in taken if part.name in block.calls), "that is called here")
+            raise Fault(f"line {part.line}: {part.kind} {part.name} has the name of a block {user}: take another name", 3)
+    later = [block.name for block in taken if block.second_language]
+    if later and [token.text for token in parts[0].tokens] != ["language", "2", ";"]:
+        line = asked[later[0]]
+        raise Fault(f"line {line}: the block {later[0]} is of language 2: begin the program with `language 2;`", 3)
+
+
+def composed(text: str, library: Library) -> Composition:
+    """A program with the blocks that it calls and doesn't define, and those that these call.
+
+    They stand in front of its first `def` or `main`, each behind what it calls, in the order of the calls. All else stays.
+    Raises Fault where a name that is called is no block's, or a name or the language doesn't go with the blocks.
+    """
+    parts = declarations(text)
+    own = {part.name for part in parts if part.kind == "def"}
+    called = [token for part in parts for token in part.calls() if token.text not in own]
+    missing = [token for token in called if token.text not in library]
+    if missing:
+        raise _unknown(missing, library)
+    asked = _with_their_own(called, library)
+    taken = tuple(library[name] for name in asked)
+    if not taken:
+        return Composition(text, len(text), "")
+    _refuse_clashes(parts, taken, asked)
+    place = next(place for place, part in enumerate(parts) if part.kind in ("def", "main") or part.calls())
+    at = parts[place - 1].end if place else 0
+    rest = re.compile(r"[ \t\r]*(//[^\n]*)?\n").match(text, at) if place else None
+    lines = "".join(f"// {block.name}: the block of library/{block.file}\n{block.text}\n" for block in taken)
+    if place and not rest:
+        lines = "\n" + lines
+    return Composition(text, rest.end() if rest else at, lines, taken, asked)
+
+
+def compose(text: str, library: Library) -> str:
+    """The text of a program with the blocks that it calls. Raises Fault as `composed` does."""
+    return composed(text, library).text
+
+
+def warnings(made: Composition, network: str, name: str) -> list[str]:
+    """What a network makes of the blocks: device numbers that the ceiling cuts, or that a block doesn't tell apart.
+
+    Raises Fault where the network is no scene.
+    """
+    try:
+        greatest = max(int(device["id"]) for device in json.loads(network)["devices"])
+    except (ValueError, KeyError, TypeError):
+        raise Fault(f"{name} is no scene: run fc on it, which says where it isn't", 3) from None
+    words = [token.text for token in tokens(made.text)]
+    found = []
+    ceilings = [int(number) for word, number in zip(words, words[1:]) if word == "ceiling" and number.isdigit()]
+    if "uid" in words and ceilings and ceilings[0] < greatest:
+        found.append(f"the ceiling {ceilings[0]} is below device {greatest} of {name}: uid is cut there, so devices aren't told apart")
+    for block in made.taken:
+        limit = NUMBERS.search(block.notes.get("Needs", ""))
+        if limit and int(limit.group(1)) < greatest:
+            found.append(f"the block {block.name} tells devices apart up to {limit.group(1)}, and {name} has device {greatest}")
+    return found
+
+
+def least_network(text: str) -> str:
+    """A network of one device, with the least value of each input that a program declares: to have its types judged."""
+    inputs: dict[str, int | bool] = {}
+    for part in declarations(text):
+        words = [token.text for token in part.tokens]
+        if part.kind == "input" and len(words) > 4:
+            inputs[part.name] = int(words[4]) if words[3] == "int" and words[4].isdigit() else False
+    return json.dumps({"devices": [{"id": 0, "inputs": inputs}], "links": []})
+
+
+def _line(made: Composition, words: Sequence[str]) -> int | None:
+    """The line of the composed text that a refusal means, or nothing where it means none."""
+    numbers = [int(word) for word in words if word.isdigit()]
+    parts = declarations(made.text)
+    if words[0] == "lexical" and numbers:
+        return made.text.count("\n", 0, numbers[0]) + 1
+    if words[0] in ("syntax", "types") and numbers and parts:
+        return parts[min(numbers[0], len(parts)) - 1].line
+    return None
+
+
+def own_explanation(made: Composition, refusal: Refusal, name: str) -> Explanation:
+    """What `fc` refuses in a composed program, explained at the line of the program as it was, in the file `name`."""
+    words = refusal.line.split()
+    found = explained(refusal.call, refusal)
+    plain = found == plain_explanation(refusal)
+    line = _line(made, words) if found.line is None else found.line
+    section = Section("program", name, 1, made.own)
+    what = " ".join(word for word in words if not (words[0] in ("lexical", "syntax", "types") and word.isdigit())) if plain else found.what
+    if line is None:
+        return replace(found, what=what, section=section, line=None, column=None)
+    own, block = made.origin(line)
+    if block is not None:
+        within = f"in the block {block.name} of library/{block.file}, to which this line leads: {what}"
+        return replace(found, what=within, section=section, line=own, column=None)
+    begin = made.own.rfind("\n", 0, made.at) + 1
+    split = made.inserted.startswith("\n") and own == made.own.count("\n", 0, made.at) + 1 and line > own
+    column = found.column + made.at - begin if split and found.column is not None else found.column
+    return replace(found, what=what, section=section, line=own, column=column)
+
+
+def told(explanation: Explanation) -> str:
+    """An explanation as lines for standard error."""
+    lines = [f"fieldc compose: {place_of(explanation)}{explanation.what}", *("    " + row for row in quoted(explanation))]
+    lines += [f"try: {explanation.hint}"] * bool(explanation.hint) + [f"read: {explanation.page}"] * bool(explanation.page)
+    return "\n".join(lines) + "\n"
+
+
+def judged(made: Composition, network: str) -> Refusal | None:
+    """What `fc` refuses in a composed program on a network, or nothing; what is wrong with the network isn't said."""
+    sections = (Section("program", "", 1, made.text), Section("network", "", 1, network))
+    try:
+        fc.answered(Call(("check",), sections))
+    except Refusal as refusal:
+        return refusal if refusal.line.startswith(OF_PROGRAMS) else None
+    return None
+
+
+def built() -> bool:
+    """Whether a built `fc` is there: `./fc` of a checkout that isn't built would take a minute."""
+    here = fc.checkout()
+    if os.environ.get("FC") or here is None:
+        return True
+    return fc.find() != str(here / "fc") or (here / "crates/fc_program/out/fc_program").exists()
+
+
+def arguments(parser: argparse.ArgumentParser) -> None:
+    """The command line of `compose`."""
+    parser.add_argument("program", nargs="?", default="-", help="the program, or an input of fc that begins with it; - is standard input")
+    parser.add_argument("--network", metavar="FILE", help="a network beside: warns of device numbers that aren't told apart on it")
+    parser.add_argument("--library", metavar="DIR", action="append", default=[], help="a folder of blocks of your own, beside those of fc")
+    parser.add_argument("--unjudged", action="store_true", help="doesn't ask fc whether it takes the composed program")
+    parser.add_argument("-o", "--output", metavar="FILE", default="-", help="where the composed program goes; else to standard output")
+    parser.add_argument("--list", action="store_true", help="lists the blocks, a line each")
+    parser.add_argument("--show", metavar="NAME", help="shows one block")
+
+
+def _composed_of(name: str, text: str, library: Library) -> Composition:
+    """The composition of a file's program; a fault of its names the file."""
+    try:
+        return composed(text, library)
+    except Fault as fault:
+        lines = str(fault).splitlines()
+        named = (f"{name} {line}" if line.startswith("line ") else line for line in lines)
+        raise Fault("\n".join(named), fault.status) from None
+
+
+def perform(options: argparse.Namespace) -> int:
+    """The command `compose`: 0, or the status of what `fc` refuses, which it tells on standard error. Raises Fault."""
+    library = read_library([own_library(), *map(Path, options.library)])
+    if options.list or options.show is not None:
+        write(options.output, listing(library) if options.list else shown(options.show, library))
+        return 0
+    (_, text), *others = cut(options.program, read(options.program))
+    name = "standard input" if options.program == "-" else options.program
+    made = _composed_of(name, text, library)
+    network, beside = (others[0][1], name) if others else (None, name)
+    if options.network is not None:
+        network, beside = read(options.network), options.network
+    for warning in [] if network is None else warnings(made, network, beside):
+        print(f"warning: {warning}", file=sys.stderr)
+    if not options.unjudged and built():
+        refusal = judged(made, least_network(text) if network is None else network)
+        if refusal is not None:
+            sys.stderr.write(told(own_explanation(made, refusal, options.program)))
+            return refusal.status
+    front = made.text if not others or made.text.endswith("\n") else made.text + "\n"
+    write(options.output, "%%\n".join([front, *(part for _, part in others)]))
+    return 0
