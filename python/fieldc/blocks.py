@@ -13,12 +13,13 @@ from .refusals import Fault
 from .sections import read
 
 WORDS = frozenset(
-    "ceiling input metric def main let in if nbr rep sense uid nbrLink not and or true false int bool field min max mux fst"
-    " snd minHoodLoc maxHoodLoc sumHood anyHood allHood share rise language".split()
+    "ceiling input metric def main let in if nbr rep sense uid nbrLink not and or true false int bool field min max mux"
+    " fst snd minHoodLoc maxHoodLoc sumHood anyHood allHood share rise language".split()
 )
 LIKE_CALLS = ("minHoodLoc", "maxHoodLoc", "sumHood", "anyHood", "allHood", "min", "max", "mux", "fst", "snd", "rise")
 TOKEN = re.compile(r"//[^\n]*|[A-Za-z][A-Za-z0-9_]*|[0-9]+|\.\.|=>|[^\sA-Za-z0-9]")
 NOTE = re.compile(r"(Elsewhere|K|Uses|Needs): ?(.*)")
+PARAMETER = re.compile(r"(\w+)\s*:\s*(.*?)(?=,\s*\w+\s*:|$)", re.DOTALL)
 SHORTEST_ELSEWHERE = 4
 
 
@@ -70,8 +71,8 @@ class Block:
     """A function of a library.
 
     `gives` says what it gives; `notes` has what stands behind `Elsewhere`, `K`, `Uses` and `Needs`, and a part of other
-    blocks has no `K`. `comment` and `text` are its lines in `file`; `parameters` have a name and a type each; `calls` are
-    the functions that it calls.
+    blocks has no `K`. `comment` and `text` are its lines in `file`; `parameters` have a name and a type each; `calls`
+    are the functions that it calls.
     """
 
     name: str
@@ -144,13 +145,12 @@ def _noted(comment: str) -> tuple[str, dict[str, str]]:
 
 def _parameters(text: str) -> tuple[tuple[str, str], ...]:
     """The parameters of the text of a function, each with its type as it is written."""
-    end, depth = text.index("("), 0
-    for end in range(text.index("("), len(text)):
+    begin, depth = text.index("("), 0
+    for end in range(begin, len(text)):
         depth += {"(": 1, ")": -1}.get(text[end], 0)
         if depth == 0:
             break
-    inside = text[text.index("(") + 1 : end]
-    return tuple((name, " ".join(kind.split())) for name, kind in re.findall(r"(\w+)\s*:\s*(.*?)(?=,\s*\w+\s*:|$)", inside, re.DOTALL))
+    return tuple((name, " ".join(kind.split())) for name, kind in PARAMETER.findall(text[begin + 1 : end]))
 
 
 def _block(path: Path, text: str, function: Declaration) -> Block:
@@ -178,8 +178,8 @@ def _block(path: Path, text: str, function: Declaration) -> Block:
 def read_library(folders: Iterable[Path]) -> Library:
     """The blocks of some folders, by name: the functions of their files NAME.fc.
 
-    Raises Fault where a folder has no such file, one can't be read or has another declaration than `def`, or two functions
-    have one name.
+    Raises Fault where a folder has no such file, one can't be read or has another declaration than `def`, or two
+    functions have one name.
     """
     found: Library = {}
     for folder in folders:
@@ -193,7 +193,8 @@ def read_library(folders: Iterable[Path]) -> Library:
                 if words[:1] != ["def"] or words[2:3] != ["("] or words[-1] != ";":
                     raise Fault(f"{path} line {function.line}: a file of blocks has functions alone", 3)
                 if function.name in found:
-                    raise Fault(f"{path} line {function.line}: {function.name} stands in {found[function.name].file} too", 3)
+                    other = found[function.name].file
+                    raise Fault(f"{path} line {function.line}: {function.name} stands in {other} too", 3)
                 found[function.name] = _block(path, text, function)
     return found
 
@@ -205,7 +206,7 @@ def own_library() -> Path:
 
 
 def near(name: str, library: Library) -> list[str]:
-    """At most four blocks and builtins whose name is near: first those that are called so elsewhere, then by spelling."""
+    """At most four blocks and builtins whose name is near: those that are called so elsewhere, then by spelling."""
     blocks = [block for block in library.values() if not block.is_part]
     wanted = name.lower()
     elsewhere = [b.name for b in blocks if wanted in re.findall(r"[a-z0-9_]+", b.notes.get("Elsewhere", "").lower())]

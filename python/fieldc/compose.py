@@ -12,13 +12,15 @@ from dataclasses import dataclass, field, replace
 from pathlib import Path
 
 from . import program as fc
-from .blocks import Block, Declaration, Library, Token, declarations, listing, not_there, own_library, read_library, shown, tokens
+from .blocks import Block, Declaration, Library, Token, declarations, not_there, tokens
+from .blocks import listing, own_library, read_library, shown
 from .refusals import Call, Explanation, Fault, Refusal, Section, explained, plain_explanation
 from .sections import cut, read, write
 from .telling import place_of, quoted
 
 SUMMARY = "puts the blocks that a program calls in front of it"
 EPILOG = "docs/blocks.md has the blocks. Example: fieldc compose mine.fc > composed.fc"
+LINE = re.compile(r"\bline (\d+)")
 NUMBERS = re.compile(r"device numbers of 0 to (\d+)")
 OF_PROGRAMS = ("lexical", "syntax", "types", "limit tokens", "limit depth", "limit nodes")
 
@@ -27,8 +29,8 @@ OF_PROGRAMS = ("lexical", "syntax", "types", "limit tokens", "limit depth", "lim
 class Composition:
     """A program with the blocks that it calls.
 
-    `own` is the program as it was; `taken` are the blocks, each behind what it calls, and `asked` has for each the line of
-    `own` that led to it. `inserted` stands in `text` at the offset `at`.
+    `own` is the program as it was; `taken` are the blocks, each behind what it calls, and `asked` has for each the line
+    of `own` that led to it. `inserted` stands in `text` at the offset `at`.
     """
 
     own: str
@@ -43,7 +45,7 @@ class Composition:
         return self.own[: self.at] + self.inserted + self.own[self.at :]
 
     def origin(self, line: int) -> tuple[int, Block | None]:
-        """Where a line of `text` comes from: the line of `own`, or the line that led to the block in which it stands."""
+        """Where a line of `text` comes from: the line of `own`, or the one that led to the block in which it stands."""
         last = self.own.count("\n", 0, self.at) + self.inserted.startswith("\n")
         if line <= last:
             return line, None
@@ -89,8 +91,10 @@ def _refuse_clashes(parts: Sequence[Declaration], taken: Sequence[Block], asked:
     names = {block.name for block in taken}
     for part in parts:
         if part.kind in ("def", "input") and part.name in names:
-            user = next((f"that {block.name} calls" for block in taken if part.name in block.calls), "that is called here")
-            raise Fault(f"line {part.line}: {part.kind} {part.name} has the name of a block {user}: take another name", 3)
+            users = [f"that {block.name} calls" for block in taken if part.name in block.calls]
+            user = (users or ["that is called here"])[0]
+            what = f"line {part.line}: {part.kind} {part.name} has the name of a block {user}"
+            raise Fault(f"{what}: take another name", 3)
     later = [block.name for block in taken if block.second_language]
     if later and [token.text for token in parts[0].tokens] != ["language", "2", ";"]:
         line = asked[later[0]]
@@ -100,8 +104,8 @@ def _refuse_clashes(parts: Sequence[Declaration], taken: Sequence[Block], asked:
 def composed(text: str, library: Library) -> Composition:
     """A program with the blocks that it calls and doesn't define, and those that these call.
 
-    They stand in front of its first `def` or `main`, each behind what it calls, in the order of the calls. All else stays.
-    Raises Fault where a name that is called is no block's, or a name or the language doesn't go with the blocks.
+    They stand in front of its first `def` or `main`, each behind what it calls, in the order of the calls. All else
+    stays. Raises Fault where a name that is called is no block's, or a name or the language doesn't go with the blocks.
     """
     parts = declarations(text)
     own = {part.name for part in parts if part.kind == "def"}
@@ -119,7 +123,7 @@ def composed(text: str, library: Library) -> Composition:
     rest = re.compile(r"[ \t\r]*(//[^\n]*)?\n").match(text, at) if place else None
     lines = "".join(f"// {block.name}: the block of library/{block.file}\n{block.text}\n" for block in taken)
     if place and not rest:
-        lines = "\n" + lines
+        lines = "\n" + lines + " " * (at - text.rfind("\n", 0, at) - 1)
     return Composition(text, rest.end() if rest else at, lines, taken, asked)
 
 
@@ -141,11 +145,13 @@ def warnings(made: Composition, network: str, name: str) -> list[str]:
     found = []
     ceilings = [int(number) for word, number in zip(words, words[1:]) if word == "ceiling" and number.isdigit()]
     if "uid" in words and ceilings and ceilings[0] < greatest:
-        found.append(f"the ceiling {ceilings[0]} is below device {greatest} of {name}: uid is cut there, so devices aren't told apart")
+        cut_off = f"the ceiling {ceilings[0]} is below device {greatest} of {name}"
+        found.append(f"{cut_off}: uid is cut there, so devices aren't told apart")
     for block in made.taken:
         limit = NUMBERS.search(block.notes.get("Needs", ""))
         if limit and int(limit.group(1)) < greatest:
-            found.append(f"the block {block.name} tells devices apart up to {limit.group(1)}, and {name} has device {greatest}")
+            apart = f"the block {block.name} tells devices apart up to {limit.group(1)}"
+            found.append(f"{apart}, and {name} has device {greatest}")
     return found
 
 
@@ -164,36 +170,46 @@ def _line(made: Composition, words: Sequence[str]) -> int | None:
     numbers = [int(word) for word in words if word.isdigit()]
     parts = declarations(made.text)
     if words[0] == "lexical" and numbers:
-        return made.text.count("\n", 0, numbers[0]) + 1
+        return fc.bytes_of(made.text)[: numbers[0]].count(b"\n") + 1
     if words[0] in ("syntax", "types") and numbers and parts:
         return parts[min(numbers[0], len(parts)) - 1].line
     return None
+
+
+def _at_own_lines(made: Composition, said: str) -> str:
+    """A sentence that speaks of lines of the composed text, with the lines of the program as it was."""
+
+    def own(match: re.Match[str]) -> str:
+        line, block = made.origin(int(match.group(1)))
+        return f"line {line}" if block is None else f"a line of the block {block.name}"
+
+    return LINE.sub(own, said)
 
 
 def own_explanation(made: Composition, refusal: Refusal, name: str) -> Explanation:
     """What `fc` refuses in a composed program, explained at the line of the program as it was, in the file `name`."""
     words = refusal.line.split()
     found = explained(refusal.call, refusal)
-    plain = found == plain_explanation(refusal)
+    what = _at_own_lines(made, found.what)
+    if found == plain_explanation(refusal) and words[0] in ("lexical", "syntax", "types"):
+        what = " ".join(word for word in words if not word.isdigit())
+    hint = _at_own_lines(made, found.hint) if found.hint else None
+    mine = replace(found, what=what, hint=hint, section=Section("program", name, 1, made.own), line=None, column=None)
     line = _line(made, words) if found.line is None else found.line
-    section = Section("program", name, 1, made.own)
-    what = " ".join(word for word in words if not (words[0] in ("lexical", "syntax", "types") and word.isdigit())) if plain else found.what
     if line is None:
-        return replace(found, what=what, section=section, line=None, column=None)
+        return mine
     own, block = made.origin(line)
     if block is not None:
         within = f"in the block {block.name} of library/{block.file}, to which this line leads: {what}"
-        return replace(found, what=within, section=section, line=own, column=None)
-    begin = made.own.rfind("\n", 0, made.at) + 1
-    split = made.inserted.startswith("\n") and own == made.own.count("\n", 0, made.at) + 1 and line > own
-    column = found.column + made.at - begin if split and found.column is not None else found.column
-    return replace(found, what=what, section=section, line=own, column=column)
+        return replace(mine, what=within, line=own)
+    return replace(mine, line=own, column=found.column)
 
 
 def told(explanation: Explanation) -> str:
     """An explanation as lines for standard error."""
-    lines = [f"fieldc compose: {place_of(explanation)}{explanation.what}", *("    " + row for row in quoted(explanation))]
-    lines += [f"try: {explanation.hint}"] * bool(explanation.hint) + [f"read: {explanation.page}"] * bool(explanation.page)
+    lines = [f"fieldc compose: {place_of(explanation)}{explanation.what}"]
+    lines += ["    " + row for row in quoted(explanation)]
+    lines += [f"{word}: {said}" for word, said in (("try", explanation.hint), ("read", explanation.page)) if said]
     return "\n".join(lines) + "\n"
 
 
@@ -217,13 +233,15 @@ def built() -> bool:
 
 def arguments(parser: argparse.ArgumentParser) -> None:
     """The command line of `compose`."""
-    parser.add_argument("program", nargs="?", default="-", help="the program, or an input of fc that begins with it; - is standard input")
-    parser.add_argument("--network", metavar="FILE", help="a network beside: warns of device numbers that aren't told apart on it")
-    parser.add_argument("--library", metavar="DIR", action="append", default=[], help="a folder of blocks of your own, beside those of fc")
-    parser.add_argument("--unjudged", action="store_true", help="doesn't ask fc whether it takes the composed program")
-    parser.add_argument("-o", "--output", metavar="FILE", default="-", help="where the composed program goes; else to standard output")
-    parser.add_argument("--list", action="store_true", help="lists the blocks, a line each")
-    parser.add_argument("--show", metavar="NAME", help="shows one block")
+    add = parser.add_argument
+    joined = "the program, or an input of fc that begins with it (- is standard input)"
+    add("program", metavar="FILE", nargs="?", default="-", help=joined)
+    add("--network", metavar="FILE", help="a network beside: warns of device numbers that aren't told apart on it")
+    add("--library", metavar="DIR", action="append", default=[], help="a folder of blocks of your own besides")
+    add("--unjudged", action="store_true", help="doesn't ask fc whether it takes the composed program")
+    add("-o", "--output", metavar="FILE", default="-", help="where the composed program goes; else to standard output")
+    add("--list", action="store_true", help="lists the blocks, a line each")
+    add("--show", metavar="NAME", help="shows one block")
 
 
 def _composed_of(name: str, text: str, library: Library) -> Composition:

@@ -1,4 +1,4 @@
-"""What the tests of the blocks share: three networks, calls of every block, and the values that are expected of them."""
+"""What the tests of the blocks share: three networks, and calls of every block with the values that are expected."""
 
 from __future__ import annotations
 
@@ -16,7 +16,8 @@ ROOT = Path(__file__).resolve().parent.parent.parent
 CEILING = 1000
 HEAD = (
     "language 2; ceiling 1000; metric 1..9;\n"
-    "input source: bool; input goal: bool; input beacon: bool; input blocked: bool; input here: bool; input value: int 0..20;\n"
+    "input source: bool; input goal: bool; input beacon: bool; input blocked: bool; input here: bool; "
+    "input value: int 0..20;\n"
 )
 TRUTHS = ("source", "goal", "beacon", "blocked", "here")
 NAMES = (*TRUTHS, "value")
@@ -71,15 +72,19 @@ def thrown(name: str, graph: nx.Graph, seed: int, **truths: set[int]) -> Scene:
 def grid() -> Scene:
     """24 devices, six in each of four rows, numbered row by row."""
     graph = nx.convert_node_labels_to_integers(nx.grid_2d_graph(4, 6), ordering="sorted")
-    return thrown("grid", graph, 3, source={0, 17}, goal={23}, beacon={1, 16, 22}, blocked={8, 9, 14}, here={2, 3, 8, 9, 10, 14, 20})
+    here = {2, 3, 8, 9, 10, 14, 20}
+    return thrown("grid", graph, 3, source={0, 17}, goal={23}, beacon={1, 16, 22}, blocked={8, 9, 14}, here=here)
 
 
 def split() -> Scene:
-    """A ring of 14 devices and, apart from it, a tree of 9, in which there is no source; with gaps between the numbers."""
+    """A ring of 14 devices; apart from it a tree of 9, and ten devices that are all linked; the numbers have gaps."""
     ring = nx.relabel_nodes(nx.cycle_graph(14), lambda d: 63 - 3 * d)
     tree = nx.relabel_nodes(nx.balanced_tree(2, 2), lambda d: 4 * d + 1)
     tree.add_edges_from([(25, 29), (29, 31)])
-    return thrown("split", nx.union(ring, tree), 5, source={63}, goal={42}, beacon={63, 39, 5}, blocked={60, 5}, here={33, 36, 39, 5, 1, 13})
+    dense = nx.relabel_nodes(nx.complete_graph(10), lambda d: 2 * d + 2)
+    whole = nx.union_all([ring, tree, dense])
+    here = {33, 36, 39, 5, 1, 13, 2, 8}
+    return thrown("split", whole, 5, source={63}, goal={42}, beacon={63, 39, 5}, blocked={60, 5, 20}, here=here)
 
 
 def scenes() -> list[Scene]:
@@ -139,7 +144,10 @@ CASES = (
     Case("hops(sense source, 3)", lambda s: v.hops(s.net, s.source, 3)),
     Case(METRES, metres),
     Case("distance(sense goal, 9)", lambda s: v.distance(s.net, s.goal, 9)),
-    Case("distanceBy(sense source, 200, nbr{sense value} + 1)", lambda s: v.distanceBy(s.net, s.source, 200, entering(s))),
+    Case(
+        "distanceBy(sense source, 200, nbr{sense value} + 1)",
+        lambda s: v.distanceBy(s.net, s.source, 200, entering(s)),
+    ),
     Case("distanceSlow(sense source, 60, 2)", lambda s: v.distanceSlow(s.net, s.source, 60, 2), {"m": 1}),
     Case("hopsAround(sense source, sense blocked, 16)", lambda s: v.hopsAround(s.net, s.source, s.blocked, 16)),
     Case("distanceAround(sense source, sense blocked, 80)", lambda s: v.distanceAround(s.net, s.source, s.blocked, 80)),
@@ -148,7 +156,9 @@ CASES = (
     Case("nearest(sense beacon, 12, 99)", lambda s: v.nearest(s.net, s.beacon, 12, 99)),
     Case("nearest(sense beacon, 2, 99)", lambda s: v.nearest(s.net, s.beacon, 2, 99)),
     Case("nearestByHops(sense beacon, 12, 99)", lambda s: v.nearestByHops(s.net, s.beacon, 12, 99)),
+    Case("nearestByHops(sense beacon, 2, 99)", lambda s: v.nearestByHops(s.net, s.beacon, 2, 99)),
     Case("nearestByDistance(sense beacon, 60, 99)", lambda s: v.nearestByDistance(s.net, s.beacon, 60, 99)),
+    Case("nearestByDistance(sense beacon, 8, 99)", lambda s: v.nearestByDistance(s.net, s.beacon, 8, 99)),
     Case(f"parent({HOPS})", lambda s: v.parent(s.net, hops12(s))),
     Case("parent(hops(sense beacon, 2))", lambda s: v.parent(s.net, v.hops(s.net, s.beacon, 2))),
     Case(f"parentIn(sense value, {HOPS})", lambda s: v.parentIn(s.net, s.value, hops12(s))),
@@ -159,7 +169,11 @@ CASES = (
         lambda s: v.greatestAlong(s.net, metres(s), s.same(0), s.value),
         {"values": 61},
     ),
-    Case(f"sumAlong({METRES}, 0, sense value)", lambda s: v.sumAlong(s.net, metres(s), s.same(0), s.value), {"values": 61}),
+    Case(
+        f"sumAlong({METRES}, 0, sense value)",
+        lambda s: v.sumAlong(s.net, metres(s), s.same(0), s.value),
+        {"values": 61},
+    ),
     Case(f"forecast({METRES}, sense blocked)", lambda s: v.forecast(s.net, metres(s), s.blocked), {"values": 61}),
     Case(f"onWay({HOPS}, 12, sense goal)", lambda s: v.onWay(s.net, hops12(s), 12, s.goal)),
     Case("distanceBetween(sense goal, sense beacon, 12)", lambda s: v.distanceBetween(s.net, s.goal, s.beacon, 12)),
@@ -190,8 +204,10 @@ CASES = (
     Case("leaderPacked(12, 63)", lambda s: v.leaderPacked(s.net, 12, 63)),
     Case("regionSum(sense beacon, 12, sense value)", lambda s: v.regionSum(s.net, s.beacon, 12, s.value)),
     Case("regionSum(sense beacon, 3, sense value)", lambda s: v.regionSum(s.net, s.beacon, 3, s.value)),
+    Case("regionSum(sense beacon, 1, sense value)", lambda s: v.regionSum(s.net, s.beacon, 1, s.value)),
     Case("regionMean(sense beacon, 12, sense value)", lambda s: v.regionMean(s.net, s.beacon, 12, s.value)),
     Case("regionMean(sense beacon, 2, sense value)", lambda s: v.regionMean(s.net, s.beacon, 2, s.value)),
+    Case("regionMean(sense beacon, 1, sense value)", lambda s: v.regionMean(s.net, s.beacon, 1, s.value)),
     Case("ruling(not sense blocked, 2)", lambda s: v.ruling(s.net, s.net.each(lambda d: not s.blocked[d]), 2)),
     Case("sparse(2)", lambda s: v.sparse(s.net, 2)),
     Case("heads(uid)", lambda s: v.heads(s.net, s.net.uid()), {"values": CEILING + 1}),

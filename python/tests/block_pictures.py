@@ -39,7 +39,8 @@ def draw(code: str, title: str, path: Path) -> None:
         program, network = Path(folder) / "program.fc", Path(folder) / "network.json"
         program.write_text(compose.compose(cases.HEAD + code, library))
         network.write_text(cases.scenes()[0].text())
-        words = [str(program), str(network), "--of", "stable", "--positions", str(POSITIONS), "--title", title, "-o", str(path)]
+        words = [str(program), str(network), "--of", "stable", "--positions", str(POSITIONS)]
+        words += ["--title", title, "-o", str(path)]
         words += ["--numbers"] * any(block in code for block in OF_NUMBERS)
         status = main(["picture", *words, *(word for name in marks(code) for word in ("--mark", name))])
     if status != 0:

@@ -1,7 +1,7 @@
 """What the blocks of library/ stand for, found another way: by walks, sets and sums on a networkx graph.
 
-Nothing here fires a device or hears a neighbour. Arguments and results are values by device; `far`, `limit` and the like
-are numbers. The functions have the names and the order of arguments of the blocks.
+Nothing here fires a device or hears a neighbour. Arguments and results are values by device; `far`, `limit` and the
+like are numbers. The functions have the names and the order of arguments of the blocks.
 """
 
 from __future__ import annotations
@@ -156,10 +156,11 @@ def way_down(net: Net, p: Field, device: int, up: Field) -> list[int]:
 
 
 def along(net: Net, p: Field, start: Field, own: Field, gather: Callable[[int, int], int]) -> Field:
-    """What is gathered from where no neighbour is lower; of several least ways the one with the least outcome counts."""
+    """What is gathered from where no neighbour is lower; of several least ways that with the least outcome counts."""
     found: Field = {}
     for device in sorted(net.devices, key=lambda d: p[d]):
-        choices = [(p[near] + net.graph[device][near][WEIGHT], gather(found[near], own[device])) for near in lower(net, p, device)]
+        links = net.graph[device]
+        choices = [(p[near] + links[near][WEIGHT], gather(found[near], own[device])) for near in lower(net, p, device)]
         found[device] = min(choices)[1] if choices else start[device]
     return found
 

@@ -1,7 +1,7 @@
 """Tests of the blocks of library/, of docs/blocks.md, and of the examples that are made of blocks.
 
 Each call of block_cases.py is checked, solved, and run from rubbish for K rounds on three networks; what comes out is
-compared with block_values.py, which finds it by walks, sets and sums. `--pictures` makes the pictures of the page again.
+compared with block_values.py, which finds it by walks, sets and sums. `--pictures` makes the page's pictures again.
 """
 
 from __future__ import annotations
@@ -34,6 +34,8 @@ PAGE = ROOT / "docs" / "blocks.md"
 RUBBISH = 9
 LEAST_WEIGHT = 1
 KINDS = ("program", "network", "script")
+OTHERWISE = "an `if` in the `rep`"
+CONSOLE = re.compile(r"^```console\n\$ (.*?)^```$", re.MULTILINE | re.DOTALL)
 
 
 def ask(words: Iterable[str], *texts: str) -> str:
@@ -89,8 +91,8 @@ def expected_rounds(case: cases.Case, scene: cases.Scene) -> int:
     named = dict(zip(block.parameters, arguments(case.call)))
     numbers = {name: int(text) for (name, _), text in named.items() if text.isdigit()}
     deepest = max(level(text, kind, scene.text()) for (_, kind), text in named.items())
-    known = {"n": len(scene.net.devices), "w": LEAST_WEIGHT, "L": deepest, "max": max, "min": min, **numbers, **case.known}
-    return eval(formula(block), {"__builtins__": {}}, known)  # noqa: S307
+    known = {"n": len(scene.net.devices), "w": LEAST_WEIGHT, "L": deepest, **numbers, **case.known}
+    return eval(formula(block), {"__builtins__": {}}, {"max": max, "min": min, **known})  # noqa: S307
 
 
 @unittest.skipUnless(compose.built(), "fc isn't built (./build)")
@@ -142,7 +144,7 @@ class Library(unittest.TestCase):
                 self.assertTrue(block.comment.startswith(f"// {block.name}: "))
                 self.assertEqual(list(block.notes), ["Elsewhere", "K", "Uses", "Needs"])
                 self.assertEqual(block.notes["Uses"], (", ".join(block.calls) or "nothing") + ".")
-                self.assertTrue(all(len(line) <= 126 for line in (block.comment + block.text).splitlines()))
+                self.assertTrue(all(len(line) <= 120 for line in (block.comment + block.text).splitlines()))
 
     def test_each_block_has_a_case(self) -> None:
         wanted = {block.name for block in LIBRARY.values() if not block.is_part}
@@ -202,9 +204,9 @@ class Page(unittest.TestCase):
                 self.assertEqual(yes, "`{}, {}`".format(*self.said(right)))
                 self.assertTrue(yes.startswith("`yes "))
                 if settled != "open":
-                    self.assertEqual(self.settled(left) == self.settled(right), " an `if` in the `rep`" not in f" {theirs}")
-        told = "of the {} programs on the left, {no} do. That isn't a proof that they never settle. Of {settles} of them"
-        self.assertIn(told.format(len(rows), **counted), self.text)
+                    self.assertEqual(self.settled(left) == self.settled(right), not theirs.startswith(OTHERWISE))
+        self.assertIn("of the {} programs on the left, {no} do.".format(len(rows), **counted), self.text)
+        self.assertIn("Of {settles} of them".format(**counted), self.text)
 
     def settled(self, text: str) -> list[str]:
         """The values to which the devices settle on the page's network."""
@@ -221,17 +223,17 @@ class Page(unittest.TestCase):
 
     @unittest.skipIf(importlib.util.find_spec("fieldc.explain") is None, "fieldc has no explanations yet")
     def test_the_commands(self) -> None:
-        commands = [block.split("\n$ ") for block in re.findall(r"^```console\n\$ (.*?)^```$", self.text, re.MULTILINE | re.DOTALL)]
+        commands = [command for block in CONSOLE.findall(self.text) for command in block.split("\n$ ")]
         with tempfile.TemporaryDirectory() as folder:
             for name in ("tools", "examples", "library", "python"):
                 (Path(folder) / name).symlink_to(ROOT / name)
             fc = Path(folder) / "fc"
             fc.write_text(f'#!/bin/sh\nexec "{program.find()}" "$@"\n')
             fc.chmod(0o755)
-            for command in [command for block in commands for command in block]:
+            for command in commands:
                 typed, _, wanted = command.partition("\n")
                 done = subprocess.run(["bash", "-c", typed], cwd=folder, capture_output=True, text=True, check=False)
-                self.assertEqual((done.stdout, done.stderr), (wanted if wanted.endswith("\n") or not wanted else wanted + "\n", ""), typed)
+                self.assertEqual((done.stdout.splitlines(), done.stderr), (wanted.splitlines(), ""), typed)
 
     def test_the_pictures_are_there(self) -> None:
         names = re.findall(r"\(pictures/([^)]*)\)", self.text)
