@@ -249,9 +249,8 @@ def _composed_of(name: str, text: str, library: Library) -> Composition:
     try:
         return composed(text, library)
     except Fault as fault:
-        lines = str(fault).splitlines()
-        named = (f"{name} {line}" if line.startswith("line ") else line for line in lines)
-        raise Fault("\n".join(named), fault.status) from None
+        lines = [re.sub(r"^line (\d+):", lambda at: f"{name}:{at[1]}:", line) for line in str(fault).splitlines()]
+        raise Fault("\n".join(lines), fault.status) from None
 
 
 def perform(options: argparse.Namespace) -> int:

@@ -1,12 +1,13 @@
 """Tests of the blocks of library/, of docs/blocks.md, and of the examples that are made of blocks.
 
 Each call of block_cases.py is checked, solved, and run from rubbish for K rounds on three networks; what comes out is
-compared with block_values.py, which finds it by walks, sets and sums. `--pictures` makes the page's pictures again.
+compared with block_values.py, which finds it by walks, sets and sums.
 """
 
 from __future__ import annotations
 
 import importlib.util
+import os
 import re
 import subprocess
 import sys
@@ -224,18 +225,21 @@ class Page(unittest.TestCase):
     @unittest.skipIf(importlib.util.find_spec("fieldc.explain") is None, "fieldc has no explanations yet")
     def test_the_commands(self) -> None:
         commands = [command for block in CONSOLE.findall(self.text) for command in block.split("\n$ ")]
+        known = {"env": dict(os.environ, FC=program.find()), "capture_output": True, "text": True, "check": False}
         with tempfile.TemporaryDirectory() as folder:
-            for name in ("tools", "examples", "library", "python"):
+            for name in ("examples", "fieldc"):
                 (Path(folder) / name).symlink_to(ROOT / name)
-            fc = Path(folder) / "fc"
-            fc.write_text(f'#!/bin/sh\nexec "{program.find()}" "$@"\n')
-            fc.chmod(0o755)
             for command in commands:
                 typed, _, wanted = command.partition("\n")
-                done = subprocess.run(["bash", "-c", typed], cwd=folder, capture_output=True, text=True, check=False)
+                done = subprocess.run(["bash", "-c", typed], cwd=folder, **known)
                 self.assertEqual((done.stdout.splitlines(), done.stderr), (wanted.splitlines(), ""), typed)
 
     def test_the_pictures_are_there(self) -> None:
+        """`PICTURES` in the environment draws them again."""
+        if "PICTURES" in os.environ:
+            import block_pictures
+
+            block_pictures.draw_all()
         names = re.findall(r"\(pictures/([^)]*)\)", self.text)
         self.assertGreaterEqual(len(names), 10)
         for name in names:
@@ -265,9 +269,4 @@ class Examples(unittest.TestCase):
 
 
 if __name__ == "__main__":
-    if "--pictures" in sys.argv:
-        import block_pictures
-
-        block_pictures.draw_all()
-    else:
-        unittest.main()
+    unittest.main()

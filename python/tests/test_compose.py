@@ -4,7 +4,6 @@ from __future__ import annotations
 
 import contextlib
 import io
-import subprocess
 import sys
 import tempfile
 import unittest
@@ -301,21 +300,10 @@ class Command(unittest.TestCase):
     def test_faults_name_the_file(self) -> None:
         status, text, said = asked("-", standing=FRONT + "main = zzz(1);")
         self.assertEqual((status, text), (3, ""))
-        self.assertIn("standard input line 2: no block is called zzz", said)
+        self.assertIn("standard input:2: no block is called zzz", said)
         status, _, said = asked("nowhere.fc")
         self.assertEqual(status, 5)
         self.assertIn("nowhere.fc can't be read", said)
-
-    def test_tools_compose_is_the_same_command(self) -> None:
-        done = subprocess.run(
-            [sys.executable, "-B", str(ROOT / "tools" / "compose")],
-            input="ceiling 9; main = parent(uid);",
-            capture_output=True,
-            text=True,
-            check=False,
-        )
-        wanted = compose.compose("ceiling 9; main = parent(uid);", LIBRARY)
-        self.assertEqual((done.returncode, done.stdout), (0, wanted))
 
 
 if __name__ == "__main__":
