@@ -98,7 +98,7 @@ class Block:
     @property
     def summary(self) -> str:
         """What it gives, up to the first stop."""
-        return re.split(r"[.;:] ", self.gives + " ")[0].rstrip(". ")
+        return re.split(r"[.;] ", self.gives + " ")[0]
 
 
 Library = dict[str, Block]
@@ -222,8 +222,8 @@ def not_there(name: str, library: Library) -> str:
 
 
 def listing(library: Library) -> str:
-    """A line for each block but those that are only parts: how it is called, and what it gives."""
-    shown = [block for block in library.values() if not block.is_part]
+    """A line for each block that isn't only a part, by name: how it is called, and what it gives."""
+    shown = sorted((b for b in library.values() if not b.is_part), key=lambda block: block.name.lower())
     width = max((len(block.call) for block in shown), default=0)
     return "".join(f"{block.call:{width}}  {block.summary}\n" for block in shown)
 

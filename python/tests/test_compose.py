@@ -220,7 +220,9 @@ class Telling(unittest.TestCase):
         text = FRONT + "// \u00e4\u00f6\u00fc\nmain = hops(true, 9) \u00a7;"
         made = compose.composed(text, LIBRARY)
         offset = len(made.text[: made.text.index("\u00a7")].encode())
-        self.assertIn("mine.fc:3: lexical", self.told(text, f"lexical {offset}").replace("mine.fc:3:22", "mine.fc:3"))
+        said = self.told(text, f"lexical {offset}")
+        self.assertRegex(said, r"^fieldc compose: mine\.fc:3:")
+        self.assertIn("    main = hops(true, 9) \u00a7;\n", said)
 
     def test_a_refusal_without_a_place(self) -> None:
         self.assertIn("mine.fc: ", self.told(FRONT + "main = hops(true, 1);", "limit nodes 3000"))
