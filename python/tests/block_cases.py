@@ -198,6 +198,8 @@ CASES = (
     Case("everywhere(sense value < 21, 12)", lambda s: v.everywhere(s.net, below(s, 21), 12)),
     Case("everywhere(sense value < 20, 12)", lambda s: v.everywhere(s.net, below(s, 20), 12)),
     Case("leastOf64(sense value + 3, 12)", lambda s: v.leastOf64(s.net, s.net.each(lambda d: s.value[d] + 3), 12)),
+    Case("leastOf1024(sense value * 37 + 3, 12)", lambda s: v.leastOf1024(s.net, scaled(s), 12)),
+    Case("leastOf1024(uid * 9, 12)", lambda s: v.leastOf1024(s.net, s.net.each(lambda d: d * 9), 12)),
     Case("greatestOf64(sense value, 12)", lambda s: v.greatestOf64(s.net, s.value, 12)),
     Case("fadingMax(sense value, 20)", lambda s: v.fadingMax(s.net, s.value, 20)),
     Case("leader(12)", lambda s: v.leader(s.net, 12)),
@@ -208,7 +210,8 @@ CASES = (
     Case("regionMean(sense beacon, 12, sense value)", lambda s: v.regionMean(s.net, s.beacon, 12, s.value)),
     Case("regionMean(sense beacon, 2, sense value)", lambda s: v.regionMean(s.net, s.beacon, 2, s.value)),
     Case("regionMean(sense beacon, 1, sense value)", lambda s: v.regionMean(s.net, s.beacon, 1, s.value)),
-    Case("ruling(not sense blocked, 2)", lambda s: v.ruling(s.net, s.net.each(lambda d: not s.blocked[d]), 2)),
+    Case("ruling(not sense blocked, 2)", lambda s: v.ruling(s.net, unblocked(s), 2)),
+    Case("rulingOf1024(not sense blocked, 2)", lambda s: v.rulingOf1024(s.net, unblocked(s), 2)),
     Case("sparse(2)", lambda s: v.sparse(s.net, 2)),
     Case("heads(uid)", lambda s: v.heads(s.net, s.net.uid()), {"values": CEILING + 1}),
     Case("heads(100 - uid)", lambda s: v.heads(s.net, s.net.each(lambda d: 100 - d)), {"values": 101}),
@@ -224,6 +227,14 @@ CASES = (
     Case("div(sense value * 37, sense value)", lambda s: v.div(s.net, s.net.each(lambda d: s.value[d] * 37), s.value)),
     Case("rest(sense value * 37, uid)", lambda s: v.rest(s.net, s.net.each(lambda d: s.value[d] * 37), s.net.uid())),
 )
+
+
+def unblocked(s: Scene) -> dict[int, bool]:
+    return s.net.each(lambda d: not s.blocked[d])
+
+
+def scaled(s: Scene) -> dict[int, int]:
+    return s.net.each(lambda d: s.value[d] * 37 + 3)
 
 
 def below(s: Scene, bound: int) -> dict[int, bool]:

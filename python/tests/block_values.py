@@ -294,6 +294,10 @@ def leastOf64(net: Net, value: Field, far: int) -> Field:
     return net.each(lambda d: min(value[met] for met in near[d]))
 
 
+def leastOf1024(net: Net, value: Field, far: int) -> Field:
+    return leastOf64(net, value, far)
+
+
 def greatestOf64(net: Net, value: Field, far: int) -> Field:
     near = close_to(net, far)
     return net.each(lambda d: max(value[met] for met in near[d]))
@@ -330,12 +334,16 @@ def regionMean(net: Net, leader: Truths, far: int, value: Field) -> Field:
     return net.each(lambda d: sum(value[met] for met in inside[d]) // max(1, len(inside[d])))
 
 
-def ruling(net: Net, able: Truths, grain: int) -> Truths:
+def ruling(net: Net, able: Truths, grain: int, bits: int = 6) -> Truths:
     near, left = close_to(net, grain + 1), where(able)
-    for bit in (32, 16, 8, 4, 2, 1):
+    for bit in reversed([2**place for place in range(bits)]):
         low = {device for device in left if not device & bit}
         left = low | {device for device in left if not near[device] & low}
     return net.each(lambda d: d in left)
+
+
+def rulingOf1024(net: Net, able: Truths, grain: int) -> Truths:
+    return ruling(net, able, grain, 10)
 
 
 def sparse(net: Net, grain: int) -> Truths:
