@@ -230,8 +230,9 @@ class Page(unittest.TestCase):
             for name in ("examples", "fieldc"):
                 (Path(folder) / name).symlink_to(ROOT / name)
             for command in commands:
-                typed, _, wanted = command.partition("\nEND\n" if "<<'END'" in command else "\n")
-                typed += "\nEND\n" * ("<<'END'" in typed)
+                end = "\nEND\n" if "<<'END'" in command else "\n"
+                typed, _, wanted = (command.rstrip("\n") + "\n").partition(end)
+                typed += end
                 done = subprocess.run(["bash", "-c", typed], cwd=folder, **known)
                 self.assertEqual((done.stdout.splitlines(), done.stderr), (wanted.splitlines(), ""), typed)
 
