@@ -214,13 +214,26 @@ def told(explanation: Explanation) -> str:
 
 
 def judged(made: Composition, network: str) -> Refusal | None:
-    """What `fc` refuses in a composed program on a network, or nothing; what is wrong with the network isn't said."""
-    sections = (Section("program", "", 1, made.text), Section("network", "", 1, network))
+    """What `fc check` refuses in a composed program on a network, or its no, as a refusal of status 1; else nothing.
+
+    What is wrong with the network isn't said.
+    """
+    call = Call(("check",), (Section("program", "", 1, made.text), Section("network", "", 1, network)))
     try:
-        fc.answered(Call(("check",), sections))
+        reply = fc.answered(call)
     except Refusal as refusal:
         return refusal if refusal.line.startswith(OF_PROGRAMS) else None
-    return None
+    return Refusal(1, "no", reply.text.strip(), call) if reply.status == 1 else None
+
+
+def wanting(made: Composition, no: Refusal, name: str) -> str | None:
+    """That a block gets a no with these arguments, and what it needs; nothing where the no isn't known to be a block's."""
+    line = explained(no.call, no).line
+    own, block = (0, None) if line is None else made.origin(line)
+    if block is None:
+        return None
+    needs = block.notes.get("Needs", "see its comment")
+    return f"{name}:{own}: the block {block.name} gets {no.line} with these arguments; it needs: {needs}"
 
 
 def built() -> bool:
@@ -269,7 +282,10 @@ def perform(options: argparse.Namespace) -> int:
         print(f"warning: {warning}", file=sys.stderr)
     if not options.unjudged and built():
         refusal = judged(made, least_network(text) if network is None else network)
-        if refusal is not None:
+        doubt = wanting(made, refusal, name) if refusal is not None and refusal.status == 1 else None
+        if doubt is not None:
+            print(f"warning: {doubt}", file=sys.stderr)
+        if refusal is not None and refusal.status > 1:
             sys.stderr.write(told(own_explanation(made, refusal, options.program)))
             return refusal.status
     front = made.text if not others or made.text.endswith("\n") else made.text + "\n"

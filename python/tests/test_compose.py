@@ -277,6 +277,22 @@ class Command(unittest.TestCase):
         self.assertEqual(status, 0)
         self.assertIn("warning: the ceiling 70 is below device 80", said)
 
+    def test_a_no_that_comes_of_a_blocks_arguments(self) -> None:
+        text = FRONT + "main = broadcast(sense source, 1, 100, 0);"
+        made = compose.composed(text, LIBRARY)
+        no = compose.judged(made, compose.least_network(text))
+        self.assertRegex(no.line, r"^no \d+ lead-at-ceiling$")
+        there = made.text[: made.text.index("share")].count("\n") + 1
+        with mock.patch.object(compose, "explained", lambda call, refusal: Explanation("so", line=there)):
+            self.assertEqual(
+                compose.wanting(made, no, "mine.fc"),
+                f"mine.fc:2: the block broadcast gets {no.line} with these arguments; it needs: far below the ceiling.",
+            )
+        with mock.patch.object(compose, "explained", lambda call, refusal: Explanation("so", line=1)):
+            self.assertIsNone(compose.wanting(made, no, "mine.fc"))
+        status, written, _ = asked("-", standing=text)
+        self.assertEqual((status, written), (0, made.text))
+
     def test_an_own_folder_of_blocks(self) -> None:
         with tempfile.TemporaryDirectory() as folder:
             (Path(folder) / "mine.fc").write_text("// far: apart.\ndef far(b: bool): bool = not anywhere(b, 5);\n")
