@@ -21,6 +21,7 @@ HEAD = (
 )
 TRUTHS = ("source", "goal", "beacon", "blocked", "here")
 NAMES = (*TRUTHS, "value")
+MOST = {"source": 3, "goal": 1, "beacon": 5, "blocked": 4, "here": 8}
 
 
 @dataclass(frozen=True)
@@ -85,6 +86,24 @@ def split() -> Scene:
     whole = nx.union_all([ring, tree, dense])
     here = {33, 36, 39, 5, 1, 13, 2, 8}
     return thrown("split", whole, 5, source={63}, goal={42}, beacon={63, 39, 5}, blocked={60, 5, 20}, here=here)
+
+
+def tossed(seed: int) -> Scene:
+    """A network by dice: 8 to 28 devices with any numbers below 64, in one part or in several."""
+    dice = random.Random(seed)
+    count = dice.randint(8, 28)
+    graph = nx.gnp_random_graph(count, dice.choice([0.08, 0.15, 0.3]), seed=seed)
+    numbers = dice.sample(range(64), count)
+    some = {name: set(dice.sample(numbers, dice.randint(0, most))) for name, most in MOST.items()}
+    return thrown(f"tossed {seed}", nx.relabel_nodes(graph, dict(enumerate(numbers))), seed, **some)
+
+
+def spread(seed: int) -> v.Net:
+    """A network for leaders: 20 to 64 devices thrown into a square, with any numbers below 64."""
+    dice = random.Random(seed)
+    count = dice.randint(20, 64)
+    graph = nx.random_geometric_graph(count, dice.choice([0.15, 0.2, 0.3]), seed=seed)
+    return v.Net(nx.relabel_nodes(graph, dict(enumerate(dice.sample(range(64), count)))), CEILING)
 
 
 def scenes() -> list[Scene]:

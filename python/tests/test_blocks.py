@@ -124,12 +124,18 @@ class Blocks(unittest.TestCase):
         for scene in cases.scenes():
             self.assertNotEqual(ask(["stable"], wrong, scene.text()), lines(case.values(scene)))
 
-    def test_sparse_leaves_nobody_alone_here(self) -> None:
-        for scene in cases.scenes():
-            chosen = cases.v.where(cases.v.sparse(scene.net, 2))
-            near = cases.v.close_to(scene.net, 3)
-            self.assertTrue(all(near[device] & chosen for device in scene.net.devices), scene.name)
-            self.assertTrue(all(near[device] & chosen == {device} for device in chosen), scene.name)
+    def test_blocks_have_their_values_on_networks_by_dice(self) -> None:
+        for scene in map(cases.tossed, range(6)):
+            for case in cases.CASES:
+                with self.subTest(network=scene.name, call=case.call):
+                    self.assertEqual(ask(["stable"], whole(case.call), scene.text()), lines(case.values(scene)))
+
+    def test_sparse_leaves_nobody_out_on_networks_by_dice(self) -> None:
+        for net in [scene.net for scene in cases.scenes()] + [cases.spread(seed) for seed in range(100)]:
+            chosen = cases.v.where(cases.v.sparse(net, 2))
+            near = cases.v.close_to(net, 3)
+            self.assertTrue(all(near[device] & chosen for device in net.devices))
+            self.assertTrue(all(near[device] & chosen == {device} for device in chosen))
 
 
 class Library(unittest.TestCase):
