@@ -27,7 +27,7 @@ def add_files(parser: argparse.ArgumentParser, kinds: Sequence[str]) -> None:
         "files",
         nargs="+",
         metavar="FILE",
-        help=f"{wanted}: a file each, or joined by lines %% in one; - is standard input",
+        help=f"{wanted}: a file each, or joined by lines %%%% in one; - is standard input",
     )
 
 

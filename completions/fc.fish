@@ -1,0 +1,45 @@
+# Completions of fc for fish: put this file into a folder of fish_complete_path. Made by tools/pages.
+complete -c fc -n 'not __fish_seen_subcommand_from check stable trace run gen replay mail format' -f
+complete -c fc -n 'not __fish_seen_subcommand_from check stable trace run gen replay mail format' -a check -d 'says whether a program stabilises, and after how many rounds'
+complete -c fc -n 'not __fish_seen_subcommand_from check stable trace run gen replay mail format' -a stable -d 'writes the value to which each device stabilises, without running the program'
+complete -c fc -n 'not __fish_seen_subcommand_from check stable trace run gen replay mail format' -a trace -d 'writes for each device its value and a least walk that costs so much'
+complete -c fc -n 'not __fish_seen_subcommand_from check stable trace run gen replay mail format' -a run -d 'runs a script: rounds on several threads, edits, rubbish tables, shows'
+complete -c fc -n 'not __fish_seen_subcommand_from check stable trace run gen replay mail format' -a gen -d 'runs a scenario that is made from a number'
+complete -c fc -n 'not __fish_seen_subcommand_from check stable trace run gen replay mail format' -a replay -d 'goes through a log, and writes what each device then holds'
+complete -c fc -n 'not __fish_seen_subcommand_from check stable trace run gen replay mail format' -a mail -d 'goes through a log of messages, or makes one from a number'
+complete -c fc -n 'not __fish_seen_subcommand_from check stable trace run gen replay mail format' -a format -d 'writes the canonical text of a program'
+
+# check
+complete -c fc -n '__fish_seen_subcommand_from check' -f
+complete -c fc -n '__fish_seen_subcommand_from check' -l facts -d 'adds what is known of each node of the unfolded main'
+complete -c fc -n '__fish_seen_subcommand_from check' -l settle -d 'adds after how many rounds each device holds its value'
+complete -c fc -n '__fish_seen_subcommand_from check' -l from-table -d 'beside --settle: counts from the network\'s table and pending firings'
+
+# stable
+complete -c fc -n '__fish_seen_subcommand_from stable' -f
+
+# trace
+complete -c fc -n '__fish_seen_subcommand_from trace' -f
+
+# run
+complete -c fc -n '__fish_seen_subcommand_from run' -f
+complete -c fc -n '__fish_seen_subcommand_from run' -l workers -x -d 'threads that fire devices, 1 to 16 (4)'
+complete -c fc -n '__fish_seen_subcommand_from run' -l log -d 'adds the log of all steps that were taken'
+complete -c fc -n '__fish_seen_subcommand_from run' -l table -d 'adds the table of what the devices have published'
+
+# gen
+complete -c fc -n '__fish_seen_subcommand_from gen' -f
+complete -c fc -n '__fish_seen_subcommand_from gen' -l devices -x -d 'devices of the ring, 3 to 512 (64)'
+complete -c fc -n '__fish_seen_subcommand_from gen' -l workers -x -d 'threads that fire devices, 1 to 16 (4)'
+
+# replay
+complete -c fc -n '__fish_seen_subcommand_from replay' -f
+complete -c fc -n '__fish_seen_subcommand_from replay' -l rounds -d 'adds how many rounds passed since the last edit'
+complete -c fc -n '__fish_seen_subcommand_from replay' -l table -d 'adds the table of what the devices have published'
+
+# mail
+complete -c fc -n '__fish_seen_subcommand_from mail' -f
+complete -c fc -n '__fish_seen_subcommand_from mail' -l number -x -d 'makes the log from this number; then there is no section of it'
+
+# format
+complete -c fc -n '__fish_seen_subcommand_from format' -f

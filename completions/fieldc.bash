@@ -1,0 +1,88 @@
+# Completions of fieldc for bash: source this file, or put it as fieldc into bash-completion's folder.
+# Made by tools/pages.
+
+_fieldc_words() {
+    local command= word words= files= at
+    local current=${COMP_WORDS[COMP_CWORD]} before=${COMP_WORDS[COMP_CWORD - 1]}
+    case $current in '<' | '>' | '>>') return ;; esac
+    case $before in '<' | '>' | '>>') return ;; esac
+    # bash cuts --option=value into three words
+    if [[ $current == = ]]; then
+        current=
+    elif [[ $before == = ]]; then
+        before=${COMP_WORDS[COMP_CWORD - 2]}
+    fi
+    for ((at = 1; at < COMP_CWORD; at++)); do
+        word=${COMP_WORDS[at]}
+        if [[ $word != -* ]]; then
+            command=$word
+            break
+        fi
+    done
+    case "$command $before" in
+        "check --names")
+            return ;;
+        "settle --names")
+            return ;;
+        "stable --names")
+            return ;;
+        "trace --names")
+            return ;;
+        "run --names")
+            return ;;
+        "run --workers")
+            compopt +o bashdefault +o default 2>/dev/null
+            return ;;
+        "replay --names")
+            return ;;
+        "mail --names")
+            return ;;
+        "mail --number")
+            compopt +o bashdefault +o default 2>/dev/null
+            return ;;
+        "gen --devices" | "gen --workers")
+            compopt +o bashdefault +o default 2>/dev/null
+            return ;;
+        "network --points" | "network --edges" | "network --scene" | "network -o" | "network --output" | "network --program" | "network --table" | "network --positions" | "network --names")
+            return ;;
+        "network --line" | "network --ring" | "network --grid" | "network --torus" | "network --disk" | "network --range" | "network --side" | "network --seed" | "network --weight" | "network --metric" | "network --unit" | "network --max-degree" | "network --set" | "network --inputs")
+            compopt +o bashdefault +o default 2>/dev/null
+            return ;;
+        "picture -o" | "picture --output" | "picture --values" | "picture --positions" | "picture --names")
+            return ;;
+        "picture --show" | "picture --mark" | "picture --title")
+            compopt +o bashdefault +o default 2>/dev/null
+            return ;;
+        "picture --of")
+            compopt +o bashdefault +o default 2>/dev/null
+            COMPREPLY=($(compgen -W "stable settle from-table trace run replay mail" -- "$current"))
+            return ;;
+        "rounds -o" | "rounds --output")
+            return ;;
+        "rounds --number" | "rounds --rounds" | "rounds --workers" | "rounds --title")
+            compopt +o bashdefault +o default 2>/dev/null
+            return ;;
+    esac
+    case $command in
+        "") words="check settle stable trace run replay mail gen format network picture rounds -h --help --version" ;;
+        check) files=yes words="--facts --settle --from-table --why --json --names -h --help" ;;
+        settle) files=yes words="--facts --from-table --why --json --names -h --help" ;;
+        stable) files=yes words="--json --names -h --help" ;;
+        trace) files=yes words="--json --names -h --help" ;;
+        run) files=yes words="--workers --log --table --json --names -h --help" ;;
+        replay) files=yes words="--rounds --table --json --names -h --help" ;;
+        mail) files=yes words="--number --json --names -h --help" ;;
+        gen) words="--devices --workers --json -h --help" ;;
+        format) files=yes words="--json -h --help" ;;
+        network) words="--line --ring --grid --torus --disk --points --edges --scene -o --output --range --side --seed --undirected --weight --metric --unit --round --max-degree --set --inputs --program --table --positions --names -h --help" ;;
+        picture) files=yes words="-o --output --values --of --show --page --positions --names --numbers --mark --title -h --help" ;;
+        rounds) files=yes words="-o --output --number --rounds --workers --title -h --help" ;;
+    esac
+    if [[ $files && $current != -* ]]; then
+        return
+    fi
+    compopt +o bashdefault +o default 2>/dev/null
+    COMPREPLY=($(compgen -W "$words" -- "$current"))
+}
+
+complete -o bashdefault -o default -F _fieldc_words fieldc

@@ -1,0 +1,124 @@
+# Completions of fieldc for fish: put this file into a folder of fish_complete_path. Made by tools/pages.
+complete -c fieldc -n 'not __fish_seen_subcommand_from check settle stable trace run replay mail gen format network picture rounds' -f
+complete -c fieldc -n 'not __fish_seen_subcommand_from check settle stable trace run replay mail gen format network picture rounds' -s h -l help -d 'show this help message and exit'
+complete -c fieldc -n 'not __fish_seen_subcommand_from check settle stable trace run replay mail gen format network picture rounds' -l version -d 'show program\'s version number and exit'
+complete -c fieldc -n 'not __fish_seen_subcommand_from check settle stable trace run replay mail gen format network picture rounds' -a check -d 'says whether a program stabilises, and after how many rounds'
+complete -c fieldc -n 'not __fish_seen_subcommand_from check settle stable trace run replay mail gen format network picture rounds' -a settle -d 'says after how many rounds each device of this network holds its value'
+complete -c fieldc -n 'not __fish_seen_subcommand_from check settle stable trace run replay mail gen format network picture rounds' -a stable -d 'writes the value to which each device stabilises, without running the program'
+complete -c fieldc -n 'not __fish_seen_subcommand_from check settle stable trace run replay mail gen format network picture rounds' -a trace -d 'writes for each device its value and a least walk that costs so much'
+complete -c fieldc -n 'not __fish_seen_subcommand_from check settle stable trace run replay mail gen format network picture rounds' -a run -d 'runs a script: rounds on several threads, edits, rubbish tables, and what is shown'
+complete -c fieldc -n 'not __fish_seen_subcommand_from check settle stable trace run replay mail gen format network picture rounds' -a replay -d 'goes through a log, and writes what each device then holds'
+complete -c fieldc -n 'not __fish_seen_subcommand_from check settle stable trace run replay mail gen format network picture rounds' -a mail -d 'goes through a log of messages, which links lose, repeat and deliver late, or makes one from a number'
+complete -c fieldc -n 'not __fish_seen_subcommand_from check settle stable trace run replay mail gen format network picture rounds' -a gen -d 'runs a scenario that is made from a number: a hop count on a ring of devices that hold rubbish'
+complete -c fieldc -n 'not __fish_seen_subcommand_from check settle stable trace run replay mail gen format network picture rounds' -a format -d 'writes the canonical text of a program, or says what is wrong with it and where'
+complete -c fieldc -n 'not __fish_seen_subcommand_from check settle stable trace run replay mail gen format network picture rounds' -a network -d 'makes a network: a line, ring, grid, torus, devices in a square, or from positions, links or a graph'
+complete -c fieldc -n 'not __fish_seen_subcommand_from check settle stable trace run replay mail gen format network picture rounds' -a picture -d 'draws a network with the values of its devices, or a run as a page with a slider over its shows'
+complete -c fieldc -n 'not __fish_seen_subcommand_from check settle stable trace run replay mail gen format network picture rounds' -a rounds -d 'draws against the rounds how many devices hold their value, from tables of rubbish'
+
+# check
+complete -c fieldc -n '__fish_seen_subcommand_from check' -l facts -d 'adds what is known of each node of the unfolded main'
+complete -c fieldc -n '__fish_seen_subcommand_from check' -l settle -d 'adds after how many rounds each device holds its value'
+complete -c fieldc -n '__fish_seen_subcommand_from check' -l from-table -d 'counts from the network\'s table and pending firings, as after an edit, in place of every start'
+complete -c fieldc -n '__fish_seen_subcommand_from check' -l why -d 'where it is open, looks for two starts that rest apart'
+complete -c fieldc -n '__fish_seen_subcommand_from check' -l json -d 'writes the answer, and a refusal, as JSON'
+complete -c fieldc -n '__fish_seen_subcommand_from check' -l names -r -F -d 'a file of lines id,name: devices are called by these names'
+complete -c fieldc -n '__fish_seen_subcommand_from check' -s h -l help -d 'tells of the command'
+
+# settle
+complete -c fieldc -n '__fish_seen_subcommand_from settle' -l facts -d 'adds what is known of each node of the unfolded main'
+complete -c fieldc -n '__fish_seen_subcommand_from settle' -l from-table -d 'counts from the network\'s table and pending firings, as after an edit, in place of every start'
+complete -c fieldc -n '__fish_seen_subcommand_from settle' -l why -d 'where it is open, looks for two starts that rest apart'
+complete -c fieldc -n '__fish_seen_subcommand_from settle' -l json -d 'writes the answer, and a refusal, as JSON'
+complete -c fieldc -n '__fish_seen_subcommand_from settle' -l names -r -F -d 'a file of lines id,name: devices are called by these names'
+complete -c fieldc -n '__fish_seen_subcommand_from settle' -s h -l help -d 'tells of the command'
+
+# stable
+complete -c fieldc -n '__fish_seen_subcommand_from stable' -l json -d 'writes the answer, and a refusal, as JSON'
+complete -c fieldc -n '__fish_seen_subcommand_from stable' -l names -r -F -d 'a file of lines id,name: devices are called by these names'
+complete -c fieldc -n '__fish_seen_subcommand_from stable' -s h -l help -d 'tells of the command'
+
+# trace
+complete -c fieldc -n '__fish_seen_subcommand_from trace' -l json -d 'writes the answer, and a refusal, as JSON'
+complete -c fieldc -n '__fish_seen_subcommand_from trace' -l names -r -F -d 'a file of lines id,name: devices are called by these names'
+complete -c fieldc -n '__fish_seen_subcommand_from trace' -s h -l help -d 'tells of the command'
+
+# run
+complete -c fieldc -n '__fish_seen_subcommand_from run' -l workers -x -d 'threads that fire devices, 1 to 16 (4)'
+complete -c fieldc -n '__fish_seen_subcommand_from run' -l log -d 'adds the log of all steps that were taken'
+complete -c fieldc -n '__fish_seen_subcommand_from run' -l table -d 'adds the table of what the devices have published'
+complete -c fieldc -n '__fish_seen_subcommand_from run' -l json -d 'writes the answer, and a refusal, as JSON'
+complete -c fieldc -n '__fish_seen_subcommand_from run' -l names -r -F -d 'a file of lines id,name: devices are called by these names'
+complete -c fieldc -n '__fish_seen_subcommand_from run' -s h -l help -d 'tells of the command'
+
+# replay
+complete -c fieldc -n '__fish_seen_subcommand_from replay' -l rounds -d 'adds how many rounds the log has after its last edit'
+complete -c fieldc -n '__fish_seen_subcommand_from replay' -l table -d 'adds the table of what the devices have published'
+complete -c fieldc -n '__fish_seen_subcommand_from replay' -l json -d 'writes the answer, and a refusal, as JSON'
+complete -c fieldc -n '__fish_seen_subcommand_from replay' -l names -r -F -d 'a file of lines id,name: devices are called by these names'
+complete -c fieldc -n '__fish_seen_subcommand_from replay' -s h -l help -d 'tells of the command'
+
+# mail
+complete -c fieldc -n '__fish_seen_subcommand_from mail' -l number -x -d 'makes the log from this number; then no LOG is given'
+complete -c fieldc -n '__fish_seen_subcommand_from mail' -l json -d 'writes the answer, and a refusal, as JSON'
+complete -c fieldc -n '__fish_seen_subcommand_from mail' -l names -r -F -d 'a file of lines id,name: devices are called by these names'
+complete -c fieldc -n '__fish_seen_subcommand_from mail' -s h -l help -d 'tells of the command'
+
+# gen
+complete -c fieldc -n '__fish_seen_subcommand_from gen' -f
+complete -c fieldc -n '__fish_seen_subcommand_from gen' -l devices -x -d 'devices of the ring, 3 to 512 (64)'
+complete -c fieldc -n '__fish_seen_subcommand_from gen' -l workers -x -d 'threads that fire devices, 1 to 16 (4)'
+complete -c fieldc -n '__fish_seen_subcommand_from gen' -l json -d 'writes the answer, and a refusal, as JSON'
+complete -c fieldc -n '__fish_seen_subcommand_from gen' -s h -l help -d 'tells of the command'
+
+# format
+complete -c fieldc -n '__fish_seen_subcommand_from format' -l json -d 'writes the answer, and a refusal, as JSON'
+complete -c fieldc -n '__fish_seen_subcommand_from format' -s h -l help -d 'tells of the command'
+
+# network
+complete -c fieldc -n '__fish_seen_subcommand_from network' -f
+complete -c fieldc -n '__fish_seen_subcommand_from network' -l line -x -d 'N devices, each linked to the next'
+complete -c fieldc -n '__fish_seen_subcommand_from network' -l ring -x -d 'a line whose ends are linked'
+complete -c fieldc -n '__fish_seen_subcommand_from network' -l grid -x -d 'W times H devices, linked across and up and down'
+complete -c fieldc -n '__fish_seen_subcommand_from network' -l torus -x -d 'a grid whose opposite borders are linked'
+complete -c fieldc -n '__fish_seen_subcommand_from network' -l disk -x -d 'N devices at random in a square; needs --range'
+complete -c fieldc -n '__fish_seen_subcommand_from network' -l points -r -F -d 'rows id, x, y, or with the names of columns first; needs --range'
+complete -c fieldc -n '__fish_seen_subcommand_from network' -l edges -r -F -d 'links, one line \'a b\' or \'a b weight\' each, or GraphML, or GML'
+complete -c fieldc -n '__fish_seen_subcommand_from network' -l scene -r -F -d 'a network in JSON, or an input of fc whose second section is one'
+complete -c fieldc -n '__fish_seen_subcommand_from network' -s o -l output -r -F -d 'where the network is written (standard output)'
+complete -c fieldc -n '__fish_seen_subcommand_from network' -l range -x -d 'devices at most this far apart are linked'
+complete -c fieldc -n '__fish_seen_subcommand_from network' -l side -x -d 'the side of the square (100)'
+complete -c fieldc -n '__fish_seen_subcommand_from network' -l seed -x -d 'the seed of --disk (0)'
+complete -c fieldc -n '__fish_seen_subcommand_from network' -l undirected -d 'the edges of a directed graph are links both ways'
+complete -c fieldc -n '__fish_seen_subcommand_from network' -l weight -x -d 'the weight of each link (1, or that of the file)'
+complete -c fieldc -n '__fish_seen_subcommand_from network' -l metric -x -d 'weights by distance, rounded into this range'
+complete -c fieldc -n '__fish_seen_subcommand_from network' -l unit -x -d 'how far a weight of 1 is (1)'
+complete -c fieldc -n '__fish_seen_subcommand_from network' -l round -d 'rounds the file\'s weights to whole numbers'
+complete -c fieldc -n '__fish_seen_subcommand_from network' -l max-degree -x -d 'keeps the nearest links, at most N of each device'
+complete -c fieldc -n '__fish_seen_subcommand_from network' -l set -x -d 'an input of all devices, or of those named; else it is as in the file, or false'
+complete -c fieldc -n '__fish_seen_subcommand_from network' -l inputs -x -d 'the columns or attributes of the file that are inputs (all)'
+complete -c fieldc -n '__fish_seen_subcommand_from network' -l program -r -F -d 'a program whose inputs are taken, and checked with the weights'
+complete -c fieldc -n '__fish_seen_subcommand_from network' -l table -r -F -d 'starts from the table of fc run --table, with nothing in flight'
+complete -c fieldc -n '__fish_seen_subcommand_from network' -l positions -r -F -d 'writes the positions there, one line id,x,y each'
+complete -c fieldc -n '__fish_seen_subcommand_from network' -l names -r -F -d 'writes the names of devices there, one line id,name each'
+complete -c fieldc -n '__fish_seen_subcommand_from network' -s h -l help -d 'tells of the command'
+
+# picture
+complete -c fieldc -n '__fish_seen_subcommand_from picture' -s o -l output -r -F -d 'the picture, by its ending .svg, .png, .pdf, .html'
+complete -c fieldc -n '__fish_seen_subcommand_from picture' -l values -r -F -d 'what fc wrote of this network (- is standard input)'
+complete -c fieldc -n '__fish_seen_subcommand_from picture' -l of -x -a 'stable settle from-table trace run replay mail' -d 'asks fc for the values'
+complete -c fieldc -n '__fish_seen_subcommand_from picture' -l show -x -d 'which show of a run is drawn, from 1 (the last)'
+complete -c fieldc -n '__fish_seen_subcommand_from picture' -l page -d 'a page of HTML, with a slider over all shows'
+complete -c fieldc -n '__fish_seen_subcommand_from picture' -l positions -r -F -d 'positions, one line id,x,y each (else a layout is made)'
+complete -c fieldc -n '__fish_seen_subcommand_from picture' -l names -r -F -d 'names of devices, one line id,name each'
+complete -c fieldc -n '__fish_seen_subcommand_from picture' -l numbers -d 'writes the number, or name, beside each device'
+complete -c fieldc -n '__fish_seen_subcommand_from picture' -l mark -x -d 'marks devices whose input NAME is true'
+complete -c fieldc -n '__fish_seen_subcommand_from picture' -l title -x -d 'a line above the picture'
+complete -c fieldc -n '__fish_seen_subcommand_from picture' -s h -l help -d 'tells of the command'
+
+# rounds
+complete -c fieldc -n '__fish_seen_subcommand_from rounds' -s o -l output -r -F -d 'the picture, by its ending .svg, .png or .pdf'
+complete -c fieldc -n '__fish_seen_subcommand_from rounds' -l number -x -d 'the rubbish of this number (1); several give several curves'
+complete -c fieldc -n '__fish_seen_subcommand_from rounds' -l rounds -x -d 'how many rounds are run (R, at most 2,000)'
+complete -c fieldc -n '__fish_seen_subcommand_from rounds' -l workers -x -d 'threads that fire devices in each run (4)'
+complete -c fieldc -n '__fish_seen_subcommand_from rounds' -l title -x -d 'a line above the picture'
+complete -c fieldc -n '__fish_seen_subcommand_from rounds' -s h -l help -d 'tells of the command'

@@ -1,0 +1,129 @@
+"""Command lines as data: commands with their options, read from the parser of `fieldc`, and those of `fc`."""
+
+from __future__ import annotations
+
+import argparse
+from dataclasses import dataclass, replace
+
+FILE = "file"
+WORD = "word"
+NOTHING = ""
+
+
+@dataclass(frozen=True)
+class Option:
+    """An option, or a word that stands alone (then without names).
+
+    `takes` is FILE, WORD or NOTHING; `value` what the value is called; `instead` are the options that it can't stand beside.
+    """
+
+    names: tuple[str, ...]
+    help: str
+    takes: str = NOTHING
+    value: str = ""
+    choices: tuple[str, ...] = ()
+    required: bool = False
+    repeated: bool = False
+    instead: tuple[str, ...] = ()
+
+    @property
+    def shown(self) -> str:
+        """The value as it is shown behind the option."""
+        return "{" + ",".join(self.choices) + "}" if self.choices else self.value
+
+
+@dataclass(frozen=True)
+class Command:
+    """A command: its name, one line on it, its options in their order, and the words that stand alone."""
+
+    name: str
+    summary: str
+    options: tuple[Option, ...] = ()
+    words: tuple[Option, ...] = ()
+    epilog: str = ""
+
+
+@dataclass(frozen=True)
+class Line:
+    """A whole command line: the program, what it says of itself, its own options, and its commands."""
+
+    program: str
+    description: str
+    options: tuple[Option, ...]
+    commands: tuple[Command, ...]
+    epilog: str = ""
+
+
+def of_parser(whole: argparse.ArgumentParser) -> Line:
+    """The command line that a parser with subparsers reads."""
+    inner = next(action for action in whole._actions if isinstance(action, argparse._SubParsersAction))
+    commands = tuple(
+        _command(pseudo.dest, pseudo.help or "", inner.choices[pseudo.dest]) for pseudo in inner._choices_actions
+    )
+    own = tuple(_option(whole, action) for action in whole._actions if action.option_strings)
+    return Line(whole.prog, whole.description or "", own, commands, whole.epilog or "")
+
+
+def _command(name: str, summary: str, parser: argparse.ArgumentParser) -> Command:
+    """A command of its parser, whose `--help` is left out: each command has it."""
+    found = {id(action): _option(parser, action) for action in parser._actions}
+    for group in parser._mutually_exclusive_groups:
+        names = [name for action in group._group_actions for name in action.option_strings]
+        for action in group._group_actions:
+            others = tuple(name for name in names if name not in action.option_strings)
+            found[id(action)] = replace(found[id(action)], instead=others, required=group.required)
+    made = [option for option in found.values() if "--help" not in option.names]
+    options, words = (tuple(one for one in made if bool(one.names) == named) for named in (True, False))
+    return Command(name, summary, options, words, parser.epilog or "")
+
+
+def _option(parser: argparse.ArgumentParser, action: argparse.Action) -> Option:
+    """An option or word of a parser."""
+    text = parser._get_formatter()._expand_help(action) if action.help else ""
+    value = str(action.metavar or action.dest.upper()) if action.nargs != 0 else ""
+    takes = NOTHING if not value else FILE if value == "FILE" else WORD
+    return Option(
+        tuple(action.option_strings),
+        text,
+        takes,
+        value,
+        tuple(map(str, action.choices or ())),
+        bool(action.required),
+        isinstance(action, argparse._AppendAction) or action.nargs in ("+", "*"),
+    )
+
+
+def of_fieldc() -> Line:
+    """The command line of `fieldc`."""
+    from fieldc.command import parser
+
+    return of_parser(parser())
+
+
+def of_fc() -> Line:
+    """The command line of `fc`, which reads its input from standard input."""
+    flag = lambda name, text: Option((name,), text)  # noqa: E731
+    number = lambda name, value, text: Option((name,), text, WORD, value)  # noqa: E731
+    workers = number("--workers", "N", "threads that fire devices, 1 to 16 (4)")
+    table = flag("--table", "adds the table of what the devices have published")
+    settle = (
+        flag("--facts", "adds what is known of each node of the unfolded main"),
+        flag("--settle", "adds after how many rounds each device holds its value"),
+        flag("--from-table", "beside --settle: counts from the network's table and pending firings"),
+    )
+    log = flag("--log", "adds the log of all steps that were taken")
+    rounds = flag("--rounds", "adds how many rounds passed since the last edit")
+    devices = number("--devices", "D", "devices of the ring, 3 to 512 (64)")
+    scenario = Option((), "the number of the scenario", WORD, "NUMBER", required=True)
+    mailed = number("--number", "N", "makes the log from this number; then there is no section of it")
+    commands = (
+        Command("check", "says whether a program stabilises, and after how many rounds", settle),
+        Command("stable", "writes the value to which each device stabilises, without running the program"),
+        Command("trace", "writes for each device its value and a least walk that costs so much"),
+        Command("run", "runs a script: rounds on several threads, edits, rubbish tables, shows", (workers, log, table)),
+        Command("gen", "runs a scenario that is made from a number", (devices, workers), (scenario,)),
+        Command("replay", "goes through a log, and writes what each device then holds", (rounds, table)),
+        Command("mail", "goes through a log of messages, or makes one from a number", (mailed,)),
+        Command("format", "writes the canonical text of a program"),
+    )
+    return Line("fc", "interpreter and proved checker of the first-order field calculus", (), commands)

@@ -1,0 +1,103 @@
+"""The manual pages: up to date, without a warning of man, and with each command, option and status."""
+
+from __future__ import annotations
+
+import re
+import shutil
+import subprocess
+import unittest
+
+from helping import TOP, needs_fc
+
+from fieldc import program
+from making import lines
+from making.__main__ import stale
+
+PAGES = TOP / "man"
+needs_man = unittest.skipIf(shutil.which("man") is None, "man isn't there (Debian: man-db)")
+
+
+def calls() -> list[str]:
+    """The calls of fc as the page on formats has them."""
+    text = (TOP / "docs/formats.md").read_text()
+    return re.search(r"## The calls\n\n```\n(.*?)\n```", text, re.S)[1].split("\n")
+
+
+def shown(name: str) -> str:
+    """A page as man shows it, without hyphenation."""
+    done = subprocess.run(
+        ["man", "-l", "--warnings", "-Tascii", str(PAGES / name)],
+        capture_output=True, text=True, check=True, env={"MANWIDTH": "130", "PATH": "/usr/bin:/bin", "LC_ALL": "C"},
+    )  # fmt: skip
+    if done.stderr:
+        raise AssertionError(done.stderr)
+    return re.sub(r".\x08", "", done.stdout)
+
+
+def sections_of_page(text: str) -> dict[str, str]:
+    """The sections of a page that man showed, by their titles."""
+    parts = re.split(r"(?m)^([A-Z][A-Z ]+)\n", text)
+    return dict(zip(parts[1::2], parts[2::2], strict=True))
+
+
+class Made(unittest.TestCase):
+    def test_up_to_date(self) -> None:
+        self.assertEqual(stale(), [], "run tools/pages")
+
+    def test_words_of_fc_are_those_of_the_formats(self) -> None:
+        wanted: dict[str, set[str]] = {}
+        for call in calls():
+            wanted.setdefault(call.split()[1], set()).update(re.findall(r"--[a-z-]+", call))
+        self.assertEqual({one.name: {*(name for o in one.options for name in o.names)} for one in lines.of_fc().commands}, wanted)
+
+    @needs_fc
+    def test_words_of_fc_are_words(self) -> None:
+        for command in lines.of_fc().commands:
+            number = ["7"] if command.words else []
+            for option in command.options:
+                words = [command.name, *number, *option.names, *(["4"] if option.takes else [])]
+                words += ["--settle"] * (option.names == ("--from-table",))
+                done = subprocess.run([program.find(), *words], stdin=subprocess.DEVNULL, capture_output=True, check=False)
+                self.assertNotEqual(done.returncode, 2, words)
+                self.assertEqual(done.returncode, 0 if command.name == "gen" else 3, words)
+
+
+@needs_man
+class Shown(unittest.TestCase):
+    def test_fieldc(self) -> None:
+        parts = sections_of_page(shown("fieldc.1"))
+        for command in lines.of_fieldc().commands:
+            part = re.search(rf"(?ms)^   {command.name}$\n(.*?)(?=^   \w|\Z)", parts["COMMANDS"])[1]
+            self.assertIn(f"fieldc {command.name} ", parts["SYNOPSIS"])
+            for name in (name for option in command.options for name in option.names):
+                self.assertRegex(part, rf"(?m)^ +(.*, )?{name}( |,|$)", command.name)
+        self.assertEqual(re.findall(r"(?m)^ +(\d) ", parts["EXIT STATUS"]), list("01234567"))
+
+    def test_lines_that_join_sections(self) -> None:
+        self.assertIn("joined by lines %% in one", re.sub(r"\s+", " ", shown("fieldc.1")))
+
+    def test_fc(self) -> None:
+        parts = sections_of_page(shown("fc.1"))
+        self.assertEqual([line.strip() for line in parts["SYNOPSIS"].strip().split("\n")], calls())
+        for command in lines.of_fc().commands:
+            part = re.search(rf"(?ms)^       {command.name} +(.*?)(?=^       \w|\Z)", parts["COMMANDS"])[1]
+            for name in (name for option in command.options for name in option.names):
+                self.assertIn(name, part, command.name)
+        self.assertEqual(re.findall(r"(?m)^ +(\d) ", parts["EXIT STATUS"]), list("01234567"))
+
+    @needs_fc
+    def test_example_of_fc(self) -> None:
+        given, wanted = example(sections_of_page(shown("fc.1"))["EXAMPLES"])
+        done = subprocess.run([program.find(), "replay"], input=given, capture_output=True, text=True, check=False)
+        self.assertEqual((done.returncode, done.stdout), (0, wanted))
+
+
+def example(text: str) -> tuple[str, str]:
+    """The input of the example of a page, and what it has to write."""
+    rows = [row.strip() for row in text.strip().split("\n")]
+    first, end = next(at for at, row in enumerate(rows) if row.endswith("<< 'END'")), rows.index("END")
+    return "".join(row + "\n" for row in rows[first + 1 : end]), "".join(row + "\n" for row in rows[end + 1 :])
+
+
+if __name__ == "__main__":
+    unittest.main()
