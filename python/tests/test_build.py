@@ -42,6 +42,7 @@ case $1 in
 esac
 """
 FAILS = """\
+[ "$1" = all ] || exit 0
 echo "== fc_values"; echo "src/lib.rt:3:1: error: a clause stays open"; echo "== fc_nodes"
 echo "== summary"; echo "fc_values: failed (1)"; echo "fc_nodes: not run, since fc_values failed"; exit 1
 """
@@ -74,6 +75,7 @@ class Build(InFolder):
             [
                 "build: 6 crates, 2 at once; what rt says goes into out/build.log",
                 "build: at work: fc_values",
+                "build: rt reads the sources of all crates (T)",
                 "build: 1 of 6 done (T): fc_values; 5 left; at work: fc_nodes, fc_io",
                 "build: 2 of 6 done (T): fc_nodes; 4 left; at work: fc_io, command_words",
                 "build: 3 of 6 done (T): fc_io; 3 left; at work: command_words",
@@ -88,7 +90,7 @@ class Build(InFolder):
         self.proves()
         self.checkout.run("build", "--jobs", "6")
         calls = [line.removeprefix(f"{self.folder}/crates/") for line in (self.folder / "calls").read_text().splitlines()]
-        self.assertEqual(calls, ["fc_answers: all check --jobs 6", "fc_program: run -- replay"])
+        self.assertEqual(calls, ["fc_values: lib", "fc_answers: all check --jobs 6", "fc_program: run -- replay"])
         self.assertEqual((self.folder / "given").read_text(), (TOP / "examples/two_devices.txt").read_text())
         log = (self.folder / "out/build.log").read_text()
         self.assertIn("fn fc_nodes::f: proved\n", log)
@@ -103,11 +105,18 @@ class Build(InFolder):
             self.assertIn(said, done.errors)
         self.assertFalse((self.folder / "there").exists())
 
-    def test_a_failure_of_the_program(self) -> None:
-        self.checkout.rt('[ "$1" = all ] || { echo "error: no main" >&2; exit 2; }\n')
-        done = self.checkout.run("build")
-        self.assertEqual(done.status, 1)
-        self.assertIn("error: no main", done.errors)
+    def test_a_failure_of_a_single_crate(self) -> None:
+        for call in ("lib", "run"):
+            self.checkout.rt(f'[ "$1" != {call} ] || {{ echo "error: in {call}" >&2; exit 2; }}\n')
+            done = self.checkout.run("build")
+            self.assertEqual((done.status, done.output), (1, ""))
+            self.assertIn(f"error: in {call}", done.errors)
+
+    def test_where_no_crate_is_below_all(self) -> None:
+        (self.folder / "crates.txt").write_text(CRATES.replace("fc_io: fc_values", "fc_io:"))
+        self.proves()
+        self.assertNotIn("at work: fc_values\n", self.checkout.run("build").errors)
+        self.assertEqual((self.folder / "calls").read_text().count("lib"), 0)
 
     def test_without_a_toolchain(self) -> None:
         done = self.checkout.run("build")

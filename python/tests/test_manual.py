@@ -43,6 +43,8 @@ def sections_of_page(text: str) -> dict[str, str]:
 class Made(unittest.TestCase):
     def test_up_to_date(self) -> None:
         self.assertEqual(stale(), [], "run tools/pages")
+        done = subprocess.run([TOP / "tools/pages", "--check"], capture_output=True, text=True, check=False)
+        self.assertEqual((done.returncode, done.stdout, done.stderr), (0, "", ""))
 
     def test_words_of_fc_are_those_of_the_formats(self) -> None:
         wanted: dict[str, set[str]] = {}
