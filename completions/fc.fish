@@ -1,4 +1,5 @@
-# Completions of fc for fish: put this file into a folder of fish_complete_path. Made by tools/pages.
+# Completions of fc for fish: put this file into a folder of fish_complete_path.
+# Made by tools/pages.
 complete -c fc -n 'not __fish_seen_subcommand_from check stable trace run gen replay mail format' -f
 complete -c fc -n 'not __fish_seen_subcommand_from check stable trace run gen replay mail format' -a check -d 'says whether a program stabilises, and after how many rounds'
 complete -c fc -n 'not __fish_seen_subcommand_from check stable trace run gen replay mail format' -a stable -d 'writes the value to which each device stabilises, without running the program'

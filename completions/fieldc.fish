@@ -1,4 +1,5 @@
-# Completions of fieldc for fish: put this file into a folder of fish_complete_path. Made by tools/pages.
+# Completions of fieldc for fish: put this file into a folder of fish_complete_path.
+# Made by tools/pages.
 complete -c fieldc -n 'not __fish_seen_subcommand_from check settle stable trace run replay mail gen format network picture rounds' -f
 complete -c fieldc -n 'not __fish_seen_subcommand_from check settle stable trace run replay mail gen format network picture rounds' -s h -l help -d 'show this help message and exit'
 complete -c fieldc -n 'not __fish_seen_subcommand_from check settle stable trace run replay mail gen format network picture rounds' -l version -d 'show program\'s version number and exit'

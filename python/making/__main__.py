@@ -1,4 +1,4 @@
-"""Writes `man/fieldc.1` and the completions anew; with `--check` it writes nothing, and names the files that are out of date."""
+"""Writes `man/fieldc.1` and the completions anew. With `--check` it writes nothing, and names what is out of date."""
 
 from __future__ import annotations
 
@@ -31,7 +31,7 @@ def stale() -> list[str]:
 
 def main() -> int:
     parser = argparse.ArgumentParser(prog="tools/pages", description=__doc__)
-    parser.add_argument("--check", action="store_true", help="writes nothing, and ends with status 1 where one is out of date")
+    parser.add_argument("--check", action="store_true", help="writes nothing; status 1 where a file is out of date")
     words = parser.parse_args()
     found = stale()
     for name in found:

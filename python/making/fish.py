@@ -7,7 +7,8 @@ from .lines import FILE, Command, Line, Option
 
 def completion(line: Line) -> str:
     """The file for a command line."""
-    text = f"# Completions of {line.program} for fish: put this file into a folder of fish_complete_path. Made by tools/pages.\n"
+    text = f"# Completions of {line.program} for fish: put this file into a folder of fish_complete_path.\n"
+    text += "# Made by tools/pages.\n"
     names = " ".join(command.name for command in line.commands)
     none = f"not __fish_seen_subcommand_from {names}"
     text += f"complete -c {line.program} -n {quoted(none)} -f\n"

@@ -68,9 +68,9 @@ def paragraphs(text: str) -> str:
 def files_and_answers() -> str:
     """What holds of all commands."""
     return (
-        ".PP\nEach file is a section of the input of fc: a program, a network, and a script or a log. A file may have several\n"
-        "sections, parted by lines that are exactly %%, and \\- is standard input. What is refused is told on standard\n"
-        "error, with the line of the file and what to try, and nothing is written on standard output.\n"
+        ".PP\nEach file is a section of the input of fc: a program, a network, and a script or a log. A file may\n"
+        "have several sections, parted by lines that are exactly %%, and \\- is standard input. What is refused is told on\n"
+        "standard error, with the line of the file and what to try, and nothing is written on standard output.\n"
         ".PP\nEach command tells of itself with\n.BR \\-\\-help ."
     )
 
@@ -109,7 +109,8 @@ def word_of(word: Option) -> str:
 def described(option: Option) -> str:
     """An option with all its names, and what it does."""
     value = f" {italic(option.shown)}" if option.shown else ""
-    names = ", ".join(bold(name) + (value if name.startswith("--") or len(option.names) == 1 else "") for name in option.names)
+    long = [name for name in option.names if name.startswith("--")] or option.names
+    names = ", ".join(bold(name) + (value if name in long else "") for name in option.names)
     return f".TP\n{names}\n{sentence(option.help)}"
 
 

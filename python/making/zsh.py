@@ -4,6 +4,7 @@ from __future__ import annotations
 
 from .lines import FILE, Command, Line, Option
 
+CUT = "\\\n"
 GUARD = """\
 # fc is a builtin of zsh too, which has completions of its own
 if [[ $words[1] != */* ]] && (( $+builtins[fc] )); then
@@ -22,7 +23,8 @@ def file_name(line: Line) -> str:
 
 def completion(line: Line) -> str:
     """The file for a command line."""
-    text = f"#compdef {line.program}\n# Completions of {line.program} for zsh: put this file into a folder of fpath. Made by tools/pages.\n\n"
+    text = f"#compdef {line.program}\n# Completions of {line.program} for zsh: put this file into a folder of fpath.\n"
+    text += "# Made by tools/pages.\n\n"
     text += GUARD if line.program == "fc" else ""
     text += "local -a commands\nlocal context state state_descr line\nlocal -A opt_args\ncommands=(\n"
     text += "".join(f"    {quoted(f'{command.name}:{command.summary}')}\n" for command in line.commands)
@@ -39,7 +41,7 @@ def part(line: Line, command: Command) -> str:
     for word in command.words:
         where = "*" if word.repeated else "1"
         specs.append(quoted(f"{where}:{word.value}:{'_files' if word.takes == FILE else ' '}"))
-    return f"    {command.name})\n        _arguments{''.join(f' {chr(92)}{chr(10)}            {one}' for one in specs)}\n        ;;\n"
+    return f"    {command.name})\n        {' {}            '.format(CUT).join(['_arguments', *specs])}\n        ;;\n"
 
 
 def spec(option: Option) -> str:

@@ -9,7 +9,8 @@ from pathlib import Path
 
 from helping import TOP, Done
 
-PARTS = ("build", "fc", "crates.txt", "README.md", "docs", "examples", "editors", "man", "completions", "library", "python/fieldc")
+PARTS = ("build", "fc", "crates.txt", "README.md", "docs", "examples", "editors", "man", "completions", "library")
+PARTS += ("python/fieldc",)
 FOLDERS = ("crates/fc_values", "crates/fc_answers", "crates/fc_program/src")
 # what a program that was built answers, in its place
 PROGRAM = '#!/bin/sh\necho "proved $*"\n'
@@ -49,7 +50,8 @@ class Checkout:
 
     def run(self, name: str, *words: str, text: str = "") -> Done:
         """Runs a program of the checkout, where no other rt and no other fc is found."""
-        environment = {"PATH": f"{self.folder}/tools:/usr/bin:/bin", "HOME": str(self.folder), "LC_ALL": "C.UTF-8", **self.variables}
+        path = f"{self.folder}/tools:/usr/bin:/bin"
+        environment = {"PATH": path, "HOME": str(self.folder), "LC_ALL": "C.UTF-8", **self.variables}
         done = subprocess.run(
             [self.folder / name, *words], input=text, capture_output=True, text=True, check=False, env=environment,
             cwd=self.folder,

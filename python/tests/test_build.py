@@ -50,7 +50,8 @@ echo "== summary"; echo "fc_values: failed (1)"; echo "fc_nodes: not run, since 
 
 def build_itself() -> ModuleType:
     """What stands in `./build`, as a module."""
-    spec = importlib.util.spec_from_loader("build_itself", importlib.machinery.SourceFileLoader("build_itself", str(TOP / "build")))
+    loader = importlib.machinery.SourceFileLoader("build_itself", str(TOP / "build"))
+    spec = importlib.util.spec_from_loader("build_itself", loader)
     made = importlib.util.module_from_spec(spec)
     spec.loader.exec_module(made)
     return made
@@ -101,7 +102,8 @@ class Build(InFolder):
         self.checkout.rt(FAILS)
         done = self.checkout.run("build", "--prefix", "there")
         self.assertEqual((done.status, done.output), (1, ""))
-        for said in ("build: fc_values: failed (1)", "build: fc_nodes: not run, since fc_values failed", "a clause stays open", "out/build.log"):
+        wanted = ("build: fc_values: failed (1)", "build: fc_nodes: not run, since fc_values failed")
+        for said in (*wanted, "a clause stays open", "out/build.log"):
             self.assertIn(said, done.errors)
         self.assertFalse((self.folder / "there").exists())
 
@@ -130,7 +132,8 @@ class Build(InFolder):
     def test_how_many_at_once(self) -> None:
         made = build_itself()
         self.assertTrue(1 <= made.processors() <= (os.cpu_count() or 1))
-        for processors, memory, wanted in ((4, 64, 6), (4, 16, 4), (4, 2, 1), (1, 64, 2), (2, 64, 3), (16, 64, 18), (4, 0, 4)):
+        rows = ((4, 64, 6), (4, 16, 4), (4, 2, 1), (1, 64, 2), (2, 64, 3), (16, 64, 18), (4, 0, 4))
+        for processors, memory, wanted in rows:
             made.processors, made.memory = lambda n=processors: n, lambda n=memory: n * 10**9
             self.assertEqual(made.at_once(), wanted, (processors, memory))
 
@@ -209,7 +212,8 @@ class Install(unittest.TestCase):
         self.assertTrue((self.prefix / "bin/fc").is_symlink())
 
     def test_the_package_is_whole(self) -> None:
-        of = lambda folder: {str(path.relative_to(folder)) for path in folder.rglob("*") if path.suffix in (".py", ".lark", ".typed")}  # noqa: E731
+        kept = lambda folder: [path for path in folder.rglob("*") if path.suffix in (".py", ".lark", ".typed")]  # noqa: E731
+        of = lambda folder: {str(path.relative_to(folder)) for path in kept(folder)}  # noqa: E731
         self.assertEqual(of(self.prefix / "lib/fc/fieldc"), of(TOP / "python/fieldc"))
         blocks = sorted(path.name for path in (TOP / "library").glob("*.fc"))
         self.assertEqual(sorted(path.name for path in (self.prefix / "lib/fc/fieldc/library").glob("*.fc")), blocks)

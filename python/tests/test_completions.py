@@ -68,7 +68,8 @@ class Bash(InFolder):
 
     def test_commands(self) -> None:
         for line in LINES:
-            self.assertEqual({*self.words(line.program, "")} - {"-h", "--help", "--version"}, {one.name for one in line.commands})
+            found = {*self.words(line.program, "")} - {"-h", "--help", "--version"}
+            self.assertEqual(found, {one.name for one in line.commands})
         self.assertEqual(self.words("fieldc", "s"), ["settle", "stable"])
         self.assertEqual(self.words("fc", "re", called="/opt/bin/fc"), ["replay"])
 
@@ -82,7 +83,8 @@ class Bash(InFolder):
     def test_values(self) -> None:
         self.assertEqual(self.words("fieldc", "picture", "--of", "r"), ["run", "replay"])
         self.assertEqual(self.words("fieldc", "picture", "--of", "=", "st"), ["stable"])
-        self.assertEqual(self.words("fieldc", "picture", "--of", "="), "stable settle from-table trace run replay mail".split())
+        every = "stable settle from-table trace run replay mail".split()
+        self.assertEqual(self.words("fieldc", "picture", "--of", "="), every)
         self.assertEqual(self.words("fieldc", "run", "--workers", ""), [])
         self.assertEqual(self.words("fieldc", "run", "--names", ""), [])
         self.assertEqual(self.words("fieldc", "check", ""), [])
@@ -90,7 +92,8 @@ class Bash(InFolder):
 
     def test_the_builtin_is_left_alone(self) -> None:
         script = f'source "{FOLDER}/fc.bash"; COMP_WORDS=(fc ""); COMP_CWORD=1; _fc_words fc "" fc; echo "${{#COMPREPLY[@]}}"'
-        self.assertEqual(subprocess.run(["bash", "--norc", "-c", script], capture_output=True, text=True, check=True).stdout, "0\n")
+        done = subprocess.run(["bash", "--norc", "-c", script], capture_output=True, text=True, check=True)
+        self.assertEqual(done.stdout, "0\n")
 
     def test_keys_in_a_shell(self) -> None:
         (self.folder / "mine.fc").write_text("")
@@ -152,7 +155,8 @@ class Zsh(unittest.TestCase):
             self.assertEqual((done.returncode, done.stderr), (0, ""), file)
 
     def test_they_are_found(self) -> None:
-        script = f'fpath=({FOLDER} $fpath); autoload -Uz compinit; compinit -u -D; print $_comps[fc] $_comps[fieldc] $_comps[history]'
+        script = f"fpath=({FOLDER} $fpath); autoload -Uz compinit; compinit -u -D; "
+        script += "print $_comps[fc] $_comps[fieldc] $_comps[history]"
         self.assertEqual(self.run_zsh(script), "_fc_calculus _fieldc _fc\n")
 
     def test_keys(self) -> None:
@@ -165,7 +169,8 @@ class Zsh(unittest.TestCase):
             zpty -r -m shell shown '*got:check*:*'
             print -r -- $shown
         """
-        shown = subprocess.run(["timeout", "30", "zsh", "-f", "-c", script], capture_output=True, text=True, check=False).stdout
+        words = ["timeout", "30", "zsh", "-f", "-c", script]
+        shown = subprocess.run(words, capture_output=True, text=True, check=False).stdout
         self.assertIn("got:check --settle:", shown)
 
 

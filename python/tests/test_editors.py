@@ -29,8 +29,9 @@ WORDS = {
 }
 KIND_OF_WORD = {word: kind for kind, words in WORDS.items() for word in words.split()}
 STEPS = "link unlink set poke join leave run mix show scramble deliver again lose".split()
-TOKEN = re.compile(r"(?P<space>[ \t\r\n]+)|(?P<comment>//[^\n]*)|(?P<number>[0-9]+)|(?P<name>[A-Za-z][A-Za-z0-9_]*)|(?P<mark>=>|\.\.|.)", re.S)
-PART = re.compile(r'(?P<space>[ \t\r\n]+)|(?P<string>"(?:[^"\\\n]|\\.)*")|(?P<number>[0-9]+)|(?P<name>[A-Za-z][A-Za-z0-9_]*)|(?P<mark>.)', re.S)
+EITHER = r"(?P<space>[ \t\r\n]+)|(?P<number>[0-9]+)|(?P<name>[A-Za-z][A-Za-z0-9_]*)"
+TOKEN = re.compile(EITHER + r"|(?P<comment>//[^\n]*)|(?P<mark>=>|\.\.|.)", re.S)
+PART = re.compile(EITHER + r'|(?P<string>"(?:[^"\\\n]|\\.)*")|(?P<mark>.)', re.S)
 SCOPES = {
     "comment": "comment.line.double-slash.fc",
     "number": "constant.numeric.fc",
@@ -122,8 +123,9 @@ def of_program(text: str) -> Iterator[Token]:
     for hit in found:
         kind = hit.lastgroup
         if kind == "name":
-            named = "input" if before.get(hit.start()) in ("input", "sense") else "function" if behind.get(hit.start()) == "(" else "name"
-            kind = named if named == "input" else KIND_OF_WORD.get(hit.group(), named)
+            named = "function" if behind.get(hit.start()) == "(" else "name"
+            is_input = before.get(hit.start()) in ("input", "sense")
+            kind = "input" if is_input else KIND_OF_WORD.get(hit.group(), named)
         elif kind == "mark":
             kind = mark(hit.group())
         yield Token(hit.start(), hit.end(), kind)
@@ -156,7 +158,8 @@ def of_row(row: str) -> Iterator[Token]:
         if kind == "space":
             continue
         if kind == "name":
-            is_step = hit.start() == 0 and hit.group() in STEPS or edit and hit.start() == edit.end() and hit.group() in STEPS[:4]
+            is_edit = edit and hit.start() == edit.end() and hit.group() in STEPS[:4]
+            is_step = is_edit or hit.start() == 0 and hit.group() in STEPS
             kind = "step" if is_step else "truth" if hit.group() in ("true", "false", "null") else "input"
         elif kind == "string":
             kind = "member" if re.match(r"\s*:", row[hit.end() :]) else "string"
@@ -171,7 +174,8 @@ def texts() -> list[tuple[str, str]]:
     found += [(path.name, path.read_text()) for path in sorted((TOP / "library").glob("*.fc"))]
     for page in ("patterns.md", "language.md", "formats.md", "settle.md"):
         blocks = re.findall(r"(?ms)^```[^\n]*\n(.*?)^```", (TOP / "docs" / page).read_text())
-        found += [(f"{page} {at}", text) for at, text in enumerate(blocks) if re.match(r"(//.*\n)*(language 2|ceiling \d+);", text)]
+        begins = re.compile(r"(//.*\n)*(language 2|ceiling \d+);")
+        found += [(f"{page} {at}", text) for at, text in enumerate(blocks) if begins.match(text)]
     return found
 
 
@@ -182,10 +186,10 @@ class Words(unittest.TestCase):
 
     def test_kinds_of_some_tokens(self) -> None:
         kinds = lambda text: [(text[one.start : one.end], one.kind) for one in tokens(text)]  # noqa: E731
-        wanted = [("def", "declaration"), ("f", "function"), ("(", "bracket"), ("lets", "name"), ("..", "operator"), ("007", "number")]
-        self.assertEqual(kinds("def f(lets..007"), wanted)
-        wanted = [("sense", "control"), ("x", "input"), (";", "bracket"), ("%%", "separator"), ("E", "step"), ("10", "number")]
-        self.assertEqual(kinds("sense x;\n%%\nE10\n"), wanted)
+        wanted = [("def", "declaration"), ("f", "function"), ("(", "bracket"), ("lets", "name"), ("..", "operator")]
+        self.assertEqual(kinds("def f(lets..007"), [*wanted, ("007", "number")])
+        wanted = [("sense", "control"), ("x", "input"), (";", "bracket"), ("%%", "separator"), ("E", "step")]
+        self.assertEqual(kinds("sense x;\n%%\nE10\n"), [*wanted, ("10", "number")])
 
     def test_there_are_enough(self) -> None:
         found = texts()
@@ -233,7 +237,8 @@ class Vim(InFolder):
             script += [f"edit {self.folder}/{at}.fc", f"call Write('{self.folder}/{at}.out')"]
         (self.folder / "run.vim").write_text(
             "function Write(to)\n  let rows = []\n  for line in range(1, line('$'))\n"
-            "    call add(rows, join(map(range(1, len(getline(line))), {_, at -> synIDattr(synID(line, at, 0), 'name')}), ' '))\n"
+            "    let names = map(range(1, len(getline(line))), {_, at -> synIDattr(synID(line, at, 0), 'name')})\n"
+            "    call add(rows, join(names, ' '))\n"
             "  endfor\n  call writefile([&filetype] + rows, a:to)\nendfunction\n" + "\n".join(script) + "\nqall!\n"
         )
         words = [VIM, "-e", "-s", "-u", "NONE", "-i", "NONE", "-n", "-S", str(self.folder / "run.vim")]
@@ -244,11 +249,13 @@ class Vim(InFolder):
         named = [(name, shorter(text)) for name, text in [*texts(), ("corners", CORNERS)]]
         for (name, text), (filetype, *rows) in zip(named, self.groups(named), strict=True):
             self.assertEqual(filetype, "fieldcalculus", name)
-            flat = [group for line, row in zip(text.encode().split(b"\n"), rows, strict=False) for group in [*row.split(" ")[: len(line)], ""]]
+            lined = zip(text.encode().split(b"\n"), rows, strict=False)
+            flat = [group for line, row in lined for group in [*row.split(" ")[: len(line)], ""]]
             starts = [len(text[:at].encode()) for at in range(len(text) + 1)]
             for token in tokens(text):
                 found = set(flat[starts[token.start] : starts[token.end]])
-                self.assertTrue(found <= set(GROUPS[token.kind]) and found, f"{name}: {text[token.start - 20 : token.end]!r} {token.kind} {found}")
+                said = f"{name}: {text[token.start - 20 : token.end]!r} {token.kind} {found}"
+                self.assertTrue(found <= set(GROUPS[token.kind]) and found, said)
 
     def test_each_group_has_a_colour(self) -> None:
         text = (EDITORS / "vim/syntax/fieldcalculus.vim").read_text()

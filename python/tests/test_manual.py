@@ -50,7 +50,8 @@ class Made(unittest.TestCase):
         wanted: dict[str, set[str]] = {}
         for call in calls():
             wanted.setdefault(call.split()[1], set()).update(re.findall(r"--[a-z-]+", call))
-        self.assertEqual({one.name: {*(name for o in one.options for name in o.names)} for one in lines.of_fc().commands}, wanted)
+        named = {one.name: {name for option in one.options for name in option.names} for one in lines.of_fc().commands}
+        self.assertEqual(named, wanted)
 
     @needs_fc
     def test_words_of_fc_are_words(self) -> None:

@@ -41,12 +41,14 @@ class Grammar:
             patterns = stack[-1].get("patterns", []) if stack else self.whole["patterns"]
             ways = [(stack[-1], "end")] if stack else []
             ways += [(rule, "match" if "match" in rule else "begin") for rule in self.rules(patterns)]
-            found = [(hit.start(), order, hit) for order, (rule, key) in enumerate(ways) if (hit := re.compile(rule[key]).search(line, at))]
+            hits = [re.compile(rule[key]).search(line, at) for rule, key in ways]
+            found = [(hit.start(), order, hit) for order, hit in enumerate(hits) if hit]
             if not found:
                 break
             _, order, hit = min(found, key=lambda one: one[:2])
             rule, key = ways[order]
-            self._paint(scopes, hit, rule.get("name", "") if key == "match" else "", rule.get("captures") or rule.get(f"{key}Captures") or {})
+            captures = rule.get("captures") or rule.get(f"{key}Captures") or {}
+            self._paint(scopes, hit, rule.get("name", "") if key == "match" else "", captures)
             if key == "begin":
                 stack.append(rule)
             elif key == "end":
