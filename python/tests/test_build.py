@@ -43,7 +43,7 @@ esac
 """
 FAILS = """\
 [ "$1" = all ] || exit 0
-echo "== fc_values"; echo "src/lib.rt:3:1: error: a clause stays open"; echo "== fc_nodes"
+echo "== fc_values"; echo "src/lib.rt:3:1: error: a clause stays open"; echo "logic=not-proved functions=3"; echo "== fc_nodes"
 echo "== summary"; echo "fc_values: failed (1)"; echo "fc_nodes: not run, since fc_values failed"; exit 1
 """
 
@@ -103,8 +103,9 @@ class Build(InFolder):
         done = self.checkout.run("build", "--prefix", "there")
         self.assertEqual((done.status, done.output), (1, ""))
         wanted = ("build: fc_values: failed (1)", "build: fc_nodes: not run, since fc_values failed")
-        for said in (*wanted, "a clause stays open", "out/build.log"):
+        for said in (*wanted, "build: fc_values isn't proved", "a clause stays open", "out/build.log"):
             self.assertIn(said, done.errors)
+        self.assertNotIn("fc_nodes; ", done.errors)
         self.assertFalse((self.folder / "there").exists())
 
     def test_a_failure_of_a_single_crate(self) -> None:
