@@ -43,6 +43,11 @@ _fieldc_words() {
         "gen --devices" | "gen --workers")
             compopt +o bashdefault +o default 2>/dev/null
             return ;;
+        "compose --network" | "compose -o" | "compose --output")
+            return ;;
+        "compose --library" | "compose --show")
+            compopt +o bashdefault +o default 2>/dev/null
+            return ;;
         "network --points" | "network --edges" | "network --scene" | "network -o" | "network --output" | "network --program" | "network --table" | "network --positions" | "network --names")
             return ;;
         "network --line" | "network --ring" | "network --grid" | "network --torus" | "network --disk" | "network --range" | "network --side" | "network --seed" | "network --weight" | "network --metric" | "network --unit" | "network --max-degree" | "network --set" | "network --inputs")
@@ -64,7 +69,7 @@ _fieldc_words() {
             return ;;
     esac
     case $command in
-        "") words="check settle stable trace run replay mail gen format network picture rounds -h --help --version" ;;
+        "") words="check settle stable trace run replay mail gen format compose network picture rounds -h --help --version" ;;
         check) files=yes words="--facts --settle --from-table --why --json --names -h --help" ;;
         settle) files=yes words="--facts --from-table --why --json --names -h --help" ;;
         stable) files=yes words="--json --names -h --help" ;;
@@ -74,6 +79,7 @@ _fieldc_words() {
         mail) files=yes words="--number --json --names -h --help" ;;
         gen) words="--devices --workers --json -h --help" ;;
         format) files=yes words="--json -h --help" ;;
+        compose) files=yes words="--network --library --unjudged -o --output --list --show -h --help" ;;
         network) words="--line --ring --grid --torus --disk --points --edges --scene -o --output --range --side --seed --undirected --weight --metric --unit --round --max-degree --set --inputs --program --table --positions --names -h --help" ;;
         picture) files=yes words="-o --output --values --of --show --page --positions --names --numbers --mark --title -h --help" ;;
         rounds) files=yes words="-o --output --number --rounds --workers --title -h --help" ;;

@@ -1,20 +1,21 @@
 # Completions of fieldc for fish: put this file into a folder of fish_complete_path.
 # Made by tools/pages.
-complete -c fieldc -n 'not __fish_seen_subcommand_from check settle stable trace run replay mail gen format network picture rounds' -f
-complete -c fieldc -n 'not __fish_seen_subcommand_from check settle stable trace run replay mail gen format network picture rounds' -s h -l help -d 'show this help message and exit'
-complete -c fieldc -n 'not __fish_seen_subcommand_from check settle stable trace run replay mail gen format network picture rounds' -l version -d 'show program\'s version number and exit'
-complete -c fieldc -n 'not __fish_seen_subcommand_from check settle stable trace run replay mail gen format network picture rounds' -a check -d 'says whether a program stabilises, and after how many rounds'
-complete -c fieldc -n 'not __fish_seen_subcommand_from check settle stable trace run replay mail gen format network picture rounds' -a settle -d 'says after how many rounds each device of this network holds its value'
-complete -c fieldc -n 'not __fish_seen_subcommand_from check settle stable trace run replay mail gen format network picture rounds' -a stable -d 'writes the value to which each device stabilises, without running the program'
-complete -c fieldc -n 'not __fish_seen_subcommand_from check settle stable trace run replay mail gen format network picture rounds' -a trace -d 'writes for each device its value and a least walk that costs so much'
-complete -c fieldc -n 'not __fish_seen_subcommand_from check settle stable trace run replay mail gen format network picture rounds' -a run -d 'runs a script: rounds on several threads, edits, rubbish tables, and what is shown'
-complete -c fieldc -n 'not __fish_seen_subcommand_from check settle stable trace run replay mail gen format network picture rounds' -a replay -d 'goes through a log, and writes what each device then holds'
-complete -c fieldc -n 'not __fish_seen_subcommand_from check settle stable trace run replay mail gen format network picture rounds' -a mail -d 'goes through a log of messages, which links lose, repeat and deliver late, or makes one from a number'
-complete -c fieldc -n 'not __fish_seen_subcommand_from check settle stable trace run replay mail gen format network picture rounds' -a gen -d 'runs a scenario that is made from a number: a hop count on a ring of devices that hold rubbish'
-complete -c fieldc -n 'not __fish_seen_subcommand_from check settle stable trace run replay mail gen format network picture rounds' -a format -d 'writes the canonical text of a program, or says what is wrong with it and where'
-complete -c fieldc -n 'not __fish_seen_subcommand_from check settle stable trace run replay mail gen format network picture rounds' -a network -d 'makes a network: a line, ring, grid, torus, devices in a square, or from positions, links or a graph'
-complete -c fieldc -n 'not __fish_seen_subcommand_from check settle stable trace run replay mail gen format network picture rounds' -a picture -d 'draws a network with the values of its devices, or a run as a page with a slider over its shows'
-complete -c fieldc -n 'not __fish_seen_subcommand_from check settle stable trace run replay mail gen format network picture rounds' -a rounds -d 'draws against the rounds how many devices hold their value, from tables of rubbish'
+complete -c fieldc -n 'not __fish_seen_subcommand_from check settle stable trace run replay mail gen format compose network picture rounds' -f
+complete -c fieldc -n 'not __fish_seen_subcommand_from check settle stable trace run replay mail gen format compose network picture rounds' -s h -l help -d 'show this help message and exit'
+complete -c fieldc -n 'not __fish_seen_subcommand_from check settle stable trace run replay mail gen format compose network picture rounds' -l version -d 'show program\'s version number and exit'
+complete -c fieldc -n 'not __fish_seen_subcommand_from check settle stable trace run replay mail gen format compose network picture rounds' -a check -d 'says whether a program stabilises, and after how many rounds'
+complete -c fieldc -n 'not __fish_seen_subcommand_from check settle stable trace run replay mail gen format compose network picture rounds' -a settle -d 'says after how many rounds each device of this network holds its value'
+complete -c fieldc -n 'not __fish_seen_subcommand_from check settle stable trace run replay mail gen format compose network picture rounds' -a stable -d 'writes the value to which each device stabilises, without running the program'
+complete -c fieldc -n 'not __fish_seen_subcommand_from check settle stable trace run replay mail gen format compose network picture rounds' -a trace -d 'writes for each device its value and a least walk that costs so much'
+complete -c fieldc -n 'not __fish_seen_subcommand_from check settle stable trace run replay mail gen format compose network picture rounds' -a run -d 'runs a script: rounds on several threads, edits, rubbish tables, and what is shown'
+complete -c fieldc -n 'not __fish_seen_subcommand_from check settle stable trace run replay mail gen format compose network picture rounds' -a replay -d 'goes through a log, and writes what each device then holds'
+complete -c fieldc -n 'not __fish_seen_subcommand_from check settle stable trace run replay mail gen format compose network picture rounds' -a mail -d 'goes through a log of messages, which links lose, repeat and deliver late, or makes one from a number'
+complete -c fieldc -n 'not __fish_seen_subcommand_from check settle stable trace run replay mail gen format compose network picture rounds' -a gen -d 'runs a scenario that is made from a number: a hop count on a ring of devices that hold rubbish'
+complete -c fieldc -n 'not __fish_seen_subcommand_from check settle stable trace run replay mail gen format compose network picture rounds' -a format -d 'writes the canonical text of a program, or says what is wrong with it and where'
+complete -c fieldc -n 'not __fish_seen_subcommand_from check settle stable trace run replay mail gen format compose network picture rounds' -a compose -d 'puts the blocks that a program calls in front of it'
+complete -c fieldc -n 'not __fish_seen_subcommand_from check settle stable trace run replay mail gen format compose network picture rounds' -a network -d 'makes a network: a line, ring, grid, torus, devices in a square, or from positions, links or a graph'
+complete -c fieldc -n 'not __fish_seen_subcommand_from check settle stable trace run replay mail gen format compose network picture rounds' -a picture -d 'draws a network with the values of its devices, or a run as a page with a slider over its shows'
+complete -c fieldc -n 'not __fish_seen_subcommand_from check settle stable trace run replay mail gen format compose network picture rounds' -a rounds -d 'draws against the rounds how many devices hold their value, from tables of rubbish'
 
 # check
 complete -c fieldc -n '__fish_seen_subcommand_from check' -l facts -d 'adds what is known of each node of the unfolded main'
@@ -74,6 +75,15 @@ complete -c fieldc -n '__fish_seen_subcommand_from gen' -s h -l help -d 'tells o
 # format
 complete -c fieldc -n '__fish_seen_subcommand_from format' -l json -d 'writes the answer, and a refusal, as JSON'
 complete -c fieldc -n '__fish_seen_subcommand_from format' -s h -l help -d 'tells of the command'
+
+# compose
+complete -c fieldc -n '__fish_seen_subcommand_from compose' -l network -r -F -d 'a network beside: warns of device numbers that aren\'t told apart on it'
+complete -c fieldc -n '__fish_seen_subcommand_from compose' -l library -x -d 'a folder of blocks of your own besides'
+complete -c fieldc -n '__fish_seen_subcommand_from compose' -l unjudged -d 'doesn\'t ask fc whether it takes the composed program'
+complete -c fieldc -n '__fish_seen_subcommand_from compose' -s o -l output -r -F -d 'where the composed program goes; else to standard output'
+complete -c fieldc -n '__fish_seen_subcommand_from compose' -l list -d 'lists the blocks, a line each'
+complete -c fieldc -n '__fish_seen_subcommand_from compose' -l show -x -d 'shows one block'
+complete -c fieldc -n '__fish_seen_subcommand_from compose' -s h -l help -d 'tells of the command'
 
 # network
 complete -c fieldc -n '__fish_seen_subcommand_from network' -f
