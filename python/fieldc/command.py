@@ -28,6 +28,7 @@ COMMANDS = {
     "network": "fieldc.commands.network",
     "picture": "fieldc.commands.picture",
     "rounds": "fieldc.commands.rounds",
+    "sweep": "fieldc.commands.sweep",
 }
 OPTIONAL = ("compose",)
 VERSION = "1.0"

@@ -1,0 +1,134 @@
+"""What is asked of `fc` about a deployment, and many such questions one after the other, in any process and on any machine."""
+
+from __future__ import annotations
+
+import hashlib
+import os
+import time
+from collections.abc import Iterator, Sequence
+from contextlib import contextmanager
+from dataclasses import dataclass
+from functools import lru_cache
+from pathlib import Path
+
+from .. import network
+from .. import program as fc
+from ..refusals import Call, Fault, Refusal, Section
+from . import deployments, rows
+from .deployments import Rule
+from .rows import Row
+
+BAD_DEPLOYMENTS = ("limit degree ", "limit devices ")
+DECIDING = (network.__file__, deployments.__file__, rows.__file__, __file__)
+
+
+@dataclass(frozen=True)
+class Question:
+    """What is asked of each deployment of a rule: `check --settle` of a program, and, with `values`, `stable` too.
+
+    `name` is the program's file, for refusals.
+    """
+
+    rule: Rule
+    program: str
+    values: bool = False
+    name: str = ""
+
+    def row(self, seed: int) -> Row:
+        """The row of a seed, which the question and the seed alone decide. Raises Fault and Refusal."""
+        return asked(self, seed, [])
+
+    def batch(self, first: int, count: int) -> Batch:
+        """The rows of so many seeds from the first on. Raises Fault and Refusal."""
+        start, inside, found, seconds = time.thread_time(), 0.0, [], []
+        for seed in range(first, first + count):
+            spent: list[float] = []
+            found.append(rows.line_of(asked(self, seed, spent), self.values))
+            seconds.append(sum(spent))
+            inside += sum(spent)
+        return Batch(tuple(found), tuple(seconds), time.thread_time() - start, made_by())
+
+
+@dataclass(frozen=True)
+class Batch:
+    """Some rows as lines of a file, the seconds of a processor that `fc` took for each, those that were taken beside it for
+    all, and by what they were made."""
+
+    lines: tuple[str, ...]
+    seconds: tuple[float, ...]
+    beside: float
+    made_by: str
+
+
+@lru_cache(maxsize=1)
+def made_by() -> str:
+    """A digest of what decides rows beside the question: the program `fc`, and the modules that draw and ask."""
+    whole = hashlib.sha256()
+    for name in (executable(), *DECIDING):
+        whole.update(Path(name).read_bytes())
+    return whole.hexdigest()
+
+
+@lru_cache(maxsize=1)
+def executable() -> str:
+    """The program `fc`; in a checkout the proved program itself where it is built, since `./fc` looks at all sources first."""
+    found, here = fc.find(), fc.checkout()
+    built = here / "crates/fc_program/out/fc_program" if here is not None else None
+    return str(built) if here is not None and found == str(here / "fc") and os.access(built, os.X_OK) else found
+
+
+@lru_cache(maxsize=1)
+def environment() -> dict[str, str]:
+    """The variables that `fc` is given: those of this process."""
+    return dict(os.environ)
+
+
+def asked(question: Question, seed: int, spent: list[float]) -> Row:
+    """The row of a seed; the seconds of a processor that each run of `fc` took are put behind `spent`."""
+    found = deployments.deployment(question.rule, seed)
+    components, diameter = deployments.components_and_diameter(found)
+    scene = Section("network", f"the network of seed {seed}", 1, deployments.scene_text(found))
+    sections = (Section("program", question.name, 1, question.program), scene)
+    shape = (seed, len(found.inputs), len(found.links), components, diameter)
+    try:
+        settling = answer(Call(("check", "--settle"), sections), spent).splitlines()
+    except Refusal as refusal:
+        if refusal.line.startswith(BAD_DEPLOYMENTS):
+            return Row(*shape, refusal.line)
+        raise
+    values: Sequence[str] = ()
+    if question.values and settling[0].startswith("yes "):
+        values = [line.split(" ", 1)[1] for line in answer(Call(("stable",), sections), spent).splitlines()]
+    elif question.values:
+        values = [line.split(" ")[-1] for line in settling[2:]]
+    return rows.row_of(shape, settling, values)
+
+
+def answer(call: Call, spent: list[float]) -> str:
+    """What `fc` writes. Raises Refusal where its status is above 1, and Fault where it can't be run."""
+    with memory() as given, memory() as written:
+        os.write(given, fc.joined(call.sections))
+        os.lseek(given, 0, os.SEEK_SET)
+        ends = [(os.POSIX_SPAWN_DUP2, given, 0), (os.POSIX_SPAWN_DUP2, written, 1)]
+        try:
+            process = os.posix_spawn(executable(), ["fc", *call.words], environment(), file_actions=ends)
+        except OSError as error:
+            raise Fault(f"{executable()} can't be run: {error.strerror}") from None
+        _, status, used = os.wait4(process, 0)
+        spent.append(used.ru_utime + used.ru_stime)
+        text = fc.text_of(os.pread(written, os.fstat(written).st_size, 0))
+    code = os.waitstatus_to_exitcode(status)
+    if code not in (0, 1):
+        line = text.strip("\n") if code in (2, 3, 4) else ""
+        raise Refusal(code, line.split(" ")[0].rstrip(":"), line, call)
+    return text
+
+
+@contextmanager
+def memory() -> Iterator[int]:
+    """A file in memory, by its descriptor."""
+    place = os.memfd_create("fieldc")
+    try:
+        yield place
+    finally:
+        os.close(place)

@@ -1,0 +1,168 @@
+"""Many questions at once: on the processors of this machine, or on a Dask cluster. Rows are written in the order of seeds."""
+
+from __future__ import annotations
+
+import os
+import signal
+import threading
+import time
+from collections import deque
+from collections.abc import Callable, Iterator
+from concurrent.futures import Executor, Future, ProcessPoolExecutor, wait
+from concurrent.futures.process import BrokenProcessPool
+from contextlib import closing, contextmanager
+from dataclasses import asdict, dataclass
+
+from ..refusals import Fault, Refusal
+from . import rows
+from .questions import Batch, Question, made_by
+from .rows import Files
+
+TICK = 0.2
+DEVICES_A_BATCH = 1_000
+MOST_A_BATCH = 50
+WINDOW_OF_CLUSTER = 256
+PATIENCE = 10
+
+
+@dataclass(frozen=True)
+class Spent:
+    """What a sweep took: the seconds of a processor inside `fc` and beside it, the seconds on the clock, and how many rows
+    were asked."""
+
+    inside: float
+    beside: float
+    clock: float
+    rows: int
+
+
+def sweep(
+    question: Question,
+    first: int,
+    count: int,
+    files: Files,
+    executor: Executor,
+    window: int,
+    waiting: Callable[[int, int], None],
+) -> Spent:
+    """Asks for the rows of so many seeds from the first on that aren't there yet, and writes them as they come.
+
+    At most `window` batches are asked ahead. `waiting` is called about five times a second with how many rows are there, and
+    how many of them were there before. Raises Fault, also where the rows that are there are of another sweep, and Refusal.
+    """
+    start, beside, inside = time.monotonic(), time.process_time(), 0.0
+    there = min(rows.taken_up(files, described(question, first), question.values), count)
+    done = there
+    try:
+        with files.rows.open("a") as kept, files.seconds.open("a") as times:
+            found = in_order(executor, question, first + there, count - there, window, lambda: waiting(done, there))
+            with closing(found):
+                for batch in found:
+                    kept.write("".join(batch.lines))
+                    kept.flush()
+                    seeds = range(first + done, first + done + len(batch.lines))
+                    times.write("".join(f"{seed},{seconds:.6f}\n" for seed, seconds in zip(seeds, batch.seconds)))
+                    times.flush()
+                    done += len(batch.lines)
+                    inside, beside = inside + sum(batch.seconds), beside - batch.beside
+                    waiting(done, there)
+    except OSError as error:
+        raise Fault(f"{error.filename or files.rows} can't be written: {error.strerror}", 6) from None
+    return Spent(inside, time.process_time() - beside, time.monotonic() - start, done - there)
+
+
+def described(question: Question, first: int) -> dict[str, object]:
+    """What a sweep is: the question, the first seed, and by what its rows are made."""
+    whole = {**asdict(question), "seed": first, "made_by": made_by()}
+    del whole["name"]
+    return whole
+
+
+def batches(question: Question, first: int, count: int) -> Iterator[tuple[int, int]]:
+    """The first seeds and the sizes of the batches in which so many rows are asked."""
+    base = question.rule.base
+    devices = len(base.inputs) if base is not None else max(question.rule.count[1], question.rule.sides[0] * question.rule.sides[1])
+    size = min(max(1, DEVICES_A_BATCH // devices), MOST_A_BATCH)
+    for start in range(first, first + count, size):
+        yield start, min(size, first + count - start)
+
+
+def in_order(
+    executor: Executor, question: Question, first: int, count: int, window: int, waiting: Callable[[], None]
+) -> Iterator[Batch]:
+    """The batches of so many seeds, in their order, of which at most `window` are asked ahead."""
+    left = batches(question, first, count)
+    asked: deque[Future[Batch]] = deque()
+    try:
+        while True:
+            while len(asked) < window and (one := next(left, None)) is not None:
+                asked.append(executor.submit(question.batch, *one))
+            if not asked:
+                return
+            while not wait([asked[0]], TICK).done:
+                waiting()
+            yield checked(asked.popleft().result())
+    finally:
+        for future in asked:
+            future.cancel()
+
+
+def checked(batch: Batch) -> Batch:
+    """A batch that was made by the same `fc` and the same rules as here. Raises Fault for any other."""
+    if batch.made_by != made_by():
+        raise Fault("a worker has another fc or another fieldc than this machine: install the same on all")
+    return batch
+
+
+# ---- where questions are asked -------------------------------------------------------------------------------------
+
+
+def processors() -> int:
+    """How many processors this process may run on."""
+    return len(os.sched_getaffinity(0))
+
+
+@contextmanager
+def on_this_machine(workers: int) -> Iterator[tuple[Executor, int]]:
+    """So many processes, and how many batches are asked ahead. Raises Fault where one of them ends before its time."""
+    try:
+        with ProcessPoolExecutor(workers, initializer=_begun, initargs=(os.getpid(),)) as pool:
+            yield pool, 8 * workers
+    except BrokenProcessPool:
+        raise Fault("a process of the sweep was ended: the same command goes on where it was", 7) from None
+
+
+def _begun(parent: int) -> None:
+    """What a process does first: it leaves interrupts to its parent, and ends when that one does, however it ends."""
+    signal.signal(signal.SIGINT, signal.SIG_IGN)
+
+    def follow() -> None:
+        while os.getppid() == parent:
+            time.sleep(TICK)
+        os._exit(1)
+
+    threading.Thread(target=follow, daemon=True).start()
+
+
+@contextmanager
+def on_a_cluster(address: str) -> Iterator[tuple[Executor, int]]:
+    """The Dask cluster of a scheduler. What was at work on a worker that dies is asked again, of another one.
+
+    Raises Fault where Dask or the scheduler isn't there, and where a worker can't do what it is asked.
+    """
+    try:
+        import distributed
+    except ImportError:
+        raise Fault("--scheduler needs Dask (Debian: python3-distributed)") from None
+    try:
+        client = distributed.Client(address, timeout=PATIENCE, set_as_default=False)
+    except (OSError, ValueError) as error:
+        raise Fault(f"the scheduler {address} can't be reached: {error}") from None
+    with client:
+        try:
+            yield client.get_executor(pure=False), WINDOW_OF_CLUSTER
+        except (Fault, Refusal, OSError):
+            raise
+        except Exception as error:  # whatever a worker without the package, or the library, raises
+            wanted = "each worker needs fieldc and fc (docs/sweep.md)"
+            raise Fault(f"the cluster of {address}: {type(error).__name__}: {error}; {wanted}") from None
