@@ -16,6 +16,7 @@ from dataclasses import replace
 from pathlib import Path
 
 from helping import HOPS, TOP, fieldc, needs, needs_fc
+import test_command
 from test_files import InFolder
 
 import fieldc as library
@@ -154,6 +155,8 @@ class Kept(InFolder):
         told = report.told(found)
         self.assertIn("22 deployments, seeds 0 to 21\nsettled 20, open 1 (4.55 %), refused 1 (limit degree 33)\n", told)
         self.assertIn("open: seeds 20\n", told)
+        self.assertIn("3 to 3 devices: 20 settled, R half at most 6, 9 in 10 at most 8; K 22\n", told)
+        self.assertNotIn("3 to 3 devices", report.told(report.summary(some[:20], 10)))
 
 
 @needs_fc
@@ -350,6 +353,12 @@ class Sweeps(InFolder):
         wanted = " ".join(map(str, words)).replace("--metric 1..1 --set", "--metric 1..1 --set")
         self.assertEqual(sorted(again.split("hops.fc ")[1].split(" --again")[0].split(" ")), sorted(wanted.split(" ")))
 
+    def test_a_line_says_how_far_it_is(self) -> None:
+        words = ("sweep", self.program, *SHAPE, "--count", 150, "--workers", 2, "-o", self.folder / "rows.csv")
+        said = test_command.LongWork.on_a_terminal(self, *words, fc=self.slow(0.05))
+        self.assertRegex(said, "fieldc: 150 deployments: [0-9]+ s, [1-9][0-9]* done, [0-9]+ a second, [0-9]+ s left")
+        self.assertRegex(said, "fieldc sweep: 150 rows in [0-9.]+ s, [0-9.]+ s of a processor in fc and [0-9.]+ s beside it")
+
     def test_wrong_words_and_files(self) -> None:
         rows_of = {
             "--disk needs a --range": ("--disk", 5, "-o", "rows.csv"),
@@ -369,6 +378,10 @@ class Sweeps(InFolder):
         done = fieldc("sweep", self.program, "--line", 5, "-o", "rows.csv", folder=self.folder)
         self.assertEqual(done.status, 3)
         self.assertIn("device 0 has no src, which the program declares as an input", done.errors)
+        load = self.file("ceiling 30; input load: int 0..20; main = sense load;\n", "load.fc")
+        for wide, status in (("0..20", 0), ("0..21", 3), ("19..21", 3)):
+            words = ("--line", 3, "--set", f"load={wide}", "--count", 2, "-o", "load.csv")
+            self.assertEqual(fieldc("sweep", load, *words, folder=self.folder).status, status)
         wrong = self.file("ceiling 10;\nmain = 1 == 2;\n", "wrong.fc")
         done = fieldc("sweep", wrong, "--line", 5, "-o", "rows.csv", folder=self.folder)
         self.assertEqual((done.status, done.output), (3, ""))

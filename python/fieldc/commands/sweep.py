@@ -198,7 +198,9 @@ def again(rule: Rule, options: argparse.Namespace) -> int:
 
 def judge(question: Question, seed: int) -> None:
     """Refuses a program or inputs that are wrong on all deployments, before many are asked."""
-    found = network.judged(deployment(question.rule, seed), question.program)
+    for end in (0, 1):
+        inputs = [replace(one, value=one.value[end]) if isinstance(one.value, tuple) else one for one in question.rule.inputs]
+        found = network.judged(deployment(replace(question.rule, inputs=tuple(inputs)), seed), question.program)
     first = min(found.inputs)
     alone = replace(found, inputs={first: found.inputs[first]}, links=(), state={})
     program = Section("program", question.name, 1, question.program)

@@ -79,12 +79,27 @@ def told(found: Summary) -> str:
         most = f"half at most {found.quantile(0.5):,}, 9 in 10 at most {found.quantile(0.9):,}"
         lines.append(f"{spread}, {most}; {bound_of(found)}")
         lines.append("slowest: " + ", ".join(f"seed {row.seed} ({row.rounds:,})" for row in found.worst))
+    lines += by_size(found)
     if found.open:
         more = f" and {len(found.open) - 2 * WORST:,} more" if len(found.open) > 2 * WORST else ""
         lines.append("open: seeds " + ", ".join(str(row.seed) for row in found.open[: 2 * WORST]) + more)
     if found.full is not None:
         lines.append(f"with a device at the ceiling: {found.full:,} ({share(found.full, count)})")
     return "".join(line + "\n" for line in lines)
+
+
+def by_size(found: Summary) -> list[str]:
+    """Where the deployments aren't all of one size, a line for each half of a power of ten in which some are."""
+    step = lambda row: int(2 * math.log10(row.devices) + 1e-9)  # noqa: E731
+    steps = sorted({step(row) for row in found.settled})
+    lines = []
+    for one in steps if len({row.devices for row in found.rows}) > 1 else ():
+        rows = [row for row in found.settled if step(row) == one]
+        part = summary(rows, None)
+        size = f"{min(row.devices for row in rows):,} to {max(row.devices for row in rows):,} devices"
+        most = f"half at most {part.quantile(0.5):,}, 9 in 10 at most {part.quantile(0.9):,}"
+        lines.append(f"{size}: {len(rows):,} settled, R {most}; {bound_of(part)}")
+    return lines
 
 
 def share(part: int, whole: int) -> str:
