@@ -17,6 +17,7 @@ from pathlib import Path
 
 from helping import HOPS, TOP, fieldc, needs, needs_fc
 import test_command
+import test_pages
 from test_files import InFolder
 
 import fieldc as library
@@ -330,6 +331,11 @@ class Sweeps(InFolder):
         found = rows.rows_of(text, "rows.csv")
         self.assertTrue(all((row.devices, row.verdict) == (6, "yes") for row in found))
         self.assertEqual({row.links for row in found} | {5}, {5})
+        words = ("--points", points, "--range", 12, "--jitter", 1, "--again", 3, "-o", "net.json", "--positions", "at.csv")
+        self.assertEqual(fieldc("sweep", self.program, *words, folder=self.folder).status, 0)
+        self.assertEqual((self.folder / "net.names.csv").read_text().splitlines()[1], "0,m0")
+        places = [float(line.split(",")[1]) for line in (self.folder / "at.csv").read_text().splitlines()[1:]]
+        self.assertTrue(all(0 < abs(x - 10 * d) <= 1 for d, x in enumerate(places)))
         edges = self.file("0 1\n1 2\n2 3\n3 0\n", "edges.txt")
         found = rows.rows_of(self.sweep("--edges", edges, "--fail", 0.5, "--set", "src=true@0", "--count", 40, name="e.csv"), "e")
         self.assertEqual({row.links for row in found} - {0, 1, 2, 3, 4}, set())
@@ -389,6 +395,52 @@ class Sweeps(InFolder):
         self.assertFalse((self.folder / "rows.csv").exists())
         done = fieldc("sweep", self.program, *SHAPE, "-o", "rows.csv", "--scheduler", "127.0.0.1:x", folder=self.folder)
         self.assertEqual((done.status, done.output), (2, ""))
+
+
+@needs_fc
+@needs("matplotlib", "networkx")
+class Page(InFolder):
+    """The commands of docs/sweep.md write what stands below them; what takes long is typed with three deployments."""
+
+    SLOW = ("gradient", "region_mean")
+
+    def test_commands_write_what_stands_below_them(self) -> None:
+        text = (TOP / "docs/sweep.md").read_text()
+        commands = test_pages.commands_of(text)
+        self.assertGreater(len(commands), 8)
+        for command, _ in commands:
+            if any(word in command for word in self.SLOW):
+                self.assertTrue("--count 200" in command or command.startswith("sed "), command)
+        short = [self.shortened(command, wanted) for command, wanted in commands]
+        written = self.typed([command for command, _ in short])
+        for (command, wanted), found in zip(short, written):
+            if "--count 3 " in command:
+                self.assertIn("settled, R half at most" if "| tail" in command else "settled 3, open 0 (0 %)", found)
+            else:
+                self.assertEqual(found, wanted, command)
+        for name in test_pages.PICTURE.findall(text):
+            self.assertGreaterEqual(test_pages.vivid(TOP / "docs/pictures" / name), 2, name)
+
+    def shortened(self, command: str, wanted: str) -> tuple[str, str]:
+        """A command that takes less, and what it writes, as far as that is known."""
+        if any(word in command for word in self.SLOW):
+            return command.replace("--count 200", "--count 3"), wanted
+        if "in 16 20 24 28 32" in command:
+            return command.replace("in 16 20 24 28 32", "in 28"), wanted.splitlines(keepends=True)[3]
+        return command, wanted
+
+    def typed(self, commands: list[str]) -> list[str]:
+        """What each of some commands writes, typed one after the other in one shell."""
+        for name in ("examples", "fieldc"):
+            (self.folder / name).symlink_to(TOP / name)
+        script = "".join(f"{command}\necho '{test_pages.MARK}'\n" for command in commands)
+        environment = dict(os.environ, FC=program.find())
+        shell = subprocess.run(
+            ["bash"], cwd=self.folder, input=script, env=environment, capture_output=True, text=True, check=False
+        )
+        parts = shell.stdout.split(test_pages.MARK + "\n")
+        self.assertEqual((len(parts), parts[-1]), (len(commands) + 1, ""), shell.stderr)
+        return parts[:-1]
 
 
 class Batches(unittest.TestCase):

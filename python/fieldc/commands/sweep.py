@@ -193,6 +193,9 @@ def again(rule: Rule, options: argparse.Namespace) -> int:
             raise Fault("--positions: this network has no positions to write")
         write(options.positions, files.positions_text(found.positions))
     write(options.output or "-", found.scene())
+    if found.names and options.output:
+        write(files.beside(options.output, "names"), files.names_text(found.names))
+        print(f"fieldc sweep: the names of the devices are in {files.beside(options.output, 'names')}", file=sys.stderr)
     return 0
 
 
