@@ -218,16 +218,14 @@ def asked(question: Question, options: argparse.Namespace) -> Spent:
         else running.on_this_machine(options.workers or running.processors())
     )
     start = time.monotonic()
-    with where as (executor, window), Progress(lambda: f"{options.count:,} deployments") as progress:
+    with where as place, Progress(lambda: f"{options.count:,} deployments") as progress:
 
         def waiting(done: int, before: int) -> None:
             rate = (done - before) / max(time.monotonic() - start, 1e-9)
             left = f", {(options.count - done) / rate:.0f} s left" if rate else ""
             progress(f", {done:,} done, {rate:.0f} a second{left}")
 
-        return running.sweep(
-            question, options.seed, options.count, rows.files_of(options.output), executor, window, waiting
-        )
+        return running.sweep(question, options.seed, options.count, rows.files_of(options.output), place, waiting)
 
 
 def tell(spent: Spent) -> None:

@@ -72,7 +72,8 @@ def told(found: Summary) -> str:
     count = len(found.rows)
     seeds = f"seeds {found.rows[0].seed} to {found.rows[-1].seed}" if found.rows else "no seeds"
     parts = [f"settled {len(found.settled):,}", f"open {len(found.open):,} ({share(len(found.open), count)})"]
-    parts += [f"refused {len(found.refused):,} ({', '.join(sorted({row.verdict for row in found.refused}))})"] * bool(found.refused)
+    lines_of_fc = ", ".join(sorted({row.verdict for row in found.refused}))
+    parts += [f"refused {len(found.refused):,} ({lines_of_fc})"] * bool(found.refused)
     lines = [f"{count:,} deployments, {seeds}", ", ".join(parts)]
     if found.settled:
         spread = f"R from {found.settled[-1].rounds:,} to {found.settled[0].rounds:,}"

@@ -9,7 +9,8 @@ from __future__ import annotations
 import csv
 import json
 import math
-from collections.abc import Mapping, Sequence
+from collections.abc import Callable, Iterator, Mapping, Sequence
+from contextlib import contextmanager
 from dataclasses import dataclass
 from pathlib import Path
 
@@ -171,3 +172,23 @@ def _whole_lines(path: Path) -> list[bytes]:
 def _cut(path: Path, length: int) -> None:
     with path.open("r+b") as opened:
         opened.truncate(length)
+
+
+@contextmanager
+def growing(path: Path) -> Iterator[Callable[[str], None]]:
+    """Gives a function that puts a text behind a file, at once. Raises Fault, of status 6, where that fails."""
+    try:
+        opened = path.open("ab", buffering=0)
+    except OSError as error:
+        raise Fault(f"{path} can't be written: {error.strerror}", 6) from None
+
+    def put(text: str) -> None:
+        left = memoryview(text.encode())
+        try:
+            while left:
+                left = left[opened.write(left) or 0 :]
+        except OSError as error:
+            raise Fault(f"{path} can't be written: {error.strerror}", 6) from None
+
+    with opened:
+        yield put

@@ -2,13 +2,14 @@
 
 from __future__ import annotations
 
+import logging
 import os
 import signal
 import threading
 import time
 from collections import deque
 from collections.abc import Callable, Iterator
-from concurrent.futures import Executor, Future, ProcessPoolExecutor, wait
+from concurrent.futures import CancelledError, Executor, Future, ProcessPoolExecutor, wait
 from concurrent.futures.process import BrokenProcessPool
 from contextlib import closing, contextmanager
 from dataclasses import asdict, dataclass
@@ -23,6 +24,7 @@ DEVICES_A_BATCH = 1_000
 MOST_A_BATCH = 50
 WINDOW_OF_CLUSTER = 256
 PATIENCE = 10
+LOUD = ("distributed", "distributed.client", "tornado.application", "asyncio")
 
 
 @dataclass(frozen=True)
@@ -36,39 +38,36 @@ class Spent:
     rows: int
 
 
+@dataclass(frozen=True)
+class Place:
+    """Where questions are asked: an executor, how many batches are asked ahead, and a check that raises Fault once the place
+    isn't there any more."""
+
+    executor: Executor
+    window: int
+    check: Callable[[], None] = lambda: None
+
+
 def sweep(
-    question: Question,
-    first: int,
-    count: int,
-    files: Files,
-    executor: Executor,
-    window: int,
-    waiting: Callable[[int, int], None],
+    question: Question, first: int, count: int, files: Files, place: Place, waiting: Callable[[int, int], None]
 ) -> Spent:
     """Asks for the rows of so many seeds from the first on that aren't there yet, and writes them as they come.
 
-    At most `window` batches are asked ahead. `waiting` is called about five times a second with how many rows are there, and
-    how many of them were there before. Raises Fault, also where the rows that are there are of another sweep, and Refusal.
+    `waiting` is called about five times a second with how many rows are there, and how many of them were there before.
+    Raises Fault, also where the rows that are there are of another sweep, and Refusal.
     """
-    start, beside, inside = time.monotonic(), time.process_time(), 0.0
+    start, own, inside, beside = time.monotonic(), time.process_time(), 0.0, 0.0
     there = min(rows.taken_up(files, described(question, first), question.values), count)
     done = there
-    try:
-        with files.rows.open("a") as kept, files.seconds.open("a") as times:
-            found = in_order(executor, question, first + there, count - there, window, lambda: waiting(done, there))
-            with closing(found):
-                for batch in found:
-                    kept.write("".join(batch.lines))
-                    kept.flush()
-                    seeds = range(first + done, first + done + len(batch.lines))
-                    times.write("".join(f"{seed},{seconds:.6f}\n" for seed, seconds in zip(seeds, batch.seconds)))
-                    times.flush()
-                    done += len(batch.lines)
-                    inside, beside = inside + sum(batch.seconds), beside - batch.beside
-                    waiting(done, there)
-    except OSError as error:
-        raise Fault(f"{error.filename or files.rows} can't be written: {error.strerror}", 6) from None
-    return Spent(inside, time.process_time() - beside, time.monotonic() - start, done - there)
+    found = in_order(place, question, first + there, count - there, lambda: waiting(done, there))
+    with rows.growing(files.rows) as put_rows, rows.growing(files.seconds) as put_seconds, closing(found):
+        for batch in found:
+            put_rows("".join(batch.lines))
+            put_seconds("".join(f"{seed},{took:.6f}\n" for seed, took in enumerate(batch.seconds, first + done)))
+            done += len(batch.lines)
+            inside, beside = inside + sum(batch.seconds), beside + batch.beside
+            waiting(done, there)
+    return Spent(inside, beside + time.process_time() - own, time.monotonic() - start, done - there)
 
 
 def described(question: Question, first: int) -> dict[str, object]:
@@ -81,25 +80,25 @@ def described(question: Question, first: int) -> dict[str, object]:
 def batches(question: Question, first: int, count: int) -> Iterator[tuple[int, int]]:
     """The first seeds and the sizes of the batches in which so many rows are asked."""
     base = question.rule.base
-    devices = len(base.inputs) if base is not None else max(question.rule.count[1], question.rule.sides[0] * question.rule.sides[1])
+    width, height = question.rule.sides
+    devices = len(base.inputs) if base is not None else max(question.rule.count[1], width * height)
     size = min(max(1, DEVICES_A_BATCH // devices), MOST_A_BATCH)
     for start in range(first, first + count, size):
         yield start, min(size, first + count - start)
 
 
-def in_order(
-    executor: Executor, question: Question, first: int, count: int, window: int, waiting: Callable[[], None]
-) -> Iterator[Batch]:
-    """The batches of so many seeds, in their order, of which at most `window` are asked ahead."""
+def in_order(place: Place, question: Question, first: int, count: int, waiting: Callable[[], None]) -> Iterator[Batch]:
+    """The batches of so many seeds, in their order."""
     left = batches(question, first, count)
     asked: deque[Future[Batch]] = deque()
     try:
         while True:
-            while len(asked) < window and (one := next(left, None)) is not None:
-                asked.append(executor.submit(question.batch, *one))
+            while len(asked) < place.window and (one := next(left, None)) is not None:
+                asked.append(place.executor.submit(question.batch, *one))
             if not asked:
                 return
             while not wait([asked[0]], TICK).done:
+                place.check()
                 waiting()
             yield checked(asked.popleft().result())
     finally:
@@ -123,11 +122,11 @@ def processors() -> int:
 
 
 @contextmanager
-def on_this_machine(workers: int) -> Iterator[tuple[Executor, int]]:
-    """So many processes, and how many batches are asked ahead. Raises Fault where one of them ends before its time."""
+def on_this_machine(workers: int) -> Iterator[Place]:
+    """So many processes. Raises Fault where one of them ends before its time."""
     try:
         with ProcessPoolExecutor(workers, initializer=_begun, initargs=(os.getpid(),)) as pool:
-            yield pool, 8 * workers
+            yield Place(pool, 8 * workers)
     except BrokenProcessPool:
         raise Fault("a process of the sweep was ended: the same command goes on where it was", 7) from None
 
@@ -145,7 +144,7 @@ def _begun(parent: int) -> None:
 
 
 @contextmanager
-def on_a_cluster(address: str) -> Iterator[tuple[Executor, int]]:
+def on_a_cluster(address: str) -> Iterator[Place]:
     """The Dask cluster of a scheduler. What was at work on a worker that dies is asked again, of another one.
 
     Raises Fault where Dask or the scheduler isn't there, and where a worker can't do what it is asked.
@@ -158,11 +157,27 @@ def on_a_cluster(address: str) -> Iterator[tuple[Executor, int]]:
         client = distributed.Client(address, timeout=PATIENCE, set_as_default=False)
     except (OSError, ValueError) as error:
         raise Fault(f"the scheduler {address} can't be reached: {error}") from None
-    with client:
-        try:
-            yield client.get_executor(pure=False), WINDOW_OF_CLUSTER
-        except (Fault, Refusal, OSError):
-            raise
-        except Exception as error:  # whatever a worker without the package, or the library, raises
-            wanted = "each worker needs fieldc and fc (docs/sweep.md)"
-            raise Fault(f"the cluster of {address}: {type(error).__name__}: {error}; {wanted}") from None
+    for name in LOUD:
+        logging.getLogger(name).setLevel(logging.CRITICAL)
+    gone = Fault(f"the scheduler {address} went away: the same command goes on where it was", 7)
+    with client, _told(address, gone):
+
+        def check() -> None:
+            if client.status == "closed":
+                raise gone
+
+        yield Place(client.get_executor(pure=False), WINDOW_OF_CLUSTER, check)
+
+
+@contextmanager
+def _told(address: str, gone: Fault) -> Iterator[None]:
+    """Turns what Dask raises into faults."""
+    try:
+        yield
+    except (Fault, Refusal):
+        raise
+    except CancelledError:
+        raise gone from None
+    except Exception as error:  # whatever a worker without the package, or the library, raises
+        wanted = "each worker needs fieldc and fc (docs/sweep.md)"
+        raise Fault(f"the cluster of {address}: {type(error).__name__}: {error}; {wanted}") from None
