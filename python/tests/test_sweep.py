@@ -14,6 +14,7 @@ import unittest
 from collections import Counter
 from dataclasses import replace
 from pathlib import Path
+from unittest import mock
 
 from helping import HOPS, TOP, fieldc, needs, needs_fc
 import test_command
@@ -22,7 +23,7 @@ from test_files import InFolder
 
 import fieldc as library
 from fieldc import Fault, network, program
-from fieldc.sweep import Row, Rule, Setting, deployment, deployments, report, rows, running
+from fieldc.sweep import Row, Rule, Setting, deployment, deployments, questions, report, rows, running
 
 DISK = Rule("disk", count=(40, 40), reach=20.0)
 NEAR = """ceiling 30; input src: bool;
@@ -56,7 +57,9 @@ class Deployments(unittest.TestCase):
         found = deployment(Rule("points", reach=13.0, base=base, jitter=2.0), 5)
         for device, (x, y) in found.positions.items():
             self.assertTrue(max(abs(x - base.positions[device][0]), abs(y - base.positions[device][1])) <= 2)
-        self.assertGreater(max(abs(found.positions[d][0] - base.positions[d][0]) for d in range(30)), 1.5)
+        for axis in (0, 1):
+            shifts = [found.positions[d][axis] - base.positions[d][axis] for d in range(30)]
+            self.assertTrue(min(shifts) < -1.5 and max(shifts) > 1.5)
         at = found.positions
         wanted = {(a, b) for a in range(30) for b in range(a + 1, 30) if math.dist(at[a], at[b]) <= 13}
         self.assertEqual({(a, b) for a, b, _ in found.links}, wanted)
@@ -81,6 +84,8 @@ class Deployments(unittest.TestCase):
         self.assertTrue(all(500 < count < 750 for count in loads.values()), loads)
         more = deployment(replace(rule, inputs=(*rule.inputs, Setting("far", 7))), 3).inputs
         self.assertEqual([own["load"] for own in more.values()], [own["load"] for own in made[3].values()])
+        twice = deployment(replace(rule, inputs=(Setting("a", (0, 99)), Setting("b", (0, 99)))), 3).inputs.values()
+        self.assertNotEqual([own["a"] for own in twice], [own["b"] for own in twice])
         named = deployment(Rule("ring", count=(4, 4), inputs=(Setting("a", 9), Setting("a", 5, (1, 2)))), 0).inputs
         self.assertEqual([own["a"] for own in named.values()], [9, 5, 5, 9])
 
@@ -154,6 +159,8 @@ class Kept(InFolder):
         self.assertEqual((found.quantile(0.5), found.quantile(0.75), found.quantile(0.76)), (6, 7, 8))
         self.assertEqual([row.seed for row in found.open + found.refused], [20, 21])
         self.assertEqual(found.full, sum(1 + seed % 3 > 1 for seed in range(20)))
+        ends = Row(1, 5, 4, 1, 4, "yes", 22, 5, 2, 5, ("(1,10)", "(10,2)", "110", "10", "1"))
+        self.assertEqual((report.at_ceiling(ends, 10), report.at_ceiling(ends, 11)), (3, 0))
         told = report.told(found)
         self.assertIn("22 deployments, seeds 0 to 21\nsettled 20, open 1 (4.55 %), refused 1 (limit degree 33)\n", told)
         self.assertIn("open: seeds 20\n", told)
@@ -197,6 +204,13 @@ class Sweeps(InFolder):
         self.assertEqual(self.sweep(*SHAPE, "--count", 90), whole)
         again = fieldc("sweep", self.program, *SHAPE, "--count", 90, "-o", "rows.csv", folder=self.folder)
         self.assertEqual((again.status, again.errors), (0, ""))
+        fewer = fieldc("sweep", self.program, *SHAPE, "--count", 30, "-o", "rows.csv", folder=self.folder)
+        self.assertTrue(fewer.output.startswith("30 deployments, seeds 0 to 29\n"))
+        seconds = self.folder / "rows.seconds.csv"
+        seconds.write_text("".join(seconds.read_text().splitlines(keepends=True)[:21]))
+        self.assertEqual(self.sweep(*SHAPE, "--count", 90), whole)
+        kept = [line.split(",")[0] for line in seconds.read_text().splitlines()]
+        self.assertEqual(kept, ["seed", *map(str, range(90))])
         for words in (("--seed", 5), ("--values",), ("--set", "src=false")):
             done = fieldc("sweep", self.program, *SHAPE, *words, "-o", "rows.csv", folder=self.folder)
             self.assertEqual((done.status, done.output), (3, ""))
@@ -326,6 +340,15 @@ class Sweeps(InFolder):
         kept = rows.rows_of(self.sweep(*words, "--max-degree", 32, name="kept.csv"), "kept.csv")
         self.assertFalse(any(row.refused for row in kept))
 
+    def test_what_else_fc_refuses_ends_the_sweep(self) -> None:
+        far = lambda seed: max([0, *(w for _, _, w in network.weighed(network.disk(2, 100, 150, seed), 1, 9, 20).links)])  # noqa: E731
+        first = next(seed for seed in range(99) if far(seed) <= 3 < far(seed + 1))
+        self.program = self.file(HOPS.replace("main", "metric 1..3; main"), "metric.fc")
+        words = ("--disk", 2, "--range", 150, "--metric", "1..9", "--unit", 20, "--set", "src=true@0", "--seed", first)
+        done = fieldc("sweep", self.program, *words, "--count", 9, "-o", "rows.csv", folder=self.folder)
+        self.assertEqual((done.status, done.output), (3, ""))
+        self.assertTrue(done.errors.startswith("fieldc: network /links/0 weight\n"), done.errors)
+
     def test_files_of_positions_and_links(self) -> None:
         points = self.file("name,x,y,src\n" + "".join(f"m{d},{10 * d},0,{'true' if d == 0 else 'false'}\n" for d in range(6)))
         text = self.sweep("--points", points, "--range", 12, "--jitter", 1, "--count", 8)
@@ -389,7 +412,10 @@ class Sweeps(InFolder):
         load = self.file("ceiling 30; input load: int 0..20; main = sense load;\n", "load.fc")
         for wide, status in (("0..20", 0), ("0..21", 3), ("19..21", 3)):
             words = ("--line", 3, "--set", f"load={wide}", "--count", 2, "-o", "load.csv")
-            self.assertEqual(fieldc("sweep", load, *words, folder=self.folder).status, status)
+            done = fieldc("sweep", load, *words, folder=self.folder)
+            self.assertEqual(done.status, status)
+            if status:
+                self.assertIn("load of device 0 is 21, and has to be a whole number from 0 to 20", done.errors)
         wrong = self.file("ceiling 10;\nmain = 1 == 2;\n", "wrong.fc")
         done = fieldc("sweep", wrong, "--line", 5, "-o", "rows.csv", folder=self.folder)
         self.assertEqual((done.status, done.output), (3, ""))
@@ -446,11 +472,17 @@ class Page(InFolder):
 
 
 class Batches(unittest.TestCase):
-    def test_batches_cover_each_seed_once(self) -> None:
-        from fieldc.sweep import Question
+    def test_a_worker_with_another_fc_is_refused(self) -> None:
+        batch = questions.Batch(("row\n",), (0.1,), 0.1, "another")
+        with mock.patch.object(running, "made_by", lambda: "another"):
+            self.assertIs(running.checked(batch), batch)
+        with mock.patch.object(running, "made_by", lambda: "this"):
+            with self.assertRaisesRegex(Fault, "a worker has another fc"):
+                running.checked(batch)
 
+    def test_batches_cover_each_seed_once(self) -> None:
         for rule in (DISK, Rule("line", count=(10, 1000)), Rule("torus", sides=(3, 4)), Rule("edges", base=network.line(70))):
-            found = list(running.batches(Question(rule, "main = 1;"), 5, 333))
+            found = list(running.batches(questions.Question(rule, "main = 1;"), 5, 333))
             self.assertEqual([seed for first, count in found for seed in range(first, first + count)], list(range(5, 338)))
 
 
