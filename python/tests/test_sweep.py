@@ -160,12 +160,12 @@ class Kept(InFolder):
         self.assertEqual([row.seed for row in found.open + found.refused], [20, 21])
         self.assertEqual(found.full, sum(1 + seed % 3 > 1 for seed in range(20)))
         ends = Row(1, 5, 4, 1, 4, "yes", 22, 5, 2, 5, ("(1,10)", "(10,2)", "110", "10", "1"))
-        self.assertEqual((report.at_ceiling(ends, 10), report.at_ceiling(ends, 11)), (3, 0))
+        self.assertEqual((report.at_ceiling(ends, 10), report.at_ceiling(ends, 1)), (2, 2))
         told = report.told(found)
         self.assertIn("22 deployments, seeds 0 to 21\nsettled 20, open 1 (4.55 %), refused 1 (limit degree 33)\n", told)
         self.assertIn("open: seeds 20\n", told)
-        self.assertIn("3 to 3 devices: 20 settled, R half at most 6, 9 in 10 at most 8; K 22\n", told)
-        self.assertNotIn("3 to 3 devices", report.told(report.summary(some[:20], 10)))
+        self.assertIn("3 devices: 20 settled, R half at most 6, 9 in 10 at most 8; K 22\n", told)
+        self.assertNotIn("3 devices", report.told(report.summary(some[:20], 10)))
 
 
 @needs_fc

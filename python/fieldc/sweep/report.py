@@ -26,7 +26,7 @@ class Summary:
     """What came of a sweep.
 
     `settled` are the rows with a settle time, from the slowest on, `open` and `refused` the others by seed. `bounds` are all
-    K, rising. `full` is how many rows have a device whose value is the ceiling or has it as a part; nothing without values.
+    K, rising. `full` is how many rows have a device whose value is the ceiling or begins with it; nothing without values.
     """
 
     rows: tuple[Row, ...]
@@ -63,8 +63,8 @@ def summary(rows: Sequence[Row], ceiling: int | None) -> Summary:
 
 
 def at_ceiling(row: Row, ceiling: int) -> int:
-    """How many devices have a value that is the ceiling, or has it as a part."""
-    return sum(str(ceiling) in re.findall(r"\d+", value) for value in row.values)
+    """How many devices have a value that is the ceiling, or a pair that begins with it."""
+    return sum(re.match(r"\(*([^,)]*)", value)[1] == str(ceiling) for value in row.values)
 
 
 def told(found: Summary) -> str:
@@ -97,7 +97,8 @@ def by_size(found: Summary) -> list[str]:
     for one in steps if len({row.devices for row in found.rows}) > 1 else ():
         rows = [row for row in found.settled if step(row) == one]
         part = summary(rows, None)
-        size = f"{min(row.devices for row in rows):,} to {max(row.devices for row in rows):,} devices"
+        low, high = min(row.devices for row in rows), max(row.devices for row in rows)
+        size = f"{low:,} to {high:,} devices" if low < high else f"{low:,} devices"
         most = f"half at most {part.quantile(0.5):,}, 9 in 10 at most {part.quantile(0.9):,}"
         lines.append(f"{size}: {len(rows):,} settled, R {most}; {bound_of(part)}")
     return lines
@@ -179,7 +180,10 @@ def _scatter(axes: Any, found: Summary, name: str, label: str) -> None:
     axes.set_xlabel(label)
     axes.set_ylabel("settle time R, in rounds")
     axes.xaxis.set_major_locator(MaxNLocator(integer=True))
-    axes.yaxis.set_major_locator(MaxNLocator(integer=True))
+    if found.settled:
+        axes.yaxis.set_major_locator(MaxNLocator(integer=True))
+    else:
+        axes.set_yticks([])
     if found.settled or found.open:
         axes.legend()
 
