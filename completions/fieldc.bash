@@ -67,9 +67,14 @@ _fieldc_words() {
         "rounds --number" | "rounds --rounds" | "rounds --workers" | "rounds --title")
             compopt +o bashdefault +o default 2>/dev/null
             return ;;
+        "sweep --points" | "sweep --edges" | "sweep -o" | "sweep --output" | "sweep --report" | "sweep --positions")
+            return ;;
+        "sweep --line" | "sweep --ring" | "sweep --grid" | "sweep --torus" | "sweep --disk" | "sweep --range" | "sweep --side" | "sweep --density" | "sweep --jitter" | "sweep --fail" | "sweep --weight" | "sweep --metric" | "sweep --unit" | "sweep --max-degree" | "sweep --set" | "sweep --count" | "sweep --seed" | "sweep --title" | "sweep --workers" | "sweep --scheduler" | "sweep --again")
+            compopt +o bashdefault +o default 2>/dev/null
+            return ;;
     esac
     case $command in
-        "") words="check settle stable trace run replay mail gen format compose network picture rounds -h --help --version" ;;
+        "") words="check settle stable trace run replay mail gen format compose network picture rounds sweep -h --help --version" ;;
         check) files=yes words="--facts --settle --from-table --why --json --names -h --help" ;;
         settle) files=yes words="--facts --from-table --why --json --names -h --help" ;;
         stable) files=yes words="--json --names -h --help" ;;
@@ -83,6 +88,7 @@ _fieldc_words() {
         network) words="--line --ring --grid --torus --disk --points --edges --scene -o --output --range --side --seed --undirected --weight --metric --unit --round --max-degree --set --inputs --program --table --positions --names -h --help" ;;
         picture) files=yes words="-o --output --values --of --show --page --positions --names --numbers --mark --title -h --help" ;;
         rounds) files=yes words="-o --output --number --rounds --workers --title -h --help" ;;
+        sweep) words="--line --ring --grid --torus --disk --points --edges --range --side --density --jitter --fail --weight --metric --unit --max-degree --set --count --seed --values -o --output --report --title --workers --scheduler --again --positions -h --help" ;;
     esac
     if [[ $files && $current != -* ]]; then
         return
