@@ -21,6 +21,12 @@ TOKEN = re.compile(r"//[^\n]*|[A-Za-z][A-Za-z0-9_]*|[0-9]+|\.\.|=>|[^\sA-Za-z0-9
 NOTE = re.compile(r"(Elsewhere|K|Uses|Needs): ?(.*)")
 PARAMETER = re.compile(r"(\w+)\s*:\s*(.*?)(?=,\s*\w+\s*:|$)", re.DOTALL)
 SHORTEST_ELSEWHERE = 4
+FOUR_LETTERS = {
+    "G": ("hops", "distance", "broadcast", "sumAlong"),
+    "C": ("collectSum", "collectMax", "collectMin", "collectAny"),
+    "S": ("sparse", "heads", "leader"),
+    "T": ("countDown", "timer"),
+}
 
 
 @dataclass(frozen=True)
@@ -205,14 +211,24 @@ def own_library() -> Path:
     return here / "library" if here is not None else fc.PACKAGE / "library"
 
 
+def called_elsewhere(name: str, library: Library) -> list[str]:
+    """The blocks that other languages call so; for G, C, S and T the first that come to mind."""
+    if name in FOUR_LETTERS:
+        return [block for block in FOUR_LETTERS[name] if block in library]
+    if len(name) < SHORTEST_ELSEWHERE:
+        return []
+    blocks = [block for block in library.values() if not block.is_part]
+    wanted = name.lower()
+    return [b.name for b in blocks if wanted in re.findall(r"[a-z0-9_]+", b.notes.get("Elsewhere", "").lower())]
+
+
 def near(name: str, library: Library) -> list[str]:
     """At most four blocks and builtins whose name is near: those that are called so elsewhere, then by spelling."""
     blocks = [block for block in library.values() if not block.is_part]
     wanted = name.lower()
-    elsewhere = [b.name for b in blocks if wanted in re.findall(r"[a-z0-9_]+", b.notes.get("Elsewhere", "").lower())]
     names = {known.lower(): known for known in (*LIKE_CALLS, *(block.name for block in blocks))}
     spelled = [names[found] for found in difflib.get_close_matches(wanted, names, n=4, cutoff=0.55)]
-    return list(dict.fromkeys([*(elsewhere if len(name) >= SHORTEST_ELSEWHERE else ()), *spelled]))[:4]
+    return list(dict.fromkeys([*called_elsewhere(name, library), *spelled]))[:4]
 
 
 def not_there(name: str, library: Library) -> str:

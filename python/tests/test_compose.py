@@ -133,6 +133,10 @@ class Refusing(unittest.TestCase):
         self.assertEqual(blocks.near("classicGradient", LIBRARY)[0], "distance")
         self.assertEqual(blocks.near("recentTrue", LIBRARY)[0], "recently")
         self.assertIn("minHoodLoc", blocks.near("minHood", LIBRARY))
+        self.assertEqual(blocks.near("recentlyTrue", LIBRARY)[0], "recently")
+        self.assertEqual(blocks.near("round_since", LIBRARY)[0], "timer")
+        self.assertEqual(blocks.near("S", LIBRARY), ["sparse", "heads", "leader"])
+        self.assertTrue(all(name in LIBRARY for names in blocks.FOUR_LETTERS.values() for name in names))
 
     def test_a_name_that_a_taken_block_has(self) -> None:
         said = refused(self, FRONT + "def hops(b: bool): int = 1;\nmain = anywhere(sense source, hops(true));")

@@ -6,6 +6,8 @@ from collections.abc import Mapping
 from dataclasses import dataclass
 from typing import TYPE_CHECKING
 
+from ..blocks import called_elsewhere, own_library, read_library
+from ..refusals import Fault
 from .elsewhere import hint_for, similar
 from .grammar import WORDS
 from .tree import At, Declaration, Expr, Parameter, Type, quoted
@@ -119,6 +121,18 @@ def unknown_input(expr: Expr, scope: Mapping[str, Bound], known: Known) -> Compl
     return Complaint(what, expr.bound, name, hint)
 
 
+def block_hint(name: str) -> str | None:
+    """How a program comes by the block of a name, or by the first that is called so elsewhere; else nothing."""
+    try:
+        library = read_library([own_library()])
+    except Fault:
+        return None
+    if name in library and not library[name].is_part:
+        return f"`{name}` is a block: `fieldc compose` puts it in front of the program."
+    found = called_elsewhere(name, library)
+    return f"The nearest block is `{found[0]}`: `fieldc compose` puts it in front of the program." if found else None
+
+
 def unknown_function(expr: Expr, scope: Mapping[str, Bound], known: Known) -> Complaint:
     """A call of what is no function, or of one that is declared later."""
     name = expr.name
@@ -135,6 +149,8 @@ def unknown_function(expr: Expr, scope: Mapping[str, Bound], known: Known) -> Co
         hint = f"Is `{near}` meant?"
     elif name in scope:
         hint = f"`{name}` is a variable, and has no brackets."
+    elif block_hint(name):
+        hint = block_hint(name)
     else:
         hint = f"Declare it: `def {name}(..): int = ..;`."
     return Complaint(what, expr.at, name, hint)
