@@ -86,6 +86,15 @@ def _with_their_own(called: Iterable[Token], library: Library) -> dict[str, int]
     return asked
 
 
+def _leading_to(name: str, parts: Sequence[Declaration], taken: Sequence[Block]) -> str:
+    """The first block that a program calls itself and that is of a name, or calls it by way of others."""
+    leading = {name}
+    for block in taken:
+        if leading.intersection(block.calls):
+            leading.add(block.name)
+    return next(token.text for part in parts for token in part.calls() if token.text in leading)
+
+
 def _refuse_clashes(parts: Sequence[Declaration], taken: Sequence[Block], asked: dict[str, int]) -> None:
     """Raises Fault where the program declares a name that a taken block has, or isn't of the language of one."""
     names = {block.name for block in taken}
@@ -98,7 +107,8 @@ def _refuse_clashes(parts: Sequence[Declaration], taken: Sequence[Block], asked:
     later = [block.name for block in taken if block.second_language]
     if later and [token.text for token in parts[0].tokens] != ["language", "2", ";"]:
         line = asked[later[0]]
-        raise Fault(f"line {line}: the block {later[0]} is of language 2: begin the program with `language 2;`", 3)
+        name = _leading_to(later[0], parts, taken)
+        raise Fault(f"line {line}: the block {name} is of language 2: begin the program with `language 2;`", 3)
 
 
 def composed(text: str, library: Library) -> Composition:

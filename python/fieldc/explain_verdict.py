@@ -154,12 +154,13 @@ class Verdict:
             ),
             "condition": (
                 f"the condition of its guard, {part}, isn't of the form `nbr{{p}} < p`",
-                f"Write `{guard}` with one comparison, and choose by anything else outside of the guard.",
+                f"Write `{guard}` with one comparison, and any other condition in a `mux` round it: "
+                f"`mux(c, {guard}, 0)`.",
             ),
             "turned": (
                 f"its guard {part}, has the neighbour's value on the right",
-                "Write `nbr{p} < p`, which hears those that are lower; to hear those that are higher, "
-                "bind the potential the other way round.",
+                "Write `nbr{p} < p`, which hears those that are lower. To hear those that are higher, bind "
+                "`let q = far - p` outside, with a number `far` that no `p` is above, and write `nbr{q} < q`.",
             ),
             "otherwise": (
                 f"{part}, stands where its guard isn't true, as the third argument of `mux`",

@@ -147,6 +147,8 @@ class Refusing(unittest.TestCase):
     def test_the_first_language_goes_with_blocks_without_share_and_rise_alone(self) -> None:
         said = refused(self, "ceiling 9;\nmain = hops(true, 9);")
         self.assertEqual(said, "line 2: the block hops is of language 2: begin the program with `language 2;`")
+        said = refused(self, "ceiling 9;\nmain = parent(uid) +\n summariseSum(true, 5, hops(true, 3)) + leader(4);")
+        self.assertEqual(said, "line 3: the block summariseSum is of language 2: begin the program with `language 2;`")
         self.assertIn(LIBRARY["parent"].text, compose.compose("ceiling 9; main = parent(uid);", LIBRARY))
 
     def test_a_library_that_is_none(self) -> None:

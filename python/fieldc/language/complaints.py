@@ -189,7 +189,9 @@ def field_in_main(text: str, body: Expr) -> Complaint:
 def field_in_nbr(text: str, expr: Expr) -> Complaint:
     """A field that would be shared."""
     kid = expr.kids[0]
-    return Complaint(f"`nbr` shares a local value, and {quoted(text, kid)} is a field.", kid.at, "nbr", OUT_OF_A_FIELD)
+    already = f"It is heard from the neighbours already: write `{kid.name}` in place of `nbr{{{kid.name}}}`."
+    hint = already if kid.form == "variable" else OUT_OF_A_FIELD
+    return Complaint(f"`nbr` shares a local value, and {quoted(text, kid)} is a field.", kid.at, "nbr", hint)
 
 
 def field_in_keeping(text: str, expr: Expr, part: Expr) -> Complaint:
