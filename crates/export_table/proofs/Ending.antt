@@ -12,7 +12,7 @@ use Rattle.firing_core.specs.Entries.{EntryValue, BeginEntry, EndEntry}
 use Rattle.firing_core.specs.Cores.{Core, Run, IsGood}
 use Rattle.firing_core.specs.CoreViews.{core_of}
 use Rattle.firing_core.specs.Books.{IsBook}
-use Rattle.firing_core.specs.Replays.{fault_of, end_fault}
+use Rattle.firing_core.specs.Replays.{fault_of, begin_fault, end_fault}
 use Rattle.firing_core.specs.Laws.{FlightsStay, RunsCut}
 use Rattle.export_table.specs.Items.{items_of}
 use Rattle.export_table.specs.Answers.{answers}
@@ -50,3 +50,7 @@ flies_at h z e book flights cuts place f opened taken = flies_now h book flights
 
 pub no_fault : (U : Unfolding) (c : Core) (d : ℕ) (s : Copy) (f : StepFault) → IsGood U c → c.flying d ≡ Some s → fault_of c (EndEntry d) ≡ Some f → ⊥
 no_fault U c d s f good flies is = none-some f (sym (may_end U c d s good flies).1 ∙ is)
+
+-- a device that may begin has no fault
+pub may_begin_now : (c : Core) (d : ℕ) (f : StepFault) → Lives c.net d → c.flying d ≡ None → fault_of c (BeginEntry d) ≡ Some f → ⊥
+may_begin_now c d f there rests is = none-some f ((λ i. begin_fault (sym there i) (sym rests i)) ∙ is)

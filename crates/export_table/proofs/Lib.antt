@@ -1,5 +1,8 @@
 mod Counting
+mod Rows
 mod Planning
+mod Paces
+mod Orders
 mod Keeping
 mod Flying
 mod Ending

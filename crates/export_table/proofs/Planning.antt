@@ -1,33 +1,62 @@
--- The agenda after each step of the core.
-use Rattle.std.proofs.Common.{◌≡◌, ◌≢◌, ◌↔◌, ℕ, ◌+◌, ◌<◌, ◌≤◌, List, [], ◌∷◌, ◌++◌, length, refl, sym, ap, ◌∙◌, subst, arith, Bool, true, false, not, nat_eq, nat_lt, get_or-set_same, get_or-set_other, length-set, ◌||◌, nat_le, is_some, Option, Some, None, if◌then◌else◌}
-use Rattle.std.proofs.lemmas.Option.{none-some}
-use Rattle.std.proofs.lemmas.Bool.{false≢true, eq-eqb, ne_eqb, ltb-true, lt-ltb}
-use mathlib.Core.Logic.{dite}
-use native.Mathlib.Decide.{ℕ_discrete}
+-- The agenda after each step of the core: its rows are those of the devices there.
+use Rattle.std.proofs.Common.{◌≡◌, ◌≢◌, ℕ, zero, suc, ◌+◌, ◌<◌, ◌≤◌, List, [], ◌∷◌, ◌++◌, length, map, refl, sym, ap, ◌∙◌, subst, arith, Bool, true, false, not, nat_eq, nat_lt, nat_le, is_some, is_none, get_or, Option, Some, None, if◌then◌else◌}
+use Rattle.std.specs.Prelude.{slice_set}
+use Rattle.std.specs.List.{insert, remove}
+use Rattle.std.proofs.lemmas.Bool.{eq-eqb, ne_eqb}
 use Rattle.fc_nodes.specs.Program.{Unfolding}
 use Rattle.topology.specs.declared.types.NetFault.TheVariants as fault
-use Rattle.fc_values.specs.Fields.{is_in}
-use Rattle.topology.specs.Networks.{NetDevice, Lives, lives}
+use Rattle.fc_values.specs.Fields.{Rises, is_in}
+use Rattle.fc_values.proofs.Rising.{rises_tail, rises_apart, later_above}
+use Rattle.fc_values.proofs.Booleans.{or_no}
+use Rattle.fc_values.proofs.Lists.{insert_prefix}
+use Rattle.topology.specs.Networks.{NetDevice, Network, Lives, lives, numbers}
 use Rattle.topology.specs.Changes.{first_fault}
-use Rattle.topology.proofs.Lemmas.{insert_in, drop_in, drop_gone, put_numbers}
+use Rattle.topology.proofs.Lemmas.{can_join, map_insert, map_remove, remove_device, put_numbers}
+use Rattle.firing_core.proofs.Views.{many_numbers}
 use Rattle.firing_core.specs.Entries.{EditValue, LinkEdit, UnlinkEdit, SetEdit, PokeEdit, JoinEdit, LeaveEdit, EntryValue, BeginEntry, EndEntry, IdleEntry, EditEntry}
 use Rattle.firing_core.specs.Cores.{Core, Step, put, copy_of, edit_fault, edited}
+use Rattle.export_table.specs.declared.agenda.Row.{Row}
+use Rattle.export_table.specs.declared.agenda.Change.{Change}
+use Rattle.export_table.specs.declared.agenda.Change.TheVariants as change
 use Rattle.export_table.specs.Items.{Opening}
-use Rattle.export_table.specs.Begins.{begun_in, MayBegin}
-use Rattle.export_table.specs.Agendas.{AgendaValue, IsAgenda, Grows, begun_by, is_ready, after_begin, after_end, after_join, after_leave, after_change}
-use Rattle.export_table.specs.Changes.{HasPlace, change_by}
-use Rattle.export_table.specs.Holding.{Plans}
+use Rattle.export_table.specs.Begins.{begun_in, is_join}
+use Rattle.export_table.specs.Agendas.{AgendaValue, row_at, first_row, begun_row, ended_row}
+use Rattle.export_table.specs.Changes.{IsChange, after_change, room_for}
+use Rattle.export_table.specs.Holding.{Plans, row_of}
 use Rattle.export_table.proofs.Counting.{begun_other, begun_more, begun_none}
 
--- where a device is there, rests and has begun as before, it may begin as before
-pub may_move : (o : Opening) (log log' : List EntryValue) (c c' : Core) (d : ℕ) → lives c'.net d ≡ lives c.net d → c'.flying d ≡ c.flying d → begun_in o log' d ≡ begun_in o log d
-    → MayBegin o log c d → MayBegin o log' c' d
-may_move o log log' c c' d there rests begun m = record { there = there ∙ m.there; rests = rests ∙ m.rests; some = subst (λ n. n < o.rounds) (sym begun) m.some }
+-- ---- rows of a list of devices
 
-pub still_ready : (o : Opening) (log log' : List EntryValue) (c c' : Core) (d : ℕ) (b b' : Bool) → lives c'.net d ≡ lives c.net d → c'.flying d ≡ c.flying d → begun_in o log' d ≡ begun_in o log d → b' ≡ b
-    → ((b ≡ true) ↔ MayBegin o log c d) → ((b' ≡ true) ↔ MayBegin o log' c' d)
-still_ready o log log' c c' d b b' there rests begun same r =
-    ((λ t. may_move o log log' c c' d there rests begun (r.0 (sym same ∙ t))), (λ m. same ∙ r.1 (may_move o log' log c' c d (sym there) (sym rests) (sym begun) m)))
+pub row_map : (f : ℕ → Row) (ns : List ℕ) (i : ℕ) → i < length ns → row_at (map f ns) i ≡ f (get_or ns i 0)
+row_map f [] i l = absurd (omega (arith, l))
+row_map f (n ∷ ns) zero l = refl
+row_map f (n ∷ ns) (suc i) l = row_map f ns i (omega (arith, l))
+
+pub map_same : (f g : ℕ → Row) (ns : List ℕ) → ((e : ℕ) → g e ≡ f e) → map g ns ≡ map f ns
+map_same f g [] s = refl
+map_same f g (n ∷ ns) s = λ i. s n i ∷ map_same f g ns s i
+
+-- where only the row of one device changes, which isn't there
+map_absent : (f g : ℕ → Row) (d : ℕ) (ns : List ℕ) → is_in d ns ≡ false → ((e : ℕ) → e ≢ d → g e ≡ f e) → map g ns ≡ map f ns
+map_absent f g d [] a s = refl
+map_absent f g d (n ∷ ns) a s = let k = or_no (nat_eq d n) (is_in d ns) a in
+    λ i. s n (λ e. let t : nat_eq d n ≡ true = eq-eqb d n (sym e) in absurd (cc (k.0, t))) i ∷ map_absent f g d ns k.1 s i
+
+-- and where it is there
+map_put : (f g : ℕ → Row) (d : ℕ) (ns : List ℕ) (i : ℕ) → Rises ns → i < length ns → get_or ns i 0 ≡ d → ((e : ℕ) → e ≢ d → g e ≡ f e) → map g ns ≡ slice_set (map f ns) i (g d)
+map_put f g d [] i r l at s = absurd (omega (arith, l))
+map_put f g d (n ∷ ns) zero r l at s = λ i. g (at i) ∷ map_absent f g d ns (subst (λ k. is_in k ns ≡ false) at (rises_apart n ns r)) s i
+map_put f g d (n ∷ ns) (suc j) r l at s =
+    λ i. s n (λ e. n_apart e) i ∷ map_put f g d ns j (rises_tail n ns r) (omega (arith, l)) at s i
+  where
+    n_apart : n ≡ d → ⊥
+    n_apart e = let low = later_above n ns r j (omega (arith, l)) in omega (arith, low, at, e)
+
+-- ---- what an entry leaves of a device
+
+-- the row of a device: what it has begun, and whether it flies
+pub row_is : (o : Opening) (log log' : List EntryValue) (c c' : Core) (d : ℕ) → c'.flying d ≡ c.flying d → begun_in o log' d ≡ begun_in o log d → row_of o log' c' d ≡ row_of o log c d
+row_is o log log' c c' d flies begun = λ i. record { device = d; begun = begun i; rests = is_none (flies i) }
 
 pub put_same : {X : Type 0} (f : ℕ → Option X) (d : ℕ) (v : Option X) → put f d v d ≡ v
 put_same f d v = ap (λ b. if b then v else f d) (eq-eqb d d refl)
@@ -35,135 +64,130 @@ put_same f d v = ap (λ b. if b then v else f d) (eq-eqb d d refl)
 put_other : {X : Type 0} (f : ℕ → Option X) (d e : ℕ) (v : Option X) → e ≢ d → put f d v e ≡ f e
 put_other f d e v n = ap (λ b. if b then v else f e) (ne_eqb e d n)
 
--- what an entry leaves of a device as it was
-abbrev Stays : Opening → List EntryValue → List EntryValue → Core → Core → ℕ → Type 0
-Stays o log log' c c' e = (lives c'.net e ≡ lives c.net e) × (c'.flying e ≡ c.flying e) × (begun_in o log' e ≡ begun_in o log e)
-
-plans_same : (o : Opening) (log log' : List EntryValue) (c c' : Core) (a : AgendaValue) → Plans o log c a → ((e : ℕ) → Stays o log log' c c' e) → Plans o log' c' a
-plans_same o log log' c c' a p s = record {
-  rounds = p.rounds;
-  begun = λ e l. p.begun e l ∙ sym (s e).2;
-  ready = λ e l. still_ready o log log' c c' e (is_ready a e) (is_ready a e) (s e).0 (s e).1 (s e).2 refl (p.ready e l);
-  places = λ e there. p.places e (sym (s e).0 ∙ there);
-}
-
--- one device changes
-plans_at : (o : Opening) (log log' : List EntryValue) (c c' : Core) (a a' : AgendaValue) (d : ℕ) → Plans o log c a → a'.rounds ≡ a.rounds
-    → ((e : ℕ) → e ≢ d → (begun_by a' e ≡ begun_by a e) × (is_ready a' e ≡ is_ready a e)) → begun_by a' d ≡ begun_in o log' d → ((is_ready a' d ≡ true) ↔ MayBegin o log' c' d)
-    → ((e : ℕ) → e ≢ d → Stays o log log' c c' e) → d < length a.begun → length a'.begun ≡ length a.begun → Plans o log' c' a'
-plans_at o log log' c c' a a' d p rounds elsewhere begun ready s placed long = record {
-  rounds = rounds ∙ p.rounds;
-  begun = λ e l. dite (ℕ_discrete e d) (λ same. ap (begun_by a') same ∙ (begun ∙ ap (begun_in o log') (sym same))) (λ other. (elsewhere e other).0 ∙ (p.begun e l ∙ sym (s e other).2));
-  ready = λ e l. dite (ℕ_discrete e d) (λ same. subst (λ k. (is_ready a' k ≡ true) ↔ MayBegin o log' c' k) (sym same) ready)
-      (λ other. still_ready o log log' c c' e (is_ready a e) (is_ready a' e) (s e other).0 (s e other).1 (s e other).2 (elsewhere e other).1 (p.ready e l));
-  places = λ e there. dite (ℕ_discrete e d) (λ same. omega (arith, same, placed, long)) (λ other. let l = p.places e (sym (s e other).0 ∙ there) in omega (arith, l, long));
-}
-
--- more places change nothing
-pub plans_grow : (o : Opening) (log : List EntryValue) (c : Core) (a b : AgendaValue) → Plans o log c a → Grows a b → Plans o log c b
-plans_grow o log c a b p g = record {
-  rounds = g.rounds ∙ p.rounds;
-  begun = λ d l. g.begun d ∙ p.begun d l;
-  ready = λ d l. ((λ t. (p.ready d l).0 (sym (g.ready d) ∙ t)), (λ m. g.ready d ∙ (p.ready d l).1 m));
-  places = λ d there. let l = p.places d there in let m = g.longer in omega (arith, l, m);
-}
-
 not_other : (d e : ℕ) → e ≢ d → nat_eq d e ≡ false
 not_other d e n = ne_eqb d e (λ s. n (sym s))
 
-pub plans_begin : (U : Unfolding) (o : Opening) (log : List EntryValue) (c c' : Core) (a : AgendaValue) (d : ℕ) → Plans o log c a → IsAgenda a → o.front ≤ length log → d < length a.begun
-    → Step U c (BeginEntry d) c' → Plans o (log ++ BeginEntry d ∷ []) c' (after_begin a d)
-plans_begin U o log c c' a d p w past placed step = plans_at o log (log ++ BeginEntry d ∷ []) c c' a (after_begin a d) d p refl
-    (λ e n. (get_or-set_other a.begun d e (begun_by a d + 1) 0 n, get_or-set_other a.ready d e false false n))
-    (get_or-set_same a.begun d (begun_by a d + 1) 0 placed ∙ (ap (λ n. n + 1) (p.begun d small) ∙ sym (begun_more o log (BeginEntry d) d past refl (eq-eqb d d refl))))
-    ((λ t. absurd (false≢true (sym (get_or-set_same a.ready d false false (omega (arith, w.same, placed))) ∙ t))), (λ m. absurd (none-some (copy_of c.net c.exports d) (sym m.rests ∙ flies))))
-    (λ e n. (ap (λ (k : Core). lives k.net e) step.2, ap (λ (k : Core). k.flying e) step.2 ∙ put_other c.flying d e (Some (copy_of c.net c.exports d)) n, begun_other o log (BeginEntry d) e past refl (not_other d e n)))
-    placed (length-set a.begun d (begun_by a d + 1))
+-- nothing changes
+plans_same : (o : Opening) (log log' : List EntryValue) (c c' : Core) (a a' : AgendaValue) → Plans o log c a → numbers c'.net.devices ≡ numbers c.net.devices
+    → ((e : ℕ) → row_of o log' c' e ≡ row_of o log c e) → a'.rounds ≡ a.rounds → a'.rows ≡ a.rows → Plans o log' c' a'
+plans_same o log log' c c' a a' p there same rounds rows = record {
+  rounds = rounds ∙ p.rounds;
+  rows = rows ∙ (p.rows ∙ (sym (map_same (row_of o log c) (row_of o log' c') (numbers c.net.devices) same) ∙ ap (map (row_of o log' c')) (sym there)));
+}
+
+-- the row of one device changes, which has this place
+plans_at : (o : Opening) (log log' : List EntryValue) (c c' : Core) (a a' : AgendaValue) (d i : ℕ) (change : Row → Row) → Plans o log c a → Rises (numbers c.net.devices) → i < length (numbers c.net.devices) → get_or (numbers c.net.devices) i 0 ≡ d
+    → numbers c'.net.devices ≡ numbers c.net.devices → ((e : ℕ) → e ≢ d → row_of o log' c' e ≡ row_of o log c e) → row_of o log' c' d ≡ change (row_of o log c d) → a'.rounds ≡ a.rounds → a'.rows ≡ slice_set a.rows i (change (row_at a.rows i)) → Plans o log' c' a'
+plans_at o log log' c c' a a' d i change p r within at there other here rounds rows = record {
+  rounds = rounds ∙ p.rounds;
+  rows = rows ∙ (ap (λ l. slice_set l i (change (row_at l i))) p.rows ∙ (ap (λ k. slice_set (map f ns) i (change k)) (row_map f ns i within) ∙ (ap (λ k. slice_set (map f ns) i (change (f k))) at
+      ∙ (ap (slice_set (map f ns) i) (sym here) ∙ (sym (map_put f (row_of o log' c') d ns i r within at other) ∙ ap (map (row_of o log' c')) (sym there))))));
+}
   where
-    small : d < 65536
-    small = omega (arith, placed, w.few)
+    f : ℕ → Row
+    f = row_of o log c
 
-    flies : c'.flying d ≡ Some (copy_of c.net c.exports d)
-    flies = ap (λ (k : Core). k.flying d) step.2 ∙ put_same c.flying d (Some (copy_of c.net c.exports d))
+    ns : List ℕ
+    ns = numbers c.net.devices
 
-pub plans_idle : (U : Unfolding) (o : Opening) (log : List EntryValue) (c c' : Core) (a : AgendaValue) → Plans o log c a → o.front ≤ length log → Step U c IdleEntry c' → Plans o (log ++ IdleEntry ∷ []) c' a
-plans_idle U o log c c' a p past step = plans_same o log (log ++ IdleEntry ∷ []) c c' a p (λ e. (ap (λ (k : Core). lives k.net e) step, ap (λ (k : Core). k.flying e) step, begun_other o log IdleEntry e past refl refl))
+numbers_long : (ns : List NetDevice) (i : ℕ) → i < length ns → i < length (numbers ns)
+numbers_long ns i l = omega (arith, l, many_numbers ns)
 
-pub plans_end : (U : Unfolding) (o : Opening) (log : List EntryValue) (c c' : Core) (a : AgendaValue) (d : ℕ) → Plans o log c a → IsAgenda a → o.front ≤ length log → Lives c.net d
-    → Step U c (EndEntry d) c' → Plans o (log ++ EndEntry d ∷ []) c' (after_end a d)
-plans_end U o log c c' a d p w past there step = plans_at o log (log ++ EndEntry d ∷ []) c c' a (after_end a d) d p refl
-    (λ e n. (refl, get_or-set_other a.ready d e (nat_lt (begun_by a d) a.rounds) false n))
-    (p.begun d small ∙ sym begun) (
-      (λ t. record {
-        there = ap (λ (k : Core). lives k.net d) step.after ∙ there;
-        rests = ap (λ (k : Core). k.flying d) step.after ∙ put_same c.flying d None;
-        some = let l = ltb-true (begun_by a d) a.rounds (sym now ∙ t) in omega (arith, l, p.begun d small, begun, p.rounds);
-      }),
-      (λ m. now ∙ lt-ltb (begun_by a d) a.rounds (let l = m.some in omega (arith, l, p.begun d small, begun, p.rounds))),
-    )
-    (λ e n. (ap (λ (k : Core). lives k.net e) step.after, ap (λ (k : Core). k.flying e) step.after ∙ put_other c.flying d e None n, begun_other o log (EndEntry d) e past refl refl))
-    placed refl
-  where
-    placed : d < length a.begun
-    placed = p.places d there
+-- a device has its place in the network that the book's core has
+pub place_in : (n m : Network) (d i : ℕ) → n ≡ m → i < length n.devices → get_or (numbers n.devices) i 0 ≡ d → (i < length (numbers m.devices)) × (get_or (numbers m.devices) i 0 ≡ d)
+place_in n m d i same within at = subst (λ (k : Network). (i < length (numbers k.devices)) × (get_or (numbers k.devices) i 0 ≡ d)) same (numbers_long n.devices i within, at)
 
-    small : d < 65536
-    small = omega (arith, placed, w.few)
-
-    begun : begun_in o (log ++ EndEntry d ∷ []) d ≡ begun_in o log d
-    begun = begun_other o log (EndEntry d) d past refl refl
-
-    now : is_ready (after_end a d) d ≡ nat_lt (begun_by a d) a.rounds
-    now = get_or-set_same a.ready d (nat_lt (begun_by a d) a.rounds) false (omega (arith, w.same, placed))
-
-plans_join : (U : Unfolding) (o : Opening) (log : List EntryValue) (c c' : Core) (a : AgendaValue) (x : NetDevice) → Plans o log c a → IsAgenda a → o.front ≤ length log → x.id < length a.begun
-    → c' ≡ edited U c (JoinEdit x) → Plans o (log ++ EditEntry (JoinEdit x) ∷ []) c' (after_join a x.id)
-plans_join U o log c c' a x p w past placed is = plans_at o log (log ++ EditEntry (JoinEdit x) ∷ []) c c' a (after_join a x.id) x.id p refl
-    (λ e n. (get_or-set_other a.begun x.id e 0 0 n, get_or-set_other a.ready x.id e (nat_lt 0 a.rounds) false n))
-    (get_or-set_same a.begun x.id 0 0 placed ∙ sym begun) (
-      (λ t. record {
-        there = ap (λ (k : Core). lives k.net x.id) is ∙ (insert_in x.id x c.net.devices ∙ ap (λ b. b || lives c.net x.id) (eq-eqb x.id x.id refl));
-        rests = ap (λ (k : Core). k.flying x.id) is ∙ put_same c.flying x.id None;
-        some = let l = ltb-true 0 a.rounds (sym now ∙ t) in omega (arith, l, begun, p.rounds);
-      }),
-      (λ m. now ∙ lt-ltb 0 a.rounds (let l = m.some in omega (arith, l, begun, p.rounds))),
-    )
-    (λ e n. (
-      ap (λ (k : Core). lives k.net e) is ∙ (insert_in e x c.net.devices ∙ ap (λ b. b || lives c.net e) (ne_eqb e x.id n)),
-      ap (λ (k : Core). k.flying e) is ∙ put_other c.flying x.id e None n,
-      begun_other o log (EditEntry (JoinEdit x)) e past (not_other x.id e n) refl,
-    ))
-    placed (length-set a.begun x.id 0)
-  where
-    begun : begun_in o (log ++ EditEntry (JoinEdit x) ∷ []) x.id ≡ 0
-    begun = begun_none o log (EditEntry (JoinEdit x)) x.id past (eq-eqb x.id x.id refl)
-
-    now : is_ready (after_join a x.id) x.id ≡ nat_lt 0 a.rounds
-    now = get_or-set_same a.ready x.id (nat_lt 0 a.rounds) false (omega (arith, w.same, placed))
-
-plans_leave : (U : Unfolding) (o : Opening) (log : List EntryValue) (c c' : Core) (a : AgendaValue) (d : ℕ) → Plans o log c a → IsAgenda a → o.front ≤ length log → d < length a.begun
-    → c' ≡ edited U c (LeaveEdit d) → Plans o (log ++ EditEntry (LeaveEdit d) ∷ []) c' (after_leave a d)
-plans_leave U o log c c' a d p w past placed is = plans_at o log (log ++ EditEntry (LeaveEdit d) ∷ []) c c' a (after_leave a d) d p refl
-    (λ e n. (refl, get_or-set_other a.ready d e false false n))
-    (p.begun d (omega (arith, placed, w.few)) ∙ sym (begun_other o log (EditEntry (LeaveEdit d)) d past refl refl)) (
-      (λ t. absurd (false≢true (sym (get_or-set_same a.ready d false false (omega (arith, w.same, placed))) ∙ t))),
-      (λ m. absurd (false≢true (sym (ap (λ (k : Core). lives k.net d) is ∙ drop_gone d c.net.devices) ∙ m.there))),
-    )
-    (λ e n. (ap (λ (k : Core). lives k.net e) is ∙ drop_in d e c.net.devices (λ s. n (sym s)), ap (λ (k : Core). k.flying e) is, begun_other o log (EditEntry (LeaveEdit d)) e past refl refl))
-    placed refl
-
-pub can_leave : (c : Core) (d : ℕ) → edit_fault c (LeaveEdit d) ≡ None → Lives c.net d
+can_leave : (c : Core) (d : ℕ) → edit_fault c (LeaveEdit d) ≡ None → Lives c.net d
 can_leave c d ok = by_test (lives c.net d) refl ok
   where
     by_test : (b : Bool) → lives c.net d ≡ b → first_fault ((not b, fault.NoDevice) ∷ (is_some (c.flying d), fault.InFlight) ∷ (nat_le (length c.net.devices) 1, fault.Last) ∷ []) ≡ None → Lives c.net d
     by_test true t h = t
     by_test false t h = absurd (cc)
 
-pub plans_edit : (U : Unfolding) (o : Opening) (log : List EntryValue) (c c' : Core) (a : AgendaValue) (e : EditValue) → Plans o log c a → IsAgenda a → o.front ≤ length log → HasPlace a (change_by e) → edit_fault c e ≡ None
-    → Step U c (EditEntry e) c' → Plans o (log ++ EditEntry e ∷ []) c' (after_change a e)
-plans_edit U o log c c' a (LinkEdit x y z) p w past place ok step = plans_same o log (log ++ EditEntry (LinkEdit x y z) ∷ []) c c' a p (λ e. (ap (λ (k : Core). lives k.net e) step.after, ap (λ (k : Core). k.flying e) step.after, begun_other o log (EditEntry (LinkEdit x y z)) e past refl refl))
-plans_edit U o log c c' a (UnlinkEdit x y) p w past place ok step = plans_same o log (log ++ EditEntry (UnlinkEdit x y) ∷ []) c c' a p (λ e. (ap (λ (k : Core). lives k.net e) step.after, ap (λ (k : Core). k.flying e) step.after, begun_other o log (EditEntry (UnlinkEdit x y)) e past refl refl))
-plans_edit U o log c c' a (SetEdit d i v) p w past place ok step = plans_same o log (log ++ EditEntry (SetEdit d i v) ∷ []) c c' a p (λ e. (ap (λ (k : Core). lives k.net e) step.after ∙ ap (is_in e) (put_numbers d i v c.net.devices), ap (λ (k : Core). k.flying e) step.after, begun_other o log (EditEntry (SetEdit d i v)) e past refl refl))
-plans_edit U o log c c' a (PokeEdit d x) p w past place ok step = plans_same o log (log ++ EditEntry (PokeEdit d x) ∷ []) c c' a p (λ e. (ap (λ (k : Core). lives k.net e) step.after, ap (λ (k : Core). k.flying e) step.after, begun_other o log (EditEntry (PokeEdit d x)) e past refl refl))
-plans_edit U o log c c' a (JoinEdit x) p w past place ok step = plans_join U o log c c' a x p w past place step.after
-plans_edit U o log c c' a (LeaveEdit d) p w past place ok step = plans_leave U o log c c' a d p w past (p.places d (can_leave c d ok)) step.after
+-- ---- one entry more
+
+module _ (U : Unfolding) (o : Opening) (log : List EntryValue) (c c' : Core) (a a' : AgendaValue) (p : Plans o log c a) (past : o.front ≤ length log) (rounds : a'.rounds ≡ a.rounds) where
+  pub plans_idle : Step U c IdleEntry c' → a'.rows ≡ a.rows → Plans o (log ++ IdleEntry ∷ []) c' a'
+  plans_idle step rows = plans_same o log (log ++ IdleEntry ∷ []) c c' a a' p (ap (λ (k : Core). numbers k.net.devices) step)
+      (λ e. row_is o log (log ++ IdleEntry ∷ []) c c' e (ap (λ (k : Core). k.flying e) step) (begun_other o log IdleEntry e past refl refl)) rounds rows
+
+  module _ (d i : ℕ) (rises : Rises (numbers c.net.devices)) (within : i < length (numbers c.net.devices)) (at : get_or (numbers c.net.devices) i 0 ≡ d) where
+    pub plans_begin : Step U c (BeginEntry d) c' → a'.rows ≡ slice_set a.rows i (begun_row (row_at a.rows i)) → Plans o (log ++ BeginEntry d ∷ []) c' a'
+    plans_begin step rows = plans_at o log (log ++ BeginEntry d ∷ []) c c' a a' d i begun_row p rises within at (ap (λ (k : Core). numbers k.net.devices) step.2)
+        (λ e n. row_is o log (log ++ BeginEntry d ∷ []) c c' e (ap (λ (k : Core). k.flying e) step.2 ∙ put_other c.flying d e (Some (copy_of c.net c.exports d)) n) (begun_other o log (BeginEntry d) e past refl (not_other d e n)))
+        (λ j. record { device = d; begun = begun j; rests = is_none (flies j) }) rounds rows
+      where
+        begun : begun_in o (log ++ BeginEntry d ∷ []) d ≡ begun_in o log d + 1
+        begun = begun_more o log (BeginEntry d) d past refl (eq-eqb d d refl)
+
+        flies : c'.flying d ≡ Some (copy_of c.net c.exports d)
+        flies = ap (λ (k : Core). k.flying d) step.2 ∙ put_same c.flying d (Some (copy_of c.net c.exports d))
+
+    pub plans_end : Step U c (EndEntry d) c' → a'.rows ≡ slice_set a.rows i (ended_row (row_at a.rows i)) → Plans o (log ++ EndEntry d ∷ []) c' a'
+    plans_end step rows = plans_at o log (log ++ EndEntry d ∷ []) c c' a a' d i ended_row p rises within at (ap (λ (k : Core). numbers k.net.devices) step.after)
+        (λ e n. row_is o log (log ++ EndEntry d ∷ []) c c' e (ap (λ (k : Core). k.flying e) step.after ∙ put_other c.flying d e None n) (begun_other o log (EndEntry d) e past refl refl))
+        (λ j. record { device = d; begun = begun_other o log (EndEntry d) d past refl refl j; rests = is_none (flies j) }) rounds rows
+      where
+        flies : c'.flying d ≡ None
+        flies = ap (λ (k : Core). k.flying d) step.after ∙ put_same c.flying d None
+
+  plans_join : (x : NetDevice) → lives c.net x.id ≡ false → c' ≡ edited U c (JoinEdit x) → a'.rows ≡ insert a.rows (room_for x.id c.net.devices) (first_row x.id) → Plans o (log ++ EditEntry (JoinEdit x) ∷ []) c' a'
+  plans_join x new is rows = record {
+    rounds = rounds ∙ p.rounds;
+    rows = rows ∙ (ap (λ l. insert l place (first_row x.id)) p.rows ∙ ((λ j. insert (sym others j) place (sym here j)) ∙ (sym (map_insert g ns place x.id) ∙ ap (map g) there)));
+  }
+    where
+      g : ℕ → Row
+      g = row_of o (log ++ EditEntry (JoinEdit x) ∷ []) c'
+
+      ns : List ℕ
+      ns = numbers c.net.devices
+
+      place : ℕ
+      place = room_for x.id c.net.devices
+
+      others : map g ns ≡ map (row_of o log c) ns
+      others = map_absent (row_of o log c) g x.id ns new (λ e n. row_is o log (log ++ EditEntry (JoinEdit x) ∷ []) c c' e (ap (λ (k : Core). k.flying e) is ∙ put_other c.flying x.id e None n) (begun_other o log (EditEntry (JoinEdit x)) e past (not_other x.id e n) refl))
+
+      flies : c'.flying x.id ≡ None
+      flies = ap (λ (k : Core). k.flying x.id) is ∙ put_same c.flying x.id None
+
+      here : g x.id ≡ first_row x.id
+      here = λ j. record { device = x.id; begun = begun_none o log (EditEntry (JoinEdit x)) x.id past (eq-eqb x.id x.id refl) j; rests = is_none (flies j) }
+
+      there : insert ns place x.id ≡ numbers c'.net.devices
+      there = sym (ap (λ (k : Core). numbers k.net.devices) is
+          ∙ (ap numbers (sym (insert_prefix (λ (n : NetDevice). nat_lt n.id x.id) x c.net.devices)) ∙ map_insert (λ (n : NetDevice). n.id) c.net.devices place x))
+
+  plans_leave : (d i : ℕ) → Rises (numbers c.net.devices) → i < length c.net.devices → get_or (numbers c.net.devices) i 0 ≡ d → c' ≡ edited U c (LeaveEdit d) → a'.rows ≡ remove a.rows i → Plans o (log ++ EditEntry (LeaveEdit d) ∷ []) c' a'
+  plans_leave d i rises within at is rows = record {
+    rounds = rounds ∙ p.rounds;
+    rows = rows ∙ (ap (λ l. remove l i) p.rows ∙ (ap (λ l. remove l i) (sym same) ∙ (sym (map_remove g ns i) ∙ ap (map g) there)));
+  }
+    where
+      g : ℕ → Row
+      g = row_of o (log ++ EditEntry (LeaveEdit d) ∷ []) c'
+
+      ns : List ℕ
+      ns = numbers c.net.devices
+
+      same : map g ns ≡ map (row_of o log c) ns
+      same = map_same (row_of o log c) g ns (λ e. row_is o log (log ++ EditEntry (LeaveEdit d) ∷ []) c c' e (ap (λ (k : Core). k.flying e) is) (begun_other o log (EditEntry (LeaveEdit d)) e past refl refl))
+
+      there : remove ns i ≡ numbers c'.net.devices
+      there = sym (map_remove (λ (n : NetDevice). n.id) c.net.devices i) ∙ (ap numbers (remove_device d i c.net.devices rises (numbers_long c.net.devices i within) at) ∙ sym (ap (λ (k : Core). numbers k.net.devices) is))
+
+  -- an edit that leaves the devices there
+  plans_stay : (x : EditValue) (ch : Change) → ch ≡ change.Nothing → a'.rows ≡ after_change a.rows ch → numbers c'.net.devices ≡ numbers c.net.devices → ((e : ℕ) → c'.flying e ≡ c.flying e) → ((e : ℕ) → is_join e (EditEntry x) ≡ false) → Plans o (log ++ EditEntry x ∷ []) c' a'
+  plans_stay x ch none rows there flies stays = plans_same o log (log ++ EditEntry x ∷ []) c c' a a' p there
+      (λ e. row_is o log (log ++ EditEntry x ∷ []) c c' e (flies e) (begun_other o log (EditEntry x) e past (stays e) refl)) rounds (rows ∙ ap (after_change a.rows) none)
+
+  pub plans_edit : (x : EditValue) (ch : Change) → Rises (numbers c.net.devices) → IsChange c.net.devices x ch → a'.rows ≡ after_change a.rows ch → edit_fault c x ≡ None → Step U c (EditEntry x) c' → Plans o (log ++ EditEntry x ∷ []) c' a'
+  plans_edit (LinkEdit x y z) ch rises is rows ok step = plans_stay (LinkEdit x y z) ch is rows (ap (λ (k : Core). numbers k.net.devices) step.after) (λ e. ap (λ (k : Core). k.flying e) step.after) (λ e. refl)
+  plans_edit (UnlinkEdit x y) ch rises is rows ok step = plans_stay (UnlinkEdit x y) ch is rows (ap (λ (k : Core). numbers k.net.devices) step.after) (λ e. ap (λ (k : Core). k.flying e) step.after) (λ e. refl)
+  plans_edit (SetEdit d i v) ch rises is rows ok step = plans_stay (SetEdit d i v) ch is rows (ap (λ (k : Core). numbers k.net.devices) step.after ∙ put_numbers d i v c.net.devices) (λ e. ap (λ (k : Core). k.flying e) step.after) (λ e. refl)
+  plans_edit (PokeEdit d x) ch rises is rows ok step = plans_stay (PokeEdit d x) ch is rows (ap (λ (k : Core). numbers k.net.devices) step.after) (λ e. ap (λ (k : Core). k.flying e) step.after) (λ e. refl)
+  plans_edit (JoinEdit x) ch rises is rows ok step = plans_join x (can_join c.net x ok).new step.after (rows ∙ ap (after_change a.rows) is.0)
+  plans_edit (LeaveEdit d) (change.Join place e) rises is rows ok step = absurd is
+  plans_edit (LeaveEdit d) (change.Leave place) rises is rows ok step = plans_leave d place rises is.0 is.1 step.after rows
+  plans_edit (LeaveEdit d) change.Nothing rises is rows ok step = let there = can_leave c d ok in absurd (cc (is, there))

@@ -1,5 +1,5 @@
 -- What a turn on the locked value says of the pass that took it.
-use Rattle.std.proofs.Common.{◌≡◌, ℕ, suc, ◌+◌, ◌<◌, ◌≤◌, List, [], ◌∷◌, ◌++◌, length, drop, map, refl, sym, ap, ◌∙◌, subst, inl, arith, None}
+use Rattle.std.proofs.Common.{◌≡◌, ◌↔◌, ℕ, Bool, true, suc, ◌+◌, ◌<◌, ◌≤◌, List, [], ◌∷◌, ◌++◌, length, drop, map, refl, sym, ap, ◌∙◌, subst, inl, arith, None}
 use Rattle.std.proofs.lemmas.List.{same_from_push, map-append}
 use Rattle.fc_nodes.specs.Program.{unfolding_of}
 use Rattle.value_trees.specs.Snaps.{snap_copy, IsSnap}
@@ -15,8 +15,8 @@ use Rattle.firing_core.specs.CoreViews.{core_of}
 use Rattle.firing_core.specs.Books.{BookValue}
 use Rattle.export_table.specs.Items.{Opening, ItemValue, OpeningItem, WrittenItem, items_of}
 use Rattle.export_table.specs.Answers.{answers, entry_answers}
-use Rattle.export_table.specs.Begins.{IsNext}
-use Rattle.export_table.specs.Holding.{HeldValue, HasTurn, Opens, Turned, NothingLeft, opening_in, log_in, core_in, list_of}
+use Rattle.export_table.specs.Begins.{IsNext, NoneMayBegin, AllBegun}
+use Rattle.export_table.specs.Holding.{HeldValue, HasTurn, Opens, Turned, opening_in, log_in, core_in, list_of}
 use Rattle.export_table.specs.Firings.{FiringValue}
 use Rattle.export_table.specs.Passing.{TableValue, IsPassOf, on_log, on_items, item_at_next}
 use Rattle.export_table.specs.Turns.{Begins, Rests, Edits, RefusesIn, TookTurn, Began, Rested, Edited, Refused, Closes, IsAfterTurn}
@@ -104,12 +104,13 @@ module _ (t : TableValue) (v : PassView ItemValue) (x : HeldValue) (k : IsPassOf
       snap = subst (λ (o : Opening). IsSnap (unfolding_of o.program) f.snap) same_opening b.snap;
     }
 
-    pub rested : Rests x y → Rested t.opening (on_log v) (on_log w)
-    rested r = record {
+    pub rested : (is_over : Bool) → Rests x y is_over → Rested t.opening (on_log v) (on_log w) is_over
+    rested is_over r = record {
       before = log_in x;
       core = core_in x;
       turn = took_turn entry.Idle r.turned;
-      done = subst (λ o. NothingLeft o (log_in x) (core_in x)) same_opening r.done;
+      none = subst (λ o. NoneMayBegin o (log_in x) (core_in x)) same_opening r.none;
+      over = subst (λ o. (is_over ≡ true) ↔ AllBegun o (log_in x) (core_in x)) same_opening r.over;
     }
 
     pub edited : (e : Edit) → Edits x y e → Edited t.opening (on_log v) (on_log w) (edit_of e)

@@ -1,80 +1,100 @@
 -- The agenda: what is left to begin.
-use Rattle.std.specs.Prelude.{ℕ, Bool, true, false, ◌≡◌, ◌+◌, ◌<◌, ◌≤◌, ◌&&◌, List, length, set, get_or, nat_lt}
-use Rattle.fc_values.specs.Fields.{is_in}
-use Rattle.firing_core.specs.Entries.{EditValue, LinkEdit, UnlinkEdit, SetEdit, PokeEdit, JoinEdit, LeaveEdit}
+use Rattle.std.specs.Prelude.{ℕ, Bool, true, false, ◌≡◌, ◌↔◌, ◌+◌, ◌<◌, ◌≤◌, List, length, get_or}
+use Rattle.export_table.specs.declared.agenda.Row.{Row}
+use Rattle.export_table.specs.declared.agenda.Next.{Next}
+use Rattle.export_table.specs.declared.agenda.Next.TheVariants as next
 
--- how many firings each device may begin, how many it has begun, and whether it may begin now, by its number; a number
--- behind both lists has begun nothing and may not begin
+-- how many firings each device may begin, a row for each device that is there, in their order, and the memory that is
+-- taken for more rows
 pub record AgendaValue : Type 0 where
   pub rounds : ℕ
-  pub begun : List ℕ
-  pub ready : List Bool
+  pub rows : List Row
+  pub spare : ℕ
 
-abbrev pub begun_by : AgendaValue → ℕ → ℕ
-begun_by a d = get_or a.begun d 0
+abbrev pub agenda_with : ℕ → List Row → ℕ → AgendaValue
+agenda_with rounds rows spare = record { rounds = rounds; rows = rows; spare = spare }
 
-abbrev pub is_ready : AgendaValue → ℕ → Bool
-is_ready a d = get_or a.ready d false
+abbrev pub no_row : Row
+no_row = record { device = 0; begun = 0; rests = false }
 
--- both lists speak of the same numbers, which devices may have
-pub record IsAgenda (a : AgendaValue) : Type 0 where
-  pub same : length a.ready ≡ length a.begun
-  pub few : length a.begun ≤ 65536
+-- the row at a place
+abbrev pub row_at : List Row → ℕ → Row
+row_at rows i = get_or rows i no_row
 
--- no flag before a place is set
-abbrev pub NoneBefore : List Bool → ℕ → Type 0
-NoneBefore flags n = (e : ℕ) → e < n → get_or flags e false ≡ false
+-- ---- one row
 
--- no device with a number before this place may begin
-pub record IsKept (a : AgendaValue) (first : ℕ) : Type 0 where
-  pub agenda : IsAgenda a
-  pub before : NoneBefore a.ready first
-  pub within : first ≤ length a.ready
+-- it has ended so many firings or more: where it is in flight, one less than it has begun
+abbrev pub HasEnded : ℕ → Row → Type 0
+HasEnded n r = (n ≤ r.begun) × (r.rests ≡ false → n < r.begun)
 
--- it may have more places, and says of each device what it said before
-pub record Grows (a b : AgendaValue) : Type 0 where
-  pub rounds : b.rounds ≡ a.rounds
-  pub longer : length a.begun ≤ length b.begun
-  pub begun : (d : ℕ) → begun_by b d ≡ begun_by a d
-  pub ready : (d : ℕ) → is_ready b d ≡ is_ready a d
-  pub agenda : IsAgenda a → IsAgenda b
+-- it has ended so many
+abbrev pub EndedExactly : ℕ → Row → Type 0
+EndedExactly n r = (r.rests ≡ true → n ≡ r.begun) × (r.rests ≡ false → n + 1 ≡ r.begun)
 
--- no device has begun more firings than it may
-abbrev pub IsWithin : AgendaValue → Type 0
-IsWithin a = (d : ℕ) → begun_by a d ≤ a.rounds
+-- it rests, and has begun so many
+abbrev pub IsReady : ℕ → Row → Type 0
+IsReady n r = (r.rests ≡ true) × (r.begun ≡ n)
 
--- the agenda of the devices with these numbers, where nothing has begun: each of them may begin, where any may
-pub record Starts (ids : List ℕ) (rounds : ℕ) (a : AgendaValue) : Type 0 where
-  pub rounds_are : a.rounds ≡ rounds
-  pub begun : (d : ℕ) → begun_by a d ≡ 0
-  pub ready : (d : ℕ) → is_ready a d ≡ (is_in d ids && nat_lt 0 rounds)
-  pub places : (d : ℕ) → is_in d ids ≡ true → d < length a.begun
+-- a device that has begun nothing, the row after a begin, and the row after an end
+abbrev pub first_row : ℕ → Row
+first_row d = record { device = d; begun = 0; rests = true }
 
--- a device begins a firing
-abbrev pub after_begin : AgendaValue → ℕ → AgendaValue
-after_begin a d = record { rounds = a.rounds; begun = set a.begun d (begun_by a d + 1); ready = set a.ready d false }
+abbrev pub begun_row : Row → Row
+begun_row r = record { device = r.device; begun = r.begun + 1; rests = false }
 
--- a device may begin or may not
-abbrev pub with_ready : AgendaValue → ℕ → Bool → AgendaValue
-with_ready a d b = record { rounds = a.rounds; begun = a.begun; ready = set a.ready d b }
+abbrev pub ended_row : Row → Row
+ended_row r = record { device = r.device; begun = r.begun; rests = true }
 
--- a device rests, and may begin what is left
-abbrev pub after_end : AgendaValue → ℕ → AgendaValue
-after_end a d = record { rounds = a.rounds; begun = a.begun; ready = set a.ready d (nat_lt (begun_by a d) a.rounds) }
+-- ---- all rows
 
--- a device joins, and has begun nothing
-abbrev pub after_join : AgendaValue → ℕ → AgendaValue
-after_join a d = record { rounds = a.rounds; begun = set a.begun d 0; ready = set a.ready d (nat_lt 0 a.rounds) }
+-- no row before a place rests with so many firings begun
+abbrev pub NoneReady : ℕ → List Row → ℕ → Type 0
+NoneReady n rows place = (i : ℕ) → i < place → IsReady n (row_at rows i) → ⊥
 
--- a device leaves
-abbrev pub after_leave : AgendaValue → ℕ → AgendaValue
-after_leave a d = record { rounds = a.rounds; begun = a.begun; ready = set a.ready d false }
+-- each row before a place has ended so many firings or more
+abbrev pub EndedBefore : ℕ → List Row → ℕ → Type 0
+EndedBefore n rows place = (i : ℕ) → i < place → HasEnded n (row_at rows i)
 
--- what an edit does to it
-abbrev pub after_change : AgendaValue → EditValue → AgendaValue
-after_change a (LinkEdit x y w) = a
-after_change a (UnlinkEdit x y) = a
-after_change a (SetEdit d i v) = a
-after_change a (PokeEdit d e) = a
-after_change a (JoinEdit x) = after_join a x.id
-after_change a (LeaveEdit d) = after_leave a d
+-- the least number of firings that a device has ended, or so many, if that is less
+pub record IsLeastEnded (n : ℕ) (rows : List Row) (most : ℕ) : Type 0 where
+  pub each : EndedBefore n rows (length rows)
+  pub low : n ≤ most
+  pub some : n < most → (i : ℕ) × (i < length rows) × EndedExactly n (row_at rows i)
+
+-- A row that may begin: it rests, it has firings left, and each device has ended as many firings as this one has begun.
+pub record MayBeginRow (a : AgendaValue) (i : ℕ) : Type 0 where
+  pub within : i < length a.rows
+  pub rests : (row_at a.rows i).rests ≡ true
+  pub some : (row_at a.rows i).begun < a.rounds
+  pub pace : EndedBefore (row_at a.rows i).begun a.rows (length a.rows)
+
+-- the first row that may begin
+pub record IsNextRow (a : AgendaValue) (i : ℕ) : Type 0 where
+  pub may : MayBeginRow a i
+  pub smallest : (j : ℕ) → j < i → MayBeginRow a j → ⊥
+
+-- no row may begin now; and it is over exactly where each has begun all its firings
+pub record RowsRest (a : AgendaValue) (is_over : Bool) : Type 0 where
+  pub none : (i : ℕ) → MayBeginRow a i → ⊥
+  pub over : (is_over ≡ true) ↔ ((i : ℕ) → i < length a.rows → a.rounds ≤ (row_at a.rows i).begun)
+
+-- What may begin in a round, where so many of all rows stand before the first that is ready: that one, where firings
+-- are left. It is over where this is the last round.
+abbrev pub IsInRound : ℕ → ℕ → ℕ → ℕ → Next → Type 0
+IsInRound first rows round rounds (next.Begins i) = (i ≡ first) × (first < rows) × (round < rounds)
+IsInRound first rows round rounds (next.Rests is_over) =
+    (first < rows → rounds ≤ round) × ((is_over ≡ true) ↔ (rounds ≤ round + 1))
+
+-- what may begin
+abbrev pub Finds : AgendaValue → Next → Type 0
+Finds a (next.Begins i) = IsNextRow a i
+Finds a (next.Rests is_over) = RowsRest a is_over
+
+-- what its type keeps: how far each device is at least, and before which places nothing is left to look at
+pub record IsKept (rounds : ℕ) (rows : List Row) (round first ended : ℕ) : Type 0 where
+  pub most : round ≤ rounds
+  pub each : EndedBefore round rows (length rows)
+  pub ready : NoneReady round rows first
+  pub first_in : first ≤ length rows
+  pub more : EndedBefore (round + 1) rows ended
+  pub ended_in : ended ≤ length rows

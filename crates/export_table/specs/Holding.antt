@@ -1,20 +1,21 @@
 -- What the lock holds.
-use Rattle.std.specs.Prelude.{ℕ, suc, true, ◌≡◌, ◌↔◌, ◌+◌, ◌<◌, ◌≤◌, List, length, take, Some, None}
+use Rattle.std.specs.Prelude.{ℕ, suc, true, ◌≡◌, ◌+◌, ◌<◌, ◌≤◌, List, [], ◌∷◌, ◌++◌, length, map, take, Some, is_none}
 use Rattle.fc_values.specs.Trees.{Copy}
 use Rattle.firing_core.specs.Entries.{EntryValue, BeginEntry, entries_of}
 use Rattle.firing_core.specs.Cores.{Core, Run, copy_of}
 use Rattle.firing_core.specs.CoreViews.{core_of, rooms_of}
 use Rattle.firing_core.specs.Books.{BookValue, IsBook, IsSameBook, AppendsEntry}
 use Rattle.firing_core.specs.declared.entries.Entry.{Entry}
-use Rattle.topology.specs.Networks.{Lives}
+use Rattle.topology.specs.Networks.{numbers}
 use lib.ListN.{get_elem?}
 use mathlib.Core.Option.{some}
 use Rattle.fc_nodes.specs.Program.{unfolding_of}
-use Rattle.turn_lock.specs.Logs.{IsUnanswered}
+use Rattle.turn_lock.specs.Logs.{IsUnanswered, StartsWith}
 use Rattle.export_table.specs.Answers.{answers}
 use Rattle.export_table.specs.Items.{Opening, ItemValue, WrittenItem, items_of}
-use Rattle.export_table.specs.Begins.{MayBegin, begun_in}
-use Rattle.export_table.specs.Agendas.{AgendaValue, IsAgenda, IsWithin, begun_by, is_ready}
+use Rattle.export_table.specs.Begins.{IsNext, begun_in}
+use Rattle.export_table.specs.declared.agenda.Row.{Row}
+use Rattle.export_table.specs.Agendas.{AgendaValue}
 
 -- a book, and what the table was opened with
 pub record HeldValue : Type 0 where
@@ -45,12 +46,23 @@ core_in h = core_of h.book.core
 abbrev pub list_of : HeldValue → List ItemValue
 list_of h = items_of (opening_in h) (log_in h)
 
--- the agenda says of each device what it has begun and whether it may begin
+-- the row of a device: what it has begun, and whether it rests
+abbrev pub row_of : Opening → List EntryValue → Core → ℕ → Row
+row_of o log c d = record { device = d; begun = begun_in o log d; rests = is_none (c.flying d) }
+
+-- the agenda has exactly the rows of the devices there, in their order
 pub record Plans (o : Opening) (log : List EntryValue) (c : Core) (a : AgendaValue) : Type 0 where
   pub rounds : a.rounds ≡ o.rounds
-  pub begun : (d : ℕ) → d < 65536 → begun_by a d ≡ begun_in o log d
-  pub ready : (d : ℕ) → d < 65536 → ((is_ready a d ≡ true) ↔ MayBegin o log c d)
-  pub places : (d : ℕ) → Lives c.net d → d < length a.begun
+  pub rows : a.rows ≡ map (row_of o log c) (numbers c.net.devices)
+
+-- no device has begun more firings than it may
+abbrev pub BeginsWithin : Opening → List EntryValue → Type 0
+BeginsWithin o log = (d : ℕ) → d < 65536 → begun_in o log d ≤ o.rounds
+
+-- each begin since the opening was of the smallest device that might begin then
+abbrev pub EachIsNext : Opening → List EntryValue → Type 0
+EachIsNext o log = (front : List EntryValue) (core : Core) (d : ℕ) → StartsWith log (front ++ BeginEntry d ∷ [])
+    → o.front ≤ length front → Run (unfolding_of o.program) (core_of o.start) front core → IsNext o front core d
 
 -- what the type keeps
 pub record IsHeld (h : HeldValue) (a : AgendaValue) : Type 0 where
@@ -60,8 +72,8 @@ pub record IsHeld (h : HeldValue) (a : AgendaValue) : Type 0 where
   -- each flight has a room
   pub rooms : (d : ℕ) (s : Copy) → (core_in h).flying d ≡ Some s → rooms_of h.book.core d ≡ true
   pub plans : Plans (opening_in h) (log_in h) (core_in h) a
-  pub agenda : IsAgenda a
-  pub within : IsWithin a
+  pub within : BeginsWithin (opening_in h) (log_in h)
+  pub next : EachIsNext (opening_in h) (log_in h)
 
 -- a table that was opened with a book: its log has so far only the entries of that book
 pub record Opens (b : BookValue) (rounds turns : ℕ) (h : HeldValue) : Type 0 where
@@ -81,14 +93,6 @@ pub record Turned (old new : HeldValue) (e : Entry) : Type 0 where
   -- the log led to the old core, from a good start
   pub legal : IsBook old.book
   pub past : old.front ≤ length old.book.log
-
--- no device has begun more firings than it may
-abbrev pub BeginsWithin : Opening → List EntryValue → Type 0
-BeginsWithin o log = (d : ℕ) → d < 65536 → begun_in o log d ≤ o.rounds
-
--- each device there is in flight or has begun all its firings
-abbrev pub NothingLeft : Opening → List EntryValue → Core → Type 0
-NothingLeft o log c = (d : ℕ) → Lives c.net d → c.flying d ≡ None → o.rounds ≤ begun_in o log d
 
 -- a device began at a place of the log, and nothing answers it
 pub record IsOpenAt (h : HeldValue) (place d : ℕ) : Type 0 where

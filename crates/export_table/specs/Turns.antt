@@ -1,5 +1,5 @@
 -- What the calls of a shared table promise.
-use Rattle.std.specs.Prelude.{ℕ, ◌≡◌, ◌+◌, ◌-◌, ◌<◌, ◌≤◌, List, length, drop, map, Some, None}
+use Rattle.std.specs.Prelude.{ℕ, Bool, true, ◌≡◌, ◌↔◌, ◌+◌, ◌-◌, ◌<◌, ◌≤◌, List, length, drop, map, Some, None}
 use Rattle.fc_nodes.specs.Program.{unfolding_of}
 use Rattle.value_trees.specs.Snaps.{snap_copy, tree_of, IsSnap}
 use Rattle.device_eval.specs.Firing.{FiredValue}
@@ -14,8 +14,8 @@ use Rattle.firing_core.specs.Refusals.{RefusesEdit}
 use Rattle.turn_lock.specs.Logs.{StartsWith, In, Rises, ArePlaced}
 use Rattle.turn_lock.specs.Passes.{PassView, wrote}
 use Rattle.export_table.specs.Items.{Opening, ItemValue}
-use Rattle.export_table.specs.Begins.{IsNext}
-use Rattle.export_table.specs.Holding.{HeldValue, HasTurn, Turned, NothingLeft, IsOpenAt, IsTakenAt, opening_in, log_in, core_in}
+use Rattle.export_table.specs.Begins.{IsNext, NoneMayBegin, AllBegun}
+use Rattle.export_table.specs.Holding.{HeldValue, HasTurn, Turned, IsOpenAt, IsTakenAt, opening_in, log_in, core_in}
 use Rattle.export_table.specs.Firings.{FiringValue, IsCopyAt}
 
 -- ---- what a turn does to the locked value
@@ -28,10 +28,11 @@ pub record Begins (old new : HeldValue) (f : FiringValue) : Type 0 where
   pub copy : snap_copy (unfolding_of old.book.program) f.snap ≡ copy_of (core_in old).net (core_in old).exports f.device
   pub snap : IsSnap (unfolding_of old.book.program) f.snap
 
--- it begins nothing, since nothing may begin
-pub record Rests (old new : HeldValue) : Type 0 where
+-- it begins nothing, since nothing may begin now; and it says whether each device has begun all its firings
+pub record Rests (old new : HeldValue) (is_over : Bool) : Type 0 where
   pub turned : Turned old new entry.Idle
-  pub done : NothingLeft (opening_in old) (log_in old) (core_in old)
+  pub none : NoneMayBegin (opening_in old) (log_in old) (core_in old)
+  pub over : (is_over ≡ true) ↔ AllBegun (opening_in old) (log_in old) (core_in old)
 
 -- it may end this firing
 pub record MayEnd (h : HeldValue) (place : ℕ) (f : FiredValue) : Type 0 where
@@ -84,12 +85,13 @@ pub record Began (o : Opening) (v w : PassView EntryValue) (f : FiringValue) : T
   pub copy : snap_copy (unfolding_of o.program) f.snap ≡ copy_of core.net core.exports f.device
   pub snap : IsSnap (unfolding_of o.program) f.snap
 
--- it began nothing, since each device there was in flight or had begun all its firings
-pub record Rested (o : Opening) (v w : PassView EntryValue) : Type 0 where
+-- it began nothing, since no device might begin then; and it said whether each device had begun all its firings
+pub record Rested (o : Opening) (v w : PassView EntryValue) (is_over : Bool) : Type 0 where
   pub before : List EntryValue
   pub core : Core
   pub turn : TookTurn o v w before core IdleEntry
-  pub done : NothingLeft o before core
+  pub none : NoneMayBegin o before core
+  pub over : (is_over ≡ true) ↔ AllBegun o before core
 
 -- A firing that the pass may end: it began it at this place, it didn't end it since, and what was evaluated is the copy
 -- that was taken there.

@@ -1,7 +1,8 @@
 //! What is left to begin.
 
-ghost use Rattle.std.specs.Prelude.{◌≡◌, ◌<◌, ◌≤◌, ℕ, IfOk, length, get_or, true, false};
-ghost use Rattle.export_table.specs.Agendas.{NoneBefore};
+ghost use Rattle.std.specs.Prelude.{◌≡◌, ◌↔◌, ◌<◌, ◌≤◌, ◌+◌, length, true};
+ghost use Rattle.export_table.specs.Agendas.{HasEnded, EndedExactly, IsReady, NoneReady, EndedBefore, IsLeastEnded};
+ghost use Rattle.export_table.specs.Agendas.{IsInRound, first_row, row_at};
 
 use fc_values::Memory;
 use firing_core::Edit;
@@ -9,209 +10,286 @@ use std::alloc::Global;
 use std::marker::Model;
 use topology::Network;
 
-/// How many firings each device has begun, and which devices may begin, by their numbers, as far as there are devices.
+/// How many firings a device has begun, and whether it rests, which is that none of them is in flight.
 #[derive(Drop)]
-pub(crate) struct Agenda {
-    rounds: u32,
-    begun: Vec<u32>,
-    ready: Vec<bool>,
-    // no device with a smaller number may begin
-    first: usize,
+pub(crate) struct Row {
+    device: u32,
+    begun: u32,
+    rests: bool,
 }
 
-impl Model for Agenda {
-    ghost use Rattle.export_table.specs.Agendas.{AgendaValue, IsKept};
+impl Row {
+    // The row of a device that has begun nothing.
+    fn first(device: u32) -> Row
+        ensures { result ≡ first_row device }
+    {
+        Row {
+            device,
+            begun: 0,
+            rests: true,
+        }
+    }
 
-    ghost Value = { AgendaValue };
+    // How many firings it has ended.
+    fn ended(&self) -> u32
+        requires { HasEnded 0 self.now }
+        ensures { EndedExactly result self.now }
+    {
+        if self.rests {
+            self.begun
+        } else {
+            self.begun - 1
+        }
+    }
 
-    ghost view = { λ a. record { rounds = a.rounds; begun = a.begun.items; ready = a.ready.items } };
-
-    ghost invariant = { λ a.
-        IsKept (record { rounds = a.rounds; begun = a.begun.items; ready = a.ready.items }) a.first };
+    // Whether it rests and has begun so many firings.
+    fn is_ready(&self, round: u32) -> bool
+        ensures { (result ≡ true) ↔ IsReady round self.now }
+    {
+        self.rests && self.begun == round
+    }
 }
 
-// The first flag that is set, or how many flags there are, where none before a place is set.
-fn first_set(flags: &[bool], from: usize) -> usize
-    requires before { NoneBefore flags.now from }
-    requires within { from ≤ length flags.now }
-    ensures before { NoneBefore flags.now result }
-    ensures within { result ≤ length flags.now }
-    ensures set { result < length flags.now → get_or flags.now result false ≡ true }
+// The first row from a place on that rests and has begun so many firings, or how many rows there are.
+fn first_ready(rows: &[Row], round: u32, from: usize) -> usize
+    requires before { NoneReady round rows.now from }
+    requires within { from ≤ length rows.now }
+    ensures before { NoneReady round rows.now result }
+    ensures within { result ≤ length rows.now }
+    ensures ready { result < length rows.now → IsReady round (row_at rows.now result) }
 {
     let mut at = from;
-    while at < flags.len() && !flags[at] {
+    while at < rows.len() && !rows[at].is_ready(round) {
         at += 1;
     }
     at
 }
 
-impl Agenda {
-    ghost use Rattle.std.specs.Prelude.{◌≡◌, ◌<◌, ◌≤◌, ◌+◌, ℕ, length, IfOk, OnOk, OnErr, IfSome, IfNone, [], true, false};
-    ghost use Rattle.topology.specs.Networks.{numbers};
-    ghost use Rattle.export_table.specs.Agendas.{AgendaValue, IsAgenda, Starts, Grows, begun_by, is_ready, with_ready, after_begin, after_end, after_join, after_leave};
-    ghost use Rattle.export_table.specs.Changes.{JoinsNumber, HasPlace, NamesPlace, IsJoin, after_view};
+// The first row from a place on that has ended no more than so many firings, or how many rows there are.
+fn first_behind(rows: &[Row], round: u32, from: usize) -> usize
+    requires each { EndedBefore round rows.now (length rows.now) }
+    requires before { EndedBefore (round + 1) rows.now from }
+    requires within { from ≤ length rows.now }
+    ensures before { EndedBefore (round + 1) rows.now result }
+    ensures within { result ≤ length rows.now }
+    ensures behind { result < length rows.now → EndedExactly round (row_at rows.now result) }
+{
+    let mut at = from;
+    while at < rows.len() && rows[at].ended() > round {
+        at += 1;
+    }
+    at
+}
 
-    // The agenda of no devices.
-    fn empty(alloc: Global, rounds: u32) -> Agenda
-        ensures starts { Starts [] rounds result }
-        ensures whole { IsAgenda result }
+// The least number of firings that a device has ended, at most this many.
+fn least_ended(rows: &[Row], most: u32) -> u32
+    requires { EndedBefore 0 rows.now (length rows.now) }
+    ensures { IsLeastEnded result rows.now most }
+{
+    let mut least = most;
+    for row in rows {
+        least = least.min(row.ended());
+    }
+    least
+}
+
+/// What a table may begin: the firing of the row at a place, or nothing now. Then it is over where each device has
+/// begun all its firings.
+#[derive(Drop)]
+pub(crate) enum Next {
+    Begins(usize),
+    Rests { is_over: bool },
+}
+
+impl Next {
+    // What may begin in a round, by how many rows stand before the first that is ready.
+    fn in_round(first: usize, rows: usize, round: u32, rounds: u32) -> Next
+        requires { round ≤ rounds }
+        ensures { IsInRound first rows round rounds result }
     {
-        Agenda {
-            rounds,
-            begun: Vec::new(alloc),
-            ready: Vec::new(alloc),
-            first: 0,
+        if first < rows && round < rounds {
+            Next::Begins(first)
+        } else {
+            Next::Rests {
+                is_over: rounds - round <= 1,
+            }
         }
     }
+}
+
+/// A row for each device of a network, in their order.
+#[derive(Drop)]
+pub(crate) struct Agenda {
+    // how many firings each may begin
+    rounds: u32,
+    // each has ended at least so many firings
+    round: u32,
+    rows: Vec<Row>,
+    // no row before this place rests with so many firings begun
+    first: usize,
+    // each row before this place has ended more firings
+    ended: usize,
+}
+
+impl Model for Agenda {
+    ghost use Rattle.std.specs.Prelude.{◌-◌, vec_capacity, vec_len};
+    ghost use Rattle.export_table.specs.Agendas.{AgendaValue, agenda_with, IsKept};
+
+    ghost Value = { AgendaValue };
+
+    ghost view = { λ a. agenda_with a.rounds a.rows.items (vec_capacity a.rows - vec_len a.rows) };
+
+    ghost invariant = { λ a. IsKept a.rounds a.rows.items a.round a.first a.ended };
+}
+
+impl Agenda {
+    ghost use Rattle.std.specs.Prelude.{◌≡◌, ◌<◌, ◌≤◌, ◌+◌, ℕ, length, IfOk, OnOk, OnErr, map, slice_set};
+    ghost use Rattle.std.specs.List.{insert, remove};
+    ghost use Rattle.topology.specs.Networks.{numbers};
+    ghost use Rattle.export_table.specs.Agendas.{Finds, IsNextRow, begun_row, ended_row};
+    ghost use Rattle.export_table.specs.Changes.{Fits, HasSpare, IsJoin, after_change};
 
     /// The agenda of the devices of a network, none of which has begun a firing or is in flight.
     pub(crate) fn new(alloc: Global, rounds: u32, net: &Network) -> Result<Agenda, Memory>
-        ensures starts { IfOk result (Starts (numbers net.now.devices) rounds) }
-        ensures whole { IfOk result IsAgenda }
+        ensures rounds { IfOk result (λ a. a.rounds ≡ rounds) }
+        ensures rows { IfOk result (λ a. a.rows ≡ map first_row (numbers net.now.devices)) }
     {
         let devices = net.devices();
-        let mut agenda = Agenda::empty(alloc, rounds);
+        let mut rows = Vec::with_capacity(alloc, devices.len())?;
         for device in devices {
-            agenda.make_place(device.id)?;
-            agenda.join(device.id);
+            rows.push(Row::first(device.id))?;
         }
-        Ok(agenda)
+        Ok(Agenda {
+            rounds,
+            round: 0,
+            rows,
+            first: 0,
+            ended: 0,
+        })
     }
 
-    /// Makes a place for a number, where there is memory for it.
-    pub(crate) fn make_place(&mut self, device: u32) -> Result<(), Memory>
-        requires number { device < 65536 }
-        ensures grows { Grows self.old self.new }
-        ensures place { OnOk result (device < length self.new.begun) }
+    /// The device of a row.
+    pub(crate) fn device(&self, place: usize) -> u32
+        requires place { place < length self.now.rows }
+        ensures { result ≡ (row_at self.now.rows place).device }
     {
-        while self.begun.len() <= device as usize {
-            self.add_place()?;
-        }
-        Ok(())
+        self.rows[place].device
     }
 
-    // Makes the place for the next number, where there is memory for it.
-    fn add_place(&mut self) -> Result<(), Memory>
-        requires number { length self.old.begun < 65536 }
-        ensures grows { Grows self.old self.new }
-        ensures place { OnOk result (length self.new.begun ≡ length self.old.begun + 1) }
+    /// The row of the smallest device that may begin, or none. It goes on from where the last call stopped, and looks
+    /// at each row anew only where a round is over.
+    pub(crate) fn next(&mut self) -> Next
+        ensures same { self.new ≡ self.old }
+        ensures found { Finds self.old result }
     {
-        self.ready.reserve(1)?;
-        self.begun.push(0)?;
-        self.ready.push_reserved(false);
-        Ok(())
-    }
-
-    /// The smallest device that may begin.
-    pub(crate) fn next(&self) -> Option<u32>
-        ensures some { IfSome result (λ d. (d < length self.now.begun) × (is_ready self.now d ≡ true)) }
-        ensures smallest { IfSome result (λ d. (e : ℕ) → e < d → is_ready self.now e ≡ false) }
-        ensures none { IfNone result ((e : ℕ) → is_ready self.now e ≡ false) }
-    {
-        let found = first_set(&self.ready, self.first);
-        if found < self.ready.len() {
-            Some(found as u32)
-        } else {
-            None
+        self.first = first_ready(&self.rows, self.round, self.first);
+        self.ended = first_behind(&self.rows, self.round, self.ended);
+        if self.first == self.rows.len() && self.ended == self.rows.len() {
+            self.round = least_ended(&self.rows, self.rounds);
+            self.first = first_ready(&self.rows, self.round, 0);
+            self.ended = 0;
         }
-    }
-
-    // Says whether a device may begin.
-    fn set_ready(&mut self, device: u32, flag: bool)
-        requires place { device < length self.old.begun }
-        ensures { self.new ≡ with_ready self.old device flag }
-    {
-        let place = device as usize;
-        self.ready[place] = flag;
-        if place < self.first {
-            self.first = place;
-        }
+        Next::in_round(self.first, self.rows.len(), self.round, self.rounds)
     }
 
     /// The smallest device that may begin begins a firing.
-    pub(crate) fn begin(&mut self, device: u32)
-        requires place { device < length self.old.begun }
-        requires some { begun_by self.old device < self.old.rounds }
-        requires smallest { (e : ℕ) → e < device → is_ready self.old e ≡ false }
-        ensures { self.new ≡ after_begin self.old device }
+    pub(crate) fn begin(&mut self, place: usize)
+        requires { IsNextRow self.old place }
+        ensures rounds { self.new.rounds ≡ self.old.rounds }
+        ensures rows { self.new.rows ≡ slice_set self.old.rows place (begun_row (row_at self.old.rows place)) }
     {
-        let place = device as usize;
-        self.begun[place] += 1;
-        self.ready[place] = false;
+        let row = &mut self.rows[place];
+        row.begun += 1;
+        row.rests = false;
         self.first = place + 1;
     }
 
-    /// The device rests, and may begin what is left.
-    pub(crate) fn rest(&mut self, device: u32)
-        requires place { device < length self.old.begun }
-        ensures { self.new ≡ after_end self.old device }
+    /// The device of a row ends its firing.
+    pub(crate) fn end(&mut self, place: usize)
+        requires place { place < length self.old.rows }
+        ensures rounds { self.new.rounds ≡ self.old.rounds }
+        ensures rows { self.new.rows ≡ slice_set self.old.rows place (ended_row (row_at self.old.rows place)) }
     {
-        let more = self.begun[device as usize] < self.rounds;
-        self.set_ready(device, more);
+        self.rows[place].rests = true;
     }
 
-    /// The device joins, and has begun nothing.
-    pub(crate) fn join(&mut self, device: u32)
-        requires place { device < length self.old.begun }
-        ensures { self.new ≡ after_join self.old device }
-    {
-        self.begun[device as usize] = 0;
-        let some = 0 < self.rounds;
-        self.set_ready(device, some);
-    }
-
-    /// The device leaves.
-    pub(crate) fn leave(&mut self, device: u32)
-        requires place { device < length self.old.begun }
-        ensures { self.new ≡ after_leave self.old device }
-    {
-        self.set_ready(device, false);
-    }
-
-    /// Makes a place for what an edit changes, where there is memory for it.
+    /// Takes the memory for what an edit changes.
     pub(crate) fn prepare(&mut self, change: &Change) -> Result<(), Memory>
-        requires number { JoinsNumber change.now }
-        ensures grows { Grows self.old self.new }
-        ensures place { OnOk result (HasPlace self.new change.now) }
+        ensures rounds { self.new.rounds ≡ self.old.rounds }
+        ensures rows { self.new.rows ≡ self.old.rows }
+        ensures spare { OnOk result (HasSpare self.new change.now) }
         ensures joins { OnErr result (IsJoin change.now) }
     {
         match change {
-            Change::Join(device) => self.make_place(*device),
-            Change::Leave(_) | Change::Nothing => Ok(()),
+            Change::Join { .. } => self.rows.reserve(1)?,
+            Change::Leave(_) | Change::Nothing => {}
         }
+        Ok(())
     }
 
     /// What an edit changes.
     pub(crate) fn change(&mut self, change: Change)
-        requires place { NamesPlace self.old change }
-        ensures { self.new ≡ after_view self.old change }
+        requires fits { Fits self.old change }
+        requires spare { HasSpare self.old change }
+        ensures rounds { self.new.rounds ≡ self.old.rounds }
+        ensures rows { self.new.rows ≡ after_change self.old.rows change }
     {
         match change {
-            Change::Join(device) => self.join(device),
-            Change::Leave(device) => self.leave(device),
+            Change::Join { place, device } => self.join(place, device),
+            Change::Leave(place) => self.leave(place),
             Change::Nothing => {}
         }
     }
+
+    // A device joins, which has begun nothing, with its row at this place.
+    fn join(&mut self, place: usize, device: u32)
+        requires place { place ≤ length self.old.rows }
+        requires spare { 1 ≤ self.old.spare }
+        ensures rounds { self.new.rounds ≡ self.old.rounds }
+        ensures rows { self.new.rows ≡ insert self.old.rows place (first_row device) }
+    {
+        let _ = self.rows.insert(place, Row::first(device));
+        self.round = 0;
+        self.first = 0;
+        self.ended = 0;
+    }
+
+    // The device of a row leaves.
+    fn leave(&mut self, place: usize)
+        requires place { place < length self.old.rows }
+        ensures rounds { self.new.rounds ≡ self.old.rounds }
+        ensures rows { self.new.rows ≡ remove self.old.rows place }
+    {
+        self.rows.remove(place);
+        self.first = 0;
+        self.ended = 0;
+    }
 }
 
-/// What an edit changes in an agenda: a device joins, a device leaves, or nothing.
+/// What an edit changes in an agenda: a row more, before the one at a place, a row less, or nothing.
 #[derive(Drop)]
 pub(crate) enum Change {
-    Join(u32),
-    Leave(u32),
+    Join { place: usize, device: u32 },
+    Leave(usize),
     Nothing,
 }
 
 ghost use Rattle.firing_core.specs.Entries.{edit_of};
-ghost use Rattle.export_table.specs.Changes.{change_by};
+ghost use Rattle.export_table.specs.Changes.{IsChange};
 
-/// What an edit changes.
-pub(crate) fn change_of(edit: &Edit) -> Change
-    ensures { result ≡ change_by (edit_of edit.now) }
+/// What an edit of a network changes, where the network allows it.
+pub(crate) fn change_of(edit: &Edit, net: &Network) -> Change
+    ensures { IsChange net.now.devices (edit_of edit.now) result }
 {
     match edit {
-        Edit::Join(device) => Change::Join(device.id),
-        Edit::Leave(device) => Change::Leave(*device),
+        Edit::Join(device) => Change::Join {
+            place: net.room(device.id),
+            device: device.id,
+        },
+        Edit::Leave(device) => match net.place(*device) {
+            Some(place) => Change::Leave(place),
+            None => Change::Nothing,
+        },
         Edit::Link(_, _, _) | Edit::Unlink(_, _) | Edit::Set(_, _, _) | Edit::Poke(_, _) => {
             Change::Nothing
         }

@@ -1,7 +1,16 @@
 //! Firings that a table began, and gates between their begin and their end.
 
+use firing_core::Room;
 use std::marker::Model;
 use value_trees::Snap;
+
+/// What comes back of a turn that begins nothing: the room, and whether each device has begun all its firings. If not,
+/// some may begin later.
+#[derive(Drop)]
+pub struct Rest {
+    pub room: Room,
+    pub is_over: bool,
+}
 
 /// A firing that a table began: its device, the place of its begin in the log, and the copy that the begin took. Only
 /// `Shared::next` makes one.

@@ -1,6 +1,7 @@
 //! The value under the lock: a book, and what is left to begin.
 
-use crate::agenda::{Agenda, change_of};
+use crate::agenda::{Agenda, Next, change_of};
+use crate::firing::Rest;
 use crate::item::Item;
 use device_eval::Fired;
 use fc_values::Memory;
@@ -63,10 +64,17 @@ impl Held {
     ghost use Rattle.firing_core.specs.Refusals.{RefusesEdit, TakesNone};
     ghost use Rattle.firing_core.specs.declared.entries.Entry.TheVariants as entry;
     ghost use Rattle.export_table.specs.Begins.{IsNext};
-    ghost use Rattle.export_table.specs.Holding.{Opens, HasTurn, Turned, IsOpenAt, IsTakenAt, opening_in, log_in, core_in, NothingLeft, BeginsWithin};
+    ghost use Rattle.export_table.specs.Holding.{Opens, HasTurn, Turned, IsOpenAt, IsTakenAt, BeginsWithin, EachIsNext};
+    ghost use Rattle.export_table.specs.Holding.{opening_in, log_in, core_in};
+    ghost use Rattle.export_table.specs.Turns.{Rests};
 
     /// Opens a book for so many turns, in which each device may begin so many firings. A refusal hands the book back.
-    pub fn new(alloc: Global, book: Book, rounds: u32, turns: u64) -> Result<Held, (Book, Memory)>
+    pub(crate) fn new(
+        alloc: Global,
+        book: Book,
+        rounds: u32,
+        turns: u64,
+    ) -> Result<Held, (Book, Memory)>
         requires { (d : ℕ) → (core_of book.core).flying d ≡ None }
         ensures opened { IfOk result (Opens book rounds turns) }
         ensures back { IfErr result (λ e. e.0 ≡ book) }
@@ -89,9 +97,10 @@ impl Held {
     }
 
     /// The book.
-    pub fn into_book(self) -> Book
+    pub(crate) fn into_book(self) -> Book
         ensures book { result ≡ self.book }
         ensures within { BeginsWithin (opening_in self) (log_in self) }
+        ensures next { EachIsNext (opening_in self) (log_in self) }
     {
         let Held {
             book,
@@ -103,14 +112,14 @@ impl Held {
     }
 
     /// How many entries the log has.
-    pub fn len(&self) -> u64
+    pub(crate) fn len(&self) -> u64
         ensures { result ≡ length self.now.book.log }
     {
         self.book.log().len() as u64
     }
 
-    /// Begins the smallest device that may begin.
-    pub fn next(&mut self, room: Room) -> Result<(u32, Snap), Room>
+    /// Begins the smallest device that may begin, or says whether each has begun all its firings.
+    pub(crate) fn next(&mut self, room: Room) -> Result<(u32, Snap), Rest>
         requires turn { HasTurn self.old }
         requires room { IsRoom (unfolding_of self.old.book.program) room }
         ensures turned { IfOk result (λ r. Turned self.old self.new (entry.Begin r.0)) }
@@ -119,18 +128,22 @@ impl Held {
             snap_copy (unfolding_of self.old.book.program) r.1
             ≡ copy_of (core_in self.old).net (core_in self.old).exports r.0) }
         ensures snap { IfOk result (λ r. IsSnap (unfolding_of self.old.book.program) r.1) }
-        ensures idle { OnErr result (Turned self.old self.new entry.Idle) }
-        ensures done { OnErr result (NothingLeft (opening_in self.old) (log_in self.old) (core_in self.old)) }
-        ensures back { IfErr result (λ r. r ≡ room) }
+        ensures rests { IfErr result (λ r. Rests self.old self.new r.is_over) }
+        ensures back { IfErr result (λ r. r.room ≡ room) }
     {
         let _net = self.book.core().net();
-        let Some(device) = self.agenda.next() else {
-            self.book.idle();
-            return Err(room);
+        logs_decide();
+        let place = match self.agenda.next() {
+            Next::Begins(place) => place,
+            Next::Rests { is_over } => {
+                self.book.idle();
+                return Err(Rest { room, is_over });
+            }
         };
+        let device = self.agenda.device(place);
         match self.book.begin_with(device, room) {
             Ok(snap) => {
-                self.agenda.begin(device);
+                self.agenda.begin(place);
                 Ok((device, snap))
             }
             Err(_) => unreachable!(),
@@ -138,7 +151,7 @@ impl Held {
     }
 
     /// Ends a firing that was begun at a place and isn't ended, by what was evaluated of its copy.
-    pub fn end(&mut self, place: u64, fired: Fired) -> Room
+    pub(crate) fn end(&mut self, place: u64, fired: Fired) -> Room
         requires turn { HasTurn self.old }
         requires program { fired.program ≡ self.old.book.program }
         requires open { IsOpenAt self.old place fired.snap.device }
@@ -150,13 +163,14 @@ impl Held {
         ensures room { IsRoom (unfolding_of self.old.book.program) result }
     {
         let _ = place;
-        let _net = self.book.core().net();
         logs_decide();
         runs_cut();
-        let device = fired.snap().device;
+        let Some(row) = self.book.core().net().place(fired.snap().device) else {
+            unreachable!()
+        };
         match self.book.end_with(fired) {
             Ok(room) => {
-                self.agenda.rest(device);
+                self.agenda.end(row);
                 room
             }
             Err(_) => unreachable!(),
@@ -164,7 +178,7 @@ impl Held {
     }
 
     /// Edits the book, or appends an entry that changes nothing.
-    pub fn edit(&mut self, alloc: Global, edit: Edit) -> Result<(), EditFault>
+    pub(crate) fn edit(&mut self, alloc: Global, edit: Edit) -> Result<(), EditFault>
         requires turn { HasTurn self.old }
         requires fits { EditFits (unfolding_of self.old.book.program) (edit_of edit) }
         ensures edited { OnOk result (Turned self.old self.new (entry.Edit edit)) }
@@ -173,8 +187,7 @@ impl Held {
         ensures refused { IfErr result (RefusesEdit (core_in self.old) (edit_of edit)) }
         ensures memory { IsErrOf result EditFault.Memory → TakesNone (edit_of edit) → ⊥ }
     {
-        let _net = self.book.core().net();
-        let change = change_of(&edit);
+        let change = change_of(&edit, self.book.core().net());
         let Ok(()) = self.agenda.prepare(&change) else {
             self.book.idle();
             return Err(EditFault::Memory);

@@ -11,11 +11,11 @@ ghost use Rattle.firing_core.specs.Refusals.{RefusesEdit, TakesNone};
 ghost use Rattle.firing_core.specs.declared.entries.Entry.TheVariants as entry;
 ghost use Rattle.turn_lock.specs.Logs.{StartsWith, In, Rises};
 ghost use Rattle.turn_lock.specs.Passes.{IsBelow, opened, kept_part, new_part, joined};
-ghost use Rattle.export_table.specs.Holding.{HasTurn, core_in, opening_of, BeginsWithin};
+ghost use Rattle.export_table.specs.Holding.{HasTurn, core_in, opening_of, BeginsWithin, EachIsNext};
 ghost use Rattle.export_table.specs.Passing.{IsPassOf, on_log};
 ghost use Rattle.export_table.specs.Turns.{Begins, Rests, MayEnd, Ends, Edits, RefusesIn, Began, Rested, IsOwnFiring, CanEnd, Ended, Edited, Refused, Closes, IsAfterTurn, KeepsFirings};
 
-use crate::firing::Firing;
+use crate::firing::{Firing, Rest};
 use crate::held::Held;
 use device_eval::Fired;
 use fc_values::Memory;
@@ -99,15 +99,16 @@ impl Shared {
         self.lock.join(pass, other);
     }
 
-    /// Begins the smallest device that may begin, in a room, or hands the room back.
-    pub fn next<W: Wait>(&self, rt: &W, pass: &mut Pass<Held>, room: Room) -> Result<Firing, Room>
+    /// Begins the smallest device that may begin, in a room, or hands the room back and says whether each device has
+    /// begun all its firings.
+    pub fn next<W: Wait>(&self, rt: &W, pass: &mut Pass<Held>, room: Room) -> Result<Firing, Rest>
         requires own { IsPassOf self.now pass.old }
         requires some { 0 < pass.old.left }
         requires room { IsRoom (unfolding_of self.now.opening.program) room }
         ensures began { IfOk result (Began self.now.opening (on_log pass.old) (on_log pass.new)) }
         ensures may_end { IfOk result (CanEnd self.now.opening (on_log pass.new)) }
-        ensures rested { OnErr result (Rested self.now.opening (on_log pass.old) (on_log pass.new)) }
-        ensures back { IfErr result (λ r. r ≡ room) }
+        ensures rested { IfErr result (λ r. Rested self.now.opening (on_log pass.old) (on_log pass.new) r.is_over) }
+        ensures back { IfErr result (λ r. r.room ≡ room) }
         ensures own { IsPassOf self.now pass.new }
         ensures keeps { KeepsFirings self.now.opening (on_log pass.old) (on_log pass.new) }
         ensures after { IsAfterTurn pass.old pass.new }
@@ -115,17 +116,15 @@ impl Shared {
         self.lock.turn(
             rt,
             pass,
-            |held: &mut Held| -> Result<Firing, Room>
+            |held: &mut Held| -> Result<Firing, Rest>
                 requires turn { HasTurn held.old }
                 requires room { IsRoom (unfolding_of held.old.book.program) room }
                 ensures begins { IfOk result (Begins held.old held.new) }
-                ensures rests { IfErr result (λ r. Rests held.old held.new × (r ≡ room)) }
+                ensures rests { IfErr result (λ r. Rests held.old held.new r.is_over × (r.room ≡ room)) }
             {
                 let place = held.len();
-                match held.next(room) {
-                    Ok((device, snap)) => Ok(Firing::new(device, place, snap)),
-                    Err(room) => Err(room),
-                }
+                let (device, snap) = held.next(room)?;
+                Ok(Firing::new(device, place, snap))
             },
         )
     }
@@ -189,6 +188,7 @@ impl Shared {
         requires last { (pass.name ≡ []) × (pass.out ≡ []) }
         ensures closes { Closes self.opening (on_log pass) result }
         ensures within { BeginsWithin self.opening (entries_of result.log) }
+        ensures next { EachIsNext self.opening (entries_of result.log) }
     {
         let Shared { lock, opened: _ } = self;
         lock.close(pass).into_book()

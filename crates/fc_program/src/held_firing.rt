@@ -61,12 +61,12 @@ impl Gate for FirstHeld {
     }
 }
 
-// Whether an entry begins a firing of a device, and whether it ends one.
-fn begins(entry: &Entry, device: u64) -> bool {
+/// Whether an entry begins a firing of a device, and whether it ends one.
+pub(crate) fn begins(entry: &Entry, device: u64) -> bool {
     matches!(entry, Entry::Begin(begun) if *begun as u64 == device)
 }
 
-fn ends(entry: &Entry, device: u64) -> bool {
+pub(crate) fn ends(entry: &Entry, device: u64) -> bool {
     matches!(entry, Entry::End(ended) if *ended as u64 == device)
 }
 

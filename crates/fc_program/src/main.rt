@@ -7,6 +7,8 @@ mod ending;
 #[cfg(test)]
 mod held_firing;
 #[cfg(test)]
+mod held_mix;
+#[cfg(test)]
 mod hostile_rows;
 mod judging;
 #[cfg(test)]

@@ -1,6 +1,6 @@
 //! Tables over a book of two devices.
 
-ghost use Rattle.std.specs.Prelude.{◌≡◌, ◌<◌, ◌≤◌, ◌+◌, ◌++◌, ◌∷◌, ℕ, [], IfOk, IfSome, map, None};
+ghost use Rattle.std.specs.Prelude.{◌≡◌, ◌<◌, ◌≤◌, ◌+◌, ◌++◌, ◌∷◌, ℕ, [], IfOk, map, None};
 ghost use Rattle.std.specs.Thread.{IsSync};
 ghost use Rattle.fc_values.specs.Types.{declarations_of, TypeLocal, IntType};
 ghost use Rattle.fc_values.specs.Values.{IntValue};
@@ -76,29 +76,29 @@ fn book(alloc: Global, program: &Arc<Unfolded>) -> Result<Book, Fail>
     }
 }
 
-// Begins a firing, where one is left.
+// Begins a firing, or says whether all is over, where there is memory for a room.
 fn begin<W: Wait>(
     rt: &W,
     alloc: Global,
     table: &Shared,
     program: &Arc<Unfolded>,
     pass: &mut Pass<Held>,
-) -> Option<Firing>
+) -> Result<Firing, Option<bool>>
     requires own { IsPassOf table.now pass.old }
     requires turns { 0 < pass.old.left }
     requires program { program.now.value ≡ table.now.opening.program }
-    ensures may_end { IfSome result (CanEnd table.now.opening (on_log pass.new)) }
+    ensures may_end { IfOk result (CanEnd table.now.opening (on_log pass.new)) }
     ensures keeps { KeepsFirings table.now.opening (on_log pass.old) (on_log pass.new) }
     ensures own { IsPassOf table.now pass.new }
     ensures same { (pass.new.name ≡ pass.old.name) × (pass.new.out ≡ pass.old.out) }
     ensures left { pass.old.left ≤ pass.new.left + 1 }
 {
     let Ok(room) = Room::new(alloc, program) else {
-        return None;
+        return Err(None);
     };
     match table.next(rt, pass, room) {
-        Ok(firing) => Some(firing),
-        Err(_) => None,
+        Ok(firing) => Ok(firing),
+        Err(rest) => Err(Some(rest.is_over)),
     }
 }
 
@@ -144,8 +144,8 @@ fn fire_once<W: Wait>(
     ensures left { pass.old.left ≤ pass.new.left + 2 }
 {
     match begin(rt, alloc, table, program, pass) {
-        Some(firing) => finish(rt, alloc, table, program, pass, firing),
-        None => false,
+        Ok(firing) => finish(rt, alloc, table, program, pass, firing),
+        Err(_) => false,
     }
 }
 
@@ -194,16 +194,16 @@ fn two_passes_by_hand(rt: HostRuntime) -> Result<(), Fail> {
         return Err(Fail::new("no table"));
     };
     let mut other = table.split(&mut pass, 4);
-    let Some(first) = begin(&rt, alloc, &table, &program, &mut pass) else {
+    let Ok(first) = begin(&rt, alloc, &table, &program, &mut pass) else {
         panic!(rt; "nothing begun")
     };
-    let Some(second) = begin(&rt, alloc, &table, &program, &mut other) else {
+    let Ok(second) = begin(&rt, alloc, &table, &program, &mut other) else {
         panic!(rt; "nothing begun")
     };
     assert!(rt; first.device() == 0 && first.place() == 0);
     assert!(rt; second.device() == 1 && second.place() == 1);
     let third = begin(&rt, alloc, &table, &program, &mut pass);
-    assert!(rt; third.is_none());
+    assert!(rt; matches!(third, Err(Some(true))));
     let looped = edit_beside(&rt, alloc, &table, &mut pass, Edit::Link(0, 0, 1), &first);
     assert_eq!(rt; looped, Err(EditFault::Net(NetFault::SelfLink)));
     assert!(rt; finish(&rt, alloc, &table, &program, &mut pass, first));
@@ -219,6 +219,43 @@ fn two_passes_by_hand(rt: HostRuntime) -> Result<(), Fail> {
     Ok(())
 }
 
+// The second round waits for the end of device 0 in the first, and all is over once device 1 has begun its second
+// firing. In the first round no device sees a neighbour, so its value is 5; in the second each sees the other one, and
+// the least of 1 + 1 and 5 is 2.
+#[test]
+fn second_round_waits(rt: HostRuntime) -> Result<(), Fail> {
+    let alloc = rt.alloc();
+    let program = Arc::new(alloc, pair_program(alloc, 10, 1, 1, 5)?)?;
+    let Ok((table, mut pass)) = Shared::over(alloc, book(alloc, &program)?, 2, 10) else {
+        return Err(Fail::new("no table"));
+    };
+    let mut slow = table.split(&mut pass, 4);
+    let Ok(held) = begin(&rt, alloc, &table, &program, &mut slow) else {
+        panic!(rt; "nothing begun")
+    };
+    assert!(rt; fire_once(&rt, alloc, &table, &program, &mut pass));
+    let early = begin(&rt, alloc, &table, &program, &mut pass);
+    assert!(rt; matches!(early, Err(Some(false))));
+    assert!(rt; finish(&rt, alloc, &table, &program, &mut slow, held));
+    assert!(rt; fire_once(&rt, alloc, &table, &program, &mut pass));
+    let Ok(last) = begin(&rt, alloc, &table, &program, &mut slow) else {
+        panic!(rt; "nothing begun")
+    };
+    let late = begin(&rt, alloc, &table, &program, &mut pass);
+    assert!(rt; matches!(late, Err(Some(true))));
+    assert!(rt; finish(&rt, alloc, &table, &program, &mut slow, last));
+    table.join(&mut pass, slow);
+    let book = table.close(pass);
+    let log = book.log();
+    assert_eq!(rt; log.len(), 10);
+    assert!(rt; is_begin(&log[0], 0) && is_begin(&log[1], 1) && is_end(&log[2], 1));
+    assert!(rt; matches!(log[3], Entry::Idle) && is_end(&log[4], 0));
+    assert!(rt; is_begin(&log[5], 0) && is_end(&log[6], 0));
+    assert!(rt; is_begin(&log[7], 1) && matches!(log[8], Entry::Idle) && is_end(&log[9], 1));
+    assert!(rt; shows(&book, 0, 2) && shows(&book, 1, 2));
+    Ok(())
+}
+
 #[test]
 fn edits_stand_among_firings(rt: HostRuntime) -> Result<(), Fail> {
     let alloc = rt.alloc();
@@ -226,7 +263,7 @@ fn edits_stand_among_firings(rt: HostRuntime) -> Result<(), Fail> {
     let Ok((table, mut pass)) = Shared::over(alloc, book(alloc, &program)?, 1, 11) else {
         return Err(Fail::new("no table"));
     };
-    let Some(first) = begin(&rt, alloc, &table, &program, &mut pass) else {
+    let Ok(first) = begin(&rt, alloc, &table, &program, &mut pass) else {
         panic!(rt; "nothing begun")
     };
     let flies = edit_beside(&rt, alloc, &table, &mut pass, Edit::Leave(0), &first);
@@ -245,7 +282,8 @@ fn edits_stand_among_firings(rt: HostRuntime) -> Result<(), Fail> {
     );
     assert!(rt; fire_once(&rt, alloc, &table, &program, &mut pass));
     assert!(rt; fire_once(&rt, alloc, &table, &program, &mut pass));
-    assert!(rt; begin(&rt, alloc, &table, &program, &mut pass).is_none());
+    let none = begin(&rt, alloc, &table, &program, &mut pass);
+    assert!(rt; matches!(none, Err(Some(true))));
     let book = table.close(pass);
     let log = book.log();
     assert_eq!(rt; log.len(), 11);

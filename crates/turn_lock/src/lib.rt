@@ -5,5 +5,6 @@ mod kinds;
 mod lock;
 pub mod notes;
 mod views;
+mod waiting;
 
 pub use lock::{Logged, Pass, TurnLock};

@@ -6,13 +6,21 @@ ghost use Rattle.turn_lock.specs.declared.views.Stage.TheVariants.{Idle};
 
 use crate::kinds::{Amount, Cut, Draw, Glue, InTurn, Look, Opening, Serve, Tell};
 use crate::views::SeatView;
+use crate::waiting::Looks;
 use atomic_table::{Refused, Seat, Table};
 use fc_values::Memory;
 use std::alloc::Global;
+use std::hint::spin_loop;
 use std::marker::{Brand, Model};
 use std::snapshot::Snapshot;
 use std::sync::Wait;
-use std::thread;
+use std::sync::atomic::{AtomicU64, Ordering};
+use std::time::Duration;
+
+// The part of a word on which a thread can sleep.
+fn low_half(word: u64) -> u32 {
+    (word & 0xffff_ffff) as u32
+}
 
 /// A value that stores a list of entries, to which the turns of a lock append.
 pub trait Logged {
@@ -34,6 +42,8 @@ pub trait Logged {
 /// A lock round a value. In contracts it is the identity of its table.
 pub struct TurnLock<T: Logged> {
     table: Table<Option<T>, SeatView<T::Entry>, Opening<T>, InTurn<T>, Global>,
+    // how many threads sleep until their ticket is served
+    asleep: AtomicU64,
 }
 
 impl<T: Logged> Model for TurnLock<T> {
@@ -96,7 +106,10 @@ impl<T: Logged> TurnLock<T> {
         }
         slots.push_reserved(Some(value));
         match Table::new(alloc, &[0, 0], slots, &opening) {
-            Ok((table, seat)) => Ok((TurnLock { table }, Pass { left: turns, seat })),
+            Ok((table, seat)) => {
+                let asleep = AtomicU64::new(0);
+                Ok((TurnLock { table, asleep }, Pass { left: turns, seat }))
+            }
             Err(Refused { mut slots }) => {
                 let value = slots.pop().unwrap().unwrap();
                 slots.destroy_empty();
@@ -160,18 +173,24 @@ impl<T: Logged> TurnLock<T> {
         let left = shared.exchange(&mut pass.seat, 0, Some(value));
         let None = left else { unreachable!() };
         shared.fetch_add::<Serve<T>>(&mut pass.seat, 1, 1);
+        self.wake();
         pass.left -= 1;
         answer
     }
 
-    // Looks until nobody seems to have a ticket. In a queue of many, each turn waits for a thread that may not run.
+    // Waits until nobody seems to have a ticket. In a queue of many, each turn waits for a thread that may not run.
     fn await_rest<W: Wait>(&self, rt: &W) {
         let shared = &self.table.shared;
+        let mut looks = Looks::none();
         for _ in rt.forever() {
-            if shared.peek(0) == shared.peek(1) {
+            let served = shared.peek(1);
+            if shared.peek(0) == served {
                 return;
             }
-            thread::yield_now();
+            match looks.sleep() {
+                Some(time) => shared.park_timeout(rt, 1, low_half(served), time),
+                None => spin_loop(),
+            }
         }
     }
 
@@ -186,13 +205,35 @@ impl<T: Logged> TurnLock<T> {
         let shared = &self.table.shared;
         self.await_rest(rt);
         let ticket = shared.fetch_add::<Draw>(seat, 0, 1);
+        let mut looks = Looks::none();
         for _ in rt.forever() {
-            if shared.load::<Look<T>>(seat, 1) == ticket {
+            let served = shared.load::<Look<T>>(seat, 1);
+            if served == ticket {
                 return;
             }
-            thread::yield_now();
+            match looks.sleep() {
+                Some(time) => self.sleep(rt, served, time),
+                None => spin_loop(),
+            }
         }
         unreachable!()
+    }
+
+    // Sleeps until another ticket than this one is served, or for so long. Who sleeps is counted before the word is
+    // looked at once more, and who serves looks at the count after the word has changed: so no wake is lost.
+    fn sleep<W: Wait>(&self, rt: &W, served: u64, time: Duration) {
+        self.asleep.fetch_add(1, Ordering::SeqCst);
+        self.table
+            .shared
+            .park_timeout(rt, 1, low_half(served), time);
+        self.asleep.fetch_sub(1, Ordering::SeqCst);
+    }
+
+    // Wakes those who wait for their ticket, where somebody sleeps.
+    fn wake(&self) {
+        if self.asleep.load(Ordering::SeqCst) != 0 {
+            self.table.shared.wake_all(1);
+        }
     }
 
     /// The value, for the one pass that is left.
@@ -201,7 +242,7 @@ impl<T: Logged> TurnLock<T> {
         requires last { (pass.name ≡ []) × (pass.out ≡ []) }
         ensures { Closed T.list pass result }
     {
-        let TurnLock { table } = self;
+        let TurnLock { table, asleep: _ } = self;
         let Pass { left: _, seat } = pass;
         let mut closed = table.close_with(seat);
         let slot = closed.take(0);

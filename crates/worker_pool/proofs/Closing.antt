@@ -7,7 +7,7 @@ use Rattle.fc_values.specs.Fields.{is_in}
 use Rattle.fc_nodes.specs.Program.{Program, unfolding_of}
 use Rattle.topology.specs.Networks.{Network, NetDevice, IsNetwork, DevicesFit, Lives, numbers}
 use Rattle.fc_values.specs.Types.{Declarations}
-use Rattle.firing_core.specs.Entries.{EntryValue, BeginEntry, EndEntry, IdleEntry, EditEntry, entry_of, entries_of}
+use Rattle.firing_core.specs.Entries.{EntryValue, entry_of, entries_of}
 use Rattle.firing_core.specs.Cores.{Core, Run}
 use Rattle.firing_core.specs.CoreViews.{CoreValue, core_of}
 use Rattle.firing_core.specs.Books.{BookValue, IsBook}
@@ -18,47 +18,22 @@ use Rattle.turn_lock.specs.Logs.{StartsWith, In}
 use Rattle.turn_lock.specs.Passes.{PassView, opened}
 use Rattle.atomic_table.specs.Seated.{TableId}
 use Rattle.export_table.specs.Items.{Opening}
-use Rattle.export_table.specs.Begins.{is_join, has_join, since_join}
-use Rattle.export_table.specs.Holding.{opening_of, BeginsWithin}
+use Rattle.export_table.specs.Begins.{since_join}
+use Rattle.export_table.specs.Holding.{opening_of, BeginsWithin, EachIsNext}
 use Rattle.export_table.specs.Turns.{Closes}
 use Rattle.worker_pool.specs.Working.{FiredOn}
 use Rattle.worker_pool.specs.Rounding.{FiredTogether}
 use Rattle.worker_pool.proofs.Parts.{run_cut}
 use Rattle.worker_pool.proofs.Passes.{starts_trans}
+use Rattle.worker_pool.proofs.Choosing.{plain_calm, none_joins, since_none, book_turns}
 
 -- ---- the entries of a pass
-
-pub entries_in : List (ℕ × EntryValue) → List EntryValue
-entries_in mine = map (λ (z : ℕ × EntryValue). z.1) mine
 
 pub plain_entries : (mine : List (ℕ × EntryValue)) → ((p : ℕ) (e : EntryValue) → In (p, e) mine → is_edit e ≡ false) → has_edit (map (λ (z : ℕ × EntryValue). z.1) mine) ≡ false
 plain_entries [] f = refl
 plain_entries (z ∷ zs) f = rw (f z.0 z.1 (inl refl)) (plain_entries zs (λ p e i. f p e (inr i)))
 
--- ---- begins where no device joins
-
-plain_join_none : (d : ℕ) (e : EntryValue) → is_edit e ≡ false → is_join d e ≡ false
-plain_join_none d (BeginEntry x) p = refl
-plain_join_none d (EndEntry x) p = refl
-plain_join_none d IdleEntry p = refl
-plain_join_none d (EditEntry x) p = absurd cc
-
-pub none_joins : (d : ℕ) (es : List EntryValue) → has_edit es ≡ false → has_join d es ≡ false
-none_joins d [] p = refl
-none_joins d (e ∷ es) p = by_tests (is_edit e) refl p (none_joins d es)
-  where
-    by_tests : (b : Bool) → is_edit e ≡ b → (b || has_edit es) ≡ false → (has_edit es ≡ false → has_join d es ≡ false) → (is_join d e || has_join d es) ≡ false
-    by_tests true q p ih = absurd cc
-    by_tests false q p ih = rw (plain_join_none d e q) (ih p)
-
-pub since_none : (d : ℕ) (es : List EntryValue) → has_join d es ≡ false → since_join d es ≡ es
-since_none d [] p = refl
-since_none d (e ∷ es) p = by_tests (is_join d e) (has_join d es) refl refl p
-  where
-    by_tests : (a b : Bool) → is_join d e ≡ a → has_join d es ≡ b → (a || b) ≡ false → since_join d (e ∷ es) ≡ e ∷ es
-    by_tests true b q r h = absurd cc
-    by_tests false true q r h = absurd cc
-    by_tests false false q r h = rw (q, r) refl
+-- ---- numbers of devices
 
 -- a device that is there has a number that devices may have
 number_in : (D : Declarations) (ns : List NetDevice) (d : ℕ) → DevicesFit D ns → is_in d (numbers ns) ≡ true → d < 65536
@@ -96,24 +71,29 @@ closed_run o v old new part one was is program start c log =
     let same : k.0 ≡ core_of old.core = one U (core_of old.start) k.0 (core_of old.core) (entries_of old.log) was.good k.1 was.runs in
     subst (λ (m : Core). Run U m part (core_of new.core)) same k.2
 
--- a table of one firing a device, in which workers fired
-pub fired_together : (lock : TableId) (turns : ℕ) (v : PassView EntryValue) (old new : BookValue) → LogsLeadToOne → IsBook old → IsBook new → IsNetwork (core_of old.core).net
-    → FiredOn (opened lock (entries_of old.log) turns) v → Closes (opening_of old 1 turns (length old.log)) v new → BeginsWithin (opening_of old 1 turns (length old.log)) (entries_of new.log)
-    → FiredTogether old new
-fired_together lock turns v old new one was is net f c within =
-    let o = opening_of old 1 turns (length old.log) in
+-- a table in which workers fired
+pub fired_together : (lock : TableId) (rounds turns most : ℕ) (v : PassView EntryValue) (old new : BookValue) → LogsLeadToOne → IsBook old → IsBook new → IsNetwork (core_of old.core).net → rounds ≤ most
+    → FiredOn (opened lock (entries_of old.log) turns) v → Closes (opening_of old rounds turns (length old.log)) v new → BeginsWithin (opening_of old rounds turns (length old.log)) (entries_of new.log)
+    → EachIsNext (opening_of old rounds turns (length old.log)) (entries_of new.log) → FiredTogether most old new
+fired_together lock rounds turns most v old new one was is net few f c within next =
+    let o = opening_of old rounds turns (length old.log) in
     let part = map (λ (z : ℕ × EntryValue). z.1) v.mine in
     let log = closed_log o v old new c refl f.begins in
     let plain : has_edit part ≡ false = plain_entries v.mine (λ p e i. ⊎_elim (λ t. absurd t) (λ t. t) (f.plain p e i)) in
+    let leads = closed_run o v old new part one was is refl refl c log in
     record {
+      network = net;
       part = part;
       ran = record {
         program = c.program;
         start = c.start;
         log = log;
-        leads = closed_run o v old new part one was is refl refl c log;
+        leads = leads;
         plain = plain;
       };
-      once = λ d t. subst (λ (l : List EntryValue). begins d l ≤ 1) (since_none d part (none_joins d part plain))
-          (subst (λ (l : List EntryValue). begins d (since_join d l) ≤ 1) c.whole (within d (live_number (core_of old.core).net d net t)));
+      turns = book_turns o old new part was refl refl refl next log (plain_calm part plain) leads;
+      most = λ d t.
+          let b = subst (λ (l : List EntryValue). begins d l ≤ rounds) (since_none d part (none_joins d part (plain_calm part plain)))
+          (subst (λ (l : List EntryValue). begins d (since_join d l) ≤ rounds) c.whole (within d (live_number (core_of old.core).net d net t))) in
+          omega (arith, b, few);
     }

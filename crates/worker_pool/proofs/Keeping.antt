@@ -1,5 +1,6 @@
 -- The rooms that workers keep: lists of them are cut and put together.
-use Rattle.std.proofs.Common.{ℕ, zero, suc, List, [], ◌∷◌, ◌++◌, drop, take, length, Option, None, ◌≡◌, sym, subst}
+use Rattle.std.proofs.Common.{ℕ, zero, suc, List, [], ◌∷◌, ◌++◌, drop, take, length, Option, None, ◌≡◌, sym, ap, subst, arith}
+use Rattle.std.proofs.lemmas.List.{length-append}
 use Rattle.fc_nodes.specs.Program.{Program, Unfolding, unfolding_of}
 use Rattle.firing_core.specs.Rooms.{RoomValue}
 use Rattle.worker_pool.specs.Working.{AreRooms}
@@ -50,3 +51,7 @@ rooms_lent p q all xs ys same is r = rooms_of_same p q xs (sym same) (rooms_cut 
 
 pub rooms_home : (p q : Program) (all xs ys new : List (Option RoomValue)) → q ≡ p → all ≡ xs ++ ys → AreRooms (unfolding_of p) all → AreRooms (unfolding_of q) new → AreRooms (unfolding_of p) (new ++ ys)
 rooms_home p q all xs ys new same is r n = rooms_both (unfolding_of p) new ys (rooms_of_same q p new same n) (rooms_cut (unfolding_of p) all xs ys is r).0
+
+pub rooms_many : (all xs ys new rest : List (Option RoomValue)) → all ≡ xs ++ ys → length new ≡ length xs → length rest ≡ length ys → length (new ++ rest) ≡ length all
+rooms_many all xs ys new rest is a b =
+    let n = length-append new rest in let m = length-append xs ys in let e = ap length is in omega (arith, n, m, e, a, b)

@@ -1,10 +1,13 @@
 mod Parts
 mod Passes
 mod Keeping
-mod RoomsCross
+mod Crosses
 mod Turns
-mod Closing
 mod Flights
+mod InTurn
+mod PacedRounds
+mod Choosing
+mod Closing
 mod Stretching
 mod OneByOne
 mod Mixing

@@ -1,6 +1,6 @@
 -- What a table with an edit, what is fired after it, and the rounds behind it make of a book.
 use Rattle.std.proofs.Common.{◌≡◌, ℕ, ◌+◌, ◌≤◌, List, [], ◌∷◌, ◌++◌, map, drop, length, refl, sym, ap, ◌∙◌, subst, arith, true, Result, Ok, Err, IfOk, IfErr}
-use Rattle.std.proofs.lemmas.List.{append_assoc, length-map}
+use Rattle.std.proofs.lemmas.List.{append_assoc, length-append, length-map}
 use Rattle.std.proofs.Math.Seq.{drop-append_seam}
 use Rattle.fc_values.specs.Fields.{is_in}
 use Rattle.fc_nodes.specs.Program.{Program, Unfolding, unfolding_of}
@@ -17,7 +17,8 @@ use Rattle.atomic_table.specs.Seated.{TableId}
 use Rattle.export_table.specs.Firings.{FiringValue}
 use Rattle.export_table.specs.Holding.{opening_of}
 use Rattle.export_table.specs.Turns.{Began, Closes}
-use Rattle.worker_pool.specs.Rounding.{RanOn, AtMostOnce, Completes}
+use Rattle.worker_pool.specs.Pacing.{IsOrdered}
+use Rattle.worker_pool.specs.Rounding.{RanOn, IsGreatest, Completes}
 use Rattle.worker_pool.specs.Mixing.{WentOn, MixedTogether}
 use Rattle.worker_pool.proofs.Passes.{starts_trans}
 use Rattle.firing_core.proofs.Cuts.{run_join}
@@ -42,18 +43,21 @@ grew_caller lock turns share old new v1 v2 v3 v4 f b kept went seen c =
 behind_mixed : (old new : BookValue) (part : List EntryValue) → entries_of new.log ≡ entries_of old.log ++ part → drop (length old.log) (entries_of new.log) ≡ part
 behind_mixed old new part e = (λ i. drop (sym (length-map old.log entry_of) i) (e i)) ∙ drop-append_seam (entries_of old.log) part
 
-pub once_mixed : (old new : BookValue) (e : EditValue) → MixedTogether old e new → AtMostOnce (core_of new.core).net (drop (length old.log) (entries_of new.log))
-once_mixed old new e m d live = subst (λ (l : List EntryValue). begins d l ≤ 1) (sym (behind_mixed old new _ m.log)) (m.once d (subst (λ ns. is_in d ns ≡ true) m.devices live))
+pub ordered_mixed : (old new : BookValue) (e : EditValue) → MixedTogether old e new → IsOrdered (numbers new.core.net.devices) (drop (length old.log) (entries_of new.log))
+ordered_mixed old new e m = subst (λ (z : List ℕ × List EntryValue). IsOrdered z.0 z.1) (λ i. (sym m.devices i, sym (behind_mixed old new _ m.log) i)) m.ordered
+
+-- one firing is the greatest number
+pub one_mixed : (old new : BookValue) (e : EditValue) (rounds : ℕ) → MixedTogether old e new → IsGreatest new.core.net (drop (length old.log) (entries_of new.log)) rounds → rounds ≡ 1
+one_mixed old new e rounds m g =
+    let least = g.least 1 (omega arith) (λ d live. subst (λ (l : List EntryValue). begins d l ≤ 1) (sym (behind_mixed old new _ m.log)) (m.once d (subst (λ ns. is_in d ns ≡ true) m.devices live))) in
+    let some = g.some in
+    omega (arith, least, some)
 
 pub front_mixed : (old new : BookValue) (e : EditValue) → MixedTogether old e new → length old.log ≤ length new.log
 front_mixed old new e m =
-    let a = sym (length-map new.log entry_of) ∙ (ap length m.log ∙ length_join (entries_of old.log) _) in
+    let a = sym (length-map new.log entry_of) ∙ (ap length m.log ∙ length-append (entries_of old.log) _) in
     let k = length-map old.log entry_of in
     omega (arith, a, k)
-  where
-    length_join : (xs ys : List EntryValue) → length (xs ++ ys) ≡ length xs + length ys
-    length_join [] ys = omega arith
-    length_join (x ∷ xs) ys = let ih = length_join xs ys in omega (arith, ih)
 
 glue : (A M P Q R : List EntryValue) (x y : EntryValue) → (A ++ (x ∷ M ++ y ∷ P)) ++ (Q ++ R) ≡ A ++ x ∷ M ++ y ∷ ((P ++ Q) ++ R)
 glue [] M P Q R x y = ap (λ (l : List EntryValue). x ∷ l) (inner M)
@@ -64,7 +68,7 @@ glue [] M P Q R x y = ap (λ (l : List EntryValue). x ∷ l) (inner M)
 glue (a ∷ more) M P Q R x y = ap (λ (l : List EntryValue). a ∷ l) (glue more M P Q R x y)
 
 module _ (old mid mix done new : BookValue) (ds : List ℕ) (e : EditValue) (rounds : ℕ)
-    (f : EndsFlights old mid ds) (m : MixedTogether mid e mix) (c : Completes (length mid.log) mix done) (g : RanRounds done rounds new) where
+    (f : EndsFlights old mid ds) (m : MixedTogether mid e mix) (c : Completes (length mid.log) 1 mix done) (g : RanRounds done rounds new) where
   abbrev U : Unfolding
   U = unfolding_of old.program
 
@@ -158,8 +162,8 @@ module _ (old mid mix done new : BookValue) (ds : List ℕ) (e : EditValue) (rou
     };
   }
 
-pub grew_done : (old mid mix done : BookValue) (ds : List ℕ) (e : EditValue) (front : ℕ) → EndsFlights old mid ds → MixedTogether mid e mix → Completes front mix done → GrewFrom old done
-grew_done old mid mix done ds e front f m c =
+pub grew_done : (old mid mix done : BookValue) (ds : List ℕ) (e : EditValue) (front rounds : ℕ) → EndsFlights old mid ds → MixedTogether mid e mix → Completes front rounds mix done → GrewFrom old done
+grew_done old mid mix done ds e front rounds f m c =
     grew_more old mid done (grew_ran old mid (entries_of (ends_of ds)) (ran_ends old mid ds f)) (grew_more mid mix done (grew_mixed mid mix e m) (grew_ran mix done c.part c.ran))
 
 pub ok_each : {A E : Type 0} {P Q : A → Type 0} (r : Result A E) → ((x : A) → P x → Q x) → IfOk r P → IfOk r Q

@@ -1,15 +1,13 @@
 -- A table in which an edit stands among firings.
 use Rattle.std.proofs.Common.{◌≡◌, ℕ, ◌+◌, ◌≤◌, List, [], ◌∷◌, ◌++◌, map, drop, length, refl, sym, ap, ◌∙◌, subst, arith, inl, inr, ◌⊎◌, ⊎_elim, Bool, true, false, ◌||◌, nat_lt, if◌then◌else◌, None}
-use Rattle.std.proofs.lemmas.Bool.{eq-eqb}
-use Rattle.std.proofs.lemmas.List.{length-map}
+use Rattle.std.proofs.lemmas.Bool.{eq-eqb, ltb-true, ltb-false}
+use Rattle.std.proofs.lemmas.List.{length-append, length-map}
 use Rattle.std.proofs.Math.Seq.{drop-append_seam, drop-length}
-use Rattle.fc_values.proofs.Booleans.{or_no}
-use Rattle.fc_values.specs.Fields.{is_in}
 use Rattle.fc_nodes.specs.Program.{Unfolding, unfolding_of}
-use Rattle.topology.specs.Networks.{Network, NetDevice, IsNetwork, Lives, numbers}
+use Rattle.topology.specs.Networks.{IsNetwork, Lives, numbers}
 use Rattle.fc_values.specs.Trees.{Copy}
-use Rattle.firing_core.specs.Entries.{EditValue, LinkEdit, UnlinkEdit, SetEdit, PokeEdit, JoinEdit, LeaveEdit, EntryValue, BeginEntry, EndEntry, IdleEntry, EditEntry, entry_of, entries_of}
-use Rattle.firing_core.specs.Cores.{Core, Step, Run, edited}
+use Rattle.firing_core.specs.Entries.{EditValue, EntryValue, BeginEntry, EndEntry, IdleEntry, EditEntry, entry_of, entries_of}
+use Rattle.firing_core.specs.Cores.{Core, Step, Run}
 use Rattle.firing_core.specs.CoreViews.{core_of}
 use Rattle.firing_core.specs.Books.{BookValue, IsBook}
 use Rattle.firing_core.specs.Laws.{LogsLeadToOne}
@@ -20,18 +18,20 @@ use Rattle.turn_lock.specs.Passes.{PassView, opened, kept_part, new_part, joined
 use Rattle.turn_lock.proofs.Lists.{in_snoc, from_merged}
 use Rattle.atomic_table.specs.Seated.{TableId}
 use Rattle.export_table.specs.Items.{Opening}
-use Rattle.export_table.specs.Begins.{joins, is_join, has_join, since_join, begun_in, IsNext}
-use Rattle.export_table.specs.Holding.{opening_of, BeginsWithin, NothingLeft}
+use Rattle.export_table.specs.Begins.{since_join, begun_in, MayBegin, IsNext, NoneMayBegin}
+use Rattle.export_table.specs.Holding.{opening_of, BeginsWithin, EachIsNext}
 use Rattle.export_table.specs.Firings.{FiringValue}
 use Rattle.export_table.specs.Turns.{TookTurn, Began, Rested, Closes}
 use Rattle.worker_pool.specs.Working.{FiredOn}
-use Rattle.worker_pool.specs.Rounding.{AtMostOnce}
+use Rattle.worker_pool.specs.Pacing.{IsOrdered}
+use Rattle.worker_pool.specs.Rounding.{AtMost}
 use Rattle.worker_pool.specs.Mixing.{EditedThenEnded, MixedTogether}
-use Rattle.firing_core.proofs.Cuts.{plain_net}
-use Rattle.firing_core.proofs.Mixed.{mixed_numbers}
-use Rattle.worker_pool.proofs.Parts.{run_cut, end_front}
+use Rattle.worker_pool.proofs.Parts.{end_front}
+use Rattle.worker_pool.proofs.InTurn.{append_none, turn_ordered}
+use Rattle.worker_pool.proofs.Choosing.{AreCalm, plain_calm, calm_join, calm_numbers, none_joins, since_none, book_turns}
+use Rattle.worker_pool.proofs.Stretching.{first_device}
 use Rattle.worker_pool.proofs.Passes.{starts_trans}
-use Rattle.worker_pool.proofs.Closing.{closed_run, plain_entries, none_joins, since_none, live_number}
+use Rattle.worker_pool.proofs.Closing.{closed_run, plain_entries, live_number}
 use Rattle.worker_pool.proofs.Flights.{grounded}
 
 -- ---- the one edit of a pass
@@ -106,50 +106,19 @@ ends_twice U d (x ∷ xs) ys c last r b (inr h) g = ends_twice U d xs ys r.0 las
     less true z = absurd (omega (arith, z))
     less false z = z
 
--- ---- an edit that is no join and no leave
+-- ---- the entries of a table with one edit
 
-mixed_joins : (d : ℕ) (e : EditValue) → IsMixed e → joins d e ≡ false
-mixed_joins d (LinkEdit a b w) m = refl
-mixed_joins d (UnlinkEdit a b) m = refl
-mixed_joins d (SetEdit x i v) m = refl
-mixed_joins d (PokeEdit x v) m = refl
-mixed_joins d (JoinEdit x) m = absurd m
-mixed_joins d (LeaveEdit x) m = absurd m
-
-join_append : (d : ℕ) (xs ys : List EntryValue) → has_join d xs ≡ false → has_join d ys ≡ false → has_join d (xs ++ ys) ≡ false
-join_append d [] ys p q = q
-join_append d (x ∷ xs) ys p q = let k = or_no (is_join d x) (has_join d xs) p in rw (k.0) (join_append d xs ys k.1 q)
-
-mixed_none : (d first : ℕ) (among after : List EntryValue) (e : EditValue) → IsMixed e → has_edit among ≡ false → has_edit after ≡ false → has_join d (BeginEntry first ∷ among ++ EditEntry e ∷ after) ≡ false
-mixed_none d first among after e m p q = join_append d among (EditEntry e ∷ after) (none_joins d among p) (rw (mixed_joins d e m) (none_joins d after q))
-
-same_numbers : (U : Unfolding) (c last : Core) (first : ℕ) (among after : List EntryValue) (e : EditValue) → IsMixed e → has_edit among ≡ false → has_edit after ≡ false
-    → Run U c (BeginEntry first ∷ among ++ EditEntry e ∷ after) last → numbers last.net.devices ≡ numbers c.net.devices
-same_numbers U c last first among after e m p q r =
-    let k = run_cut U c last (BeginEntry first ∷ among) (EditEntry e ∷ after) r in
-    let s = k.2 in
-    let f = plain_net U c k.0 (BeginEntry first ∷ among) p k.1 in
-    let g = plain_net U s.0 last after q s.2 in
-    ap (λ (n : Network). numbers n.devices) g
-    ∙ (ap (λ (t : Core). numbers t.net.devices) (s.1).after
-    ∙ (mixed_numbers U k.0 e m ∙ ap (λ (n : Network). numbers n.devices) f))
+mixed_calm : (first : ℕ) (among after : List EntryValue) (e : EditValue) → IsMixed e → has_edit among ≡ false → has_edit after ≡ false → AreCalm (BeginEntry first ∷ among ++ EditEntry e ∷ after)
+mixed_calm first among after e m p q = (tt, calm_join among (EditEntry e ∷ after) (plain_calm among p) (m, plain_calm after q))
 
 -- ---- the first firing
 
 start_long : (xs ys : List EntryValue) → StartsWith xs ys → length xs ≤ length ys → xs ≡ ys
-start_long xs ys s l = s.1 ∙ (ap (λ r. ys ++ r) (short s.0 (let e = ap length s.1 in let j = length_join ys s.0 in omega (arith, e, j, l))) ∙ sym (append_none ys))
+start_long xs ys s l = s.1 ∙ (ap (λ r. ys ++ r) (short s.0 (let e = ap length s.1 in let j = length-append ys s.0 in omega (arith, e, j, l))) ∙ sym (append_none ys))
   where
-    length_join : (xs ys : List EntryValue) → length (xs ++ ys) ≡ length xs + length ys
-    length_join [] ys = omega arith
-    length_join (x ∷ xs) ys = let ih = length_join xs ys in omega (arith, ih)
-
     short : (r : List EntryValue) → length r ≤ 0 → r ≡ []
     short [] l = refl
     short (x ∷ xs) l = absurd (omega (arith, l))
-
-    append_none : (l : List EntryValue) → l ≡ l ++ []
-    append_none [] = refl
-    append_none (x ∷ xs) = ap (λ (t : List EntryValue). x ∷ t) (append_none xs)
 
 module _ (lock : TableId) (turns : ℕ) (old : BookValue) (one : LogsLeadToOne) (was : IsBook old) where
   abbrev o : Opening
@@ -169,18 +138,20 @@ module _ (lock : TableId) (turns : ℕ) (old : BookValue) (one : LogsLeadToOne) 
   none_begun : (d : ℕ) → begun_in o (entries_of old.log) d ≡ 0
   none_begun d = ap (λ l. begins d (since_join d l)) ((λ i. drop (sym (length-map old.log entry_of) i) (entries_of old.log)) ∙ drop-length (entries_of old.log))
 
-  -- something may begin
-  pub never_rests : (w : PassView EntryValue) → NoneFlies (core_of old.core) → IsNetwork (core_of old.core).net → Rested o v0 w → ⊥
-  never_rests w rests net r =
-      let d = first_of old.core.net.devices net.some in
-      let left = subst (λ (z : List EntryValue × Core). NothingLeft o z.0 z.1) (λ i. (first_log w r.before r.core IdleEntry r.turn i, first_core w r.before r.core IdleEntry r.turn i)) r.done in
-      let l = left d.0 d.1 (rests d.0) in
-      let n = none_begun d.0 in
-      omega (arith, l, n)
-    where
-      first_of : (ns : List NetDevice) → 1 ≤ length ns → (d : ℕ) × (is_in d (numbers ns) ≡ true)
-      first_of [] l = absurd (omega (arith, l))
-      first_of (n ∷ ns) l = (n.id, rw (eq-eqb n.id n.id refl) refl)
+  -- where nothing has begun, each device that is there may begin
+  may_begin : NoneFlies (core_of old.core) → (d : ℕ) → Lives (core_of old.core).net d → MayBegin o (entries_of old.log) (core_of old.core) d
+  may_begin rests d live = record {
+    there = live;
+    rests = rests d;
+    some = let n = none_begun d in omega (arith, n);
+    pace = λ e l. (let n = none_begun d in omega (arith, n), λ q. rests e);
+  }
+
+  pub never_rests : (w : PassView EntryValue) (b : Bool) → NoneFlies (core_of old.core) → IsNetwork (core_of old.core).net → Rested o v0 w b → ⊥
+  never_rests w b rests net r =
+      let d = first_device old.core.net.devices net.some in
+      let none = subst (λ (z : List EntryValue × Core). NoneMayBegin o z.0 z.1) (λ i. (first_log w r.before r.core IdleEntry r.turn i, first_core w r.before r.core IdleEntry r.turn i)) r.none in
+      none d.0 (may_begin rests d.0 d.1)
 
   pub first_smallest : (w : PassView EntryValue) (f : FiringValue) → NoneFlies (core_of old.core) → Began o v0 w f → IsSmallest (core_of old.core).net f.device
   first_smallest w f rests b =
@@ -191,8 +162,8 @@ module _ (lock : TableId) (turns : ℕ) (old : BookValue) (one : LogsLeadToOne) 
       }
     where
       by_test : (e : ℕ) → Lives (core_of old.core).net e → (t : Bool) → nat_lt e f.device ≡ t → IsNext o (entries_of old.log) (core_of old.core) f.device → f.device ≤ e
-      by_test e live true q n = absurd (n.smallest e (Rattle.std.proofs.lemmas.Bool.ltb-true e f.device q) (record { there = live; rests = rests e; some = let z = none_begun e in omega (arith, z) }))
-      by_test e live false q n = Rattle.std.proofs.lemmas.Bool.ltb-false e f.device q
+      by_test e live true q n = absurd (n.smallest e (ltb-true e f.device q) (may_begin rests e live))
+      by_test e live false q n = ltb-false e f.device q
 
 -- ---- the log in its pieces
 
@@ -215,7 +186,8 @@ module _ (lock : TableId) (turns share : ℕ) (old new : BookValue) (e : EditVal
     (u : FiredOn (new_part share v1) u1)
     (joins_to : v4 ≡ joined v3 u1) (seen : StartsWith v4.seen v3.seen)
     (c : Closes (opening_of old 1 turns (length old.log)) v4 new)
-    (within : BeginsWithin (opening_of old 1 turns (length old.log)) (entries_of new.log)) where
+    (within : BeginsWithin (opening_of old 1 turns (length old.log)) (entries_of new.log))
+    (next : EachIsNext (opening_of old 1 turns (length old.log)) (entries_of new.log)) where
   abbrev d : ℕ
   d = f.device
 
@@ -285,8 +257,15 @@ module _ (lock : TableId) (turns share : ℕ) (old new : BookValue) (e : EditVal
   leads : Run (unfolding_of old.program) (core_of old.core) part (core_of new.core)
   leads = closed_run (opening_of old 1 turns (length old.log)) v4 old new part one was is refl refl c log
 
-  once : AtMostOnce (core_of old.core).net part
-  once x t = subst (λ (l : List EntryValue). begins x l ≤ 1) (since_none x part (mixed_none x d among after e mixed plain.0 plain.1))
+  calm : AreCalm part
+  calm = mixed_calm d among after e mixed plain.0 plain.1
+
+  ordered : IsOrdered (numbers old.core.net.devices) part
+  ordered = turn_ordered (unfolding_of old.program) (numbers old.core.net.devices) (core_of old.core) (core_of new.core) part
+      (book_turns (opening_of old 1 turns (length old.log)) old new part was refl refl refl next log calm leads)
+
+  once : AtMost 1 (core_of old.core).net part
+  once x t = subst (λ (l : List EntryValue). begins x l ≤ 1) (since_none x part (none_joins x part calm))
       (subst (λ (l : List EntryValue). begins x (since_join x l) ≤ 1) behind (within x (live_number (core_of old.core).net x net t)))
 
   smallest : IsSmallest (core_of old.core).net d
@@ -313,5 +292,6 @@ module _ (lock : TableId) (turns share : ℕ) (old new : BookValue) (e : EditVal
     plain_among = plain.0;
     plain_after = plain.1;
     once = once;
-    devices = same_numbers (unfolding_of old.program) (core_of old.core) (core_of new.core) d among after e mixed plain.0 plain.1 leads;
+    ordered = ordered;
+    devices = calm_numbers (unfolding_of old.program) (core_of old.core) (core_of new.core) part calm leads;
   }

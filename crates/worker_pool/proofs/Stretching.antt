@@ -1,9 +1,11 @@
 -- Books that grow: parts, rounds, and rounds behind rounds.
-use Rattle.std.proofs.Common.{◌≡◌, ℕ, ◌+◌, ◌≤◌, List, [], ◌∷◌, ◌++◌, drop, length, refl, sym, ap, ◌∙◌, subst, arith, false}
+use Rattle.std.proofs.Common.{◌≡◌, ℕ, ◌+◌, ◌≤◌, List, [], ◌∷◌, ◌++◌, drop, length, refl, sym, ap, ◌∙◌, subst, arith, zero, suc, true, false}
+use Rattle.std.proofs.lemmas.Bool.{eq-eqb}
 use Rattle.std.proofs.lemmas.List.{append_assoc, length-map, map-append}
 use Rattle.std.proofs.Math.Seq.{drop-append_seam}
 use Rattle.fc_nodes.specs.Program.{Program, unfolding_of}
-use Rattle.topology.specs.Networks.{Network, Lives, numbers}
+use Rattle.fc_values.specs.Fields.{is_in}
+use Rattle.topology.specs.Networks.{Network, NetDevice, Lives, numbers}
 use Rattle.firing_core.specs.declared.entries.Entry.{Entry}
 use Rattle.firing_core.specs.Entries.{EntryValue, entry_of, entries_of}
 use Rattle.firing_core.specs.Cores.{Run}
@@ -11,14 +13,17 @@ use Rattle.firing_core.specs.CoreViews.{core_of}
 use Rattle.firing_core.specs.Books.{BookValue, IsSameBook, AppendsEntry, EndsFlights, EndsSome, ends_of, in_flight}
 use Rattle.firing_core.specs.Rounds.{has_edit, is_edit, HasRounds}
 use Rattle.firing_core.specs.Stretches.{begins, EachBegins, NoneFlies, GrewFrom, RanRounds}
-use Rattle.worker_pool.specs.Rounding.{RanOn, AtMostOnce, FiredTogether, Completes}
+use Rattle.worker_pool.specs.Pacing.{InTurn, IsOrdered}
+use Rattle.worker_pool.specs.Rounding.{RanOn, FiredTogether, IsGreatest, Completes}
 use Rattle.firing_core.proofs.Cuts.{run_join, plain_net}
-use Rattle.worker_pool.proofs.Parts.{plain_join, begins_join, rounds_join, one_round}
-use Rattle.worker_pool.proofs.Flights.{begun_fires}
+use Rattle.worker_pool.proofs.Parts.{plain_join, begins_join, rounds_join}
+use Rattle.worker_pool.proofs.InTurn.{append_none, turn_join, turn_ordered}
+use Rattle.worker_pool.proofs.PacedRounds.{paced_rounds}
 
-append_none : {A : Type 0} (l : List A) → l ≡ l ++ []
-append_none [] = refl
-append_none (x ∷ xs) = ap (λ l. x ∷ l) (append_none xs)
+-- a network has a device
+pub first_device : (ns : List NetDevice) → 1 ≤ length ns → (d : ℕ) × (is_in d (numbers ns) ≡ true)
+first_device [] l = absurd (omega (arith, l))
+first_device (n ∷ ns) l = (n.id, rw (eq-eqb n.id n.id refl) refl)
 
 -- ---- books that grow
 
@@ -99,20 +104,39 @@ settled old new f n =
     }
 
 -- what a table adds, since a place that is the end of the old log
-pub once_together : (n : ℕ) (old mid : BookValue) → FiredTogether old mid → n ≡ length old.log → AtMostOnce (core_of mid.core).net (drop n (entries_of mid.log))
-once_together n old mid f is d live =
-    let behind : drop n (entries_of mid.log) ≡ f.part = (λ i. drop ((is ∙ sym (length-map old.log entry_of)) i) (f.ran.log i)) ∙ drop-append_seam (entries_of old.log) f.part in
-    subst (λ (l : List EntryValue). begins d l ≤ 1) (sym behind) (f.once d (subst (λ (n : Network). Lives n d) (ran_net old mid f.part f.ran) live))
+behind_together : (n most : ℕ) (old mid : BookValue) (f : FiredTogether most old mid) → n ≡ length old.log → drop n (entries_of mid.log) ≡ f.part
+behind_together n most old mid f is = (λ i. drop ((is ∙ sym (length-map old.log entry_of)) i) (f.ran.log i)) ∙ drop-append_seam (entries_of old.log) f.part
 
--- one round
-pub ran_one : (old mid new : BookValue) → FiredTogether old mid → Completes (length old.log) mid new → RanRounds old 1 new
-ran_one old mid new f c =
+pub ordered_together : (n most : ℕ) (old mid : BookValue) → FiredTogether most old mid → n ≡ length old.log → IsOrdered (numbers mid.core.net.devices) (drop n (entries_of mid.log))
+ordered_together n most old mid f is =
+    subst (λ (z : Network × List EntryValue). IsOrdered (numbers z.0.devices) z.1) (λ i. (sym (ran_net old mid f.part f.ran) i, sym (behind_together n most old mid f is) i))
+    (turn_ordered (unfolding_of old.program) (numbers old.core.net.devices) (core_of old.core) (core_of mid.core) f.part f.turns)
+
+-- the greatest number of firings is one that the table allowed
+pub some_together : (n most rounds : ℕ) (old mid : BookValue) → FiredTogether most old mid → n ≡ length old.log → 1 ≤ most → IsGreatest mid.core.net (drop n (entries_of mid.log)) rounds → (1 ≤ rounds) × (rounds ≤ most)
+some_together n most rounds old mid f is some g = (
+  g.some,
+  g.least most some (λ d live. subst (λ (l : List EntryValue). begins d l ≤ most) (sym (behind_together n most old mid f is))
+      (f.most d (subst (λ (m : Network). Lives m d) (ran_net old mid f.part f.ran) live))),
+)
+
+-- what the table and the caller added is that many rounds
+pub ran_some : (n most rounds : ℕ) (old mid new : BookValue) → FiredTogether most old mid → n ≡ length old.log → 1 ≤ rounds → Completes n rounds mid new → RanRounds old rounds new
+ran_some n most zero old mid new f is some c = absurd (omega (arith, some))
+ran_some n most (suc k) old mid new f is some c =
     let part = f.part ++ c.part in
+    let U = unfolding_of old.program in
+    let ids = numbers old.core.net.devices in
+    let net = ran_net old mid f.part f.ran in
     let ran = ran_more old mid new f.part c.part f.ran c.ran in
-    let behind : drop (length old.log) (entries_of new.log) ≡ part =
-    (λ i. drop (sym (length-map old.log entry_of) i) (ran.log i)) ∙ drop-append_seam (entries_of old.log) part in
-    let begun : EachBegins (core_of old.core).net part 1 = λ d l.
-    sym (ap (begins d) behind) ∙ c.begun d (subst (λ (n : Network). Lives n d) (sym (ran_net old mid f.part f.ran)) l) in
+    let behind : drop n (entries_of new.log) ≡ part =
+    (λ i. drop ((is ∙ sym (length-map old.log entry_of)) i) (ran.log i)) ∙ drop-append_seam (entries_of old.log) part in
+    let turns : InTurn U ids [] (core_of old.core) part (core_of new.core) = turn_join U ids [] (core_of old.core) (core_of mid.core) (core_of new.core) f.part c.part f.turns
+    (subst (λ (z : Program × Network × List EntryValue). InTurn (unfolding_of z.0) (numbers z.1.devices) z.2 (core_of mid.core) c.part (core_of new.core))
+    (λ i. (f.ran.program i, net i, behind_together n most old mid f is i)) c.turns) in
+    let begun : EachBegins (core_of old.core).net part (suc k) = λ d l.
+    sym (ap (begins d) behind) ∙ c.begun d (subst (λ (m : Network). Lives m d) (sym net) l) in
+    let first = first_device old.core.net.devices f.network.some in
     record {
       program = ran.program;
       start = ran.start;
@@ -122,8 +146,7 @@ ran_one old mid new f c =
         leads = ran.leads;
         plain = ran.plain;
         begun = begun;
-        covers = one_round (numbers (core_of old.core).net.devices) part ran.plain
-            (λ d i. let b = begun d i in begun_fires (unfolding_of old.program) d part (core_of old.core) (core_of new.core) ran.plain ran.leads (omega (arith, b)) (c.rests d));
+        covers = paced_rounds U ids first.0 first.1 k (core_of old.core) (core_of new.core) part turns ran.plain begun (λ e i. c.rests e);
         rests = c.rests;
       };
     }

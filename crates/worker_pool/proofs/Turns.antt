@@ -1,15 +1,17 @@
 -- What the calls of a shared table do to the pass of a worker, and to that of the caller.
-use Rattle.std.proofs.Common.{◌≡◌, ℕ, List, [], ◌∷◌, refl, sym, ap, ◌∙◌, subst, Result, Ok, Err, OnOk, IfErr}
+use Rattle.std.proofs.Common.{◌≡◌, ◌+◌, ℕ, List, [], ◌∷◌, refl, sym, ap, ◌∙◌, subst, arith, Bool}
 use Rattle.firing_core.specs.declared.entries.EditFault.{EditFault}
-use Rattle.device_eval.specs.Firing.{FiredValue}
-use Rattle.firing_core.specs.Entries.{EditValue, EntryValue, BeginEntry, EndEntry, IdleEntry, EditEntry}
-use Rattle.firing_core.specs.Cores.{Core}
-use Rattle.turn_lock.specs.Passes.{PassView}
-use Rattle.export_table.specs.Items.{Opening}
+use Rattle.firing_core.specs.Entries.{edit_of, EditValue, EntryValue, BeginEntry, EndEntry, IdleEntry, EditEntry}
+use Rattle.firing_core.specs.Cores.{Core, EditFits}
+use Rattle.turn_lock.specs.Passes.{PassView, kept_part}
+use Rattle.fc_nodes.specs.Program.{Program, unfolding_of}
+use Rattle.export_table.specs.Items.{Opening, ItemValue}
+use Rattle.export_table.specs.Passing.{TableValue, IsPassOf, on_log}
+use Rattle.firing_core.specs.declared.entries.Edit.{Edit}
 use Rattle.export_table.specs.Firings.{FiringValue}
-use Rattle.export_table.specs.Turns.{TookTurn, Began, Rested, Edited, Refused, Ended, CanEnd, IsOwnFiring, KeepsFirings}
-use Rattle.worker_pool.specs.Working.{FiredOn}
-use Rattle.worker_pool.specs.Mixing.{WentOn}
+use Rattle.export_table.specs.Turns.{TookTurn, Began, Rested, Edited, Refused, CanEnd, KeepsFirings}
+use Rattle.worker_pool.specs.Working.{FiredOn, EndsFiring}
+use Rattle.worker_pool.specs.Mixing.{WentOn, MayMix}
 use Rattle.worker_pool.proofs.Passes.{starts_trans, fired_turn}
 
 -- ---- turns of a worker
@@ -17,15 +19,11 @@ use Rattle.worker_pool.proofs.Passes.{starts_trans, fired_turn}
 pub fired_began : (o : Opening) (v w : PassView EntryValue) (f : FiringValue) → Began o v w f → FiredOn v w
 fired_began o v w f b = fired_turn o v w b.before b.core (BeginEntry f.device) b.turn refl
 
-pub fired_rested : (o : Opening) (v w : PassView EntryValue) → Rested o v w → FiredOn v w
-fired_rested o v w b = fired_turn o v w b.before b.core IdleEntry b.turn refl
+pub fired_rested : (o : Opening) (v w : PassView EntryValue) (b : Bool) → Rested o v w b → FiredOn v w
+fired_rested o v w over b = fired_turn o v w b.before b.core IdleEntry b.turn refl
 
-pub fired_ended : (o : Opening) (v w : PassView EntryValue) (f : FiredValue) → Ended o v w f → FiredOn v w
-fired_ended o v w f b = fired_turn o v w b.before b.core (EndEntry f.snap.device) b.turn refl
-
--- what was evaluated of a firing that may end ends it
-pub own_firing : (o : Opening) (v : PassView EntryValue) (f : FiringValue) (e : FiredValue) (place : ℕ) → CanEnd o v f → e.program ≡ o.program → e.snap ≡ f.snap → place ≡ f.place → IsOwnFiring o v place e
-own_firing o v f e place c p s at = subst (λ k. IsOwnFiring o v k e) (sym at) (c.own e p s)
+pub fired_ends : (o : Opening) (v w : PassView EntryValue) (f : FiringValue) → EndsFiring o v w f → FiredOn v w
+fired_ends o v w f b = fired_turn o v w b.before b.core (EndEntry f.snap.device) b.turn refl
 
 -- ---- turns of the caller
 
@@ -49,14 +47,25 @@ went_edited o v w e t = went_turn o v w t.before t.core (EditEntry e) t.turn
 pub went_refused : (o : Opening) (v w : PassView EntryValue) (e : EditValue) (f : EditFault) → Refused o v w e f → WentOn v w
 went_refused o v w e f t = went_turn o v w t.before t.core IdleEntry t.turn
 
-pub went_ended : (o : Opening) (v w : PassView EntryValue) (f : FiredValue) → Ended o v w f → WentOn v w
-went_ended o v w f t = went_turn o v w t.before t.core (EndEntry f.snap.device) t.turn
-
--- a turn with an edit, whatever it answered
-pub went_edit : (o : Opening) (v w : PassView EntryValue) (e : EditValue) (r : Result (Unit {0}) EditFault) → OnOk r (Edited o v w e) → IfErr r (Refused o v w e) → WentOn v w
-went_edit o v w e (Ok x) a b = went_edited o v w e a
-went_edit o v w e (Err f) a b = went_refused o v w e f b
+pub went_ends : (o : Opening) (v w : PassView EntryValue) (f : FiringValue) → EndsFiring o v w f → WentOn v w
+went_ends o v w f t = went_turn o v w t.before t.core (EndEntry f.snap.device) t.turn
 
 -- a firing that may end may end after a turn that keeps the firings of the pass
 pub keeps_end : (o : Opening) (v w : PassView EntryValue) (f : FiringValue) → KeepsFirings o v w → CanEnd o v f → CanEnd o w f
 keeps_end o v w f k c = record { snap = c.snap; own = λ e p s. k f.place e (c.own e p s) }
+
+-- a firing that may end may end after a part of the pass was split off
+kept_end : (o : Opening) (v : PassView EntryValue) (f : FiringValue) (share : ℕ) → CanEnd o v f → CanEnd o (kept_part share v) f
+kept_end o v f share c = record {
+  snap = c.snap;
+  own = λ e p s. let k = c.own e p s in record { begun = k.begun; unended = k.unended; program = k.program; copy = k.copy };
+}
+
+pub may_mix : (t : TableValue) (w : PassView ItemValue) (v : PassView EntryValue) (f : FiringValue) (e : Edit) (share : ℕ) (p : Program) → IsPassOf t w → v.left ≡ share + 2 → t.opening.program ≡ p
+    → EditFits (unfolding_of p) (edit_of e) → CanEnd t.opening v f → on_log w ≡ kept_part share v → MayMix t w (record { firing = f; edit = e })
+may_mix t w v f e share p own left program fits may kept = record {
+  own = own;
+  some = let l = ap (λ (u : PassView EntryValue). u.left) kept in omega (arith, l, left);
+  fits = subst (λ (q : Program). EditFits (unfolding_of q) (edit_of e)) (sym program) fits;
+  may_end = subst (λ (u : PassView EntryValue). CanEnd t.opening u f) (sym kept) (kept_end t.opening v f share may);
+}

@@ -1,3 +1,4 @@
+pub mod Pacing
 pub mod Working
 pub mod Rounding
 pub mod Mixing

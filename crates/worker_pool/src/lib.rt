@@ -1,6 +1,8 @@
 //! Rounds of firings by workers, which are threads that share a table of exports.
 #![tactic(auto)]
 
+mod bell;
+mod crews;
 mod fan;
 mod mixes;
 mod plans;

@@ -1,30 +1,41 @@
-//! How many workers fire in a round, and how many turns each of them gets.
+//! How many workers fire in a table, for how many rounds, and how many turns each of them gets.
 
-ghost use Rattle.std.specs.Prelude.{◌≡◌, ◌≤◌, ◌<◌, ◌*◌};
+ghost use Rattle.std.specs.Prelude.{◌≡◌, ◌≤◌, ◌<◌, ◌*◌, ◌^◌};
 ghost use Rattle.topology.specs.Networks.{IsNetwork};
 ghost use Rattle.firing_core.specs.Books.{IsBook};
 
+use crate::shorts::device_count;
 use firing_core::Book;
 
-/// As many workers, at most one a device, and for each of them turns for all firings of one round.
+// For how many firings a table is opened, if one round has no more.
+const FIRINGS_AT_ONCE: usize = 8_192;
+
+/// As many workers, at most one a device; the rounds of one table; and for each of the workers turns for all firings of
+/// these rounds, with one a round and two more for turns that begin nothing.
 #[derive(Drop)]
 pub(crate) struct Plan {
     pub(crate) workers: usize,
+    pub(crate) rounds: u32,
     pub(crate) share: u64,
 }
 
-/// The plan for a round of a book.
-pub(crate) fn plan_of(book: &Book, workers: usize) -> Plan
+/// The plan for up to so many rounds of a book.
+pub(crate) fn plan_of(book: &Book, workers: usize, rounds: u32) -> Plan
     requires workers { (1 ≤ workers) × (workers ≤ 16) }
+    requires rounds { 1 ≤ rounds }
     ensures some { 0 < result.workers }
     ensures most { result.workers ≤ workers }
-    ensures few { result.workers * result.share ≤ 32768 }
+    ensures rounds { (1 ≤ result.rounds) × (result.rounds ≤ rounds) }
+    ensures few { result.workers * result.share < 2 ^ 31 }
     ensures network { IsNetwork book.now.core.net }
     ensures book { IsBook book.now }
 {
-    let devices = book.core().net().devices().len();
+    let devices = device_count(book);
+    let at_once = (FIRINGS_AT_ONCE / devices).max(1);
+    let rounds = at_once.min(rounds as usize);
     Plan {
         workers: workers.min(devices),
-        share: 2 * devices as u64,
+        rounds: rounds as u32,
+        share: (2 * devices * rounds + rounds + 2) as u64,
     }
 }

@@ -1,4 +1,4 @@
-//! Rounds over a book: each opens a table anew, lets workers fire, and then fires what is short.
+//! Rounds over a book: a table for many of them, in which workers fire, and then what is short.
 
 ghost use Rattle.std.specs.Prelude.{◌≡◌, ◌≤◌, IfOk, IfErr, length};
 ghost use Rattle.fc_nodes.specs.Program.{Unfolding, unfolding_of};
@@ -8,18 +8,19 @@ ghost use Rattle.firing_core.specs.Stretches.{NoneFlies, RanRounds, GrewFrom};
 ghost use Rattle.worker_pool.specs.Rounding.{FiredTogether};
 ghost use Rattle.worker_pool.specs.Working.{AreRooms};
 
+use crate::crews::Crew;
 use crate::fan::fan;
 use crate::plans::plan_of;
 use crate::shorts::complete;
-use export_table::{Gate, Shared};
+use export_table::Gate;
 use fc_values::Memory;
 use firing_core::{Book, Room, logs_decide};
 use std::alloc::Global;
 use std::sync::Wait;
 use std::thread::Threads;
 
-/// Settles what is pending, and then lets so many workers fire, round after round, in a table that is opened anew for
-/// each. The gate is called once for each firing of a worker, between its begin and its evaluation.
+/// Settles what is pending, and then lets so many workers fire, in one table for many rounds. The gate is called once
+/// for each firing of a worker, between its begin and its evaluation.
 pub fn run_rounds<R: Threads + Wait + Sync, G: Gate + Sync>(
     rt: &R,
     alloc: Global,
@@ -38,7 +39,7 @@ pub fn run_rounds<R: Threads + Wait + Sync, G: Gate + Sync>(
     }
 }
 
-/// A place for the room of each worker. The rooms are made by the workers, and kept through rounds.
+/// A place for the room of each worker. The rooms are made by the workers, and kept from table to table.
 pub(crate) fn no_rooms(alloc: Global, workers: u32) -> Result<Vec<Option<Room>>, Memory>
     ensures many { IfOk result (λ v. length v.items ≡ workers) }
     ensures rooms { (U : Unfolding) → IfOk result (λ v. AreRooms U v.items) }
@@ -68,65 +69,67 @@ pub(crate) fn run_in<R: Threads + Wait + Sync, G: Gate + Sync>(
     if let Err(memory) = book.settle(alloc) {
         return Err((book, memory));
     }
-    for _ in 0..rounds {
-        book = one_round(rt, alloc, book, rooms, gate)?;
+    let mut left = rounds;
+    while left > 0 {
+        let (grown, ran) = some_rounds(rt, alloc, book, left, rooms, gate)?;
+        book = grown;
+        left -= ran;
     }
     Ok(book)
 }
 
-// One round over a book in which nothing flies.
-fn one_round<R: Threads + Wait + Sync, G: Gate + Sync>(
+// At least one round and up to so many over a book in which nothing flies, by one table. The answer has how many.
+fn some_rounds<R: Threads + Wait + Sync, G: Gate + Sync>(
     rt: &R,
     alloc: Global,
     book: Book,
+    most: u32,
     rooms: &mut [Option<Room>],
     gate: &G,
-) -> Result<Book, (Book, Memory)>
+) -> Result<(Book, u32), (Book, Memory)>
     requires workers { (1 ≤ length rooms.old) × (length rooms.old ≤ 16) }
+    requires some { 1 ≤ most }
     requires rests { NoneFlies (core_of book.core) }
     requires rooms { AreRooms (unfolding_of book.program) rooms.old }
-    ensures ran { IfOk result (RanRounds book 1) }
+    ensures ran { IfOk result (λ r. RanRounds book r.1 r.0) }
+    ensures some { IfOk result (λ r. (1 ≤ r.1) × (r.1 ≤ most)) }
     ensures grew { IfErr result (λ e. GrewFrom book e.0) }
     ensures rooms { AreRooms (unfolding_of book.program) rooms.new }
     ensures many { length rooms.new ≡ length rooms.old }
 {
     let front = book.log().len();
-    let mut book = fire_together(rt, alloc, book, rooms, gate)?;
+    let mut book = fire_together(rt, alloc, book, most, rooms, gate)?;
     match complete(alloc, &mut book, front) {
-        Ok(()) => Ok(book),
+        Ok(ran) => Ok((book, ran as u32)),
         Err(memory) => Err((book, memory)),
     }
 }
 
-// Lets workers fire in a table over a book in which nothing flies. Each device begins at most one firing.
+// Lets workers fire in a table over a book in which nothing flies. Devices begin firings in turn, each at most so many.
 fn fire_together<R: Threads + Wait + Sync, G: Gate + Sync>(
     rt: &R,
     alloc: Global,
     book: Book,
+    most: u32,
     rooms: &mut [Option<Room>],
     gate: &G,
 ) -> Result<Book, (Book, Memory)>
     requires workers { (1 ≤ length rooms.old) × (length rooms.old ≤ 16) }
+    requires some { 1 ≤ most }
     requires rests { NoneFlies (core_of book.core) }
     requires rooms { AreRooms (unfolding_of book.program) rooms.old }
-    ensures fired { IfOk result (FiredTogether book) }
+    ensures fired { IfOk result (FiredTogether most book) }
     ensures back { IfErr result (λ e. IsSameBook book e.0) }
     ensures rooms { AreRooms (unfolding_of book.program) rooms.new }
     ensures many { length rooms.new ≡ length rooms.old }
 {
     logs_decide();
-    let program = match book.program().clone() {
-        Ok(program) => program,
-        Err(_) => return Err((book, Memory)),
-    };
-    let plan = plan_of(&book, rooms.len());
+    let plan = plan_of(&book, rooms.len(), most);
     let turns = plan.workers as u64 * plan.share;
-    let (shared, mut pass) = Shared::over(alloc, book, 1, turns)?;
+    let (crew, mut pass) = Crew::open(alloc, book, plan.rounds, turns, gate)?;
     let (busy, _) = rooms.split_at_mut(plan.workers);
-    fan(
-        rt, alloc, &shared, &program, &mut pass, busy, plan.share, gate,
-    );
-    let book = shared.close(pass);
+    fan(rt, &crew, &mut pass, busy, plan.share);
+    let book = crew.close(pass);
     let _core = book.core();
     Ok(book)
 }

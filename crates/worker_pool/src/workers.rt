@@ -1,19 +1,29 @@
-//! What a worker does: it fires in a room of its own, until its turns end or nothing may begin.
+//! What a worker does: it fires in a room of its own, round after round, until each device has begun all its firings.
 
-ghost use Rattle.std.specs.Prelude.{◌≡◌, ◌<◌, ◌≤◌, IfOk, IfErr, IfSome};
+ghost use Rattle.std.specs.Prelude.{◌≡◌, ◌<◌, ◌≤◌, IfSome, IfNone};
 ghost use Rattle.fc_nodes.specs.Program.{unfolding_of};
 ghost use Rattle.firing_core.specs.Rooms.{IsRoom};
 ghost use Rattle.export_table.specs.Passing.{IsPassOf, on_log};
 ghost use Rattle.export_table.specs.Turns.{CanEnd};
-ghost use Rattle.worker_pool.specs.Working.{FiredOn};
+ghost use Rattle.worker_pool.specs.Working.{Worked, Tries, KeepsRoom, EndsFiring};
 
+use crate::crews::Crew;
 use device_eval::fire;
-use export_table::{Firing, Gate, Held, Shared};
+use export_table::{Firing, Gate, Held, Rest};
 use fc_nodes::Unfolded;
 use firing_core::Room;
 use std::alloc::Global;
 use std::sync::{Arc, Wait};
 use turn_lock::Pass;
+
+/// What comes of a worker's try to fire: the room of the firing, what comes back where nothing may begin, or nothing
+/// for want of memory.
+#[derive(Drop)]
+pub(crate) enum Try {
+    Fired(Room),
+    Rested(Rest),
+    Starved,
+}
 
 // The room that was kept, or a new one.
 fn room_of(alloc: Global, program: &Arc<Unfolded>, kept: Option<Room>) -> Option<Room>
@@ -26,87 +36,99 @@ fn room_of(alloc: Global, program: &Arc<Unfolded>, kept: Option<Room>) -> Option
     }
 }
 
-// Evaluates what was begun, and ends it. Without memory the copy is dropped, and its device stays in flight.
-fn finish<W: Wait, G: Gate>(
+/// Evaluates what was begun, after the gate, and ends it. Without memory the copy is dropped, and its device stays in
+/// flight.
+pub(crate) fn finish<W: Wait, G: Gate>(
     rt: &W,
-    alloc: Global,
-    shared: &Shared,
-    program: &Arc<Unfolded>,
+    crew: &Crew<'_, G>,
     pass: &mut Pass<Held>,
     firing: Firing,
-    gate: &G,
 ) -> Option<Room>
-    requires own { IsPassOf shared.now pass.old }
+    requires own { IsPassOf crew.now.shared pass.old }
     requires some { 0 < pass.old.left }
-    requires program { program.now.value ≡ shared.now.opening.program }
-    requires may_end { CanEnd shared.now.opening (on_log pass.old) firing }
-    ensures own { IsPassOf shared.now pass.new }
-    ensures fired { FiredOn (on_log pass.old) (on_log pass.new) }
-    ensures room { IfSome result (IsRoom (unfolding_of shared.now.opening.program)) }
+    requires may_end { CanEnd crew.now.shared.opening (on_log pass.old) firing }
+    ensures own { IsPassOf crew.now.shared pass.new }
+    ensures room { KeepsRoom crew.now.shared result }
+    ensures ended { IfSome result
+        (λ r. EndsFiring crew.now.shared.opening (on_log pass.old) (on_log pass.new) firing) }
+    ensures same { IfNone result (pass.new ≡ pass.old) }
     ensures left { pass.new.left ≤ pass.old.left }
 {
-    gate.between(&firing);
+    crew.gate.between(&firing);
     let place = firing.place();
-    match fire(alloc, program, firing.into_snap()) {
-        Ok(fired) => Some(shared.end(rt, pass, place, fired)),
+    match fire(crew.alloc, &crew.program, firing.into_snap()) {
+        Ok(fired) => Some(crew.shared.end(rt, pass, place, fired)),
         Err(_) => None,
     }
 }
 
-// One firing, with the room that comes back of it. An error says that nothing may begin, and gives the room back, or
-// that memory is wanting.
-fn fire_next<W: Wait, G: Gate>(
-    rt: &W,
-    alloc: Global,
-    shared: &Shared,
-    program: &Arc<Unfolded>,
-    pass: &mut Pass<Held>,
-    room: Room,
-    gate: &G,
-) -> Result<Room, Option<Room>>
-    requires own { IsPassOf shared.now pass.old }
+// One firing, if one may begin. The begin of a round's first firing rings the bell.
+fn fire_next<W: Wait, G: Gate>(rt: &W, crew: &Crew<'_, G>, pass: &mut Pass<Held>, room: Room) -> Try
+    requires own { IsPassOf crew.now.shared pass.old }
     requires some { 2 ≤ pass.old.left }
-    requires program { program.now.value ≡ shared.now.opening.program }
-    requires room { IsRoom (unfolding_of shared.now.opening.program) room }
-    ensures own { IsPassOf shared.now pass.new }
-    ensures fired { FiredOn (on_log pass.old) (on_log pass.new) }
-    ensures room { IfOk result (IsRoom (unfolding_of shared.now.opening.program)) }
-    ensures kept { IfErr result (λ k. IfSome k (IsRoom (unfolding_of shared.now.opening.program))) }
+    requires room { IsRoom (unfolding_of crew.now.shared.opening.program) room }
+    ensures worked { Worked crew.now.shared pass.old pass.new }
+    ensures tries { Tries crew.now.shared result }
     ensures less { pass.new.left < pass.old.left }
 {
-    match shared.next(rt, pass, room) {
-        Ok(firing) => match finish(rt, alloc, shared, program, pass, firing, gate) {
-            Some(back) => Ok(back),
-            None => Err(None),
-        },
-        Err(back) => Err(Some(back)),
+    match crew.shared.next(rt, pass, room) {
+        Ok(firing) => {
+            if firing.device() == crew.first {
+                crew.bell.ring();
+            }
+            match finish(rt, crew, pass, firing) {
+                Some(back) => Try::Fired(back),
+                None => Try::Starved,
+            }
+        }
+        Err(rest) => Try::Rested(rest),
     }
 }
 
-/// Fires until the turns of the pass end, nothing may begin, or memory is wanting, in the room that was kept or in a
-/// new one. The room is kept, if it is there at the end.
-pub(crate) fn work<W: Wait, G: Gate>(
+// Fires until the turns of the pass end, each device has begun all its firings, memory is wanting, or the bell is
+// stopped. Where nothing may begin yet it waits for the bell.
+fn keep_firing<W: Wait, G: Gate>(
     rt: &W,
-    alloc: Global,
-    shared: &Shared,
-    program: &Arc<Unfolded>,
+    crew: &Crew<'_, G>,
     pass: &mut Pass<Held>,
     kept: Option<Room>,
-    gate: &G,
 ) -> Option<Room>
-    requires own { IsPassOf shared.now pass.old }
-    requires program { program.now.value ≡ shared.now.opening.program }
-    requires kept { IfSome kept (IsRoom (unfolding_of shared.now.opening.program)) }
-    ensures own { IsPassOf shared.now pass.new }
-    ensures fired { FiredOn (on_log pass.old) (on_log pass.new) }
-    ensures kept { IfSome result (IsRoom (unfolding_of shared.now.opening.program)) }
+    requires own { IsPassOf crew.now.shared pass.old }
+    requires kept { KeepsRoom crew.now.shared kept }
+    ensures worked { Worked crew.now.shared pass.old pass.new }
+    ensures kept { KeepsRoom crew.now.shared result }
 {
-    let mut room = room_of(alloc, program, kept)?;
+    let mut room = room_of(crew.alloc, &crew.program, kept)?;
     while pass.left() >= 2 {
-        match fire_next(rt, alloc, shared, program, pass, room, gate) {
-            Ok(back) => room = back,
-            Err(left) => return left,
+        let seen = crew.bell.rings();
+        match fire_next(rt, crew, pass, room) {
+            Try::Fired(back) => room = back,
+            Try::Rested(rest) => {
+                if rest.is_over || !crew.bell.wait(rt, seen) {
+                    return Some(rest.room);
+                }
+                room = rest.room;
+            }
+            Try::Starved => return None,
         }
     }
     Some(room)
+}
+
+/// Fires in the room that was kept or in a new one, and stops the bell at its end, so that nobody waits for this
+/// worker. The room is kept, if it is there at the end.
+pub(crate) fn work<W: Wait, G: Gate>(
+    rt: &W,
+    crew: &Crew<'_, G>,
+    pass: &mut Pass<Held>,
+    kept: Option<Room>,
+) -> Option<Room>
+    requires own { IsPassOf crew.now.shared pass.old }
+    requires kept { KeepsRoom crew.now.shared kept }
+    ensures worked { Worked crew.now.shared pass.old pass.new }
+    ensures kept { KeepsRoom crew.now.shared result }
+{
+    let room = keep_firing(rt, crew, pass, kept);
+    crew.bell.stop();
+    room
 }

@@ -5,4 +5,4 @@ use Rattle.network_tests.proofs.tables.two_passes_by_hand.Goals as goal
 
 pub edit_beside-looped-requires-clause-may_end : goal.edit_beside-looped-requires-clause-may_end
 edit_beside-looped-requires-clause-may_end g c =
-    still_ends c.in-Ok.table.opening (on_log c.begin.new.pass) (on_log c.begin-third.new.pass) c.in-Some.first c.in-Some.ensures.may_end c.begin-third.ensures.keeps
+    still_ends c.in-Ok.table.opening (on_log c.begin.new.pass) (on_log c.begin-third.new.pass) c.in-Ok-begin.first c.in-Ok-begin.ensures.may_end c.begin-third.ensures.keeps

@@ -1,16 +1,18 @@
-use Rattle.std.proofs.Common.{List, [], drop, length, subst, sym, ◌∙◌, ◌≤◌}
+use Rattle.std.proofs.Common.{ℕ, List, [], drop, length, subst, sym, ◌∙◌, ◌≤◌}
 use Rattle.std.proofs.lemmas.Result.{err_from_is_err_and}
 use Rattle.fc_nodes.specs.Program.{unfolding_of}
 use Rattle.firing_core.specs.declared.entries.Entry.{Entry}
 use Rattle.firing_core.specs.Entries.{edit_of, entries_of}
 use Rattle.firing_core.specs.CoreViews.{core_of}
 use Rattle.firing_core.specs.Books.{in_flight}
-use Rattle.worker_pool.specs.Rounding.{AtMostOnce, Completes}
+use Rattle.topology.specs.Networks.{numbers}
+use Rattle.worker_pool.specs.Pacing.{IsOrdered}
+use Rattle.worker_pool.specs.Rounding.{IsGreatest, Completes}
 use Rattle.worker_pool.specs.Working.{AreRooms}
 use Rattle.worker_pool.proofs.Keeping.{rooms_over, rooms_of_same}
 use Rattle.worker_pool.proofs.Stretching.{grew_ran, grew_some, grew_more, ran_none}
 use Rattle.worker_pool.proofs.OneByOne.{grew_settled}
-use Rattle.worker_pool.proofs.Mixed.{front_mixed, once_mixed, mixed_edit, grew_mixed, grew_done, ok_each, err_each}
+use Rattle.worker_pool.proofs.Mixed.{front_mixed, ordered_mixed, one_mixed, mixed_edit, grew_mixed, grew_done, ok_each, err_each}
 use Rattle.worker_pool.proofs.mixes.run_mixed.Goals as goal
 
 pub returns-in-Err-clause-grew : goal.returns-in-Err-clause-grew
@@ -29,21 +31,23 @@ complete-requires-clause-front g c =
     subst (λ (l : List Entry). length l ≤ length c.in_ok-book.book.log) (sym c.log-front.ensures.value)
     (front_mixed c.settle.new.self c.in_ok-book.book (edit_of c.args.edit) c.in_ok-book.ensures.mixed)
 
-pub complete-requires-clause-once : goal.complete-requires-clause-once
-complete-requires-clause-once g c =
-    subst (λ (l : List Entry). AtMostOnce (core_of c.in_ok-book.book.core).net (drop (length l) (entries_of c.in_ok-book.book.log))) (sym c.log-front.ensures.value)
-    (once_mixed c.settle.new.self c.in_ok-book.book (edit_of c.args.edit) c.in_ok-book.ensures.mixed)
+pub complete-requires-clause-ordered : goal.complete-requires-clause-ordered
+complete-requires-clause-ordered g c =
+    subst (λ (l : List Entry). IsOrdered (numbers c.in_ok-book.book.core.net.devices) (drop (length l) (entries_of c.in_ok-book.book.log))) (sym c.log-front.ensures.value)
+    (ordered_mixed c.settle.new.self c.in_ok-book.book (edit_of c.args.edit) c.in_ok-book.ensures.mixed)
 
 pub returns-in-Ok-complete-clause-mixed : goal.returns-in-Ok-complete-clause-mixed
 returns-in-Ok-complete-clause-mixed g c =
-    let done = subst (λ (l : List Entry). Completes (length l) c.in_ok-book.book c.complete.new.book) c.log-front.ensures.value c.in-Ok-complete.ensures.ok in
+    let greatest = subst (λ (l : List Entry). IsGreatest c.in_ok-book.book.core.net (drop (length l) (entries_of c.in_ok-book.book.log)) c.in-Ok-complete.field-0) c.log-front.ensures.value c.in-Ok-complete.ensures.greatest in
+    let one = one_mixed c.settle.new.self c.in_ok-book.book (edit_of c.args.edit) c.in-Ok-complete.field-0 c.in_ok-book.ensures.mixed greatest in
+    let done = subst (λ (z : List Entry × ℕ). Completes (length z.0) z.1 c.in_ok-book.book c.complete.new.book) (λ i. (c.log-front.ensures.value i, one i)) c.in-Ok-complete.ensures.ok in
     ok_each c.run_in.result
     (λ b r. mixed_edit c.args.book c.settle.new.self c.in_ok-book.book c.complete.new.book b (in_flight (core_of c.args.book.core)) (edit_of c.args.edit) c.args.rounds c.in_default.ensures.ok c.in_ok-book.ensures.mixed done r)
     c.run_in.ensures.ran
 
 pub returns-in-Ok-complete-clause-grew : goal.returns-in-Ok-complete-clause-grew
 returns-in-Ok-complete-clause-grew g c =
-    let done = grew_done c.args.book c.settle.new.self c.in_ok-book.book c.complete.new.book (in_flight (core_of c.args.book.core)) (edit_of c.args.edit) (length c.log-front.result.now) c.in_default.ensures.ok c.in_ok-book.ensures.mixed c.in-Ok-complete.ensures.ok in
+    let done = grew_done c.args.book c.settle.new.self c.in_ok-book.book c.complete.new.book (in_flight (core_of c.args.book.core)) (edit_of c.args.edit) (length c.log-front.result.now) c.in-Ok-complete.field-0 c.in_default.ensures.ok c.in_ok-book.ensures.mixed c.in-Ok-complete.ensures.ok in
     err_each c.run_in.result (λ e r. grew_more c.args.book c.complete.new.book e.0 done r) c.run_in.ensures.grew
 
 pub returns-clause-grew : goal.returns-clause-grew

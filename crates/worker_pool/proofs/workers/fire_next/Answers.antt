@@ -1,17 +1,33 @@
+use Rattle.std.proofs.Common.{sym, subst}
+use Rattle.turn_lock.specs.Passes.{PassView}
+use Rattle.export_table.specs.Items.{ItemValue}
 use Rattle.export_table.specs.Passing.{on_log}
+use Rattle.worker_pool.specs.Working.{Worked}
 use Rattle.worker_pool.proofs.Passes.{fired_more}
-use Rattle.worker_pool.proofs.Turns.{fired_began, fired_rested}
+use Rattle.worker_pool.proofs.Turns.{fired_began, fired_rested, fired_ends}
 use Rattle.worker_pool.proofs.workers.fire_next.Goals as goal
 
-pub returns-in-Some-clause-fired : goal.returns-in-Some-clause-fired
-returns-in-Some-clause-fired g c =
-    fired_more (on_log c.args.pass.now) (on_log c.next.new.pass) (on_log c.finish.new.pass)
-    (fired_began c.args.shared.now.opening (on_log c.args.pass.now) (on_log c.next.new.pass) c.in-Ok.firing c.in-Ok.ensures.began) c.finish.ensures.fired
+pub returns-in-Some-clause-worked : goal.returns-in-Some-clause-worked
+returns-in-Some-clause-worked g c =
+    let o = c.args.crew.now.shared.opening in
+    let u = on_log c.args.pass.now in
+    let v = on_log c.next.new.pass in
+    let w = on_log c.finish.new.pass in
+    record {
+      own = c.finish.ensures.own;
+      fired = fired_more u v w (fired_began o u v c.in-Ok.firing c.in-Ok.ensures.began) (fired_ends o v w c.in-Ok.firing c.in-Some.ensures.ended);
+    }
 
-pub returns-in-None-clause-fired : goal.returns-in-None-clause-fired
-returns-in-None-clause-fired g c =
-    fired_more (on_log c.args.pass.now) (on_log c.next.new.pass) (on_log c.finish.new.pass)
-    (fired_began c.args.shared.now.opening (on_log c.args.pass.now) (on_log c.next.new.pass) c.in-Ok.firing c.in-Ok.ensures.began) c.finish.ensures.fired
+pub returns-in-None-clause-worked : goal.returns-in-None-clause-worked
+returns-in-None-clause-worked g c =
+    subst (λ (w : PassView ItemValue). Worked c.args.crew.now.shared c.args.pass.now w) (sym c.in-None.ensures.same)
+    (record {
+      own = c.next.ensures.own;
+      fired = fired_began c.args.crew.now.shared.opening (on_log c.args.pass.now) (on_log c.next.new.pass) c.in-Ok.firing c.in-Ok.ensures.began;
+    })
 
-pub returns-in-Err-clause-fired : goal.returns-in-Err-clause-fired
-returns-in-Err-clause-fired g c = fired_rested c.args.shared.now.opening (on_log c.args.pass.now) (on_log c.next.new.pass) c.in-Err.ensures.rested
+pub returns-in-Err-clause-worked : goal.returns-in-Err-clause-worked
+returns-in-Err-clause-worked g c = record {
+  own = c.next.ensures.own;
+  fired = fired_rested c.args.crew.now.shared.opening (on_log c.args.pass.now) (on_log c.next.new.pass) c.in-Err.rest.is_over c.in-Err.ensures.rested;
+}

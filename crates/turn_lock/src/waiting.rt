@@ -1,0 +1,31 @@
+//! How a thread waits: it looks a few times, and then sleeps between looks.
+
+use std::time::Duration;
+
+// As many looks, a microsecond or two in all, see most turns end. More of them keep processors from others.
+const LOOKS: u32 = 100;
+// The first sleep, in nanoseconds. Each is twice as long as the one before, up to a millisecond.
+const FIRST_SLEEP: u64 = 16_000;
+
+const DOUBLINGS: u32 = 6;
+
+/// The looks of one wait.
+#[derive(Drop)]
+pub(crate) struct Looks {
+    made: u32,
+}
+
+impl Looks {
+    /// No looks yet.
+    pub(crate) fn none() -> Looks {
+        Looks { made: 0 }
+    }
+
+    /// How long to sleep before the next look, if at all.
+    pub(crate) fn sleep(&mut self) -> Option<Duration> {
+        let sleeps = self.made.checked_sub(LOOKS);
+        self.made = self.made.saturating_add(1);
+        let doublings = sleeps?.min(DOUBLINGS);
+        Some(Duration::from_nanos(FIRST_SLEEP << doublings))
+    }
+}

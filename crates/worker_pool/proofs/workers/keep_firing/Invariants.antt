@@ -1,0 +1,13 @@
+use Rattle.fc_nodes.specs.Program.{unfolding_of}
+use Rattle.firing_core.specs.Rooms.{IsRoom}
+use Rattle.worker_pool.specs.Working.{Worked}
+use Rattle.worker_pool.proofs.workers.keep_firing.Given as goal
+
+abbrev pub invariant-loop-seen : goal.invariant-loop-seen
+invariant-loop-seen g l = record {
+  worked : Worked l.crew.shared l.fn.pass l.pass;
+  room : IsRoom (unfolding_of l.crew.shared.opening.program) l.room;
+}
+
+abbrev pub decreases-loop-seen : goal.decreases-loop-seen
+decreases-loop-seen g l = l.pass.left
