@@ -70,7 +70,7 @@ class Bash(InFolder):
         for line in LINES:
             found = {*self.words(line.program, "")} - {"-h", "--help", "--version"}
             self.assertEqual(found, {one.name for one in line.commands})
-        self.assertEqual(self.words("fieldc", "s"), ["settle", "stable"])
+        self.assertEqual(self.words("fieldc", "s"), ["settle", "stable", "sweep"])
         self.assertEqual(self.words("fc", "re", called="/opt/bin/fc"), ["replay"])
 
     def test_options(self) -> None:
