@@ -18,7 +18,6 @@ use Rattle.value_trees.specs.declared.copies.Near.{Near}
 use Rattle.value_trees.specs.declared.copies.Snap.{Snap}
 use Rattle.fc_values.specs.Inputs.{InputFits, InputsFit}
 use Rattle.value_trees.specs.Snaps.{IsExportOf, NearAreExports, IsSnap}
-use Rattle.value_trees.specs.Shapes.{IsShaped}
 use Rattle.value_trees.proofs.Forms.{fits_form}
 use Rattle.fc_nodes.specs.Layouts.{LayoutValue, IsLayout, blank_slots}
 use Rattle.fc_nodes.proofs.Blanks.{have_forms}

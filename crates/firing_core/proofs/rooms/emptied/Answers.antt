@@ -1,4 +1,4 @@
-use Rattle.std.proofs.Common.{refl, arith}
+use Rattle.std.proofs.Common.{◌∙◌, refl, arith}
 use Rattle.firing_core.proofs.RoomSteps.{blank_of}
 use Rattle.firing_core.proofs.rooms.emptied.Goals as goal
 

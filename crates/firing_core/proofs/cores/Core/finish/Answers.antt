@@ -17,8 +17,8 @@ index-requires c = let w = flight_within _ c.self.invariant c.in-Some.place c.ar
 pub index_mut-requires-2 : goal.index_mut-requires-2
 index_mut-requires-2 c = let w = flight_within _ c.self.invariant c.in-Some.place c.args.device c.in-Some.ensures.within c.in-Some.ensures.there in omega (arith, w, c.self.inside.flying.ok.0)
 
-pub evaluate-requires : goal.evaluate-requires
-evaluate-requires c =
+pub publish-requires : goal.publish-requires
+publish-requires c =
     subst (λ (U : Unfolding). IsSnap U c.in-Some-as_ref.flight.now) (sym (ap unfolding_of c.deref.ensures))
     (flight_fits _ c.self.invariant c.in-Some.place c.args.device c.in-Some.ensures.within c.in-Some.ensures.there c.index.result.now c.in-Some-as_ref.flight.now c.index.ensures
     (some_read c.as_ref.result c.in-Some-as_ref.flight c.index.result.now c.as_ref.ensures.value c.in-Some-as_ref.is))
