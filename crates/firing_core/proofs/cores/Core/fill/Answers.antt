@@ -1,20 +1,17 @@
 use Rattle.std.proofs.Common.{◌≡◌, ◌<◌, ◌≤◌, ◌∙◌, vec_capacity, sym, ap, subst, refl, map, length, get_or, arith}
-use Rattle.std.specs.Prelude.{IfSome}
 use Rattle.std.specs.Vec.{with_items}
 use Rattle.std.proofs.lemmas.List.{with_items_is}
 use Rattle.fc_values.specs.Values.{local_of}
 use Rattle.fc_values.specs.Exports.{export_of}
-use Rattle.fc_nodes.specs.Program.{Unfolding, unfolding_of}
 use Rattle.value_trees.specs.declared.copies.Snap.{Snap}
-use Rattle.value_trees.specs.Snaps.{snap_copy, near_copy, NearAreExports, IsExportOf, IsSnap}
+use Rattle.value_trees.specs.Snaps.{snap_copy, near_copy, NearAreExports, IsSnap}
 use Rattle.topology.specs.declared.types.Device.{Device}
 use Rattle.topology.specs.Networks.{numbers, inputs_in, near}
 use Rattle.firing_core.specs.Cores.{copy_of, near_copies}
 use Rattle.firing_core.specs.Rooms.{IsBlank, types_of}
 use Rattle.firing_core.specs.CoreViews.{CoreValue, core_of, program_of}
 use Rattle.firing_core.specs.contracts.cores.Core.{the_view}
-use Rattle.firing_core.proofs.Borrowed.{read_value, where_read}
-use Rattle.firing_core.proofs.CoreSteps.{export_within, export_kept}
+use Rattle.firing_core.proofs.Borrowed.{read_value}
 use Rattle.firing_core.proofs.Taken.{Parts, device_inputs, there_forms, taken_copy, taken_snap}
 use Rattle.firing_core.proofs.cores.Core.fill.Goals as goal
 use Rattle.firing_core.proofs.cores.Core.fill.Goals.{After-deref, Joined-blank-3}
