@@ -3,7 +3,6 @@ use Rattle.std.specs.Prelude.{ℕ, ◌≡◌, List, [], ◌∷◌, ◌++◌, map
 use Rattle.fc_values.specs.declared.exports.Export.{Export}
 use Rattle.fc_values.specs.Values.{LocalValue, local_of}
 use Rattle.fc_values.specs.Fields.{Rises}
-use Rattle.fc_values.specs.Exports.{export_of}
 use Rattle.fc_values.specs.Trees.{TreeExport, Copy}
 use Rattle.fc_nodes.specs.Program.{Unfolding}
 use Rattle.value_trees.specs.declared.copies.Near.{Near}
@@ -78,12 +77,6 @@ pub record MayHear (U : Unfolding) (N : Network) (xs : List (Option Export)) (ns
   pub many : length xs ≡ length N.devices
 
 -- ---- what rounds lead to
-
--- slots with the same exports
-abbrev pub SameExports : List (Option Export) → List (Option Export) → Type 0
-SameExports [] [] = Unit {0}
-SameExports (x ∷ xs) (y ∷ ys) = (option_map export_of x ≡ option_map export_of y) × SameExports xs ys
-SameExports _ _ = ⊥
 
 -- the exports of some devices have a field's values
 abbrev pub AllHave : (ℕ → LocalValue) → List ℕ → List (Option Export) → Type 0
