@@ -1,132 +1,137 @@
 //! Columns: the values of a node at all devices, or a field's values at all links.
 
-use crate::groups::{Ear, Group, Spot};
 use fc_values::Memory;
 use std::alloc::Global;
 use std::cmp::Ordering;
 
-/// A value for each place of the network, or for a field one for each link. A truth value is 0 or 1, and a pair has a
-/// part for each of its components.
+/// Where a value is looked for: at a device, by its place in the network, or at a link, by its number.
+#[derive(Clone, Copy, Debug, PartialEq, Eq)]
+pub struct Spot {
+    pub device: u32,
+    pub link: u32,
+}
+
+/// The spot of a device.
+pub fn spot_of(device: u32) -> Spot {
+    Spot { device, link: 0 }
+}
+
+/// What a column has values for: one for all devices, one for each device, or one for each link.
+#[derive(Clone, Copy, Debug, PartialEq, Eq)]
+pub enum Spread {
+    Everywhere,
+    Devices,
+    Links,
+}
+
+/// Values one after another, each as the numbers of its leaves: a truth value is 0 or 1, and a pair has the leaves of
+/// its components.
 #[derive(Drop)]
 pub struct Column {
-    pub is_field: bool,
-    pub parts: Vec<Vec<u32>>,
+    pub spread: Spread,
+    pub width: usize,
+    pub cells: Vec<u32>,
 }
 
 impl Column {
-    /// Zeros.
-    pub fn zeros(alloc: Global, is_field: bool, width: u32, length: u32) -> Result<Column, Memory> {
-        let mut parts = Vec::with_capacity(alloc, width as usize)?;
-        for _ in 0..width {
-            parts.push(vec![in alloc; 0u32; length as usize]?)?;
-        }
-        Ok(Column { is_field, parts })
+    /// So many zeros of so many leaves.
+    pub fn zeros(
+        alloc: Global,
+        spread: Spread,
+        width: usize,
+        many: usize,
+    ) -> Result<Column, Memory> {
+        let cells = vec![in alloc; 0u32; width.saturating_mul(many)]?;
+        Ok(Column {
+            spread,
+            width,
+            cells,
+        })
     }
 
-    /// The same number everywhere.
-    pub fn number(alloc: Global, number: u32, length: u32) -> Result<Column, Memory> {
-        let mut parts = Vec::with_capacity(alloc, 1)?;
-        parts.push(vec![in alloc; number; length as usize]?)?;
-        Ok(Column {
-            is_field: false,
-            parts,
-        })
+    /// A number for each device.
+    pub fn numbers(cells: Vec<u32>) -> Column {
+        Column {
+            spread: Spread::Devices,
+            width: 1,
+            cells,
+        }
     }
 
     /// A copy.
     pub fn copy(&self, alloc: Global) -> Result<Column, Memory> {
-        let mut parts = Vec::with_capacity(alloc, self.parts.len())?;
-        for part in &self.parts {
-            parts.push(Vec::from_slice(alloc, part)?)?;
-        }
         Ok(Column {
-            is_field: self.is_field,
-            parts,
+            spread: self.spread,
+            width: self.width,
+            cells: Vec::from_slice(alloc, &self.cells)?,
         })
     }
 
-    /// A part of the column.
-    pub fn part(&self, index: usize) -> &[u32] {
-        match self.parts.get(index) {
-            Some(part) => part.as_slice(),
-            None => &[],
+    /// Where the leaves of the value at a spot begin.
+    pub fn at(&self, spot: Spot) -> usize {
+        let value = match self.spread {
+            Spread::Everywhere => 0,
+            Spread::Devices => spot.device,
+            Spread::Links => spot.link,
+        };
+        (value as usize).saturating_mul(self.width)
+    }
+
+    /// A leaf, by its place among all.
+    pub fn leaf(&self, at: usize) -> u32 {
+        match self.cells.get(at) {
+            Some(number) => *number,
+            None => 0,
         }
     }
 
-    /// The first part.
-    pub fn first(&self) -> &[u32] {
-        self.part(0)
+    /// The first leaf of the value at a spot.
+    pub fn number(&self, spot: Spot) -> u32 {
+        self.leaf(self.at(spot))
     }
 
-    /// Where a spot is in the column.
-    pub fn at(&self, spot: Spot) -> u32 {
-        if self.is_field {
-            spot.link
-        } else {
-            spot.device
+    /// Puts a number at a spot.
+    pub fn put(&mut self, spot: Spot, number: u32) {
+        let at = self.at(spot);
+        if let Some(cell) = self.cells.get_mut(at) {
+            *cell = number;
         }
     }
 
-    /// Puts a number.
-    pub fn put(&mut self, part: usize, at: u32, number: u32) {
-        if let Some(cells) = self.parts.get_mut(part) {
-            write(cells, at, number);
+    /// Puts the value that a column has at some spot.
+    pub fn carry(&mut self, spot: Spot, from: &Column, there: Spot) {
+        self.carry_leaves(spot, 0, from, from.at(there), from.width);
+    }
+
+    /// Puts so many leaves from one on, behind so many leaves of the own value.
+    pub fn carry_leaves(
+        &mut self,
+        spot: Spot,
+        behind: usize,
+        from: &Column,
+        first: usize,
+        many: usize,
+    ) {
+        let own = self.at(spot).saturating_add(behind);
+        for index in 0..many {
+            let number = from.leaf(first.saturating_add(index));
+            if let Some(cell) = self.cells.get_mut(own.saturating_add(index)) {
+                *cell = number;
+            }
         }
     }
-}
 
-/// A number of a part, or 0 where it has none there.
-pub fn read(part: &[u32], at: u32) -> u32 {
-    match part.get(at as usize) {
-        Some(number) => *number,
-        None => 0,
-    }
-}
-
-/// Writes a number of a part.
-pub fn write(part: &mut [u32], at: u32, number: u32) {
-    if let Some(cell) = part.get_mut(at as usize) {
-        *cell = number;
-    }
-}
-
-/// The order of two columns' values.
-pub fn order(a: &Column, at: u32, b: &Column, to: u32) -> Ordering {
-    for index in 0..a.parts.len() {
-        let first = read(a.part(index), at);
-        let second = read(b.part(index), to);
-        if first != second {
-            return first.cmp(&second);
+    /// The order of the value at a spot and one of another column.
+    pub fn order(&self, spot: Spot, other: &Column, there: Spot) -> Ordering {
+        let own = self.at(spot);
+        let its = other.at(there);
+        for index in 0..self.width {
+            let a = self.leaf(own.saturating_add(index));
+            let b = other.leaf(its.saturating_add(index));
+            if a != b {
+                return a.cmp(&b);
+            }
         }
+        Ordering::Equal
     }
-    Ordering::Equal
-}
-
-/// Copies the value of one column into another.
-pub fn carry(from: &Column, at: u32, into: &mut Column, to: u32) {
-    for index in 0..from.parts.len() {
-        let number = read(from.part(index), at);
-        into.put(index, to, number);
-    }
-}
-
-/// What is heard of a column of local values.
-pub fn heard(alloc: Global, group: &Group, column: &Column, links: u32) -> Result<Column, Memory> {
-    let mut parts = Vec::with_capacity(alloc, column.parts.len())?;
-    for part in &column.parts {
-        parts.push(heard_part(alloc, &group.ears, part, links)?)?;
-    }
-    Ok(Column {
-        is_field: true,
-        parts,
-    })
-}
-
-fn heard_part(alloc: Global, ears: &[Ear], part: &[u32], links: u32) -> Result<Vec<u32>, Memory> {
-    let mut cells = vec![in alloc; 0u32; links as usize]?;
-    for ear in ears {
-        let number = read(part, ear.near);
-        write(&mut cells, ear.link, number);
-    }
-    Ok(cells)
 }

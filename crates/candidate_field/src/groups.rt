@@ -1,25 +1,16 @@
 //! The devices of a branch, and the links among them. Devices are named by their places in the network.
 
+use crate::columns::{Column, Spot, spot_of};
 use fc_values::Memory;
 use std::alloc::Global;
 use topology::Network;
 
-/// A link as one of its devices hears it: that device, the one that is heard, the link's number, its number as the
-/// other device hears it, and its weight.
+/// A link as one of its devices hears it: that device with the link's number, the one that is heard, and the weight.
 #[derive(Clone, Copy, Debug, PartialEq, Eq)]
 pub struct Ear {
-    pub device: u32,
+    pub spot: Spot,
     pub near: u32,
-    pub link: u32,
-    pub back: u32,
     pub weight: u32,
-}
-
-/// Where a value stands in columns: of local values, and of fields.
-#[derive(Clone, Copy, Debug, PartialEq, Eq)]
-pub struct Spot {
-    pub device: u32,
-    pub link: u32,
 }
 
 /// Devices, rising, the links among them by the devices that hear them, and for each place of the network where its
@@ -28,7 +19,7 @@ pub struct Spot {
 pub struct Group {
     pub members: Vec<u32>,
     pub ears: Vec<Ear>,
-    pub ranges: Vec<(u32, u32)>,
+    ranges: Vec<(u32, u32)>,
 }
 
 impl Group {
@@ -42,17 +33,11 @@ impl Group {
             hear_all(net, device.id, place, &mut ears)?;
             place = place.saturating_add(1);
         }
-        let ranges = ranges(alloc, place, &ears)?;
-        let ears = with_backs(alloc, &ears, &ranges)?;
-        Ok(Group {
-            members,
-            ears,
-            ranges,
-        })
+        Group::of(alloc, members, ears, place as usize)
     }
 
-    /// Those devices of a group for which a column of truth values has this truth.
-    pub fn branch(&self, alloc: Global, truths: &[u32], truth: bool) -> Result<Group, Memory> {
+    /// Those devices of a group for which a column has this truth.
+    pub fn branch(&self, alloc: Global, truths: &Column, truth: bool) -> Result<Group, Memory> {
         let mut members = Vec::new(alloc);
         for device in &self.members {
             if is_truth(truths, *device, truth) {
@@ -61,11 +46,32 @@ impl Group {
         }
         let mut ears = Vec::new(alloc);
         for ear in &self.ears {
-            if is_truth(truths, ear.device, truth) && is_truth(truths, ear.near, truth) {
+            if is_truth(truths, ear.spot.device, truth) && is_truth(truths, ear.near, truth) {
                 ears.push(*ear)?;
             }
         }
-        let ranges = ranges(alloc, count(self.ranges.len()), &ears)?;
+        Group::of(alloc, members, ears, self.ranges.len())
+    }
+
+    // A group of so many places.
+    fn of(
+        alloc: Global,
+        members: Vec<u32>,
+        ears: Vec<Ear>,
+        places: usize,
+    ) -> Result<Group, Memory> {
+        let mut ranges = vec![in alloc; (0u32, 0u32); places]?;
+        let mut at = 0u32;
+        for ear in &ears {
+            let from = at;
+            at = at.saturating_add(1);
+            if let Some(range) = ranges.get_mut(ear.spot.device as usize) {
+                if range.1 == 0 {
+                    range.0 = from;
+                }
+                range.1 = at;
+            }
+        }
         Ok(Group {
             members,
             ears,
@@ -73,19 +79,27 @@ impl Group {
         })
     }
 
-    /// The links that the device at a place hears.
-    pub fn heard(&self, place: u32) -> &[Ear] {
-        match self.ranges.get(place as usize) {
-            Some(range) => part(&self.ears, range.0, range.1),
+    /// The links that a device hears.
+    pub fn heard(&self, device: u32) -> &[Ear] {
+        match self.ranges.get(device as usize) {
+            Some(range) => part(&self.ears, range.0 as usize, range.1 as usize),
             None => &[],
         }
+    }
+
+    /// A link as the other device hears it.
+    pub fn back(&self, ear: &Ear) -> Option<Ear> {
+        for other in self.heard(ear.near) {
+            if other.near == ear.spot.device {
+                return Some(*other);
+            }
+        }
+        None
     }
 }
 
 // A part of a list, or nothing where there is none such.
-fn part(ears: &[Ear], from: u32, to: u32) -> &[Ear] {
-    let from = from as usize;
-    let to = to as usize;
+fn part(ears: &[Ear], from: usize, to: usize) -> &[Ear] {
     if from <= to && to <= ears.len() {
         &ears[from..to]
     } else {
@@ -93,23 +107,21 @@ fn part(ears: &[Ear], from: u32, to: u32) -> &[Ear] {
     }
 }
 
-fn is_truth(truths: &[u32], place: u32, truth: bool) -> bool {
-    match truths.get(place as usize) {
-        Some(value) => (*value != 0) == truth,
-        None => false,
-    }
+fn is_truth(truths: &Column, device: u32, truth: bool) -> bool {
+    (truths.number(spot_of(device)) != 0) == truth
 }
 
 // Adds the links of a device.
 fn hear_all(net: &Network, device: u32, place: u32, ears: &mut Vec<Ear>) -> Result<(), Memory> {
     for (near, weight) in net.neighbours(device) {
         if let Some(at) = net.place(*near) {
-            let link = count(ears.len());
-            ears.push(Ear {
+            let spot = Spot {
                 device: place,
-                near: count(at),
-                link,
-                back: 0,
+                link: small(ears.len()),
+            };
+            ears.push(Ear {
+                spot,
+                near: small(at),
                 weight: *weight,
             })?;
         }
@@ -117,51 +129,11 @@ fn hear_all(net: &Network, device: u32, place: u32, ears: &mut Vec<Ear>) -> Resu
     Ok(())
 }
 
-/// A count as a small number.
-pub fn count(n: usize) -> u32 {
-    if n < 4_000_000_000 { n as u32 } else { 0 }
-}
-
-// Where the links of each place begin and end.
-fn ranges(alloc: Global, places: u32, ears: &[Ear]) -> Result<Vec<(u32, u32)>, Memory> {
-    let mut ranges = vec![in alloc; (0u32, 0u32); places as usize]?;
-    let mut at = 0u32;
-    for ear in ears {
-        let from = at;
-        at = at.saturating_add(1);
-        if let Some(range) = ranges.get_mut(ear.device as usize) {
-            if range.1 == 0 {
-                range.0 = from;
-            }
-            range.1 = at;
-        }
+// A count as a small number.
+fn small(count: usize) -> u32 {
+    if count < u32::MAX as usize {
+        count as u32
+    } else {
+        0
     }
-    Ok(ranges)
-}
-
-// Links with their numbers as the other devices hear them.
-fn with_backs(alloc: Global, ears: &[Ear], ranges: &[(u32, u32)]) -> Result<Vec<Ear>, Memory> {
-    let mut done = Vec::with_capacity(alloc, ears.len())?;
-    for ear in ears {
-        done.push(Ear {
-            device: ear.device,
-            near: ear.near,
-            link: ear.link,
-            back: back_of(ears, ranges, ear),
-            weight: ear.weight,
-        })?;
-    }
-    Ok(done)
-}
-
-fn back_of(ears: &[Ear], ranges: &[(u32, u32)], ear: &Ear) -> u32 {
-    let Some(range) = ranges.get(ear.near as usize) else {
-        return 0;
-    };
-    for other in part(ears, range.0, range.1) {
-        if other.near == ear.device {
-            return other.link;
-        }
-    }
-    0
 }

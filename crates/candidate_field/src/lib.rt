@@ -2,14 +2,13 @@
 //! claimed of it, so no function says what it gives: who takes a guess tests it.
 #![tactic(auto)]
 
+mod builtins;
 mod columns;
-mod context;
+mod evaluation;
 mod exports;
-mod few;
 mod groups;
-mod making;
-mod operators;
+mod nodes;
 mod orders;
 mod work;
 
-pub use making::candidate;
+pub use evaluation::candidate;

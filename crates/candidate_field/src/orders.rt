@@ -1,123 +1,204 @@
 //! A `rep` or `share` whose variable occurs in its body, solved device by device: the device with the least value that
 //! isn't settled is settled, or devices go by rising potential.
 
-use crate::columns::{Column, read};
-use crate::context::{Context, kid};
-use crate::few::Few;
-use crate::groups::{Ear, Group, Spot};
-use crate::operators::{apply_few, fold_start, fold_step, picks_second};
-use crate::work::Work;
+use crate::columns::spot_of;
+use crate::groups::Ear;
+use crate::nodes::put;
+use crate::work::{Context, View, Work, kid};
 use fc_nodes::{Node, Op};
-use fc_values::{Builtin, Memory};
-use std::alloc::Global;
+use fc_values::{Builtin, Memory, Ty};
 use std::cmp::Ordering;
 use std::collections::BinaryHeap;
 
-/// A `rep` or `share`: the place of its binder.
+/// How a `rep` or `share` is solved: by rising potential, the variable of a `let`; or smallest first, from the arguments
+/// of a `minHoodLoc`. The plan has the places in the body at which the variable occurs, each behind its kids, and the
+/// parts are the greatest terms without it.
+#[derive(Drop)]
+pub struct Order {
+    by: By,
+    pub plan: Vec<u32>,
+    pub parts: Vec<u32>,
+}
+
 #[derive(Clone, Copy, Debug, PartialEq, Eq)]
-pub struct Own {
-    pub binder: u32,
-    pub is_share: bool,
+enum By {
+    Potential(u32),
+    Hood(u32, u32),
 }
 
-/// What a single value is evaluated in. The terms without the variable have columns.
-#[derive(Clone, Copy)]
-struct Sight<'a, 'b> {
-    context: &'b Context<'a>,
-    work: &'b Work,
-    group: &'b Group,
-    is_share: bool,
-}
-
-/// The values of the `rep` or `share` over a group. The terms of the body without the variable have columns.
-pub fn solve(
-    alloc: Global,
-    context: &Context<'_>,
-    work: &Work,
-    group: &Group,
-    own: &Own,
-    body: u32,
-) -> Result<Column, Memory> {
-    let sight = Sight {
-        context,
-        work,
-        group,
-        is_share: own.is_share,
+/// The order of a `rep` or `share`. There is none where its variable doesn't occur, or in another form than in those.
+pub fn order_of(context: &Context<'_>, place: u32, node: &Node) -> Result<Option<Order>, Memory> {
+    let body = kid(node, 1);
+    let Some(by) = by_of(context, place, body) else {
+        return Ok(None);
     };
-    let width = context.width(body);
-    let zeros = Column::zeros(alloc, false, width, context.devices)?;
-    if let Some(binder) = context.potential(own.binder) {
-        return rising_order(alloc, &sight, body, binder, zeros);
-    }
-    match hood_of(context, body) {
-        Some((field, local)) => {
-            let start = match work.ready(local) {
-                Some(column) => column.copy(alloc)?,
-                None => zeros,
-            };
-            smallest_first(alloc, &sight, field, start)
-        }
-        None => Ok(zeros),
-    }
-}
-
-// The arguments of the `minHoodLoc` that a body is, or that it rises to.
-fn hood_of(context: &Context<'_>, body: u32) -> Option<(u32, u32)> {
-    let node = context.node(body)?;
-    if is_builtin(node, Builtin::Rise) {
-        return hood_args(context.node(kid(node, 0))?);
-    }
-    hood_args(node)
-}
-
-fn hood_args(node: &Node) -> Option<(u32, u32)> {
-    if is_builtin(node, Builtin::MinHoodLoc) {
-        Some((kid(node, 0), kid(node, 1)))
+    let mut order = Order {
+        by,
+        plan: Vec::new(context.alloc),
+        parts: Vec::new(context.alloc),
+    };
+    let plain = add(context, place, body, context.program.size(), &mut order)?;
+    if plain && !order.plan.is_empty() {
+        Ok(Some(order))
     } else {
-        None
+        Ok(None)
     }
 }
 
-fn is_builtin(node: &Node, builtin: Builtin) -> bool {
-    match &node.op {
-        Op::Apply(own) => *own == builtin,
-        _ => false,
+fn by_of(context: &Context<'_>, place: u32, body: u32) -> Option<By> {
+    for (evolving, binder) in context.potentials {
+        if *evolving == place {
+            return Some(By::Potential(kid(context.node(*binder)?, 0)));
+        }
     }
+    let node = context.node(body)?;
+    match &node.op {
+        Op::Apply(Builtin::Rise) => hood_of(context.node(kid(node, 0))?),
+        _ => hood_of(node),
+    }
+}
+
+fn hood_of(node: &Node) -> Option<By> {
+    match &node.op {
+        Op::Apply(Builtin::MinHoodLoc) => Some(By::Hood(kid(node, 0), kid(node, 1))),
+        _ => None,
+    }
+}
+
+// Adds the places of a term to an order, and says whether the variable stands under builtins and `nbr` alone.
+fn add(
+    context: &Context<'_>,
+    binder: u32,
+    place: u32,
+    fuel: u32,
+    order: &mut Order,
+) -> Result<bool, Memory> {
+    if !context.occurs(binder, place) {
+        order.parts.push(place)?;
+        return Ok(true);
+    }
+    let Some(node) = context.node(place) else {
+        return Ok(false);
+    };
+    if fuel == 0 {
+        return Ok(false);
+    }
+    for kid in &node.kids {
+        if !add(context, binder, *kid, fuel - 1, order)? {
+            return Ok(false);
+        }
+    }
+    order.plan.push(place)?;
+    match &node.op {
+        Op::Apply(_) | Op::Nbr | Op::Var(_) => Ok(true),
+        _ => Ok(false),
+    }
+}
+
+/// Puts the values of a `rep` or `share` at all of a group. The parts of its order have their columns.
+pub fn solve(
+    view: &View<'_>,
+    work: &mut Work,
+    place: u32,
+    node: &Node,
+    order: &Order,
+) -> Result<(), Memory> {
+    let zeros = work.open(view.context, place, node)?;
+    work.keep(place, zeros);
+    match order.by {
+        By::Potential(term) => rising_order(view, work, place, kid(node, 1), term, &order.plan),
+        By::Hood(field, local) => {
+            work.copy(view, local, place)?;
+            let fields = fields(view.context, &order.plan)?;
+            smallest_first(view, work, place, field, &fields)
+        }
+    }
+}
+
+// Those places of a list at which fields stand.
+fn fields(context: &Context<'_>, plan: &[u32]) -> Result<Vec<u32>, Memory> {
+    let mut list = Vec::with_capacity(context.alloc, plan.len())?;
+    for place in plan {
+        if let Some(node) = context.node(*place) {
+            if let Ty::Field(_) = &node.ty {
+                list.push(*place)?;
+            }
+        }
+    }
+    Ok(list)
+}
+
+// Values by rising potential: those of the body, at one device after another.
+fn rising_order(
+    view: &View<'_>,
+    work: &mut Work,
+    place: u32,
+    body: u32,
+    term: u32,
+    plan: &[u32],
+) -> Result<(), Memory> {
+    let context = view.context;
+    let mut heap = BinaryHeap::new(context.alloc);
+    let potential = work.column(context.source(term));
+    for device in view.devices {
+        heap.push((u32::MAX - potential.number(spot_of(*device)), *device))?;
+    }
+    for _ in 0..view.devices.len() {
+        if let Some((_, device)) = heap.pop() {
+            solve_at(view, work, place, body, device, plan)?;
+        }
+    }
+    Ok(())
+}
+
+fn solve_at(
+    view: &View<'_>,
+    work: &mut Work,
+    place: u32,
+    body: u32,
+    device: u32,
+    plan: &[u32],
+) -> Result<(), Memory> {
+    let devices = [device];
+    let one = View {
+        context: view.context,
+        group: view.group,
+        devices: &devices,
+        ears: view.group.heard(device),
+    };
+    replay(&one, work, plan)?;
+    work.copy(&one, body, place)
 }
 
 // Values that begin with the local argument of a `minHoodLoc`.
 fn smallest_first(
-    alloc: Global,
-    sight: &Sight<'_, '_>,
+    view: &View<'_>,
+    work: &mut Work,
+    place: u32,
     field: u32,
-    start: Column,
-) -> Result<Column, Memory> {
-    let mut values = start;
-    let mut heap = BinaryHeap::new(alloc);
-    for device in &sight.group.members {
-        heap.push((u32::MAX - read(values.first(), *device), *device))?;
+    plan: &[u32],
+) -> Result<(), Memory> {
+    let context = view.context;
+    let mut heap = BinaryHeap::new(context.alloc);
+    for device in view.devices {
+        let lead = work.column(place).number(spot_of(*device));
+        heap.push((u32::MAX - lead, *device))?;
     }
-    let mut settled = vec![in alloc; false; sight.context.devices as usize]?;
-    let most = sight
-        .group
-        .members
-        .len()
-        .saturating_add(sight.group.ears.len());
-    for _ in 0..most {
-        match heap.pop() {
-            Some((_, device)) => {
-                if is_new(&mut settled, device) {
-                    settle(sight, field, device, &mut values, &mut heap, &settled)?;
-                }
+    let mut settled = vec![in context.alloc; false; context.devices]?;
+    for _ in 0..view.devices.len().saturating_add(view.ears.len()) {
+        if let Some((_, device)) = heap.pop() {
+            if settle(&mut settled, device) {
+                let ears = open(view, device, &settled)?;
+                replay_there(view, work, &ears, plan)?;
+                lower(view, work, place, field, &ears, &mut heap)?;
             }
-            None => return Ok(values),
         }
     }
-    Ok(values)
+    Ok(())
 }
 
 // Marks a device, and says whether it was not marked.
-fn is_new(settled: &mut [bool], device: u32) -> bool {
+fn settle(settled: &mut [bool], device: u32) -> bool {
     match settled.get_mut(device as usize) {
         Some(mark) => {
             let new = !*mark;
@@ -128,177 +209,64 @@ fn is_new(settled: &mut [bool], device: u32) -> bool {
     }
 }
 
-// Looks at the neighbours of a device that is settled once more.
-fn settle(
-    sight: &Sight<'_, '_>,
-    field: u32,
-    device: u32,
-    values: &mut Column,
-    heap: &mut BinaryHeap<(u32, u32)>,
-    settled: &[bool],
-) -> Result<(), Memory> {
-    for ear in sight.group.heard(device) {
-        if !is_settled(settled, ear.near) {
-            let back = Ear {
-                device: ear.near,
-                near: device,
-                link: ear.back,
-                back: ear.link,
-                weight: ear.weight,
-            };
-            let value = few(sight, values, field, &back, 64);
-            let old = Few::of(values, ear.near);
-            if value.order(&old) == Ordering::Less {
-                value.put(values, ear.near);
-                heap.push((u32::MAX - value.first(), ear.near))?;
+// The links by which devices that aren't settled hear a device.
+fn open(view: &View<'_>, device: u32, settled: &[bool]) -> Result<Vec<Ear>, Memory> {
+    let mut ears = Vec::new(view.context.alloc);
+    for ear in view.group.heard(device) {
+        if settled.get(ear.near as usize) == Some(&false) {
+            if let Some(back) = view.group.back(ear) {
+                ears.push(back)?;
             }
         }
     }
+    Ok(ears)
+}
+
+// Puts what is heard at links where it is less than the value.
+fn lower(
+    view: &View<'_>,
+    work: &mut Work,
+    place: u32,
+    field: u32,
+    ears: &[Ear],
+    heap: &mut BinaryHeap<(u32, u32)>,
+) -> Result<(), Memory> {
+    let Some(mut own) = work.take(place) else {
+        return Ok(());
+    };
+    let heard = work.column(view.context.source(field));
+    for ear in ears {
+        if heard.order(ear.spot, &own, ear.spot) == Ordering::Less {
+            own.carry(ear.spot, heard, ear.spot);
+            heap.push((u32::MAX - own.number(ear.spot), ear.spot.device))?;
+        }
+    }
+    work.keep(place, own);
     Ok(())
 }
 
-fn is_settled(settled: &[bool], device: u32) -> bool {
-    match settled.get(device as usize) {
-        Some(mark) => *mark,
-        None => true,
-    }
-}
-
-// Values by rising potential.
-fn rising_order(
-    alloc: Global,
-    sight: &Sight<'_, '_>,
-    body: u32,
-    binder: u32,
-    start: Column,
-) -> Result<Column, Memory> {
-    let mut values = start;
-    let Some(potential) = sight.work.variable(binder) else {
-        return Ok(values);
+// Puts the values of the nodes at these places once more, at links.
+fn replay_there(
+    view: &View<'_>,
+    work: &mut Work,
+    ears: &[Ear],
+    plan: &[u32],
+) -> Result<(), Memory> {
+    let there = View {
+        context: view.context,
+        group: view.group,
+        devices: &[],
+        ears,
     };
-    let mut heap = BinaryHeap::new(alloc);
-    for device in &sight.group.members {
-        heap.push((u32::MAX - read(potential.first(), *device), *device))?;
-    }
-    for _ in 0..sight.group.members.len() {
-        match heap.pop() {
-            Some((_, device)) => {
-                let value = few(sight, &values, body, &alone(device), 64);
-                value.put(&mut values, device);
-            }
-            None => return Ok(values),
+    replay(&there, work, plan)
+}
+
+// Puts the values of the nodes at these places once more.
+fn replay(view: &View<'_>, work: &mut Work, plan: &[u32]) -> Result<(), Memory> {
+    for place in plan {
+        if let Some(node) = view.context.node(*place) {
+            put(view, work, *place, node)?;
         }
     }
-    Ok(values)
-}
-
-// A device that hears itself.
-fn alone(device: u32) -> Ear {
-    Ear {
-        device,
-        near: device,
-        link: 0,
-        back: 0,
-        weight: 0,
-    }
-}
-
-// The value of a term at a device, or a field's at a link, where the variable has these values.
-#[cycle(few)]
-fn few(sight: &Sight<'_, '_>, values: &Column, place: u32, ear: &Ear, depth: u32) -> Few {
-    if let Some(column) = sight.work.ready(place) {
-        let spot = Spot {
-            device: ear.device,
-            link: ear.link,
-        };
-        return Few::of(column, column.at(spot));
-    }
-    let Some(node) = sight.context.node(place) else {
-        return Few::number(0);
-    };
-    if depth == 0 {
-        return Few::number(0);
-    }
-    match &node.op {
-        Op::Var(_) => Few::of(values, if sight.is_share { ear.near } else { ear.device }),
-        Op::Nbr => Few::of(values, ear.near),
-        Op::Apply(builtin) => few_applied(sight, values, node, *builtin, ear, depth - 1),
-        _ => Few::number(0),
-    }
-}
-
-#[cycle(few)]
-fn few_applied(
-    sight: &Sight<'_, '_>,
-    values: &Column,
-    node: &Node,
-    builtin: Builtin,
-    ear: &Ear,
-    depth: u32,
-) -> Few {
-    let ceiling = sight.context.ceiling;
-    match builtin {
-        Builtin::MinHoodLoc | Builtin::MaxHoodLoc => {
-            let mut best = few(sight, values, kid(node, 1), ear, depth);
-            for other in sight.group.heard(ear.device) {
-                let value = few(sight, values, kid(node, 0), other, depth);
-                if picks_second(builtin, best.order(&value)) {
-                    best = value;
-                }
-            }
-            best
-        }
-        Builtin::SumHood | Builtin::AnyHood | Builtin::AllHood => {
-            let mut total = fold_start(builtin);
-            for other in sight.group.heard(ear.device) {
-                let value = few(sight, values, kid(node, 0), other, depth);
-                total = fold_step(builtin, total, value.first(), ceiling);
-            }
-            Few::number(total)
-        }
-        _ => {
-            let a = few(sight, values, kid(node, 0), ear, depth);
-            let b = few_at(sight, values, node, 1, ear, depth);
-            let c = few_at(sight, values, node, 2, ear, depth);
-            apply_few(
-                builtin,
-                &a,
-                &b,
-                &c,
-                split(sight.context, node, builtin),
-                ceiling,
-            )
-        }
-    }
-}
-
-// The value of a kid, if there is one.
-#[cycle(few)]
-fn few_at(
-    sight: &Sight<'_, '_>,
-    values: &Column,
-    node: &Node,
-    index: usize,
-    ear: &Ear,
-    depth: u32,
-) -> Few {
-    match node.kids.get(index) {
-        Some(place) => few(sight, values, *place, ear, depth),
-        None => Few::number(0),
-    }
-}
-
-// How many parts the first component of a pair has.
-fn split(context: &Context<'_>, node: &Node, builtin: Builtin) -> u32 {
-    let first = context.width(kid(node, 0));
-    match builtin {
-        Builtin::Pair => first,
-        Builtin::Fst => own_width(node),
-        Builtin::Snd => first.saturating_sub(own_width(node)),
-        _ => 1,
-    }
-}
-
-fn own_width(node: &Node) -> u32 {
-    crate::context::width(fc_values::inner(&node.ty))
+    Ok(())
 }

@@ -1,26 +1,28 @@
--- A round raises the level of a table by one, and a table that a round doesn't change is at each level.
-use Rattle.std.proofs.Common.{◌≡◌, ℕ, zero, suc, ◌≤◌, List, [], ◌∷◌, map, length, refl, sym, ap, subst, arith, Bool, true, false, nat_eq, if◌then◌else◌, Option, Some, None}
+-- A round raises the level of a table by one, and a table that a round doesn't change outside first values is at each
+-- level.
+use Rattle.std.proofs.Common.{◌≡◌, ℕ, zero, suc, ◌≤◌, List, [], ◌∷◌, map, length, refl, sym, ◌∙◌, ap, subst, arith, Bool, true, false, nat_eq, if◌then◌else◌, Option, Some, None}
 use Rattle.std.proofs.lemmas.Bool.{eqb-true, eq-eqb}
 use Rattle.std.specs.Prelude.{option_map, ◌||◌}
 use Rattle.fc_values.specs.declared.exports.Export.{Export}
 use Rattle.fc_values.specs.Values.{LocalValue}
 use Rattle.fc_values.specs.Fields.{is_in}
-use Rattle.fc_values.specs.Exports.{export_of}
+use Rattle.fc_values.specs.Exports.{slots_of}
 use Rattle.fc_values.specs.Trees.{TreeExport}
 use Rattle.fc_nodes.specs.Program.{Program, Unfolding, unfolding_of, IsProgram}
-use Rattle.fc_nodes.specs.Flat.{tree_export}
 use Rattle.value_trees.specs.Copies.{WhereSome}
 use Rattle.value_trees.specs.Snaps.{tree_of, IsExportOf}
-use Rattle.topology.specs.Networks.{Network, numbers, Lives, IsNetwork}
+use Rattle.topology.specs.Networks.{Network, numbers, Lives, lives, IsNetwork}
 use Rattle.firing_core.specs.Cores.{GoodExport}
 use Rattle.firing_core.specs.CoreViews.{slot_at, AllExports}
-use Rattle.interval_facts.specs.Solutions.{SolvesMain}
+use Rattle.interval_facts.specs.Solutions.{SolvesMain, local_map, no_binders}
 use Rattle.converge_laws.specs.CoreLevels.{ExportLevel, MaybeAt, TableAt, GoodTable, Raises}
-use Rattle.converge_laws.specs.Invariant.{ExportAt}
+use Rattle.converge_laws.specs.Invariant.{ExportAt, no_stage}
 use Rattle.converge_laws.specs.Laws.{SolutionsRaiseLevels, IsAnalysis, root_level}
 use Rattle.converge_laws.specs.Verdicts.{analysis_of}
-use Rattle.stable_field.specs.Tables.{table_of, IsTable, IsFiring, AreFirings, SameExports, AllHave, HaveSolution}
+use Rattle.stable_field.specs.Tables.{table_of, IsTable, IsFiring, AreFirings, AllHave, HaveSolution}
+use Rattle.stable_field.specs.Outside.{AreOutside, SameExport, SameExports}
 use Rattle.stable_field.specs.Levels.{IsAtLevel}
+use Rattle.stable_field.proofs.SameLevels.{holds_same}
 
 -- the exports in slots are well-typed ones of devices that are there
 good_slots : (U : Unfolding) (N : Network) (is : List ℕ) (xs : List (Option Export)) → ((d : ℕ) → is_in d is ≡ true → Lives N d) → AllExports U xs
@@ -96,19 +98,6 @@ module _ (U : Unfolding) (N : Network) (P : ExportLevel) (raises : Raises P U N)
     pub next_level : (ys : List (Option Export)) → AreFirings U N xs (numbers N.devices) ys → TableAt P N (suc j) (table_of U N ys)
     next_level ys f = raised (numbers N.devices) ys f (λ d h. h)
 
--- slots with the same exports are the same table
-same_tables : (U : Unfolding) (is : List ℕ) (xs ys : List (Option Export)) → SameExports xs ys → map (option_map (tree_of U)) xs ≡ map (option_map (tree_of U)) ys
-same_tables U is [] [] s = refl
-same_tables U is [] (y ∷ ys) s = absurd s
-same_tables U is (x ∷ xs) [] s = absurd s
-same_tables U is (x ∷ xs) (y ∷ ys) s = let h = one x y s.0 in let r = same_tables U is xs ys s.1 in cc
-  where
-    one : (a b : Option Export) → option_map export_of a ≡ option_map export_of b → option_map (tree_of U) a ≡ option_map (tree_of U) b
-    one None None q = refl
-    one None (Some b) q = absurd cc
-    one (Some a) None q = absurd cc
-    one (Some a) (Some b) q = let h : export_of a ≡ export_of b = cc in ap (λ z. Some (tree_export U z)) h
-
 module _ (laws : SolutionsRaiseLevels) (P : Program) (N : Network) (program : IsProgram P) (net : IsNetwork N) (same : N.declared ≡ P.declared) (an : IsAnalysis P (analysis_of P (length N.devices)) N) where
   abbrev U : Unfolding
   U = unfolding_of P
@@ -125,12 +114,42 @@ module _ (laws : SolutionsRaiseLevels) (P : Program) (N : Network) (program : Is
   pub rises : (xs ys : List (Option Export)) (j : ℕ) → IsTable U N xs → AreFirings U N xs (numbers N.devices) ys → IsAtLevel P N j xs → IsAtLevel P N (suc j) ys
   rises xs ys j t f at F s = next_level U N (At F s) (up F s) xs t j (at F s) ys f
 
-  -- a table that a round doesn't change is at each level
-  stays_at : (xs ys : List (Option Export)) → IsTable U N xs → AreFirings U N xs (numbers N.devices) ys → SameExports xs ys → (j : ℕ) → IsAtLevel P N j xs
-  stays_at xs ys t f q zero = starts xs t
-  stays_at xs ys t f q (suc j) =
-      let r = rises xs ys j t f (stays_at xs ys t f q j) in
-      λ F s. subst (λ zs. TableAt (At F s) N (suc j) (slot_at (numbers N.devices) zs)) (sym (same_tables U (numbers N.devices) xs ys q)) (r F s)
+  module _ (is : List ℕ) (all : AreOutside U.main is) where
+    -- an export that is another one outside first values is at its levels
+    same_export : (F : ℕ → LocalValue) (s : SolvesMain N U.main F) (j d : ℕ) (a b : Export) → IsExportOf U a → SameExport is (Some a) (Some b) → At F s j d (tree_of U b) → At F s j d (tree_of U a)
+    same_export F s j d a b w e h = record {
+      typed = w.typed;
+      value = λ l. e.0 ∙ h.value l;
+      holds = holds_same (analysis_of P (length N.devices)) N j d (slots_of a.slots.list.items) (slots_of b.slots.list.items) U.main 0 0 1 (no_stage U.main) (λ q. 0) (lives N) no_binders (local_map F) s
+          (all (slots_of a.slots.list.items) (slots_of b.slots.list.items) e.1) h.holds;
+    }
+
+    moved : (F : ℕ → LocalValue) (s : SolvesMain N U.main F) (j d : ℕ) (ds : List ℕ) (xs ys : List (Option Export)) → SameExports is xs ys → AllExports U xs
+        → MaybeAt (At F s) j d (slot_at ds (map (option_map (tree_of U)) ys) d) → MaybeAt (At F s) j d (slot_at ds (map (option_map (tree_of U)) xs) d)
+    moved F s j d [] xs ys q w h = h
+    moved F s j d (c ∷ ds) [] [] q w h = h
+    moved F s j d (c ∷ ds) [] (y ∷ ys) q w h = absurd q
+    moved F s j d (c ∷ ds) (x ∷ xs) [] q w h = absurd q
+    moved F s j d (c ∷ ds) (x ∷ xs) (y ∷ ys) q w h = by_test (nat_eq d c) h (moved F s j d ds xs ys q.1 w.1)
+      where
+        by_slot : (x y : Option Export) → SameExport is x y → WhereSome (IsExportOf U) x → MaybeAt (At F s) j d (option_map (tree_of U) y) → MaybeAt (At F s) j d (option_map (tree_of U) x)
+        by_slot None None q w h = h
+        by_slot None (Some b) q w h = absurd q
+        by_slot (Some a) None q w h = absurd q
+        by_slot (Some a) (Some b) q w h = same_export F s j d a b w q h
+
+        by_test : (t : Bool) → MaybeAt (At F s) j d (if t then option_map (tree_of U) y else slot_at ds (map (option_map (tree_of U)) ys) d)
+            → (MaybeAt (At F s) j d (slot_at ds (map (option_map (tree_of U)) ys) d) → MaybeAt (At F s) j d (slot_at ds (map (option_map (tree_of U)) xs) d))
+            → MaybeAt (At F s) j d (if t then option_map (tree_of U) x else slot_at ds (map (option_map (tree_of U)) xs) d)
+        by_test true h ih = by_slot x y q.0 w.0 h
+        by_test false h ih = ih h
+
+    -- a table that a round doesn't change outside first values is at each level
+    stays_at : (xs ys : List (Option Export)) → IsTable U N xs → AreFirings U N xs (numbers N.devices) ys → SameExports is xs ys → (j : ℕ) → IsAtLevel P N j xs
+    stays_at xs ys t f q zero = starts xs t
+    stays_at xs ys t f q (suc j) =
+        let r = rises xs ys j t f (stays_at xs ys t f q j) in
+        λ F s d l. moved F s (suc j) d (numbers N.devices) xs ys q t.exports (r F s d l)
 
   -- firings that see a table at the level of `main` have the values of the solution
   pub have_solution : (xs ys : List (Option Export)) (j : ℕ) → IsTable U N xs → AreFirings U N xs (numbers N.devices) ys → IsAtLevel P N j xs
@@ -151,6 +170,6 @@ module _ (laws : SolutionsRaiseLevels) (P : Program) (N : Network) (program : Is
           or_true n true i = refl
           or_true n false i = i
 
-  pub stays_solution : (xs ys : List (Option Export)) → IsTable U N xs → AreFirings U N xs (numbers N.devices) ys → SameExports xs ys → HaveSolution U N ys
-  stays_solution xs ys t f q =
-      have_solution xs ys (root_level P (analysis_of P (length N.devices))) t f (stays_at xs ys t f q (root_level P (analysis_of P (length N.devices)))) (omega arith)
+  pub stays_solution : (is : List ℕ) → AreOutside U.main is → (xs ys : List (Option Export)) → IsTable U N xs → AreFirings U N xs (numbers N.devices) ys → SameExports is xs ys → HaveSolution U N ys
+  stays_solution is all xs ys t f q =
+      have_solution xs ys (root_level P (analysis_of P (length N.devices))) t f (stays_at is all xs ys t f q (root_level P (analysis_of P (length N.devices)))) (omega arith)

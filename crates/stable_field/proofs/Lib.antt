@@ -1,6 +1,8 @@
 mod Slots
 mod Hearing
 mod Levels
+mod SameLevels
+mod OutsideSlots
 pub mod OneField
 mod Firings
 mod Beginning

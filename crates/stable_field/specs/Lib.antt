@@ -2,3 +2,4 @@ pub mod Stable
 pub mod Tables
 pub mod Levels
 pub mod Columns
+pub mod Outside

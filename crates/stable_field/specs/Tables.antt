@@ -2,7 +2,6 @@
 use Rattle.std.specs.Prelude.{ℕ, ◌≡◌, List, [], ◌∷◌, map, length, Option, Some, None, option_map}
 use Rattle.fc_values.specs.declared.exports.Export.{Export}
 use Rattle.fc_values.specs.Values.{LocalValue, local_of}
-use Rattle.fc_values.specs.Exports.{export_of}
 use Rattle.fc_values.specs.Trees.{TreeExport, Copy}
 use Rattle.fc_nodes.specs.Program.{Unfolding}
 use Rattle.value_trees.specs.declared.copies.Near.{Near}
@@ -52,12 +51,6 @@ heard_from is xs [] = []
 heard_from is xs (n ∷ ns) = heard_with n (slot_at is xs n.0) (heard_from is xs ns)
 
 -- ---- what rounds lead to
-
--- slots with the same exports
-abbrev pub SameExports : List (Option Export) → List (Option Export) → Type 0
-SameExports [] [] = Unit {0}
-SameExports (x ∷ xs) (y ∷ ys) = (option_map export_of x ≡ option_map export_of y) × SameExports xs ys
-SameExports _ _ = ⊥
 
 -- the exports of some devices have a field's values
 abbrev pub AllHave : (ℕ → LocalValue) → List ℕ → List (Option Export) → Type 0

@@ -6,6 +6,7 @@ mod fields;
 mod firing;
 mod guesses;
 mod joining;
+mod outside;
 mod rounds;
 mod sameness;
 mod stabilised;

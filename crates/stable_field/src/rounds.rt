@@ -8,6 +8,7 @@ ghost use Rattle.converge_laws.specs.Verdicts.{analysis_of};
 ghost use Rattle.stable_field.specs.Tables.{IsTable, AreFirings, HaveSolution};
 
 use crate::firing::{Slots, fired};
+use crate::outside::slots_outside;
 use crate::sameness::same_exports;
 use converge_laws::solutions_raise_levels;
 use fc_nodes::Unfolded;
@@ -15,8 +16,8 @@ use fc_values::Memory;
 use std::alloc::Global;
 use topology::Network;
 
-/// Exports with the values of the solution: those to which rounds from a table lead, until a round changes nothing or
-/// so many are done.
+/// Exports with the values of the solution: those to which rounds from a table lead, until a round changes nothing
+/// outside first values or so many are done.
 pub fn settled(
     alloc: Global,
     program: &Unfolded,
@@ -33,10 +34,11 @@ pub fn settled(
     let _program = program.declared();
     let _network = net.declared();
     solutions_raise_levels();
+    let slots = slots_outside(alloc, program)?;
     let mut table = start;
     for done in 0..rounds {
         let next = round(alloc, program, net, &table)?;
-        let stays = same_exports(&table, &next);
+        let stays = same_exports(&table, &next, &slots);
         table = next;
         if stays {
             return Ok(table);

@@ -1,52 +1,65 @@
-//! Whether exports are the same.
+//! Whether exports are the same, but for first values.
 
-ghost use Rattle.std.specs.Prelude.{◌≡◌, IsTrue, option_map};
+ghost use Rattle.std.specs.Prelude.{◌≡◌, ◌<◌, IsTrue, length};
 ghost use Rattle.fc_values.specs.Values.{local_of};
-ghost use Rattle.fc_values.specs.Exports.{export_of, slots_of};
-ghost use Rattle.stable_field.specs.Tables.{SameExports};
+ghost use Rattle.fc_values.specs.Exports.{slot_of, slots_of, slot_at};
+ghost use Rattle.stable_field.specs.Outside.{SameAt, SameExport, SameExports};
 
-use fc_values::{Export, Local, Slot};
+use fc_values::{Local, Slot};
 use value_trees::Published;
 
-/// Whether two tables have the same exports.
-pub fn same_exports(a: &[Option<Published>], b: &[Option<Published>]) -> bool
-    ensures { IsTrue result → SameExports a.now b.now }
+/// Whether two tables have exports with the same values, and the same in some slots.
+pub fn same_exports(a: &[Option<Published>], b: &[Option<Published>], slots: &[u32]) -> bool
+    ensures { IsTrue result → SameExports slots.now a.now b.now }
 {
-    let Some((first, rest)) = a.split_first() else {
-        return b.is_empty();
-    };
-    let Some((second, others)) = b.split_first() else {
+    if a.len() != b.len() {
         return false;
-    };
-    same_slot(first, second) && same_exports(rest, others)
+    }
+    for place in 0..a.len() {
+        if !same_export(&a[place], &b[place], slots) {
+            return false;
+        }
+    }
+    true
 }
 
-fn same_slot(a: &Option<Published>, b: &Option<Published>) -> bool
-    ensures { IsTrue result → option_map export_of a.now ≡ option_map export_of b.now }
+fn same_export(a: &Option<Published>, b: &Option<Published>, slots: &[u32]) -> bool
+    ensures { IsTrue result → SameExport slots.now a.now b.now }
 {
     match (a, b) {
-        (Some(a), Some(b)) => same_export(a.get(), b.get()),
+        (Some(a), Some(b)) => {
+            let (a, b) = (a.get(), b.get());
+            same_local(&a.value, &b.value) && same_slots(&a.slots.list, &b.slots.list, slots)
+        }
         (None, None) => true,
         _ => false,
     }
 }
 
-fn same_export(a: &Export, b: &Export) -> bool
-    ensures { IsTrue result → export_of a.now ≡ export_of b.now }
+fn same_slots(a: &[Slot], b: &[Slot], slots: &[u32]) -> bool
+    ensures { IsTrue result → SameAt slots.now (slots_of a.now) (slots_of b.now) }
 {
-    same_local(&a.value, &b.value) && same_slots(&a.slots.list, &b.slots.list)
+    for slot in slots {
+        let at = *slot as usize;
+        if at >= a.len() || at >= b.len() || !same_at(a, b, at) {
+            return false;
+        }
+    }
+    true
 }
 
-fn same_slots(a: &[Slot], b: &[Slot]) -> bool
-    ensures { IsTrue result → slots_of a.now ≡ slots_of b.now }
+fn same_at(a: &[Slot], b: &[Slot], at: usize) -> bool
+    requires first { at < length a.now }
+    requires second { at < length b.now }
+    ensures { IsTrue result → slot_at at (slots_of a.now) ≡ slot_at at (slots_of b.now) }
 {
-    let Some((first, rest)) = a.split_first() else {
-        return b.is_empty();
-    };
-    let Some((second, others)) = b.split_first() else {
-        return false;
-    };
-    first.kept == second.kept && same_local(&first.value, &second.value) && same_slots(rest, others)
+    same_slot(&a[at], &b[at])
+}
+
+fn same_slot(a: &Slot, b: &Slot) -> bool
+    ensures { IsTrue result → slot_of a.now ≡ slot_of b.now }
+{
+    a.kept == b.kept && same_local(&a.value, &b.value)
 }
 
 fn same_local(a: &Local, b: &Local) -> bool

@@ -2,7 +2,7 @@ use Rattle.std.proofs.Common.{rules, ◌≤◌, ◌∙◌, subst, arith, add-one
 use Rattle.std.proofs.lemmas.List.{length-map}
 use Rattle.fc_nodes.specs.Program.{unfolding_of}
 use Rattle.topology.specs.Networks.{NetDevice, numbers}
-use Rattle.stable_field.specs.Tables.{SameExports}
+use Rattle.stable_field.specs.Outside.{SameExports}
 use Rattle.stable_field.proofs.Levels.{starts, rises, have_solution, stays_solution, firings_table}
 use Rattle.stable_field.proofs.rounds.settled.Goals as goal
 
@@ -15,8 +15,10 @@ loop-done-init c = record {
 pub returns-then-stays : goal.returns-then-stays
 returns-then-stays c =
     stays_solution c.solutions_raise_levels.ensures c.args.program.now c.args.net.now c.declared-program.ensures.program c.declared-network.ensures.network c.requires.declared c.requires.analysis
+    c.in_ok-slots.slots.items c.in_ok-slots.ensures
     c.loop-done.table.items c.in_ok-next.next.items c.loop-done.invariant.table c.in_ok-next.ensures
-    (subst (λ xs. SameExports xs c.in_ok-next.next.items) c.deref.ensures.value (subst (SameExports c.deref.result.now) c.deref-in-loop-done.ensures.value (c.if-stays.ensures (search rules))))
+    (subst (λ is. SameExports is c.loop-done.table.items c.in_ok-next.next.items) c.deref-in-loop-done-2.ensures.value
+    (subst (λ xs. SameExports c.deref-in-loop-done-2.result.now xs c.in_ok-next.next.items) c.deref.ensures.value (subst (SameExports c.deref-in-loop-done-2.result.now c.deref.result.now) c.deref-in-loop-done.ensures.value (c.if-stays.ensures (search rules)))))
 
 pub loop-done-preserved : goal.loop-done-preserved
 loop-done-preserved c =
