@@ -116,7 +116,7 @@ fn a_book_is_settled(rt: HostRuntime) -> Result<(), Fail> {
     Ok(())
 }
 
-// One firing of device 0 in a room. The room of its two copies comes back.
+// One firing of device 0 in a room, which comes back.
 fn fire_in(alloc: Global, book: &mut Book, room: Room) -> Result<Room, Fail>
     requires { IsRoom (unfolding_of book.old.program) room }
     ensures { IfOk result (IsRoom (unfolding_of book.new.program)) }
@@ -128,10 +128,10 @@ fn fire_in(alloc: Global, book: &mut Book, room: Room) -> Result<Room, Fail>
     let Ok(fired) = fire(alloc, book.program(), snap) else {
         return Err(Fail::new("there was no memory"));
     };
-    let Ok((first, second)) = book.end(fired) else {
+    let Ok((flight, copy)) = book.end(fired) else {
         return Err(Fail::new("no end"));
     };
-    Ok(Room::again(first, second)?)
+    Ok(Room::again(flight, copy)?)
 }
 
 #[test]

@@ -1,5 +1,5 @@
 -- The slots of a core in code after an edit.
-use Rattle.std.proofs.Common.{◌≡◌, ℕ, zero, suc, ◌<◌, List, [], ◌∷◌, length, map, get_or, refl, sym, ◌∙◌, ap, subst, arith, Bool, true, false, not, nat_eq, nat_lt, nat_le, if◌then◌else◌, ◌||◌, Option, Some, None, is_some, length-set}
+use Rattle.std.proofs.Common.{◌≡◌, ℕ, zero, suc, ◌<◌, List, [], ◌∷◌, length, map, get_or, refl, sym, ◌∙◌, ap, subst, arith, Bool, true, false, not, nat_eq, nat_lt, nat_le, if◌then◌else◌, ◌||◌, Option, Some, None, length-set}
 use Rattle.std.specs.Prelude.{slice_set, option_map}
 use Rattle.std.specs.List.{insert, remove, prefix_len}
 use Rattle.std.proofs.Math.Path.{fun_ext}
@@ -30,7 +30,7 @@ use Rattle.topology.proofs.Lemmas.{map_remove, remove_device}
 use Rattle.firing_core.specs.Entries.{EditValue, LinkEdit, UnlinkEdit, SetEdit, PokeEdit, JoinEdit, LeaveEdit}
 use Rattle.firing_core.specs.Cores.{Map, put, Core, on_net, Edits, edit_fault, edited}
 use Rattle.firing_core.specs.CoreViews.{CoreValue, core_of, program_of, slot_at, AllExports, AllFlights, IsCore}
-use Rattle.firing_core.proofs.Slots.{Distinct, rises_distinct, slot_none}
+use Rattle.firing_core.proofs.Slots.{Distinct, rises_distinct}
 use Rattle.firing_core.proofs.Views.{many_flights, many_numbers}
 use Rattle.firing_core.proofs.CoreSteps.{slot_write, exports_set}
 

@@ -14,10 +14,10 @@ use Rattle.device_eval.specs.Firing.{FiredValue, IsFired}
 use Rattle.firing_core.specs.Entries.{BeginEntry, EndEntry}
 use Rattle.firing_core.specs.declared.entries.StepFault.TheVariants as fault
 use Rattle.topology.specs.Networks.{Network, numbers, lives}
-use Rattle.firing_core.specs.Cores.{Map, put, Core, copy_of, begun, ended, Ends}
+use Rattle.firing_core.specs.Cores.{put, Core, copy_of, begun, ended, Ends}
 use Rattle.firing_core.specs.Replays.{fault_of}
 use Rattle.firing_core.specs.CoreViews.{CoreValue, core_of, program_of, slot_at, AllExports, AllFlights, FlightOf, IsCore}
-use Rattle.firing_core.proofs.Slots.{Distinct, rises_distinct, slot_here, slot_set}
+use Rattle.firing_core.proofs.Slots.{Distinct, rises_distinct, slot_set}
 use Rattle.firing_core.proofs.Views.{many_flights, many_numbers}
 
 -- reading the slot of the device at a place

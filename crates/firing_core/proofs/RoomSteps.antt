@@ -1,26 +1,16 @@
 -- What rooms hold: copies without exports.
-use Rattle.std.proofs.Common.{◌≡◌, ℕ, zero, suc, ◌<◌, ◌≤◌, List, [], ◌∷◌, ◌++◌, length, map, take, drop, get_or, refl, sym, ◌∙◌, ap, subst, arith, Some, None}
+use Rattle.std.proofs.Common.{◌≡◌, ℕ, zero, suc, ◌<◌, ◌≤◌, List, [], ◌∷◌, length, map, take, drop, get_or, refl, sym, ◌∙◌, ap, subst, arith, None}
 use Rattle.std.specs.Prelude.{slice_set, vec_capacity}
 use Rattle.fc_values.specs.declared.values.Local.{Local}
-use Rattle.fc_values.specs.declared.exports.Export.{Export}
 use Rattle.fc_values.specs.declared.types.InputTy.{InputTy}
 use Rattle.fc_values.specs.declared.types.InputTy.TheVariants as input
 use Rattle.fc_values.specs.declared.types.InputDecl.{InputDecl}
-use Rattle.fc_values.specs.Types.{ValueType, Declarations, Input, input_of, input_type, type_of as value_type_of}
-use Rattle.fc_values.specs.BuiltinTypes.{inner}
+use Rattle.fc_values.specs.Types.{Declarations, Input, input_of, input_type}
 use Rattle.fc_values.specs.Values.{LocalValue, IntValue, BoolValue, PairValue, local_of, form_of, SameForm}
-use Rattle.fc_values.specs.Exports.{FlatExport, export_of}
-use Rattle.fc_nodes.specs.declared.nodes.Node.{Node}
-use Rattle.fc_nodes.specs.Terms.{Term, Plain, Apply, Nbr, Evolve, If, Let, Sort, HasNode, Laid, type_of, kept_types, view_at, view_of, sort_of}
-use Rattle.fc_nodes.specs.Program.{Program, IsProgram, Unfolding, unfolding_of}
-use Rattle.fc_nodes.specs.Flat.{IsExport, HaveForms}
-use Rattle.value_trees.specs.declared.copies.Near.{Near}
+use Rattle.fc_nodes.specs.Program.{Unfolding}
 use Rattle.value_trees.specs.declared.copies.Snap.{Snap}
 use Rattle.fc_values.specs.Inputs.{InputFits, InputsFit}
-use Rattle.value_trees.specs.Snaps.{IsExportOf, NearAreExports, IsSnap}
-use Rattle.value_trees.proofs.Forms.{fits_form}
-use Rattle.fc_nodes.specs.Layouts.{LayoutValue, IsLayout, blank_slots}
-use Rattle.fc_nodes.proofs.Blanks.{have_forms}
+use Rattle.value_trees.specs.Snaps.{IsSnap}
 use Rattle.firing_core.specs.Rooms.{types_of, declared_types, IsBlank}
 use Rattle.fc_values.proofs.Forms.{same_form}
 

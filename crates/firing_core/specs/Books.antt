@@ -1,5 +1,5 @@
 -- Books: a program, a start, a log, and the core to which the log leads.
-use Rattle.std.specs.Prelude.{ℕ, Bool, false, ◌≡◌, List, [], ◌∷◌, ◌++◌, map, length, if◌then◌else◌, Some, None, is_some, Result, Err}
+use Rattle.std.specs.Prelude.{ℕ, ◌≡◌, List, [], ◌∷◌, ◌++◌, map, length, if◌then◌else◌, Some, None, is_some, Result, Err}
 use Rattle.fc_values.specs.Trees.{Copy}
 use Rattle.topology.specs.Networks.{numbers}
 use Rattle.fc_nodes.specs.Program.{Program, Unfolding, unfolding_of}

@@ -12,5 +12,5 @@ pub mod QuietStarts
 pub mod Starting
 pub mod Replayed
 pub mod HeardNear
-pub mod MailGood
+pub mod MailSteps
 pub mod MailEnds

@@ -7,7 +7,8 @@ use Rattle.message_links.specs.MailCores.{MailCore, MailEntryValue, MailStep, Ma
 use Rattle.message_links.specs.declared.entries.MailFault.{MailFault}
 use Rattle.mail_book.specs.MailReplays.{mail_fault}
 use Rattle.mail_book.specs.MailLaws.{MailLogsEnd, MailLogsLeadToOne, MailLogsFailOnce, MailLogsLeadOrFail}
-use Rattle.mail_book.proofs.MailGood.{IsMailGood, start_good, step_good, step_one, step_free, step_or_fault}
+use Rattle.message_links.proofs.GoodMails.{IsMailGood, start_good, step_good}
+use Rattle.mail_book.proofs.MailSteps.{step_one, step_free, step_or_fault}
 
 -- the first entry without a step, from a position on
 pub record FailsFrom (U : Unfolding) (at : ℕ) (c : MailCore) (log : List MailEntryValue) (index : ℕ) (why : MailFault) : Type 0 where

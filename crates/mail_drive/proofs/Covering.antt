@@ -18,7 +18,7 @@ use Rattle.mail_drive.specs.Laws.{nothing, RoundsCover, DrivenRounds}
 -- ---- posts
 
 -- entries that speak of messages of other pairs
-abbrev OtherPair : ℕ → ℕ → MailEntryValue → Type 0
+abbrev pub OtherPair : ℕ → ℕ → MailEntryValue → Type 0
 OtherPair a b (MailBegin d) = ⊥
 OtherPair a b (MailEnd d) = ⊥
 OtherPair a b MailIdle = ⊥
@@ -26,7 +26,7 @@ OtherPair a b (MailDeliver c d) = (nat_eq a c && nat_eq b d) ≡ false
 OtherPair a b (MailAgain c d) = (nat_eq a c && nat_eq b d) ≡ false
 OtherPair a b (MailLose c d i) = (nat_eq a c && nat_eq b d) ≡ false
 
-abbrev AllOther : ℕ → ℕ → List MailEntryValue → Type 0
+abbrev pub AllOther : ℕ → ℕ → List MailEntryValue → Type 0
 AllOther a b [] = Unit {0}
 AllOther a b (e ∷ es) = OtherPair a b e × AllOther a b es
 
@@ -43,7 +43,7 @@ module _ (N : Network) (a b : ℕ) where
   away at p (MailAgain c d) h = refl
   away at p (MailLose c d i) h = rw h refl
 
-  stays : (at : ℕ) (p : Posts) (es : List MailEntryValue) → AllOther a b es → posts_along N at p es a b ≡ p a b
+  pub stays : (at : ℕ) (p : Posts) (es : List MailEntryValue) → AllOther a b es → posts_along N at p es a b ≡ p a b
   stays at p [] h = refl
   stays at p (e ∷ es) h = stays (suc at) (posts_after N at p e) es h.1 ∙ away at p e h.0
 
@@ -94,13 +94,13 @@ module _ (N : Network) (a b : ℕ) where
       by_test t = let k = none (nat_eq a d) in rw h (rw k refl)
 
   -- two messages of the device are in transit
-  record Sent (at : ℕ) (p : Posts) (ds : List ℕ) : Type 0 where
-    before : List MailEntryValue
-    after : List MailEntryValue
-    cut : firings ds ≡ before ++ (twice a ++ after)
-    posts : posts_along N at p (firings ds) a b ≡ Some (at + (length before + 1)) ∷ Some (at + (length before + 3)) ∷ []
+  pub record Sent (at : ℕ) (p : Posts) (ds : List ℕ) : Type 0 where
+    pub before : List MailEntryValue
+    pub after : List MailEntryValue
+    pub cut : firings ds ≡ before ++ (twice a ++ after)
+    pub posts : posts_along N at p (firings ds) a b ≡ Some (at + (length before + 1)) ∷ Some (at + (length before + 3)) ∷ []
 
-  sent : (at : ℕ) (p : Posts) (ds : List ℕ) → Rises ds → is_in a ds ≡ true → reaches N a b ≡ true → p a b ≡ [] → Sent at p ds
+  pub sent : (at : ℕ) (p : Posts) (ds : List ℕ) → Rises ds → is_in a ds ≡ true → reaches N a b ≡ true → p a b ≡ [] → Sent at p ds
   sent at p [] r h l e = absurd cc
   sent at p (d ∷ ds) r h l e = by_test (nat_eq a d) refl h (λ i f. sent (suc (suc (suc (suc at)))) (posts_along N at p (twice d)) ds (rises_tail d ds r) i l f)
     where
@@ -131,7 +131,7 @@ module _ (N : Network) (a b : ℕ) where
 
 -- ---- what is brought
 
-other_bring : (a b c d w : ℕ) → (nat_eq a c && nat_eq b d) ≡ false → AllOther a b (brought c d w)
+pub other_bring : (a b c d w : ℕ) → (nat_eq a c && nat_eq b d) ≡ false → AllOther a b (brought c d w)
 other_bring a b c d w h = by_tests ((w % 4) == 0) ((w % 4) == 1)
   where
     by_tests : (s t : Bool) → AllOther a b (if s then MailLose c d 0 ∷ MailDeliver c d ∷ [] else (if t then MailAgain c d ∷ MailDeliver c d ∷ MailDeliver c d ∷ [] else MailDeliver c d ∷ MailDeliver c d ∷ []))
@@ -162,12 +162,12 @@ module _ (N : Network) (a b : ℕ) where
     last = other_more a b f.after es f.last h;
   }
 
-  and_last : (t : Bool) → (t && false) ≡ false
+  pub and_last : (t : Bool) → (t && false) ≡ false
   and_last true = refl
   and_last false = refl
 
   -- of another device, and to others
-  from_other : (d : ℕ) (ns : List (ℕ × ℕ)) (ws : Words) → nat_eq a d ≡ false → AllOther a b (brings_from d ns ws).0
+  pub from_other : (d : ℕ) (ns : List (ℕ × ℕ)) (ws : Words) → nat_eq a d ≡ false → AllOther a b (brings_from d ns ws).0
   from_other d [] ws q = tt
   from_other d (n ∷ ns) ws q = other_more a b (brought d n.0 (next ws).0) (brings_from d ns (next ws).1).0 (other_bring a b d n.0 (next ws).0 (rw q refl)) (from_other d ns (next ws).1 q)
 
@@ -230,7 +230,7 @@ module _ (N : Network) (a b : ℕ) where
 
 -- ---- a round
 
-near_lives : (N : Network) (a b : ℕ) → IsNetwork N → reaches N a b ≡ true → is_in a (numbers N.devices) ≡ true
+pub near_lives : (N : Network) (a b : ℕ) → IsNetwork N → reaches N a b ≡ true → is_in a (numbers N.devices) ≡ true
 near_lives N a b net h = by_life (is_in a (numbers N.devices)) refl
   where
     by_life : (t : Bool) → is_in a (numbers N.devices) ≡ t → t ≡ true
@@ -365,7 +365,7 @@ module _ (N : Network) (net : IsNetwork N) (at : ℕ) (ws : Words) where
     brings = λ a b l. brings_it a b l;
   }
 
-  empties : posts_along N at nothing (round N ws).0 ≡ nothing
+  pub empties : posts_along N at nothing (round N ws).0 ≡ nothing
   empties = fun_ext (λ a. fun_ext (λ b. by_link a b (reaches N a b) refl))
     where
       by_link : (a b : ℕ) (t : Bool) → reaches N a b ≡ t → posts_along N at nothing (F ++ S) a b ≡ []

@@ -1,2 +1,4 @@
 pub mod DrivenLogs
 pub mod Covering
+pub mod Leading
+pub mod Turns

@@ -6,29 +6,15 @@ use Rattle.fc_nodes.specs.Program.{Program, Unfolding, unfolding_of, IsProgram}
 use Rattle.topology.specs.Networks.{Network, IsNetwork, Lives}
 use Rattle.firing_core.specs.Cores.{GoodExport}
 use Rattle.firing_core.specs.Laws.{StepsKeepGood, CopiesFit}
-use Rattle.converge_laws.specs.CoreLevels.{ExportLevel, MaybeAt, AtLevel, Raises, LevelsOfSteps, LevelsBegin}
+use Rattle.converge_laws.specs.CoreLevels.{ExportLevel, AtLevel, Raises, LevelsOfSteps, LevelsBegin}
 use Rattle.converge_laws.specs.Verdicts.{YesRaises, level_by}
 use Rattle.message_links.specs.MailCores.{Reaches, Message, MailCore, MailEntryValue, MailStep, MailRun, AreOld, IsMailStart}
-use Rattle.message_links.specs.MailRounds.{Posts, posts_of, posts_after, posts_along, oldest_post, EndsOwnBegin, CoversMail, HasMailRounds}
-use Rattle.mail_laws.specs.Laws.{YesStabilisesMail}
+use Rattle.message_links.specs.MailRounds.{Posts, posts_of, posts_along, oldest_post, EndsOwnBegin, CoversMail, HasMailRounds}
+use Rattle.mail_laws.specs.Laws.{LevelsOfMailRounds, YesStabilisesMail}
 use Rattle.message_links.proofs.MailRuns.{step_net}
-use Rattle.message_links.proofs.Posts.{SamePosts, along_same, step_posts}
+use Rattle.message_links.proofs.Posts.{SamePosts, run_cut, run_posts}
 use Rattle.message_links.proofs.Firings.{flies_along, fired_along, fired_more, fired_stays, has_fired, own_flies}
 use Rattle.mail_laws.proofs.MailLevels.{MailAt, HeardAt, AllAt, AllBelow, Below, step_below, Within, start_within, step_within, next_place, run_within, Renewed, brought, run_renewed, some_heard}
-
-run_cut : (U : Unfolding) (at : ℕ) (c last : MailCore) (xs ys : List MailEntryValue) → MailRun U at c (xs ++ ys) last
-    → (m : MailCore) × MailRun U at c xs m × MailRun U (at + length xs) m ys last
-run_cut U at c last [] ys s = let z : at ≡ at + 0 = omega arith in (c, refl, subst (λ n. MailRun U n c ys last) z s)
-run_cut U at c last (x ∷ xs) ys s =
-    let k = run_cut U (suc at) s.0 last xs ys s.2 in
-    let z : suc at + length xs ≡ at + suc (length xs) = omega arith in
-    (k.0, (s.0, s.1, k.1), subst (λ n. MailRun U n k.0 ys last) z k.2)
-
-run_posts : (U : Unfolding) (N : Network) (at : ℕ) (p : Posts) (c last : MailCore) (es : List MailEntryValue) → c.core.net ≡ N → SamePosts p (posts_of c) → MailRun U at c es last → SamePosts (posts_along N at p es) (posts_of last)
-run_posts U N at p c last [] n k s a b = k a b ∙ sym (ap (λ (x : MailCore). posts_of x a b) s)
-run_posts U N at p c last (e ∷ es) n k s a b =
-    let moved : SamePosts (posts_after N at (posts_of c) e) (posts_of s.0) = subst (λ m. SamePosts (posts_after m at (posts_of c) e) (posts_of s.0)) n (step_posts U at c s.0 e s.1) in
-    along_same N at p (posts_of c) (e ∷ es) k a b ∙ run_posts U N (suc at) (posts_after N at (posts_of c) e) s.0 last es (step_net U at c s.0 e s.1 ∙ n) moved s.2 a b
 
 module _ (keeps : StepsKeepGood) (fit : CopiesFit) (P : ExportLevel) (p : Program) (N : Network) (program : IsProgram p) (net : IsNetwork N) (same : N.declared ≡ p.declared)
     (r : Raises P (unfolding_of p) N) (begins : LevelsBegin P (unfolding_of p) N) (steps : LevelsOfSteps P (unfolding_of p) N) where
@@ -136,14 +122,18 @@ module _ (keeps : StepsKeepGood) (fit : CopiesFit) (P : ExportLevel) (p : Progra
           none_some : {q : ℕ} → None ≡ Some q → ⊥
           none_some e = cc
 
+  pub levels_of_mail : LevelsOfMailRounds P (unfolding_of p) N
+  levels_of_mail k start last log s n run rounds =
+      let at = start_at start n s in
+      let z : 0 + k ≡ k = omega arith in
+      subst (λ i. AtLevel P U N i last.core) z (run_rounds k 0 0 (posts_of start) log start last at.0 at.1 (λ a b. refl) run rounds)
+
 pub yes_stabilises_mail : YesRaises → StepsKeepGood → CopiesFit → YesStabilisesMail
 yes_stabilises_mail raises keeps fit P N k program net same h =
     let y = raises P N k program net same h in
     record {
       one = y.one;
       reached = λ start last log s n run rounds d l.
-          let at = start_at keeps fit (level_by P N y.one) P N program net same y.raises y.begins y.steps start n s in
-          let end = run_rounds keeps fit (level_by P N y.one) P N program net same y.raises y.begins y.steps k 0 0 (posts_of start) log start last at.0 at.1 (λ a b. refl) run rounds in
-          let z : 0 + k ≡ k = omega arith in
-          y.reached d (last.core.exports d) (subst (λ i. MaybeAt (level_by P N y.one) i d (last.core.exports d)) z (end.exports d l));
+          let end = levels_of_mail keeps fit (level_by P N y.one) P N program net same y.raises y.begins y.steps k start last log s n run rounds in
+          y.reached d (last.core.exports d) (end.exports d l);
     }

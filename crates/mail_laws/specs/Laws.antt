@@ -6,9 +6,17 @@ use Rattle.fc_nodes.specs.declared.verdicts.Verdict.TheVariants as verdict
 use Rattle.fc_nodes.specs.Program.{Program, Unfolding, unfolding_of, IsProgram}
 use Rattle.topology.specs.Networks.{Network, Lives, IsNetwork}
 use Rattle.fragment_check.specs.Verdicts.{verdict_of}
+use Rattle.converge_laws.specs.CoreLevels.{ExportLevel, AtLevel}
 use Rattle.converge_laws.specs.Stabilising.{HasOneSolution}
 use Rattle.message_links.specs.MailCores.{MailCore, MailEntryValue, MailRun, IsMailStart}
 use Rattle.message_links.specs.MailRounds.{posts_of, HasMailRounds}
+
+-- one round raises the level by one: from every mail core on a network from which a log may start, each mail log with k
+-- rounds leads k levels up
+abbrev pub LevelsOfMailRounds : ExportLevel → Unfolding → Network → Type 0
+LevelsOfMailRounds P U N = (k : ℕ) (start last : MailCore) (log : List MailEntryValue) → IsMailStart U start
+    → start.core.net ≡ N → MailRun U 0 start log last → HasMailRounds N 0 (posts_of start) log k
+    → AtLevel P U N k last.core
 
 -- from every mail core on a network from which a log may start, every mail log with k rounds leads to exports with the
 -- values of a field

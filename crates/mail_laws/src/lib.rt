@@ -3,4 +3,4 @@
 
 mod laws;
 
-pub use laws::{mail_stabilises, yes_stabilises_mail};
+pub use laws::{mail_rounds_raise_levels, mail_stabilises, yes_stabilises_mail};

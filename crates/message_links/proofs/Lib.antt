@@ -3,3 +3,4 @@ pub mod Along
 pub mod MailRuns
 pub mod Posts
 pub mod Firings
+pub mod GoodMails

@@ -1,4 +1,4 @@
-use Rattle.std.proofs.Common.{◌≡◌, ◌∙◌, ℕ, [], length, sym, ap, refl, arith}
+use Rattle.std.proofs.Common.{◌≡◌, ◌∙◌, ℕ, [], length, sym, ap, arith}
 use Rattle.std.specs.Prelude.{None, Some, replicate, slice_set}
 use Rattle.std.specs.Vec.Iter.{into_iter_items}
 use Rattle.fc_values.specs.declared.exports.Export.{Export}

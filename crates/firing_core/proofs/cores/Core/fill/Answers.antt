@@ -1,23 +1,20 @@
-use Rattle.std.proofs.Common.{◌≡◌, ◌<◌, ◌∙◌, sym, ap, subst, refl, map, length, get_or, arith}
-use Rattle.std.specs.Prelude.{IfSome}
+use Rattle.std.proofs.Common.{◌≡◌, ◌<◌, ◌≤◌, ◌∙◌, vec_capacity, sym, ap, subst, refl, map, length, get_or, arith}
 use Rattle.std.specs.Vec.{with_items}
 use Rattle.std.proofs.lemmas.List.{with_items_is}
 use Rattle.fc_values.specs.Values.{local_of}
 use Rattle.fc_values.specs.Exports.{export_of}
-use Rattle.fc_nodes.specs.Program.{Unfolding, unfolding_of}
 use Rattle.value_trees.specs.declared.copies.Snap.{Snap}
-use Rattle.value_trees.specs.Snaps.{snap_copy, near_copy, NearAreExports, IsExportOf, IsSnap}
+use Rattle.value_trees.specs.Snaps.{snap_copy, near_copy, NearAreExports, IsSnap}
 use Rattle.topology.specs.declared.types.Device.{Device}
 use Rattle.topology.specs.Networks.{numbers, inputs_in, near}
 use Rattle.firing_core.specs.Cores.{copy_of, near_copies}
 use Rattle.firing_core.specs.Rooms.{IsBlank, types_of}
 use Rattle.firing_core.specs.CoreViews.{CoreValue, core_of, program_of}
 use Rattle.firing_core.specs.contracts.cores.Core.{the_view}
-use Rattle.firing_core.proofs.Borrowed.{read_value, where_read}
-use Rattle.firing_core.proofs.CoreSteps.{export_within, export_kept}
+use Rattle.firing_core.proofs.Borrowed.{read_value}
 use Rattle.firing_core.proofs.Taken.{Parts, device_inputs, there_forms, taken_copy, taken_snap}
 use Rattle.firing_core.proofs.cores.Core.fill.Goals as goal
-use Rattle.firing_core.proofs.cores.Core.fill.Goals.{After-deref, In_ok-hear}
+use Rattle.firing_core.proofs.cores.Core.fill.Goals.{After-deref, Joined-blank-3}
 
 within : (c : After-deref) → c.args.place < length (the_view c.self.inside).net.devices
 within c = subst (λ (w : CoreValue). c.args.place < length w.net.devices) (sym c.self.view_is) c.requires.within
@@ -43,7 +40,7 @@ hear-requires-clause-enough c =
     let wide = (subst (λ (v : CoreValue). IsBlank (program_of v) c.args.blank) (sym c.self.view_is) c.requires.blank).wide in
     subst (λ (w : CoreValue). length (near w.net c.args.device) ≤ vec_capacity c.args.blank.near) c.self.view_is (omega (arith, few, wide))
 
-module _ (c : In_ok-hear) where
+module _ (c : Joined-blank-3) where
   abbrev s : Snap
   s = record { device = c.args.device; inputs = with_items c.args.blank.inputs c.overwrite_locals.new.target; own = c.in_ok-own.own; near = c.hear.new.near }
 

@@ -1,4 +1,4 @@
-use Rattle.std.proofs.Common.{◌≡◌, sym, subst, ap, Some, None, is_some, false, arith}
+use Rattle.std.proofs.Common.{◌≡◌, sym, subst, ap, Some, None, is_some, arith}
 use Rattle.fc_nodes.specs.Program.{Unfolding, unfolding_of}
 use Rattle.value_trees.specs.Snaps.{IsSnap, IsExportOf}
 use Rattle.firing_core.specs.Cores.{Ends}

@@ -1,5 +1,5 @@
-use Rattle.std.proofs.Common.{◌≡◌, ◌++◌, ◌∷◌, [], ◌∙◌, get_or, sym, ap, subst, arith, length}
-use Rattle.fc_nodes.specs.Flat.{IsExport, tree_export}
+use Rattle.std.proofs.Common.{get_or, sym, ap, subst, arith}
+use Rattle.fc_nodes.specs.Flat.{IsExport}
 use Rattle.fc_values.specs.declared.exports.Export.{Export}
 use Rattle.fc_values.specs.Trees.{NearCopy}
 use Rattle.fc_values.specs.Exports.{export_of}

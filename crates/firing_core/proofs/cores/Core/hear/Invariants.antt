@@ -1,4 +1,4 @@
-use Rattle.std.proofs.Common.{◌≡◌, ◌++◌, ◌≤◌, drop, map, length, vec_len, vec_capacity}
+use Rattle.std.proofs.Common.{◌≡◌, ◌++◌, ◌≤◌, drop, map, length, vec_capacity}
 use Rattle.value_trees.specs.Snaps.{near_copy, NearAreExports}
 use Rattle.topology.specs.Networks.{near}
 use Rattle.firing_core.specs.Cores.{near_copies}

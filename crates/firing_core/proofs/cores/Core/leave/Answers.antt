@@ -1,4 +1,4 @@
-use Rattle.std.proofs.Common.{◌≡◌, ◌∙◌, sym, ap, subst, Some, arith}
+use Rattle.std.proofs.Common.{◌≡◌, sym, subst, Some, arith}
 use Rattle.topology.specs.declared.types.NetFault.TheVariants as fault
 use Rattle.topology.proofs.Lemmas.{left_network}
 use Rattle.firing_core.specs.Entries.{LeaveEdit}

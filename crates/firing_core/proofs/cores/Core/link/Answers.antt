@@ -1,4 +1,4 @@
-use Rattle.std.proofs.Common.{◌≡◌, subst}
+use Rattle.std.proofs.Common.{subst}
 use Rattle.firing_core.specs.Entries.{LinkEdit}
 use Rattle.firing_core.specs.Cores.{Edits}
 use Rattle.firing_core.specs.CoreViews.{CoreValue, core_of, program_of}

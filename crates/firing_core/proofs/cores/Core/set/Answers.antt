@@ -1,4 +1,4 @@
-use Rattle.std.proofs.Common.{◌≡◌, ◌∙◌, sym, subst, ap}
+use Rattle.std.proofs.Common.{◌∙◌, sym, subst, ap}
 use Rattle.fc_values.specs.Values.{local_of}
 use Rattle.topology.specs.Changes.{set_fault, with_input}
 use Rattle.firing_core.specs.Entries.{SetEdit}
