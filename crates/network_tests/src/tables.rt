@@ -16,7 +16,7 @@ ghost use Rattle.export_table.specs.Turns.{CanEnd, KeepsFirings};
 
 use crate::nodes::pair_program;
 use device_eval::fire;
-use export_table::{Firing, Gate, Held, OpenGate, Shared};
+use export_table::{Firing, Gate, Held, OpenGate, Pause, Shared};
 use fc_nodes::Unfolded;
 use fc_values::{Declared, Local, Memory};
 use firing_core::{Book, Core, Edit, EditFault, Entry, Room};
@@ -76,7 +76,7 @@ fn book(alloc: Global, program: &Arc<Unfolded>) -> Result<Book, Fail>
     }
 }
 
-// Begins a firing, or says whether all is over, where there is memory for a room.
+// Begins a firing, or says whether all is over, where there is memory.
 fn begin<W: Wait>(
     rt: &W,
     alloc: Global,
@@ -98,7 +98,8 @@ fn begin<W: Wait>(
     };
     match table.next(rt, pass, room) {
         Ok(firing) => Ok(firing),
-        Err(rest) => Err(Some(rest.is_over)),
+        Err(Pause::Rests(rest)) => Err(Some(rest.is_over)),
+        Err(Pause::Starved) => Err(None),
     }
 }
 
