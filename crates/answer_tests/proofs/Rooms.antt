@@ -1,10 +1,8 @@
 -- A copy that a begin in a room has taken.
-use Rattle.std.proofs.Common.{ℕ, ◌≡◌, Bool, true, refl, ap, sym, ◌∙◌, Some}
-use Rattle.std.proofs.lemmas.Bool.{eq-eqb}
+use Rattle.std.proofs.Common.{ℕ, ◌≡◌, ap, sym, ◌∙◌, Some}
 use Rattle.fc_values.specs.Trees.{Copy}
 use Rattle.fc_nodes.specs.Program.{Unfolding}
 use Rattle.firing_core.specs.Cores.{Core, copy_of, Step}
-use Rattle.firing_core.specs.CoreViews.{mark}
 use Rattle.firing_core.specs.Entries.{BeginEntry}
 use Rattle.firing_core.proofs.Maps.{put_same}
 
@@ -17,10 +15,3 @@ copy_in_flight U old new d e taken s step same names h =
     let here : e ≡ d = names ∙ ap (λ (c : Copy). c.device) same in
     some_same s taken (sym h ∙ ap new.flying here ∙ ap (λ (k : Core). k.flying d) step.2
     ∙ put_same old.flying d (Some (copy_of old.net old.exports d)) ∙ ap Some (sym same))
-
-pub device_there : (old : Core) (d e : ℕ) (taken : Copy) → taken ≡ copy_of old.net old.exports d → e ≡ taken.device
-    → e ≡ d
-device_there old d e taken same names = names ∙ ap (λ (c : Copy). c.device) same
-
-pub marked : (set : ℕ → Bool) (d e : ℕ) → e ≡ d → mark set d true e ≡ true
-marked set d e h = let t = eq-eqb e d h in rw t refl

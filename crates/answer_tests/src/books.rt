@@ -128,10 +128,10 @@ fn fire_in(alloc: Global, book: &mut Book, room: Room) -> Result<Room, Fail>
     let Ok(fired) = fire(alloc, book.program(), snap) else {
         return Err(Fail::new("there was no memory"));
     };
-    let Ok(room) = book.end_with(fired) else {
+    let Ok((flight, copy)) = book.end(fired) else {
         return Err(Fail::new("no end"));
     };
-    Ok(room)
+    Ok(Room::again(flight, copy)?)
 }
 
 #[test]

@@ -46,7 +46,7 @@ module _ (U : Unfolding) where
   near_same (n ∷ ns) = let ih = near_same ns in rw ih refl
 
   pub env_same : (s : Snap) → env_at U.main 0 (snap_env s) ≡ env_of (snap_copy U s)
-  env_same s = let o = own_same s.own in let n = near_same s.near.value.items in rw (o, n) refl
+  env_same s = let o = own_same s.own in let n = near_same s.near.items in rw (o, n) refl
 
   forms_long : (xs : List SlotValue) → HaveForms (kept_types U.main) xs → 0 + kept U.main ≤ length xs
   forms_long xs h = let l = have_long (kept_types U.main) xs h in let k = kept_long U.main in omega (arith, l, k)
@@ -60,7 +60,7 @@ module _ (U : Unfolding) where
   near_fit (n ∷ ns) h = let x = h.0 in (x.marked, forms_long (slots_of n.export.slots.list.items) x.shaped, near_fit ns h.1)
 
   pub env_fit : (s : Snap) → IsSnap U s → EnvFits U.main 0 (snap_env s)
-  env_fit s h = record { own = own_fit s.own h.own; near = near_fit s.near.value.items h.near }
+  env_fit s h = record { own = own_fit s.own h.own; near = near_fit s.near.items h.near }
 
 module _ (P : Program) (p : IsProgram P) (s : Snap) (fits : IsSnap (unfolding_of P) s) (l : LayoutValue) (layout : IsLayout P.nodes l) (env : FlatEnv) (same : env ≡ snap_env s) (xs : List SlotValue) (blank : xs ≡ blank_slots l.blanks) (S : Situation) (here : S ≡ situation_of P.declared (snap_copy (unfolding_of P) s)) where
   blanks_have : HaveForms (kept_types (term_at P.nodes 0)) xs

@@ -13,4 +13,4 @@ snap_near n = (n.device, n.weight, slots_of n.export.slots.list.items)
 -- what the root sees of a copy
 abbrev pub snap_env : Snap → FlatEnv
 snap_env s =
-    record { own = option_map (λ (e : Export). slots_of e.slots.list.items) s.own; near = map snap_near s.near.value.items }
+    record { own = option_map (λ (e : Export). slots_of e.slots.list.items) s.own; near = map snap_near s.near.items }

@@ -14,14 +14,14 @@ use flat_exports::Draft;
 use std::alloc::Global;
 use std::marker::Model;
 use std::sync::Arc;
-use value_trees::Snap;
+use value_trees::{Published, Snap};
 
 /// A copy with its export.
 #[derive(Drop)]
 pub struct Fired {
     program: Arc<Unfolded>,
     snap: Snap,
-    export: Export,
+    export: Published,
 }
 
 impl Model for Fired {
@@ -64,11 +64,11 @@ impl Fired {
         ensures value { result.now ≡ self.now.export }
         ensures fired { IsFired self.now }
     {
-        &self.export
+        self.export.get()
     }
 
     /// The copy and the export.
-    pub fn into_parts(self) -> (Snap, Export)
+    pub fn into_parts(self) -> (Snap, Published)
         ensures snap { result.0 ≡ self.snap }
         ensures export { result.1 ≡ self.export }
         ensures fired { IsFired self }
@@ -95,7 +95,7 @@ pub fn fire(alloc: Global, program: &Arc<Unfolded>, snap: Snap) -> Result<Fired,
         Ok(shared) => shared,
         Err(_) => return Err((snap, Memory)),
     };
-    match evaluate(alloc, program, &snap) {
+    match publish(alloc, program, &snap) {
         Ok(export) => Ok(Fired {
             program: shared,
             snap,
@@ -103,6 +103,15 @@ pub fn fire(alloc: Global, program: &Arc<Unfolded>, snap: Snap) -> Result<Fired,
         }),
         Err(memory) => Err((snap, memory)),
     }
+}
+
+/// The export of a copy, to be shared.
+pub fn publish(alloc: Global, program: &Unfolded, snap: &Snap) -> Result<Published, Memory>
+    requires { IsSnap (unfolding_of program.now) snap.now }
+    ensures { IfOk result (λ e. IsFired (record { program = program.now; snap = snap.now; export = e })) }
+{
+    let export = evaluate(alloc, program, snap)?;
+    Published::new(alloc, export)
 }
 
 /// The export of a copy, which stays where it lies.
@@ -132,17 +141,16 @@ pub fn evaluate(alloc: Global, program: &Unfolded, snap: &Snap) -> Result<Export
 fn root_env<'a>(alloc: Global, snap: &'a Snap) -> Result<Env<'a>, Memory>
     ensures { IfOk result (λ env. flat_of env ≡ snap_env snap.now) }
 {
-    let all = snap.near.as_slice();
-    let mut near = Vec::with_capacity(alloc, all.len())?;
-    for n in all {
+    let mut near = Vec::with_capacity(alloc, snap.near.len())?;
+    for n in &snap.near {
         near.push(NearRef {
             device: n.device,
             weight: n.weight,
-            slots: &n.export.slots,
+            slots: &n.export.get().slots,
         })?;
     }
     let own = match &snap.own {
-        Some(export) => Some(&export.slots),
+        Some(export) => Some(&export.get().slots),
         None => None,
     };
     Ok(Env { own, near })

@@ -6,5 +6,5 @@ mod firing;
 mod laws;
 mod links;
 
-pub use firing::{Fired, evaluate, fire};
+pub use firing::{Fired, evaluate, fire, publish};
 pub use laws::{nodes_have_outcomes, one_export, rules_agree, slots_stand_for_trees};

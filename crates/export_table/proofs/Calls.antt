@@ -10,10 +10,10 @@ use Rattle.firing_core.specs.Entries.{BeginEntry, IdleEntry, EditEntry, edit_of}
 use Rattle.export_table.specs.Items.{ItemValue}
 use Rattle.export_table.specs.Answers.{answers}
 use Rattle.export_table.specs.Holding.{HeldValue, list_of, log_in, core_in}
-use Rattle.export_table.specs.declared.firing.Rest.{Rest}
+use Rattle.export_table.specs.declared.firing.Pause.{Pause}
 use Rattle.export_table.specs.Firings.{FiringValue}
 use Rattle.export_table.specs.Passing.{TableValue, IsPassOf, on_log}
-use Rattle.export_table.specs.Turns.{Begins, Rests, Edits, RefusesIn, Began, Rested, Edited, Refused, KeepsFirings}
+use Rattle.export_table.specs.Turns.{Begins, Pauses, Edits, RefusesIn, Began, Paused, Edited, Refused, KeepsFirings}
 use Rattle.export_table.proofs.Flying.{begin_not_end, idle_not_end, edit_not_end}
 use Rattle.export_table.proofs.OwnFirings.{firing_stays}
 use Rattle.export_table.proofs.Turning as turning
@@ -22,27 +22,27 @@ use Rattle.export_table.proofs.Turning as turning
 abbrev Adds : HeldValue → HeldValue → List (ℕ × ItemValue) → Type 0
 Adds x y mine = (i : ItemValue) × (list_of y ≡ list_of x ++ i ∷ []) × MayAnswer answers (list_of x) mine i
 
-module _ (x y : HeldValue) (Back : Rest → Type 0) where
-  pub next_adds : (mine : List (ℕ × ItemValue)) (r : Result FiringValue Rest) → IfOk r (Begins x y) → IfErr r (λ (m : Rest). Rests x y m.is_over × Back m) → Adds x y mine
+module _ (x y : HeldValue) where
+  pub next_adds : (mine : List (ℕ × ItemValue)) (r : Result FiringValue Pause) → IfOk r (Begins x y) → IfErr r (Pauses x y) → Adds x y mine
   next_adds mine (Ok f) ok err = turning.adds_plain x y (entry.Begin f.device) mine ok.turned refl
-  next_adds mine (Err m) ok err = turning.adds_plain x y entry.Idle mine (err.0).turned refl
+  next_adds mine (Err p) ok err = turning.adds_plain x y entry.Idle mine (turning.idle_turn x y p err) refl
 
   module _ (t : TableValue) (v w : PassView ItemValue) (k : IsPassOf t v) (a : Agrees list_of answers v x) (item : ItemValue) (left : list_of y ≡ w.seen) (view : w ≡ wrote v (list_of x) item) where
-    pub next_pass : (r : Result FiringValue Rest) → IfOk r (Begins x y) → IfErr r (λ (m : Rest). Rests x y m.is_over × Back m) → IsPassOf t w
+    pub next_pass : (r : Result FiringValue Pause) → IfOk r (Begins x y) → IfErr r (Pauses x y) → IsPassOf t w
     next_pass (Ok f) ok err = turning.still_pass t v x k a y w item left view (entry.Begin f.device) ok.turned
-    next_pass (Err m) ok err = turning.still_pass t v x k a y w item left view entry.Idle (err.0).turned
+    next_pass (Err p) ok err = turning.still_pass t v x k a y w item left view entry.Idle (turning.idle_turn x y p err)
 
-    pub next_keeps : (r : Result FiringValue Rest) → IfOk r (Begins x y) → IfErr r (λ (m : Rest). Rests x y m.is_over × Back m) → KeepsFirings t.opening (on_log v) (on_log w)
+    pub next_keeps : (r : Result FiringValue Pause) → IfOk r (Begins x y) → IfErr r (Pauses x y) → KeepsFirings t.opening (on_log v) (on_log w)
     next_keeps (Ok f) ok err place g own = firing_stays t.opening (on_log v) (on_log w) (log_in x) (core_in x) (BeginEntry f.device) place g (turning.took_turn t v x k a y w item left view (entry.Begin f.device) ok.turned) (begin_not_end f.device g.snap.device) own
-    next_keeps (Err m) ok err place g own = firing_stays t.opening (on_log v) (on_log w) (log_in x) (core_in x) IdleEntry place g (turning.took_turn t v x k a y w item left view entry.Idle (err.0).turned) (idle_not_end g.snap.device) own
+    next_keeps (Err p) ok err place g own = firing_stays t.opening (on_log v) (on_log w) (log_in x) (core_in x) IdleEntry place g (turning.took_turn t v x k a y w item left view entry.Idle (turning.idle_turn x y p err)) (idle_not_end g.snap.device) own
 
-    pub next_began : (r : Result FiringValue Rest) → IfOk r (Begins x y) → IfOk r (Began t.opening (on_log v) (on_log w))
+    pub next_began : (r : Result FiringValue Pause) → IfOk r (Begins x y) → IfOk r (Began t.opening (on_log v) (on_log w))
     next_began (Ok f) ok = turning.began t v x k a y w item left view f ok
-    next_began (Err m) ok = tt
+    next_began (Err p) ok = tt
 
-    pub next_rested : (r : Result FiringValue Rest) → IfErr r (λ (m : Rest). Rests x y m.is_over × Back m) → IfErr r (λ (m : Rest). Rested t.opening (on_log v) (on_log w) m.is_over)
-    next_rested (Ok f) err = tt
-    next_rested (Err m) err = turning.rested t v x k a y w item left view m.is_over err.0
+    pub next_paused : (r : Result FiringValue Pause) → IfErr r (Pauses x y) → IfErr r (Paused t.opening (on_log v) (on_log w))
+    next_paused (Ok f) err = tt
+    next_paused (Err p) err = turning.paused t v x k a y w item left view p err
 
 module _ (x y : HeldValue) (e : Edit) where
   pub edit_adds : (mine : List (ℕ × ItemValue)) (r : Result (Unit {0}) EditFault) → OnOk r (Edits x y e) → IfErr r (RefusesIn x y (edit_of e)) → Adds x y mine

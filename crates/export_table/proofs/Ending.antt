@@ -1,17 +1,18 @@
 -- An open begin may end.
-use Rattle.std.proofs.Common.{◌≡◌, ℕ, suc, List, ◌∷◌, take, length, sym, ap, ◌∙◌, subst, Option, Some, None}
+use Rattle.std.proofs.Common.{◌≡◌, ℕ, suc, List, ◌∷◌, take, length, refl, sym, ap, ◌∙◌, subst, Option, Some, None}
 use Rattle.std.proofs.lemmas.Option.{none-some}
 use Rattle.fc_values.specs.Trees.{Copy}
 use Rattle.value_trees.specs.declared.copies.Snap.{Snap}
 use Rattle.value_trees.specs.Snaps.{snap_copy}
 use Rattle.firing_core.specs.declared.entries.StepFault.{StepFault}
+use Rattle.firing_core.specs.declared.entries.StepFault.TheVariants as fault
 use Rattle.fc_nodes.specs.Program.{Unfolding, unfolding_of}
 use Rattle.topology.specs.Networks.{Lives}
 use Rattle.turn_lock.specs.Logs.{IsUnanswered}
 use Rattle.firing_core.specs.Entries.{EntryValue, BeginEntry, EndEntry}
 use Rattle.firing_core.specs.Cores.{Core, Run, IsGood}
 use Rattle.firing_core.specs.CoreViews.{core_of}
-use Rattle.firing_core.specs.Books.{IsBook}
+use Rattle.firing_core.specs.Books.{IsBook, HasFault}
 use Rattle.firing_core.specs.Replays.{fault_of, begin_fault, end_fault}
 use Rattle.firing_core.specs.Laws.{FlightsStay, RunsCut}
 use Rattle.export_table.specs.Items.{items_of}
@@ -52,5 +53,12 @@ pub no_fault : (U : Unfolding) (c : Core) (d : ℕ) (s : Copy) (f : StepFault) �
 no_fault U c d s f good flies is = none-some f (sym (may_end U c d s good flies).1 ∙ is)
 
 -- a device that may begin has no fault
-pub may_begin_now : (c : Core) (d : ℕ) (f : StepFault) → Lives c.net d → c.flying d ≡ None → fault_of c (BeginEntry d) ≡ Some f → ⊥
-may_begin_now c d f there rests is = none-some f ((λ i. begin_fault (sym there i) (sym rests i)) ∙ is)
+begins_now : (c : Core) (d : ℕ) (f : StepFault) → Lives c.net d → c.flying d ≡ None → fault_of c (BeginEntry d) ≡ Some f → ⊥
+begins_now c d f there rests is = none-some f ((λ i. begin_fault (sym there i) (sym rests i)) ∙ is)
+
+-- but want of memory
+pub may_begin_now : (c : Core) (d : ℕ) (f : StepFault) → Lives c.net d → c.flying d ≡ None → (f ≡ fault.Memory → ⊥) → HasFault c (BeginEntry d) f → ⊥
+may_begin_now c d fault.NoDevice there rests other is = begins_now c d fault.NoDevice there rests is
+may_begin_now c d fault.Flying there rests other is = begins_now c d fault.Flying there rests is
+may_begin_now c d fault.NotFlying there rests other is = begins_now c d fault.NotFlying there rests is
+may_begin_now c d fault.Memory there rests other is = other refl

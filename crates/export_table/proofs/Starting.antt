@@ -1,6 +1,5 @@
 -- What the type of the locked value keeps at the opening.
 use Rattle.std.proofs.Common.{◌≡◌, ℕ, ◌≤◌, List, [], ◌∷◌, length, drop, map, refl, sym, ap, ◌∙◌, subst, arith, is_none, None}
-use Rattle.std.proofs.lemmas.Option.{none-some}
 use Rattle.topology.specs.Networks.{numbers}
 use Rattle.firing_core.specs.Entries.{EntryValue, entries_of}
 use Rattle.firing_core.specs.Cores.{Core}
@@ -34,7 +33,6 @@ pub held_first : (b b' : BookValue) (turns : ℕ) (a : AgendaValue) → IsSameBo
 held_first b b' turns a same spare rests rows = record {
   past = omega (arith, long);
   room = omega (arith, long, spare);
-  rooms = λ d s flies. absurd (none-some s (sym (still d) ∙ flies));
   plans = plans_first (opening_of b' a.rounds turns (length b.log)) (entries_of b'.log) (core_of b'.core) a first still refl
       (subst (λ (k : CoreValue). a.rows ≡ map first_row (numbers k.net.devices)) (sym same.core) rows);
   within = λ d small. let none = begun_first (opening_of b' a.rounds turns (length b.log)) (entries_of b'.log) d first in omega (arith, none);

@@ -19,7 +19,9 @@ use Rattle.export_table.specs.Begins.{IsNext, NoneMayBegin, AllBegun}
 use Rattle.export_table.specs.Holding.{HeldValue, HasTurn, Opens, Turned, opening_in, log_in, core_in, list_of}
 use Rattle.export_table.specs.Firings.{FiringValue}
 use Rattle.export_table.specs.Passing.{TableValue, IsPassOf, on_log, on_items, item_at_next}
-use Rattle.export_table.specs.Turns.{Begins, Rests, Edits, RefusesIn, TookTurn, Began, Rested, Edited, Refused, Closes, IsAfterTurn}
+use Rattle.export_table.specs.declared.firing.Pause.{Pause}
+use Rattle.export_table.specs.declared.firing.Pause.TheVariants as pause
+use Rattle.export_table.specs.Turns.{Begins, Rests, Pauses, Edits, RefusesIn, TookTurn, Began, Rested, Idled, Paused, Edited, Refused, Closes, IsAfterTurn}
 use Rattle.export_table.proofs.Keeping.{entries_length, entries_snoc}
 use Rattle.export_table.proofs.Flying.{answers_here}
 use Rattle.export_table.proofs.Passing.{begins_items, items_length, pass_of, placed_items, pass_wrote, rises_items, whole_items, mine_length}
@@ -37,6 +39,11 @@ adds_entry x y e t =
 pub adds_plain : (x y : HeldValue) (e : Entry) (mine : List (ℕ × ItemValue)) → Turned x y e → entry_answers (list_of x) (entry_of e) ≡ None
     → (i : ItemValue) × (list_of y ≡ list_of x ++ i ∷ []) × MayAnswer answers (list_of x) mine i
 adds_plain x y e mine t none = (WrittenItem (entry_of e), adds_entry x y e t, inl (answers_here (list_of x) (WrittenItem (entry_of e)) [] ∙ none))
+
+-- a turn that begins nothing writes an idle entry
+pub idle_turn : (x y : HeldValue) (p : Pause) → Pauses x y p → Turned x y entry.Idle
+idle_turn x y (pause.Rests r) why = why.turned
+idle_turn x y pause.Starved why = why
 
 pub after_turn : (v w : PassView ItemValue) (log : List ItemValue) (i : ItemValue) → w ≡ wrote v log i → IsAfterTurn v w
 after_turn v w log i is = record {
@@ -104,7 +111,7 @@ module _ (t : TableValue) (v : PassView ItemValue) (x : HeldValue) (k : IsPassOf
       snap = subst (λ (o : Opening). IsSnap (unfolding_of o.program) f.snap) same_opening b.snap;
     }
 
-    pub rested : (is_over : Bool) → Rests x y is_over → Rested t.opening (on_log v) (on_log w) is_over
+    rested : (is_over : Bool) → Rests x y is_over → Rested t.opening (on_log v) (on_log w) is_over
     rested is_over r = record {
       before = log_in x;
       core = core_in x;
@@ -112,6 +119,13 @@ module _ (t : TableValue) (v : PassView ItemValue) (x : HeldValue) (k : IsPassOf
       none = subst (λ o. NoneMayBegin o (log_in x) (core_in x)) same_opening r.none;
       over = subst (λ o. (is_over ≡ true) ↔ AllBegun o (log_in x) (core_in x)) same_opening r.over;
     }
+
+    idled : Turned x y entry.Idle → Idled t.opening (on_log v) (on_log w)
+    idled turned = record { before = log_in x; core = core_in x; turn = took_turn entry.Idle turned }
+
+    pub paused : (p : Pause) → Pauses x y p → Paused t.opening (on_log v) (on_log w) p
+    paused (pause.Rests r) why = rested r.is_over why
+    paused pause.Starved why = idled why
 
     pub edited : (e : Edit) → Edits x y e → Edited t.opening (on_log v) (on_log w) (edit_of e)
     edited e d = record {

@@ -1,7 +1,8 @@
 -- Which device may begin.
 use Rattle.std.specs.Prelude.{ℕ, Bool, false, ◌≡◌, ◌<◌, ◌≤◌, ◌||◌, List, [], ◌∷◌, drop, nat_eq, if◌then◌else◌, None}
 use Rattle.topology.specs.Networks.{Lives}
-use Rattle.firing_core.specs.Entries.{EditValue, LinkEdit, UnlinkEdit, SetEdit, PokeEdit, JoinEdit, LeaveEdit, EntryValue, BeginEntry, EndEntry, IdleEntry, EditEntry}
+use Rattle.firing_core.specs.Entries.{EditValue, LinkEdit, UnlinkEdit, SetEdit, PokeEdit, JoinEdit, LeaveEdit}
+use Rattle.firing_core.specs.Entries.{EntryValue, BeginEntry, EndEntry, IdleEntry, EditEntry}
 use Rattle.firing_core.specs.Cores.{Core}
 use Rattle.firing_core.specs.Stretches.{begins}
 use Rattle.export_table.specs.Items.{Opening}

@@ -1,9 +1,9 @@
 -- What the lock holds.
-use Rattle.std.specs.Prelude.{ℕ, suc, true, ◌≡◌, ◌+◌, ◌<◌, ◌≤◌, List, [], ◌∷◌, ◌++◌, length, map, take, Some, is_none}
+use Rattle.std.specs.Prelude.{ℕ, suc, ◌≡◌, ◌+◌, ◌<◌, ◌≤◌, List, [], ◌∷◌, ◌++◌, length, map, take, is_none}
 use Rattle.fc_values.specs.Trees.{Copy}
 use Rattle.firing_core.specs.Entries.{EntryValue, BeginEntry, entries_of}
 use Rattle.firing_core.specs.Cores.{Core, Run, copy_of}
-use Rattle.firing_core.specs.CoreViews.{core_of, rooms_of}
+use Rattle.firing_core.specs.CoreViews.{core_of}
 use Rattle.firing_core.specs.Books.{BookValue, IsBook, IsSameBook, AppendsEntry}
 use Rattle.firing_core.specs.declared.entries.Entry.{Entry}
 use Rattle.topology.specs.Networks.{numbers}
@@ -69,8 +69,6 @@ pub record IsHeld (h : HeldValue) (a : AgendaValue) : Type 0 where
   pub past : h.front ≤ length h.book.log
   -- the log has room for all turns that are left
   pub room : h.front + h.turns ≤ length h.book.log + h.book.spare
-  -- each flight has a room
-  pub rooms : (d : ℕ) (s : Copy) → (core_in h).flying d ≡ Some s → rooms_of h.book.core d ≡ true
   pub plans : Plans (opening_in h) (log_in h) (core_in h) a
   pub within : BeginsWithin (opening_in h) (log_in h)
   pub next : EachIsNext (opening_in h) (log_in h)

@@ -6,13 +6,17 @@ use Rattle.device_eval.specs.Firing.{FiredValue}
 use Rattle.firing_core.specs.declared.entries.Entry.TheVariants as entry
 use Rattle.firing_core.specs.declared.entries.Edit.{Edit}
 use Rattle.firing_core.specs.declared.entries.EditFault.{EditFault}
-use Rattle.firing_core.specs.Entries.{EditValue, EntryValue, BeginEntry, EndEntry, IdleEntry, EditEntry, edit_of, entries_of}
+use Rattle.firing_core.specs.Entries.{EditValue, EntryValue, BeginEntry, EndEntry, IdleEntry, EditEntry}
+use Rattle.firing_core.specs.Entries.{edit_of, entries_of}
 use Rattle.firing_core.specs.Cores.{Core, Run, copy_of, edit_fault}
 use Rattle.firing_core.specs.CoreViews.{core_of}
 use Rattle.firing_core.specs.Books.{BookValue}
 use Rattle.firing_core.specs.Refusals.{RefusesEdit}
+use Rattle.firing_core.specs.Rooms.{RoomValue}
 use Rattle.turn_lock.specs.Logs.{StartsWith, In, Rises, ArePlaced}
 use Rattle.turn_lock.specs.Passes.{PassView, wrote}
+use Rattle.export_table.specs.declared.firing.Pause.{Pause}
+use Rattle.export_table.specs.declared.firing.Pause.TheVariants as pause
 use Rattle.export_table.specs.Items.{Opening, ItemValue}
 use Rattle.export_table.specs.Begins.{IsNext, NoneMayBegin, AllBegun}
 use Rattle.export_table.specs.Holding.{HeldValue, HasTurn, Turned, IsOpenAt, IsTakenAt, opening_in, log_in, core_in}
@@ -33,6 +37,16 @@ pub record Rests (old new : HeldValue) (is_over : Bool) : Type 0 where
   pub turned : Turned old new entry.Idle
   pub none : NoneMayBegin (opening_in old) (log_in old) (core_in old)
   pub over : (is_over ≡ true) ↔ AllBegun (opening_in old) (log_in old) (core_in old)
+
+-- it begins nothing: since nothing may begin now, or for want of memory
+abbrev pub Pauses : HeldValue → HeldValue → Pause → Type 0
+Pauses old new (pause.Rests r) = Rests old new r.is_over
+Pauses old new pause.Starved = Turned old new entry.Idle
+
+-- the room that was given comes back where nothing may begin
+abbrev pub GivesBack : RoomValue → Pause → Type 0
+GivesBack room (pause.Rests r) = r.room ≡ room
+GivesBack room pause.Starved = Unit {0}
 
 -- it may end this firing
 pub record MayEnd (h : HeldValue) (place : ℕ) (f : FiredValue) : Type 0 where
@@ -92,6 +106,17 @@ pub record Rested (o : Opening) (v w : PassView EntryValue) (is_over : Bool) : T
   pub turn : TookTurn o v w before core IdleEntry
   pub none : NoneMayBegin o before core
   pub over : (is_over ≡ true) ↔ AllBegun o before core
+
+-- it began nothing, for want of memory
+pub record Idled (o : Opening) (v w : PassView EntryValue) : Type 0 where
+  pub before : List EntryValue
+  pub core : Core
+  pub turn : TookTurn o v w before core IdleEntry
+
+-- it began nothing, for one of these causes
+abbrev pub Paused : Opening → PassView EntryValue → PassView EntryValue → Pause → Type 0
+Paused o v w (pause.Rests r) = Rested o v w r.is_over
+Paused o v w pause.Starved = Idled o v w
 
 -- A firing that the pass may end: it began it at this place, it didn't end it since, and what was evaluated is the copy
 -- that was taken there.

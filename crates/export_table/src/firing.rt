@@ -4,12 +4,20 @@ use firing_core::Room;
 use std::marker::Model;
 use value_trees::Snap;
 
-/// What comes back of a turn that begins nothing: the room, and whether each device has begun all its firings. If not,
-/// some may begin later.
+/// What comes back where no device may begin: the room, and whether each device has begun all its firings. If not, some
+/// may begin later.
 #[derive(Drop)]
 pub struct Rest {
     pub room: Room,
     pub is_over: bool,
+}
+
+/// What comes back of a turn that begins nothing: a rest where no device may begin, or nothing for want of memory, which
+/// is that an export can't be shared once more. Either way the log has an idle entry more.
+#[derive(Drop)]
+pub enum Pause {
+    Rests(Rest),
+    Starved,
 }
 
 /// A firing that a table began: its device, the place of its begin in the log, and the copy that the begin took. Only

@@ -1,11 +1,11 @@
 //! The value under the lock: a book, and what is left to begin.
 
 use crate::agenda::{Agenda, Next, change_of};
-use crate::firing::Rest;
+use crate::firing::{Pause, Rest};
 use crate::item::Item;
 use device_eval::Fired;
 use fc_values::Memory;
-use firing_core::{Book, Edit, EditFault, Room, logs_decide, runs_cut};
+use firing_core::{Book, Edit, EditFault, Room, StepFault, logs_decide, runs_cut};
 use std::alloc::Global;
 use std::marker::Model;
 use turn_lock::Logged;
@@ -66,7 +66,8 @@ impl Held {
     ghost use Rattle.export_table.specs.Begins.{IsNext};
     ghost use Rattle.export_table.specs.Holding.{Opens, HasTurn, Turned, IsOpenAt, IsTakenAt, BeginsWithin, EachIsNext};
     ghost use Rattle.export_table.specs.Holding.{opening_in, log_in, core_in};
-    ghost use Rattle.export_table.specs.Turns.{Rests};
+    ghost use Rattle.export_table.specs.Firings.{AreCopies};
+    ghost use Rattle.export_table.specs.Turns.{Pauses, GivesBack};
 
     /// Opens a book for so many turns, in which each device may begin so many firings. A refusal hands the book back.
     pub(crate) fn new(
@@ -118,8 +119,9 @@ impl Held {
         self.book.log().len() as u64
     }
 
-    /// Begins the smallest device that may begin, or says whether each has begun all its firings.
-    pub(crate) fn next(&mut self, room: Room) -> Result<(u32, Snap), Rest>
+    /// Begins the smallest device that may begin, or appends an entry that changes nothing: where none may begin, and for
+    /// want of memory.
+    pub(crate) fn next(&mut self, room: Room) -> Result<(u32, Snap), Pause>
         requires turn { HasTurn self.old }
         requires room { IsRoom (unfolding_of self.old.book.program) room }
         ensures turned { IfOk result (λ r. Turned self.old self.new (entry.Begin r.0)) }
@@ -128,16 +130,17 @@ impl Held {
             snap_copy (unfolding_of self.old.book.program) r.1
             ≡ copy_of (core_in self.old).net (core_in self.old).exports r.0) }
         ensures snap { IfOk result (λ r. IsSnap (unfolding_of self.old.book.program) r.1) }
-        ensures rests { IfErr result (λ r. Rests self.old self.new r.is_over) }
-        ensures back { IfErr result (λ r. r.room ≡ room) }
+        ensures pauses { IfErr result (Pauses self.old self.new) }
+        ensures back { IfErr result (GivesBack room) }
     {
+        // what the clauses of these two say: the network's devices rise, and a log leads to one core
         let _net = self.book.core().net();
         logs_decide();
         let place = match self.agenda.next() {
             Next::Begins(place) => place,
             Next::Rests { is_over } => {
                 self.book.idle();
-                return Err(Rest { room, is_over });
+                return Err(Pause::Rests(Rest { room, is_over }));
             }
         };
         let device = self.agenda.device(place);
@@ -146,12 +149,19 @@ impl Held {
                 self.agenda.begin(place);
                 Ok((device, snap))
             }
-            Err(_) => unreachable!(),
+            Err(why) => {
+                let StepFault::Memory = why else {
+                    unreachable!()
+                };
+                self.book.idle();
+                Err(Pause::Starved)
+            }
         }
     }
 
-    /// Ends a firing that was begun at a place and isn't ended, by what was evaluated of its copy.
-    pub(crate) fn end(&mut self, place: u64, fired: Fired) -> Room
+    /// Ends a firing that was begun at a place and isn't ended, by what was evaluated of its copy. The copy that flew and
+    /// the one that was evaluated come back. It takes no memory.
+    pub(crate) fn end(&mut self, place: u64, fired: Fired) -> (Snap, Snap)
         requires turn { HasTurn self.old }
         requires program { fired.program ≡ self.old.book.program }
         requires open { IsOpenAt self.old place fired.snap.device }
@@ -160,18 +170,19 @@ impl Held {
         ensures turned { Turned self.old self.new (entry.End fired.snap.device) }
         ensures publishes { (core_in self.new).exports fired.snap.device
             ≡ Some (tree_of (unfolding_of self.old.book.program) fired.export) }
-        ensures room { IsRoom (unfolding_of self.old.book.program) result }
+        ensures copies { AreCopies (unfolding_of self.old.book.program) result }
     {
+        // the contract alone speaks of it
         let _ = place;
         logs_decide();
         runs_cut();
         let Some(row) = self.book.core().net().place(fired.snap().device) else {
             unreachable!()
         };
-        match self.book.end_with(fired) {
-            Ok(room) => {
+        match self.book.end(fired) {
+            Ok(copies) => {
                 self.agenda.end(row);
-                room
+                copies
             }
             Err(_) => unreachable!(),
         }

@@ -7,7 +7,7 @@ mod held;
 mod item;
 mod shared;
 
-pub use firing::{Firing, Gate, OpenGate, Rest};
+pub use firing::{Firing, Gate, OpenGate, Pause, Rest};
 pub use held::Held;
 pub use item::Item;
 pub use shared::Shared;

@@ -1,6 +1,7 @@
 //! A book that threads share. Each call of `next`, `end` and `edit` is one turn of its lock, and evaluates nothing.
 
-ghost use Rattle.std.specs.Prelude.{◌≡◌, ◌<◌, ◌≤◌, ◌+◌, ◌^◌, ◌++◌, ◌∷◌, [], ℕ, length, IfOk, IfErr, OnOk, OnErr, IsErrOf, None};
+ghost use Rattle.std.specs.Prelude.{◌≡◌, ◌<◌, ◌≤◌, ◌+◌, ◌^◌, ◌++◌, ◌∷◌, [], ℕ, length, None};
+ghost use Rattle.std.specs.Prelude.{IfOk, IfErr, OnOk, OnErr, IsErrOf};
 ghost use Rattle.fc_nodes.specs.Program.{unfolding_of};
 ghost use Rattle.firing_core.specs.Cores.{EditFits, edit_fault};
 ghost use Rattle.firing_core.specs.CoreViews.{core_of};
@@ -12,10 +13,13 @@ ghost use Rattle.firing_core.specs.declared.entries.Entry.TheVariants as entry;
 ghost use Rattle.turn_lock.specs.Logs.{StartsWith, In, Rises};
 ghost use Rattle.turn_lock.specs.Passes.{IsBelow, opened, kept_part, new_part, joined};
 ghost use Rattle.export_table.specs.Holding.{HasTurn, core_in, opening_of, BeginsWithin, EachIsNext};
+ghost use Rattle.export_table.specs.Firings.{AreCopies};
 ghost use Rattle.export_table.specs.Passing.{IsPassOf, on_log};
-ghost use Rattle.export_table.specs.Turns.{Begins, Rests, MayEnd, Ends, Edits, RefusesIn, Began, Rested, IsOwnFiring, CanEnd, Ended, Edited, Refused, Closes, IsAfterTurn, KeepsFirings};
+ghost use Rattle.export_table.specs.Turns.{Begins, Pauses, GivesBack, MayEnd, Ends, Edits, RefusesIn};
+ghost use Rattle.export_table.specs.Turns.{Began, Paused, IsOwnFiring, CanEnd, Ended, Edited, Refused};
+ghost use Rattle.export_table.specs.Turns.{Closes, IsAfterTurn, KeepsFirings};
 
-use crate::firing::{Firing, Rest};
+use crate::firing::{Firing, Pause};
 use crate::held::Held;
 use device_eval::Fired;
 use fc_values::Memory;
@@ -24,7 +28,8 @@ use std::alloc::Global;
 use std::marker::Model;
 use std::snapshot::Snapshot;
 use std::sync::Wait;
-use turn_lock::{Pass, TurnLock};
+use turn_lock::{Pass, TurnLock, Urgency};
+use value_trees::Snap;
 
 /// A book under a lock. Contracts see its lock and what it was opened with, and a pass to it as one over the book's
 /// log.
@@ -99,16 +104,16 @@ impl Shared {
         self.lock.join(pass, other);
     }
 
-    /// Begins the smallest device that may begin, in a room, or hands the room back and says whether each device has
-    /// begun all its firings.
-    pub fn next<W: Wait>(&self, rt: &W, pass: &mut Pass<Held>, room: Room) -> Result<Firing, Rest>
+    /// Begins the smallest device that may begin, in a room. Where none may it hands the room back, and says whether each
+    /// device has begun all its firings. For want of memory it begins none. Nobody waits for this turn.
+    pub fn next<W: Wait>(&self, rt: &W, pass: &mut Pass<Held>, room: Room) -> Result<Firing, Pause>
         requires own { IsPassOf self.now pass.old }
         requires some { 0 < pass.old.left }
         requires room { IsRoom (unfolding_of self.now.opening.program) room }
         ensures began { IfOk result (Began self.now.opening (on_log pass.old) (on_log pass.new)) }
         ensures may_end { IfOk result (CanEnd self.now.opening (on_log pass.new)) }
-        ensures rested { IfErr result (λ r. Rested self.now.opening (on_log pass.old) (on_log pass.new) r.is_over) }
-        ensures back { IfErr result (λ r. r.room ≡ room) }
+        ensures paused { IfErr result (Paused self.now.opening (on_log pass.old) (on_log pass.new)) }
+        ensures back { IfErr result (GivesBack room) }
         ensures own { IsPassOf self.now pass.new }
         ensures keeps { KeepsFirings self.now.opening (on_log pass.old) (on_log pass.new) }
         ensures after { IsAfterTurn pass.old pass.new }
@@ -116,11 +121,13 @@ impl Shared {
         self.lock.turn(
             rt,
             pass,
-            |held: &mut Held| -> Result<Firing, Rest>
+            Urgency::Low,
+            |held: &mut Held| -> Result<Firing, Pause>
                 requires turn { HasTurn held.old }
                 requires room { IsRoom (unfolding_of held.old.book.program) room }
                 ensures begins { IfOk result (Begins held.old held.new) }
-                ensures rests { IfErr result (λ r. Rests held.old held.new r.is_over × (r.room ≡ room)) }
+                ensures pauses { IfErr result (Pauses held.old held.new) }
+                ensures back { IfErr result (GivesBack room) }
             {
                 let place = held.len();
                 let (device, snap) = held.next(room)?;
@@ -129,13 +136,20 @@ impl Shared {
         )
     }
 
-    /// Ends a firing that the pass began, and so publishes its export.
-    pub fn end<W: Wait>(&self, rt: &W, pass: &mut Pass<Held>, place: u64, fired: Fired) -> Room
+    /// Ends a firing that the pass began, and so publishes its export. The copy that flew and the one that was evaluated
+    /// come back, and it takes no memory. A round waits for this turn.
+    pub fn end<W: Wait>(
+        &self,
+        rt: &W,
+        pass: &mut Pass<Held>,
+        place: u64,
+        fired: Fired,
+    ) -> (Snap, Snap)
         requires own { IsPassOf self.now pass.old }
         requires some { 0 < pass.old.left }
         requires firing { IsOwnFiring self.now.opening (on_log pass.old) place fired }
         ensures ended { Ended self.now.opening (on_log pass.old) (on_log pass.new) fired }
-        ensures room { IsRoom (unfolding_of self.now.opening.program) result }
+        ensures copies { AreCopies (unfolding_of self.now.opening.program) result }
         ensures own { IsPassOf self.now pass.new }
         ensures after { IsAfterTurn pass.old pass.new }
     {
@@ -144,15 +158,16 @@ impl Shared {
         self.lock.turn(
             rt,
             pass,
-            |held: &mut Held| -> Room
+            Urgency::High,
+            |held: &mut Held| -> (Snap, Snap)
                 requires { MayEnd held.old place fired }
                 ensures ends { Ends held.old held.new fired }
-                ensures room { IsRoom (unfolding_of held.old.book.program) result }
+                ensures copies { AreCopies (unfolding_of held.old.book.program) result }
             { held.end(place, fired) },
         )
     }
 
-    /// Edits the book, where its core allows it.
+    /// Edits the book, where its core allows it. Nobody waits for this turn.
     pub fn edit<W: Wait>(
         &self,
         rt: &W,
@@ -173,6 +188,7 @@ impl Shared {
         self.lock.turn(
             rt,
             pass,
+            Urgency::Low,
             |held: &mut Held| -> Result<(), EditFault>
                 requires turn { HasTurn held.old }
                 requires fits { EditFits (unfolding_of held.old.book.program) (edit_of edit) }

@@ -1,6 +1,6 @@
 -- A copy of a core stands for the same core.
 use Rattle.std.proofs.Common.{◌≡◌, ℕ, ◌<◌, ◌+◌, List, [], ◌∷◌, ◌++◌, length, map, take, drop, get_or, refl, sym, ◌∙◌, ap, subst, add-one, Option, Some, None}
-use Rattle.std.specs.Prelude.{option_map, replicate}
+use Rattle.std.specs.Prelude.{option_map}
 use Rattle.std.proofs.lemmas.List.{map-append, length-map}
 use Rattle.std.proofs.Math.Seq.{take-suc, drop-cons}
 use Rattle.fc_values.specs.declared.exports.Export.{Export}
@@ -13,8 +13,6 @@ use Rattle.value_trees.specs.Snaps.{tree_of, snap_copy, IsSnap}
 use Rattle.topology.specs.Networks.{Network, numbers}
 use Rattle.firing_core.specs.Cores.{Core}
 use Rattle.firing_core.specs.CoreViews.{CoreValue, core_of, program_of, slot_at, AllExports, AllFlights, AllSnaps, FlightOf, IsCore}
-use Rattle.firing_core.specs.Rooms.{SpareValue}
-use Rattle.firing_core.proofs.RoomSlots.{no_rooms}
 use Rattle.firing_core.proofs.SnapCopies.{own_same, own_export}
 
 snaps_more : (U : Unfolding) (old : List (Option Snap)) (y : Option Snap) → AllSnaps U old → WhereSome (IsSnap U) y → AllSnaps U (old ++ y ∷ [])
@@ -89,25 +87,24 @@ trees_again U (x ∷ xs) (y ∷ ys) e =
 
 -- a core and its copy
 module _ (v : CoreValue) (k : IsCore v) (xs : List (Option Export)) (ys : List (Option Snap)) (e : map (option_map export_of) xs ≡ map (option_map export_of) v.exports)
-    (f : map (option_map (snap_copy (program_of v))) ys ≡ map (option_map (snap_copy (program_of v))) v.flying) (w : AllSnaps (program_of v) ys) (n : ℕ) (zs : List (Option SpareValue)) (l : n ≡ length ys) (z : zs ≡ replicate n None) where
-  kept : IsCore (record { program = v.program; net = v.net; exports = xs; flying = ys; rooms = zs })
+    (f : map (option_map (snap_copy (program_of v))) ys ≡ map (option_map (snap_copy (program_of v))) v.flying) (w : AllSnaps (program_of v) ys) where
+  kept : IsCore (record { program = v.program; net = v.net; exports = xs; flying = ys })
   kept = record {
     declared = k.declared;
     net = k.net;
     many = sym (length-map xs (option_map export_of)) ∙ ap length e ∙ length-map v.exports (option_map export_of) ∙ k.many;
     exports = exports_again (program_of v) v.exports xs e k.exports;
     flying = flights_again (program_of v) (numbers v.net.devices) v.flying ys f w k.flying;
-    rooms = no_rooms (program_of v) ys n zs l z;
   }
 
-  same : core_of (record { program = v.program; net = v.net; exports = xs; flying = ys; rooms = zs }) ≡ core_of v
+  same : core_of (record { program = v.program; net = v.net; exports = xs; flying = ys }) ≡ core_of v
   same =
       let a = trees_again (program_of v) v.exports xs e in
       ap (λ ts. let c : Core = record { net = v.net; exports = slot_at (numbers v.net.devices) ts; flying = slot_at (numbers v.net.devices) (map (option_map (snap_copy (program_of v))) ys) } in c) a
       ∙ ap (λ ts. let c : Core = record { net = v.net; exports = slot_at (numbers v.net.devices) (map (option_map (tree_of (program_of v))) v.exports); flying = slot_at (numbers v.net.devices) ts } in c) f
 
-  pub copied_kept : (r : Program) (m : Network) → r ≡ v.program → m ≡ v.net → IsCore (record { program = r; net = m; exports = xs; flying = ys; rooms = zs })
-  copied_kept r m p q = subst (λ (s : Program). IsCore (record { program = s; net = m; exports = xs; flying = ys; rooms = zs })) (sym p) (subst (λ (o : Network). IsCore (record { program = v.program; net = o; exports = xs; flying = ys; rooms = zs })) (sym q) kept)
+  pub copied_kept : (r : Program) (m : Network) → r ≡ v.program → m ≡ v.net → IsCore (record { program = r; net = m; exports = xs; flying = ys })
+  copied_kept r m p q = subst (λ (s : Program). IsCore (record { program = s; net = m; exports = xs; flying = ys })) (sym p) (subst (λ (o : Network). IsCore (record { program = v.program; net = o; exports = xs; flying = ys })) (sym q) kept)
 
-  pub copied_core : (r : Program) (m : Network) → r ≡ v.program → m ≡ v.net → core_of (record { program = r; net = m; exports = xs; flying = ys; rooms = zs }) ≡ core_of v
-  copied_core r m p q = subst (λ (s : Program). core_of (record { program = s; net = m; exports = xs; flying = ys; rooms = zs }) ≡ core_of v) (sym p) (subst (λ (o : Network). core_of (record { program = v.program; net = o; exports = xs; flying = ys; rooms = zs }) ≡ core_of v) (sym q) same)
+  pub copied_core : (r : Program) (m : Network) → r ≡ v.program → m ≡ v.net → core_of (record { program = r; net = m; exports = xs; flying = ys }) ≡ core_of v
+  copied_core r m p q = subst (λ (s : Program). core_of (record { program = s; net = m; exports = xs; flying = ys }) ≡ core_of v) (sym p) (subst (λ (o : Network). core_of (record { program = v.program; net = o; exports = xs; flying = ys }) ≡ core_of v) (sym q) same)

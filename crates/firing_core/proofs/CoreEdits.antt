@@ -1,5 +1,5 @@
 -- The slots of a core in code after an edit.
-use Rattle.std.proofs.Common.{◌≡◌, ℕ, zero, suc, ◌<◌, List, [], ◌∷◌, length, map, get_or, refl, sym, ◌∙◌, ap, subst, arith, Bool, true, false, not, nat_eq, nat_lt, nat_le, if◌then◌else◌, ◌||◌, Option, Some, None, is_some, length-set}
+use Rattle.std.proofs.Common.{◌≡◌, ℕ, zero, suc, ◌<◌, List, [], ◌∷◌, length, map, get_or, refl, sym, ◌∙◌, ap, subst, arith, Bool, true, false, not, nat_eq, nat_lt, nat_le, if◌then◌else◌, ◌||◌, Option, Some, None, length-set}
 use Rattle.std.specs.Prelude.{slice_set, option_map}
 use Rattle.std.specs.List.{insert, remove, prefix_len}
 use Rattle.std.proofs.Math.Path.{fun_ext}
@@ -29,17 +29,15 @@ use Rattle.topology.proofs.Lemmas.{drop_length, put_numbers}
 use Rattle.topology.proofs.Lemmas.{map_remove, remove_device}
 use Rattle.firing_core.specs.Entries.{EditValue, LinkEdit, UnlinkEdit, SetEdit, PokeEdit, JoinEdit, LeaveEdit}
 use Rattle.firing_core.specs.Cores.{Map, put, Core, on_net, Edits, edit_fault, edited}
-use Rattle.firing_core.specs.CoreViews.{CoreValue, core_of, program_of, slot_at, AllExports, AllFlights, rooms_of, IsCore}
-use Rattle.firing_core.specs.Rooms.{SpareValue}
-use Rattle.firing_core.proofs.RoomSlots.{some_put, mark_same, many_rooms, rooms_inserted, rooms_removed, no_room}
-use Rattle.firing_core.proofs.Slots.{Distinct, rises_distinct, slot_none}
+use Rattle.firing_core.specs.CoreViews.{CoreValue, core_of, program_of, slot_at, AllExports, AllFlights, IsCore}
+use Rattle.firing_core.proofs.Slots.{Distinct, rises_distinct}
 use Rattle.firing_core.proofs.Views.{many_flights, many_numbers}
 use Rattle.firing_core.proofs.CoreSteps.{slot_write, exports_set}
 
 -- ---- another network of the same devices
 
 abbrev pub with_net : CoreValue → Network → CoreValue
-with_net v n = record { program = v.program; net = n; exports = v.exports; flying = v.flying; rooms = v.rooms }
+with_net v n = record { program = v.program; net = n; exports = v.exports; flying = v.flying }
 
 module _ (v : CoreValue) (k : IsCore v) (n : Network) (same : numbers n.devices ≡ numbers v.net.devices) where
   pub net_core : core_of (with_net v n) ≡ on_net (core_of v) n
@@ -53,11 +51,7 @@ module _ (v : CoreValue) (k : IsCore v) (n : Network) (same : numbers n.devices 
     many = k.many ∙ sym (many_numbers v.net.devices) ∙ ap length (sym same) ∙ many_numbers n.devices;
     exports = k.exports;
     flying = subst (λ is. AllFlights (program_of v) is v.flying) (sym same) k.flying;
-    rooms = k.rooms;
   }
-
-  pub net_set : rooms_of (with_net v n) ≡ rooms_of v
-  net_set = ap (λ is. λ d. is_some (slot_at is v.rooms d)) same
 
 -- ---- a slot more
 
@@ -108,7 +102,7 @@ insert_long (y ∷ ys) (suc p) x = ap suc (insert_long ys p x)
 
 module _ (v : CoreValue) (k : IsCore v) (x : NetDevice) (p : ℕ) (place : p ≡ prefix_len (λ (n : NetDevice). nat_lt n.id x.id) v.net.devices) (new : lives v.net x.id ≡ false) where
   abbrev pub with_device : CoreValue
-  with_device = record { program = v.program; net = joined v.net x; exports = insert v.exports p None; flying = insert v.flying p None; rooms = insert v.rooms p None }
+  with_device = record { program = v.program; net = joined v.net x; exports = insert v.exports p None; flying = insert v.flying p None }
 
   joined_numbers : numbers (insert_device x v.net.devices) ≡ insert (numbers v.net.devices) p x.id
   joined_numbers =
@@ -143,18 +137,7 @@ module _ (v : CoreValue) (k : IsCore v) (x : NetDevice) (p : ℕ) (place : p ≡
     many = insert_long v.exports p None ∙ ap suc k.many ∙ sym (insert_length (λ (n : NetDevice). nat_lt n.id x.id) x v.net.devices);
     exports = insert_exports (program_of v) v.exports p k.exports;
     flying = subst (λ is. AllFlights (program_of v) is (insert v.flying p None)) (sym joined_numbers) (insert_flights (program_of v) (numbers v.net.devices) v.flying p x.id k.flying);
-    rooms = rooms_inserted (program_of v) v.flying v.rooms p k.rooms;
   }
-
-  -- no other device has a room for it
-  pub joined_set : rooms_of with_device ≡ rooms_of v
-  joined_set =
-      let m = many_rooms (program_of v) v.flying v.rooms k.rooms in
-      let n = flying_long in
-      ap (λ is. λ d. is_some (slot_at is (insert v.rooms p None) d)) joined_numbers
-      ∙ ap (λ (f : Map SpareValue). λ d. is_some (f d)) (slot_insert (numbers v.net.devices) v.rooms p x.id new (omega arith))
-      ∙ some_put (slot_at (numbers v.net.devices) v.rooms) x.id None
-      ∙ mark_same (rooms_of v) x.id (ap is_some (slot_none (numbers v.net.devices) v.rooms x.id new))
 
 -- ---- a slot less
 
@@ -211,7 +194,7 @@ remove_long (x ∷ xs) (suc p) h = ap suc (remove_long xs p (omega arith))
 
 module _ (v : CoreValue) (k : IsCore v) (p d : ℕ) (h : p < length v.net.devices) (q : get_or (numbers v.net.devices) p 0 ≡ d) (there : Lives v.net d) where
   abbrev pub without_device : CoreValue
-  without_device = record { program = v.program; net = left v.net d; exports = remove v.exports p; flying = remove v.flying p; rooms = remove v.rooms p }
+  without_device = record { program = v.program; net = left v.net d; exports = remove v.exports p; flying = remove v.flying p }
 
   apart : Distinct (numbers v.net.devices)
   apart = rises_distinct (numbers v.net.devices) k.net.rising
@@ -246,22 +229,12 @@ module _ (v : CoreValue) (k : IsCore v) (p d : ℕ) (h : p < length v.net.device
     many = let m = remove_long v.exports p (let n = k.many in omega arith) in let n = k.many in let o = drop_length d v.net.devices k.net.rising there in omega arith;
     exports = remove_exports (program_of v) v.exports p k.exports;
     flying = subst (λ is. AllFlights (program_of v) is (remove v.flying p)) (sym left_numbers) (remove_flights (program_of v) (numbers v.net.devices) v.flying p k.flying);
-    rooms = rooms_removed (program_of v) v.flying v.rooms p k.rooms;
   }
-
-  pub left_set : (core_of v).flying d ≡ None → rooms_of without_device ≡ rooms_of v
-  left_set rests =
-      let m = many_rooms (program_of v) v.flying v.rooms k.rooms in
-      let n = many_flights (program_of v) (numbers v.net.devices) v.flying k.flying in
-      ap (λ is. λ i. is_some (slot_at is (remove v.rooms p) i)) left_numbers
-      ∙ ap (λ (f : Map SpareValue). λ i. is_some (f i)) (slot_remove (numbers v.net.devices) v.rooms p d apart within q (omega arith))
-      ∙ some_put (slot_at (numbers v.net.devices) v.rooms) d None
-      ∙ mark_same (rooms_of v) d (no_room (program_of v) (snap_copy (program_of v)) (numbers v.net.devices) v.flying v.rooms d k.rooms rests)
 
   -- ---- an export in a device's place
 
   abbrev pub with_poke : Export → CoreValue
-  with_poke x = record { program = v.program; net = v.net; exports = slice_set v.exports p (Some x); flying = v.flying; rooms = v.rooms }
+  with_poke x = record { program = v.program; net = v.net; exports = slice_set v.exports p (Some x); flying = v.flying }
 
   pub poked_core : (x : Export) (e : FlatExport) → export_of x ≡ e → core_of (with_poke x) ≡ edited (program_of v) (core_of v) (PokeEdit d e)
   poked_core x e r =
@@ -276,7 +249,6 @@ module _ (v : CoreValue) (k : IsCore v) (p d : ℕ) (h : p < length v.net.device
     many = length-set v.exports p (Some x) ∙ k.many;
     exports = exports_set (program_of v) v.exports p (Some x) k.exports (subst (IsExport (program_of v)) (sym r) w);
     flying = k.flying;
-    rooms = k.rooms;
   }
 
 -- ---- edits of the network alone
@@ -284,27 +256,23 @@ module _ (v : CoreValue) (k : IsCore v) (p d : ℕ) (h : p < length v.net.device
 pub record EditedNet (v : CoreValue) (n : Network) (e : EditValue) : Type 0 where
   pub kept : IsCore (with_net v n)
   pub edits : Edits (program_of v) (core_of v) e (core_of (with_net v n))
-  pub set : rooms_of (with_net v n) ≡ rooms_of v
 
 pub linked_edit : (v : CoreValue) (n : Network) (a b w : ℕ) → IsCore v → n ≡ linked v.net a b w → link_fault v.net a b w ≡ None → EditedNet v n (LinkEdit a b w)
 linked_edit v n a b w k q f = subst (λ m. EditedNet v m (LinkEdit a b w)) (sym q) (record {
   kept = net_kept v k (linked v.net a b w) refl (linked_network v.net a b w k.net f) refl;
   edits = record { fits = tt; allowed = f; after = net_core v k (linked v.net a b w) refl };
-  set = net_set v k (linked v.net a b w) refl;
 })
 
 pub unlinked_edit : (v : CoreValue) (n : Network) (a b : ℕ) → IsCore v → n ≡ unlinked v.net a b → unlink_fault v.net a b ≡ None → EditedNet v n (UnlinkEdit a b)
 unlinked_edit v n a b k q f = subst (λ m. EditedNet v m (UnlinkEdit a b)) (sym q) (record {
   kept = net_kept v k (unlinked v.net a b) refl (unlinked_network v.net a b k.net) refl;
   edits = record { fits = tt; allowed = f; after = net_core v k (unlinked v.net a b) refl };
-  set = net_set v k (unlinked v.net a b) refl;
 })
 
 pub set_edit : (v : CoreValue) (n : Network) (d i : ℕ) (x : LocalValue) → IsCore v → n ≡ with_input v.net d i x → set_fault v.net d i x ≡ None → EditedNet v n (SetEdit d i x)
 set_edit v n d i x k q f = subst (λ m. EditedNet v m (SetEdit d i x)) (sym q) (record {
   kept = net_kept v k (with_input v.net d i x) (put_numbers d i x v.net.devices) (input_network v.net d i x k.net (set_none v.net d i x f).1) refl;
   edits = record { fits = tt; allowed = f; after = net_core v k (with_input v.net d i x) (put_numbers d i x v.net.devices) };
-  set = net_set v k (with_input v.net d i x) (put_numbers d i x v.net.devices);
 })
 
 -- a pair is no value of an input
@@ -342,15 +310,15 @@ pair_never n d i (BoolValue b) p e = p
 pair_never n d i (PairValue a b) p e = no_pair n d i a b e
 
 -- a core of the same parts
-abbrev pub core_parts : Program → Network → List (Option Export) → List (Option Snap) → List (Option SpareValue) → CoreValue
-core_parts p n xs ys zs = record { program = p; net = n; exports = xs; flying = ys; rooms = zs }
+abbrev pub core_parts : Program → Network → List (Option Export) → List (Option Snap) → CoreValue
+core_parts p n xs ys = record { program = p; net = n; exports = xs; flying = ys }
 
-pub rebuilt_core : (p : Program) (m n : Network) (xs us : List (Option Export)) (ys vs : List (Option Snap)) (zs ws : List (Option SpareValue)) → m ≡ n → xs ≡ us → ys ≡ vs → zs ≡ ws → core_parts p m xs ys zs ≡ core_parts p n us vs ws
-rebuilt_core p m n xs us ys vs zs ws e f g h =
-    ap (λ o. core_parts p o xs ys zs) e ∙ ap (λ bs. core_parts p n bs ys zs) f ∙ ap (λ bs. core_parts p n us bs zs) g ∙ ap (core_parts p n us vs) h
+pub rebuilt_core : (p : Program) (m n : Network) (xs us : List (Option Export)) (ys vs : List (Option Snap)) → m ≡ n → xs ≡ us → ys ≡ vs → core_parts p m xs ys ≡ core_parts p n us vs
+rebuilt_core p m n xs us ys vs e f g =
+    ap (λ o. core_parts p o xs ys) e ∙ ap (λ bs. core_parts p n bs ys) f ∙ ap (core_parts p n us) g
 
 abbrev pub without : CoreValue → ℕ → ℕ → CoreValue
-without v p d = record { program = v.program; net = left v.net d; exports = remove v.exports p; flying = remove v.flying p; rooms = remove v.rooms p }
+without v p d = record { program = v.program; net = left v.net d; exports = remove v.exports p; flying = remove v.flying p }
 
 abbrev pub with_joined : CoreValue → NetDevice → ℕ → CoreValue
-with_joined v x p = record { program = v.program; net = joined v.net x; exports = insert v.exports p None; flying = insert v.flying p None; rooms = insert v.rooms p None }
+with_joined v x p = record { program = v.program; net = joined v.net x; exports = insert v.exports p None; flying = insert v.flying p None }

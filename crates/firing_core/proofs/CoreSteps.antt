@@ -14,12 +14,10 @@ use Rattle.device_eval.specs.Firing.{FiredValue, IsFired}
 use Rattle.firing_core.specs.Entries.{BeginEntry, EndEntry}
 use Rattle.firing_core.specs.declared.entries.StepFault.TheVariants as fault
 use Rattle.topology.specs.Networks.{Network, numbers, lives}
-use Rattle.firing_core.specs.Cores.{Map, put, Core, copy_of, begun, ended, Ends}
+use Rattle.firing_core.specs.Cores.{put, Core, copy_of, begun, ended, Ends}
 use Rattle.firing_core.specs.Replays.{fault_of}
-use Rattle.firing_core.specs.CoreViews.{CoreValue, core_of, program_of, slot_at, AllExports, AllFlights, FlightOf, rooms_of, mark, IsCore}
-use Rattle.firing_core.specs.Rooms.{SpareValue, IsRest}
-use Rattle.firing_core.proofs.RoomSlots.{some_put, many_rooms, rooms_begun, rooms_ended, rooms_taken}
-use Rattle.firing_core.proofs.Slots.{Distinct, rises_distinct, slot_here, slot_set}
+use Rattle.firing_core.specs.CoreViews.{CoreValue, core_of, program_of, slot_at, AllExports, AllFlights, FlightOf, IsCore}
+use Rattle.firing_core.proofs.Slots.{Distinct, rises_distinct, slot_set}
 use Rattle.firing_core.proofs.Views.{many_flights, many_numbers}
 
 -- reading the slot of the device at a place
@@ -130,7 +128,7 @@ module _ (v : CoreValue) (k : IsCore v) (p d : ℕ) (h : p < length v.net.device
 
   -- the core with a copy put in flight
   abbrev pub with_flight : Snap → CoreValue
-  with_flight s = record { program = v.program; net = v.net; exports = v.exports; flying = slice_set v.flying p (Some s); rooms = v.rooms }
+  with_flight s = record { program = v.program; net = v.net; exports = v.exports; flying = slice_set v.flying p (Some s) }
 
   pub flown_core : (s : Snap) → core_of (with_flight s) ≡ record { net = v.net; exports = (core_of v).exports; flying = put (core_of v).flying d (Some (snap_copy (program_of v) s)) }
   flown_core s =
@@ -140,54 +138,18 @@ module _ (v : CoreValue) (k : IsCore v) (p d : ℕ) (h : p < length v.net.device
   pub begun_core : (s : Snap) → snap_copy (program_of v) s ≡ copy_of v.net (core_of v).exports d → core_of (with_flight s) ≡ begun (core_of v).exports (core_of v) d
   begun_core s q = flown_core s ∙ ap (λ x. let c : Core = record { net = v.net; exports = (core_of v).exports; flying = put (core_of v).flying d (Some x) } in c) q
 
-  pub begun_kept : (x : Option Snap) (s : Snap) → x ≡ get_or v.flying p x → is_some x ≡ false → s.device ≡ d → IsSnap (program_of v) s → IsCore (with_flight s)
-  begun_kept x s q rests names fits = record {
+  pub begun_kept : (s : Snap) → s.device ≡ d → IsSnap (program_of v) s → IsCore (with_flight s)
+  begun_kept s names fits = record {
     declared = k.declared;
     net = k.net;
     many = k.many;
     exports = k.exports;
     flying = flights_set (program_of v) (numbers v.net.devices) v.flying p d (Some s) k.flying in_numbers e (record { names = names; snap = fits });
-    rooms = rooms_begun (program_of v) v.flying v.rooms p x s flight_within q rests k.rooms;
   }
-
-  -- and what it left of a room beside it
-  abbrev pub with_room : Snap → SpareValue → CoreValue
-  with_room s r = record { program = v.program; net = v.net; exports = v.exports; flying = slice_set v.flying p (Some s); rooms = slice_set v.rooms p (Some r) }
-
-  pub roomed_kept : (s : Snap) (r : SpareValue) → s.device ≡ d → IsSnap (program_of v) s → IsRest (program_of v) s r → IsCore (with_room s r)
-  roomed_kept s r names fits rest = record {
-    declared = k.declared;
-    net = k.net;
-    many = k.many;
-    exports = k.exports;
-    flying = flights_set (program_of v) (numbers v.net.devices) v.flying p d (Some s) k.flying in_numbers e (record { names = names; snap = fits });
-    rooms = rooms_taken (program_of v) v.flying v.rooms p s r rest k.rooms;
-  }
-
-  rooms_long : length (numbers v.net.devices) ≡ length v.rooms
-  rooms_long = let m = flights in let n = many_rooms (program_of v) v.flying v.rooms k.rooms in omega arith
-
-  pub room_within : p < length v.rooms
-  room_within = let m = rooms_long in let n = in_numbers in omega arith
-
-  -- which devices have a room, after one slot was written
-  rooms_written : (o : Option SpareValue) → (λ i. is_some (slot_at (numbers v.net.devices) (slice_set v.rooms p o) i)) ≡ mark (rooms_of v) d (is_some o)
-  rooms_written o =
-      ap (λ (f : Map SpareValue). λ i. is_some (f i)) (slot_set (numbers v.net.devices) v.rooms p o apart in_numbers rooms_long ∙ ap (λ i. put (slot_at (numbers v.net.devices) v.rooms) i o) e)
-      ∙ some_put (slot_at (numbers v.net.devices) v.rooms) d o
-
-  -- whether the device has a room
-  pub room_at : (o : Option SpareValue) → o ≡ get_or v.rooms p o → is_some o ≡ rooms_of v d
-  room_at o q =
-      let w = room_within in
-      ap is_some (q ∙ get_or_other v.rooms p o None w ∙ sym (slot_here (numbers v.net.devices) v.rooms p d apart in_numbers e rooms_long))
-
-  pub roomed_set : (s : Snap) (r : SpareValue) → rooms_of (with_room s r) ≡ mark (rooms_of v) d true
-  roomed_set s r = rooms_written (Some r)
 
   -- the core with an export published and the flight ended
   abbrev pub with_export : Export → CoreValue
-  with_export x = record { program = v.program; net = v.net; exports = slice_set v.exports p (Some x); flying = slice_set v.flying p None; rooms = slice_set v.rooms p None }
+  with_export x = record { program = v.program; net = v.net; exports = slice_set v.exports p (Some x); flying = slice_set v.flying p None }
 
   pub ended_core : (x : Export) → core_of (with_export x) ≡ ended (core_of v) d (tree_of (program_of v) x)
   ended_core x =
@@ -207,11 +169,7 @@ module _ (v : CoreValue) (k : IsCore v) (p d : ℕ) (h : p < length v.net.device
     many = length-set v.exports p (Some x) ∙ k.many;
     exports = exports_set (program_of v) v.exports p (Some x) k.exports w;
     flying = flights_set (program_of v) (numbers v.net.devices) v.flying p d None k.flying in_numbers e tt;
-    rooms = rooms_ended (program_of v) v.flying v.rooms p k.rooms;
   }
-
-  pub ended_set : (x : Export) → rooms_of (with_export x) ≡ mark (rooms_of v) d false
-  ended_set x = rooms_written None
 
   -- an end of a firing of this core's program, whose copy is the one in flight
   pub ends : (x : Option Snap) (f : FiredValue) → x ≡ get_or v.flying p x → lives v.net d ≡ true → is_some x ≡ true → IsFired f → f.program ≡ v.program

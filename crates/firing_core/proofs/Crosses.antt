@@ -14,8 +14,8 @@ use Rattle.fc_nodes.specs.contracts.nodes.Node as Node
 use Rattle.fc_nodes.specs.contracts.layouts.Layout as Layout
 use Rattle.fc_nodes.specs.contracts.program.Unfolded as Unfolded
 use Rattle.topology.specs.contracts.networks.Network as Network
+use Rattle.value_trees.specs.contracts.published.Published as Published
 use Rattle.value_trees.specs.contracts.copies.Snap as Snap
-use Rattle.firing_core.specs.contracts.rooms.Spare as Spare
 use Rattle.firing_core.specs.contracts.cores.Core as Core
 use Rattle.firing_core.specs.contracts.entries.Entry as Entry
 use Rattle.firing_core.specs.contracts.books.Book as Book
@@ -74,17 +74,17 @@ network_send = search (local_send, sendable, crosses) depth 40 fits 20000
 network_sync : IsSync (Network.the_field).row
 network_sync = search (local_sync, sendable, crosses) depth 40 fits 20000
 
+published_send : IsSend (Published.the_field).row
+published_send = search (export_send, export_sync, sendable, crosses) depth 40 fits 20000
+
+published_sync : IsSync (Published.the_field).row
+published_sync = search (export_send, export_sync, sendable, crosses) depth 40 fits 20000
+
 snap_send : IsSend (Snap.the_field).row
-snap_send = search (export_send, local_send, sendable, crosses) depth 40 fits 20000
+snap_send = search (published_send, local_send, sendable, crosses) depth 40 fits 20000
 
 snap_sync : IsSync (Snap.the_field).row
-snap_sync = search (export_sync, local_sync, sendable, crosses) depth 40 fits 20000
-
-spare_send : IsSend (Spare.the_field).row
-spare_send = search (export_send, sendable, crosses) depth 40 fits 20000
-
-spare_sync : IsSync (Spare.the_field).row
-spare_sync = search (export_sync, sendable, crosses) depth 40 fits 20000
+snap_sync = search (published_sync, local_sync, sendable, crosses) depth 40 fits 20000
 
 pub entry_send : IsSend (Entry.the_field).row
 entry_send = search (export_send, local_send, sendable, crosses) depth 40 fits 20000
@@ -93,10 +93,10 @@ entry_sync : IsSync (Entry.the_field).row
 entry_sync = search (export_sync, local_sync, sendable, crosses) depth 40 fits 20000
 
 core_send : IsSend (Core.the_field).row
-core_send = search (unfolded_send, unfolded_sync, network_send, export_send, snap_send, spare_send, sendable, crosses) depth 40 fits 20000
+core_send = search (unfolded_send, unfolded_sync, network_send, published_send, snap_send, sendable, crosses) depth 40 fits 20000
 
 core_sync : IsSync (Core.the_field).row
-core_sync = search (unfolded_send, unfolded_sync, network_sync, export_sync, snap_sync, spare_sync, sendable, crosses) depth 40 fits 20000
+core_sync = search (unfolded_send, unfolded_sync, network_sync, published_sync, snap_sync, sendable, crosses) depth 40 fits 20000
 
 pub book_send : IsSend (Book.the_field).row
 book_send = search (unfolded_send, unfolded_sync, core_send, entry_send, sendable, crosses) depth 40 fits 20000

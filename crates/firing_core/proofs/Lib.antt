@@ -2,14 +2,12 @@ pub mod Maps
 pub mod Cuts
 pub mod Slots
 pub mod Views
-pub mod RoomSlots
 pub mod Starting
 pub mod RoomSteps
 pub mod Neighbours
 pub mod SnapCopies
 pub mod CoreSteps
 pub mod Borrowed
-pub mod Landing
 pub mod NearSteps
 pub mod Taken
 pub mod CoreCopies

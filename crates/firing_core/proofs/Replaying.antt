@@ -8,18 +8,17 @@ use Rattle.firing_core.specs.declared.entries.ReplayFault.{ReplayFault}
 use Rattle.firing_core.specs.declared.entries.ReplayFault.TheVariants as replay_fault
 use Rattle.firing_core.specs.Entries.{EntryValue, entry_of, entries_of}
 use Rattle.firing_core.specs.Cores.{Core, Step, Run, IsGood}
-use Rattle.firing_core.specs.CoreViews.{CoreValue, core_of, program_of, rooms_of, IsCore}
+use Rattle.firing_core.specs.CoreViews.{CoreValue, core_of, program_of, IsCore}
 use Rattle.firing_core.specs.Replays.{EntryFits, LogFits, FailsAt, fault_of, net_fault_of, replay}
-use Rattle.firing_core.specs.Books.{IsBook, RefusesAt, FailsReplay, IsStuckReplay, rooms_after, rooms_along}
+use Rattle.firing_core.specs.Books.{IsBook, RefusesAt, FailsReplay, IsStuckReplay}
 use Rattle.firing_core.proofs.Views.{good_of}
-use Rattle.firing_core.proofs.Settling.{rooms_join, take_whole}
+use Rattle.firing_core.proofs.Settling.{take_whole}
 use Rattle.firing_core.proofs.Steps.{good_fly, run_snoc, run_rel, fails_none, fault_stuck, net_fault_stuck}
 
 -- the core to which the first entries of a log lead
 pub record ReplayedTo (p : Program) (start : CoreValue) (log : List Entry) (i : ℕ) (c : CoreValue) : Type 0 where
   pub program : c.program ≡ p
   pub runs : Run (unfolding_of p) (core_of start) (entries_of (take i log)) (core_of c)
-  pub rooms : rooms_of c ≡ rooms_along (entries_of (take i log)) (rooms_of start)
 
 pub fits_at : (U : Unfolding) (log : List Entry) (i : ℕ) (e : Entry) → LogFits U (entries_of log) → i < length log → e ≡ get_or log i e → EntryFits U (entry_of e)
 fits_at U [] i e f h q = absurd (omega arith)
@@ -30,14 +29,12 @@ module _ {p : Program} {start : CoreValue} {log : List Entry} {i : ℕ} {c : Cor
   longer : entries_of (take (suc i) log) ≡ entries_of (take i log) ++ entry_of e ∷ []
   longer = ap entries_of (take-suc log i e h ∙ ap (λ (x : Entry). take i log ++ x ∷ []) (sym is)) ∙ map-append entry_of (take i log) (e ∷ [])
 
-  pub replayed_more : (j : ℕ) (next : CoreValue) → j ≡ suc i → next.program ≡ c.program → Step (program_of c) (core_of c) (entry_of e) (core_of next) → rooms_of next ≡ rooms_after (entry_of e) (rooms_of c) → ReplayedTo p start log j next
-  replayed_more j next q same step rooms = subst (λ (k : ℕ). ReplayedTo p start log k next) (sym q) (record {
+  pub replayed_more : (j : ℕ) (next : CoreValue) → j ≡ suc i → next.program ≡ c.program → Step (program_of c) (core_of c) (entry_of e) (core_of next) → ReplayedTo p start log j next
+  replayed_more j next q same step = subst (λ (k : ℕ). ReplayedTo p start log k next) (sym q) (record {
     program = same ∙ r.program;
     runs = subst (λ (l : List EntryValue). Run (unfolding_of p) (core_of start) l (core_of next)) (sym longer)
         (run_snoc (unfolding_of p) (core_of start) (core_of c) (core_of next) (entries_of (take i log)) (entry_of e) r.runs
         (subst (λ (s : Program). Step (unfolding_of s) (core_of c) (entry_of e) (core_of next)) r.program step));
-    rooms = rooms ∙ ap (rooms_after (entry_of e)) r.rooms ∙ sym (rooms_join (entries_of (take i log)) (entry_of e ∷ []) (rooms_of start))
-        ∙ ap (λ (l : List EntryValue). rooms_along l (rooms_of start)) (sym longer);
   })
 
   cut_here : entries_of log ≡ entries_of (take i log) ++ entry_of e ∷ entries_of (drop (suc i) log)
@@ -85,9 +82,6 @@ module _ {p : Program} {start : CoreValue} {log : List Entry} {i : ℕ} {c : Cor
 
   pub replays : IsGood (unfolding_of p) (core_of start) → replay (unfolding_of p) (core_of start) (entries_of log) ≡ Some (core_of c)
   replays good = run_rel (unfolding_of p) (core_of start) (core_of c) (entries_of log) (good_fly (unfolding_of p) (core_of start) good) runs_all
-
-  pub replayed_rooms : rooms_of c ≡ rooms_along (entries_of log) (rooms_of start)
-  replayed_rooms = r.rooms ∙ ap (λ (l : List EntryValue). rooms_along l (rooms_of start)) all_read
 
   -- the book of a copy of the start
   pub replayed_book : (q : Program) (copied : CoreValue) (spare : ℕ) → q ≡ p → copied.program ≡ p → IsCore copied → core_of copied ≡ core_of start → IsBook (record { program = q; start = copied; log = log; core = c; spare = spare })

@@ -1,28 +1,17 @@
--- What rooms hold: exports of one shape, and copies without exports.
-use Rattle.std.proofs.Common.{◌≡◌, ℕ, zero, suc, ◌<◌, ◌≤◌, List, [], ◌∷◌, ◌++◌, length, map, take, drop, get_or, refl, sym, ◌∙◌, ap, subst, arith, Some, None}
-use Rattle.std.specs.Prelude.{slice_set}
+-- What rooms hold: copies without exports.
+use Rattle.std.proofs.Common.{◌≡◌, ℕ, zero, suc, ◌<◌, ◌≤◌, List, [], ◌∷◌, length, map, take, drop, get_or, refl, sym, ◌∙◌, ap, subst, arith, None}
+use Rattle.std.specs.Prelude.{slice_set, vec_capacity}
 use Rattle.fc_values.specs.declared.values.Local.{Local}
-use Rattle.fc_values.specs.declared.exports.Export.{Export}
 use Rattle.fc_values.specs.declared.types.InputTy.{InputTy}
 use Rattle.fc_values.specs.declared.types.InputTy.TheVariants as input
 use Rattle.fc_values.specs.declared.types.InputDecl.{InputDecl}
-use Rattle.fc_values.specs.Types.{ValueType, Declarations, Input, input_of, input_type, type_of as value_type_of}
-use Rattle.fc_values.specs.BuiltinTypes.{inner}
+use Rattle.fc_values.specs.Types.{Declarations, Input, input_of, input_type}
 use Rattle.fc_values.specs.Values.{LocalValue, IntValue, BoolValue, PairValue, local_of, form_of, SameForm}
-use Rattle.fc_values.specs.Exports.{FlatExport, export_of}
-use Rattle.fc_nodes.specs.declared.nodes.Node.{Node}
-use Rattle.fc_nodes.specs.Terms.{Term, Plain, Apply, Nbr, Evolve, If, Let, Sort, HasNode, Laid, type_of, kept_types, view_at, view_of, sort_of}
-use Rattle.fc_nodes.specs.Program.{Program, IsProgram, Unfolding, unfolding_of}
-use Rattle.fc_nodes.specs.Flat.{IsExport, HaveForms}
-use Rattle.value_trees.specs.declared.copies.Near.{Near}
+use Rattle.fc_nodes.specs.Program.{Unfolding}
 use Rattle.value_trees.specs.declared.copies.Snap.{Snap}
 use Rattle.fc_values.specs.Inputs.{InputFits, InputsFit}
-use Rattle.value_trees.specs.Snaps.{IsExportOf, NearAreExports, IsSnap}
-use Rattle.value_trees.specs.Shapes.{IsShaped}
-use Rattle.value_trees.proofs.Forms.{fits_form}
-use Rattle.fc_nodes.specs.Layouts.{LayoutValue, IsLayout, blank_slots}
-use Rattle.fc_nodes.proofs.Blanks.{have_forms}
-use Rattle.firing_core.specs.Rooms.{SpareValue, AllShaped, IsSpare, types_of, declared_types, IsBlank}
+use Rattle.value_trees.specs.Snaps.{IsSnap}
+use Rattle.firing_core.specs.Rooms.{types_of, declared_types, IsBlank}
 use Rattle.fc_values.proofs.Forms.{same_form}
 
 -- ---- values of one type
@@ -82,47 +71,6 @@ written_whole (suc i) (x ∷ xs) (y ∷ ys) h w =
     let rest : map local_of (take i xs) ≡ map local_of (take i ys) = cc in
     ap (λ z. z ∷ map local_of xs) first ∙ ap (λ zs. local_of y ∷ zs) (written_whole i xs ys (omega arith) (record { done = rest; left = w.left }))
 
--- ---- exports that are kept
-
-pub shaped_front : (U : Unfolding) (xs : List Export) (e : Export) → AllShaped U (xs ++ e ∷ []) → AllShaped U xs × IsShaped U (export_of e)
-shaped_front U [] e a = (tt, a.0)
-shaped_front U (x ∷ xs) e a = let r = shaped_front U xs e a.1 in ((a.0, r.0), r.1)
-
-pub shaped_more : (U : Unfolding) (xs : List Export) (e : Export) → AllShaped U xs → IsShaped U (export_of e) → AllShaped U (xs ++ e ∷ [])
-shaped_more U [] e a s = (s, tt)
-shaped_more U (x ∷ xs) e a s = (a.0, shaped_more U xs e a.1 s)
-
--- an export of a program has its shape
-pub export_shaped : (U : Unfolding) (x : FlatExport) → IsExport U x → IsShaped U x
-export_shaped U x k = record { value = fits_form _ _ _ k.typed.value; slots = k.shaped }
-
-pub spare_front : (U : Unfolding) (old new : SpareValue) (e : Export) → old.exports ≡ new.exports ++ e ∷ [] → new.capacity ≡ old.capacity → IsSpare U old → IsSpare U new × IsShaped U (export_of e)
-spare_front U old new e q c s =
-    let r = shaped_front U new.exports e (subst (AllShaped U) q s.shaped) in
-    let w = s.wide in
-    (record { shaped = r.0; wide = omega arith }, r.1)
-
-pub spare_more : (U : Unfolding) (old new : SpareValue) (e : Export) → new.exports ≡ old.exports ++ e ∷ [] → new.capacity ≡ old.capacity → IsExportOf U e → IsSpare U old → IsSpare U new
-spare_more U old new e q c x s =
-    let w = s.wide in
-    record { shaped = subst (AllShaped U) (sym q) (shaped_more U old.exports e s.shaped (export_shaped U (export_of e) x)); wide = omega arith }
-
--- ---- an export of a program's shape
-
-laid_type : (ns : List Node) (s : Sort) (t : ValueType) (ks : List ℕ) (u : Term) (p : ℕ) → HasNode ns p s t ks → Laid ns p u → t ≡ type_of u
-laid_type ns s t ks (Plain v l) p h w = cc
-laid_type ns s t ks (Apply v o xs) p h w = let a = w.0 in cc
-laid_type ns s t ks (Nbr v a) p h w = let b = w.0 in cc
-laid_type ns s t ks (Evolve v e a b) p h w = let d = w.0 in cc
-laid_type ns s t ks (If v c a b) p h w = let d = w.0 in cc
-laid_type ns s t ks (Let v a b) p h w = let d = w.0 in cc
-
-pub blank_shaped : (P : Program) (n : Node) (l : LayoutValue) (x : FlatExport) → IsProgram P → view_at P.nodes 0 ≡ Some (view_of n) → IsLayout P.nodes l → x.slots ≡ blank_slots l.blanks → form_of x.value ≡ inner (value_type_of n.ty) → IsShaped (unfolding_of P) x
-blank_shaped P n l x p v k s f = record {
-  value = f ∙ ap inner (laid_type P.nodes (sort_of n.op) (value_type_of n.ty) n.kids.items _ 0 v p.formed.laid);
-  slots = subst (λ ys. HaveForms (kept_types (unfolding_of P).main) ys) (sym s) (have_forms l.blanks _ k.forms);
-}
-
 -- ---- copies without exports
 
 pub input_forms : (is : List Input) (vs : List Local) → InputsFit is (map local_of vs) → types_of vs ≡ map (λ (i : Input). input_type i.type) is
@@ -139,11 +87,12 @@ input_forms (i ∷ is) (v ∷ vs) h = let a = one i.type (local_of v) h.0 in let
     one (input.Whole l g) (BoolValue b) k = absurd k
     one (input.Whole l g) (PairValue a b) k = absurd k
 
-pub blank_of : (U : Unfolding) (s t : Snap) → IsSnap U s → t.inputs ≡ s.inputs → t.own ≡ None → t.near.value.items ≡ [] → IsBlank U t
-blank_of U s t k i o n = record {
+pub blank_of : (U : Unfolding) (s t : Snap) → IsSnap U s → t.inputs ≡ s.inputs → t.own ≡ None → t.near.items ≡ [] → 32 ≤ vec_capacity t.near → IsBlank U t
+blank_of U s t k i o n w = record {
   inputs = subst (λ vs. types_of vs.items ≡ declared_types U) (sym i) (input_forms U.declared.inputs s.inputs.items k.fits.inputs);
   own = o;
   near = n;
+  wide = w;
 }
 
 pub declared_forms : (D : Declarations) (is : List InputDecl) → map input_of is ≡ D.inputs → map (λ (i : InputDecl). input_type (input_of i).type) is ≡ map (λ (i : Input). input_type i.type) D.inputs
@@ -152,7 +101,3 @@ declared_forms D is e = go is ∙ ap (map (λ (i : Input). input_type i.type)) e
     go : (js : List InputDecl) → map (λ (i : InputDecl). input_type (input_of i).type) js ≡ map (λ (i : Input). input_type i.type) (map input_of js)
     go [] = refl
     go (j ∷ js) = ap (λ ts. input_type (input_of j).type ∷ ts) (go js)
-
-pub near_front : (U : Unfolding) (xs : List Near) (n : Near) → NearAreExports U (xs ++ n ∷ []) → NearAreExports U xs × IsExportOf U n.export
-near_front U [] n a = (tt, a.0)
-near_front U (x ∷ xs) n a = let r = near_front U xs n a.1 in ((a.0, r.0), r.1)

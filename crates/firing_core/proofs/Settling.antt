@@ -12,8 +12,8 @@ use Rattle.fc_values.specs.Fields.{is_in}
 use Rattle.firing_core.specs.declared.entries.Entry.TheVariants as entry
 use Rattle.firing_core.specs.Entries.{EntryValue, entry_of, entries_of}
 use Rattle.firing_core.specs.Cores.{Map, put, Core, Run}
-use Rattle.firing_core.specs.CoreViews.{CoreValue, core_of, rooms_of}
-use Rattle.firing_core.specs.Books.{BookValue, IsSameBook, fliers, in_flight, ends_of, rooms_after, rooms_along, EndsFlights, EndsSome}
+use Rattle.firing_core.specs.CoreViews.{CoreValue, core_of}
+use Rattle.firing_core.specs.Books.{BookValue, IsSameBook, fliers, in_flight, ends_of, EndsFlights, EndsSome}
 use Rattle.firing_core.proofs.Cuts.{run_join}
 use Rattle.firing_core.proofs.Slots.{Distinct, rises_distinct, slot_none}
 use Rattle.firing_core.proofs.Views.{many_numbers}
@@ -83,10 +83,6 @@ run_ends U c last (x ∷ xs) r =
         first true q t e = refl
         first false q t e = absurd cc
 
-pub rooms_join : (xs ys : List EntryValue) (set : ℕ → Bool) → rooms_along (xs ++ ys) set ≡ rooms_along ys (rooms_along xs set)
-rooms_join [] ys set = refl
-rooms_join (x ∷ xs) ys set = rooms_join xs ys (rooms_after x set)
-
 -- ---- books whose flights are ended
 
 entries_join : (xs ys : List ℕ) → entries_of (ends_of (xs ++ ys)) ≡ entries_of (ends_of xs) ++ entries_of (ends_of ys)
@@ -100,8 +96,6 @@ ends_more old mid new xs ys f g = record {
   run = subst (λ (l : List EntryValue). Run (unfolding_of old.program) (core_of old.core) l (core_of new.core)) (sym (entries_join xs ys))
       (run_join (unfolding_of old.program) (core_of old.core) (core_of mid.core) (core_of new.core) (entries_of (ends_of xs)) (entries_of (ends_of ys)) f.run
       (subst (λ (p : Program). Run (unfolding_of p) (core_of mid.core) (entries_of (ends_of ys)) (core_of new.core)) f.program g.run));
-  rooms = g.rooms ∙ ap (rooms_along (entries_of (ends_of ys))) f.rooms ∙ sym (rooms_join (entries_of (ends_of xs)) (entries_of (ends_of ys)) (rooms_of old.core))
-      ∙ ap (λ (l : List EntryValue). rooms_along l (rooms_of old.core)) (sym (entries_join xs ys));
 }
 
 -- nothing but the room in the log is another
@@ -111,7 +105,6 @@ ends_after old mid new xs f s = record {
   start = s.start ∙ f.start;
   log = s.log ∙ f.log;
   run = subst (λ (c : CoreValue). Run (unfolding_of old.program) (core_of old.core) (entries_of (ends_of xs)) (core_of c)) (sym s.core) f.run;
-  rooms = ap rooms_of s.core ∙ f.rooms;
 }
 
 -- ---- the flights of the devices of a core, place by place

@@ -48,16 +48,16 @@ module _ (U : Unfolding) where
     pub device : s.device ≡ t.device
     pub inputs : map local_of s.inputs.items ≡ map local_of t.inputs.items
     pub own : option_map export_of s.own ≡ option_map export_of t.own
-    pub near : map near_view s.near.value.items ≡ map near_view t.near.value.items
+    pub near : map near_view s.near.items ≡ map near_view t.near.items
 
   pub same_copy : (s t : Snap) → SameSnap s t → snap_copy U s ≡ snap_copy U t
   same_copy s t h =
-      let d = h.device in let i = h.inputs in let o = own_same s.own t.own h.own in let n = near_same s.near.value.items t.near.value.items h.near in
+      let d = h.device in let i = h.inputs in let o = own_same s.own t.own h.own in let n = near_same s.near.items t.near.items h.near in
       cc
 
   pub same_snap : (s t : Snap) → SameSnap s t → IsSnap U t → IsSnap U s
   same_snap s t h k = record {
     fits = subst (FitsCopy U) (sym (same_copy s t h)) k.fits;
     own = own_export s.own t.own h.own k.own;
-    near = near_exports s.near.value.items t.near.value.items h.near k.near;
+    near = near_exports s.near.items t.near.items h.near k.near;
   }

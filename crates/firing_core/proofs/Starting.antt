@@ -1,5 +1,5 @@
 -- Slots that are filled from a list, and the core that they make.
-use Rattle.std.proofs.Common.{◌≡◌, ◌≢◌, ℕ, zero, suc, ◌<◌, List, [], ◌∷◌, length, map, get_or, refl, sym, ◌∙◌, ap, subst, arith, Bool, true, false, nat_eq, if◌then◌else◌, Option, Some, None, is_some, length-set}
+use Rattle.std.proofs.Common.{◌≡◌, ◌≢◌, ℕ, zero, suc, ◌<◌, List, [], ◌∷◌, length, map, get_or, refl, sym, ◌∙◌, ap, subst, arith, Bool, true, false, nat_eq, if◌then◌else◌, Option, Some, None, length-set}
 use Rattle.std.proofs.Math.Path.{fun_ext}
 use Rattle.std.proofs.lemmas.Bool.{eqb-true}
 use Rattle.std.proofs.lemmas.List.{length-replicate}
@@ -14,8 +14,6 @@ use Rattle.topology.specs.Networks.{Network, numbers, IsNetwork}
 use Rattle.firing_core.specs.Cores.{Map, put, Core}
 use Rattle.firing_core.specs.CoreViews.{core_of, slot_at, AllExports, AllFlights, FlightOf, IsCore}
 use Rattle.firing_core.specs.Starts.{look_up, AllLive, TableExports, PendingSnaps, IsTable, IsPending, started}
-use Rattle.firing_core.specs.Rooms.{SpareValue}
-use Rattle.firing_core.proofs.RoomSlots.{no_rooms}
 use Rattle.firing_core.proofs.Slots.{Distinct, rises_distinct, slot_here, slot_map, slot_set}
 use Rattle.firing_core.proofs.Views.{many_numbers}
 
@@ -135,16 +133,15 @@ flights_each U (i ∷ is) [] l h = absurd (omega arith)
 flights_each U (i ∷ is) (x ∷ xs) l h = (h 0 (omega arith), flights_each U is xs (omega arith) (λ k q. h (suc k) (omega arith)))
 
 -- the core of a network, of the slots of a table, and of those of copies in flight
-module _ (P : Program) (net : Network) (table : List (ℕ × Export)) (pending : List Snap) (xs : List (Option Export)) (ys : List (Option Snap)) (count : ℕ) (zs : List (Option SpareValue))
+module _ (P : Program) (net : Network) (table : List (ℕ × Export)) (pending : List Snap) (xs : List (Option Export)) (ys : List (Option Snap))
     (network : IsNetwork net)
     (many : length xs ≡ length net.devices) (also : length ys ≡ length net.devices)
     (es : slot_at (numbers net.devices) xs ≡ look_up (λ (e : ℕ × Export). e.0) (λ (e : ℕ × Export). e.1) table)
-    (ss : slot_at (numbers net.devices) ys ≡ look_up (λ (s : Snap). s.device) (λ (s : Snap). s) pending)
-    (l : count ≡ length ys) (z : zs ≡ replicate count None) where
+    (ss : slot_at (numbers net.devices) ys ≡ look_up (λ (s : Snap). s.device) (λ (s : Snap). s) pending) where
   abbrev is : List ℕ
   is = numbers net.devices
 
-  pub started_kept : net.declared ≡ P.declared → IsTable (unfolding_of P) net table → IsPending (unfolding_of P) net pending → IsCore (record { program = P; net = net; exports = xs; flying = ys; rooms = zs })
+  pub started_kept : net.declared ≡ P.declared → IsTable (unfolding_of P) net table → IsPending (unfolding_of P) net pending → IsCore (record { program = P; net = net; exports = xs; flying = ys })
   started_kept declared t p = record {
     declared = declared;
     net = network;
@@ -155,22 +152,17 @@ module _ (P : Program) (net : Network) (table : List (ℕ × Export)) (pending :
     flying = flights_each (unfolding_of P) is ys (let m = many_numbers net.devices in omega arith) (λ k h.
         subst (WhereSome (FlightOf (unfolding_of P) (get_or is k 0))) (sym (ap (λ (f : Map Snap). f (get_or is k 0)) ss) ∙ slot_here is ys k (get_or is k 0) apart h refl (let m = many_numbers net.devices in omega arith))
         (flight_found (unfolding_of P) pending (get_or is k 0) p.snaps));
-    rooms = no_rooms (unfolding_of P) ys count zs l z;
   }
     where
       apart : Distinct (numbers net.devices)
       apart = rises_distinct (numbers net.devices) network.rising
 
-  pub started_core : core_of (record { program = P; net = net; exports = xs; flying = ys; rooms = zs }) ≡ started (unfolding_of P) net table pending
+  pub started_core : core_of (record { program = P; net = net; exports = xs; flying = ys }) ≡ started (unfolding_of P) net table pending
   started_core =
       ap (λ f. let c : Core = record { net = net; exports = f; flying = slot_at (numbers net.devices) (map (option_map (snap_copy (unfolding_of P))) ys) } in c)
       (fun_ext (λ d. slot_map (tree_of (unfolding_of P)) (numbers net.devices) xs d ∙ ap (λ (f : Map Export). option_map (tree_of (unfolding_of P)) (f d)) es ∙ look_map (λ (e : ℕ × Export). e.0) (λ (e : ℕ × Export). e.1) (tree_of (unfolding_of P)) table d))
       ∙ ap (λ f. let c : Core = record { net = net; exports = look_up (λ (e : ℕ × Export). e.0) (λ (e : ℕ × Export). tree_of (unfolding_of P) e.1) table; flying = f } in c)
       (fun_ext (λ d. slot_map (snap_copy (unfolding_of P)) (numbers net.devices) ys d ∙ ap (λ (f : Map Snap). option_map (snap_copy (unfolding_of P)) (f d)) ss ∙ look_map (λ (s : Snap). s.device) (λ (s : Snap). s) (snap_copy (unfolding_of P)) pending d))
-
--- without rooms
-pub none_roomed : (is : List ℕ) (n : ℕ) (rs : List (Option SpareValue)) (d : ℕ) → rs ≡ replicate n None → is_some (slot_at is rs d) ≡ false
-none_roomed is n rs d e = ap (λ (f : Map SpareValue). is_some (f d)) (nothing_at is n rs e)
 
 pub nothing_left : {X : Type 0} (l : List X) → length l ≡ 0 → l ≡ []
 nothing_left [] h = refl

@@ -63,8 +63,8 @@ module _ (v : CoreValue) (k : IsCore v) (p d : ℕ) (h : p < length v.net.device
     pub device : s.device ≡ d
     pub inputs : map local_of s.inputs.items ≡ inputs_in d v.net.devices
     pub own : option_map export_of s.own ≡ option_map export_of x
-    pub near : map (near_copy (program_of v)) s.near.value.items ≡ near_copies (core_of v).exports (near v.net d)
-    pub exports : NearAreExports (program_of v) s.near.value.items
+    pub near : map (near_copy (program_of v)) s.near.items ≡ near_copies (core_of v).exports (near v.net d)
+    pub exports : NearAreExports (program_of v) s.near.items
 
   pub taken_copy : (s : Snap) (x : Option Export) → Parts s x → x ≡ get_or v.exports p x → snap_copy (program_of v) s ≡ copy_of v.net (core_of v).exports d
   taken_copy s x parts q =

@@ -1,5 +1,5 @@
 -- Books: a program, a start, a log, and the core to which the log leads.
-use Rattle.std.specs.Prelude.{ℕ, Bool, false, ◌≡◌, List, [], ◌∷◌, ◌++◌, map, length, if◌then◌else◌, Some, None, is_some, Result, Err}
+use Rattle.std.specs.Prelude.{ℕ, ◌≡◌, List, [], ◌∷◌, ◌++◌, map, length, if◌then◌else◌, Some, None, is_some, Result, Err}
 use Rattle.fc_values.specs.Trees.{Copy}
 use Rattle.topology.specs.Networks.{numbers}
 use Rattle.fc_nodes.specs.Program.{Program, Unfolding, unfolding_of}
@@ -11,10 +11,10 @@ use Rattle.firing_core.specs.declared.entries.ReplayFault.{ReplayFault}
 use Rattle.firing_core.specs.declared.entries.ReplayFault.TheVariants as replay_fault
 use Rattle.firing_core.specs.declared.entries.EditFault.{EditFault}
 use Rattle.firing_core.specs.declared.entries.EditFault.TheVariants as edit_refusal
-use Rattle.firing_core.specs.Entries.{EntryValue, BeginEntry, EndEntry, IdleEntry, EditEntry, entry_of, entries_of}
+use Rattle.firing_core.specs.Entries.{EntryValue, entry_of, entries_of}
 use Rattle.firing_core.specs.Cores.{Map, Core, Step, Run, IsGood}
 use Rattle.firing_core.specs.Replays.{fault_of, net_fault_of, FailsAt, replay}
-use Rattle.firing_core.specs.CoreViews.{CoreValue, core_of, rooms_of, mark}
+use Rattle.firing_core.specs.CoreViews.{CoreValue, core_of}
 
 -- what contracts see of a book: these four, and for how many entries the log has room
 pub record BookValue : Type 0 where
@@ -48,18 +48,6 @@ pub record AppendsEntry (old new : BookValue) (entry : Entry) : Type 0 where
   pub log : new.log ≡ old.log ++ entry ∷ []
   pub step : Step (unfolding_of old.program) (core_of old.core) (entry_of entry) (core_of new.core)
 
--- which flights have a room after an entry: an end of one without it, or of one with it, takes its device out
-abbrev pub rooms_after : EntryValue → (ℕ → Bool) → ℕ → Bool
-rooms_after (BeginEntry d) set = set
-rooms_after (EndEntry d) set = mark set d false
-rooms_after IdleEntry set = set
-rooms_after (EditEntry e) set = set
-
--- and after the entries of a log
-abbrev pub rooms_along : List EntryValue → (ℕ → Bool) → ℕ → Bool
-rooms_along [] set = set
-rooms_along (e ∷ es) set = rooms_along es (rooms_after e set)
-
 -- ---- flights that are ended
 
 -- the devices of a list that fly
@@ -74,13 +62,12 @@ in_flight c = fliers c.flying (numbers c.net.devices)
 abbrev pub ends_of : List ℕ → List Entry
 ends_of ds = map (λ d. entry.End d) ds
 
--- the flights of these devices are ended, one after another, and none of them has a room
+-- the flights of these devices are ended, one after another
 pub record EndsFlights (old new : BookValue) (ds : List ℕ) : Type 0 where
   pub program : new.program ≡ old.program
   pub start : new.start ≡ old.start
   pub log : new.log ≡ old.log ++ ends_of ds
   pub run : Run (unfolding_of old.program) (core_of old.core) (entries_of (ends_of ds)) (core_of new.core)
-  pub rooms : rooms_of new.core ≡ rooms_along (entries_of (ends_of ds)) (rooms_of old.core)
 
 -- some of the flights are ended, those of the smallest devices
 pub record EndsSome (old new : BookValue) : Type 0 where

@@ -1,6 +1,6 @@
 -- What contracts see of a core in code: one slot for each device, in the order of the network.
-use Rattle.std.specs.Prelude.{ℕ, Bool, true, ◌≡◌, List, [], ◌∷◌, map, length, nat_eq, if◌then◌else◌}
-use Rattle.std.specs.Prelude.{Option, Some, None, is_some, option_map}
+use Rattle.std.specs.Prelude.{ℕ, ◌≡◌, List, [], ◌∷◌, map, length, nat_eq, if◌then◌else◌}
+use Rattle.std.specs.Prelude.{Option, Some, None, option_map}
 use Rattle.fc_values.specs.declared.exports.Export.{Export}
 use Rattle.fc_nodes.specs.Program.{Program, Unfolding, unfolding_of}
 use Rattle.fc_values.specs.Exports.{FlatExport, export_of}
@@ -13,18 +13,15 @@ use Rattle.topology.specs.Networks.{Network, IsNetwork, numbers, near}
 use Rattle.device_eval.specs.Firing.{FiredValue}
 use Rattle.firing_core.specs.Entries.{EditValue}
 use Rattle.firing_core.specs.Cores.{Map, put, Core, Edits, near_copies}
-use Rattle.firing_core.specs.Rooms.{SpareValue, IsRest}
 
 pub record CoreValue : Type 0 where
   pub program : Program
   pub net : Network
   pub exports : List (Option Export)
   pub flying : List (Option Snap)
-  pub rooms : List (Option SpareValue)
 
-abbrev pub core_with : Program → Network → List (Option Export) → List (Option Snap)
-    → List (Option SpareValue) → CoreValue
-core_with p n xs ss rs = record { program = p; net = n; exports = xs; flying = ss; rooms = rs }
+abbrev pub core_with : Program → Network → List (Option Export) → List (Option Snap) → CoreValue
+core_with p n xs ss = record { program = p; net = n; exports = xs; flying = ss }
 
 -- a neighbour in a copy, as plain values
 abbrev pub near_view : Near → ℕ × ℕ × FlatExport
@@ -81,26 +78,6 @@ abbrev pub AllSnaps : Unfolding → List (Option Snap) → Type 0
 AllSnaps U [] = Unit {0}
 AllSnaps U (x ∷ xs) = WhereSome (IsSnap U) x × AllSnaps U xs
 
--- whether a device's flight has a room
-abbrev pub rooms_of : CoreValue → ℕ → Bool
-rooms_of c d = is_some (slot_at (numbers c.net.devices) c.rooms d)
-
--- a set of devices with one more, or with one less
-abbrev pub mark : (ℕ → Bool) → ℕ → Bool → ℕ → Bool
-mark set d b e = if nat_eq e d then b else set e
-
--- what is left of a room lies beside the flight that was taken from it
-abbrev pub RoomBeside : Unfolding → Option Snap → Option SpareValue → Type 0
-RoomBeside U None None = Unit {0}
-RoomBeside U None (Some r) = ⊥
-RoomBeside U (Some s) None = Unit {0}
-RoomBeside U (Some s) (Some r) = IsRest U s r
-
-abbrev pub AllRooms : Unfolding → List (Option Snap) → List (Option SpareValue) → Type 0
-AllRooms U [] [] = Unit {0}
-AllRooms U (s ∷ ss) (r ∷ rs) = RoomBeside U s r × AllRooms U ss rs
-AllRooms U _ _ = ⊥
-
 -- what its type keeps
 pub record IsCore (c : CoreValue) : Type 0 where
   pub declared : c.net.declared ≡ c.program.declared
@@ -108,7 +85,6 @@ pub record IsCore (c : CoreValue) : Type 0 where
   pub many : length c.exports ≡ length c.net.devices
   pub exports : AllExports (program_of c) c.exports
   pub flying : AllFlights (program_of c) (numbers c.net.devices) c.flying
-  pub rooms : AllRooms (program_of c) c.flying c.rooms
 
 -- the program and the network stay
 pub record IsSameCore (old new : CoreValue) : Type 0 where
@@ -120,10 +96,6 @@ pub record IsSameCore (old new : CoreValue) : Type 0 where
 -- what was evaluated is the copy with which its device flies, if it flies
 abbrev pub FiresFlight : Unfolding → Core → FiredValue → Type 0
 FiresFlight U c f = (s : Copy) → c.flying f.snap.device ≡ Some s → s ≡ snap_copy U f.snap
-
--- its flight has a room, if it flies
-abbrev pub FliesInRoom : CoreValue → FiredValue → Type 0
-FliesInRoom c f = (s : Copy) → (core_of c).flying f.snap.device ≡ Some s → rooms_of c f.snap.device ≡ true
 
 -- the export that was evaluated is put in the table, and no other is another
 abbrev pub Publishes : Unfolding → Core → FiredValue → Core → Type 0

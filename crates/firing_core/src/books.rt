@@ -38,16 +38,16 @@ impl Model for Book {
 }
 
 impl Book {
-    ghost use Rattle.std.specs.Prelude.{◌≡◌, ◌↔◌, ◌≤◌, ◌+◌, ℕ, [], ◌∷◌, IfOk, OnOk, OnErr, IfErr, IsErrOf, Some, None, true, false};
+    ghost use Rattle.std.specs.Prelude.{◌≡◌, ◌↔◌, ◌≤◌, ◌+◌, ℕ, [], ◌∷◌, IfOk, OnOk, OnErr, IfErr, IsErrOf, Some, None};
     ghost use Rattle.fc_nodes.specs.Program.{unfolding_of};
     ghost use Rattle.value_trees.specs.Snaps.{snap_copy, IsSnap};
     ghost use Rattle.firing_core.specs.Entries.{BeginEntry, EndEntry, edit_of, entry_of};
     ghost use Rattle.firing_core.specs.Cores.{EditFits, edit_fault, copy_of};
     ghost use Rattle.firing_core.specs.Rooms.{IsRoom};
     ghost use Rattle.firing_core.specs.Replays.{fault_of, net_fault_of, EntryFits};
-    ghost use Rattle.firing_core.specs.CoreViews.{core_of, rooms_of, mark, FiresFlight, FliesInRoom, Publishes};
+    ghost use Rattle.firing_core.specs.CoreViews.{core_of, FiresFlight, Publishes};
     ghost use Rattle.firing_core.specs.Books.{IsBook, IsSameBook, AppendsEntry, RefusesEntry};
-    ghost use Rattle.firing_core.specs.Books.{EndsFlights, EndsSome, fliers, in_flight, rooms_after};
+    ghost use Rattle.firing_core.specs.Books.{EndsFlights, EndsSome, HasFault, fliers, in_flight};
     ghost use Rattle.firing_core.specs.Refusals.{RefusesEdit};
     ghost use Rattle.firing_core.specs.declared.entries.Entry.TheVariants as entry;
     ghost use Rattle.firing_core.specs.declared.entries.StepFault.TheVariants as fault;
@@ -121,7 +121,6 @@ impl Book {
         requires { 1 ≤ self.old.spare }
         ensures ok { OnOk result (AppendsEntry self.old self.new (entry.Begin device)) }
         ensures spare { OnOk result (self.new.spare + 1 ≡ self.old.spare) }
-        ensures rooms { rooms_of self.new.core ≡ rooms_of self.old.core }
         ensures no_device { IsErrOf result StepFault.NoDevice
             ↔ (fault_of (core_of self.old.core) (BeginEntry device) ≡ Some fault.NoDevice) }
         ensures flying { IsErrOf result StepFault.Flying
@@ -134,8 +133,8 @@ impl Book {
         Ok(())
     }
 
-    /// Begins a firing in a room, as the core does, and appends the entry. It takes no memory.
-    pub fn begin_with(&mut self, device: u32, room: Room) -> Result<Snap, (Room, StepFault)>
+    /// Begins a firing in a room, as the core does, and appends the entry.
+    pub fn begin_with(&mut self, device: u32, room: Room) -> Result<Snap, StepFault>
         requires spare { 1 ≤ self.old.spare }
         requires room { IsRoom (unfolding_of self.old.program) room }
         ensures ok { OnOk result (AppendsEntry self.old self.new (entry.Begin device)) }
@@ -143,10 +142,8 @@ impl Book {
         ensures copy { IfOk result (λ s. snap_copy (unfolding_of self.old.program) s
             ≡ copy_of self.old.core.net (core_of self.old.core).exports device) }
         ensures snap { IfOk result (IsSnap (unfolding_of self.old.program)) }
-        ensures rooms { OnOk result (rooms_of self.new.core ≡ mark (rooms_of self.old.core) device true) }
-        ensures refused { IfErr result (λ e. fault_of (core_of self.old.core) (BeginEntry device) ≡ Some e.1) }
+        ensures refused { IfErr result (HasFault (core_of self.old.core) (BeginEntry device)) }
         ensures accepted { OnOk result (fault_of (core_of self.old.core) (BeginEntry device) ≡ None) }
-        ensures back { IfErr result (λ e. e.0 ≡ room) }
         ensures err { OnErr result (self.new ≡ self.old) }
     {
         let answer = self.core.begin_with(device, room)?;
@@ -154,48 +151,26 @@ impl Book {
         Ok(answer)
     }
 
-    /// Ends a firing whose flight has a room, as the core does, and appends the entry. It takes no memory.
-    pub fn end_with(&mut self, fired: Fired) -> Result<Room, (Fired, StepFault)>
+    /// Ends a firing, as the core does, and appends the entry. It takes no memory.
+    pub fn end(&mut self, fired: Fired) -> Result<(Snap, Snap), (Fired, StepFault)>
         requires spare { 1 ≤ self.old.spare }
         requires program { fired.program ≡ self.old.program }
         requires copy { FiresFlight (unfolding_of self.old.program) (core_of self.old.core) fired }
-        requires room { FliesInRoom self.old.core fired }
         ensures ok { OnOk result (AppendsEntry self.old self.new (entry.End fired.snap.device)) }
         ensures publishes { OnOk result (Publishes (unfolding_of self.old.program) (core_of self.old.core) fired
             (core_of self.new.core)) }
         ensures spare { OnOk result (self.new.spare + 1 ≡ self.old.spare) }
-        ensures room { IfOk result (IsRoom (unfolding_of self.old.program)) }
-        ensures rooms { OnOk result (rooms_of self.new.core ≡ mark (rooms_of self.old.core) fired.snap.device false) }
+        ensures copies { IfOk result (λ r.
+            IsSnap (unfolding_of self.old.program) r.0 × IsSnap (unfolding_of self.old.program) r.1) }
         ensures refused { IfErr result (λ e. fault_of (core_of self.old.core) (EndEntry fired.snap.device) ≡ Some e.1) }
         ensures accepted { OnOk result (fault_of (core_of self.old.core) (EndEntry fired.snap.device) ≡ None) }
         ensures back { IfErr result (λ e. e.0 ≡ fired) }
         ensures err { OnErr result (self.new ≡ self.old) }
     {
         let device = fired.snap().device;
-        let room = self.core.end_with(fired)?;
+        let copies = self.core.end(fired)?;
         self.log.push_reserved(Entry::End(device));
-        Ok(room)
-    }
-
-    /// Ends a firing, as the core does, and appends the entry. It takes no memory.
-    pub fn end(&mut self, fired: Fired) -> Result<(), (Fired, StepFault)>
-        requires spare { 1 ≤ self.old.spare }
-        requires program { fired.program ≡ self.old.program }
-        requires copy { FiresFlight (unfolding_of self.old.program) (core_of self.old.core) fired }
-        ensures ok { OnOk result (AppendsEntry self.old self.new (entry.End fired.snap.device)) }
-        ensures publishes { OnOk result (Publishes (unfolding_of self.old.program) (core_of self.old.core) fired
-            (core_of self.new.core)) }
-        ensures room { OnOk result (self.new.spare + 1 ≡ self.old.spare) }
-        ensures rooms { OnOk result (rooms_of self.new.core ≡ mark (rooms_of self.old.core) fired.snap.device false) }
-        ensures refused { IfErr result (λ e. fault_of (core_of self.old.core) (EndEntry fired.snap.device) ≡ Some e.1) }
-        ensures accepted { OnOk result (fault_of (core_of self.old.core) (EndEntry fired.snap.device) ≡ None) }
-        ensures back { IfErr result (λ e. e.0 ≡ fired) }
-        ensures err { OnErr result (self.new ≡ self.old) }
-    {
-        let device = fired.snap().device;
-        self.core.end(fired)?;
-        self.log.push_reserved(Entry::End(device));
-        Ok(())
+        Ok(copies)
     }
 
     /// Edits the core, and appends the entry. It takes no memory but that of the core's edit.
@@ -204,7 +179,6 @@ impl Book {
         requires fits { EditFits (unfolding_of self.old.program) (edit_of edit) }
         ensures ok { OnOk result (AppendsEntry self.old self.new (entry.Edit edit)) }
         ensures room { OnOk result (self.new.spare + 1 ≡ self.old.spare) }
-        ensures rooms { rooms_of self.new.core ≡ rooms_of self.old.core }
         ensures accepted { OnOk result (edit_fault (core_of self.old.core) (edit_of edit) ≡ None) }
         ensures refused { IfErr result (RefusesEdit (core_of self.old.core) (edit_of edit)) }
         ensures err { OnErr result (self.new ≡ self.old) }
@@ -219,7 +193,6 @@ impl Book {
         requires { 1 ≤ self.old.spare }
         ensures appended { AppendsEntry self.old self.new entry.Idle }
         ensures room { self.new.spare + 1 ≡ self.old.spare }
-        ensures rooms { rooms_of self.new.core ≡ rooms_of self.old.core }
     {
         self.log.push_reserved(Entry::Idle);
     }
@@ -229,7 +202,6 @@ impl Book {
     pub fn step(&mut self, alloc: Global, entry: Entry) -> Result<(), ReplayFault>
         requires { EntryFits (unfolding_of self.old.program) (entry_of entry) }
         ensures ok { OnOk result (AppendsEntry self.old self.new entry) }
-        ensures rooms { OnOk result (rooms_of self.new.core ≡ rooms_after (entry_of entry) (rooms_of self.old.core)) }
         ensures refused { IfErr result (RefusesEntry self.old (entry_of entry)) }
         ensures accepted { OnOk result (fault_of (core_of self.old.core) (entry_of entry) ≡ None) }
         ensures allowed { OnOk result (net_fault_of (core_of self.old.core) (entry_of entry) ≡ None) }
@@ -275,7 +247,6 @@ impl Book {
         requires spare { 1 ≤ self.old.spare }
         requires fits { EntryFits (unfolding_of self.old.program) (entry_of entry) }
         ensures ok { OnOk result (AppendsEntry self.old self.new entry) }
-        ensures rooms { OnOk result (rooms_of self.new.core ≡ rooms_after (entry_of entry) (rooms_of self.old.core)) }
         ensures refused { IfErr result (RefusesEntry self.old (entry_of entry)) }
         ensures accepted { OnOk result (fault_of (core_of self.old.core) (entry_of entry) ≡ None) }
         ensures allowed { OnOk result (net_fault_of (core_of self.old.core) (entry_of entry) ≡ None) }
@@ -291,9 +262,9 @@ impl Book {
 ghost use Rattle.std.specs.Prelude.{◌≡◌, IfOk, IfErr, Some};
 ghost use Rattle.fc_nodes.specs.Program.{unfolding_of};
 ghost use Rattle.firing_core.specs.Entries.{entries_of};
-ghost use Rattle.firing_core.specs.CoreViews.{core_of, rooms_of};
+ghost use Rattle.firing_core.specs.CoreViews.{core_of};
 ghost use Rattle.firing_core.specs.Replays.{LogFits, replay as replay_of};
-ghost use Rattle.firing_core.specs.Books.{FailsReplay, IsStuckReplay, rooms_along};
+ghost use Rattle.firing_core.specs.Books.{FailsReplay, IsStuckReplay};
 
 /// The book of a start and a log, or the first entry that has no step.
 pub fn replay(
@@ -307,7 +278,6 @@ pub fn replay(
     ensures program { IfOk result (λ b. b.program ≡ program.now.value) }
     ensures start { IfOk result (λ b. core_of b.start ≡ core_of start) }
     ensures log { IfOk result (λ b. b.log ≡ log.items) }
-    ensures rooms { IfOk result (λ b. rooms_of b.core ≡ rooms_along (entries_of log.items) (rooms_of start)) }
     ensures core { IfOk result (λ b.
         replay_of (unfolding_of program.now.value) (core_of start) (entries_of log.items) ≡ Some (core_of b.core)) }
     ensures refused { IfErr result (FailsReplay (unfolding_of program.now.value) (core_of start)

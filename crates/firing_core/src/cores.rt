@@ -1,18 +1,18 @@
 //! Cores: a network, the exports of its devices, and the copies in flight.
 
 use crate::entries::{Edit, EditFault, StepFault};
-use crate::filling::{export_slots, flight_slots, no_slots, open_slot};
-use crate::rooms::Spare;
-use crate::snaps::{copy_device, copy_exports, copy_flights, copy_own, copy_plain};
-use arrayvec::ArrayVec;
+use crate::filling::{export_slots, flight_slots, open_slot};
+use crate::snaps::{
+    copy_device, copy_flights, copy_plain, published_copy, share_exports, share_own,
+};
 use device_eval::Fired;
 use fc_nodes::Unfolded;
-use fc_values::{Export, Local, Memory, copy_export, copy_locals};
+use fc_values::{Export, Local, Memory, copy_locals};
 use std::alloc::Global;
 use std::marker::Model;
 use std::sync::Arc;
 use topology::{Device, JoinFault, NetFault, Network};
-use value_trees::{Near, Snap};
+use value_trees::{Near, Published, Snap};
 
 mod applied;
 mod roomed;
@@ -22,10 +22,8 @@ mod roomed;
 pub struct Core {
     program: Arc<Unfolded>,
     net: Network,
-    exports: Vec<Option<Export>>,
+    exports: Vec<Option<Published>>,
     flying: Vec<Option<Snap>>,
-    // what a copy in flight left of the room that it was taken from
-    rooms: Vec<Option<Spare>>,
 }
 
 impl Model for Core {
@@ -39,21 +37,20 @@ impl Model for Core {
 
     ghost coded = { Prim.hlevel (codes, local_value_code, local.the_row.coded, local_ty.the_row.coded) };
 
-    ghost view = { λ c. core_with c.program.value c.net c.exports.items c.flying.items c.rooms.items };
+    ghost view = { λ c. core_with c.program.value c.net c.exports.items c.flying.items };
 
-    ghost invariant = { λ c. IsCore (core_with c.program.value c.net c.exports.items c.flying.items c.rooms.items) };
+    ghost invariant = { λ c. IsCore (core_with c.program.value c.net c.exports.items c.flying.items) };
 }
 
 impl Core {
     ghost use Rattle.std.specs.Prelude.{◌≡◌, ◌↔◌, ◌<◌, ℕ, IfOk, OnOk, OnErr, IfErr, IfSome};
-    ghost use Rattle.std.specs.Prelude.{IsErrOf, Some, None, false};
-    ghost use Rattle.std.specs.Prelude.{option_map, length, slice_index, ◌≤◌};
+    ghost use Rattle.std.specs.Prelude.{IsErrOf, Some, None, [], option_map, length, slice_index, vec_capacity, ◌≤◌};
     ghost use Rattle.fc_nodes.specs.Program.{unfolding_of};
     ghost use Rattle.value_trees.specs.Snaps.{snap_copy, tree_of, NearAreExports, IsSnap, IsExportOf};
-    ghost use Rattle.topology.specs.Networks.{numbers, device_of};
+    ghost use Rattle.topology.specs.Networks.{numbers, device_of, near as near_of};
     ghost use Rattle.firing_core.specs.Cores.{Step, IsGood, EditFits, edit_fault, copy_of};
     ghost use Rattle.firing_core.specs.Replays.{fault_of};
-    ghost use Rattle.firing_core.specs.CoreViews.{core_of, program_of, IsCore, IsSameCore, Edited, AreNear, rooms_of, mark, FiresFlight, Publishes};
+    ghost use Rattle.firing_core.specs.CoreViews.{core_of, program_of, IsCore, IsSameCore, Edited, AreNear, FiresFlight, Publishes};
     ghost use Rattle.firing_core.specs.TakeOffs.{TakesOff};
     ghost use Rattle.firing_core.specs.Starts.{started, IsTable, IsPending};
     ghost use Rattle.firing_core.specs.Entries.{BeginEntry, EndEntry, LinkEdit, UnlinkEdit};
@@ -61,7 +58,6 @@ impl Core {
     ghost use Rattle.firing_core.specs.Refusals.{RefusesEdit};
     ghost use Rattle.fc_values.specs.Values.{local_of};
     ghost use Rattle.fc_values.specs.Exports.{export_of};
-    ghost use Rattle.fc_values.specs.declared.limits.TheConstants.{MOST_LINKS};
     ghost use Rattle.topology.specs.declared.types.TheConstants.{GREATEST_NUMBER};
     ghost use Rattle.firing_core.specs.declared.entries.StepFault.TheVariants as fault;
 
@@ -79,18 +75,15 @@ impl Core {
         ensures program { IfOk result (λ c. c.program ≡ program.now.value) }
         ensures core { IfOk result (λ c. core_of c ≡ started (unfolding_of program.now.value) net table.items
             pending.items) }
-        ensures rooms { IfOk result (λ c. (d : ℕ) → rooms_of c d ≡ false) }
     {
         let program = program.clone()?;
         let exports = export_slots(alloc, &net, table)?;
         let flying = flight_slots(alloc, &net, pending)?;
-        let rooms = no_slots(alloc, flying.len())?;
         Ok(Core {
             program,
             net,
             exports,
             flying,
-            rooms,
         })
     }
 
@@ -111,8 +104,8 @@ impl Core {
         &self.net
     }
 
-    /// The export of a device.
-    pub fn export(&self, device: u32) -> Option<&Export>
+    /// The export of a device, which more may share.
+    pub fn published(&self, device: u32) -> Option<&Published>
         ensures value { option_map (λ e. tree_of (program_of self.now) e.now) result
             ≡ (core_of self.now).exports device }
         ensures export { IfSome result (λ e. IsExportOf (program_of self.now) e.now) }
@@ -120,6 +113,19 @@ impl Core {
     {
         let place = self.net.place(device)?;
         self.exports[place].as_ref()
+    }
+
+    /// The export of a device.
+    pub fn export(&self, device: u32) -> Option<&Export>
+        ensures value { option_map (λ e. tree_of (program_of self.now) e.now) result
+            ≡ (core_of self.now).exports device }
+        ensures export { IfSome result (λ e. IsExportOf (program_of self.now) e.now) }
+        ensures core { IsCore self.now }
+    {
+        match self.published(device) {
+            Some(export) => Some(export.get()),
+            None => None,
+        }
     }
 
     /// The copy with which a device flies.
@@ -133,24 +139,21 @@ impl Core {
         self.flying[place].as_ref()
     }
 
-    /// A copy of the core. None of its flights has a room.
+    /// A copy of the core, which shares its exports.
     pub fn copy(&self, alloc: Global) -> Result<Self, Memory>
         ensures program { IfOk result (λ c. c.program ≡ self.now.program) }
         ensures core { IfOk result (λ c. core_of c ≡ core_of self.now) }
         ensures kept { IfOk result IsCore }
-        ensures rooms { IfOk result (λ c. (d : ℕ) → rooms_of c d ≡ false) }
     {
         let program = self.program.clone()?;
         let net = self.net.copy(alloc)?;
-        let exports = copy_exports(alloc, &self.exports)?;
+        let exports = share_exports(alloc, &self.exports)?;
         let flying = copy_flights(alloc, &self.program, &self.flying)?;
-        let rooms = no_slots(alloc, flying.len())?;
         Ok(Core {
             program,
             net,
             exports,
             flying,
-            rooms,
         })
     }
 
@@ -168,8 +171,9 @@ impl Core {
         ensures snap { IfOk result (λ s. IsSnap (program_of self.now) s) }
     {
         let inputs = copy_locals(alloc, &self.net.devices()[place].inputs)?;
-        let own = copy_own(alloc, self.exports[place].as_ref())?;
-        let near = self.near(alloc, device)?;
+        let own = share_own(self.exports[place].as_ref())?;
+        let mut near = Vec::with_capacity(alloc, self.net.neighbours(device).len())?;
+        self.hear(&mut near, device)?;
         Ok(Snap {
             device,
             inputs,
@@ -178,24 +182,24 @@ impl Core {
         })
     }
 
-    // The neighbours of a device that have an export.
-    fn near(&self, alloc: Global, device: u32) -> Result<Box<ArrayVec<Near, 32, Global>>, Memory>
-        ensures near { IfOk result (λ ns. AreNear self.now device ns.value.items) }
-        ensures exports { IfOk result (λ ns. NearAreExports (program_of self.now) ns.value.items) }
-        ensures few { IfOk result (λ ns. length ns.value.items ≤ MOST_LINKS) }
+    // Fills an empty list with the neighbours of a device that have an export. It takes no memory.
+    pub(crate) fn hear(&self, near: &mut Vec<Near>, device: u32) -> Result<(), Memory>
+        requires empty { near.old.items ≡ [] }
+        requires enough { length (near_of self.now.net device) ≤ vec_capacity near.old }
+        ensures near { OnOk result (AreNear self.now device near.new.items) }
+        ensures exports { OnOk result (NearAreExports (program_of self.now) near.new.items) }
     {
-        let mut near = Box::new(alloc, ArrayVec::new_in(alloc))?;
         for (neighbour, weight) in self.net.neighbours(device) {
-            if let Some(export) = self.export(*neighbour) {
-                let export = copy_export(alloc, export)?;
-                near.push(Near {
+            if let Some(export) = self.published(*neighbour) {
+                let export = export.share()?;
+                near.push_reserved(Near {
                     device: *neighbour,
                     weight: *weight,
                     export,
                 });
             }
         }
-        Ok(near)
+        Ok(())
     }
 
     /// Puts the copy of a device's closed neighbourhood in flight.
@@ -209,7 +213,6 @@ impl Core {
         ensures never { IsErrOf result StepFault.NotFlying → ⊥ }
         ensures err { OnErr result (self.new ≡ self.old) }
         ensures same { IsSameCore self.old self.new }
-        ensures rooms { rooms_of self.new ≡ rooms_of self.old }
     {
         let Some(place) = self.net.place(device) else {
             return Err(StepFault::NoDevice);
@@ -231,7 +234,6 @@ impl Core {
         ensures refused { IfErr result (λ e. fault_of (core_of self.old) (BeginEntry snap.device) ≡ Some e) }
         ensures err { OnErr result (self.new ≡ self.old) }
         ensures same { IsSameCore self.old self.new }
-        ensures rooms { rooms_of self.new ≡ rooms_of self.old }
     {
         let Some(place) = self.net.place(snap.device) else {
             return Err(StepFault::NoDevice);
@@ -243,20 +245,20 @@ impl Core {
         Ok(())
     }
 
-    /// Publishes the export of a firing and ends it. It takes no memory, and drops what is left of a room. What was
-    /// fired comes back with a refusal.
-    pub fn end(&mut self, fired: Fired) -> Result<(), (Fired, StepFault)>
+    /// Publishes the export of a firing and ends it. It takes no memory. The copy that flew and the one that was fired
+    /// come back, for a room; what was fired comes back with a refusal.
+    pub fn end(&mut self, fired: Fired) -> Result<(Snap, Snap), (Fired, StepFault)>
         requires program { fired.program ≡ self.old.program }
         requires copy { FiresFlight (program_of self.old) (core_of self.old) fired }
         ensures ok { OnOk result (Step (program_of self.old) (core_of self.old) (EndEntry fired.snap.device)
             (core_of self.new)) }
         ensures publishes { OnOk result (Publishes (program_of self.old) (core_of self.old) fired (core_of self.new)) }
+        ensures copies { IfOk result (λ r. IsSnap (program_of self.old) r.0 × IsSnap (program_of self.old) r.1) }
         ensures refused { IfErr result (λ e. fault_of (core_of self.old) (EndEntry fired.snap.device) ≡ Some e.1) }
         ensures accepted { OnOk result (fault_of (core_of self.old) (EndEntry fired.snap.device) ≡ None) }
         ensures back { IfErr result (λ e. e.0 ≡ fired) }
         ensures err { OnErr result (self.new ≡ self.old) }
         ensures same { IsSameCore self.old self.new }
-        ensures rooms { OnOk result (rooms_of self.new ≡ mark (rooms_of self.old) fired.snap.device false) }
     {
         let device = fired.snap().device;
         let Some(place) = self.net.place(device) else {
@@ -265,11 +267,12 @@ impl Core {
         if self.flying[place].is_none() {
             return Err((fired, StepFault::NotFlying));
         }
-        let (_, export) = fired.into_parts();
+        let (snap, export) = fired.into_parts();
         self.exports[place] = Some(export);
-        self.flying[place] = None;
-        self.rooms[place] = None;
-        Ok(())
+        let Some(flight) = self.flying[place].take() else {
+            unreachable!();
+        };
+        Ok((flight, snap))
     }
 
     /// Edits the core. Copies in flight stay. `Link`, `Unlink`, `Set` and `Leave` take no memory.
@@ -280,7 +283,6 @@ impl Core {
         ensures refused { IfErr result (RefusesEdit (core_of self.old) (edit_of edit.now)) }
         ensures err { OnErr result (self.new ≡ self.old) }
         ensures program { self.new.program ≡ self.old.program }
-        ensures rooms { rooms_of self.new ≡ rooms_of self.old }
     {
         match edit {
             Edit::Link(a, b, weight) => self.link(*a, *b, *weight),
@@ -297,7 +299,6 @@ impl Core {
         ensures refused { IfErr result (RefusesEdit (core_of self.old) (LinkEdit a b weight)) }
         ensures err { OnErr result (self.new ≡ self.old) }
         ensures program { self.new.program ≡ self.old.program }
-        ensures rooms { rooms_of self.new ≡ rooms_of self.old }
     {
         if let Err(fault) = self.net.link(a, b, weight) {
             return Err(EditFault::Net(fault));
@@ -310,7 +311,6 @@ impl Core {
         ensures refused { IfErr result (RefusesEdit (core_of self.old) (UnlinkEdit a b)) }
         ensures err { OnErr result (self.new ≡ self.old) }
         ensures program { self.new.program ≡ self.old.program }
-        ensures rooms { rooms_of self.new ≡ rooms_of self.old }
     {
         if let Err(fault) = self.net.unlink(a, b) {
             return Err(EditFault::Net(fault));
@@ -324,7 +324,6 @@ impl Core {
         ensures refused { IfErr result (RefusesEdit (core_of self.old) (SetEdit device input (local_of value.now))) }
         ensures err { OnErr result (self.new ≡ self.old) }
         ensures program { self.new.program ≡ self.old.program }
-        ensures rooms { rooms_of self.new ≡ rooms_of self.old }
     {
         if let Some(fault) = self.net.set_fault(device, input, value) {
             return Err(EditFault::Net(fault));
@@ -344,15 +343,14 @@ impl Core {
         ensures refused { IfErr result (RefusesEdit (core_of self.old) (PokeEdit device (export_of export.now))) }
         ensures err { OnErr result (self.new ≡ self.old) }
         ensures program { self.new.program ≡ self.old.program }
-        ensures rooms { rooms_of self.new ≡ rooms_of self.old }
     {
         let Some(place) = self.net.place(device) else {
             return Err(EditFault::Net(NetFault::NoDevice));
         };
-        let Ok(copied) = copy_export(alloc, export) else {
+        let Ok(published) = published_copy(alloc, export) else {
             return Err(EditFault::Memory);
         };
-        self.exports[place] = Some(copied);
+        self.exports[place] = Some(published);
         Ok(())
     }
 
@@ -362,15 +360,11 @@ impl Core {
         ensures refused { IfErr result (RefusesEdit (core_of self.old) (JoinEdit (device_of device.now))) }
         ensures err { OnErr result (self.new ≡ self.old) }
         ensures program { self.new.program ≡ self.old.program }
-        ensures rooms { rooms_of self.new ≡ rooms_of self.old }
     {
         let Ok(copied) = copy_device(alloc, device) else {
             return Err(EditFault::Memory);
         };
-        if self.exports.reserve(1).is_err()
-            || self.flying.reserve(1).is_err()
-            || self.rooms.reserve(1).is_err()
-        {
+        if self.exports.reserve(1).is_err() || self.flying.reserve(1).is_err() {
             return Err(EditFault::Memory);
         }
         let place = self.net.room(device.id);
@@ -378,7 +372,6 @@ impl Core {
             Ok(()) => {
                 open_slot(&mut self.exports, place);
                 open_slot(&mut self.flying, place);
-                open_slot(&mut self.rooms, place);
                 Ok(())
             }
             Err(JoinFault::Net(fault)) => Err(EditFault::Net(fault)),
@@ -391,7 +384,6 @@ impl Core {
         ensures refused { IfErr result (RefusesEdit (core_of self.old) (LeaveEdit device)) }
         ensures err { OnErr result (self.new ≡ self.old) }
         ensures program { self.new.program ≡ self.old.program }
-        ensures rooms { rooms_of self.new ≡ rooms_of self.old }
     {
         let Some(place) = self.net.place(device) else {
             return Err(EditFault::Net(NetFault::NoDevice));
@@ -405,7 +397,6 @@ impl Core {
         }
         self.exports.remove(place);
         self.flying.remove(place);
-        self.rooms.remove(place);
         Ok(())
     }
 }

@@ -10,7 +10,7 @@ ghost use Rattle.firing_core.specs.Starts.{export_in, flight_in, owners, named, 
 use fc_values::{Export, Memory};
 use std::alloc::Global;
 use topology::Network;
-use value_trees::Snap;
+use value_trees::{Published, Snap};
 
 /// So many empty slots.
 pub(crate) fn no_slots<T: Drop>(alloc: Global, count: usize) -> Result<Vec<Option<T>>, Memory>
@@ -37,7 +37,7 @@ pub(crate) fn export_slots(
     alloc: Global,
     net: &Network,
     table: Vec<(u32, Export)>,
-) -> Result<Vec<Option<Export>>, Memory>
+) -> Result<Vec<Option<Published>>, Memory>
     requires rising { Rises (owners table.items) }
     requires there { AllLive net.now (owners table.items) }
     ensures slots { IfOk result (λ v. slot_at (numbers net.now.devices) v.items ≡ export_in table.items) }
@@ -49,7 +49,7 @@ pub(crate) fn export_slots(
         let Some(place) = net.place(device) else {
             continue;
         };
-        slots[place] = Some(export);
+        slots[place] = Some(Published::new(alloc, export)?);
     }
     Ok(slots)
 }

@@ -1,4 +1,4 @@
-//! Copies of values, of exports, and of copies.
+//! Copies of values and of copies, and shares of exports.
 
 ghost use Rattle.std.specs.Prelude.{◌≡◌, map, option_map, IfOk, IfSome, IfNone};
 ghost use Rattle.fc_values.specs.Rows.{IsPairValue};
@@ -10,12 +10,11 @@ ghost use Rattle.value_trees.specs.Copies.{WhereSome};
 ghost use Rattle.topology.specs.Networks.{device_of};
 ghost use Rattle.firing_core.specs.CoreViews.{near_view, AllSnaps, SameFlight, SameFlights};
 
-use arrayvec::ArrayVec;
 use fc_nodes::Unfolded;
 use fc_values::{Export, Local, Memory, copy_export, copy_locals};
 use std::alloc::Global;
 use topology::Device;
-use value_trees::{Near, Snap};
+use value_trees::{Near, Published, Snap};
 
 /// A copy of a value that is no pair. It takes no memory.
 pub(crate) fn copy_plain(value: &Local) -> Option<Local>
@@ -40,31 +39,34 @@ pub(crate) fn copy_device(alloc: Global, device: &Device) -> Result<Device, Memo
     })
 }
 
-/// A copy of an export, if there is one.
-pub(crate) fn copy_own(alloc: Global, own: Option<&Export>) -> Result<Option<Export>, Memory>
+/// A copy of an export, to be shared.
+pub(crate) fn published_copy(alloc: Global, export: &Export) -> Result<Published, Memory>
+    ensures { IfOk result (λ e. export_of e ≡ export_of export.now) }
+{
+    let copied = copy_export(alloc, export)?;
+    Published::new(alloc, copied)
+}
+
+/// A share of an export, if there is one.
+pub(crate) fn share_own(own: Option<&Published>) -> Result<Option<Published>, Memory>
     ensures { IfOk result (λ e. option_map export_of e ≡ option_map (λ x. export_of x.now) own.entry) }
 {
     match own {
-        Some(export) => Ok(Some(copy_export(alloc, export)?)),
+        Some(export) => Ok(Some(export.share()?)),
         None => Ok(None),
     }
 }
 
-fn copy_near(
-    alloc: Global,
-    all: &ArrayVec<Near, 32, Global>,
-) -> Result<Box<ArrayVec<Near, 32, Global>>, Memory>
-    ensures { IfOk result (λ ns. map near_view ns.value.items ≡ map near_view all.now.items) }
+fn copy_near(alloc: Global, all: &[Near]) -> Result<Vec<Near>, Memory>
+    ensures { IfOk result (λ ns. map near_view ns.items ≡ map near_view all.now) }
 {
-    let mut copies = Box::new(alloc, ArrayVec::new_in(alloc))?;
-    let all = all.as_slice();
+    let mut copies = Vec::with_capacity(alloc, all.len())?;
     for near in all {
-        let export = copy_export(alloc, &near.export)?;
         copies.push(Near {
             device: near.device,
             weight: near.weight,
-            export,
-        });
+            export: near.export.share()?,
+        })?;
     }
     Ok(copies)
 }
@@ -77,7 +79,7 @@ pub fn copy_snap(alloc: Global, program: &Unfolded, snap: &Snap) -> Result<Snap,
     ensures snap { IfOk result (λ s. IsSnap (unfolding_of program.now) s) }
 {
     let inputs = copy_locals(alloc, &snap.inputs)?;
-    let own = copy_own(alloc, snap.own.as_ref())?;
+    let own = share_own(snap.own.as_ref())?;
     let near = copy_near(alloc, &snap.near)?;
     Ok(Snap {
         device: snap.device,
@@ -87,16 +89,16 @@ pub fn copy_snap(alloc: Global, program: &Unfolded, snap: &Snap) -> Result<Snap,
     })
 }
 
-/// Copies of exports, where there are some.
-pub(crate) fn copy_exports(
+/// Shares of exports, where there are some.
+pub(crate) fn share_exports(
     alloc: Global,
-    exports: &[Option<Export>],
-) -> Result<Vec<Option<Export>>, Memory>
+    exports: &[Option<Published>],
+) -> Result<Vec<Option<Published>>, Memory>
     ensures { IfOk result (λ v. map (option_map export_of) v.items ≡ map (option_map export_of) exports.now) }
 {
     let mut copies = Vec::new(alloc);
     for export in exports {
-        copies.push(copy_own(alloc, export.as_ref())?)?;
+        copies.push(share_own(export.as_ref())?)?;
     }
     Ok(copies)
 }

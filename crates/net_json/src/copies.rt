@@ -29,13 +29,12 @@ use crate::readers::{Found, Reader, gather};
 use crate::rising::room;
 use crate::types::JsonFault;
 use crate::values::{local, two_members};
-use arrayvec::ArrayVec;
 use fc_nodes::Unfolded;
-use fc_values::{Declared, Export, MOST_LINKS, Memory};
+use fc_values::{Declared, Export, MOST_LINKS};
 use serde_json::Value;
 use std::alloc::Global;
 use topology::{GREATEST_NUMBER, NetFault, Network};
-use value_trees::{Near, Snap};
+use value_trees::{Near, Published, Snap};
 
 // The export of an object with a value and a kept list.
 #[tactic(auto, using(crate::proofs::Judgements::refused_next))]
@@ -69,7 +68,7 @@ fn read_own(
     program: &Unfolded,
     here: &Place<'_>,
     value: &Value,
-) -> Result<Option<Export>, JsonFault>
+) -> Result<Option<Published>, JsonFault>
     ensures ok { let U = unfolding_of program.now in Accepts result (option_map (tree_of U))
         (own_judged U (path_of here.now) (view value.now)) }
     ensures export { IfOk result (λ o. WhereSome (IsExportOf (unfolding_of program.now)) o) }
@@ -79,7 +78,7 @@ fn read_own(
         return Ok(None);
     }
     let export = read_own_export(alloc, program, here, value)?;
-    Ok(Some(export))
+    Ok(Some(Published::new(alloc, export)?))
 }
 
 // The number of a neighbour of a device, with its place among those before.
@@ -190,6 +189,7 @@ fn read_near(
     let (at, id) = other_number(alloc, device, numbers, here, form.id)?;
     let weight = weight_within(alloc, program.declared(), here, form.weight)?;
     let export = read_export(alloc, program, Format::Values, here, form.value, form.kept)?;
+    let export = Published::new(alloc, export)?;
     Ok(Found {
         at,
         number: id,
@@ -201,21 +201,6 @@ fn read_near(
     })
 }
 
-// Neighbours in a list of the room that a copy has for them.
-fn in_room(
-    alloc: Global,
-    list: Vec<Near>,
-) -> Result<Box<ArrayVec<Near, MOST_LINKS, Global>>, Memory>
-    requires { length list.items ≤ MOST_LINKS }
-    ensures { IfOk result (λ ns. ns.value.items ≡ list.items) }
-{
-    let mut nears = Box::new(alloc, ArrayVec::new_in(alloc))?;
-    for near in list {
-        nears.push(near);
-    }
-    Ok(nears)
-}
-
 // The neighbours of a device, no more than it can have, by rising numbers.
 fn gather_nears(
     alloc: Global,
@@ -223,17 +208,17 @@ fn gather_nears(
     device: u32,
     here: &Place<'_>,
     items: &[Value],
-) -> Result<Box<ArrayVec<Near, MOST_LINKS, Global>>, JsonFault>
+) -> Result<Vec<Near>, JsonFault>
     requires { length items.now ≤ MOST_LINKS }
-    ensures ok { let U = unfolding_of program.now in Accepts result (λ ns. map (near_copy U) ns.value.items)
+    ensures ok { let U = unfolding_of program.now in Accepts result (λ ns. map (near_copy U) ns.items)
         (gather near_number (near_judged U device) (path_of here.now) (items_view items.now)) }
-    ensures near { IfOk result (λ ns. NearRises (unfolding_of program.now) device ns.value.items) }
-    ensures few { IfOk result (λ ns. length ns.value.items ≤ MOST_LINKS) }
+    ensures near { IfOk result (λ ns. NearRises (unfolding_of program.now) device ns.items) }
+    ensures few { IfOk result (λ ns. length ns.items ≤ MOST_LINKS) }
     ensures refused { Refuses result
         (gather near_number (near_judged (unfolding_of program.now) device) (path_of here.now) (items_view items.now)) }
 {
-    let list = gather(alloc, &Nears { program, device }, here, items)?;
-    Ok(in_room(alloc, list)?)
+    let nears = gather(alloc, &Nears { program, device }, here, items)?;
+    Ok(nears)
 }
 
 // The neighbours of a device, by rising numbers.
@@ -243,11 +228,11 @@ fn read_nears(
     device: u32,
     here: &Place<'_>,
     items: &[Value],
-) -> Result<Box<ArrayVec<Near, MOST_LINKS, Global>>, JsonFault>
-    ensures ok { let U = unfolding_of program.now in Accepts result (λ ns. map (near_copy U) ns.value.items)
+) -> Result<Vec<Near>, JsonFault>
+    ensures ok { let U = unfolding_of program.now in Accepts result (λ ns. map (near_copy U) ns.items)
         (nears_judged U device (path_of here.now) (items_view items.now)) }
-    ensures near { IfOk result (λ ns. NearRises (unfolding_of program.now) device ns.value.items) }
-    ensures few { IfOk result (λ ns. length ns.value.items ≤ MOST_LINKS) }
+    ensures near { IfOk result (λ ns. NearRises (unfolding_of program.now) device ns.items) }
+    ensures few { IfOk result (λ ns. length ns.items ≤ MOST_LINKS) }
     ensures refused { Refuses result
         (nears_judged (unfolding_of program.now) device (path_of here.now) (items_view items.now)) }
 {

@@ -1,25 +1,23 @@
--- The copy with which a device begins, before it has heard its neighbours.
-use Rattle.std.proofs.Common.{◌≡◌, ℕ, zero, suc, ◌<◌, List, [], ◌∷◌, ◌++◌, length, length-set, map, get_or, refl, sym, ◌∙◌, ap, subst, arith, Option, None}
-use Rattle.std.specs.Prelude.{slice_set, option_map}
+-- The copy with which a device begins.
+use Rattle.std.proofs.Common.{◌≡◌, ℕ, zero, suc, ◌<◌, List, [], ◌∷◌, length, map, get_or, refl, sym, ◌∙◌, ap, subst, arith, Option, None}
+use Rattle.std.specs.Prelude.{option_map}
 use Rattle.std.proofs.lemmas.List.{length-map}
 use Rattle.fc_values.specs.declared.exports.Export.{Export}
 use Rattle.fc_values.specs.Values.{local_of}
-use Rattle.fc_values.specs.Fields.{Rises}
 use Rattle.fc_nodes.specs.Program.{Unfolding}
 use Rattle.value_trees.specs.declared.copies.Snap.{Snap}
 use Rattle.value_trees.specs.Copies.{WhereSome, FitsCopy}
-use Rattle.value_trees.specs.Snaps.{tree_of, near_copy, IsExportOf, NearAreExports}
+use Rattle.value_trees.specs.Snaps.{tree_of, near_copy, snap_copy, IsExportOf, NearAreExports, IsSnap}
 use Rattle.topology.specs.declared.types.Device.{Device}
 use Rattle.topology.specs.Networks.{NetDevice, Network, device_of, numbers, Lives, inputs_in, near, IsNetwork}
-use Rattle.topology.specs.Nearby.{near_numbers}
 use Rattle.firing_core.specs.Cores.{Core, near_copies, copy_of, IsGood}
 use Rattle.firing_core.specs.CoreViews.{slot_at}
 use Rattle.firing_core.specs.Laws.{CopiesFit}
-use Rattle.stable_field.specs.Tables.{IsTable, table_of, heard_from, all_heard, copy_with, MayHear}
+use Rattle.stable_field.specs.Tables.{IsTable, table_of, heard_from}
 use Rattle.firing_core.proofs.Slots.{Distinct, rises_distinct, slot_map}
 use Rattle.firing_core.proofs.Taken.{inputs_at, in_at}
 use Rattle.stable_field.proofs.Slots.{slot_read}
-use Rattle.stable_field.proofs.Hearing.{AllOther, neighbours_other, heard_away, heard_copies, heard_exports, slot_export}
+use Rattle.stable_field.proofs.Hearing.{heard_copies, heard_exports, slot_export}
 use Rattle.stable_field.proofs.Levels.{good_table}
 
 -- of a network whose devices are these
@@ -39,25 +37,17 @@ module _ (N : Network) (ds : List Device) (k : ℕ) (x : Device) (all : map devi
       let at : get_or (numbers (map device_of ds)) k 0 ≡ x.id = subst (λ (ns : List NetDevice). get_or (numbers ns) k 0 ≡ x.id) (sym all) (number_at h q) in
       inputs_at ds k x.id x n (omega (arith, h, l, ap length all)) q at ∙ ap (inputs_in x.id) all
 
-module _ (U : Unfolding) (N : Network) (xs ys : List (Option Export)) (t : IsTable U N xs) (net : IsNetwork N) (same : N.declared ≡ U.declared) (k d : ℕ) (h : k < length N.devices) (at : get_or (numbers N.devices) k 0 ≡ d)
-    (s : Snap) (ns : List (ℕ × ℕ)) (cleared : ys ≡ slice_set xs k None) (heard : ns ≡ near N d) (device : s.device ≡ d) (inputs : map local_of s.inputs.items ≡ inputs_in d N.devices)
-    (own : s.own ≡ get_or xs k None) (empty : s.near.value.items ≡ []) where
-  all_is : all_heard N ys ns s ≡ heard_from (numbers N.devices) xs (near N d)
-  all_is =
-      ap (λ ms. ms ++ heard_from (numbers N.devices) ys ns) empty
-      ∙ ap (λ zs. heard_from (numbers N.devices) zs ns) cleared
-      ∙ ap (heard_from (numbers N.devices) (slice_set xs k None)) heard
-      ∙ heard_away (numbers N.devices) xs k None (near N d) (subst (λ e. AllOther e (near N d)) (sym at) (neighbours_other N d net))
-
+module _ (U : Unfolding) (N : Network) (xs : List (Option Export)) (t : IsTable U N xs) (net : IsNetwork N) (same : N.declared ≡ U.declared) (k d : ℕ) (h : k < length N.devices) (at : get_or (numbers N.devices) k 0 ≡ d)
+    (s : Snap) (device : s.device ≡ d) (inputs : map local_of s.inputs.items ≡ inputs_in d N.devices) (own : s.own ≡ get_or xs k None) (heard : s.near.items ≡ heard_from (numbers N.devices) xs (near N d)) where
   own_is : slot_at (numbers N.devices) xs d ≡ s.own
   own_is = slot_read N net xs k d s.own t.many h at own
 
-  pub begun_copy : copy_with U s (all_heard N ys ns s) ≡ copy_of N (table_of U N xs) d
+  pub begun_copy : snap_copy U s ≡ copy_of N (table_of U N xs) d
   begun_copy =
       let a = device in
       let b = inputs in
       let o : option_map (tree_of U) s.own ≡ table_of U N xs d = ap (option_map (tree_of U)) (sym own_is) ∙ sym (slot_map (tree_of U) (numbers N.devices) xs d) in
-      let n : map (near_copy U) (all_heard N ys ns s) ≡ near_copies (table_of U N xs) (near N d) = ap (map (near_copy U)) all_is ∙ heard_copies U (numbers N.devices) xs (near N d) in
+      let n : map (near_copy U) s.near.items ≡ near_copies (table_of U N xs) (near N d) = ap (map (near_copy U)) heard ∙ heard_copies U (numbers N.devices) xs (near N d) in
       cc
 
   core : Core
@@ -70,12 +60,10 @@ module _ (U : Unfolding) (N : Network) (xs ys : List (Option Export)) (t : IsTab
   live : Lives N d
   live = in_at (numbers N.devices) k d (let m = length-map N.devices (λ (n : NetDevice). n.id) in omega (arith, h, m)) at
 
-  pub may_begin : CopiesFit → Rises (near_numbers ns) → MayHear U N ys ns s
+  pub begun : CopiesFit → IsSnap U s
   unfolding core
-  may_begin fit rising = record {
+  begun fit = record {
     fits = subst (FitsCopy U) (sym begun_copy) (fit U core d good live);
     own = subst (WhereSome (IsExportOf U)) own_is (slot_export U (numbers N.devices) xs d t.exports);
-    near = subst (NearAreExports U) (sym all_is) (heard_exports U (numbers N.devices) xs (near N d) t.exports);
-    rising = rising;
-    many = ap length cleared ∙ length-set xs k None ∙ t.many;
+    near = subst (NearAreExports U) (sym heard) (heard_exports U (numbers N.devices) xs (near N d) t.exports);
   }

@@ -1,44 +1,14 @@
 -- The copy of a device that hears the exports of a table.
-use Rattle.std.proofs.Common.{◌≡◌, ◌≢◌, ℕ, List, [], ◌∷◌, map, get_or, refl, sym, ◌∙◌, ap, arith, Option, Some, None, Bool, true, false, nat_eq, if◌then◌else◌}
-use Rattle.std.specs.Prelude.{slice_set, option_map}
+use Rattle.std.proofs.Common.{◌≡◌, ℕ, List, [], ◌∷◌, map, refl, sym, ◌∙◌, ap, Option, Some, None, Bool, true, false, nat_eq, if◌then◌else◌}
+use Rattle.std.specs.Prelude.{option_map}
 use Rattle.fc_values.specs.declared.exports.Export.{Export}
-use Rattle.fc_values.specs.Fields.{Rises}
-use Rattle.fc_values.proofs.Rising.{rises_weaker}
 use Rattle.fc_nodes.specs.Program.{Unfolding}
 use Rattle.value_trees.specs.Copies.{WhereSome}
 use Rattle.value_trees.specs.Snaps.{tree_of, near_copy, IsExportOf, NearAreExports}
-use Rattle.topology.specs.Networks.{Network, numbers, near, IsNetwork}
-use Rattle.topology.specs.Nearby.{near_numbers}
-use Rattle.topology.proofs.Lemmas.{AllNear, near_fits}
 use Rattle.firing_core.specs.Cores.{near_with, near_copies}
 use Rattle.firing_core.specs.CoreViews.{slot_at, AllExports}
 use Rattle.stable_field.specs.Tables.{heard_with, heard_from}
 use Rattle.firing_core.proofs.Slots.{slot_map}
-use Rattle.stable_field.proofs.Slots.{slot_away}
-
--- none of the neighbours is the device
-abbrev pub AllOther : ℕ → List (ℕ × ℕ) → Type 0
-AllOther d [] = Unit {0}
-AllOther d (n ∷ ns) = (d ≢ n.0) × AllOther d ns
-
-pub rises_other : (d : ℕ) (ns : List (ℕ × ℕ)) → Rises (d ∷ near_numbers ns) → AllOther d ns
-rises_other d [] r = tt
-rises_other d (n ∷ ns) r = let h = r.0 in (λ e. omega arith, rises_other d ns (rises_weaker d n.0 (near_numbers ns) h r.1))
-
-near_other : (N : Network) (ds : List ℕ) (d : ℕ) (ns : List (ℕ × ℕ)) → AllNear N.declared ds d ns → AllOther d ns
-near_other N ds d [] a = tt
-near_other N ds d (n ∷ ns) a = (λ e. a.0.other (sym e), near_other N ds d ns a.1)
-
-pub neighbours_other : (N : Network) (d : ℕ) → IsNetwork N → AllOther d (near N d)
-neighbours_other N d net = near_other N (numbers N.devices) d (near N d) (near_fits N.declared (numbers N.devices) d N.links net.links)
-
--- they are heard as before where the slot of another device is written
-pub heard_away : (is : List ℕ) (xs : List (Option Export)) (k : ℕ) (v : Option Export) (ns : List (ℕ × ℕ)) → AllOther (get_or is k 0) ns
-    → heard_from is (slice_set xs k v) ns ≡ heard_from is xs ns
-heard_away is xs k v [] a = refl
-heard_away is xs k v (n ∷ ns) a =
-    ap (λ o. heard_with n o (heard_from is (slice_set xs k v) ns)) (slot_away is xs k v n.0 a.0)
-    ∙ ap (heard_with n (slot_at is xs n.0)) (heard_away is xs k v ns a.1)
 
 -- a slot has an export of the program
 pub slot_export : (U : Unfolding) (is : List ℕ) (xs : List (Option Export)) (d : ℕ) → AllExports U xs → WhereSome (IsExportOf U) (slot_at is xs d)

@@ -1,18 +1,14 @@
 -- Tables of exports in code, and rounds in which each device fires from one table.
-use Rattle.std.specs.Prelude.{ℕ, ◌≡◌, List, [], ◌∷◌, ◌++◌, map, length, Option, Some, None, option_map}
+use Rattle.std.specs.Prelude.{ℕ, ◌≡◌, List, [], ◌∷◌, map, length, Option, Some, None, option_map}
 use Rattle.fc_values.specs.declared.exports.Export.{Export}
 use Rattle.fc_values.specs.Values.{LocalValue, local_of}
-use Rattle.fc_values.specs.Fields.{Rises}
 use Rattle.fc_values.specs.Exports.{export_of}
 use Rattle.fc_values.specs.Trees.{TreeExport, Copy}
 use Rattle.fc_nodes.specs.Program.{Unfolding}
 use Rattle.value_trees.specs.declared.copies.Near.{Near}
-use Rattle.value_trees.specs.declared.copies.Snap.{Snap}
-use Rattle.value_trees.specs.Copies.{WhereSome, FitsCopy}
-use Rattle.value_trees.specs.Snaps.{tree_of, near_copy, IsExportOf, NearAreExports}
+use Rattle.value_trees.specs.Snaps.{tree_of, IsExportOf}
 use Rattle.device_eval.specs.Copies.{EvaluatesCopy}
 use Rattle.topology.specs.Networks.{Network, numbers}
-use Rattle.topology.specs.Nearby.{near_numbers}
 use Rattle.firing_core.specs.Cores.{Map as Table, copy_of}
 use Rattle.firing_core.specs.CoreViews.{slot_at, AllExports}
 use Rattle.interval_facts.specs.Solutions.{SolvesMain}
@@ -43,7 +39,7 @@ AreFirings U N xs [] [] = Unit {0}
 AreFirings U N xs (d ∷ ds) (Some e ∷ ys) = IsFiring U N xs d e × AreFirings U N xs ds ys
 AreFirings U N xs _ _ = ⊥
 
--- ---- a copy that is being gathered
+-- ---- what a device hears
 
 -- a neighbour, if it has an export
 abbrev pub heard_with : ℕ × ℕ → Option Export → List Near → List Near
@@ -54,28 +50,6 @@ heard_with n (Some e) ns = record { device = n.0; weight = n.1; export = e } ∷
 abbrev pub heard_from : List ℕ → List (Option Export) → List (ℕ × ℕ) → List Near
 heard_from is xs [] = []
 heard_from is xs (n ∷ ns) = heard_with n (slot_at is xs n.0) (heard_from is xs ns)
-
--- the neighbours of a copy with those that it still hears
-abbrev pub all_heard : Network → List (Option Export) → List (ℕ × ℕ) → Snap → List Near
-all_heard N xs ns s = s.near.value.items ++ heard_from (numbers N.devices) xs ns
-
--- a copy with other neighbours
-abbrev pub copy_with : Unfolding → Snap → List Near → Copy
-copy_with U s ns = record {
-  device = s.device;
-  inputs = map local_of s.inputs.items;
-  own = option_map (tree_of U) s.own;
-  near = map (near_copy U) ns;
-}
-
--- a copy that may hear these neighbours of a table
-pub record MayHear (U : Unfolding) (N : Network) (xs : List (Option Export)) (ns : List (ℕ × ℕ)) (s : Snap)
-    : Type 0 where
-  pub fits : FitsCopy U (copy_with U s (all_heard N xs ns s))
-  pub own : WhereSome (IsExportOf U) s.own
-  pub near : NearAreExports U (all_heard N xs ns s)
-  pub rising : Rises (near_numbers ns)
-  pub many : length xs ≡ length N.devices
 
 -- ---- what rounds lead to
 

@@ -1,6 +1,6 @@
 //! A table that rounds begin with.
 
-ghost use Rattle.std.specs.Prelude.{IfOk};
+ghost use Rattle.std.specs.Prelude.{◌≡◌, IfOk};
 ghost use Rattle.fc_nodes.specs.Program.{unfolding_of};
 ghost use Rattle.interval_facts.specs.Ranges.{AreRangesOf};
 ghost use Rattle.value_trees.specs.Copies.{WhereSome};
@@ -15,7 +15,7 @@ use fragment_check::{Pattern, PatternFault, patterns};
 use interval_facts::Ranges;
 use std::alloc::Global;
 use topology::Network;
-use value_trees::well_typed;
+use value_trees::{Published, well_typed};
 
 /// The exports that are guessed for a program, where they are well-typed.
 pub fn guessed(
@@ -32,14 +32,15 @@ pub fn guessed(
     let count = net.devices().len();
     let mut table = Vec::with_capacity(alloc, count)?;
     for place in 0..count {
-        let slot = typed_at(program, &mut guess, place);
+        let typed = typed_at(program, &mut guess, place);
+        let slot = published(alloc, typed)?;
         table.push(slot)?;
     }
     Ok(table)
 }
 
 // The export at a place, if it is a well-typed one.
-fn typed_at(program: &Unfolded, guess: &mut Slots, place: usize) -> Option<Export>
+fn typed_at(program: &Unfolded, guess: &mut [Option<Export>], place: usize) -> Option<Export>
     ensures { WhereSome (IsExportOf (unfolding_of program.now)) result }
 {
     let export = guess.get_mut(place)?.take()?;
@@ -47,6 +48,16 @@ fn typed_at(program: &Unfolded, guess: &mut Slots, place: usize) -> Option<Expor
         Some(export)
     } else {
         None
+    }
+}
+
+// An export to be shared, if there is one.
+fn published(alloc: Global, export: Option<Export>) -> Result<Option<Published>, Memory>
+    ensures { IfOk result (λ p. p ≡ export) }
+{
+    match export {
+        Some(export) => Ok(Some(Published::new(alloc, export)?)),
+        None => Ok(None),
     }
 }
 

@@ -1,6 +1,6 @@
 //! Rounds in which each device fires once and sees the exports of the round before.
 
-ghost use Rattle.std.specs.Prelude.{◌≡◌, ◌≤◌, IfOk, OnOk, length};
+ghost use Rattle.std.specs.Prelude.{◌≡◌, ◌≤◌, IfOk, length};
 ghost use Rattle.fc_nodes.specs.Program.{unfolding_of};
 ghost use Rattle.topology.specs.Networks.{numbers};
 ghost use Rattle.converge_laws.specs.Laws.{IsAnalysis, root_level};
@@ -35,29 +35,22 @@ pub fn settled(
     solutions_raise_levels();
     let mut table = start;
     for done in 0..rounds {
-        let next = round(alloc, program, net, &mut table)?;
+        let next = round(alloc, program, net, &table)?;
         let stays = same_exports(&table, &next);
         table = next;
         if stays {
             return Ok(table);
         }
     }
-    Ok(round(alloc, program, net, &mut table)?)
+    Ok(round(alloc, program, net, &table)?)
 }
 
 // The exports of all devices, which fire once and see a table.
-fn round(
-    alloc: Global,
-    program: &Unfolded,
-    net: &Network,
-    table: &mut Slots,
-) -> Result<Slots, Memory>
+fn round(alloc: Global, program: &Unfolded, net: &Network, table: &Slots) -> Result<Slots, Memory>
     requires declared { net.now.declared ≡ program.now.declared }
-    requires table { IsTable (unfolding_of program.now) net.now table.old.items }
-    ensures fired { IfOk result (λ v. AreFirings (unfolding_of program.now) net.now table.old.items
+    requires table { IsTable (unfolding_of program.now) net.now table.now.items }
+    ensures { IfOk result (λ v. AreFirings (unfolding_of program.now) net.now table.now.items
         (numbers net.now.devices) v.items) }
-    ensures table { OnOk result (table.new.items ≡ table.old.items) }
-    ensures network { OnOk result (length table.new.items ≡ length net.now.devices) }
 {
     let count = net.devices().len();
     let mut next = Vec::with_capacity(alloc, count)?;

@@ -6,9 +6,10 @@ ghost use Rattle.fc_values.specs.Exports.{export_of, slots_of};
 ghost use Rattle.stable_field.specs.Tables.{SameExports};
 
 use fc_values::{Export, Local, Slot};
+use value_trees::Published;
 
 /// Whether two tables have the same exports.
-pub fn same_exports(a: &[Option<Export>], b: &[Option<Export>]) -> bool
+pub fn same_exports(a: &[Option<Published>], b: &[Option<Published>]) -> bool
     ensures { IsTrue result → SameExports a.now b.now }
 {
     let Some((first, rest)) = a.split_first() else {
@@ -20,15 +21,20 @@ pub fn same_exports(a: &[Option<Export>], b: &[Option<Export>]) -> bool
     same_slot(first, second) && same_exports(rest, others)
 }
 
-fn same_slot(a: &Option<Export>, b: &Option<Export>) -> bool
+fn same_slot(a: &Option<Published>, b: &Option<Published>) -> bool
     ensures { IsTrue result → option_map export_of a.now ≡ option_map export_of b.now }
 {
     match (a, b) {
-        (Some(a), Some(b)) => same_local(&a.value, &b.value)
-            && same_slots(&a.slots.list, &b.slots.list),
+        (Some(a), Some(b)) => same_export(a.get(), b.get()),
         (None, None) => true,
         _ => false,
     }
+}
+
+fn same_export(a: &Export, b: &Export) -> bool
+    ensures { IsTrue result → export_of a.now ≡ export_of b.now }
+{
+    same_local(&a.value, &b.value) && same_slots(&a.slots.list, &b.slots.list)
 }
 
 fn same_slots(a: &[Slot], b: &[Slot]) -> bool

@@ -8,3 +8,4 @@ mod views;
 mod waiting;
 
 pub use lock::{Logged, Pass, TurnLock};
+pub use waiting::Urgency;

@@ -6,7 +6,7 @@ ghost use Rattle.turn_lock.specs.declared.views.Stage.TheVariants.{Idle};
 
 use crate::kinds::{Amount, Cut, Draw, Glue, InTurn, Look, Opening, Serve, Tell};
 use crate::views::SeatView;
-use crate::waiting::Looks;
+use crate::waiting::{Looks, Urgency};
 use atomic_table::{Refused, Seat, Table};
 use fc_values::Memory;
 use std::alloc::Global;
@@ -159,7 +159,13 @@ impl<T: Logged> TurnLock<T> {
     }
 
     /// Takes a turn, in which `f` appends one entry.
-    pub fn turn<R, F: FnOnce(&mut T) -> R, W: Wait>(&self, rt: &W, pass: &mut Pass<T>, f: F) -> R
+    pub fn turn<R, F: FnOnce(&mut T) -> R, W: Wait>(
+        &self,
+        rt: &W,
+        pass: &mut Pass<T>,
+        urgency: Urgency,
+        f: F,
+    ) -> R
         requires own { pass.old.lock ≡ self.now }
         requires some { 0 < pass.old.left }
         requires may { MayTurn T.list T.answers F.FnOnce f pass.old }
@@ -167,7 +173,7 @@ impl<T: Logged> TurnLock<T> {
         ensures turned { Turned T.list T.answers F.FnOnce f pass.old pass.new result }
     {
         let shared = &self.table.shared;
-        self.enter(rt, &mut pass.seat);
+        self.enter(rt, &mut pass.seat, urgency);
         let mut value = shared.exchange(&mut pass.seat, 0, None).unwrap();
         let answer = f(&mut value);
         let left = shared.exchange(&mut pass.seat, 0, Some(value));
@@ -179,9 +185,9 @@ impl<T: Logged> TurnLock<T> {
     }
 
     // Waits until nobody seems to have a ticket. In a queue of many, each turn waits for a thread that may not run.
-    fn await_rest<W: Wait>(&self, rt: &W) {
+    fn await_rest<W: Wait>(&self, rt: &W, urgency: Urgency) {
         let shared = &self.table.shared;
-        let mut looks = Looks::none();
+        let mut looks = Looks::none(urgency);
         for _ in rt.forever() {
             let served = shared.peek(1);
             if shared.peek(0) == served {
@@ -195,7 +201,12 @@ impl<T: Logged> TurnLock<T> {
     }
 
     // Draws a ticket, and waits until it is served.
-    fn enter<W: Wait>(&self, rt: &W, seat: &mut Seat<Option<T>, SeatView<T::Entry>>)
+    fn enter<W: Wait>(
+        &self,
+        rt: &W,
+        seat: &mut Seat<Option<T>, SeatView<T::Entry>>,
+        urgency: Urgency,
+    )
         requires own { seat.old.table_id ≡ self.now }
         requires idle { (seat.old.me.0.stage ≡ Idle) × (seat.old.me.1 ≡ []) × (seat.old.me.0.spent ≡ false) }
         requires some { 0 < seat.old.me.0.left }
@@ -203,9 +214,9 @@ impl<T: Logged> TurnLock<T> {
         ensures entered { Entered T.list T.answers seat.old.me.0 seat.new.me }
     {
         let shared = &self.table.shared;
-        self.await_rest(rt);
+        self.await_rest(rt, urgency);
         let ticket = shared.fetch_add::<Draw>(seat, 0, 1);
-        let mut looks = Looks::none();
+        let mut looks = Looks::none(urgency);
         for _ in rt.forever() {
             let served = shared.load::<Look<T>>(seat, 1);
             if served == ticket {

@@ -3,7 +3,7 @@ ghost use Rattle.std.specs.Prelude.{◌≡◌, ◌⊎◌, ◌+◌, ◌<◌, ◌�
 ghost use Rattle.std.specs.Thread.{IsSync};
 ghost use Rattle.turn_lock.specs.Noting.{HasRoom, Noted, Went, nothing, not_answered};
 
-use crate::{Logged, Pass, TurnLock};
+use crate::{Logged, Pass, TurnLock, Urgency};
 use fc_values::Memory;
 use std::alloc::Global;
 use std::marker::Model;
@@ -75,6 +75,7 @@ pub fn write<W: Wait>(rt: &W, lock: &TurnLock<Notes>, pass: &mut Pass<Notes>, no
     lock.turn(
         rt,
         pass,
+        Urgency::Low,
         |notes: &mut Notes|
             requires { length notes.old < 16 }
             ensures { notes.new ≡ notes.old ++ note ∷ [] }

@@ -37,18 +37,18 @@ own_typed U None h = tt
 own_typed U (Some e) h = h.typed
 
 module _ (U : Unfolding) (s : Snap) where
-  pub parts_fit : InputsFit U.declared.inputs (map local_of s.inputs.items) → WhereSome (IsExportOf U) s.own → NearRises U s.device s.near.value.items → length s.near.value.items ≤ 32 → IsSnap U s
+  pub parts_fit : InputsFit U.declared.inputs (map local_of s.inputs.items) → WhereSome (IsExportOf U) s.own → NearRises U s.device s.near.items → length s.near.items ≤ 32 → IsSnap U s
   parts_fit i o n few = record {
     fits = record {
       inputs = i;
       own = own_typed U s.own o;
-      near = near_fit U s.device s.near.value.items n;
-      rising = near_rise U s.device s.near.value.items n;
-      few = omega (arith, few, length-map s.near.value.items (near_copy U));
+      near = near_fit U s.device s.near.items n;
+      rising = near_rise U s.device s.near.items n;
+      few = omega (arith, few, length-map s.near.items (near_copy U));
     };
     own = o;
-    near = near_exports U s.device s.near.value.items n;
+    near = near_exports U s.device s.near.items n;
   }
 
-  pub near_part : IsSnap U s → NearRises U s.device s.near.value.items
-  near_part h = let f = h.fits in near_rises U s.device s.near.value.items f.near f.rising h.near
+  pub near_part : IsSnap U s → NearRises U s.device s.near.items
+  near_part h = let f = h.fits in near_rises U s.device s.near.items f.near f.rising h.near

@@ -23,7 +23,7 @@ snap_copy U s = record {
   device = s.device;
   inputs = map local_of s.inputs.items;
   own = option_map (tree_of U) s.own;
-  near = map (near_copy U) s.near.value.items;
+  near = map (near_copy U) s.near.items;
 }
 
 -- an export in code that stands for an export of a program
@@ -38,4 +38,4 @@ NearAreExports U (n ∷ ns) = IsExportOf U n.export × NearAreExports U ns
 pub record IsSnap (U : Unfolding) (s : Snap) : Type 0 where
   pub fits : FitsCopy U (snap_copy U s)
   pub own : WhereSome (IsExportOf U) s.own
-  pub near : NearAreExports U s.near.value.items
+  pub near : NearAreExports U s.near.items

@@ -10,9 +10,10 @@ ghost use Rattle.value_trees.specs.Snaps.{IsExportOf, IsSnap};
 ghost use Rattle.value_trees.specs.Fitting.{ComesBefore, IsNear, NearRises};
 
 use crate::copies::{Near, Snap};
+use crate::published::Published;
 use crate::walks::well_typed;
 use fc_nodes::Unfolded;
-use fc_values::{Export, InputDecl, InputTy, Local};
+use fc_values::{InputDecl, InputTy, Local, MOST_LINKS};
 
 /// Whether a copy fits a program: what a firing may read. It takes no memory.
 pub fn snap_fits(program: &Unfolded, s: &Snap) -> bool
@@ -24,7 +25,10 @@ pub fn snap_fits(program: &Unfolded, s: &Snap) -> bool
     if !own_fits(program, &s.own) {
         return false;
     }
-    near_fit(program, s.device, s.near.as_slice())
+    if s.near.len() > MOST_LINKS {
+        return false;
+    }
+    near_fit(program, s.device, &s.near)
 }
 
 // Whether the inputs of a copy fit the declared ones.
@@ -51,11 +55,11 @@ fn input_fits(ty: &InputTy, value: &Local) -> bool
     }
 }
 
-fn own_fits(program: &Unfolded, own: &Option<Export>) -> bool
+fn own_fits(program: &Unfolded, own: &Option<Published>) -> bool
     ensures { IsTrue result ↔ WhereSome (IsExportOf (unfolding_of program.now)) own.now }
 {
     match own {
-        Some(export) => well_typed(program, export),
+        Some(export) => well_typed(program, export.get()),
         None => true,
     }
 }
@@ -90,5 +94,5 @@ fn one_fits(program: &Unfolded, device: u32, near: &Near) -> bool
     near.device != device
         && least <= near.weight
         && near.weight <= greatest
-        && well_typed(program, &near.export)
+        && well_typed(program, near.export.get())
 }

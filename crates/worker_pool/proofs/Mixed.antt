@@ -5,7 +5,7 @@ use Rattle.std.proofs.Math.Seq.{drop-append_seam}
 use Rattle.fc_values.specs.Fields.{is_in}
 use Rattle.fc_nodes.specs.Program.{Program, Unfolding, unfolding_of}
 use Rattle.topology.specs.Networks.{Network, numbers}
-use Rattle.firing_core.specs.Entries.{EditValue, EntryValue, BeginEntry, EditEntry, entry_of, entries_of}
+use Rattle.firing_core.specs.Entries.{EditValue, EntryValue, BeginEntry, IdleEntry, EditEntry, entry_of, entries_of}
 use Rattle.firing_core.specs.Cores.{Run}
 use Rattle.firing_core.specs.CoreViews.{core_of}
 use Rattle.firing_core.specs.Books.{BookValue, EndsFlights, ends_of}
@@ -16,7 +16,7 @@ use Rattle.turn_lock.specs.Passes.{PassView, opened, kept_part}
 use Rattle.atomic_table.specs.Seated.{TableId}
 use Rattle.export_table.specs.Firings.{FiringValue}
 use Rattle.export_table.specs.Holding.{opening_of}
-use Rattle.export_table.specs.Turns.{Began, Closes}
+use Rattle.export_table.specs.Turns.{Began, Idled, Closes}
 use Rattle.worker_pool.specs.Pacing.{IsOrdered}
 use Rattle.worker_pool.specs.Rounding.{RanOn, IsGreatest, Completes}
 use Rattle.worker_pool.specs.Mixing.{WentOn, MixedTogether}
@@ -39,6 +39,12 @@ grew_caller lock turns share old new v1 v2 v3 v4 f b kept went seen c =
     let first : StartsWith v1.seen (entries_of old.log) = starts_trans v1.seen b.before (entries_of old.log) (BeginEntry f.device ∷ [], ap (λ (u : PassView EntryValue). u.seen) b.turn.view) b.turn.begins in
     let after : StartsWith v3.seen v1.seen = subst (λ (u : PassView EntryValue). StartsWith v3.seen u.seen) kept went.begins in
     grew_closed turns v4 old new c (starts_trans v4.seen v3.seen (entries_of old.log) seen (starts_trans v3.seen v1.seen (entries_of old.log) after first))
+
+-- a table in which nothing began, for want of memory
+pub grew_idle : (lock : TableId) (turns : ℕ) (old new : BookValue) (v : PassView EntryValue) → Idled (opening_of old 1 turns (length old.log)) (opened lock (entries_of old.log) turns) v
+    → Closes (opening_of old 1 turns (length old.log)) v new → GrewFrom old new
+grew_idle lock turns old new v idled c = let t = idled.turn in
+    grew_closed turns v old new c (starts_trans v.seen idled.before (entries_of old.log) (IdleEntry ∷ [], ap (λ (u : PassView EntryValue). u.seen) t.view) t.begins)
 
 behind_mixed : (old new : BookValue) (part : List EntryValue) → entries_of new.log ≡ entries_of old.log ++ part → drop (length old.log) (entries_of new.log) ≡ part
 behind_mixed old new part e = (λ i. drop (sym (length-map old.log entry_of) i) (e i)) ∙ drop-append_seam (entries_of old.log) part

@@ -1,5 +1,5 @@
 -- What the calls of a shared table do to the pass of a worker, and to that of the caller.
-use Rattle.std.proofs.Common.{◌≡◌, ◌+◌, ℕ, List, [], ◌∷◌, refl, sym, ap, ◌∙◌, subst, arith, Bool}
+use Rattle.std.proofs.Common.{◌≡◌, ◌+◌, ℕ, List, [], ◌∷◌, refl, sym, ap, ◌∙◌, subst, arith}
 use Rattle.firing_core.specs.declared.entries.EditFault.{EditFault}
 use Rattle.firing_core.specs.Entries.{edit_of, EditValue, EntryValue, BeginEntry, EndEntry, IdleEntry, EditEntry}
 use Rattle.firing_core.specs.Cores.{Core, EditFits}
@@ -9,7 +9,9 @@ use Rattle.export_table.specs.Items.{Opening, ItemValue}
 use Rattle.export_table.specs.Passing.{TableValue, IsPassOf, on_log}
 use Rattle.firing_core.specs.declared.entries.Edit.{Edit}
 use Rattle.export_table.specs.Firings.{FiringValue}
-use Rattle.export_table.specs.Turns.{TookTurn, Began, Rested, Edited, Refused, CanEnd, KeepsFirings}
+use Rattle.export_table.specs.declared.firing.Pause.{Pause}
+use Rattle.export_table.specs.declared.firing.Pause.TheVariants as pause
+use Rattle.export_table.specs.Turns.{TookTurn, Began, Paused, Edited, Refused, CanEnd, KeepsFirings}
 use Rattle.worker_pool.specs.Working.{FiredOn, EndsFiring}
 use Rattle.worker_pool.specs.Mixing.{WentOn, MayMix}
 use Rattle.worker_pool.proofs.Passes.{starts_trans, fired_turn}
@@ -19,8 +21,9 @@ use Rattle.worker_pool.proofs.Passes.{starts_trans, fired_turn}
 pub fired_began : (o : Opening) (v w : PassView EntryValue) (f : FiringValue) → Began o v w f → FiredOn v w
 fired_began o v w f b = fired_turn o v w b.before b.core (BeginEntry f.device) b.turn refl
 
-pub fired_rested : (o : Opening) (v w : PassView EntryValue) (b : Bool) → Rested o v w b → FiredOn v w
-fired_rested o v w over b = fired_turn o v w b.before b.core IdleEntry b.turn refl
+pub fired_paused : (o : Opening) (v w : PassView EntryValue) (p : Pause) → Paused o v w p → FiredOn v w
+fired_paused o v w (pause.Rests r) b = fired_turn o v w b.before b.core IdleEntry b.turn refl
+fired_paused o v w pause.Starved b = fired_turn o v w b.before b.core IdleEntry b.turn refl
 
 pub fired_ends : (o : Opening) (v w : PassView EntryValue) (f : FiringValue) → EndsFiring o v w f → FiredOn v w
 fired_ends o v w f b = fired_turn o v w b.before b.core (EndEntry f.snap.device) b.turn refl

@@ -28,6 +28,8 @@ pub(crate) fn fan<R: Threads + Wait + Sync, G: Gate + Sync>(
     if rooms.len() == 1 {
         let kept = rooms[0].take();
         rooms[0] = work(rt, crew, pass, kept);
+        // nobody waits for this worker any more
+        crew.bell.stop();
         return;
     }
     let half = rooms.len() / 2;

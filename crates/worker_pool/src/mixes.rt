@@ -1,6 +1,6 @@
 //! An edit among the firings of a round, and rounds after it.
 
-ghost use Rattle.std.specs.Prelude.{◌≡◌, ◌<◌, ◌≤◌, IfOk, IfErr, OnOk, IfSome, IsSome, None, length};
+ghost use Rattle.std.specs.Prelude.{◌≡◌, ◌<◌, ◌≤◌, IfOk, IfErr, OnOk, OnErr, IfSome, IsSome, None, length};
 ghost use Rattle.std.specs.Thread.{IsSync};
 ghost use Rattle.fc_nodes.specs.Program.{unfolding_of};
 ghost use Rattle.firing_core.specs.Entries.{edit_of};
@@ -9,7 +9,7 @@ ghost use Rattle.firing_core.specs.CoreViews.{core_of};
 ghost use Rattle.firing_core.specs.Stretches.{IsMixed, NoneFlies, MixedEdit, GrewFrom};
 ghost use Rattle.firing_core.specs.Rooms.{IsRoom};
 ghost use Rattle.export_table.specs.Passing.{IsPassOf, on_log};
-ghost use Rattle.export_table.specs.Turns.{Began, CanEnd, Edited, KeepsFirings, IsAfterTurn};
+ghost use Rattle.export_table.specs.Turns.{Began, CanEnd, Idled, Edited, KeepsFirings, IsAfterTurn};
 ghost use Rattle.worker_pool.specs.Mixing.{NeverRests, MayMix, MixedIn, MixedTogether, WentOn};
 ghost use Rattle.worker_pool.specs.Working.{AreRooms, Staffed, StaffWorked};
 
@@ -19,7 +19,7 @@ use crate::plans::plan_of;
 use crate::rounds::{no_rooms, run_in};
 use crate::shorts::complete;
 use crate::workers::finish;
-use export_table::{Firing, Gate, Held};
+use export_table::{Firing, Gate, Held, Pause};
 use fc_values::Memory;
 use firing_core::{Book, Edit, Room, logs_decide};
 use std::alloc::Global;
@@ -96,7 +96,10 @@ fn mix_together<R: Threads + Wait + Sync, G: Gate + Sync>(
     let plan = plan_of(&book, (rooms.len() - 1).max(1), 1);
     let given = plan.workers as u64 * plan.share;
     let (crew, mut pass) = Crew::open(alloc, book, 1, given + 3, gate)?;
-    let firing = begin_first(rt, &crew, &mut pass, room);
+    let firing = match begin_first(rt, &crew, &mut pass, room) {
+        Ok(firing) => firing,
+        Err(memory) => return Err((crew.close(pass), memory)),
+    };
     let mut other = crew.shared.split(&mut pass, given);
     let (busy, _) = rooms.split_at_mut(plan.workers);
     let mix = Mix { firing, edit };
@@ -105,6 +108,7 @@ fn mix_together<R: Threads + Wait + Sync, G: Gate + Sync>(
     );
     crew.shared.join(&mut pass, other);
     let book = crew.close(pass);
+    // what its clause says: the book is one
     let _core = book.core();
     match mixed {
         Ok(()) => Ok(book),
@@ -113,19 +117,26 @@ fn mix_together<R: Threads + Wait + Sync, G: Gate + Sync>(
 }
 
 // Begins the first firing of a table.
-fn begin_first<W: Wait, G>(rt: &W, crew: &Crew<'_, G>, pass: &mut Pass<Held>, room: Room) -> Firing
+fn begin_first<W: Wait, G>(
+    rt: &W,
+    crew: &Crew<'_, G>,
+    pass: &mut Pass<Held>,
+    room: Room,
+) -> Result<Firing, Memory>
     requires own { IsPassOf crew.now.shared pass.old }
     requires some { 0 < pass.old.left }
     requires room { IsRoom (unfolding_of crew.now.shared.opening.program) room }
     requires never { NeverRests crew.now.shared.opening (on_log pass.old) }
-    ensures began { Began crew.now.shared.opening (on_log pass.old) (on_log pass.new) result }
-    ensures may_end { CanEnd crew.now.shared.opening (on_log pass.new) result }
+    ensures began { IfOk result (Began crew.now.shared.opening (on_log pass.old) (on_log pass.new)) }
+    ensures may_end { IfOk result (CanEnd crew.now.shared.opening (on_log pass.new)) }
+    ensures idled { OnErr result (Idled crew.now.shared.opening (on_log pass.old) (on_log pass.new)) }
     ensures own { IsPassOf crew.now.shared pass.new }
     ensures after { IsAfterTurn pass.old pass.new }
 {
     match crew.shared.next(rt, pass, room) {
-        Ok(firing) => firing,
-        Err(_) => unreachable!(),
+        Ok(firing) => Ok(firing),
+        Err(Pause::Starved) => Err(Memory),
+        Err(Pause::Rests(_)) => unreachable!(),
     }
 }
 
@@ -203,7 +214,7 @@ fn edit_then_end<W: Wait, G: Gate>(
 {
     let Mix { firing, edit } = mix;
     put_in(rt, crew, pass, edit)?;
-    let Some(_room) = finish(rt, crew, pass, firing) else {
+    let Some(_copies) = finish(rt, crew, pass, firing) else {
         return Err(Memory);
     };
     Ok(())

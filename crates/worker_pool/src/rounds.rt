@@ -130,6 +130,7 @@ fn fire_together<R: Threads + Wait + Sync, G: Gate + Sync>(
     let (busy, _) = rooms.split_at_mut(plan.workers);
     fan(rt, &crew, &mut pass, busy, plan.share);
     let book = crew.close(pass);
+    // what its clause says: the book is one
     let _core = book.core();
     Ok(book)
 }

@@ -135,6 +135,7 @@ fn greatest_since(book: &Book, front: usize) -> usize
     requires ordered { IsOrdered (numbers book.now.core.net.devices) (drop front (entries_of book.now.log)) }
     ensures { IsGreatest (core_of book.now.core).net (drop front (entries_of book.now.log)) result }
 {
+    // what its clause says: the network has a device, and numbers rise
     let _count = device_count(book);
     begun_since(book, front, 0).max(1)
 }

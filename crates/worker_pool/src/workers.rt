@@ -3,21 +3,23 @@
 ghost use Rattle.std.specs.Prelude.{◌≡◌, ◌<◌, ◌≤◌, IfSome, IfNone};
 ghost use Rattle.fc_nodes.specs.Program.{unfolding_of};
 ghost use Rattle.firing_core.specs.Rooms.{IsRoom};
-ghost use Rattle.export_table.specs.Passing.{IsPassOf, on_log};
+ghost use Rattle.export_table.specs.Firings.{AreCopies};
+ghost use Rattle.export_table.specs.Passing.{IsPassOf, TableValue, on_log};
 ghost use Rattle.export_table.specs.Turns.{CanEnd};
 ghost use Rattle.worker_pool.specs.Working.{Worked, Tries, KeepsRoom, EndsFiring};
 
 use crate::crews::Crew;
 use device_eval::fire;
-use export_table::{Firing, Gate, Held, Rest};
+use export_table::{Firing, Gate, Held, Pause, Rest};
 use fc_nodes::Unfolded;
 use firing_core::Room;
 use std::alloc::Global;
 use std::sync::{Arc, Wait};
 use turn_lock::Pass;
+use value_trees::Snap;
 
-/// What comes of a worker's try to fire: the room of the firing, what comes back where nothing may begin, or nothing
-/// for want of memory.
+/// What comes of a worker's try to fire: a room after the firing, what comes back where nothing may begin, or nothing for
+/// want of memory.
 #[derive(Drop)]
 pub(crate) enum Try {
     Fired(Room),
@@ -36,19 +38,19 @@ fn room_of(alloc: Global, program: &Arc<Unfolded>, kept: Option<Room>) -> Option
     }
 }
 
-/// Evaluates what was begun, after the gate, and ends it. Without memory the copy is dropped, and its device stays in
-/// flight.
+/// Evaluates what was begun, after the gate, and ends it: the two copies of the firing come back. Without memory the
+/// copy is dropped, and its device stays in flight.
 pub(crate) fn finish<W: Wait, G: Gate>(
     rt: &W,
     crew: &Crew<'_, G>,
     pass: &mut Pass<Held>,
     firing: Firing,
-) -> Option<Room>
+) -> Option<(Snap, Snap)>
     requires own { IsPassOf crew.now.shared pass.old }
     requires some { 0 < pass.old.left }
     requires may_end { CanEnd crew.now.shared.opening (on_log pass.old) firing }
     ensures own { IsPassOf crew.now.shared pass.new }
-    ensures room { KeepsRoom crew.now.shared result }
+    ensures copies { IfSome result (AreCopies (unfolding_of crew.now.shared.opening.program)) }
     ensures ended { IfSome result
         (λ r. EndsFiring crew.now.shared.opening (on_log pass.old) (on_log pass.new) firing) }
     ensures same { IfNone result (pass.new ≡ pass.old) }
@@ -77,17 +79,29 @@ fn fire_next<W: Wait, G: Gate>(rt: &W, crew: &Crew<'_, G>, pass: &mut Pass<Held>
                 crew.bell.ring();
             }
             match finish(rt, crew, pass, firing) {
-                Some(back) => Try::Fired(back),
+                Some((first, second)) => tried(first, second),
                 None => Try::Starved,
             }
         }
-        Err(rest) => Try::Rested(rest),
+        Err(Pause::Rests(rest)) => Try::Rested(rest),
+        Err(Pause::Starved) => Try::Starved,
     }
 }
 
-// Fires until the turns of the pass end, each device has begun all its firings, memory is wanting, or the bell is
-// stopped. Where nothing may begin yet it waits for the bell.
-fn keep_firing<W: Wait, G: Gate>(
+// A firing, whose two copies make the room of the next one.
+fn tried(first: Snap, second: Snap) -> Try
+    ensures { (t : TableValue) → AreCopies (unfolding_of t.opening.program) (first, second) → Tries t result }
+{
+    match Room::again(first, second) {
+        Ok(room) => Try::Fired(room),
+        Err(_) => Try::Starved,
+    }
+}
+
+/// Fires in the room that was kept or in a new one until the turns of the pass end, each device has begun all its
+/// firings, memory is wanting, or the bell is stopped. Where nothing may begin yet it waits for the bell. The room is
+/// kept, if it is there at the end.
+pub(crate) fn work<W: Wait, G: Gate>(
     rt: &W,
     crew: &Crew<'_, G>,
     pass: &mut Pass<Held>,
@@ -113,22 +127,4 @@ fn keep_firing<W: Wait, G: Gate>(
         }
     }
     Some(room)
-}
-
-/// Fires in the room that was kept or in a new one, and stops the bell at its end, so that nobody waits for this
-/// worker. The room is kept, if it is there at the end.
-pub(crate) fn work<W: Wait, G: Gate>(
-    rt: &W,
-    crew: &Crew<'_, G>,
-    pass: &mut Pass<Held>,
-    kept: Option<Room>,
-) -> Option<Room>
-    requires own { IsPassOf crew.now.shared pass.old }
-    requires kept { KeepsRoom crew.now.shared kept }
-    ensures worked { Worked crew.now.shared pass.old pass.new }
-    ensures kept { KeepsRoom crew.now.shared result }
-{
-    let room = keep_firing(rt, crew, pass, kept);
-    crew.bell.stop();
-    room
 }

@@ -2,16 +2,16 @@
 
 use crate::cores::Core;
 use crate::entries::{EditFault, Entry, ReplayFault, StepFault};
-use device_eval::evaluate;
+use device_eval::publish;
 use std::alloc::Global;
 
 impl Core {
-    ghost use Rattle.std.specs.Prelude.{◌≡◌, OnOk, OnErr, IfErr, None, false};
+    ghost use Rattle.std.specs.Prelude.{◌≡◌, OnOk, OnErr, IfErr, None};
     ghost use Rattle.firing_core.specs.Entries.{EndEntry, entry_of};
     ghost use Rattle.firing_core.specs.Cores.{Step};
     ghost use Rattle.firing_core.specs.Replays.{fault_of, net_fault_of, EntryFits};
-    ghost use Rattle.firing_core.specs.CoreViews.{core_of, program_of, rooms_of, mark, IsSameCore};
-    ghost use Rattle.firing_core.specs.Books.{HasFault, RefusesAt, rooms_after};
+    ghost use Rattle.firing_core.specs.CoreViews.{core_of, program_of, IsSameCore};
+    ghost use Rattle.firing_core.specs.Books.{HasFault, RefusesAt};
 
     /// Applies the entry at an index of a log, an end by evaluating the copy in flight.
     pub(crate) fn apply(
@@ -23,7 +23,6 @@ impl Core {
         requires { EntryFits (program_of self.old) (entry_of entry.now) }
         ensures ok { OnOk result (Step (program_of self.old) (core_of self.old) (entry_of entry.now)
             (core_of self.new)) }
-        ensures rooms { OnOk result (rooms_of self.new ≡ rooms_after (entry_of entry.now) (rooms_of self.old)) }
         ensures refused { IfErr result (RefusesAt index (core_of self.old) (entry_of entry.now)) }
         ensures accepted { OnOk result (fault_of (core_of self.old) (entry_of entry.now) ≡ None) }
         ensures allowed { OnOk result (net_fault_of (core_of self.old) (entry_of entry.now) ≡ None) }
@@ -41,7 +40,6 @@ impl Core {
     /// Evaluates the copy with which a device flies where it lies, and publishes its export.
     pub fn finish(&mut self, alloc: Global, device: u32) -> Result<(), StepFault>
         ensures ok { OnOk result (Step (program_of self.old) (core_of self.old) (EndEntry device) (core_of self.new)) }
-        ensures rooms { OnOk result (rooms_of self.new ≡ mark (rooms_of self.old) device false) }
         ensures refused { IfErr result (HasFault (core_of self.old) (EndEntry device)) }
         ensures accepted { OnOk result (fault_of (core_of self.old) (EndEntry device) ≡ None) }
         ensures err { OnErr result (self.new ≡ self.old) }
@@ -53,12 +51,11 @@ impl Core {
         let Some(flight) = self.flying[place].as_ref() else {
             return Err(StepFault::NotFlying);
         };
-        let Ok(export) = evaluate(alloc, &self.program, flight) else {
+        let Ok(export) = publish(alloc, &self.program, flight) else {
             return Err(StepFault::Memory);
         };
         self.exports[place] = Some(export);
         self.flying[place] = None;
-        self.rooms[place] = None;
         Ok(())
     }
 }

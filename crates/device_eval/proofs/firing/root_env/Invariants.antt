@@ -4,4 +4,4 @@ use Rattle.device_eval.specs.References.{snap_near}
 use Rattle.device_eval.proofs.firing.root_env.Given as goal
 
 abbrev pub invariant-loop-n : goal.invariant-loop-n
-invariant-loop-n l = nears_of l.near.items ++ map snap_near (drop l.n-index l.all) ≡ map snap_near l.all
+invariant-loop-n l = nears_of l.near.items ++ map snap_near (drop l.n-index l.n-items) ≡ map snap_near l.snap.near.items

@@ -3,11 +3,11 @@ use Rattle.std.proofs.lemmas.Result.{err_from_is_err_and}
 use Rattle.fc_nodes.specs.Program.{Program, unfolding_of}
 use Rattle.firing_core.specs.Entries.{entry_of}
 use Rattle.firing_core.specs.Replays.{EntryFits}
-use Rattle.firing_core.proofs.Replaying.{fits_at, replayed_more, replay_fails, replay_stuck, replays, replayed_rooms, replayed_book, start_good}
+use Rattle.firing_core.proofs.Replaying.{fits_at, replayed_more, replay_fails, replay_stuck, replays, replayed_book, start_good}
 use Rattle.firing_core.proofs.books.replay.Goals as goal
 
 pub loop-index-init : goal.loop-index-init
-loop-index-init c = record { read = record { program = sym c.requires.program; runs = refl; rooms = refl } }
+loop-index-init c = record { read = record { program = sym c.requires.program; runs = refl } }
 
 pub apply-requires : goal.apply-requires
 apply-requires c =
@@ -28,17 +28,13 @@ returns-in_err-apply-clause-stuck c =
 
 pub loop-index-preserved : goal.loop-index-preserved
 loop-index-preserved c = record {
-  read = replayed_more c.index.result.now (omega (arith, c.args.log.ok.0)) c.index.ensures c.loop-index.invariant.read _ c.apply.new.self (omega arith) c.in_ok-apply.ensures.program c.in_ok-apply.ensures.ok
-      c.in_ok-apply.ensures.rooms;
+  read = replayed_more c.index.result.now (omega (arith, c.args.log.ok.0)) c.index.ensures c.loop-index.invariant.read _ c.apply.new.self (omega arith) c.in_ok-apply.ensures.program c.in_ok-apply.ensures.ok;
 }
 
 pub invariant_of-result : goal.invariant_of-result
 invariant_of-result c =
     replayed_book (omega (arith, c.args.log.ok.0)) c.loop-index.invariant.read c.in-Ok.program.value c.in-Ok-copy.start _ c.in-Ok.ensures.cases (c.in-Ok-copy.ensures.program ∙ sym c.requires.program) c.in-Ok-copy.ensures.kept
     c.in-Ok-copy.ensures.core
-
-pub returns-clause-rooms : goal.returns-clause-rooms
-returns-clause-rooms c = replayed_rooms (omega (arith, c.args.log.ok.0)) c.loop-index.invariant.read
 
 pub returns-clause-core : goal.returns-clause-core
 returns-clause-core c =

@@ -1,5 +1,5 @@
-use Rattle.std.proofs.Common.{◌≡◌, ◌∙◌, ℕ, [], length, sym, ap, refl, arith}
-use Rattle.std.specs.Prelude.{None, replicate}
+use Rattle.std.proofs.Common.{◌≡◌, ◌∙◌, ℕ, [], length, sym, ap, arith}
+use Rattle.std.specs.Prelude.{None, Some, replicate, slice_set}
 use Rattle.std.specs.Vec.Iter.{into_iter_items}
 use Rattle.fc_values.specs.declared.exports.Export.{Export}
 use Rattle.topology.specs.Networks.{device_of}
@@ -17,14 +17,15 @@ loop-device-init c =
       long = omega (arith, c.into_iter-device-iterator.ensures.into_iter_gives.1, ap length all, c.args.table.ok.0);
     }
 
-pub loop-device-preserved-in-Some-place : goal.loop-device-preserved-in-Some-place
-loop-device-preserved-in-Some-place c =
+pub loop-device-preserved-in_ok-new : goal.loop-device-preserved-in_ok-new
+loop-device-preserved-in_ok-new c =
     let steps = c.in-Some.ensures.steps.0 in
     let was = c.loop-device.invariant.long in
     let gone = c.in-Some.ensures.steps.1 in
     let short = ap length steps in
     record {
-      filled = filled_more (λ (e : ℕ × Export). e.0) (λ (e : ℕ × Export). e.1) c.args.net.now c.loop-device.slots.items _ _ _ _ (c.in-Some.device, c.in-Some.export) c.in-Some-place.place c.in-Some-place.ensures.network c.in-Some-place.ensures.within c.in-Some-place.ensures.there c.in-Some.ensures.steps.0 refl c.loop-device.invariant.filled;
+      filled = filled_more (λ (e : ℕ × Export). e.0) (λ (e : ℕ × Export). e.1) c.args.net.now c.loop-device.slots.items _ _ _ _ (c.in-Some.device, c.in-Some.export) c.in-Some-place.place c.in-Some-place.ensures.network c.in-Some-place.ensures.within c.in-Some-place.ensures.there c.in-Some.ensures.steps.0
+          (ap (λ (e : Export). slice_set c.loop-device.slots.items c.in-Some-place.place (Some e)) c.in_ok-new.ensures) c.loop-device.invariant.filled;
       long = omega arith;
     }
 
@@ -35,7 +36,8 @@ loop-device-preserved c =
     let gone = c.in-Some.ensures.steps.1 in
     let short = ap length steps in
     record {
-      filled = filled_more (λ (e : ℕ × Export). e.0) (λ (e : ℕ × Export). e.1) c.args.net.now c.loop-device.slots.items _ _ _ _ (c.in-Some.device, c.in-Some.export) c.in-Some-place.place c.in-Some-place.ensures.network c.in-Some-place.ensures.within c.in-Some-place.ensures.there c.in-Some.ensures.steps.0 refl c.loop-device.invariant.filled;
+      filled = filled_more (λ (e : ℕ × Export). e.0) (λ (e : ℕ × Export). e.1) c.args.net.now c.loop-device.slots.items _ _ _ _ (c.in-Some.device, c.in-Some.export) c.in-Some-place.place c.in-Some-place.ensures.network c.in-Some-place.ensures.within c.in-Some-place.ensures.there c.in-Some.ensures.steps.0
+          (ap (λ (e : Export). slice_set c.loop-device.slots.items c.in-Some-place.place (Some e)) c.in_ok-new.ensures) c.loop-device.invariant.filled;
       long = omega arith;
     }
 

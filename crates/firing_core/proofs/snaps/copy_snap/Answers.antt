@@ -2,8 +2,6 @@ use Rattle.std.proofs.Common.{◌∙◌, ap, refl, map}
 use Rattle.fc_values.specs.Values.{local_of}
 use Rattle.fc_values.specs.Exports.{export_of}
 use Rattle.fc_nodes.specs.Program.{unfolding_of}
-use Rattle.arrayvec.specs.ArrayVec.{ArrayVec}
-use Rattle.value_trees.specs.declared.copies.Near.{Near}
 use Rattle.firing_core.specs.CoreViews.{near_view}
 use Rattle.firing_core.proofs.Borrowed.{read_value}
 use Rattle.firing_core.proofs.SnapCopies.{same_copy, same_snap}
@@ -15,7 +13,7 @@ returns-clause-same c =
       device = refl;
       inputs = c.in_ok-inputs.ensures ∙ ap (map local_of) c.deref.ensures.value;
       own = c.in_ok-own.ensures ∙ read_value export_of c.as_ref.result c.args.snap.now.own c.as_ref.ensures.value;
-      near = c.in_ok-near.ensures ∙ ap (λ (v : ArrayVec Near). map near_view v.items) c.deref-2.ensures;
+      near = c.in_ok-near.ensures ∙ ap (map near_view) c.deref-2.ensures.value;
     })
 
 pub returns-clause-snap : goal.returns-clause-snap
@@ -24,5 +22,5 @@ returns-clause-snap c =
       device = refl;
       inputs = c.in_ok-inputs.ensures ∙ ap (map local_of) c.deref.ensures.value;
       own = c.in_ok-own.ensures ∙ read_value export_of c.as_ref.result c.args.snap.now.own c.as_ref.ensures.value;
-      near = c.in_ok-near.ensures ∙ ap (λ (v : ArrayVec Near). map near_view v.items) c.deref-2.ensures;
+      near = c.in_ok-near.ensures ∙ ap (map near_view) c.deref-2.ensures.value;
     }) c.requires

@@ -1,4 +1,4 @@
-use Rattle.std.proofs.Common.{ℕ, suc, List, [], ◌∷◌, sym, subst, map, arith}
+use Rattle.std.proofs.Common.{ℕ, suc, List, [], ◌∷◌, map, arith}
 use Rattle.std.specs.List.{All}
 use Rattle.fc_values.specs.Fields.{Rises}
 use Rattle.fc_nodes.specs.Program.{Unfolding, unfolding_of}
@@ -16,6 +16,4 @@ module _ (U : Unfolding) (device : ℕ) where
 
 pub returns-clause-near : goal.returns-clause-near
 returns-clause-near c =
-    let U = unfolding_of c.args.program.now in
-    subst (NearRises U c.args.device) (sym c.in_ok-in_room.ensures)
-    (near_rises U c.args.device c.in_ok-list.list.items c.in_ok-list.ensures.fit c.in_ok-list.ensures.rising)
+    near_rises (unfolding_of c.args.program.now) c.args.device c.in_ok-nears.nears.items c.in_ok-nears.ensures.fit c.in_ok-nears.ensures.rising

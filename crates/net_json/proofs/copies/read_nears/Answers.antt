@@ -18,7 +18,7 @@ returns-then-items-gt-MOST_LINKS-clause-refused c =
 
 pub returns-clause-ok : goal.returns-clause-ok
 returns-clause-ok c =
-    subst (λ j. IfOk c.gather_nears.result (λ ns. j ≡ Accepted (map (near_copy (unfolding_of c.args.program.now)) ns.value.items)))
+    subst (λ j. IfOk c.gather_nears.result (λ ns. j ≡ Accepted (map (near_copy (unfolding_of c.args.program.now)) ns.items)))
     (sym (at_most (Misshaped (path_of c.args.here.now)) (gather near_number (near_judged (unfolding_of c.args.program.now) c.args.device) (path_of c.args.here.now) (items_view c.args.items.now))
     (count_items (items_view c.args.items.now)) (length c.args.items.now) 32 (count_values c.args.items.now) c.if-items-gt-MOST_LINKS.false))
     c.gather_nears.ensures.ok

@@ -1,14 +1,17 @@
-use Rattle.std.proofs.Common.{◌≤◌, [], ◌∷◌, arith, length, length-append, ap}
+use Rattle.std.proofs.Common.{◌≤◌, [], ◌∷◌, arith, length, length-append, ap, subst, sym}
 use Rattle.std.proofs.lemmas.List.{length-map}
 use Rattle.topology.specs.Networks.{device_of}
 use Rattle.fc_nodes.specs.Program.{unfolding_of}
+use Rattle.value_trees.specs.Copies.{WhereSome}
+use Rattle.value_trees.specs.Snaps.{IsExportOf}
 use Rattle.stable_field.proofs.Firings.{exports_more}
 use Rattle.stable_field.proofs.guesses.guessed.Goals as goal
 
 pub loop-place-preserved : goal.loop-place-preserved
 loop-place-preserved c = record {
-  many = let h = c.loop-place.invariant.many in omega (arith, h, ap length c.in_ok-push.ensures.items, length-append c.loop-place.table.items (c.typed_at-slot.result ∷ []));
-  exports = rw c.in_ok-push.ensures.items (exports_more (unfolding_of c.args.program.now) c.loop-place.table.items c.typed_at-slot.result c.loop-place.invariant.exports c.typed_at-slot.ensures);
+  many = let h = c.loop-place.invariant.many in omega (arith, h, ap length c.in_ok-push.ensures.items, length-append c.loop-place.table.items (c.in_ok-slot.slot ∷ []));
+  exports = rw c.in_ok-push.ensures.items (exports_more (unfolding_of c.args.program.now) c.loop-place.table.items c.in_ok-slot.slot c.loop-place.invariant.exports
+      (subst (WhereSome (IsExportOf (unfolding_of c.args.program.now))) (sym c.in_ok-slot.ensures) c.typed_at-typed.ensures));
 }
 
 pub returns : goal.returns

@@ -4,7 +4,7 @@ use Rattle.export_table.specs.Items.{ItemValue}
 use Rattle.export_table.specs.Passing.{on_log}
 use Rattle.worker_pool.specs.Working.{Worked}
 use Rattle.worker_pool.proofs.Passes.{fired_more}
-use Rattle.worker_pool.proofs.Turns.{fired_began, fired_rested, fired_ends}
+use Rattle.worker_pool.proofs.Turns.{fired_began, fired_paused, fired_ends}
 use Rattle.worker_pool.proofs.workers.fire_next.Goals as goal
 
 pub returns-in-Some-clause-worked : goal.returns-in-Some-clause-worked
@@ -26,8 +26,14 @@ returns-in-None-clause-worked g c =
       fired = fired_began c.args.crew.now.shared.opening (on_log c.args.pass.now) (on_log c.next.new.pass) c.in-Ok.firing c.in-Ok.ensures.began;
     })
 
-pub returns-in-Err-clause-worked : goal.returns-in-Err-clause-worked
-returns-in-Err-clause-worked g c = record {
+pub returns-in-Err-Rests-clause-worked : goal.returns-in-Err-Rests-clause-worked
+returns-in-Err-Rests-clause-worked g c = record {
   own = c.next.ensures.own;
-  fired = fired_rested c.args.crew.now.shared.opening (on_log c.args.pass.now) (on_log c.next.new.pass) c.in-Err.rest.is_over c.in-Err.ensures.rested;
+  fired = fired_paused c.args.crew.now.shared.opening (on_log c.args.pass.now) (on_log c.next.new.pass) c.in-Err-Rests.field-0 c.in-Err-Rests.ensures.paused;
+}
+
+pub returns-in-Err-Starved-clause-worked : goal.returns-in-Err-Starved-clause-worked
+returns-in-Err-Starved-clause-worked g c = record {
+  own = c.next.ensures.own;
+  fired = fired_paused c.args.crew.now.shared.opening (on_log c.args.pass.now) (on_log c.next.new.pass) c.in-Err-Starved.field-0 c.in-Err-Starved.ensures.paused;
 }

@@ -1,9 +1,9 @@
 use Rattle.std.proofs.Common.{subst, sym}
 use Rattle.fc_nodes.specs.Program.{unfolding_of}
-use Rattle.firing_core.specs.Rooms.{IsRoom}
 use Rattle.firing_core.specs.declared.entries.Entry.TheVariants as entry
 use Rattle.export_table.specs.Items.{Opening}
 use Rattle.export_table.specs.Holding.{HeldValue, list_of}
+use Rattle.export_table.specs.Firings.{AreCopies}
 use Rattle.export_table.specs.Turns.{MayEnd, Ends}
 use Rattle.export_table.proofs.Turning.{same_opening, still_pass, after_turn}
 use Rattle.export_table.proofs.OwnFirings.{may_end, adds_end, ended}
@@ -23,10 +23,10 @@ returns-clause-ended g c = let t = c.turn.ensures.turned in
     ended c.args.self.now c.args.pass.now c.args.place c.args.fired c.requires.own c.requires.firing t.before t.agrees c.runs_cut.ensures.cut t.after c.turn.new.pass t.entry t.left t.view
     (subst (λ (z : HeldValue × HeldValue). Ends z.0 z.1 c.args.fired) (λ i. (t.call.shows i, t.call.leaves i)) t.call.met.0)
 
-pub returns-clause-room : goal.returns-clause-room
-returns-clause-room g c = let t = c.turn.ensures.turned in
-    subst (λ (o : Opening). IsRoom (unfolding_of o.program) c.turn.result) (same_opening c.args.self.now c.args.pass.now t.before c.requires.own t.agrees)
-    (subst (λ (z : HeldValue). IsRoom (unfolding_of z.book.program) c.turn.result) t.call.shows t.call.met.1)
+pub returns-clause-copies : goal.returns-clause-copies
+returns-clause-copies g c = let t = c.turn.ensures.turned in
+    subst (λ (o : Opening). AreCopies (unfolding_of o.program) c.turn.result) (same_opening c.args.self.now c.args.pass.now t.before c.requires.own t.agrees)
+    (subst (λ (z : HeldValue). AreCopies (unfolding_of z.book.program) c.turn.result) t.call.shows t.call.met.1)
 
 pub returns-clause-own : goal.returns-clause-own
 returns-clause-own g c = let t = c.turn.ensures.turned in

@@ -40,13 +40,13 @@ returns-clause-flying c =
 
 pub invariant_of-self : goal.invariant_of-self
 invariant_of-self c =
-    begun_kept _ c.self.invariant c.in-Some.place c.args.device c.in-Some.ensures.within c.in-Some.ensures.there _ c.in-Ok.snap c.index.ensures (sym c.if-is_some.ensures)
+    begun_kept _ c.self.invariant c.in-Some.place c.args.device c.in-Some.ensures.within c.in-Some.ensures.there c.in-Ok.snap
     (ap (λ (x : Copy). x.device) c.in-Ok.ensures.copy)
     (subst (λ (v : CoreValue). IsSnap (program_of v) c.in-Ok.snap) (sym c.self.view_is) c.in-Ok.ensures.snap)
 
 pub returns-clause-ok : goal.returns-clause-ok
 returns-clause-ok c =
-    let new : CoreValue = record { program = c.self.inside.program.value; net = c.self.inside.net; exports = c.self.inside.exports.items; flying = slice_set c.self.inside.flying.items c.in-Some.place (Some c.in-Ok.snap); rooms = c.self.inside.rooms.items } in
+    let new : CoreValue = record { program = c.self.inside.program.value; net = c.self.inside.net; exports = c.self.inside.exports.items; flying = slice_set c.self.inside.flying.items c.in-Some.place (Some c.in-Ok.snap) } in
     subst (λ (v : CoreValue). Lives v.net c.args.device × ((core_of v).flying c.args.device ≡ None) × (core_of new ≡ begun (core_of v).exports (core_of v) c.args.device)) c.self.view_is (
       c.in-Some.ensures.lives,
       not_flying _ c.self.invariant c.in-Some.place c.args.device c.in-Some.ensures.within c.in-Some.ensures.there _ c.index.ensures (sym c.if-is_some.ensures),

@@ -1,24 +1,20 @@
-use Rattle.std.proofs.Common.{◌≡◌, ◌<◌, ◌∙◌, sym, ap, subst, refl, map, length, get_or, arith}
-use Rattle.std.specs.Prelude.{IfSome}
+use Rattle.std.proofs.Common.{◌≡◌, ◌<◌, ◌≤◌, ◌∙◌, vec_capacity, sym, ap, subst, refl, map, length, get_or, arith}
 use Rattle.std.specs.Vec.{with_items}
 use Rattle.std.proofs.lemmas.List.{with_items_is}
 use Rattle.fc_values.specs.Values.{local_of}
 use Rattle.fc_values.specs.Exports.{export_of}
-use Rattle.fc_nodes.specs.Program.{Unfolding, unfolding_of}
 use Rattle.value_trees.specs.declared.copies.Snap.{Snap}
-use Rattle.value_trees.specs.Snaps.{snap_copy, near_copy, NearAreExports, IsExportOf, IsSnap}
+use Rattle.value_trees.specs.Snaps.{snap_copy, near_copy, NearAreExports, IsSnap}
 use Rattle.topology.specs.declared.types.Device.{Device}
 use Rattle.topology.specs.Networks.{numbers, inputs_in, near}
 use Rattle.firing_core.specs.Cores.{copy_of, near_copies}
-use Rattle.firing_core.specs.Rooms.{IsSpare, IsBlank, types_of}
+use Rattle.firing_core.specs.Rooms.{IsBlank, types_of}
 use Rattle.firing_core.specs.CoreViews.{CoreValue, core_of, program_of}
 use Rattle.firing_core.specs.contracts.cores.Core.{the_view}
-use Rattle.firing_core.proofs.Borrowed.{read_value, where_read}
-use Rattle.firing_core.proofs.CoreSteps.{export_within, export_kept}
+use Rattle.firing_core.proofs.Borrowed.{read_value}
 use Rattle.firing_core.proofs.Taken.{Parts, device_inputs, there_forms, taken_copy, taken_snap}
-use Rattle.std.specs.Box.{with_value}
 use Rattle.firing_core.proofs.cores.Core.fill.Goals as goal
-use Rattle.firing_core.proofs.cores.Core.fill.Goals.{After-deref, Joined-blank}
+use Rattle.firing_core.proofs.cores.Core.fill.Goals.{After-deref, Joined-blank-3}
 
 within : (c : After-deref) → c.args.place < length (the_view c.self.inside).net.devices
 within c = subst (λ (w : CoreValue). c.args.place < length w.net.devices) (sym c.self.view_is) c.requires.within
@@ -38,20 +34,15 @@ overwrite_locals-requires c =
     ∙ (subst (λ (v : CoreValue). IsBlank (program_of v) c.args.blank) (sym c.self.view_is) c.requires.blank).inputs
     ∙ sym (there_forms (the_view c.self.inside) c.self.invariant c.args.place c.args.device (within c) (place c) c.deref.result.now (source c))
 
-pub take_own-own-requires-clause-spare : goal.take_own-own-requires-clause-spare
-take_own-own-requires-clause-spare c = subst (λ (U : Unfolding). IsSpare U c.args.spare.now) (sym (ap unfolding_of c.deref-2.ensures ∙ ap program_of c.self.view_is)) c.requires.spare
+pub hear-requires-clause-enough : goal.hear-requires-clause-enough
+hear-requires-clause-enough c =
+    let few = c.self.invariant.net.degree c.args.device in
+    let wide = (subst (λ (v : CoreValue). IsBlank (program_of v) c.args.blank) (sym c.self.view_is) c.requires.blank).wide in
+    subst (λ (w : CoreValue). length (near w.net c.args.device) ≤ vec_capacity c.args.blank.near) c.self.view_is (omega (arith, few, wide))
 
-pub take_own-own-requires-clause-own : goal.take_own-own-requires-clause-own
-take_own-own-requires-clause-own c =
-    let h = subst (λ (w : CoreValue). c.args.place < length w.net.devices) (sym c.self.view_is) c.requires.within in
-    let q = subst (λ (w : CoreValue). get_or (numbers w.net.devices) c.args.place 0 ≡ c.args.device) (sym c.self.view_is) c.requires.device in
-    let w = export_within (the_view c.self.inside) c.self.invariant c.args.place c.args.device h q in
-    subst (λ (U : Unfolding). IfSome c.as_ref.result (λ e. IsExportOf U e.now)) (sym (ap unfolding_of c.deref-2.ensures))
-    (where_read (IsExportOf (program_of (the_view c.self.inside))) c.as_ref.result c.index.result.now c.as_ref.ensures.value (export_kept _ c.self.inside.exports.items c.args.place c.index.result.now c.self.invariant.exports w c.index.ensures))
-
-module _ (c : Joined-blank) where
+module _ (c : Joined-blank-3) where
   abbrev s : Snap
-  s = record { device = c.args.device; inputs = with_items c.args.blank.inputs c.overwrite_locals.new.target; own = c.take_own-own.result; near = with_value c.args.blank.near c.fill_near.new.near }
+  s = record { device = c.args.device; inputs = with_items c.args.blank.inputs c.overwrite_locals.new.target; own = c.in_ok-own.own; near = c.hear.new.near }
 
   here : c.args.place < length (the_view c.self.inside).net.devices
   here = subst (λ (w : CoreValue). c.args.place < length w.net.devices) (sym c.self.view_is) c.requires.within
@@ -67,9 +58,9 @@ module _ (c : Joined-blank) where
         ∙ ap (map local_of) c.deref.ensures.value
         ∙ ap (λ (x : Device). map local_of x.inputs.items) (sym c.index-devices-place.is)
         ∙ device_inputs (the_view c.self.inside) c.self.invariant c.args.place c.args.device c.devices.result.now c.index-devices-place.result c.devices.ensures.value here number c.index-devices-place.is;
-    own = c.take_own-own.ensures.same ∙ read_value export_of c.as_ref.result c.index.result.now c.as_ref.ensures.value;
-    near = subst (λ (w : CoreValue). map (near_copy (program_of w)) c.fill_near.new.near.items ≡ near_copies (core_of w).exports (near w.net c.args.device)) (sym c.self.view_is) c.fill_near.ensures.near;
-    exports = subst (λ (w : CoreValue). NearAreExports (program_of w) c.fill_near.new.near.items) (sym c.self.view_is) c.fill_near.ensures.exports;
+    own = c.in_ok-own.ensures ∙ read_value export_of c.as_ref.result c.index.result.now c.as_ref.ensures.value;
+    near = subst (λ (w : CoreValue). map (near_copy (program_of w)) c.hear.new.near.items ≡ near_copies (core_of w).exports (near w.net c.args.device)) (sym c.self.view_is) c.in_ok-hear.ensures.near;
+    exports = subst (λ (w : CoreValue). NearAreExports (program_of w) c.hear.new.near.items) (sym c.self.view_is) c.in_ok-hear.ensures.exports;
   }
 
 pub returns-clause-copy : goal.returns-clause-copy

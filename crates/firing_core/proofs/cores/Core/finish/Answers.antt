@@ -1,14 +1,14 @@
-use Rattle.std.proofs.Common.{◌≡◌, sym, subst, ap, Some, None, is_some, false, arith}
+use Rattle.std.proofs.Common.{◌≡◌, sym, subst, ap, Some, None, is_some, arith}
 use Rattle.fc_nodes.specs.Program.{Unfolding, unfolding_of}
 use Rattle.value_trees.specs.Snaps.{IsSnap, IsExportOf}
 use Rattle.firing_core.specs.Cores.{Ends}
 use Rattle.firing_core.specs.Replays.{fault_of}
-use Rattle.firing_core.specs.CoreViews.{CoreValue, core_of, program_of, rooms_of, mark}
+use Rattle.firing_core.specs.CoreViews.{CoreValue, core_of, program_of}
 use Rattle.firing_core.specs.contracts.cores.Core.{the_view}
 use Rattle.firing_core.specs.Entries.{EndEntry}
 use Rattle.firing_core.specs.declared.entries.StepFault.TheVariants as fault
 use Rattle.firing_core.proofs.Borrowed.{none_read, some_read}
-use Rattle.firing_core.proofs.CoreSteps.{flight_within, room_within, end_resting, flies, flight_ends, flight_fits, ended_kept, ended_set, with_export}
+use Rattle.firing_core.proofs.CoreSteps.{flight_within, end_resting, flies, flight_ends, flight_fits, ended_kept, with_export}
 use Rattle.firing_core.proofs.cores.Core.finish.Goals as goal
 
 pub index-requires : goal.index-requires
@@ -17,11 +17,8 @@ index-requires c = let w = flight_within _ c.self.invariant c.in-Some.place c.ar
 pub index_mut-requires-2 : goal.index_mut-requires-2
 index_mut-requires-2 c = let w = flight_within _ c.self.invariant c.in-Some.place c.args.device c.in-Some.ensures.within c.in-Some.ensures.there in omega (arith, w, c.self.inside.flying.ok.0)
 
-pub index_mut-requires-3 : goal.index_mut-requires-3
-index_mut-requires-3 c = let w = room_within _ c.self.invariant c.in-Some.place c.args.device c.in-Some.ensures.within c.in-Some.ensures.there in omega (arith, w, c.self.inside.rooms.ok.0)
-
-pub evaluate-requires : goal.evaluate-requires
-evaluate-requires c =
+pub publish-requires : goal.publish-requires
+publish-requires c =
     subst (λ (U : Unfolding). IsSnap U c.in-Some-as_ref.flight.now) (sym (ap unfolding_of c.deref.ensures))
     (flight_fits _ c.self.invariant c.in-Some.place c.args.device c.in-Some.ensures.within c.in-Some.ensures.there c.index.result.now c.in-Some-as_ref.flight.now c.index.ensures
     (some_read c.as_ref.result c.in-Some-as_ref.flight c.index.result.now c.as_ref.ensures.value c.in-Some-as_ref.is))
@@ -49,8 +46,3 @@ returns-clause-ok c =
     subst (λ (v : CoreValue). Ends (program_of v) (core_of v) c.args.device (core_of new)) c.self.view_is
     (flight_ends (the_view c.self.inside) c.self.invariant c.in-Some.place c.args.device c.in-Some.ensures.within c.in-Some.ensures.there c.index.result.now c.in-Some-as_ref.flight.now c.in-Ok.export c.deref.result.now c.index.ensures
     (some_read c.as_ref.result c.in-Some-as_ref.flight c.index.result.now c.as_ref.ensures.value c.in-Some-as_ref.is) c.in-Some.ensures.lives c.deref.ensures c.in-Ok.ensures)
-
-pub returns-clause-rooms : goal.returns-clause-rooms
-returns-clause-rooms c =
-    subst (λ (v : CoreValue). rooms_of (with_export (the_view c.self.inside) c.self.invariant c.in-Some.place c.args.device c.in-Some.ensures.within c.in-Some.ensures.there c.in-Ok.export) ≡ mark (rooms_of v) c.args.device false) c.self.view_is
-    (ended_set (the_view c.self.inside) c.self.invariant c.in-Some.place c.args.device c.in-Some.ensures.within c.in-Some.ensures.there c.in-Ok.export)

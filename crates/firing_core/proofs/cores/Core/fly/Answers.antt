@@ -22,12 +22,12 @@ returns-then-is_some-clause-refused c =
 
 pub invariant_of-self : goal.invariant_of-self
 invariant_of-self c =
-    begun_kept _ c.self.invariant c.in-Some.place c.args.snap.device c.in-Some.ensures.within c.in-Some.ensures.there _ c.args.snap c.index.ensures (sym c.if-is_some.ensures) refl
+    begun_kept _ c.self.invariant c.in-Some.place c.args.snap.device c.in-Some.ensures.within c.in-Some.ensures.there c.args.snap refl
     (subst (λ (v : CoreValue). IsSnap (program_of v) c.args.snap) (sym c.self.view_is) c.requires)
 
 pub returns-clause-ok : goal.returns-clause-ok
 returns-clause-ok c =
-    let new : CoreValue = record { program = c.self.inside.program.value; net = c.self.inside.net; exports = c.self.inside.exports.items; flying = slice_set c.self.inside.flying.items c.in-Some.place (Some c.args.snap); rooms = c.self.inside.rooms.items } in
+    let new : CoreValue = record { program = c.self.inside.program.value; net = c.self.inside.net; exports = c.self.inside.exports.items; flying = slice_set c.self.inside.flying.items c.in-Some.place (Some c.args.snap) } in
     subst (λ (v : CoreValue). TakesOff (program_of v) (core_of v) c.args.snap (core_of new)) c.self.view_is (record {
       there = c.in-Some.ensures.lives;
       rests = not_flying _ c.self.invariant c.in-Some.place c.args.snap.device c.in-Some.ensures.within c.in-Some.ensures.there _ c.index.ensures (sym c.if-is_some.ensures);

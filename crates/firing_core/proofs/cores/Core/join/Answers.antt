@@ -5,13 +5,12 @@ use Rattle.topology.specs.Changes.{joined, join_fault}
 use Rattle.topology.proofs.Lemmas.{can_join, joined_network}
 use Rattle.firing_core.specs.Entries.{JoinEdit}
 use Rattle.firing_core.specs.Cores.{Edits}
-use Rattle.firing_core.specs.CoreViews.{CoreValue, IsCore, core_of, program_of, rooms_of}
+use Rattle.firing_core.specs.CoreViews.{CoreValue, IsCore, core_of, program_of}
 use Rattle.firing_core.specs.contracts.cores.Core.{the_view}
 use Rattle.firing_core.proofs.Views.{many_flights, many_numbers}
-use Rattle.firing_core.proofs.RoomSlots.{many_rooms}
-use Rattle.firing_core.proofs.CoreEdits.{joined_core, joined_kept, joined_set, rebuilt_core, with_joined}
+use Rattle.firing_core.proofs.CoreEdits.{joined_core, joined_kept, rebuilt_core, with_joined}
 use Rattle.firing_core.proofs.cores.Core.join.Goals as goal
-use Rattle.firing_core.proofs.cores.Core.join.Goals.{After-open_slot-in-Ok-join-2}
+use Rattle.firing_core.proofs.cores.Core.join.Goals.{After-open_slot-in-Ok-join}
 
 pub open_slot-requires-in-Ok-join-clause-place : goal.open_slot-requires-in-Ok-join-clause-place
 open_slot-requires-in-Ok-join-clause-place c =
@@ -19,25 +18,17 @@ open_slot-requires-in-Ok-join-clause-place c =
     let m = many_flights (program_of (the_view c.self.inside)) (numbers v.net.devices) v.flying c.self.invariant.flying in
     omega (arith, m, many_numbers v.net.devices, c.room-place.ensures.within, c.reserve-else-is_err.ensures.len, c.self.inside.flying.ok.0)
 
-pub open_slot-requires-in-Ok-join-2-clause-place : goal.open_slot-requires-in-Ok-join-2-clause-place
-open_slot-requires-in-Ok-join-2-clause-place c =
-    let v = the_view c.self.inside in
-    let m = many_flights (program_of (the_view c.self.inside)) (numbers v.net.devices) v.flying c.self.invariant.flying in
-    let n = many_rooms (program_of (the_view c.self.inside)) v.flying v.rooms c.self.invariant.rooms in
-    omega (arith, m, n, many_numbers v.net.devices, c.room-place.ensures.within, c.reserve-else-is_err-2.ensures.len, c.self.inside.rooms.ok.0)
-
-module _ (c : After-open_slot-in-Ok-join-2) where
+module _ (c : After-open_slot-in-Ok-join) where
   none : join_fault (the_view c.self.inside).net (device_of c.args.device.now) ≡ None
   none = subst (λ y. join_fault (the_view c.self.inside).net y ≡ None) c.in-Ok.ensures c.in-Ok-join.ensures.accepted
 
-  rebuilt : the_view (record { program = c.self.inside.program; net = c.join.new.self; exports = c.open_slot.new.slots; flying = c.open_slot-in-Ok-join.new.slots; rooms = c.open_slot-in-Ok-join-2.new.slots })
+  rebuilt : the_view (record { program = c.self.inside.program; net = c.join.new.self; exports = c.open_slot.new.slots; flying = c.open_slot-in-Ok-join.new.slots })
       ≡ with_joined (the_view c.self.inside) (device_of c.args.device.now) c.room-place.result
   rebuilt =
-      rebuilt_core (the_view c.self.inside).program _ _ _ _ _ _ _ _
+      rebuilt_core (the_view c.self.inside).program _ _ _ _ _ _
       (c.in-Ok-join.ensures.ok ∙ ap (joined (the_view c.self.inside).net) c.in-Ok.ensures)
       (c.open_slot.ensures ∙ ap (λ xs. insert xs c.room-place.result None) c.reserve.ensures.items)
       (c.open_slot-in-Ok-join.ensures ∙ ap (λ xs. insert xs c.room-place.result None) c.reserve-else-is_err.ensures.items)
-      (c.open_slot-in-Ok-join-2.ensures ∙ ap (λ xs. insert xs c.room-place.result None) c.reserve-else-is_err-2.ensures.items)
 
 pub invariant_of-self-in-Ok-join : goal.invariant_of-self-in-Ok-join
 invariant_of-self-in-Ok-join c =
@@ -57,11 +48,3 @@ returns-in-Ok-join-clause-ok c =
       allowed = none c;
       after = joined_core (the_view c.self.inside) c.self.invariant (device_of c.args.device.now) c.room-place.result c.room-place.ensures.value (can_join v.net x (none c)).new;
     }))
-
-pub returns-in-Ok-join-clause-rooms : goal.returns-in-Ok-join-clause-rooms
-returns-in-Ok-join-clause-rooms c =
-    let v = the_view c.self.inside in
-    let x = device_of c.args.device.now in
-    ap rooms_of (rebuilt c)
-    ∙ joined_set (the_view c.self.inside) c.self.invariant (device_of c.args.device.now) c.room-place.result c.room-place.ensures.value (can_join v.net x (none c)).new
-    ∙ ap rooms_of c.self.view_is

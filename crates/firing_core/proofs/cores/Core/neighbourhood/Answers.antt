@@ -14,13 +14,13 @@ use Rattle.firing_core.proofs.Borrowed.{read_value}
 use Rattle.firing_core.proofs.Taken.{Parts, inputs_at, taken_copy, taken_snap}
 use Rattle.firing_core.proofs.cores.Core.neighbourhood.Goals as goal
 
-module _ (c : goal.In_ok-near) where
+module _ (c : goal.In_ok-hear) where
   -- the core, the device's place in it, and the copy
   v : CoreValue
   v = the_view c.self.inside
 
   s : Snap
-  s = record { device = c.args.device; inputs = c.in_ok-inputs.inputs; own = c.in_ok-own.own; near = c.in_ok-near.near }
+  s = record { device = c.args.device; inputs = c.in_ok-inputs.inputs; own = c.in_ok-own.own; near = c.hear.new.near }
 
   within : c.args.place < length (the_view c.self.inside).net.devices
   within = subst (λ (w : CoreValue). c.args.place < length w.net.devices) (sym c.self.view_is) c.requires.within
@@ -46,16 +46,16 @@ module _ (c : goal.In_ok-near) where
     device = refl;
     inputs = inputs;
     own = c.in_ok-own.ensures ∙ read_value export_of c.as_ref.result c.index.result.now c.as_ref.ensures.value;
-    near = subst (λ (w : CoreValue). map (near_copy (program_of w)) c.in_ok-near.near.value.items ≡ near_copies (core_of w).exports (near w.net c.args.device)) (sym c.self.view_is) c.in_ok-near.ensures.near;
-    exports = subst (λ (w : CoreValue). NearAreExports (program_of w) c.in_ok-near.near.value.items) (sym c.self.view_is) c.in_ok-near.ensures.exports;
+    near = subst (λ (w : CoreValue). map (near_copy (program_of w)) c.hear.new.near.items ≡ near_copies (core_of w).exports (near w.net c.args.device)) (sym c.self.view_is) c.in_ok-hear.ensures.near;
+    exports = subst (λ (w : CoreValue). NearAreExports (program_of w) c.hear.new.near.items) (sym c.self.view_is) c.in_ok-hear.ensures.exports;
   }
 
-  copy_is : snap_copy (program_of c.args.self.now) (record { device = c.args.device; inputs = c.in_ok-inputs.inputs; own = c.in_ok-own.own; near = c.in_ok-near.near }) ≡ copy_of c.args.self.now.net (core_of c.args.self.now).exports c.args.device
+  copy_is : snap_copy (program_of c.args.self.now) (record { device = c.args.device; inputs = c.in_ok-inputs.inputs; own = c.in_ok-own.own; near = c.hear.new.near }) ≡ copy_of c.args.self.now.net (core_of c.args.self.now).exports c.args.device
   unfolding s
   copy_is = subst (λ (w : CoreValue). snap_copy (program_of w) s ≡ copy_of w.net (core_of w).exports c.args.device) c.self.view_is
       (taken_copy (the_view c.self.inside) c.self.invariant c.args.place c.args.device within place s c.index.result.now parts c.index.ensures)
 
-  snap_is : IsSnap (program_of c.args.self.now) (record { device = c.args.device; inputs = c.in_ok-inputs.inputs; own = c.in_ok-own.own; near = c.in_ok-near.near })
+  snap_is : IsSnap (program_of c.args.self.now) (record { device = c.args.device; inputs = c.in_ok-inputs.inputs; own = c.in_ok-own.own; near = c.hear.new.near })
   unfolding s
   snap_is = subst (λ (w : CoreValue). IsSnap (program_of w) s) c.self.view_is
       (taken_snap (the_view c.self.inside) c.self.invariant c.args.place c.args.device within place s c.index.result.now parts c.index.ensures)

@@ -1,9 +1,9 @@
-use Rattle.std.proofs.Common.{◌≡◌, ◌∙◌, sym, subst, ap}
+use Rattle.std.proofs.Common.{◌∙◌, sym, subst, ap}
 use Rattle.fc_values.specs.Values.{local_of}
 use Rattle.topology.specs.Changes.{set_fault, with_input}
 use Rattle.firing_core.specs.Entries.{SetEdit}
 use Rattle.firing_core.specs.Cores.{Edits}
-use Rattle.firing_core.specs.CoreViews.{CoreValue, core_of, program_of, rooms_of}
+use Rattle.firing_core.specs.CoreViews.{CoreValue, core_of, program_of}
 use Rattle.firing_core.specs.contracts.cores.Core.{the_view}
 use Rattle.firing_core.proofs.CoreEdits.{with_net, set_edit, pair_never}
 use Rattle.firing_core.proofs.cores.Core.set.Goals as goal
@@ -24,10 +24,3 @@ returns-clause-ok c =
     (set_edit (the_view c.self.inside) c.set_input.new.self c.args.device c.args.input (local_of c.args.value.now) c.self.invariant
     (c.in_default-set_input.ensures.ok ∙ ap (λ x. with_input (the_view c.self.inside).net c.args.device c.args.input x) c.in-Some-copy_plain.ensures.same)
     (sym (ap (λ x. set_fault (the_view c.self.inside).net c.args.device c.args.input x) c.in-Some-copy_plain.ensures.same) ∙ c.in_default-set_input.ensures.accepted)).edits
-
-pub returns-clause-rooms : goal.returns-clause-rooms
-returns-clause-rooms c =
-    subst (λ (v : CoreValue). rooms_of (with_net (the_view c.self.inside) c.set_input.new.self) ≡ rooms_of v) c.self.view_is
-    (set_edit (the_view c.self.inside) c.set_input.new.self c.args.device c.args.input (local_of c.args.value.now) c.self.invariant
-    (c.in_default-set_input.ensures.ok ∙ ap (λ x. with_input (the_view c.self.inside).net c.args.device c.args.input x) c.in-Some-copy_plain.ensures.same)
-    (sym (ap (λ x. set_fault (the_view c.self.inside).net c.args.device c.args.input x) c.in-Some-copy_plain.ensures.same) ∙ c.in_default-set_input.ensures.accepted)).set

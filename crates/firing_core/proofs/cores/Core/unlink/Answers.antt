@@ -1,7 +1,7 @@
-use Rattle.std.proofs.Common.{◌≡◌, subst}
+use Rattle.std.proofs.Common.{subst}
 use Rattle.firing_core.specs.Entries.{UnlinkEdit}
 use Rattle.firing_core.specs.Cores.{Edits}
-use Rattle.firing_core.specs.CoreViews.{CoreValue, core_of, program_of, rooms_of}
+use Rattle.firing_core.specs.CoreViews.{CoreValue, core_of, program_of}
 use Rattle.firing_core.specs.contracts.cores.Core.{the_view}
 use Rattle.firing_core.proofs.CoreEdits.{with_net, unlinked_edit}
 use Rattle.firing_core.proofs.cores.Core.unlink.Goals as goal
@@ -13,8 +13,3 @@ pub returns-clause-ok : goal.returns-clause-ok
 returns-clause-ok c =
     subst (λ (v : CoreValue). Edits (program_of v) (core_of v) (UnlinkEdit c.args.a c.args.b) (core_of (with_net (the_view c.self.inside) c.unlink.new.self))) c.self.view_is
     (unlinked_edit (the_view c.self.inside) c.unlink.new.self c.args.a c.args.b c.self.invariant c.in_default.ensures.ok c.in_default.ensures.accepted).edits
-
-pub returns-clause-rooms : goal.returns-clause-rooms
-returns-clause-rooms c =
-    subst (λ (v : CoreValue). rooms_of (with_net (the_view c.self.inside) c.unlink.new.self) ≡ rooms_of v) c.self.view_is
-    (unlinked_edit (the_view c.self.inside) c.unlink.new.self c.args.a c.args.b c.self.invariant c.in_default.ensures.ok c.in_default.ensures.accepted).set

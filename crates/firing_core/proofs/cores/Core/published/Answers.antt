@@ -6,7 +6,7 @@ use Rattle.firing_core.proofs.Slots.{slot_none}
 use Rattle.firing_core.proofs.CoreSteps.{export_at, export_within, export_kept}
 use Rattle.firing_core.proofs.Borrowed.{no_value, read_value, where_read}
 use Rattle.firing_core.specs.contracts.cores.Core.{the_view}
-use Rattle.firing_core.proofs.cores.Core.export.Goals as goal
+use Rattle.firing_core.proofs.cores.Core.published.Goals as goal
 
 pub returns-in_err-place-clause-value : goal.returns-in_err-place-clause-value
 returns-in_err-place-clause-value c =

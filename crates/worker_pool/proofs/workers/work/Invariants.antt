@@ -1,7 +1,7 @@
 use Rattle.fc_nodes.specs.Program.{unfolding_of}
 use Rattle.firing_core.specs.Rooms.{IsRoom}
 use Rattle.worker_pool.specs.Working.{Worked}
-use Rattle.worker_pool.proofs.workers.keep_firing.Given as goal
+use Rattle.worker_pool.proofs.workers.work.Given as goal
 
 abbrev pub invariant-loop-seen : goal.invariant-loop-seen
 invariant-loop-seen g l = record {

@@ -1,5 +1,5 @@
 use Rattle.worker_pool.proofs.Passes.{worked_more}
-use Rattle.worker_pool.proofs.workers.keep_firing.Goals as goal
+use Rattle.worker_pool.proofs.workers.work.Goals as goal
 
 pub loop-seen-preserved-in-Fired : goal.loop-seen-preserved-in-Fired
 loop-seen-preserved-in-Fired g c = record {
