@@ -297,11 +297,12 @@ mail_replies program network log j h = by_input h.judged (input_causes program n
     by_input (Accepted i) c e = mail_lines_judge i.0 (quiet (start_of i.1)) (mail_log log) j e.ends
     by_input (Refused cause) c e = subst ReplyJudges (sym e) c
 
-drives_by : (number : ℕ) (v : Verdict) (U : Unfolding) (N : Network) (j : Judged Reply) → DrivesBy number v U N j → ReplyJudges j
-drives_by number (verdict.No place why) U N j e = subst ReplyJudges (sym e) by_one
-drives_by number (verdict.Yes rounds) U N j h = by_limit (nat_lt MOST_MESSAGES (messages N rounds)) h
+drives_by : (number : ℕ) (v : Verdict) (U : Unfolding) (s : SceneValue) (j : Judged Reply) → DrivesBy number v U s j
+    → ReplyJudges j
+drives_by number (verdict.No place why) U s j e = subst ReplyJudges (sym e) by_one
+drives_by number (verdict.Yes rounds) U s j h = by_limit (nat_lt MOST_MESSAGES (messages s.net rounds)) h
   where
-    by_limit : (b : Bool) → DrivesWithin b number U N rounds j → ReplyJudges j
+    by_limit : (b : Bool) → DrivesWithin b number U s rounds j → ReplyJudges j
     by_limit true e = subst ReplyJudges (sym e) by_four
     by_limit false k = subst ReplyJudges (sym k.is) by_zero
 
@@ -311,7 +312,7 @@ driven_replies number program network j h = by_input h.judged (input_causes prog
   where
     by_input : (i : Judged InputOf) → IfRefused CauseJudges i → AndThen i (λ i k. DrivesScene number i.0 i.1 k) j
         → ReplyJudges j
-    by_input (Accepted i) c e = drives_by number (verdict_of e.nodes (length i.1.net.devices)) i.0 i.1.net j e.drives
+    by_input (Accepted i) c e = drives_by number (verdict_of e.nodes (length i.1.net.devices)) i.0 i.1 j e.drives
     by_input (Refused cause) c e = subst ReplyJudges (sym e) c
 
 replied_judges : (i : Judged Reply) → ReplyJudges i → (j : Judged AnswerValue) → j ≡ judged_map replied i → JudgesWell j

@@ -132,7 +132,8 @@ OfThree P (one ∷ two ∷ three ∷ []) = P one two three
 OfThree P (one ∷ two ∷ three ∷ four ∷ more) = ⊥
 
 -- What `mail` writes keeps a yes: of a log, where the rounds that are written are at least those of the yes, the values
--- are the one field; and with a number the one field stands behind the line of the yes.
+-- are the one field; and with a number the values to which the number's log leads, which are the one field, stand behind
+-- the line of the yes.
 abbrev pub MailPromises : Option ℕ → List (List ℕ) → AnswerValue → Type 0
 MailPromises None sections answer =
     OfThree (λ program network log. MailKeepsYes program network log answer.text) sections

@@ -59,8 +59,8 @@ pub fn answer_statuses()
 /// after as many rounds is its one field there. The settle rounds and the settle time that `check --settle` writes lead
 /// every device on the scene's network to the values that stand beside them, also of a network that is open, from every
 /// good start; those that `check --settle --from-table` writes do so from the start of the scene. `gen` writes that
-/// each device agrees with the one field of its scenario. What `mail` writes of a number, and of a log with as many
-/// rounds, is the one field too.
+/// each device agrees with the one field of its scenario. The values that `mail` writes of a log with as many rounds are
+/// the one field too, and so are those to which the log of a number leads.
 pub fn answers_keep()
     ensures { AnswersKeep }
 {

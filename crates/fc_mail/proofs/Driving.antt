@@ -1,26 +1,36 @@
--- What the code of `mail --number` makes of a driven log.
-use Rattle.std.proofs.Common.{◌≡◌, ℕ, List, ◌++◌, refl, sym, ◌∙◌, ap, ap₂, subst}
-use Rattle.fc_nodes.specs.Program.{Program, Unfolding, unfolding_of}
+-- What the code of `mail --number` makes of a driven log, and what so many rounds make of values.
+use Rattle.std.proofs.Common.{◌≡◌, ℕ, List, ◌++◌, refl, sym, ◌∙◌, ap, subst, None}
+use Rattle.fc_nodes.specs.Program.{Program, Unfolding, unfolding_of, IsProgram}
 use Rattle.fc_nodes.specs.declared.verdicts.Verdict.TheVariants as verdict
 use Rattle.topology.specs.Networks.{Network, Lives}
-use Rattle.firing_core.specs.Cores.{Core}
+use Rattle.firing_core.specs.Entries.{entries_of}
+use Rattle.firing_core.specs.Cores.{Core, Run}
+use Rattle.firing_core.specs.Books.{in_flight, ends_of}
+use Rattle.firing_core.proofs.Settling.{run_ends}
 use Rattle.message_links.specs.MailCores.{MailCore, MailEntryValue, MailRun, IsMailStart}
 use Rattle.message_links.specs.MailRounds.{posts_of, HasMailRounds}
+use Rattle.message_links.specs.declared.entries.MailFault.{MailFault}
 use Rattle.mail_laws.specs.Laws.{MailStabilises}
 use Rattle.message_links.proofs.MailRuns.{run_net}
 use Rattle.scramble.specs.Words.{words_of}
 use Rattle.session.specs.Promises.{Holds, field_on}
 use Rattle.session.proofs.ShownFields.{values_held}
 use Rattle.mail_drive.specs.Drives.{driven}
-use Rattle.mail_drive.specs.Laws.{nothing}
+use Rattle.mail_drive.specs.Laws.{nothing, IsStill, DrivenLeads}
+use Rattle.mail_book.specs.MailLaws.{MailLogsLeadOrFail}
+use Rattle.mail_book.specs.MailReplays.{FailsMailAt}
 use Rattle.mail_book.specs.MailViews.{quiet}
 use Rattle.mail_count.specs.Laws.{IsGreatestMail}
+use Rattle.net_json.specs.declared.types.Scene.{Scene}
+use Rattle.net_json.specs.Scenes.{SceneValue}
+use Rattle.net_json.specs.SceneCode.{value_of_scene}
 use Rattle.report.specs.Texts.{values_text, field_text}
 use Rattle.report.specs.Verdicts.{rounds_text, verdict_text}
 use Rattle.fc_inputs.specs.Refusals.{Reply}
 use Rattle.fc_inputs.specs.Causes.{Accepted}
-use Rattle.fc_mail.specs.Code.{IsQuietOn, ShowsBehind}
-use Rattle.fc_mail.specs.Drives.{WritesDriven}
+use Rattle.fc_replay.specs.Replays.{start_of}
+use Rattle.fc_mail.specs.Code.{IsSettledOf, ShowsBehind}
+use Rattle.fc_mail.specs.Drives.{Settles, driven_log, WritesDriven}
 
 -- ---- after so many rounds the values are those of the one field
 
@@ -32,36 +42,65 @@ module _ (U : Unfolding) (N : Network) (k : ℕ) (m : MailStabilises U N k) (sta
   pub field_values : values_text last.core ≡ field_text (field_on N m.one.field)
   field_values = values_held last.core m.one.field held ∙ ap (λ (n : Network). field_text (field_on n m.one.field)) (run_net U 0 start last log run ∙ net)
 
-module _ (number rounds : ℕ) (U : Unfolding) (N : Network) (stable : MailStabilises U N rounds) (covers : HasMailRounds N 0 nothing (driven N rounds (words_of number)) rounds) where
-  abbrev Whole : MailCore → Type 0
-  Whole start = (last : MailCore) (log : List MailEntryValue) (old new : List ℕ) (r : Reply) → IsMailStart U start → MailRun U 0 start log last → log ≡ driven N rounds (words_of number)
-      → ShowsBehind start.core.net (posts_of start) log last.core old new → old ≡ verdict_text (verdict.Yes rounds) → r ≡ record { status = 0; text = new } → WritesDriven number U N rounds (Accepted r)
+-- ---- a scene whose flights are ended
 
-  from_quiet : (c : Core) → c.net ≡ N → Whole (quiet c)
-  from_quiet c net last log old new r s run is shows line made =
-      let values = field_values U N rounds stable (quiet c) last log s net run (subst (λ l. HasMailRounds N 0 nothing l rounds) (sym is) covers) in
+pub settled_net : (U : Unfolding) (s : SceneValue) (core : Core) → Settles U s core → core.net ≡ s.net
+settled_net U s core h = (run_ends U (start_of s) core (in_flight (start_of s)) h).net
+
+pub settled_scene : (P Q : Program) (scene : Scene) (start old new c : Core) (m : MailCore) → P ≡ Q → start ≡ start_of (value_of_scene (unfolding_of Q) scene) → old ≡ start
+    → Run (unfolding_of P) old (entries_of (ends_of (in_flight old))) new → ((d : ℕ) → new.flying d ≡ None) → c ≡ new → m ≡ quiet c → IsSettledOf (unfolding_of Q) (value_of_scene (unfolding_of Q) scene) m
+settled_scene P Q scene start old new c m p q o run rests e is =
+    let first : old ≡ start_of (value_of_scene (unfolding_of Q) scene) = o ∙ q in
+    let of_program : Run (unfolding_of Q) old (entries_of (ends_of (in_flight old))) new = subst (λ (x : Program). Run (unfolding_of x) old (entries_of (ends_of (in_flight old))) new) p run in
+    let settles : Settles (unfolding_of Q) (value_of_scene (unfolding_of Q) scene) new = subst (λ (x : Core). Run (unfolding_of Q) x (entries_of (ends_of (in_flight x))) new) first of_program in
+    record { core = new; is = is ∙ ap quiet e; settles = settles; rests = rests }
+
+pub still : (c : Core) → ((d : ℕ) → c.flying d ≡ None) → IsStill (quiet c)
+still c rests = record { landed = rests; empty = λ a b. refl }
+
+-- ---- the driven log of a number
+
+module _ (leads : DrivenLeads) (either : MailLogsLeadOrFail) (number rounds : ℕ) (P : Program) (is : IsProgram P) (s : SceneValue) (start : MailCore)
+    (q : IsSettledOf (unfolding_of P) s start) (begins : IsMailStart (unfolding_of P) start) (log : List MailEntryValue) (made : log ≡ driven start.core.net rounds (words_of number)) where
+  -- each of its entries has a step
+  pub no_stop : (i : ℕ) (why : MailFault) → FailsMailAt (unfolding_of P) start log i why → ⊥
+  no_stop i why fails =
+      let calm : IsStill start = subst IsStill (sym q.is) (still q.core q.rests) in
+      let l = leads P rounds (words_of number) start is begins calm in
+      either P start l.0 log i why is begins (subst (λ es. MailRun (unfolding_of P) 0 start es l.0) (sym made) l.1) fails
+
+module _ (number rounds : ℕ) (U : Unfolding) (s : SceneValue) (last : MailCore) (old new : List ℕ) (r : Reply) where
+  abbrev Shown : MailCore → List MailEntryValue → Type 0
+  Shown start log = MailRun U 0 start log last → log ≡ driven start.core.net rounds (words_of number) → ShowsBehind start.core.net (posts_of start) log last.core old new
+      → old ≡ verdict_text (verdict.Yes rounds) → r ≡ record { status = 0; text = new } → WritesDriven number U s rounds (Accepted r)
+
+  from_quiet : (core : Core) → Settles U s core → (log : List MailEntryValue) → Shown (quiet core) log
+  from_quiet core settles log run made shows line is =
+      let net : core.net ≡ s.net = settled_net U s core settles in
+      let same : log ≡ driven_log number s.net rounds = made ∙ ap (λ (n : Network). driven n rounds (words_of number)) net in
       record {
-        field = field_on N stable.one.field;
-        stable = record { one = stable.one; values = refl };
+        core = core;
+        settles = settles;
+        last = last;
+        leads = subst (λ es. MailRun U 0 (quiet core) es last) same run;
         count = shows.rounds;
-        counted = subst (λ l. IsGreatestMail N nothing l shows.rounds) is (subst (λ (n : Network). IsGreatestMail n nothing log shows.rounds) net shows.counted);
-        is = ap (λ x. Accepted x) (made ∙ ap (λ xs. let t : Reply = record { status = 0; text = xs } in t)
-            (shows.is ∙ ap₂ (λ l v. (l ++ v) ++ rounds_text shows.rounds) line values));
+        counted = subst (λ l. IsGreatestMail s.net nothing l shows.rounds) same (subst (λ (n : Network). IsGreatestMail n nothing log shows.rounds) net shows.counted);
+        is = ap (λ x. Accepted x) (is ∙ ap (λ xs. let t : Reply = record { status = 0; text = xs } in t)
+            (shows.is ∙ ap (λ l. (l ++ values_text last.core) ++ rounds_text shows.rounds) line));
       }
 
-  pub drives : (start : MailCore) → IsQuietOn N start → Whole start
-  drives start q = subst Whole (sym q.is) (from_quiet q.core q.net)
+  pub drives : (start : MailCore) → IsSettledOf U s start → (log : List MailEntryValue) → Shown start log
+  drives start q log = subst (λ m. Shown m log) (sym q.is) (from_quiet q.core q.settles log)
 
 -- ---- the parts that the code has
 
-pub written : (number rounds : ℕ) (P Q : Program) (N M M2 : Network) (start book last : MailCore) (V : Unfolding) (log booked : List MailEntryValue) (old new : List ℕ) (r : Reply)
-    → P ≡ Q → M ≡ N → M2 ≡ N → MailStabilises (unfolding_of P) M rounds → HasMailRounds N 0 nothing (driven N rounds (words_of number)) rounds
-    → IsQuietOn N start → IsMailStart (unfolding_of P) start → V ≡ unfolding_of P → book ≡ start → log ≡ driven M2 rounds (words_of number) → booked ≡ log → MailRun V 0 start log last
-    → ShowsBehind book.core.net (posts_of book) booked last.core old new → old ≡ verdict_text (verdict.Yes rounds) → r ≡ record { status = 0; text = new } → WritesDriven number (unfolding_of Q) N rounds (Accepted r)
-written number rounds P Q N M M2 start book last V log booked old new r p m m2 stable covers q s v b is l run shows line made =
-    subst (λ (x : Program). WritesDriven number (unfolding_of x) N rounds (Accepted r)) p
-    (drives number rounds (unfolding_of P) N (subst (λ (n : Network). MailStabilises (unfolding_of P) n rounds) m stable) covers start q last log old new r s
-    (subst (λ (u : Unfolding). MailRun u 0 start log last) v run)
-    (is ∙ ap (λ (n : Network). driven n rounds (words_of number)) m2)
+pub written : (number rounds : ℕ) (P Q : Program) (scene : Scene) (start book last : MailCore) (V : Unfolding) (log booked : List MailEntryValue) (old new : List ℕ) (r : Reply)
+    → P ≡ Q → IsSettledOf (unfolding_of P) (value_of_scene (unfolding_of P) scene) start → V ≡ unfolding_of P → book ≡ start → log ≡ driven start.core.net rounds (words_of number) → booked ≡ log
+    → MailRun V 0 start log last → ShowsBehind book.core.net (posts_of book) booked last.core old new → old ≡ verdict_text (verdict.Yes rounds) → r ≡ record { status = 0; text = new }
+    → WritesDriven number (unfolding_of Q) (value_of_scene (unfolding_of Q) scene) rounds (Accepted r)
+written number rounds P Q scene start book last V log booked old new r p q v b made l run shows line is =
+    subst (λ (x : Program). WritesDriven number (unfolding_of x) (value_of_scene (unfolding_of x) scene) rounds (Accepted r)) p
+    (drives number rounds (unfolding_of P) (value_of_scene (unfolding_of P) scene) last old new r start q log
+    (subst (λ (u : Unfolding). MailRun u 0 start log last) v run) made
     (subst (λ (x : MailCore). ShowsBehind x.core.net (posts_of x) log last.core old new) b (subst (λ (x : List MailEntryValue). ShowsBehind book.core.net (posts_of book) x last.core old new) l shows))
-    line made)
+    line is)

@@ -1,35 +1,37 @@
 -- What `mail` writes keeps a yes.
-use Rattle.std.proofs.Common.{ℕ, ◌≡◌, ◌≤◌, ◌⊎◌, Bool, true, false, List, ◌++◌, length, refl, ap, ◌∙◌, sym, subst, inl, inr}
+use Rattle.std.proofs.Common.{ℕ, ◌≡◌, ◌≤◌, ◌⊎◌, Bool, true, false, List, ◌++◌, length, refl, ap, ◌∙◌, sym, subst, arith, inl, inr}
 use Rattle.std.specs.Prelude.{nat_lt}
-use Rattle.fc_values.specs.Fields.{Entries}
 use Rattle.fc_nodes.specs.Program.{IsProgram, Program, Unfolding, unfolding_of}
 use Rattle.fc_nodes.specs.declared.verdicts.Verdict.{Verdict}
 use Rattle.fc_nodes.specs.declared.verdicts.Verdict.TheVariants as verdict
 use Rattle.topology.specs.Networks.{IsNetwork}
+use Rattle.firing_core.specs.Entries.{entries_of}
+use Rattle.firing_core.specs.Cores.{IsGood}
+use Rattle.firing_core.specs.Books.{in_flight, ends_of}
+use Rattle.firing_core.specs.Laws.{RunsKeepGood}
 use Rattle.fragment_check.specs.Verdicts.{verdict_of}
 use Rattle.mail_laws.specs.Laws.{MailStabilises, YesStabilisesMail}
 use Rattle.message_links.specs.MailCores.{MailEntryValue, IsMailStart}
 use Rattle.message_links.specs.MailRounds.{HasMailRounds}
 use Rattle.message_links.proofs.MailRuns.{fewer_rounds}
 use Rattle.scramble.specs.Words.{words_of}
-use Rattle.mail_drive.specs.Laws.{DrivenRounds, nothing}
+use Rattle.mail_drive.specs.Laws.{DrivenRounds, NoMoreRounds, nothing}
 use Rattle.mail_lines.specs.MailLines.{mail_log}
 use Rattle.edit_commands.specs.LineByLine.{Lines, AllLines, StopsAt}
 use Rattle.mail_book.specs.MailViews.{quiet}
-use Rattle.report.specs.Texts.{field_text, values_text}
+use Rattle.report.specs.Texts.{values_text}
 use Rattle.report.specs.Verdicts.{rounds_text, verdict_text}
-use Rattle.session.specs.Promises.{field_on}
 use Rattle.fc_inputs.specs.Causes.{Judged, Accepted, Refused, AndThen}
 use Rattle.fc_inputs.specs.Inputs.{InputOf, ReadsInput}
 use Rattle.fc_inputs.specs.Refusals.{Reply}
 use Rattle.fc_replay.specs.Laws.{InputsStart}
 use Rattle.fc_replay.specs.Replays.{start_of}
-use Rattle.fc_mail.specs.Drives.{messages, DrivesBy, DrivesScene, DrivesWithin, WritesDriven}
+use Rattle.fc_mail.specs.Drives.{messages, driven_log, DrivesBy, DrivesScene, DrivesWithin, WritesDriven}
 use Rattle.fc_mail.specs.declared.driven.TheConstants.{MOST_MESSAGES}
 use Rattle.fc_mail.specs.Laws.{DrivenMailKeepsYes, DrivenMailsKeepYes, MailKeepsYes, MailsKeepYes}
 use Rattle.fc_mail.specs.Mails.{Mailed, MailsLines, MailsScene, ShowsMail, StopsMail, entries_in}
-use Rattle.fc_mail.proofs.Driving.{field_values, held}
-use Rattle.stable_field.proofs.OneField.{one_field}
+use Rattle.fc_mail.proofs.Driving.{field_values, held, settled_net}
+use Rattle.mail_book.proofs.QuietStarts.{quiet_start}
 use Rattle.fc_mail.proofs.MailReplies.{scene_start}
 
 accepted_same : (r q : Reply) → ◌≡◌ {A = Judged Reply} (Accepted r) (Accepted q) → r ≡ q
@@ -109,14 +111,19 @@ mails_keep_yes starts law program network log r h = by_input h.judged h.reads h.
 
 -- ---- a number
 
-module _ (starts : InputsStart) (law : YesStabilisesMail) (covers : DrivenRounds) (number : ℕ) (program network : List ℕ) (r : Reply) (zero_is : r.status ≡ 0)
+module _ (starts : InputsStart) (law : YesStabilisesMail) (runs : RunsKeepGood) (covers : DrivenRounds) (most : NoMoreRounds) (number : ℕ) (program network : List ℕ) (r : Reply) (zero_is : r.status ≡ 0)
     (i : InputOf) (reads : ReadsInput program network (Accepted i)) (P : Program) (is : IsProgram P) (unfolded : unfolding_of P ≡ i.0) where
-  driven_on : (k : ℕ) → verdict_of P (length i.1.net.devices) ≡ verdict.Yes k → WritesDriven number (unfolding_of P) i.1.net k (Accepted r)
+  driven_on : (k : ℕ) → verdict_of P (length i.1.net.devices) ≡ verdict.Yes k → WritesDriven number (unfolding_of P) i.1 k (Accepted r)
       → DrivenMailKeepsYes number program network r.text
   driven_on k said h =
       let m = stabilised starts law program network i reads P is unfolded k said in
-      let field : Entries = field_on i.1.net m.one.field in
-      let same : h.field ≡ field = one_field (unfolding_of P) i.1.net h.field field h.stable (record { one = m.one; values = refl }) in
+      let log : List MailEntryValue = driven_log number i.1.net k in
+      let good : IsGood (unfolding_of P) h.core = runs P (start_of i.1) h.core (entries_of (ends_of (in_flight (start_of i.1)))) is (start starts law program network i reads P is unfolded).good h.settles in
+      let begins : IsMailStart (unfolding_of P) (quiet h.core) = quiet_start (unfolding_of P) h.core good in
+      let same : h.core.net ≡ i.1.net = settled_net (unfolding_of P) i.1 h.core h.settles in
+      let has : HasMailRounds i.1.net 0 nothing log k = covers i.1.net k (words_of number) (net starts law program network i reads P is unfolded) in
+      let text : r.text ≡ verdict_text (verdict.Yes k) ++ values_text h.last.core ++ rounds_text h.count = ap (λ (x : Reply). x.text) (accepted_same r _ h.is) in
+      let enough : k ≤ h.count = h.counted.greatest k has in
       record {
         nodes = P;
         is_program = is;
@@ -124,33 +131,40 @@ module _ (starts : InputsStart) (law : YesStabilisesMail) (covers : DrivenRounds
         reads = reads_nodes starts law program network i reads P is unfolded;
         rounds = k;
         yes = said;
-        stabilises = m;
+        core = h.core;
+        settles = h.settles;
+        last = h.last;
+        leads = h.leads;
         count = h.count;
         counted = h.counted;
-        enough = h.counted.greatest k (covers i.1.net k (words_of number) (net starts law program network i reads P is unfolded));
-        writes = ap (λ (x : Reply). x.text) (accepted_same r _ h.is)
-            ∙ ap (λ es. verdict_text (verdict.Yes k) ++ field_text es ++ rounds_text h.count) same;
+        enough = enough;
+        no_more = λ links. let few = most i.1.net k h.count (words_of number) (net starts law program network i reads P is unfolded) links h.counted.has in omega arith;
+        writes = text;
+        stabilises = m;
+        holds = held (unfolding_of P) i.1.net k m (quiet h.core) h.last log begins same h.leads has;
+        shows = text ∙ ap (λ v. verdict_text (verdict.Yes k) ++ v ++ rounds_text h.count)
+            (field_values (unfolding_of P) i.1.net k m (quiet h.core) h.last log begins same h.leads has);
       }
 
-  within : (b : Bool) (k : ℕ) → verdict_of P (length i.1.net.devices) ≡ verdict.Yes k → DrivesWithin b number (unfolding_of P) i.1.net k (Accepted r)
+  within : (b : Bool) (k : ℕ) → verdict_of P (length i.1.net.devices) ≡ verdict.Yes k → DrivesWithin b number (unfolding_of P) i.1 k (Accepted r)
       → DrivenMailKeepsYes number program network r.text
   within true k said h = absurd (cc (h))
   within false k said h = driven_on k said h
 
-  by_verdict : (v : Verdict) → verdict_of P (length i.1.net.devices) ≡ v → DrivesBy number v (unfolding_of P) i.1.net (Accepted r)
+  by_verdict : (v : Verdict) → verdict_of P (length i.1.net.devices) ≡ v → DrivesBy number v (unfolding_of P) i.1 (Accepted r)
       → DrivenMailKeepsYes number program network r.text
   by_verdict (verdict.No place why) e h =
       let one : 0 ≡ 1 = sym zero_is ∙ ap (λ (x : Reply). x.status) (accepted_same r _ h) in
       absurd (cc one)
   by_verdict (verdict.Yes k) e h = within (nat_lt MOST_MESSAGES (messages i.1.net k)) k e h
 
-pub driven_mails_keep_yes : InputsStart → YesStabilisesMail → DrivenRounds → DrivenMailsKeepYes
-driven_mails_keep_yes starts law covers number program network r h zero = by_input h.judged h.reads h.ends
+pub driven_mails_keep_yes : InputsStart → YesStabilisesMail → RunsKeepGood → DrivenRounds → NoMoreRounds → DrivenMailsKeepYes
+driven_mails_keep_yes starts law runs covers most number program network r h zero = by_input h.judged h.reads h.ends
   where
     by_scene : (i : InputOf) → ReadsInput program network (Accepted i) → DrivesScene number i.0 i.1 (Accepted r) → DrivenMailKeepsYes number program network r.text
     by_scene i reads e =
-        by_verdict starts law covers number program network r zero i reads e.nodes e.is_program e.unfolded (verdict_of e.nodes (length i.1.net.devices)) refl
-        (subst (λ (V : Unfolding). DrivesBy number (verdict_of e.nodes (length i.1.net.devices)) V i.1.net (Accepted r)) (sym e.unfolded) e.drives)
+        by_verdict starts law runs covers most number program network r zero i reads e.nodes e.is_program e.unfolded (verdict_of e.nodes (length i.1.net.devices)) refl
+        (subst (λ (V : Unfolding). DrivesBy number (verdict_of e.nodes (length i.1.net.devices)) V i.1 (Accepted r)) (sym e.unfolded) e.drives)
 
     by_input : (j : Judged InputOf) → ReadsInput program network j → AndThen j (λ i k. DrivesScene number i.0 i.1 k) (Accepted r) → DrivenMailKeepsYes number program network r.text
     by_input (Refused cause) reads e = absurd (cc (e))

@@ -1,4 +1,5 @@
 pub mod MailEndings
+pub mod Landing
 pub mod MailReplies
 pub mod Mailing
 pub mod Links

@@ -1,5 +1,5 @@
 -- What the code of `mail` gives.
-use Rattle.std.specs.Prelude.{ℕ, ◌≡◌, ◌<◌, List, ◌++◌, Some, slice_index}
+use Rattle.std.specs.Prelude.{ℕ, ◌≡◌, ◌<◌, List, ◌++◌, Some, None, slice_index}
 use Rattle.fc_nodes.specs.Program.{Unfolding}
 use Rattle.topology.specs.Networks.{Network}
 use Rattle.firing_core.specs.Cores.{Core}
@@ -21,7 +21,9 @@ use Rattle.fc_inputs.specs.declared.stop.Stop.{Stop}
 use Rattle.fc_inputs.specs.declared.stop.Stop.TheVariants as stop
 use Rattle.fc_inputs.specs.Causes.{Cause, Plainly}
 use Rattle.fc_inputs.specs.Refusals.{log_refusal}
+use Rattle.net_json.specs.Scenes.{SceneValue}
 use Rattle.fc_replay.specs.Code.{stop_at}
+use Rattle.fc_mail.specs.Drives.{Settles}
 use Rattle.fc_mail.specs.Mails.{Mailed, entries_in, line_at, mail_line_fault}
 
 -- behind a text, the values of a core and the greatest number of rounds of a mail log
@@ -31,11 +33,12 @@ pub record ShowsBehind (N : Network) (p : Posts) (log : List MailEntryValue) (la
   pub counted : IsGreatestMail N p log rounds
   pub is : new ≡ old ++ values_text last ++ rounds_text rounds
 
--- a mail core on a network in which nothing was heard and nothing is in transit
-pub record IsQuietOn (N : Network) (m : MailCore) : Type 0 where
+-- a mail core of a scene whose flights are ended, in which nothing was heard and nothing is in transit
+pub record IsSettledOf (U : Unfolding) (s : SceneValue) (m : MailCore) : Type 0 where
   pub core : Core
   pub is : m ≡ quiet core
-  pub net : core.net ≡ N
+  pub settles : Settles U s core
+  pub rests : (d : ℕ) → core.flying d ≡ None
 
 -- the cause by which the lines of a mail log aren't read
 abbrev pub IsFaultyMail : Lines (Unit {0}) MailEntryValue → Cause → Type 0

@@ -5,8 +5,7 @@ use Rattle.fc_nodes.specs.declared.verdicts.Verdict.TheVariants as verdict
 use Rattle.fragment_check.specs.Verdicts.{verdict_of}
 use Rattle.mail_laws.specs.Laws.{MailStabilises}
 use Rattle.message_links.specs.MailCores.{MailCore, MailRun}
-use Rattle.scramble.specs.Words.{words_of}
-use Rattle.mail_drive.specs.Drives.{driven}
+use Rattle.firing_core.specs.Cores.{Core}
 use Rattle.mail_drive.specs.Laws.{nothing}
 use Rattle.mail_lines.specs.MailLines.{mail_log}
 use Rattle.edit_commands.specs.LineByLine.{AllLines}
@@ -22,7 +21,7 @@ use Rattle.fc_inputs.specs.Inputs.{ReadsInput}
 use Rattle.fc_inputs.specs.Refusals.{Reply}
 use Rattle.fc_replay.specs.Replays.{start_of}
 use Rattle.fc_mail.specs.Mails.{Mailed, Mails, entries_in}
-use Rattle.fc_mail.specs.Drives.{DrivesMail}
+use Rattle.fc_mail.specs.Drives.{Settles, driven_log, DrivesMail}
 
 abbrev pub OneMail : Type 0
 OneMail = (program network log : List ℕ) (j k : Judged Reply) → Mails program network log j
@@ -65,9 +64,11 @@ pub record MailKeepsYes (program network log text : List ℕ) : Type 0 where
   pub shows : (k : ℕ) (judged : verdict_of nodes (length scene.net.devices) ≡ verdict.Yes k) → k ≤ rounds
       → text ≡ field_text (field_on scene.net (stabilises k judged).one.field) ++ rounds_text rounds
 
--- The verdict is a yes, within whose rounds the program stabilises over message links. Behind its line are written the
--- one field that solves the program on the scene's network, and the greatest number of rounds in the log that is driven
--- by the number for as many rounds: it has at least these.
+-- The verdict is a yes, within whose rounds the program stabilises over message links. Once the flights of the scene
+-- are ended, and with nothing heard and nothing in transit, the log that is driven by the number for as many rounds
+-- leads to a mail core. Behind the line of the yes are written its values, and the greatest number of rounds in the
+-- log: at least those of the yes, and where the network has a link no more. So each device holds its value of the one
+-- field that solves the program on the scene's network, and this field is what is written.
 pub record DrivenMailKeepsYes (number : ℕ) (program network text : List ℕ) : Type 0 where
   pub nodes : Program
   pub is_program : IsProgram nodes
@@ -75,11 +76,18 @@ pub record DrivenMailKeepsYes (number : ℕ) (program network text : List ℕ) :
   pub reads : ReadsInput program network (Accepted (unfolding_of nodes, scene))
   pub rounds : ℕ
   pub yes : verdict_of nodes (length scene.net.devices) ≡ verdict.Yes rounds
-  pub stabilises : MailStabilises (unfolding_of nodes) scene.net rounds
+  pub core : Core
+  pub settles : Settles (unfolding_of nodes) scene core
+  pub last : MailCore
+  pub leads : MailRun (unfolding_of nodes) 0 (quiet core) (driven_log number scene.net rounds) last
   pub count : ℕ
-  pub counted : IsGreatestMail scene.net nothing (driven scene.net rounds (words_of number)) count
+  pub counted : IsGreatestMail scene.net nothing (driven_log number scene.net rounds) count
   pub enough : rounds ≤ count
-  pub writes : text ≡ verdict_text (verdict.Yes rounds)
+  pub no_more : 1 ≤ length scene.net.links → count ≡ rounds
+  pub writes : text ≡ verdict_text (verdict.Yes rounds) ++ values_text last.core ++ rounds_text count
+  pub stabilises : MailStabilises (unfolding_of nodes) scene.net rounds
+  pub holds : Holds last.core stabilises.one.field
+  pub shows : text ≡ verdict_text (verdict.Yes rounds)
       ++ field_text (field_on scene.net stabilises.one.field) ++ rounds_text count
 
 -- what `mail` writes of a log, and what it writes of a number with status 0, keeps a yes

@@ -5,14 +5,17 @@ ghost use Rattle.fc_nodes.specs.Program.{IsProgram, unfolding_of};
 ghost use Rattle.fc_nodes.specs.declared.verdicts.Verdict.TheVariants as verdict;
 ghost use Rattle.topology.specs.Networks.{IsNetwork};
 ghost use Rattle.fragment_check.specs.Verdicts.{verdict_of};
-ghost use Rattle.message_links.specs.MailCores.{IsMailStart};
-ghost use Rattle.net_json.specs.SceneCode.{AreCopies, AreRows};
-ghost use Rattle.mail_book.specs.MailViews.{mail_of};
+ghost use Rattle.message_links.specs.MailCores.{IsMailStart, MailRun};
+ghost use Rattle.message_links.specs.MailEntries.{mail_entries};
+ghost use Rattle.message_links.specs.declared.entries.MailFault.{MailFault};
+ghost use Rattle.net_json.specs.SceneCode.{AreCopies, AreRows, value_of_scene};
+ghost use Rattle.mail_book.specs.MailReplays.{FailsMailAt};
+ghost use Rattle.mail_book.specs.MailViews.{mail_of, unfolded_of};
 ghost use Rattle.report.specs.Verdicts.{verdict_text};
 ghost use Rattle.fc_inputs.specs.Causes.{Accepted, Refused};
 ghost use Rattle.fc_inputs.specs.Stops.{StopsFor};
 ghost use Rattle.fc_values.specs.declared.limits.TheConstants.{MOST_BYTES};
-ghost use Rattle.fc_mail.specs.Code.{IsQuietOn};
+ghost use Rattle.fc_mail.specs.Code.{IsSettledOf};
 ghost use Rattle.fc_mail.specs.Drives.{DrivesBy, DrivesMail, WritesDriven, messages};
 
 use crate::shown::show;
@@ -20,11 +23,11 @@ use fc_inputs::{Refusal, Reply, Stop, read_input};
 use fc_nodes::{Unfolded, Verdict};
 use fc_replay::start;
 use fc_values::Memory;
-use firing_core::StepFault;
+use firing_core::Book;
 use interval_facts::ranges;
-use mail_book::{Mail, replay_mail};
-use mail_drive::{drive, driven_rounds_cover};
-use mail_laws::mail_stabilises;
+use mail_book::{Mail, MailBook, mail_logs_end, replay_mail};
+use mail_drive::{drive, driven_logs_lead};
+use message_links::{MailEntry, MailReplay};
 use net_json::Scene;
 use report::verdict as write_verdict;
 use round_bound::recognise;
@@ -41,19 +44,18 @@ fn settled(alloc: Global, program: &Arc<Unfolded>, scene: Scene) -> Result<Mail,
     requires rows { AreRows (unfolding_of program.now.value) scene.net scene.table.items }
     requires copies { AreCopies (unfolding_of program.now.value) scene.net scene.pending.items }
     ensures program { IfOk result (λ m. m.core.program ≡ program.now.value) }
-    ensures net { IfOk result (λ m. m.core.net ≡ scene.net) }
-    ensures quiet { IfOk result (λ m. IsQuietOn scene.net (mail_of m)) }
+    ensures settled { IfOk result (λ m. IsSettledOf (unfolding_of program.now.value)
+        (value_of_scene (unfolding_of program.now.value) scene) (mail_of m)) }
     ensures start { IfOk result (λ m. IsMailStart (unfolding_of program.now.value) (mail_of m)) }
 {
-    let mut core = start(alloc, program, scene)?;
-    for place in 0..core.net().devices().len() {
-        let device = core.net().devices()[place].id;
-        match core.finish(alloc, device) {
-            Ok(()) | Err(StepFault::NotFlying) => {}
-            Err(_) => return Err(Memory),
-        }
-    }
-    Mail::quiet(alloc, core)
+    let first = start(alloc, program, scene)?;
+    let program = program.clone()?;
+    let Ok(mut book) = Book::new(alloc, program, first) else {
+        return Err(Memory);
+    };
+    book.settle(alloc)?;
+    let rested = book.core().copy(alloc)?;
+    Ok(Mail::quiet(alloc, rested)?)
 }
 
 // The verdict on a program, for so many devices.
@@ -74,7 +76,24 @@ fn messages(net: &Network, rounds: u64) -> u64
     rounds * (net.devices().len() as u64 + 2 * net.links().len() as u64)
 }
 
-// So many driven rounds behind the line of a yes.
+// The book of a log each of whose entries has a step.
+fn replayed(alloc: Global, start: Mail, log: Vec<MailEntry>) -> Result<MailBook, Memory>
+    requires start { IsMailStart (unfolded_of start) (mail_of start) }
+    requires steps { (i : ℕ) (why : MailFault)
+        → FailsMailAt (unfolded_of start) (mail_of start) (mail_entries log.items) i why → ⊥ }
+    ensures start { IfOk result (λ b. mail_of b.start ≡ mail_of start) }
+    ensures log { IfOk result (λ b. b.log ≡ log.items) }
+    ensures run { IfOk result (λ b.
+        MailRun (unfolded_of start) 0 (mail_of start) (mail_entries log.items) (mail_of b.mail)) }
+{
+    match replay_mail(alloc, start, log) {
+        Ok(book) => Ok(book),
+        Err(MailReplay::Memory) => Err(Memory),
+        Err(MailReplay::At { .. }) => unreachable!(),
+    }
+}
+
+// So many driven rounds behind the line of a yes: each of their entries has a step.
 fn driven(
     alloc: Global,
     number: u32,
@@ -83,23 +102,20 @@ fn driven(
     scene: Scene,
 ) -> Result<Reply, Memory>
     requires program { IsProgram program }
-    requires yes { verdict_of program (length scene.net.devices) ≡ verdict.Yes rounds }
     requires declared { scene.net.declared ≡ program.declared }
     requires rows { AreRows (unfolding_of program) scene.net scene.table.items }
     requires copies { AreCopies (unfolding_of program) scene.net scene.pending.items }
-    ensures { IfOk result (λ r. WritesDriven number (unfolding_of program) scene.net rounds (Accepted r)) }
+    ensures { IfOk result (λ r. WritesDriven number (unfolding_of program)
+        (value_of_scene (unfolding_of program) scene) rounds (Accepted r)) }
 {
-    driven_rounds_cover();
+    driven_logs_lead();
+    mail_logs_end();
     let program = Arc::new(alloc, program)?;
     let start = settled(alloc, &program, scene)?;
-    mail_stabilises(&program, start.core().net());
     let log = drive(alloc, start.core().net(), rounds, number)?;
     let mut text = Vec::new(alloc);
     write_verdict(alloc, &mut text, &Verdict::Yes(u64::from(rounds)))?;
-    // Each entry of a driven log has a step from such a mail core, so a log that isn't replayed is want of memory.
-    let Ok(book) = replay_mail(alloc, start, log) else {
-        return Err(Memory);
-    };
+    let book = replayed(alloc, start, log)?;
     show(alloc, &mut text, &book)?;
     Ok(Reply::new(0, text))
 }
@@ -111,9 +127,9 @@ fn of_scene(alloc: Global, number: u32, program: Unfolded, scene: Scene) -> Resu
     requires rows { AreRows (unfolding_of program) scene.net scene.table.items }
     requires copies { AreCopies (unfolding_of program) scene.net scene.pending.items }
     ensures writes { IfOk result (λ r. DrivesBy number (verdict_of program (length scene.net.devices))
-        (unfolding_of program) scene.net (Accepted r)) }
+        (unfolding_of program) (value_of_scene (unfolding_of program) scene) (Accepted r)) }
     ensures refused { IfErr result (StopsFor (λ cause. DrivesBy number (verdict_of program (length scene.net.devices))
-        (unfolding_of program) scene.net (Refused cause))) }
+        (unfolding_of program) (value_of_scene (unfolding_of program) scene) (Refused cause))) }
 {
     // Its clause: the network has devices.
     let devices = scene.net.devices().len() as u32;

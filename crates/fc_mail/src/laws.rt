@@ -3,13 +3,13 @@
 ghost use Rattle.fc_mail.specs.Laws.{DrivenMailsKeepYes, MailsKeepYes};
 ghost use Rattle.fc_mail.specs.Laws.{OneDrivenMail, OneMail, SomeDrivenMail, SomeMail};
 
-use converge_laws::yes_stabilises;
 use fc_check::{one_verdict, some_check};
 use fc_inputs::one_input;
 use fc_replay::inputs_start;
+use firing_core::{faultless_steps, logs_decide, steps_keep_good};
 use mail_book::mail_logs_end;
 use mail_count::some_greatest_mail;
-use mail_drive::driven_rounds_cover;
+use mail_drive::{driven_logs_lead, driven_rounds_cover};
 use mail_laws::yes_stabilises_mail;
 
 /// Texts have one reply.
@@ -21,6 +21,8 @@ pub fn one_mail()
     inputs_start();
     mail_logs_end();
     one_verdict();
+    logs_decide();
+    steps_keep_good();
 }
 
 /// Texts have some reply.
@@ -32,11 +34,14 @@ pub fn some_mail()
     inputs_start();
     mail_logs_end();
     some_greatest_mail();
-    yes_stabilises();
+    faultless_steps();
+    steps_keep_good();
+    driven_logs_lead();
 }
 
-/// Where the verdict is a yes, what `mail` writes is the one field that solves the program on the scene's network: for
-/// a number behind the line of the yes, and for a log that has at least the rounds of the yes.
+/// Where the verdict is a yes, the values that `mail` writes are the one field that solves the program on the scene's
+/// network: those to which the log of a number leads, behind the line of the yes; and those to which another log leads,
+/// if it has at least the rounds of the yes.
 pub fn mails_keep_yes()
     ensures log { MailsKeepYes }
     ensures number { DrivenMailsKeepYes }
@@ -44,4 +49,5 @@ pub fn mails_keep_yes()
     inputs_start();
     yes_stabilises_mail();
     driven_rounds_cover();
+    steps_keep_good();
 }

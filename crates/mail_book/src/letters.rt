@@ -7,21 +7,23 @@ ghost use Rattle.message_links.specs.MailCores.{pushed, without};
 ghost use Rattle.message_links.specs.declared.entries.MailFault.TheVariants as fault;
 ghost use Rattle.mail_book.specs.Letters.{letter_of, IsQuiet, Delivers, Repeats, SameLetters};
 
-use fc_values::{Export, Memory, copy_export};
+use fc_values::Memory;
 use message_links::{MOST_IN_TRANSIT, MailFault};
 use std::alloc::Global;
+use value_trees::Published;
 
-/// A message: an export, and the position in the log of the end that sent it; none for what the start holds.
+/// A message: an export, which the messages of one end share, and the position in the log of the end that sent it; none
+/// for what the start holds.
 #[derive(Drop)]
 pub(crate) struct Message {
-    pub(crate) export: Export,
+    pub(crate) export: Published,
     pub(crate) sent: Option<usize>,
 }
 
 /// What a device has heard from a neighbour, and what is in transit to it.
 #[derive(Drop)]
 pub(crate) struct Letters {
-    pub(crate) heard: Option<Export>,
+    pub(crate) heard: Option<Published>,
     pub(crate) transit: Vec<Message>,
 }
 
@@ -49,7 +51,7 @@ pub(crate) fn post(letters: &mut Letters, message: Message) -> Result<(), Memory
 }
 
 /// An export is heard.
-pub(crate) fn hear(letters: &mut Letters, export: Export)
+pub(crate) fn hear(letters: &mut Letters, export: Published)
     ensures heard { letters.new.heard ≡ Some export }
     ensures transit { letters.new.transit ≡ letters.old.transit }
 {
@@ -72,7 +74,7 @@ pub(crate) fn deliver(letters: &mut Letters) -> Result<(), MailFault>
 }
 
 /// The oldest message is heard, and stays; or there is none.
-pub(crate) fn repeat(alloc: Global, letters: &mut Letters) -> Result<bool, Memory>
+pub(crate) fn repeat(letters: &mut Letters) -> Result<bool, Memory>
     ensures some { IfOk result (λ b. b ≡ true → Repeats letters.old letters.new) }
     ensures empty { IfOk result (λ b. b ≡ false → letters.old.transit.items ≡ []) }
     ensures none { IfOk result (λ b. b ≡ false → letters.new ≡ letters.old) }
@@ -81,7 +83,7 @@ pub(crate) fn repeat(alloc: Global, letters: &mut Letters) -> Result<bool, Memor
     if letters.transit.is_empty() {
         return Ok(false);
     }
-    let export = copy_export(alloc, &letters.transit[0].export)?;
+    let export = letters.transit[0].export.share()?;
     letters.heard = Some(export);
     Ok(true)
 }
@@ -102,34 +104,34 @@ pub(crate) fn lose(letters: &mut Letters, at: usize) -> Result<(), MailFault>
     Ok(())
 }
 
-// A copy of a message.
-fn copy_message(alloc: Global, message: &Message) -> Result<Message, Memory>
+// A message with the same export.
+fn copy_message(message: &Message) -> Result<Message, Memory>
     ensures { IfOk result (λ m. letter_of m ≡ letter_of message.now) }
 {
-    let export = copy_export(alloc, &message.export)?;
+    let export = message.export.share()?;
     Ok(Message {
         export,
         sent: message.sent,
     })
 }
 
-// Copies of messages.
+// Messages with the same exports.
 fn copy_messages(alloc: Global, messages: &[Message]) -> Result<Vec<Message>, Memory>
     ensures { IfOk result (λ v. map letter_of v.items ≡ map letter_of messages.now) }
 {
     let mut copies = Vec::new(alloc);
     for message in messages {
-        copies.push(copy_message(alloc, message)?)?;
+        copies.push(copy_message(message)?)?;
     }
     Ok(copies)
 }
 
 // A copy of what was heard, if something was.
-fn copy_heard(alloc: Global, heard: Option<&Export>) -> Result<Option<Export>, Memory>
+fn copy_heard(heard: Option<&Published>) -> Result<Option<Published>, Memory>
     ensures { IfOk result (λ e. option_map export_of e ≡ option_map (λ x. export_of x.now) heard.entry) }
 {
     match heard {
-        Some(export) => Ok(Some(copy_export(alloc, export)?)),
+        Some(export) => Ok(Some(export.share()?)),
         None => Ok(None),
     }
 }
@@ -138,7 +140,7 @@ fn copy_heard(alloc: Global, heard: Option<&Export>) -> Result<Option<Export>, M
 pub(crate) fn copy_letters(alloc: Global, letters: &Letters) -> Result<Letters, Memory>
     ensures { IfOk result (SameLetters letters.now) }
 {
-    let heard = copy_heard(alloc, letters.heard.as_ref())?;
+    let heard = copy_heard(letters.heard.as_ref())?;
     let transit = copy_messages(alloc, &letters.transit)?;
     Ok(Letters { heard, transit })
 }

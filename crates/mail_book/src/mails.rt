@@ -4,7 +4,7 @@ use crate::letters::{Letters, deliver, lose, repeat};
 use crate::pairs::pair_place;
 use crate::rows::{Sending, copy_rows, heard_in, no_rows, post_all};
 use crate::starts::{Post, hear_all, send_all};
-use fc_values::{Memory, copy_export, copy_locals};
+use fc_values::{Memory, copy_locals};
 use firing_core::{Core, StepFault, faultless_steps};
 use message_links::{MailEntry, MailFault, MailReplay};
 use std::alloc::Global;
@@ -128,7 +128,7 @@ impl Mail {
             MailEntry::End(device) => at_step(index, self.end(alloc, index, device)),
             MailEntry::Idle => Ok(()),
             MailEntry::Deliver(from, to) => at_link(index, self.deliver(from, to)),
-            MailEntry::Again(from, to) => self.again(alloc, index, from, to),
+            MailEntry::Again(from, to) => self.again(index, from, to),
             MailEntry::Lose(from, to, at) => at_link(index, self.lose(from, to, at)),
         }
     }
@@ -159,8 +159,8 @@ impl Mail {
     {
         faultless_steps();
         let inputs = copy_locals(alloc, &self.core.net().devices()[place].inputs)?;
-        let own = match self.core.export(device) {
-            Some(export) => Some(copy_export(alloc, export)?),
+        let own = match self.core.published(device) {
+            Some(export) => Some(export.share()?),
             None => None,
         };
         let neighbours = self.core.net().neighbours(device);
@@ -181,7 +181,7 @@ impl Mail {
         ensures same { OnOk result (IsSameCore self.old.core self.new.core) }
     {
         self.core.finish(alloc, device)?;
-        let Some(export) = self.core.export(device) else {
+        let Some(export) = self.core.published(device) else {
             unreachable!();
         };
         let sending = Sending {
@@ -189,7 +189,7 @@ impl Mail {
             export,
             sent: Some(index),
         };
-        if post_all(alloc, self.core.net(), &mut self.rows, &sending).is_err() {
+        if post_all(self.core.net(), &mut self.rows, &sending).is_err() {
             return Err(StepFault::Memory);
         }
         Ok(())
@@ -207,7 +207,7 @@ impl Mail {
         deliver(&mut self.rows[row][at])
     }
 
-    fn again(&mut self, alloc: Global, index: usize, from: u32, to: u32) -> Result<(), MailReplay>
+    fn again(&mut self, index: usize, from: u32, to: u32) -> Result<(), MailReplay>
         ensures ok { OnOk result
             (MailStep (unfolded_of self.old) 0 (mail_of self.old) (MailAgain from to) (mail_of self.new)) }
         ensures refused { IfErr result (RefusesMail index (mail_of self.old) (MailAgain from to)) }
@@ -219,7 +219,7 @@ impl Mail {
                 fault: MailFault::NoLink,
             });
         };
-        match repeat(alloc, &mut self.rows[row][at]) {
+        match repeat(&mut self.rows[row][at]) {
             Ok(true) => Ok(()),
             Ok(false) => Err(MailReplay::At {
                 index,

@@ -1,7 +1,6 @@
 //! Rows of letters: a row for each device, in the order of the network, with what is kept for each of its neighbours.
 
-ghost use Rattle.std.specs.Prelude.{◌≡◌, ◌≤◌, IfOk, OnOk, length, map};
-ghost use Rattle.fc_values.specs.declared.limits.TheConstants.{MOST_LINKS};
+ghost use Rattle.std.specs.Prelude.{◌≡◌, IfOk, OnOk, length, map};
 ghost use Rattle.fc_nodes.specs.Program.{Unfolding};
 ghost use Rattle.value_trees.specs.Snaps.{tree_of, near_copy, IsExportOf, NearAreExports};
 ghost use Rattle.topology.specs.Networks.{numbers};
@@ -11,17 +10,16 @@ ghost use Rattle.mail_book.specs.Rows.{lists_of, AllRows, SameRows, AreQuiet, Po
 
 use crate::letters::{Letters, Message, copy_letters, no_letters, post};
 use crate::pairs::pair_place;
-use arrayvec::ArrayVec;
-use fc_values::{Export, Memory, copy_export};
+use fc_values::Memory;
 use std::alloc::Global;
 use topology::Network;
-use value_trees::Near;
+use value_trees::{Near, Published};
 
 /// An export that a device sends, and the position of the end that sends it; none for what a start holds.
 #[derive(Drop)]
 pub(crate) struct Sending<'a> {
     pub(crate) device: u32,
-    pub(crate) export: &'a Export,
+    pub(crate) export: &'a Published,
     pub(crate) sent: Option<usize>,
 }
 
@@ -75,22 +73,21 @@ pub(crate) fn heard_in(
     alloc: Global,
     neighbours: &[(u32, u32)],
     row: &[Letters],
-) -> Result<Box<ArrayVec<Near, 32, Global>>, Memory>
-    requires few { length neighbours.now ≤ MOST_LINKS }
-    requires long { length row.now ≡ length neighbours.now }
+) -> Result<Vec<Near>, Memory>
+    requires { length row.now ≡ length neighbours.now }
     ensures near { (U : Unfolding)
-        → IfOk result (λ ns. map (near_copy U) ns.value.items ≡ heard_copies U neighbours.now row.now) }
-    ensures exports { (U : Unfolding) → AllLetters U row.now → IfOk result (λ ns. NearAreExports U ns.value.items) }
+        → IfOk result (λ ns. map (near_copy U) ns.items ≡ heard_copies U neighbours.now row.now) }
+    ensures exports { (U : Unfolding) → AllLetters U row.now → IfOk result (λ ns. NearAreExports U ns.items) }
 {
-    let mut near = Box::new(alloc, ArrayVec::new_in(alloc))?;
+    let mut near = Vec::new(alloc);
     for (at, (device, weight)) in neighbours.iter().enumerate() {
         if let Some(export) = &row[at].heard {
-            let export = copy_export(alloc, export)?;
+            let export = export.share()?;
             near.push(Near {
                 device: *device,
                 weight: *weight,
                 export,
-            });
+            })?;
         }
     }
     Ok(near)
@@ -98,7 +95,6 @@ pub(crate) fn heard_in(
 
 /// Sends an export to each neighbour of a device.
 pub(crate) fn post_all(
-    alloc: Global,
     net: &Network,
     rows: &mut Vec<Vec<Letters>>,
     sending: &Sending<'_>,
@@ -112,14 +108,13 @@ pub(crate) fn post_all(
         → AllRows U (lists_of rows.new.items) }
 {
     for (neighbour, _) in net.neighbours(sending.device) {
-        post_to(alloc, net, rows, sending, *neighbour)?;
+        post_to(net, rows, sending, *neighbour)?;
     }
     Ok(())
 }
 
-/// Sends an export to a neighbour.
+/// Sends an export to a neighbour: a share of it.
 pub(crate) fn post_to(
-    alloc: Global,
     net: &Network,
     rows: &mut Vec<Vec<Letters>>,
     sending: &Sending<'_>,
@@ -136,7 +131,7 @@ pub(crate) fn post_to(
     let Some((row, at)) = pair_place(net, sending.device, to) else {
         return Ok(());
     };
-    let export = copy_export(alloc, sending.export)?;
+    let export = sending.export.share()?;
     let message = Message {
         export,
         sent: sending.sent,

@@ -15,6 +15,7 @@ use crate::rows::{Sending, post_to};
 use fc_values::{Export, Memory, copy_export};
 use std::alloc::Global;
 use topology::Network;
+use value_trees::Published;
 
 /// An export from a device to another: one that was heard, or one in transit.
 #[derive(Drop)]
@@ -58,7 +59,7 @@ fn hear_one(
     let Some((row, at)) = pair_place(net, post.from, post.to) else {
         return Ok(());
     };
-    let export = copy_export(alloc, &post.export)?;
+    let export = Published::new(alloc, copy_export(alloc, &post.export)?)?;
     hear(&mut rows[row][at], export);
     Ok(())
 }
@@ -76,12 +77,13 @@ pub(crate) fn send_all(
         → OnOk result (Sends U net.now (post_values U posts.now) (lists_of rows.old.items) (lists_of rows.new.items)) }
 {
     for post in posts {
+        let export = Published::new(alloc, copy_export(alloc, &post.export)?)?;
         let sending = Sending {
             device: post.from,
-            export: &post.export,
+            export: &export,
             sent: None,
         };
-        post_to(alloc, net, rows, &sending, post.to)?;
+        post_to(net, rows, &sending, post.to)?;
     }
     Ok(())
 }

@@ -5,4 +5,5 @@ pub returns-clause-log : goal.returns-clause-log
 returns-clause-log c = one_mail c.one_input.ensures c.inputs_start.ensures c.mail_logs_end.ensures.one c.mail_logs_end.ensures.fail c.mail_logs_end.ensures.either
 
 pub returns-clause-number : goal.returns-clause-number
-returns-clause-number c = one_driven c.one_input.ensures c.one_verdict.ensures
+returns-clause-number c = one_driven c.one_input.ensures c.inputs_start.ensures c.one_verdict.ensures c.logs_decide.ensures.one
+    c.steps_keep_good.ensures.run c.mail_logs_end.ensures.one

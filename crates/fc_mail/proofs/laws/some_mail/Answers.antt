@@ -5,4 +5,5 @@ pub returns-clause-log : goal.returns-clause-log
 returns-clause-log c = some_mail c.some_check.ensures c.inputs_start.ensures c.mail_logs_end.ensures.end c.some_greatest_mail.ensures
 
 pub returns-clause-number : goal.returns-clause-number
-returns-clause-number c = some_driven c.some_check.ensures c.inputs_start.ensures c.yes_stabilises.ensures c.some_greatest_mail.ensures
+returns-clause-number c = some_driven c.some_check.ensures c.inputs_start.ensures c.faultless_steps.ensures.step c.steps_keep_good.ensures.step
+    c.driven_logs_lead.ensures c.some_greatest_mail.ensures

@@ -1,6 +1,7 @@
-use Rattle.std.proofs.Common.{◌≡◌, List, [], get_or, refl, sym, subst, arith}
+use Rattle.std.proofs.Common.{◌≡◌, List, [], get_or, refl, sym, ap, subst, arith}
 use Rattle.std.specs.Prelude.{slice_set}
 use Rattle.std.specs.Vec.{with_item}
+use Rattle.fc_values.specs.Exports.{export_of}
 use Rattle.fc_nodes.specs.Program.{Unfolding}
 use Rattle.value_trees.specs.Snaps.{tree_of, IsExportOf}
 use Rattle.topology.specs.Networks.{numbers}
@@ -42,7 +43,7 @@ module _ (c : goal.After-rows-1) where
       → PostsTo U c.args.net.now c.args.sending.now.device c.args.to c.args.sending.now.sent (tree_of U c.args.sending.now.export.now) (lists_of c.args.rows.now.items) new_rows
   posts U all typed t =
       posted_to c.args.net.now c.pair_place.ensures.network (lists_of c.args.rows.now.items) c.requires c.args.sending.now.device c.args.to (c.in-Some.row, c.in-Some.at) c.in-Some.ensures.place U all c.args.sending.now.export.now typed c.args.sending.now.sent
-      c.index_mut-2.result.now c.post.new.letters message is c.in_ok-export.ensures refl c.post.ensures.heard t
+      c.index_mut-2.result.now c.post.new.letters message is (ap export_of c.in_ok-export.ensures) refl c.post.ensures.heard t
 
   kept : (U : Unfolding) → AllRows U (lists_of c.args.rows.now.items) → c.post.new.letters.transit.items ≡ c.index_mut-2.result.now.transit.items → AllRows U new_rows
   kept U all q =

@@ -1,4 +1,5 @@
-use Rattle.std.proofs.Common.{List, [], ◌∷◌, arith, subst, sym}
+use Rattle.std.proofs.Common.{List, [], ◌∷◌, arith, subst, sym, ap, ◌∙◌}
+use Rattle.fc_values.specs.Exports.{export_of}
 use Rattle.topology.specs.Networks.{numbers}
 use Rattle.mail_book.specs.declared.letters.Letters.{Letters}
 use Rattle.mail_book.specs.Pairs.{AreRows}
@@ -29,4 +30,4 @@ returns-clause-hears c U all linked typed =
     let is = item_is c.args.net.now c.pair_place.ensures.network c.args.rows.now.items c.requires c.args.post.now.from c.args.post.now.to c.in-Some.row c.in-Some.at c.in-Some.ensures.place c.index_mut.result.now c.index_mut.ensures.value c.index_mut-2.result.now c.index_mut-2.ensures.value in
     subst (λ (rows : List (List Letters)). Hears U c.args.net.now (post_of U c.args.post.now ∷ []) (lists_of c.args.rows.now.items) rows)
     (sym (written_is c.args.net.now c.pair_place.ensures.network c.args.rows.now.items c.requires c.args.post.now.from c.args.post.now.to c.in-Some.row c.in-Some.at c.in-Some.ensures.place c.index_mut.result.now c.index_mut.ensures.value c.hear.new.letters))
-    (heard_one c.args.net.now c.pair_place.ensures.network (lists_of c.args.rows.now.items) c.requires c.args.post.now.from c.args.post.now.to (c.in-Some.row, c.in-Some.at) c.in-Some.ensures.place U all c.args.post.now.export typed c.index_mut-2.result.now c.hear.new.letters c.in_ok-export.export is c.in_ok-export.ensures c.hear.ensures.heard c.hear.ensures.transit)
+    (heard_one c.args.net.now c.pair_place.ensures.network (lists_of c.args.rows.now.items) c.requires c.args.post.now.from c.args.post.now.to (c.in-Some.row, c.in-Some.at) c.in-Some.ensures.place U all c.args.post.now.export typed c.index_mut-2.result.now c.hear.new.letters c.in_ok-export.export is (ap export_of c.in_ok-export.ensures ∙ c.in_ok-copy_export.ensures) c.hear.ensures.heard c.hear.ensures.transit)

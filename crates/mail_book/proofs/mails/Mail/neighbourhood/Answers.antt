@@ -2,7 +2,7 @@ use Rattle.std.proofs.Common.{◌≡◌, ◌<◌, ◌∙◌, ℕ, List, [], leng
 use Rattle.std.specs.Prelude.{option_map}
 use Rattle.std.proofs.lemmas.List.{length-map}
 use Rattle.fc_values.specs.Values.{local_of}
-use Rattle.fc_values.specs.Exports.{FlatExport}
+use Rattle.fc_values.specs.Exports.{FlatExport, export_of}
 use Rattle.fc_nodes.specs.Program.{Unfolding}
 use Rattle.fc_nodes.specs.Flat.{tree_export, IsExport}
 use Rattle.value_trees.specs.declared.copies.Snap.{Snap}
@@ -22,7 +22,7 @@ use Rattle.mail_book.specs.MailViews.{MailValue, mail_with, mail_of, unfolded_of
 use Rattle.mail_book.proofs.LetterWrites.{lists_long, lists_get, row_letters}
 use Rattle.mail_book.proofs.Sights.{row_in, row_is_long, near_seen, own_seen, seen_fits}
 use Rattle.mail_book.proofs.mails.Mail.neighbourhood.Goals as goal
-use Rattle.mail_book.proofs.mails.Mail.neighbourhood.Goals.{in-Some+in_ok-copy_export-in-Some, in-None}
+use Rattle.mail_book.proofs.mails.Mail.neighbourhood.Goals.{in-Some+in_ok-share-in-Some, in-None}
 
 pub index-requires : goal.index-requires
 index-requires c =
@@ -51,13 +51,8 @@ module _ (c : goal.After-deref-2) where
       ∙ row_is_long c.self.inside.core c.net.ensures.good (lists_of c.self.inside.rows.items) c.self.invariant.shape c.self.invariant.letters c.args.device c.args.place at
       ∙ ap (length {A = ℕ × ℕ}) (sym neighbours)
 
-pub heard_in-requires-clause-few : goal.heard_in-requires-clause-few
-heard_in-requires-clause-few c =
-    let degree = c.neighbours-neighbours.ensures.network.degree c.args.device in
-    omega (arith, degree, ap (length {A = ℕ × ℕ}) c.neighbours-neighbours.ensures.value)
-
-pub heard_in-requires-clause-long : goal.heard_in-requires-clause-long
-heard_in-requires-clause-long c = long c
+pub heard_in-requires : goal.heard_in-requires
+heard_in-requires c = long c
 
 module _ (c : goal.In_ok-near) where
   U : Unfolding
@@ -85,17 +80,17 @@ module _ (c : goal.In_ok-near) where
       ∙ device_inputs c.self.inside.core c.net.ensures.core c.args.place c.args.device c.devices.result.now c.index-devices-place.result
       (c.devices.ensures.value ∙ ap (λ (N : Network). N.devices) c.net.ensures.value) here.within here.is c.index-devices-place.is
 
-  own : (option_map (tree_of (program_of c.self.inside.core)) c.match-export.own ≡ (core_of c.self.inside.core).exports c.args.device) × WhereSome (IsExportOf (program_of c.self.inside.core)) c.match-export.own
-  own = elim c.match-export.branch [
-    | in-Some+in_ok-copy_export-in-Some w ↦
-        let same = w.in_ok-copy_export-in-Some.ensures in (
+  own : (option_map (tree_of (program_of c.self.inside.core)) c.match-published.own ≡ (core_of c.self.inside.core).exports c.args.device) × WhereSome (IsExportOf (program_of c.self.inside.core)) c.match-published.own
+  own = elim c.match-published.branch [
+    | in-Some+in_ok-share-in-Some w ↦
+        let same = ap export_of w.in_ok-share-in-Some.ensures in (
           ap (option_map (tree_of (program_of c.self.inside.core))) w.own-is ∙ ap (λ (f : FlatExport). Some (tree_export (program_of c.self.inside.core) f)) same ∙ w.in-Some.ensures.value,
           subst (WhereSome (IsExportOf (program_of c.self.inside.core))) (sym w.own-is) (subst (IsExport (program_of c.self.inside.core)) (sym same) w.in-Some.ensures.export),
         )
     | in-None w ↦ (ap (option_map (tree_of (program_of c.self.inside.core))) w.own-is ∙ w.in-None.ensures.value, subst (WhereSome (IsExportOf (program_of c.self.inside.core))) (sym w.own-is) tt)
   ]
 
-  heard : map (near_copy (program_of c.self.inside.core)) c.in_ok-near.near.value.items ≡ near_copies (sees (mail_of (mail_with c.self.inside.core (lists_of c.self.inside.rows.items))) c.args.device) (near c.self.inside.core.net c.args.device)
+  heard : map (near_copy (program_of c.self.inside.core)) c.in_ok-near.near.items ≡ near_copies (sees (mail_of (mail_with c.self.inside.core (lists_of c.self.inside.rows.items))) c.args.device) (near c.self.inside.core.net c.args.device)
   heard =
       c.in_ok-near.ensures.near (program_of c.self.inside.core)
       ∙ ap (λ (ns : List (ℕ × ℕ)). heard_copies (program_of c.self.inside.core) ns c.deref-2.result.now) the_near
@@ -103,7 +98,7 @@ module _ (c : goal.In_ok-near) where
       ∙ sym (near_seen c.self.inside.core c.net.ensures.good (lists_of c.self.inside.rows.items) c.self.invariant.shape c.self.invariant.letters c.args.device c.args.place here)
 
   s : Snap
-  s = record { device = c.args.device; inputs = c.in_ok-inputs.inputs; own = c.match-export.own; near = c.in_ok-near.near }
+  s = record { device = c.args.device; inputs = c.in_ok-inputs.inputs; own = c.match-published.own; near = c.in_ok-near.near }
 
   copy_is : snap_copy (program_of c.self.inside.core) s ≡ copy_of c.self.inside.core.net (sees (mail_of (mail_with c.self.inside.core (lists_of c.self.inside.rows.items))) c.args.device) c.args.device
   unfolding s
