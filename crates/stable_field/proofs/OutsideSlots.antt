@@ -7,7 +7,7 @@ use Rattle.fc_values.specs.declared.exports.Export.{Export}
 use Rattle.fc_values.specs.Types.{LocalType, ValueType}
 use Rattle.fc_values.specs.Exports.{SlotValue, slot_at}
 use Rattle.fc_nodes.specs.declared.nodes.Node.{Node}
-use Rattle.fc_nodes.specs.Terms.{Term, Terms, Plain, Apply, Nbr, Evolve, If, Let, NoMore, More, size, kept, kept_type, kept_before, places, one_if, Evolution, Sort, OfLeaf, OfApply, OfNbr, OfEvolve, OfIf, OfLet, term_at, view_keeps, HasNode, Laid, AllLaid}
+use Rattle.fc_nodes.specs.Terms.{Term, Terms, Plain, Apply, Nbr, Evolve, If, Let, NoMore, More, size, kept, kept_type, kept_before, places, one_if, Evolution, Sort, OfLeaf, OfApply, OfNbr, OfEvolve, OfIf, OfLet, term_at, view_keeps, HasNode, AllLaid}
 use Rattle.fc_nodes.specs.Places.{StandsAt, StandAfter}
 use Rattle.fc_nodes.specs.Layouts.{keeps_at}
 use Rattle.fc_nodes.proofs.Places.{AllAbove}

@@ -1,5 +1,5 @@
 -- Exports that are the same outside first values are at the same levels.
-use Rattle.std.proofs.Common.{◌≡◌, ℕ, zero, suc, ◌+◌, List, [], ◌∷◌, refl, sym, ◌∙◌, ap, subst, arith, true, false, Some}
+use Rattle.std.proofs.Common.{◌≡◌, ℕ, suc, ◌+◌, List, [], ◌∷◌, refl, sym, ◌∙◌, ap, subst, arith, true, false, Some}
 use Rattle.fc_values.specs.Values.{LocalValue, BoolValue}
 use Rattle.fc_values.specs.Exports.{SlotValue, slot_at}
 use Rattle.fc_values.specs.Trees.{Tree, child, nth_tree}
@@ -44,17 +44,17 @@ module _ (A : Analysis) (N : Network) (j n : ℕ) (xs ys : List SlotValue) where
           (λ v. sym (keeps k o.0) ∙ h.0 v),
           holds_same c (suc k) (suc p) b st lv D V (local_map (λ d. BoolValue (s.1 d))) s.2 o.1 h.1,
           (λ v e.
-          let z : (slot_at k ys).1 ≡ BoolValue true = some_same _ _ (h.0 v ∙ ap (λ q. Some (BoolValue q)) e) in
-          let z' : (slot_at k xs).1 ≡ BoolValue true = ap (λ (q : SlotValue). q.1) o.0 ∙ z in
-          subst (Holds A N j (suc p + size c) l st lv u (where_is true D s.1) V F s.3 n) (sym (taken _ _ _ _ z' refl))
-          (holds_same u (suc k + kept c) (suc p + size c) l st lv (where_is true D s.1) V F s.3 o.2
-          (subst (Holds A N j (suc p + size c) l st lv u (where_is true D s.1) V F s.3 n) (taken _ _ _ _ z refl) (h.2 v e)))),
+              let z : (slot_at k ys).1 ≡ BoolValue true = some_same _ _ (h.0 v ∙ ap (λ q. Some (BoolValue q)) e) in
+              let z' : (slot_at k xs).1 ≡ BoolValue true = ap (λ (q : SlotValue). q.1) o.0 ∙ z in
+              subst (Holds A N j (suc p + size c) l st lv u (where_is true D s.1) V F s.3 n) (sym (taken _ _ _ _ z' refl))
+              (holds_same u (suc k + kept c) (suc p + size c) l st lv (where_is true D s.1) V F s.3 o.2
+              (subst (Holds A N j (suc p + size c) l st lv u (where_is true D s.1) V F s.3 n) (taken _ _ _ _ z refl) (h.2 v e)))),
           (λ v e.
-          let z : (slot_at k ys).1 ≡ BoolValue false = some_same _ _ (h.0 v ∙ ap (λ q. Some (BoolValue q)) e) in
-          let z' : (slot_at k xs).1 ≡ BoolValue false = ap (λ (q : SlotValue). q.1) o.0 ∙ z in
-          subst (Holds A N j (suc p + size c + size u) l st lv w (where_is false D s.1) V F s.4 n) (sym (left _ _ _ _ z' refl))
-          (holds_same w (suc k + kept c + kept u) (suc p + size c + size u) l st lv (where_is false D s.1) V F s.4 o.3
-          (subst (Holds A N j (suc p + size c + size u) l st lv w (where_is false D s.1) V F s.4 n) (left _ _ _ _ z refl) (h.3 v e)))),
+              let z : (slot_at k ys).1 ≡ BoolValue false = some_same _ _ (h.0 v ∙ ap (λ q. Some (BoolValue q)) e) in
+              let z' : (slot_at k xs).1 ≡ BoolValue false = ap (λ (q : SlotValue). q.1) o.0 ∙ z in
+              subst (Holds A N j (suc p + size c + size u) l st lv w (where_is false D s.1) V F s.4 n) (sym (left _ _ _ _ z' refl))
+              (holds_same w (suc k + kept c + kept u) (suc p + size c + size u) l st lv (where_is false D s.1) V F s.4 o.3
+              (subst (Holds A N j (suc p + size c + size u) l st lv w (where_is false D s.1) V F s.4 n) (left _ _ _ _ z refl) (h.3 v e)))),
         )
       where
         some_same : (v w : LocalValue) → Some v ≡ Some w → v ≡ w
@@ -78,7 +78,7 @@ module _ (A : Analysis) (N : Network) (j n : ℕ) (xs ys : List SlotValue) where
     all_same (More x ts) k p i b st lv D V (G ∷ Gs) s T T' f f' o h =
         let z : i + 0 ≡ i = omega arith in (
           subst (Holds A N j p b st lv x D V G s.0 n) (sym (f 0) ∙ ap (λ m. child m T) z)
-          (holds_same x k p b st lv D V G s.0 o.0 (subst (Holds A N j p b st lv x D V G s.0 n) (ap (λ m. child m T') (sym z) ∙ f' 0) h.0)),
+              (holds_same x k p b st lv D V G s.0 o.0 (subst (Holds A N j p b st lv x D V G s.0 n) (ap (λ m. child m T') (sym z) ∙ f' 0) h.0)),
           all_same ts (k + kept x) (p + size x) (suc i) b st lv D V Gs s.1 T T'
-          (λ m. ap (λ q. child q T) (omega arith) ∙ f (suc m)) (λ m. ap (λ q. child q T') (omega arith) ∙ f' (suc m)) o.1 h.1,
+              (λ m. ap (λ q. child q T) (omega arith) ∙ f (suc m)) (λ m. ap (λ q. child q T') (omega arith) ∙ f' (suc m)) o.1 h.1,
         )

@@ -1,4 +1,4 @@
-use Rattle.std.proofs.Common.{◌+◌, ◌-◌, ◌*◌, ◌≡◌, List, drop, length}
+use Rattle.std.proofs.Common.{◌+◌, ◌-◌, ◌*◌, List, drop, length}
 use Rattle.fc_values.specs.Exports.{SlotValue}
 use Rattle.fc_nodes.specs.Places.{StandAfter}
 use Rattle.stable_field.specs.Outside.{SameAt, EachOutside}
