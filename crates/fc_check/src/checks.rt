@@ -10,9 +10,8 @@ ghost use Rattle.fc_check.specs.Checks.{Checks, checked_of};
 use fc_inputs::{Reply, Stop, read_input};
 use fc_nodes::{Unfolded, Verdict};
 use fc_values::Memory;
-use interval_facts::ranges;
 use report::{facts as write_facts, verdict as write_verdict};
-use round_bound::{levels, recognise};
+use round_bound::Analysis;
 use std::alloc::Global;
 
 /// The verdict on a program for so many devices, with its text: behind a yes the facts of each node, where they are
@@ -28,13 +27,15 @@ pub fn verdict_text(
     ensures verdict { IfOk result (λ r. r.0 ≡ verdict_of program.now devices) }
     ensures text { IfOk result (λ r. r.1.items ≡ (checked_of facts program.now devices).text) }
 {
-    let ranges = ranges(alloc, program)?;
-    let verdict = recognise(alloc, program, &ranges, devices)?;
+    let analysis = Analysis::new(alloc, program)?;
+    let (verdict, levels) = analysis.verdict_with_levels(alloc, devices)?;
     let mut text = Vec::new(alloc);
     write_verdict(alloc, &mut text, &verdict)?;
-    if facts && matches!(verdict, Verdict::Yes(_)) {
-        let levels = levels(alloc, program, &ranges, devices)?;
-        write_facts(alloc, &mut text, program, &ranges, &levels)?;
+    match verdict {
+        Verdict::Yes(_) if facts => {
+            write_facts(alloc, &mut text, program, analysis.ranges(), &levels)?
+        }
+        _ => {}
     }
     Ok((verdict, text))
 }

@@ -14,23 +14,19 @@ ghost use Rattle.fc_trace.specs.Traces.{TracedBy, Traces};
 
 use crate::writing::write_walks;
 use fc_inputs::{Reply, Stop, read_input};
-use fc_nodes::Unfolded;
+use fc_nodes::{Unfolded, Verdict};
 use fc_values::Memory;
-use interval_facts::ranges;
 use report::verdict as write_verdict;
-use round_bound::recognise;
+use round_bound::Analysis;
 use std::alloc::Global;
 use topology::Network;
 use walk_form::{CostFault, costs};
 use walks::{Costs, Evidence, check_walks, trace, traced_claims_hold};
 
-// The verdict's line, for so many devices.
-fn verdict_line(alloc: Global, program: &Unfolded, devices: u32) -> Result<Vec<u8>, Memory>
-    requires { 1 ≤ devices }
-    ensures { IfOk result (λ v. v.items ≡ verdict_text (verdict_of program.now devices)) }
+// The line of a verdict.
+fn verdict_line(alloc: Global, verdict: Verdict) -> Result<Vec<u8>, Memory>
+    ensures { IfOk result (λ v. v.items ≡ verdict_text verdict) }
 {
-    let ranges = ranges(alloc, program)?;
-    let verdict = recognise(alloc, program, &ranges, devices)?;
     let mut text = Vec::new(alloc);
     write_verdict(alloc, &mut text, &verdict)?;
     Ok(text)
@@ -66,21 +62,22 @@ fn no_walks(mut text: Vec<u8>) -> Result<Reply, Memory>
 
 // The walks of a program on a network, or that there are none.
 fn of_network(alloc: Global, program: &Unfolded, net: &Network) -> Result<Reply, Memory>
-    requires program { IsProgram program.now }
-    requires declared { net.now.declared ≡ program.now.declared }
+    requires { net.now.declared ≡ program.now.declared }
     ensures { IfOk result (TracedBy (verdict_of program.now (length net.now.devices))
         (walk_terms (unfolding_of program.now)) (unfolding_of program.now) net.now) }
 {
-    // Its clause: the network has devices.
-    let devices = net.devices().len() as u32;
-    let text = verdict_line(alloc, program, devices)?;
-    match costs(alloc, program, net) {
-        Ok(costs) => {
+    let analysis = Analysis::new(alloc, program)?;
+    match costs(alloc, &analysis, net) {
+        Ok((rounds, costs)) => {
+            let line = verdict_line(alloc, Verdict::Yes(rounds))?;
             let claim = checked_walks(alloc, &costs)?;
-            walks_reply(alloc, text, &claim)
+            walks_reply(alloc, line, &claim)
         }
-        Err(CostFault::Unrecognised(_)) => Ok(Reply::new(1, text)),
-        Err(CostFault::NotWalks) => no_walks(text),
+        Err(CostFault::Unrecognised { place, reason }) => {
+            let line = verdict_line(alloc, Verdict::No { place, reason })?;
+            Ok(Reply::new(1, line))
+        }
+        Err(CostFault::NotWalks(rounds)) => no_walks(verdict_line(alloc, Verdict::Yes(rounds))?),
         Err(CostFault::Memory) => Err(Memory),
     }
 }

@@ -53,8 +53,8 @@ pub fn levels(
     Ok(found.0)
 }
 
-// The levels of all nodes, and that of `main`.
-fn main_levels(
+/// The levels of all nodes, and that of `main`.
+pub(crate) fn main_levels(
     alloc: Global,
     program: &Unfolded,
     ranges: &Ranges,

@@ -2,7 +2,6 @@
 
 ghost use Rattle.std.specs.Prelude.{◌≡◌, IfOk};
 ghost use Rattle.fc_nodes.specs.Program.{unfolding_of};
-ghost use Rattle.interval_facts.specs.Ranges.{AreRangesOf};
 ghost use Rattle.value_trees.specs.Copies.{WhereSome};
 ghost use Rattle.value_trees.specs.Snaps.{IsExportOf};
 ghost use Rattle.stable_field.specs.Tables.{IsTable};
@@ -11,8 +10,8 @@ use crate::firing::Slots;
 use candidate_field::candidate;
 use fc_nodes::Unfolded;
 use fc_values::{Export, Memory};
-use fragment_check::{Pattern, PatternFault, patterns};
-use interval_facts::Ranges;
+use fragment_check::Pattern;
+use round_bound::Analysis;
 use std::alloc::Global;
 use topology::Network;
 use value_trees::{Published, well_typed};
@@ -22,12 +21,11 @@ pub fn guessed(
     alloc: Global,
     program: &Unfolded,
     net: &Network,
-    ranges: &Ranges,
+    analysis: &Analysis<'_>,
 ) -> Result<Slots, Memory>
-    requires { AreRangesOf (unfolding_of program.now) ranges.now }
     ensures { IfOk result (λ v. IsTable (unfolding_of program.now) net.now v.items) }
 {
-    let potentials = potentials(alloc, program, ranges)?;
+    let potentials = potentials(alloc, analysis)?;
     let mut guess = candidate(alloc, program, net, &potentials)?;
     let count = net.devices().len();
     let mut table = Vec::with_capacity(alloc, count)?;
@@ -63,20 +61,14 @@ fn published(alloc: Global, export: Option<Export>) -> Result<Option<Published>,
 
 // The binders by whose variables the guards of a `rep` or `share` compare, each with the place of that `rep` or
 // `share`.
-fn potentials(alloc: Global, program: &Unfolded, ranges: &Ranges) -> Result<Vec<(u32, u32)>, Memory>
-    requires { AreRangesOf (unfolding_of program.now) ranges.now }
-{
+fn potentials(alloc: Global, analysis: &Analysis<'_>) -> Result<Vec<(u32, u32)>, Memory> {
     let mut list = Vec::new(alloc);
-    match patterns(alloc, program, ranges) {
-        Ok(found) => {
-            for (place, pattern) in &found {
-                if let Pattern::Acyclic { potential } = pattern {
-                    list.push((*place, *potential))?;
-                }
+    if let Ok(found) = analysis.patterns() {
+        for (place, pattern) in found {
+            if let Pattern::Acyclic { potential } = pattern {
+                list.push((*place, *potential))?;
             }
-            Ok(list)
         }
-        Err(PatternFault::Refused { .. }) => Ok(list),
-        Err(PatternFault::Memory) => Err(Memory),
     }
+    Ok(list)
 }

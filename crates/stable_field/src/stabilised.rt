@@ -4,7 +4,6 @@ ghost use Rattle.std.specs.Prelude.{ℕ, ◌≡◌, IfErr, IfOk, OnOk, length, m
 ghost use Rattle.fc_values.specs.Fields.{Rises, devices, entry_of};
 ghost use Rattle.fc_nodes.specs.declared.verdicts.Verdict.TheVariants as verdict;
 ghost use Rattle.fc_nodes.specs.Program.{unfolding_of};
-ghost use Rattle.interval_facts.specs.Ranges.{AreRangesOf};
 ghost use Rattle.fragment_check.specs.Verdicts.{verdict_of};
 ghost use Rattle.value_trees.specs.Copies.{WhereSome};
 ghost use Rattle.stable_field.specs.Columns.{IsColumn};
@@ -17,7 +16,7 @@ use crate::whole::{judged, solved};
 use converge_laws::yes_stabilises;
 use fc_nodes::Unfolded;
 use fc_values::{Local, Memory};
-use interval_facts::{Ranges, ranges};
+use round_bound::Analysis;
 use std::alloc::Global;
 use topology::Network;
 
@@ -34,9 +33,9 @@ pub fn stable(
     ensures yes { OnOk result ((k : ℕ) × (verdict_of program.now (length net.now.devices) ≡ verdict.Yes k)) }
     ensures refused { IfErr result (IsFaultOf program.now (length net.now.devices)) }
 {
-    let ranges = ranges(alloc, program)?;
-    let rounds = judged(alloc, program, net, &ranges)?;
-    Ok(field(alloc, program, net, &ranges, rounds)?)
+    let analysis = Analysis::new(alloc, program)?;
+    let rounds = judged(alloc, &analysis, net)?;
+    Ok(field(alloc, program, net, &analysis, rounds)?)
 }
 
 // The field, where the verdict is a yes for so many rounds.
@@ -44,11 +43,10 @@ fn field(
     alloc: Global,
     program: &Unfolded,
     net: &Network,
-    ranges: &Ranges,
+    analysis: &Analysis<'_>,
     rounds: u64,
 ) -> Result<Column, Memory>
     requires declared { net.now.declared ≡ program.now.declared }
-    requires ranges { AreRangesOf (unfolding_of program.now) ranges.now }
     requires yes { verdict_of program.now (length net.now.devices) ≡ verdict.Yes rounds }
     ensures field { IfOk result (λ v. IsStableField (unfolding_of program.now) net.now (map entry_of v.items)) }
     ensures rises { IfOk result (λ v. Rises (devices (map entry_of v.items))) }
@@ -59,7 +57,7 @@ fn field(
     if let Some(values) = by_terms(alloc, program, net)? {
         return Ok(values);
     }
-    let start = guessed(alloc, program, net, ranges)?;
+    let start = guessed(alloc, program, net, analysis)?;
     Ok(solved(alloc, program, net, start, rounds)?)
 }
 

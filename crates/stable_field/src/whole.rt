@@ -4,7 +4,6 @@ ghost use Rattle.std.specs.Prelude.{◌≡◌, IfErr, IfOk, length, map};
 ghost use Rattle.fc_values.specs.Fields.{Rises, devices, entry_of};
 ghost use Rattle.fc_nodes.specs.declared.verdicts.Verdict.TheVariants as verdict;
 ghost use Rattle.fc_nodes.specs.Program.{unfolding_of};
-ghost use Rattle.interval_facts.specs.Ranges.{AreRangesOf};
 ghost use Rattle.fragment_check.specs.Verdicts.{verdict_of};
 ghost use Rattle.value_trees.specs.Copies.{WhereSome};
 ghost use Rattle.stable_field.specs.Columns.{IsColumn};
@@ -20,24 +19,17 @@ use crate::terms::Column;
 use converge_laws::{yes_analyses, yes_stabilises};
 use fc_nodes::{Unfolded, Verdict};
 use fc_values::Memory;
-use interval_facts::{Ranges, ranges};
-use round_bound::recognise;
+use round_bound::Analysis;
 use std::alloc::Global;
 use topology::Network;
 
 /// The rounds of a yes, or the place of a no.
-pub fn judged(
-    alloc: Global,
-    program: &Unfolded,
-    net: &Network,
-    ranges: &Ranges,
-) -> Result<u64, StableFault>
-    requires { AreRangesOf (unfolding_of program.now) ranges.now }
-    ensures yes { IfOk result (λ k. verdict_of program.now (length net.now.devices) ≡ verdict.Yes k) }
-    ensures no { IfErr result (IsFaultOf program.now (length net.now.devices)) }
+pub fn judged(alloc: Global, analysis: &Analysis<'_>, net: &Network) -> Result<u64, StableFault>
+    ensures yes { IfOk result (λ k. verdict_of analysis.now (length net.now.devices) ≡ verdict.Yes k) }
+    ensures no { IfErr result (IsFaultOf analysis.now (length net.now.devices)) }
 {
     let devices = net.devices().len() as u32;
-    match recognise(alloc, program, ranges, devices)? {
+    match analysis.verdict(alloc, devices)? {
         Verdict::No { place, .. } => Err(StableFault::Unrecognised(place)),
         Verdict::Yes(rounds) => Ok(rounds),
     }
@@ -48,10 +40,10 @@ pub fn whole(alloc: Global, program: &Unfolded, net: &Network) -> Result<Option<
     requires { net.now.declared ≡ program.now.declared }
     ensures { IfOk result (WhereSome (λ v. IsColumn net.now 0 (unfolding_of program.now).main (map entry_of v.items))) }
 {
-    let ranges = ranges(alloc, program)?;
-    match judged(alloc, program, net, &ranges) {
+    let analysis = Analysis::new(alloc, program)?;
+    match judged(alloc, &analysis, net) {
         Ok(rounds) => {
-            let start = guessed(alloc, program, net, &ranges)?;
+            let start = guessed(alloc, program, net, &analysis)?;
             Ok(Some(solved(alloc, program, net, start, rounds)?))
         }
         Err(StableFault::Unrecognised(_)) => Ok(None),

@@ -1,6 +1,5 @@
 -- The costs of walks that a program of the walk form has on a network, and why there are none.
 use Rattle.std.specs.Prelude.{ℕ, ◌≡◌, List, Some, None}
-use Rattle.fc_nodes.specs.declared.verdicts.Reason.{Reason}
 use Rattle.fc_nodes.specs.declared.verdicts.Verdict.TheVariants as verdict
 use Rattle.fc_nodes.specs.Program.{Program, Unfolding, unfolding_of}
 use Rattle.topology.specs.Networks.{Network}
@@ -31,8 +30,9 @@ pub record AreCostsOf (U : Unfolding) (N : Network) (C : CostsValue) : Type 0 wh
   pub form : walk_terms U ≡ Some terms
   pub costs : AreCostsFor U N terms C
 
--- the verdict for so many devices is a no at the place, or a yes without the walk form; want of memory comes freely
+-- the verdict for so many devices is this no, or a yes for so many rounds without the walk form; want of memory comes
+-- freely
 abbrev pub IsCostFault : Program → ℕ → CostFault → Type 0
-IsCostFault P n (fault.Unrecognised place) = (why : Reason) × (verdict_of P n ≡ verdict.No place why)
-IsCostFault P n fault.NotWalks = ((k : ℕ) × (verdict_of P n ≡ verdict.Yes k)) × (walk_terms (unfolding_of P) ≡ None)
+IsCostFault P n (fault.Unrecognised place why) = verdict_of P n ≡ verdict.No place why
+IsCostFault P n (fault.NotWalks k) = (verdict_of P n ≡ verdict.Yes k) × (walk_terms (unfolding_of P) ≡ None)
 IsCostFault P n fault.Memory = Unit {0}

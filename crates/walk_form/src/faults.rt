@@ -3,14 +3,16 @@
 ghost use Rattle.std.specs.Prelude.{◌≡◌};
 ghost use Rattle.walk_form.specs.declared.faults.CostFault.TheVariants as fault;
 
+use fc_nodes::Reason;
 use fc_values::Memory;
 use std::alloc::{AllocError, AllocFailed};
 
-/// The first place at which the verdict on the program is no, a yes without the walk form, or want of memory.
+/// The first place at which the verdict on the program is no, with its reason; a yes for so many rounds without the walk
+/// form; or want of memory.
 #[derive(Clone, Copy, Debug, PartialEq, Eq)]
 pub enum CostFault {
-    Unrecognised(u32),
-    NotWalks,
+    Unrecognised { place: u32, reason: Reason },
+    NotWalks(u64),
     Memory,
 }
 

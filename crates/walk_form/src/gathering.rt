@@ -1,6 +1,6 @@
 //! What walks cost.
 
-ghost use Rattle.std.specs.Prelude.{ℕ, ◌≡◌, IfErr, IfOk, OnOk, length};
+ghost use Rattle.std.specs.Prelude.{ℕ, ◌≡◌, IfErr, IfOk, length};
 ghost use Rattle.fc_nodes.specs.declared.verdicts.Verdict.TheVariants as verdict;
 ghost use Rattle.fc_nodes.specs.Program.{unfolding_of};
 ghost use Rattle.fragment_check.specs.Verdicts.{verdict_of};
@@ -15,29 +15,32 @@ use crate::integers::integers_at;
 use converge_laws::{solutions_are_one, yes_analyses};
 use fc_nodes::{Unfolded, Verdict};
 use fc_values::Memory;
-use interval_facts::ranges;
-use round_bound::recognise;
+use round_bound::Analysis;
 use std::alloc::Global;
 use topology::{Network, neighbours_are_mutual};
 use walks::{Add, Costs, gather};
 
-/// The costs of walks of a program on a network, found from the fields of its local argument and of what steps add.
-/// `Unrecognised` comes exactly where the verdict is a no, with its place, and `NotWalks` exactly where it is a yes and
-/// the program hasn't the walk form.
-pub fn costs(alloc: Global, program: &Unfolded, net: &Network) -> Result<Costs, CostFault>
-    requires declared { net.now.declared ≡ program.now.declared }
-    ensures costs { IfOk result (λ c. AreCostsOf (unfolding_of program.now) net.now (costs_of c)) }
-    ensures are { IfOk result (λ c. IsCosts (costs_of c)) }
-    ensures yes { OnOk result ((k : ℕ) × (verdict_of program.now (length net.now.devices) ≡ verdict.Yes k)) }
-    ensures refused { IfErr result (IsCostFault program.now (length net.now.devices)) }
+/// The rounds of the verdict's yes, and the costs of walks of a program on a network, found from the fields of its local
+/// argument and of what steps add. `Unrecognised` comes exactly where the verdict is a no, with its place and reason, and
+/// `NotWalks` exactly where it is a yes and the program hasn't the walk form, with the rounds.
+pub fn costs(
+    alloc: Global,
+    analysis: &Analysis<'_>,
+    net: &Network,
+) -> Result<(u64, Costs), CostFault>
+    requires declared { net.now.declared ≡ analysis.now.declared }
+    ensures costs { IfOk result (λ c. AreCostsOf (unfolding_of analysis.now) net.now (costs_of c.1)) }
+    ensures are { IfOk result (λ c. IsCosts (costs_of c.1)) }
+    ensures yes { IfOk result (λ c. verdict_of analysis.now (length net.now.devices) ≡ verdict.Yes c.0) }
+    ensures refused { IfErr result (IsCostFault analysis.now (length net.now.devices)) }
 {
-    let ranges = ranges(alloc, program)?;
+    let program = analysis.program();
     let devices = net.devices().len() as u32;
-    match recognise(alloc, program, &ranges, devices)? {
-        Verdict::No { place, .. } => Err(CostFault::Unrecognised(place)),
-        Verdict::Yes(_) => match walk_form(program, &ranges) {
-            Some(form) => Ok(form_costs(alloc, program, net, form)?),
-            None => Err(CostFault::NotWalks),
+    match analysis.verdict(alloc, devices)? {
+        Verdict::No { place, reason } => Err(CostFault::Unrecognised { place, reason }),
+        Verdict::Yes(rounds) => match walk_form(program, analysis.ranges()) {
+            Some(form) => Ok((rounds, form_costs(alloc, program, net, form)?)),
+            None => Err(CostFault::NotWalks(rounds)),
         },
     }
 }
