@@ -24,13 +24,12 @@ use fc_nodes::{Unfolded, Verdict};
 use fc_replay::start;
 use fc_values::Memory;
 use firing_core::Book;
-use interval_facts::ranges;
 use mail_book::{Mail, MailBook, mail_logs_end, replay_mail};
 use mail_drive::{drive, driven_logs_lead};
 use message_links::{MailEntry, MailReplay};
 use net_json::Scene;
 use report::verdict as write_verdict;
-use round_bound::recognise;
+use round_bound::Analysis;
 use std::alloc::Global;
 use std::sync::Arc;
 use topology::Network;
@@ -64,8 +63,7 @@ fn verdict(alloc: Global, program: &Unfolded, devices: u32) -> Result<Verdict, M
     ensures verdict { IfOk result (λ v. v ≡ verdict_of program.now devices) }
     ensures few { IfOk result (λ v. (k : ℕ) → v ≡ verdict.Yes k → k < 2 ^ 33) }
 {
-    let ranges = ranges(alloc, program)?;
-    recognise(alloc, program, &ranges, devices)
+    Analysis::new(alloc, program)?.verdict(alloc, devices)
 }
 
 // How many messages so many rounds drive.

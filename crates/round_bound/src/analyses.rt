@@ -1,6 +1,6 @@
 //! A program that is analysed: its ranges, its patterns, and from them its verdict and its levels.
 
-use crate::verdicts::main_levels;
+use crate::levels::main_levels;
 use fc_nodes::{Reason, Unfolded, Verdict};
 use fc_values::Memory;
 use fragment_check::{Pattern, PatternFault, patterns};

@@ -4,9 +4,8 @@
 
 mod added;
 mod analyses;
+mod levels;
 mod scopes;
-mod verdicts;
 mod walk;
 
 pub use analyses::Analysis;
-pub use verdicts::{levels, recognise};

@@ -9,9 +9,8 @@ ghost use Rattle.session.specs.ScriptRuns.{changes_devices, shown_after};
 use fc_nodes::Verdict;
 use fc_values::Memory;
 use firing_core::{Book, Core, Edit};
-use interval_facts::ranges;
 use report::{values, verdict as write_verdict};
-use round_bound::recognise;
+use round_bound::Analysis;
 use std::alloc::Global;
 
 /// The verdict on a core's program for its network.
@@ -22,8 +21,7 @@ pub(crate) fn verdict_on(alloc: Global, core: &Core) -> Result<Verdict, Memory>
     let program = core.program();
     let _size = program.size();
     let devices = core.net().devices().len() as u32;
-    let ranges = ranges(alloc, program)?;
-    recognise(alloc, program, &ranges, devices)
+    Analysis::new(alloc, program)?.verdict(alloc, devices)
 }
 
 // Whether a line with this edit shows the verdict.

@@ -4,7 +4,7 @@ use Rattle.fragment_check.specs.Levels.{level_of, node_levels}
 use Rattle.fragment_check.specs.Verdicts.{stages_of}
 use Rattle.round_bound.proofs.Small.{stages_few}
 use Rattle.round_bound.proofs.LevelBounds.{AllAtMost, level_few, node_levels_few, at_most_at}
-use Rattle.round_bound.proofs.verdicts.main_levels.Goals as goal
+use Rattle.round_bound.proofs.levels.main_levels.Goals as goal
 
 pub returns-clause-few : goal.returns-clause-few
 returns-clause-few c =
