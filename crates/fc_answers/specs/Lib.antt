@@ -4,3 +4,4 @@ pub mod Answers
 pub mod Code
 pub mod Headline
 pub mod Laws
+pub mod Limits

@@ -1,6 +1,7 @@
 //! Laws of the answers.
 ghost use Rattle.fc_answers.specs.Headline.{AnswersKeep};
 ghost use Rattle.fc_answers.specs.Laws.{AnswerStatuses, OneAnswer, SomeAnswer};
+ghost use Rattle.fc_answers.specs.Limits.{LimitsAre};
 
 use converge_laws::yes_stabilises;
 use fc_check::{one_check, some_check};
@@ -74,3 +75,8 @@ pub fn answers_keep()
     all_agree();
     mails_keep_yes();
 }
+
+/// Each limit of the code is the number of the definitions.
+pub fn limits_are()
+    ensures { LimitsAre }
+{}

@@ -9,4 +9,4 @@ mod stabilised;
 
 pub use answers::{Answer, answer_to, answer_unread};
 pub use asked::{past_limit, reads, workers_of};
-pub use laws::{answer_statuses, answers_keep, one_answer, some_answer};
+pub use laws::{answer_statuses, answers_keep, limits_are, one_answer, some_answer};
