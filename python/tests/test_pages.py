@@ -19,7 +19,7 @@ import fieldc
 from fieldc import network
 from fieldc import program as fc
 
-BLOCK = re.compile(r"^```fc ([^\n]*)\n(.*?)^```$", re.MULTILINE | re.DOTALL)
+BLOCK = re.compile(r"^`((?:yes|no) [^`\n]*)`\n\n```fc\n(.*?)^```$", re.MULTILINE | re.DOTALL)
 CONSOLE = re.compile(r"^```console\n(.*?)^```$", re.MULTILINE | re.DOTALL)
 PICTURE = re.compile(r"\(pictures/([^)]*)\)")
 MARK = "-- end of a command --"
