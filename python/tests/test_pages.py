@@ -234,7 +234,7 @@ class Links(unittest.TestCase):
                     self.assertTrue(any((place / named).exists() for place in places))
 
     def test_the_list_of_pages_is_whole(self) -> None:
-        listed = set(re.findall(r"^\| `([\w.]+\.md)` \|", (TOP / "docs/README.md").read_text(), re.MULTILINE))
+        listed = set(re.findall(r"^\| \[([\w.]+\.md)\]", (TOP / "docs/README.md").read_text(), re.MULTILINE))
         self.assertEqual(listed, {path.name for path in (TOP / "docs").glob("*.md")} - {"README.md"})
 
 
