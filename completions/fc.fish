@@ -2,8 +2,8 @@
 # Made by tools/pages.
 complete -c fc -n 'not __fish_seen_subcommand_from check stable trace run gen replay mail format' -f
 complete -c fc -n 'not __fish_seen_subcommand_from check stable trace run gen replay mail format' -a check -d 'says whether a program stabilises, and after how many rounds'
-complete -c fc -n 'not __fish_seen_subcommand_from check stable trace run gen replay mail format' -a stable -d 'writes the value to which each device stabilises, without running the program'
-complete -c fc -n 'not __fish_seen_subcommand_from check stable trace run gen replay mail format' -a trace -d 'writes for each device its value and a least walk that costs so much'
+complete -c fc -n 'not __fish_seen_subcommand_from check stable trace run gen replay mail format' -a stable -d 'writes the final value of each device, without running the program'
+complete -c fc -n 'not __fish_seen_subcommand_from check stable trace run gen replay mail format' -a trace -d 'writes for each device its final value and a cheapest path'
 complete -c fc -n 'not __fish_seen_subcommand_from check stable trace run gen replay mail format' -a run -d 'runs a script: rounds on several threads, edits, rubbish tables, shows'
 complete -c fc -n 'not __fish_seen_subcommand_from check stable trace run gen replay mail format' -a gen -d 'runs a scenario that is made from a number'
 complete -c fc -n 'not __fish_seen_subcommand_from check stable trace run gen replay mail format' -a replay -d 'goes through a log, and writes what each device then holds'

@@ -16,7 +16,7 @@ from .refusals import Call, Explanation, Fault, Refusal, explained, warned
 from .sections import pour, sections, write
 from .telling import place_of, rest_of
 
-WHY_NO = "docs/language.md#when-check-says-no"
+WHY_NO = "docs/patterns.md#the-reasons"
 OF_DEVICES = ("stable", "trace", "run", "replay", "mail", "settle")
 
 

@@ -15,10 +15,10 @@ from .explain_verdict import Verdict, no_walks
 from .explain_words import usage, wrong_sections
 from .jsonplaces import Json, JsonFault
 from .language import Unfolded
-from .places import FORMATS, Said, in_file, moved, program_of, scene_of, section_of
+from .places import COMMANDS, FORMATS, Said, in_file, moved, program_of, scene_of, section_of
 from .refusals import Call, Explanation, Refusal, Section, plain_explanation
 
-STATUSES = FORMATS + "#statuses"
+STATUSES = COMMANDS + "#refusals"
 PROGRAM_LIMITS = ("tokens", "depth", "nodes")
 SILENT = {
     5: ("Reading the input failed, so nothing was done.", "Try it once more, or give the input as a file."),
@@ -155,24 +155,24 @@ def _network_limit(call: Call, name: str, count: int) -> tuple[Section | None, S
 
 def _other_limit(call: Call, name: str, count: int) -> Said | None:
     words = {
-        "workers": (f"{count} workers are asked for, and at most 16 may work.", "Write `--workers 16`.", "#the-calls"),
+        "workers": (f"{count} workers are asked for, and at most 16 may work.", "Write `--workers 16`.", COMMANDS + "#run"),
         "devices": (
             f"{count} devices are asked for, and a scenario has at most 512.",
             "Write `--devices 512`.",
-            "#the-scenario-of-a-number",
+            COMMANDS + "#gen",
         ),
-        "bytes": ("The input has more than 1,048,576 bytes.", "Take a smaller network, or a shorter log.", "#the-input"),
+        "bytes": ("The input has more than 1,048,576 bytes.", "Take a smaller network, or a shorter log.", FORMATS + "#limits"),
         "mail": (
             f"It would take {count:,} steps, the rounds of the verdict times the sum of the devices and twice the links"
             ", and at most 1,000,000 are made.",
             "Take a smaller network, or a lower ceiling, with which the verdict has fewer rounds.",
-            "#statuses",
+            COMMANDS + "#mail",
         ),
     }
     if name not in words:
         return None
     what, hint, page = words[name]
-    return Said(what, None, name if name in ("bytes", "mail") else str(count), hint, FORMATS + page)
+    return Said(what, None, name if name in ("bytes", "mail") else str(count), hint, page)
 
 
 RULES: dict[str, Callable[[Call, list[str]], tuple[Section | None, Said | None]]] = {

@@ -207,4 +207,4 @@ def no_walks(program: Unfolded, main: At) -> Said:
     hint = "The root of `main` has to be a `rep` of integers whose body is `minHoodLoc(nbr{x} + s, l)`."
     if root.form == "let":
         hint += f" Here it is a `{'call' if root.expr.form == 'call' else 'let'}`."
-    return Said(what, main, "main", hint, "docs/formats.md#the-output")
+    return Said(what, main, "main", hint, "docs/commands.md#trace")

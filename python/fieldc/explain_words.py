@@ -5,9 +5,9 @@ from __future__ import annotations
 import difflib
 import re
 
-from .places import FORMATS, Said, counted
+from .places import COMMANDS, FORMATS, Said, counted
 
-CALLS = FORMATS + "#the-calls"
+CALLS = COMMANDS + "#the-calls"
 FLAGS = {
     "format": (),
     "check": ("--facts", "--settle", "--from-table"),

@@ -80,7 +80,7 @@ def stable(program: str, network: Networks) -> results.Stable:
 
 
 def trace(program: str, network: Networks) -> results.Traced:
-    """For each device its value and a least walk that costs so much, where the program has walks. Raises Refusal."""
+    """For each device its value and a cheapest path, where the program has walks. Raises Refusal."""
     return results.traced(_answer(["trace"], program=program, network=scene_of(network, program)))
 
 

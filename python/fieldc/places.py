@@ -10,6 +10,7 @@ from .language.tree import At
 from .refusals import Call, Explanation, Section
 
 FORMATS = "docs/formats.md"
+COMMANDS = "docs/commands.md"
 NETWORK = FORMATS + "#the-checks-of-a-scene"
 LOG = FORMATS + "#the-log"
 SCRIPT = FORMATS + "#the-script"

@@ -107,7 +107,7 @@ UNSAID = {
 
 def plain_explanation(refusal: Refusal) -> Explanation:
     """What `fc` said, with nothing added."""
-    page = "docs/formats.md#statuses"
+    page = "docs/commands.md#refusals"
     if refusal.line:
         return Explanation(what=refusal.line, page=page)
     return Explanation(what=UNSAID.get(refusal.status, f"fc ended with status {refusal.status}."), page=page)

@@ -118,8 +118,8 @@ def of_fc() -> Line:
     mailed = number("--number", "N", "makes the log from this number; then there is no section of it")
     commands = (
         Command("check", "says whether a program stabilises, and after how many rounds", settle),
-        Command("stable", "writes the value to which each device stabilises, without running the program"),
-        Command("trace", "writes for each device its value and a least walk that costs so much"),
+        Command("stable", "writes the final value of each device, without running the program"),
+        Command("trace", "writes for each device its final value and a cheapest path"),
         Command("run", "runs a script: rounds on several threads, edits, rubbish tables, shows", (workers, log, table)),
         Command("gen", "runs a scenario that is made from a number", (devices, workers), (scenario,)),
         Command("replay", "goes through a log, and writes what each device then holds", (rounds, table)),

@@ -197,6 +197,9 @@ class Install(unittest.TestCase):
             ("zsh/site-functions/_fieldc", "completions/_fieldc"),
             ("fish/vendor_completions.d/fc.fish", "completions/fc.fish"),
             ("fish/vendor_completions.d/fieldc.fish", "completions/fieldc.fish"),
+            ("doc/fc/README.md", "README.md"),
+            ("doc/fc/CHANGELOG.md", "CHANGELOG.md"),
+            ("doc/fc/CONTRIBUTING.md", "CONTRIBUTING.md"),
             ("doc/fc/docs/scene.schema.json", "docs/scene.schema.json"),
             ("fc/editors/vim/syntax/fieldcalculus.vim", "editors/vim/syntax/fieldcalculus.vim"),
         ):

@@ -172,7 +172,7 @@ def texts() -> list[tuple[str, str]]:
     """What is coloured: each example whole, and each program of the pages."""
     found = [(path.name, path.read_text()) for path in sorted(EXAMPLES.glob("*")) if path.suffix in (".txt", ".fc")]
     found += [(path.name, path.read_text()) for path in sorted((TOP / "library").glob("*.fc"))]
-    for page in ("patterns.md", "language.md", "formats.md", "settle.md"):
+    for page in ("patterns.md", "language.md", "commands.md", "settle.md"):
         blocks = re.findall(r"(?ms)^```[^\n]*\n(.*?)^```", (TOP / "docs" / page).read_text())
         begins = re.compile(r"(//.*\n)*(language 2|ceiling \d+);")
         found += [(f"{page} {at}", text) for at, text in enumerate(blocks) if begins.match(text)]

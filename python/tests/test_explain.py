@@ -97,7 +97,7 @@ class Words(unittest.TestCase):
         return {word for _, case in CASES for word in case.line.split(" ")}
 
     def test_reasons(self):
-        self.assertLessEqual(self.words_of("language.md", "## When `check` says no"), self.told())
+        self.assertLessEqual(self.words_of("patterns.md", "## The reasons"), self.told())
 
     def test_kinds_of_types(self):
         text = (TOP / "docs" / "language.md").read_text(encoding="utf-8")
@@ -113,10 +113,7 @@ class Words(unittest.TestCase):
         self.assertLessEqual(words | {"empty"}, self.told())
 
     def test_statuses(self):
-        text = (TOP / "docs" / "formats.md").read_text(encoding="utf-8")
-        part = text.split("\n## Statuses\n", 1)[1]
-        rows = re.findall(r"^\| [1-7] \| ([^|]*) \|", part, re.MULTILINE)
-        lines = {line for row in rows for line in re.findall(r"`([^`]+)`", row)}
+        lines = self.words_of("commands.md", "## Refusals")
         first = {" ".join(line.split(" ")[: 2 if line.startswith("limit") else 1]) for line in lines}
         told = {" ".join(case.line.split(" ")[: 2 if case.line.startswith("limit") else 1]) for _, case in CASES}
         self.assertGreaterEqual(len(first), 20)

@@ -23,7 +23,7 @@ from fieldc.language.tree import At, quoted, within
 from fieldc.program import answered
 from fieldc.refusals import Call, Refusal, Section
 
-BLOCK = re.compile(r"^```fc ([^\n]*)\n(.*?)^```$", re.MULTILINE | re.DOTALL)
+BLOCK = re.compile(r"^`((?:yes|no) [^`\n]*)`\n\n```fc\n(.*?)^```$", re.MULTILINE | re.DOTALL)
 DOCUMENTED = [(verdict, text) for verdict, text in BLOCK.findall((TOP / "docs" / "patterns.md").read_text(encoding="utf-8"))]
 FACTS = re.compile(r"^The hop count on three devices in a line:\n\n```\n(.*?)^```$", re.MULTILINE | re.DOTALL)
 HOPS = helping.HOPS

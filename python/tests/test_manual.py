@@ -18,8 +18,8 @@ needs_man = unittest.skipIf(shutil.which("man") is None, "man isn't there (Debia
 
 
 def calls() -> list[str]:
-    """The calls of fc as the page on formats has them."""
-    text = (TOP / "docs/formats.md").read_text()
+    """The calls of fc as the page on commands has them."""
+    text = (TOP / "docs/commands.md").read_text()
     return re.search(r"## The calls\n\n```\n(.*?)\n```", text, re.S)[1].split("\n")
 
 

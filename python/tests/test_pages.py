@@ -1,5 +1,7 @@
 """The pages stay true: the programs of docs/patterns.md have the verdicts and settle lines that stand there, the commands
-of docs/tour.md write what stands below them, and the calls of docs/fieldc.md answer what stands beside them."""
+of README.md and docs/tour.md write what stands below them, the programs of docs/language.md are read, the example of
+docs/commands.md and the examples write what is expected, the calls of docs/fieldc.md answer what stands beside them, and
+each page, anchor and picture that a page names is there."""
 
 from __future__ import annotations
 
@@ -19,11 +21,13 @@ import fieldc
 from fieldc import network
 from fieldc import program as fc
 
-BLOCK = re.compile(r"^```fc ([^\n]*)\n(.*?)^```$", re.MULTILINE | re.DOTALL)
+BLOCK = re.compile(r"^`((?:yes|no) [^`\n]*)`\n\n```fc\n(.*?)^```$", re.MULTILINE | re.DOTALL)
 CONSOLE = re.compile(r"^```console\n(.*?)^```$", re.MULTILINE | re.DOTALL)
 PICTURE = re.compile(r"\(pictures/([^)]*)\)")
 MARK = "-- end of a command --"
 OFF = ", switched off "
+# how files begin that a page names and that its reader makes
+FREE = ("mine/", "NAME", "DIR/", "specs/", "src/", "proofs/", "crates/CRATE/", "crates/NAME/")
 
 
 @needs_fc
@@ -70,6 +74,20 @@ def commands_of(tour: str) -> list[tuple[str, str]]:
     return [(command, "".join(line + "\n" for line in expected)) for command, expected in commands]
 
 
+def typed(test: unittest.TestCase, folder: Path, commands: list[tuple[str, str]]) -> None:
+    """Types commands one after the other in one shell, and compares what they write."""
+    (folder / "examples").symlink_to(TOP / "examples")
+    (folder / "fieldc").symlink_to(TOP / "fieldc")
+    (folder / "fc").write_text(f'#!/bin/sh\nexec "{fc.find()}" "$@"\n')
+    (folder / "fc").chmod(0o755)
+    script = "".join(f"{command}\necho '{MARK}'\n" for command, _ in commands)
+    environment = dict(os.environ, FC=str(folder / "fc"))
+    shell = subprocess.run(["bash"], cwd=folder, input=script, env=environment, capture_output=True, text=True, check=False)
+    written = shell.stdout.split(MARK + "\n")
+    for (command, wanted), found in zip(commands, written):
+        test.assertEqual(found, wanted, f"{command.splitlines()[0]}: {shell.stderr[-300:]}")
+
+
 def plain(value: object) -> object:
     """A value with dictionaries in the place of mappings."""
     if isinstance(value, Mapping):
@@ -114,7 +132,7 @@ class Tour(unittest.TestCase):
         text = (TOP / "docs/tour.md").read_text()
         with tempfile.TemporaryDirectory() as kept:
             folder = Path(kept)
-            self.typed(folder, commands_of(text))
+            typed(self, folder, commands_of(text))
             for name in PICTURE.findall(text):
                 self.assertGreaterEqual(vivid(folder / "mine" / name), 2, name)
                 if "PICTURES" in os.environ:
@@ -122,18 +140,108 @@ class Tour(unittest.TestCase):
             for name in ("run.html", "healed.html"):
                 self.assertIn("const shows", (folder / "mine" / name).read_text())
 
-    def typed(self, folder: Path, commands: list[tuple[str, str]]) -> None:
-        """Types the commands one after the other in one shell."""
-        (folder / "examples").symlink_to(TOP / "examples")
-        (folder / "fieldc").symlink_to(TOP / "fieldc")
-        (folder / "fc").write_text(f'#!/bin/sh\nexec "{fc.find()}" "$@"\n')
-        (folder / "fc").chmod(0o755)
-        script = "".join(f"{command}\necho '{MARK}'\n" for command, _ in commands)
-        environment = dict(os.environ, FC=str(folder / "fc"))
-        shell = subprocess.run(["bash"], cwd=folder, input=script, env=environment, capture_output=True, text=True, check=False)
-        written = shell.stdout.split(MARK + "\n")
-        for (command, wanted), found in zip(commands, written):
-            self.assertEqual(found, wanted, f"{command.splitlines()[0]}: {shell.stderr[-300:]}")
+
+@needs_fc
+class Readme(unittest.TestCase):
+    text = (TOP / "README.md").read_text()
+
+    def test_commands_write_what_stands_below_them(self) -> None:
+        with tempfile.TemporaryDirectory() as kept:
+            typed(self, Path(kept), commands_of(self.text))
+
+    def test_examples_of_the_commands_are_answered(self) -> None:
+        lines = re.findall(r"`\./(fc [^`]+)`", self.text)
+        calls = [line.split() for line in lines if " examples/" in line or "gen" in line]
+        self.assertEqual({words[1] for words in calls}, {"check", "stable", "trace", "run", "replay", "mail", "gen", "format"})
+        for words in calls:
+            given = (TOP / words[-1]).read_bytes() if "<" in words else b""
+            words = [fc.find(), *(words[1 : words.index("<")] if "<" in words else words[1:])]
+            self.assertEqual(subprocess.run(words, input=given, capture_output=True, check=False).returncode, 0, words)
+
+    def test_examples_write_what_is_expected(self) -> None:
+        commands = {"stable": "stable", "trace": "trace", "settle": "check --settle", "run": "run", "line": "mail"}
+        for path in sorted((TOP / "examples").glob("*.expected")):
+            if path.stem.startswith("blocks_"):
+                continue
+            words = commands.get(path.stem.rpartition("_")[2], "replay").split()
+            given = path.with_suffix(".txt").read_bytes()
+            done = subprocess.run([fc.find(), *words], input=given, capture_output=True, check=False)
+            self.assertEqual(done.stdout.decode(), path.read_text(), path.stem)
+
+
+class Words(unittest.TestCase):
+    def test_the_readme_is_short(self) -> None:
+        self.assertLessEqual(len((TOP / "README.md").read_text().split()), 900)
+
+
+@needs_fc
+class Language(unittest.TestCase):
+    """The programs of docs/language.md are read; the collection along a potential gets a yes, and settles at the sum."""
+
+    text = (TOP / "docs/language.md").read_text()
+
+    def test_programs_are_read(self) -> None:
+        blocks = re.findall(r"(?ms)^```(?:fc)?\n(.*?)^```", self.text)
+        programs = [block for block in blocks if re.match(r"language 2;|ceiling \d+;", block)]
+        self.assertGreaterEqual(len(programs), 4)
+        for program in programs:
+            self.assertEqual(fieldc.format(fieldc.format(program)), fieldc.format(program))
+
+    def test_the_collection_settles_at_the_sum(self) -> None:
+        program = re.search(r"(?ms)^```fc\n(.*?)^```", self.text)[1]
+        inputs = [("sink", True, [0]), ("value", 3, None)]
+        made = network.with_inputs(network.grid(3, 4), inputs)
+        self.assertTrue(fieldc.check(program, made).verdict.stabilises)
+        self.assertEqual(fieldc.stable(program, made).values[0], 36)
+
+
+@needs_fc
+class Commands(unittest.TestCase):
+    text = (TOP / "docs/commands.md").read_text()
+
+    def test_the_example_of_from_table(self) -> None:
+        part = self.text.split("### `--from-table`")[1]
+        given, wanted = re.findall(r"(?ms)^```\n(.*?)^```", part)[:2]
+        done = subprocess.run(
+            [fc.find(), "check", "--settle", "--from-table"], input=given, capture_output=True, text=True, check=False
+        )
+        self.assertEqual((done.returncode, done.stdout), (0, wanted))
+
+
+PAGES = sorted([*TOP.glob("*.md"), *(TOP / "docs").glob("*.md"), TOP / "examples/README.md", TOP / "editors/README.md"])
+
+
+class Links(unittest.TestCase):
+    """Each page, anchor, picture and file that a page names is there."""
+
+    def test_links_and_pictures(self) -> None:
+        for page in PAGES:
+            for target in re.findall(r"\]\(([^)\s]+)\)", page.read_text()):
+                path, _, anchor = target.partition("#")
+                with self.subTest(page=page.name, target=target):
+                    self.assertTrue(path == "" or (page.parent / path).exists())
+                    if anchor:
+                        self.assertIn(anchor, anchors_of(page if path == "" else page.parent / path))
+
+    def test_named_pages(self) -> None:
+        for page in PAGES:
+            found = re.findall(r"(?<![\w/.])((?:\.\./)?[\w/]+\.(?:md|json|fc|txt|py|antt|rt))(?![\w/])", page.read_text())
+            for named in found:
+                if named.startswith(FREE) or not (named.endswith(".md") or "/" in named):
+                    continue
+                with self.subTest(page=page.name, named=named):
+                    places = (page.parent, TOP, TOP / "crates", TOP / "python/tests")
+                    self.assertTrue(any((place / named).exists() for place in places))
+
+    def test_the_list_of_pages_is_whole(self) -> None:
+        listed = set(re.findall(r"^\| \[([\w.]+\.md)\]", (TOP / "docs/README.md").read_text(), re.MULTILINE))
+        self.assertEqual(listed, {path.name for path in (TOP / "docs").glob("*.md")} - {"README.md"})
+
+
+def anchors_of(page: Path) -> set[str]:
+    """The anchors of a page, as its readers write them."""
+    headings = re.findall(r"^#+ (.*)$", page.read_text(), re.MULTILINE)
+    return {re.sub(r"[^a-z0-9 _-]", "", heading.lower()).replace(" ", "-") for heading in headings}
 
 
 if __name__ == "__main__":

@@ -7,7 +7,7 @@ import argparse
 from .. import results
 from ..asking import add_answers, add_files, ask
 
-SUMMARY = "writes the value to which each device stabilises, without running the program"
+SUMMARY = "writes the final value of each device, without running the program"
 KINDS = ("program", "network")
 
 

@@ -7,7 +7,7 @@ import argparse
 from .. import results
 from ..asking import add_answers, add_files, ask
 
-SUMMARY = "writes for each device its value and a least walk that costs so much"
+SUMMARY = "writes for each device its final value and a cheapest path"
 KINDS = ("program", "network")
 
 

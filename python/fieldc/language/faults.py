@@ -10,7 +10,7 @@ LANGUAGE = "docs/language.md"
 GRAMMAR = LANGUAGE + "#grammar"
 TOKENS = LANGUAGE + "#tokens"
 TYPES = LANGUAGE + "#types"
-LIMITS = LANGUAGE + "#limits-of-one-declaration"
+LIMITS = "docs/formats.md#limits"
 TWO = LANGUAGE + "#two-languages-in-one"
 
 
