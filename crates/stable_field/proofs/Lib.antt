@@ -8,3 +8,4 @@ mod Gathering
 mod Firings
 mod Beginning
 mod Joined
+mod JoinedPlaces
