@@ -7,3 +7,4 @@ pub mod OneField
 mod Firings
 mod Beginning
 mod Joined
+mod JoinedPlaces

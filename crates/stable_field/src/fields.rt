@@ -1,14 +1,16 @@
 //! The values of a table's exports.
 
-ghost use Rattle.std.specs.Prelude.{ℕ, ◌≡◌, ◌++◌, IfOk, OnOk, map};
-ghost use Rattle.fc_values.specs.Values.{LocalValue};
+ghost use Rattle.std.specs.Prelude.{ℕ, ◌≡◌, ◌<◌, [], ◌∷◌, ◌++◌, IfOk, OnOk, length, map, Some, None};
+ghost use Rattle.std.specs.Prelude.{slice_index_or as get_or};
+ghost use Rattle.fc_values.specs.declared.exports.Export.{Export};
+ghost use Rattle.fc_values.specs.Values.{LocalValue, local_of};
 ghost use Rattle.fc_values.specs.Fields.{entry_of};
-ghost use Rattle.topology.specs.Networks.{device_of, numbers};
+ghost use Rattle.topology.specs.Networks.{numbers};
 ghost use Rattle.stable_field.specs.Tables.{AllHave};
 
 use fc_values::{Local, Memory, copy};
 use std::alloc::Global;
-use topology::{Device, Network};
+use topology::Network;
 use value_trees::Published;
 
 /// The value of each device's export, by rising devices.
@@ -22,28 +24,33 @@ pub fn values(
 {
     let devices = net.devices();
     let mut list = Vec::with_capacity(alloc, devices.len())?;
-    add_values(alloc, devices, table, &mut list)?;
+    if table.len() != devices.len() {
+        return Ok(list);
+    }
+    for place in 0..devices.len() {
+        add_value(alloc, devices[place].id, table, place, &mut list)?;
+    }
     Ok(list)
 }
 
-// Adds the values of the exports of some devices.
-fn add_values(
+// Adds the value of the export at a place, if there is one.
+fn add_value(
     alloc: Global,
-    devices: &[Device],
+    device: u32,
     table: &[Option<Published>],
+    place: usize,
     list: &mut Vec<(u32, Local)>,
 ) -> Result<(), Memory>
-    ensures { OnOk result ((F : ℕ → LocalValue) → AllHave F (numbers (map device_of devices.now)) table.now
-        → map entry_of list.new.items
-        ≡ map entry_of list.old.items ++ map (λ (d : ℕ). (d, F d)) (numbers (map device_of devices.now))) }
+    requires { place < length table.now }
+    ensures { OnOk result ((e : Export) → get_or table.now place None ≡ Some e
+        → map entry_of list.new.items ≡ map entry_of list.old.items ++ (device, local_of e.value) ∷ []) }
 {
-    let Some((device, others)) = devices.split_first() else {
-        return Ok(());
-    };
-    let Some((Some(export), rest)) = table.split_first() else {
-        return Ok(());
-    };
-    list.push((device.id, copy(alloc, &export.get().value)?))?;
-    add_values(alloc, others, rest, list)?;
-    Ok(())
+    match &table[place] {
+        Some(export) => {
+            let value = copy(alloc, &export.get().value)?;
+            list.push((device, value))?;
+            Ok(())
+        }
+        None => Ok(()),
+    }
 }

@@ -1,6 +1,6 @@
 //! A builtin of two local values, at all devices.
 
-ghost use Rattle.std.specs.Prelude.{◌≡◌, ◌++◌, IfOk, OnOk, map};
+ghost use Rattle.std.specs.Prelude.{◌≡◌, IfOk, map};
 ghost use Rattle.fc_values.specs.Values.{LocalValue, local_of};
 ghost use Rattle.fc_values.specs.Fields.{ValueLocal, entry_of, value_of};
 ghost use Rattle.stable_field.specs.Columns.{HasLocal, HaveLocal, joined_entries, joined_value};
@@ -20,34 +20,15 @@ pub fn joined(
     ensures { IfOk result (λ v. map entry_of v.items
         ≡ joined_entries builtin ceiling (map entry_of first.now) (map entry_of second.now)) }
 {
-    let mut list = Vec::with_capacity(alloc, first.len())?;
-    add_joined(alloc, builtin, ceiling, first, second, &mut list)?;
+    let many = first.len().min(second.len());
+    let mut list = Vec::with_capacity(alloc, many)?;
+    for place in 0..many {
+        let one = &first[place];
+        let two = &second[place];
+        let value = joined_at(alloc, builtin, ceiling, one.0, &one.1, &two.1)?;
+        list.push((one.0, value))?;
+    }
     Ok(list)
-}
-
-// Adds the values at some devices.
-fn add_joined(
-    alloc: Global,
-    builtin: Builtin,
-    ceiling: u32,
-    first: &[(u32, Local)],
-    second: &[(u32, Local)],
-    list: &mut Vec<(u32, Local)>,
-) -> Result<(), Memory>
-    requires { HaveLocal builtin ceiling (map entry_of first.now) (map entry_of second.now) }
-    ensures { OnOk result (map entry_of list.new.items ≡ map entry_of list.old.items
-        ++ joined_entries builtin ceiling (map entry_of first.now) (map entry_of second.now)) }
-{
-    let Some((one, others)) = first.split_first() else {
-        return Ok(());
-    };
-    let Some((two, rest)) = second.split_first() else {
-        return Ok(());
-    };
-    let value = joined_at(alloc, builtin, ceiling, one.0, &one.1, &two.1)?;
-    list.push((one.0, value))?;
-    add_joined(alloc, builtin, ceiling, others, rest, list)?;
-    Ok(())
 }
 
 // The value of a builtin at a device.
