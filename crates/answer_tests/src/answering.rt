@@ -36,8 +36,8 @@ fn answer<W: Threads + Wait + Sync>(
     answer_to(alloc, asked, input, &pool)
 }
 
-// The reply to words that are a command's, and to an input.
-fn reply<W: Threads + Wait + Sync>(
+/// The reply to words that are a command's, and to an input.
+pub fn reply<W: Threads + Wait + Sync>(
     rt: &W,
     alloc: Global,
     list: &[&str],

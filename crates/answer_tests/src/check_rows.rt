@@ -10,7 +10,7 @@ use std::test::Fail;
 use std::thread::Threads;
 
 // Three devices in a line, with a source at device 0.
-const LINE: &str =
+pub const LINE: &str =
     "{\"devices\":[{\"id\":0,\"inputs\":{\"src\":true}},{\"id\":1,\"inputs\":{\"src\":false}},{\"id\":2,\"inputs\":{\"src\":false}}],\"links\":[[0,1,1],[1,2,1]]}";
 
 const HOP_FACTS: &str = "yes 22
@@ -182,6 +182,14 @@ const APART: Check = (
     "no 0 converging\nopen\n0 -\n1 -\n",
 );
 
+// A driven run that is too long: K is 2,000,002, and two devices with one link count 4.
+const LONG_DRIVE: Check = (
+    "ceiling 1000000; input src: bool; \
+    main = rep(1000000){(d) => minHoodLoc(nbr{d} + 1, mux(sense src, 0, 1000000))};",
+    SOURCE,
+    "limit mail 8000008\n",
+);
+
 // What is answered to these words, on this program and network.
 fn checks(
     rt: &(impl Abort + Threads + Wait + Sync),
@@ -218,6 +226,7 @@ fn worked_rows(rt: HostRuntime) -> Result<(), Fail> {
     }
     let from_table = &["fc", "check", "--settle", "--from-table"];
     checks(&rt, alloc, from_table, &APART, 1)?;
+    checks(&rt, alloc, &["fc", "mail", "--number", "7"], &LONG_DRIVE, 4)?;
     let row = (HOPS, "\n%%\n", "sections 3\n");
     checks(&rt, alloc, &["fc", "check"], &row, 3)
 }

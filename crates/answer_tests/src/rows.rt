@@ -14,9 +14,9 @@ pub const HOPS: &str =
 pub const SHARED_HOPS: &str =
     "language 2; ceiling 10; input src: bool; main = share(10){(d) => minHoodLoc(d + 1, mux(sense src, 0, 10))};";
 
-const HOOD: &str = "ceiling 10; main = minHoodLoc(nbr{1} + 1, 5);";
+pub const HOOD: &str = "ceiling 10; main = minHoodLoc(nbr{1} + 1, 5);";
 
-const COUNTER: &str = "ceiling 10; main = rep(0){(x) => x + 1};";
+pub const COUNTER: &str = "ceiling 10; main = rep(0){(x) => x + 1};";
 
 // Two linked devices: without inputs, with a source at device 0, and with a firing of device 0 that is begun.
 pub const PAIR: &str =
@@ -25,11 +25,11 @@ pub const PAIR: &str =
 pub const SOURCE: &str =
     "{\"devices\":[{\"id\":0,\"inputs\":{\"src\":true}},{\"id\":1,\"inputs\":{\"src\":false}}],\"links\":[[0,1,1]]}";
 
-const PENDING: &str =
+pub const PENDING: &str =
     "{\"devices\":[{\"id\":0,\"inputs\":{\"src\":true}},{\"id\":1,\"inputs\":{\"src\":false}}],\"links\":[[0,1,1]],\
     \"pending\":[{\"id\":0,\"inputs\":{\"src\":false},\"own\":null,\"near\":[]}]}";
 
-const TABLE: &str =
+pub const TABLE: &str =
     "{\"devices\":[{\"id\":0,\"inputs\":{\"src\":true}},{\"id\":1,\"inputs\":{\"src\":false}}],\"links\":[[0,1,1]],\
     \"table\":[{\"id\":0,\"value\":3,\"kept\":[3,4]}]}";
 
@@ -41,8 +41,8 @@ const WRITTEN: &str =
 // One device.
 const ONE: &str = "{\"devices\":[{\"id\":0,\"inputs\":{}}],\"links\":[]}";
 
-/// A program, a network, a log, and the text that a replay writes.
-type Replay = (&'static str, &'static str, &'static str, &'static str);
+/// A program, a network, a log or a script, and the text that is written.
+pub type Replay = (&'static str, &'static str, &'static str, &'static str);
 
 const REPLAYS: [Replay; 15] = [
     (HOOD, PAIR, "", "0 -\n1 -\n"),
@@ -161,8 +161,8 @@ const REFUSED: [(u8, Replay); 20] = [
     ),
 ];
 
-// What is answered to these words and sections.
-fn replays(
+/// What is answered to these words and sections.
+pub fn replays(
     rt: &(impl Abort + Threads + Wait + Sync),
     alloc: Global,
     list: &[&str],
@@ -175,7 +175,7 @@ fn replays(
 }
 
 // Words with such a row, of which all are answered.
-const ASKED: [(&[&str], Replay); 5] = [
+const ASKED: [(&[&str], Replay); 7] = [
     (
         &["fc", "replay", "--rounds"],
         (
@@ -223,6 +223,24 @@ const ASKED: [(&[&str], Replay); 5] = [
             "0 5\n1 5\nrounds 1\n",
         ),
     ),
+    (
+        &["fc", "mail"],
+        (
+            HOOD,
+            PAIR,
+            "B0\nE0\nB1\nE1\ndeliver 0 1\ndeliver 1 0\nB0\nE0\nB1\nE1\ndeliver 0 1\ndeliver 1 0\n",
+            "0 2\n1 2\nrounds 2\n",
+        ),
+    ),
+    (
+        &["fc", "mail"],
+        (
+            HOOD,
+            PAIR,
+            "B0\nE0\nB1\nE1\ndeliver 0 1\nlose 1 0 0\nB0\nE0\n",
+            "0 5\n1 5\nrounds 0\n",
+        ),
+    ),
 ];
 
 #[test]
@@ -237,7 +255,8 @@ fn logs(rt: HostRuntime) -> Result<(), Fail> {
     for (status, row) in &REFUSED {
         replays(&rt, alloc, &["fc", "replay"], row, *status)?;
     }
-    Ok(())
+    let undelivered = (HOOD, PAIR, "deliver 0 1\n", "log 1 empty\n");
+    replays(&rt, alloc, &["fc", "mail"], &undelivered, 3)
 }
 
 // What `format` answers to a text, and what it writes.
@@ -254,8 +273,8 @@ const FORMATS: [(&str, u8, &str); 6] = [
     ("ceiling 10; main = 1 + true;\n%%\n", 3, "sections 2\n"),
 ];
 
-// An item so many times between two texts.
-fn repeated(
+/// An item so many times between two texts.
+pub fn repeated(
     alloc: Global,
     front: &str,
     item: &str,

@@ -20,6 +20,7 @@ use export_table::{Firing, Gate, Held, OpenGate, Pause, Shared};
 use fc_nodes::Unfolded;
 use fc_values::{Declared, Local, Memory};
 use firing_core::{Book, Core, Edit, EditFault, Entry, Room};
+use round_count::rounds;
 use std::alloc::Global;
 use std::sync::{Arc, Wait};
 use std::test::Fail;
@@ -216,6 +217,7 @@ fn two_passes_by_hand(rt: HostRuntime) -> Result<(), Fail> {
     assert!(rt; is_begin(&log[0], 0) && is_begin(&log[1], 1));
     assert!(rt; matches!(log[2], Entry::Idle) && matches!(log[3], Entry::Idle));
     assert!(rt; is_end(&log[4], 0) && is_end(&log[5], 1));
+    assert_eq!(rt; rounds(&[0, 1], log, &mut [0, 0]), 1);
     assert!(rt; shows(&book, 0, 5) && shows(&book, 1, 5));
     Ok(())
 }
@@ -352,5 +354,6 @@ fn two_threads_with_a_pass_each(rt: HostRuntime) -> Result<(), Fail> {
         let ends = log.iter().filter(|entry| is_end(entry, device)).count();
         assert!(rt; begins == 1 && ends == 1);
     }
+    assert_eq!(rt; rounds(&[0, 1], log, &mut [0, 0]), 1);
     Ok(())
 }

@@ -1,7 +1,8 @@
-//! The bell of a table: a worker for which nothing may begin yet waits until it rings.
+//! The bell of a table: a worker for which nothing may begin yet waits until it rings, and one in reserve naps until it
+//! stops.
 
 use std::hint::spin_loop;
-use std::sync::atomic::{AtomicBool, Ordering};
+use std::sync::atomic::{AtomicBool, AtomicU64, Ordering};
 use std::sync::{Condvar, Wait};
 use std::time::Duration;
 
@@ -10,10 +11,12 @@ const LOOKS: u32 = 200;
 // How long a worker sleeps at most before it looks again, in milliseconds. A ring wakes it earlier.
 const SLEEP: u64 = 20;
 
-/// Counts its rings, and wakes whoever sleeps. Once it is stopped nobody waits any more.
+/// Counts its rings, and wakes whoever waits for one. Once it is stopped nobody waits or naps any more.
 #[derive(Drop)]
 pub(crate) struct Bell {
     rings: Condvar,
+    stops: Condvar,
+    waiting: AtomicU64,
     stopped: AtomicBool,
 }
 
@@ -22,6 +25,8 @@ impl Bell {
     pub(crate) fn new() -> Bell {
         Bell {
             rings: Condvar::new(),
+            stops: Condvar::new(),
+            waiting: AtomicU64::new(0),
             stopped: AtomicBool::new(false),
         }
     }
@@ -36,10 +41,11 @@ impl Bell {
         self.rings.notify_all();
     }
 
-    /// Stops it, so that nobody waits any more.
+    /// Stops it, so that nobody waits or naps any more.
     pub(crate) fn stop(&self) {
         self.stopped.store(true, Ordering::SeqCst);
         self.rings.notify_all();
+        self.stops.notify_all();
     }
 
     // Whether the wait is over: it has rung since it had rung so often, or was stopped.
@@ -75,9 +81,19 @@ impl Bell {
     /// Waits until it rings, unless it has rung since it had rung so often. The answer is whether it rang; otherwise it
     /// was stopped.
     pub(crate) fn wait<W: Wait>(&self, rt: &W, seen: u64) -> bool {
+        self.waiting.fetch_add(1, Ordering::SeqCst);
         if !self.look(seen) {
             self.sleep(rt, seen);
         }
+        self.waiting.fetch_sub(1, Ordering::SeqCst);
         !self.is_stopped()
+    }
+
+    /// Sleeps for so long or until it is stopped; not at all while a worker waits for it to ring.
+    pub(crate) fn nap<W: Wait>(&self, rt: &W, time: Duration) {
+        let stops = self.stops.notifications();
+        if !self.is_stopped() && self.waiting.load(Ordering::SeqCst) == 0 {
+            self.stops.sleep(rt, stops, time);
+        }
     }
 }

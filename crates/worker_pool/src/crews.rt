@@ -19,16 +19,23 @@ use fc_values::Memory;
 use firing_core::Book;
 use std::alloc::Global;
 use std::sync::Arc;
+use std::sync::atomic::{AtomicBool, Ordering};
 use turn_lock::Pass;
 
-/// The table, its program, the bell that rings when a round begins, the number of the device that begins rounds, the
-/// gate, and where memory comes from.
+// With fewer nodes a firing takes no longer than the turns of its begin and its end, and a second worker that fires all
+// the time only stands in the way of the first.
+const FEW_NODES: u32 = 48;
+
+/// The table, its program, the bell that rings when a round begins, the number of the device that begins rounds, whether
+/// workers but the first are in reserve, whether the first is there, the gate, and where memory comes from.
 pub(crate) struct Crew<'a, G> {
     pub(crate) alloc: Global,
     pub(crate) shared: Shared,
     pub(crate) program: Arc<Unfolded>,
     pub(crate) bell: Bell,
     pub(crate) first: u32,
+    has_reserve: bool,
+    is_led: AtomicBool,
     pub(crate) gate: &'a G,
     ghost same: { program.value ≡ shared.opening.program },
 }
@@ -54,6 +61,7 @@ impl<'a, G> Crew<'a, G> {
             Err(_) => return Err((book, Memory)),
         };
         let first = device_at(&book, 0);
+        let has_reserve = program.size() < FEW_NODES;
         let (shared, pass) = Shared::over(alloc, book, rounds, turns)?;
         let crew = Crew {
             alloc,
@@ -61,9 +69,16 @@ impl<'a, G> Crew<'a, G> {
             program,
             bell: Bell::new(),
             first,
+            has_reserve,
+            is_led: AtomicBool::new(false),
             gate,
         };
         Ok((crew, pass))
+    }
+
+    /// Takes in a worker. The answer is whether it is in reserve: the first never is.
+    pub(crate) fn enlist(&self) -> bool {
+        self.is_led.swap(true, Ordering::SeqCst) && self.has_reserve
     }
 
     /// The book, for the one pass that is left.
@@ -80,6 +95,8 @@ impl<'a, G> Crew<'a, G> {
             program: _,
             bell: _,
             first: _,
+            has_reserve: _,
+            is_led: _,
             gate: _,
         } = self;
         shared.close(pass)

@@ -5,6 +5,7 @@ mod bell;
 mod crews;
 mod fan;
 mod mixes;
+mod naps;
 mod plans;
 mod rounds;
 mod shorts;

@@ -9,6 +9,7 @@ ghost use Rattle.export_table.specs.Turns.{CanEnd};
 ghost use Rattle.worker_pool.specs.Working.{Worked, Tries, KeepsRoom, EndsFiring};
 
 use crate::crews::Crew;
+use crate::naps::Naps;
 use device_eval::fire;
 use export_table::{Firing, Gate, Held, Pause, Rest};
 use fc_nodes::Unfolded;
@@ -99,8 +100,8 @@ fn tried(first: Snap, second: Snap) -> Try
 }
 
 /// Fires in the room that was kept or in a new one until the turns of the pass end, each device has begun all its
-/// firings, memory is wanting, or the bell is stopped. Where nothing may begin yet it waits for the bell. The room is
-/// kept, if it is there at the end.
+/// firings, memory is wanting, or the bell is stopped. Where nothing may begin yet it waits for the bell; in reserve it
+/// sleeps after each firing. The room is kept, if it is there at the end.
 pub(crate) fn work<W: Wait, G: Gate>(
     rt: &W,
     crew: &Crew<'_, G>,
@@ -113,10 +114,16 @@ pub(crate) fn work<W: Wait, G: Gate>(
     ensures kept { KeepsRoom crew.now.shared result }
 {
     let mut room = room_of(crew.alloc, &crew.program, kept)?;
+    let mut naps = Naps::new(crew.enlist());
     while pass.left() >= 2 {
         let seen = crew.bell.rings();
         match fire_next(rt, crew, pass, room) {
-            Try::Fired(back) => room = back,
+            Try::Fired(back) => {
+                room = back;
+                if let Some(time) = naps.next() {
+                    crew.bell.nap(rt, time);
+                }
+            }
             Try::Rested(rest) => {
                 if rest.is_over || !crew.bell.wait(rt, seen) {
                     return Some(rest.room);

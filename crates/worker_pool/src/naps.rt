@@ -1,0 +1,34 @@
+//! Workers in reserve: a worker that sleeps between its firings.
+
+use std::time::Duration;
+
+// The first sleep, in nanoseconds. Each is twice as long as the one before, up to a millisecond.
+const FIRST_SLEEP: u64 = 16_000;
+const DOUBLINGS: u32 = 6;
+
+/// The sleeps of a worker between its firings: none, or ever longer ones if it is in reserve.
+#[derive(Drop)]
+pub(crate) struct Naps {
+    is_reserve: bool,
+    taken: u32,
+}
+
+impl Naps {
+    /// Those of a worker that is in reserve or isn't.
+    pub(crate) fn new(is_reserve: bool) -> Naps {
+        Naps {
+            is_reserve,
+            taken: 0,
+        }
+    }
+
+    /// How long the worker sleeps after a firing, if it does.
+    pub(crate) fn next(&mut self) -> Option<Duration> {
+        if !self.is_reserve {
+            return None;
+        }
+        let doublings = self.taken.min(DOUBLINGS);
+        self.taken = self.taken.saturating_add(1);
+        Some(Duration::from_nanos(FIRST_SLEEP << doublings))
+    }
+}
