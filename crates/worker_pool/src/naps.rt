@@ -1,5 +1,7 @@
 //! Workers in reserve: a worker that sleeps between its firings.
 
+use crate::bell::Bell;
+use std::sync::Wait;
 use std::time::Duration;
 
 // The first sleep, in nanoseconds. Each is twice as long as the one before, up to a millisecond.
@@ -22,13 +24,12 @@ impl Naps {
         }
     }
 
-    /// How long the worker sleeps after a firing, if it does.
-    pub(crate) fn next(&mut self) -> Option<Duration> {
-        if !self.is_reserve {
-            return None;
+    /// Sleeps after a firing, if the worker is in reserve and no other one waits for the bell.
+    pub(crate) fn take<W: Wait>(&mut self, rt: &W, bell: &Bell) {
+        if self.is_reserve {
+            let doublings = self.taken.min(DOUBLINGS);
+            bell.nap(rt, Duration::from_nanos(FIRST_SLEEP << doublings));
+            self.taken = self.taken.saturating_add(1);
         }
-        let doublings = self.taken.min(DOUBLINGS);
-        self.taken = self.taken.saturating_add(1);
-        Some(Duration::from_nanos(FIRST_SLEEP << doublings))
     }
 }

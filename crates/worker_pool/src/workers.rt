@@ -115,14 +115,12 @@ pub(crate) fn work<W: Wait, G: Gate>(
 {
     let mut room = room_of(crew.alloc, &crew.program, kept)?;
     let mut naps = Naps::new(crew.enlist());
-    while pass.left() >= 2 {
+    'firings: while pass.left() >= 2 {
         let seen = crew.bell.rings();
         match fire_next(rt, crew, pass, room) {
             Try::Fired(back) => {
                 room = back;
-                if let Some(time) = naps.next() {
-                    crew.bell.nap(rt, time);
-                }
+                naps.take(rt, &crew.bell);
             }
             Try::Rested(rest) => {
                 if rest.is_over || !crew.bell.wait(rt, seen) {

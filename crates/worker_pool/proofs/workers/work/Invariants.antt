@@ -3,11 +3,11 @@ use Rattle.firing_core.specs.Rooms.{IsRoom}
 use Rattle.worker_pool.specs.Working.{Worked}
 use Rattle.worker_pool.proofs.workers.work.Given as goal
 
-abbrev pub invariant-loop-seen : goal.invariant-loop-seen
-invariant-loop-seen g l = record {
+abbrev pub invariant-firings : goal.invariant-firings
+invariant-firings g l = record {
   worked : Worked l.crew.shared l.fn.pass l.pass;
   room : IsRoom (unfolding_of l.crew.shared.opening.program) l.room;
 }
 
-abbrev pub decreases-loop-seen : goal.decreases-loop-seen
-decreases-loop-seen g l = l.pass.left
+abbrev pub decreases-firings : goal.decreases-firings
+decreases-firings g l = l.pass.left
