@@ -11,4 +11,5 @@ mod Closing
 mod Stretching
 mod OneByOne
 mod Mixing
+mod Refusing
 mod Mixed

@@ -1,50 +1,22 @@
 -- What a table with an edit, what is fired after it, and the rounds behind it make of a book.
-use Rattle.std.proofs.Common.{◌≡◌, ℕ, ◌+◌, ◌≤◌, List, [], ◌∷◌, ◌++◌, map, drop, length, refl, sym, ap, ◌∙◌, subst, arith, true, Result, Ok, Err, IfOk, IfErr}
+use Rattle.std.proofs.Common.{◌≡◌, ℕ, ◌+◌, ◌≤◌, List, [], ◌∷◌, ◌++◌, drop, length, refl, sym, ap, ◌∙◌, subst, arith, true, Result, Ok, Err, IfOk}
 use Rattle.std.proofs.lemmas.List.{append_assoc, length-append, length-map}
 use Rattle.std.proofs.Math.Seq.{drop-append_seam}
 use Rattle.fc_values.specs.Fields.{is_in}
 use Rattle.fc_nodes.specs.Program.{Program, Unfolding, unfolding_of}
 use Rattle.topology.specs.Networks.{Network, numbers}
-use Rattle.firing_core.specs.Entries.{EditValue, EntryValue, BeginEntry, IdleEntry, EditEntry, entry_of, entries_of}
+use Rattle.firing_core.specs.Entries.{EditValue, EntryValue, BeginEntry, EditEntry, entry_of, entries_of}
 use Rattle.firing_core.specs.Cores.{Run}
 use Rattle.firing_core.specs.CoreViews.{core_of}
 use Rattle.firing_core.specs.Books.{BookValue, EndsFlights, ends_of}
 use Rattle.firing_core.specs.Rounds.{HasRounds}
-use Rattle.firing_core.specs.Stretches.{begins, EachBegins, IsSmallest, MixedEdit, RanRounds, GrewFrom}
-use Rattle.turn_lock.specs.Logs.{StartsWith}
-use Rattle.turn_lock.specs.Passes.{PassView, opened, kept_part}
-use Rattle.atomic_table.specs.Seated.{TableId}
-use Rattle.export_table.specs.Firings.{FiringValue}
-use Rattle.export_table.specs.Holding.{opening_of}
-use Rattle.export_table.specs.Turns.{Began, Idled, Closes}
+use Rattle.firing_core.specs.Stretches.{begins, EachBegins, IsSmallest, MixedEdit, RanRounds}
 use Rattle.worker_pool.specs.Pacing.{IsOrdered}
 use Rattle.worker_pool.specs.Rounding.{RanOn, IsGreatest, Completes}
-use Rattle.worker_pool.specs.Mixing.{WentOn, MixedTogether}
-use Rattle.worker_pool.proofs.Passes.{starts_trans}
+use Rattle.worker_pool.specs.Mixing.{MixedTogether}
 use Rattle.firing_core.proofs.Cuts.{run_join}
 use Rattle.worker_pool.proofs.Parts.{plain_join, begins_join, rounds_front}
-use Rattle.worker_pool.proofs.Closing.{closed_log}
-use Rattle.worker_pool.proofs.Stretching.{ran_ends, ran_net, ends_begin, grew_ran, grew_more}
-
-pub grew_mixed : (old new : BookValue) (e : EditValue) → MixedTogether old e new → GrewFrom old new
-grew_mixed old new e m = record { program = m.program; start = m.start; more = BeginEntry m.first ∷ m.among ++ EditEntry e ∷ m.after; log = m.log }
-
-pub grew_closed : (turns : ℕ) (v : PassView EntryValue) (old new : BookValue) → Closes (opening_of old 1 turns (length old.log)) v new → StartsWith v.seen (entries_of old.log) → GrewFrom old new
-grew_closed turns v old new c s = record { program = c.program; start = c.start; more = map (λ (z : ℕ × EntryValue). z.1) v.mine; log = closed_log (opening_of old 1 turns (length old.log)) v old new c refl s }
-
-pub grew_caller : (lock : TableId) (turns share : ℕ) (old new : BookValue) (v1 v2 v3 v4 : PassView EntryValue) (f : FiringValue)
-    → Began (opening_of old 1 turns (length old.log)) (opened lock (entries_of old.log) turns) v1 f → v2 ≡ kept_part share v1 → WentOn v2 v3 → StartsWith v4.seen v3.seen
-    → Closes (opening_of old 1 turns (length old.log)) v4 new → GrewFrom old new
-grew_caller lock turns share old new v1 v2 v3 v4 f b kept went seen c =
-    let first : StartsWith v1.seen (entries_of old.log) = starts_trans v1.seen b.before (entries_of old.log) (BeginEntry f.device ∷ [], ap (λ (u : PassView EntryValue). u.seen) b.turn.view) b.turn.begins in
-    let after : StartsWith v3.seen v1.seen = subst (λ (u : PassView EntryValue). StartsWith v3.seen u.seen) kept went.begins in
-    grew_closed turns v4 old new c (starts_trans v4.seen v3.seen (entries_of old.log) seen (starts_trans v3.seen v1.seen (entries_of old.log) after first))
-
--- a table in which nothing began, for want of memory
-pub grew_idle : (lock : TableId) (turns : ℕ) (old new : BookValue) (v : PassView EntryValue) → Idled (opening_of old 1 turns (length old.log)) (opened lock (entries_of old.log) turns) v
-    → Closes (opening_of old 1 turns (length old.log)) v new → GrewFrom old new
-grew_idle lock turns old new v idled c = let t = idled.turn in
-    grew_closed turns v old new c (starts_trans v.seen idled.before (entries_of old.log) (IdleEntry ∷ [], ap (λ (u : PassView EntryValue). u.seen) t.view) t.begins)
+use Rattle.worker_pool.proofs.Stretching.{ran_ends, ran_net, ends_begin}
 
 behind_mixed : (old new : BookValue) (part : List EntryValue) → entries_of new.log ≡ entries_of old.log ++ part → drop (length old.log) (entries_of new.log) ≡ part
 behind_mixed old new part e = (λ i. drop (sym (length-map old.log entry_of) i) (e i)) ∙ drop-append_seam (entries_of old.log) part
@@ -168,14 +140,6 @@ module _ (old mid mix done new : BookValue) (ds : List ℕ) (e : EditValue) (rou
     };
   }
 
-pub grew_done : (old mid mix done : BookValue) (ds : List ℕ) (e : EditValue) (front rounds : ℕ) → EndsFlights old mid ds → MixedTogether mid e mix → Completes front rounds mix done → GrewFrom old done
-grew_done old mid mix done ds e front rounds f m c =
-    grew_more old mid done (grew_ran old mid (entries_of (ends_of ds)) (ran_ends old mid ds f)) (grew_more mid mix done (grew_mixed mid mix e m) (grew_ran mix done c.part c.ran))
-
 pub ok_each : {A E : Type 0} {P Q : A → Type 0} (r : Result A E) → ((x : A) → P x → Q x) → IfOk r P → IfOk r Q
 ok_each (Ok x) f p = f x p
 ok_each (Err e) f p = tt
-
-pub err_each : {A E : Type 0} {P Q : E → Type 0} (r : Result A E) → ((e : E) → P e → Q e) → IfErr r P → IfErr r Q
-err_each (Ok x) f p = tt
-err_each (Err e) f p = f e p

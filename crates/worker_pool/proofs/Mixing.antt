@@ -165,6 +165,12 @@ module _ (lock : TableId) (turns : ℕ) (old : BookValue) (one : LogsLeadToOne) 
       by_test e live true q n = absurd (n.smallest e (ltb-true e f.device q) (may_begin rests e live))
       by_test e live false q n = ltb-false e f.device q
 
+  -- what the pass has written after it is no edit
+  pub first_plain : (w : PassView EntryValue) (f : FiringValue) → Began o v0 w f → (p : ℕ) (x : EntryValue) → In (p, x) w.mine → is_edit x ≡ false
+  first_plain w f b p x i =
+      let mine : w.mine ≡ (length b.before, BeginEntry f.device) ∷ [] = ap (λ (q : PassView EntryValue). q.mine) b.turn.view in
+      ⊎_elim (λ t. ap (λ (z : ℕ × EntryValue). is_edit z.1) t) (λ t. absurd t) (subst (In (p, x)) mine i)
+
 -- ---- the log in its pieces
 
 glue_one : (N R : List EntryValue) (z : EntryValue) → (N ++ z ∷ []) ++ R ≡ N ++ z ∷ R
@@ -231,12 +237,6 @@ module _ (lock : TableId) (turns share : ℕ) (old new : BookValue) (e : EditVal
   whole : map (λ (z : ℕ × EntryValue). z.1) v4.mine ≡ part
   whole = sym c.whole ∙ behind
 
-  mine_one : v1.mine ≡ (length b.before, BeginEntry d) ∷ []
-  mine_one = ap (λ (p : PassView EntryValue). p.mine) b.turn.view
-
-  plain_first : (p : ℕ) (x : EntryValue) → In (p, x) v1.mine → is_edit x ≡ false
-  plain_first p x i = ⊎_elim (λ t. ap (λ (z : ℕ × EntryValue). is_edit z.1) t) (λ t. absurd t) (subst (In (p, x)) mine_one i)
-
   only : (p : ℕ) (x : EntryValue) → In (p, x) v4.mine → (is_edit x ≡ false) ⊎ (p ≡ length w.edited.before)
   only p x i = ⊎_elim of_caller of_workers (from_merged (p, x) v3.mine u1.mine (subst (In (p, x)) (ap (λ (q : PassView EntryValue). q.mine) joins_to) i))
     where
@@ -244,7 +244,7 @@ module _ (lock : TableId) (turns share : ℕ) (old new : BookValue) (e : EditVal
       of_workers m = ⊎_elim (λ t. absurd t) (λ t. inl t) (u.plain p x m)
 
       of_edit : In (p, x) w.middle.mine → (is_edit x ≡ false) ⊎ (p ≡ length w.edited.before)
-      of_edit m = ⊎_elim (λ t. inl (plain_first p x t)) (λ t. inr (ap (λ (z : ℕ × EntryValue). z.0) t))
+      of_edit m = ⊎_elim (λ t. inl (first_plain lock turns old one was v1 f b p x t)) (λ t. inr (ap (λ (z : ℕ × EntryValue). z.0) t))
           (in_snoc (p, x) (length w.edited.before, EditEntry e) v1.mine (subst (In (p, x)) (ap (λ (q : PassView EntryValue). q.mine) w.edited.turn.view) m))
 
       of_caller : In (p, x) v3.mine → (is_edit x ≡ false) ⊎ (p ≡ length w.edited.before)

@@ -12,8 +12,8 @@ use Rattle.firing_core.specs.Entries.{EntryValue, BeginEntry, EndEntry, entry_of
 use Rattle.firing_core.specs.Cores.{Core, Run}
 use Rattle.firing_core.specs.Replays.{fault_of}
 use Rattle.firing_core.specs.CoreViews.{core_of}
-use Rattle.firing_core.specs.Books.{BookValue, IsSameBook, AppendsEntry, EndsFlights, ends_of}
-use Rattle.firing_core.specs.Stretches.{begins, EachBegins, NoneFlies, GrewFrom}
+use Rattle.firing_core.specs.Books.{BookValue, AppendsEntry, EndsFlights, ends_of}
+use Rattle.firing_core.specs.Stretches.{begins, EachBegins, NoneFlies}
 use Rattle.worker_pool.specs.Pacing.{TakesTurn, InTurn, IsOrdered}
 use Rattle.worker_pool.specs.Rounding.{RanOn, AtMost, FiredAlone, FiredIfShort, IsGreatest, Completes}
 use Rattle.fc_nodes.specs.Program.{Program, unfolding_of}
@@ -21,7 +21,7 @@ use Rattle.firing_core.proofs.Settling.{number_at}
 use Rattle.worker_pool.proofs.Parts.{begins_join}
 use Rattle.worker_pool.proofs.Flights.{alone_lands}
 use Rattle.worker_pool.proofs.InTurn.{begins_this, begins_other, same_ordered, turn_join, ends_turn}
-use Rattle.worker_pool.proofs.Stretching.{ran_none, ran_more, ran_net, ran_entry, grew_ran, grew_same, grew_more, ran_ends, ends_begin}
+use Rattle.worker_pool.proofs.Stretching.{ran_none, ran_more, ran_net, ran_entry, ran_ends, ends_begin}
 
 -- ---- places of a network
 
@@ -54,9 +54,6 @@ pub fired_alone : (old mid new : BookValue) (d : ℕ) → NoneFlies (core_of old
 fired_alone old mid new d rests a b =
     let ran = ran_more old mid new (BeginEntry d ∷ []) (EndEntry d ∷ []) (ran_entry old mid (entry.Begin d) a refl) (ran_entry mid new (entry.End d) b refl) in
     record { ran = ran; rests = alone_lands (unfolding_of old.program) (core_of old.core) (core_of new.core) d ran.leads rests }
-
-pub grew_begun : (old mid new : BookValue) (d : ℕ) → AppendsEntry old mid (entry.Begin d) → IsSameBook mid new → GrewFrom old new
-grew_begun old mid new d a s = grew_more old mid new (grew_ran old mid (BeginEntry d ∷ []) (ran_entry old mid (entry.Begin d) a refl)) (grew_same mid new s)
 
 -- ---- the device at a place
 
@@ -373,9 +370,6 @@ completes_settled front rounds old mid new ds l f c =
           (subst (λ (z : Program × Network × List EntryValue). InTurn (unfolding_of z.0) (numbers z.1.devices) z.2 (core_of mid.core) c.part (core_of new.core))
           (λ i. (ran.program i, net i, since_part front old mid ends l ran.log i)) c.turns);
     }
-
-pub grew_settled : (old mid new : BookValue) (ds : List ℕ) → EndsFlights old mid ds → GrewFrom mid new → GrewFrom old new
-grew_settled old mid new ds f g = grew_more old mid new (grew_ran old mid (entries_of (ends_of ds)) (ran_ends old mid ds f)) g
 
 -- ---- the entries since a place
 

@@ -10,9 +10,9 @@ use Rattle.firing_core.specs.declared.entries.Entry.{Entry}
 use Rattle.firing_core.specs.Entries.{EntryValue, entry_of, entries_of}
 use Rattle.firing_core.specs.Cores.{Run}
 use Rattle.firing_core.specs.CoreViews.{core_of}
-use Rattle.firing_core.specs.Books.{BookValue, IsSameBook, AppendsEntry, EndsFlights, EndsSome, ends_of, in_flight}
+use Rattle.firing_core.specs.Books.{BookValue, AppendsEntry, EndsFlights, ends_of, in_flight}
 use Rattle.firing_core.specs.Rounds.{has_edit, is_edit, HasRounds}
-use Rattle.firing_core.specs.Stretches.{begins, EachBegins, NoneFlies, GrewFrom, RanRounds}
+use Rattle.firing_core.specs.Stretches.{begins, EachBegins, NoneFlies, RanRounds}
 use Rattle.worker_pool.specs.Pacing.{InTurn, IsOrdered}
 use Rattle.worker_pool.specs.Rounding.{RanOn, FiredTogether, IsGreatest, Completes}
 use Rattle.firing_core.proofs.Cuts.{run_join, plain_net}
@@ -24,22 +24,6 @@ use Rattle.worker_pool.proofs.PacedRounds.{paced_rounds}
 pub first_device : (ns : List NetDevice) → 1 ≤ length ns → (d : ℕ) × (is_in d (numbers ns) ≡ true)
 first_device [] l = absurd (omega (arith, l))
 first_device (n ∷ ns) l = (n.id, rw (eq-eqb n.id n.id refl) refl)
-
--- ---- books that grow
-
-pub grew_same : (old new : BookValue) → IsSameBook old new → GrewFrom old new
-grew_same old new s = record { program = s.program; start = s.start; more = []; log = ap entries_of s.log ∙ append_none (entries_of old.log) }
-
-pub grew_ran : (old new : BookValue) (part : List EntryValue) → RanOn old new part → GrewFrom old new
-grew_ran old new part r = record { program = r.program; start = r.start; more = part; log = r.log }
-
-pub grew_more : (a b c : BookValue) → GrewFrom a b → GrewFrom b c → GrewFrom a c
-grew_more a b c f g = record {
-  program = g.program ∙ f.program;
-  start = g.start ∙ f.start;
-  more = f.more ++ g.more;
-  log = g.log ∙ (ap (λ (l : List EntryValue). l ++ g.more) f.log ∙ append_assoc (entries_of a.log) f.more g.more);
-}
 
 pub ran_none : (old : BookValue) → RanOn old old []
 ran_none old = record { program = refl; start = refl; log = append_none (entries_of old.log); leads = refl; plain = refl }
@@ -84,9 +68,6 @@ ran_ends old new ds f = record {
   leads = f.run;
   plain = ends_plain ds;
 }
-
-pub grew_some : (old new : BookValue) → EndsSome old new → GrewFrom old new
-grew_some old new s = grew_ran old new (entries_of (ends_of s.ended)) (ran_ends old new s.ended s.ends)
 
 -- ---- rounds
 

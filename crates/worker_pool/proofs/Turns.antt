@@ -1,6 +1,7 @@
 -- What the calls of a shared table do to the pass of a worker, and to that of the caller.
-use Rattle.std.proofs.Common.{◌≡◌, ◌+◌, ℕ, List, [], ◌∷◌, refl, sym, ap, ◌∙◌, subst, arith}
+use Rattle.std.proofs.Common.{◌≡◌, ◌+◌, ℕ, Bool, List, [], ◌∷◌, refl, sym, ap, ◌∙◌, subst, arith, Err}
 use Rattle.firing_core.specs.declared.entries.EditFault.{EditFault}
+use Rattle.firing_core.specs.declared.entries.EditFault.TheVariants as edit_refusal
 use Rattle.firing_core.specs.Entries.{edit_of, EditValue, EntryValue, BeginEntry, EndEntry, IdleEntry, EditEntry}
 use Rattle.firing_core.specs.Cores.{Core, EditFits}
 use Rattle.turn_lock.specs.Passes.{PassView, kept_part}
@@ -12,8 +13,9 @@ use Rattle.export_table.specs.Firings.{FiringValue}
 use Rattle.export_table.specs.declared.firing.Pause.{Pause}
 use Rattle.export_table.specs.declared.firing.Pause.TheVariants as pause
 use Rattle.export_table.specs.Turns.{TookTurn, Began, Paused, Edited, Refused, CanEnd, KeepsFirings}
+use Rattle.worker_pool.specs.declared.mixes.Mix.{Mix}
 use Rattle.worker_pool.specs.Working.{FiredOn, EndsFiring}
-use Rattle.worker_pool.specs.Mixing.{WentOn, MayMix}
+use Rattle.worker_pool.specs.Mixing.{WentOn, MayMix, MixedIn, Stopped}
 use Rattle.worker_pool.proofs.Passes.{starts_trans, fired_turn}
 
 -- ---- turns of a worker
@@ -47,7 +49,7 @@ went_turn o v w before core e t = record {
 pub went_edited : (o : Opening) (v w : PassView EntryValue) (e : EditValue) → Edited o v w e → WentOn v w
 went_edited o v w e t = went_turn o v w t.before t.core (EditEntry e) t.turn
 
-pub went_refused : (o : Opening) (v w : PassView EntryValue) (e : EditValue) (f : EditFault) → Refused o v w e f → WentOn v w
+went_refused : (o : Opening) (v w : PassView EntryValue) (e : EditValue) (f : EditFault) → Refused o v w e f → WentOn v w
 went_refused o v w e f t = went_turn o v w t.before t.core IdleEntry t.turn
 
 pub went_ends : (o : Opening) (v w : PassView EntryValue) (f : FiringValue) → EndsFiring o v w f → WentOn v w
@@ -65,10 +67,24 @@ kept_end o v f share c = record {
 }
 
 pub may_mix : (t : TableValue) (w : PassView ItemValue) (v : PassView EntryValue) (f : FiringValue) (e : Edit) (share : ℕ) (p : Program) → IsPassOf t w → v.left ≡ share + 2 → t.opening.program ≡ p
-    → EditFits (unfolding_of p) (edit_of e) → CanEnd t.opening v f → on_log w ≡ kept_part share v → MayMix t w (record { firing = f; edit = e })
-may_mix t w v f e share p own left program fits may kept = record {
+    → (waits : Bool) → EditFits (unfolding_of p) (edit_of e) → CanEnd t.opening v f → on_log w ≡ kept_part share v → MayMix t w (record { firing = f; edit = e; waits = waits })
+may_mix t w v f e share p own left program waits fits may kept = record {
   own = own;
   some = let l = ap (λ (u : PassView EntryValue). u.left) kept in omega (arith, l, left);
   fits = subst (λ (q : Program). EditFits (unfolding_of q) (edit_of e)) (sym program) fits;
   may_end = subst (λ (u : PassView EntryValue). CanEnd t.opening u f) (sym kept) (kept_end t.opening v f share may);
+}
+
+-- ---- an edit that isn't put in
+
+stopped : (o : Opening) (v w : PassView EntryValue) (e : EditValue) (f : EditFault) → Refused o v w e f → Stopped o v w e f
+stopped o v w e (edit_refusal.Net n) r = r
+stopped o v w e edit_refusal.Memory r = tt
+
+pub mixed_refused : (t : TableValue) (v w : PassView ItemValue) (m : Mix) (f : EditFault) → IsPassOf t w → Refused t.opening (on_log v) (on_log w) (edit_of m.edit) f → MixedIn t v w m (Err f)
+mixed_refused t v w m f own r = record {
+  own = own;
+  went = went_refused t.opening (on_log v) (on_log w) (edit_of m.edit) f r;
+  mixed = tt;
+  stopped = stopped t.opening (on_log v) (on_log w) (edit_of m.edit) f r;
 }

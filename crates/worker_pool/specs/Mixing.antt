@@ -1,8 +1,9 @@
 -- An edit among the firings of a round.
-use Rattle.std.specs.Prelude.{ℕ, Bool, ◌≡◌, ◌≤◌, List, ◌∷◌, ◌++◌, false, Result, OnOk}
-use Rattle.fc_values.specs.declared.memory.Memory.{Memory}
+use Rattle.std.specs.Prelude.{ℕ, Bool, ◌≡◌, ◌≤◌, List, ◌∷◌, ◌++◌, false, Result, OnOk, IfErr}
 use Rattle.fc_nodes.specs.Program.{unfolding_of}
 use Rattle.topology.specs.Networks.{numbers}
+use Rattle.firing_core.specs.declared.entries.EditFault.{EditFault}
+use Rattle.firing_core.specs.declared.entries.EditFault.TheVariants as edit_refusal
 use Rattle.firing_core.specs.Entries.{EditValue, EntryValue, BeginEntry, EndEntry, EditEntry, edit_of, entries_of}
 use Rattle.firing_core.specs.Cores.{Core, Run, EditFits}
 use Rattle.firing_core.specs.CoreViews.{core_of}
@@ -13,7 +14,7 @@ use Rattle.turn_lock.specs.Logs.{StartsWith}
 use Rattle.turn_lock.specs.Passes.{PassView}
 use Rattle.export_table.specs.Items.{Opening, ItemValue}
 use Rattle.export_table.specs.Passing.{TableValue, IsPassOf, on_log}
-use Rattle.export_table.specs.Turns.{TookTurn, Rested, Edited, CanEnd}
+use Rattle.export_table.specs.Turns.{TookTurn, Rested, Edited, Refused, CanEnd}
 use Rattle.worker_pool.specs.declared.mixes.Mix.{Mix}
 use Rattle.worker_pool.specs.Pacing.{IsOrdered}
 use Rattle.worker_pool.specs.Rounding.{AtMost}
@@ -43,11 +44,17 @@ pub record MayMix (t : TableValue) (v : PassView ItemValue) (m : Mix) : Type 0 w
   pub fits : EditFits (unfolding_of t.opening.program) (edit_of m.edit)
   pub may_end : CanEnd t.opening (on_log v) m.firing
 
--- it did, or went on without
-pub record MixedIn (t : TableValue) (v w : PassView ItemValue) (m : Mix) (r : Result (Unit {0}) Memory) : Type 0 where
+-- the pass v didn't do both: the core refused the edit at a turn, or memory was wanting
+abbrev pub Stopped : Opening → PassView EntryValue → PassView EntryValue → EditValue → EditFault → Type 0
+Stopped o v w e (edit_refusal.Net f) = Refused o v w e (edit_refusal.Net f)
+Stopped o v w e edit_refusal.Memory = Unit {0}
+
+-- it did, or stopped
+pub record MixedIn (t : TableValue) (v w : PassView ItemValue) (m : Mix) (r : Result (Unit {0}) EditFault) : Type 0 where
   pub own : IsPassOf t w
   pub went : WentOn (on_log v) (on_log w)
   pub mixed : OnOk r (EditedThenEnded t.opening (on_log v) (on_log w) (edit_of m.edit) m.firing.snap.device)
+  pub stopped : IfErr r (Stopped t.opening (on_log v) (on_log w) (edit_of m.edit))
 
 -- A table let workers fire, with an edit between the begin of the smallest device, which is the first, and that
 -- device's next end. Devices began firings in turn, each at most one.

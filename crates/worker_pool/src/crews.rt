@@ -1,10 +1,9 @@
 //! What the workers of one table share.
 
-ghost use Rattle.std.specs.Prelude.{◌≡◌, ◌<◌, ◌≤◌, ◌^◌, [], IfOk, IfErr, length};
+ghost use Rattle.std.specs.Prelude.{◌≡◌, ◌<◌, ◌≤◌, ◌^◌, [], IfOk, length};
 ghost use Rattle.topology.specs.Networks.{IsNetwork};
 ghost use Rattle.firing_core.specs.CoreViews.{core_of};
 ghost use Rattle.firing_core.specs.Entries.{entries_of};
-ghost use Rattle.firing_core.specs.Books.{IsSameBook};
 ghost use Rattle.firing_core.specs.Stretches.{NoneFlies};
 ghost use Rattle.turn_lock.specs.Passes.{opened};
 ghost use Rattle.export_table.specs.Holding.{BeginsWithin, EachIsNext, opening_of};
@@ -41,28 +40,28 @@ pub(crate) struct Crew<'a, G> {
 }
 
 impl<'a, G> Crew<'a, G> {
-    /// Opens a table over a book in which nothing flies. A refusal hands the book back.
+    /// Opens a table over a book in which nothing flies.
     pub(crate) fn open(
         alloc: Global,
         book: Book,
         rounds: u32,
         turns: u64,
         gate: &'a G,
-    ) -> Result<(Crew<'a, G>, Pass<Held>), (Book, Memory)>
+    ) -> Result<(Crew<'a, G>, Pass<Held>), Memory>
         requires rests { NoneFlies (core_of book.core) }
         requires few { turns < 2 ^ 32 }
         ensures opening { IfOk result (λ r. r.0.shared.opening ≡ opening_of book rounds turns (length book.log)) }
         ensures pass { IfOk result (λ r. on_log r.1 ≡ opened r.0.shared.lock (entries_of book.log) turns) }
         ensures own { IfOk result (λ r. IsPassOf r.0.shared r.1) }
-        ensures back { IfErr result (λ e. IsSameBook book e.0) }
     {
-        let program = match book.program().clone() {
-            Ok(program) => program,
-            Err(_) => return Err((book, Memory)),
+        let Ok(program) = book.program().clone() else {
+            return Err(Memory);
         };
         let first = device_at(&book, 0);
         let has_reserve = program.size() < FEW_NODES;
-        let (shared, pass) = Shared::over(alloc, book, rounds, turns)?;
+        let Ok((shared, pass)) = Shared::over(alloc, book, rounds, turns) else {
+            return Err(Memory);
+        };
         let crew = Crew {
             alloc,
             shared,

@@ -1,10 +1,9 @@
 //! Rounds over a book: a table for many of them, in which workers fire, and then what is short.
 
-ghost use Rattle.std.specs.Prelude.{◌≡◌, ◌≤◌, IfOk, IfErr, length};
+ghost use Rattle.std.specs.Prelude.{◌≡◌, ◌≤◌, IfOk, length};
 ghost use Rattle.fc_nodes.specs.Program.{Unfolding, unfolding_of};
 ghost use Rattle.firing_core.specs.CoreViews.{core_of};
-ghost use Rattle.firing_core.specs.Books.{IsSameBook};
-ghost use Rattle.firing_core.specs.Stretches.{NoneFlies, RanRounds, GrewFrom};
+ghost use Rattle.firing_core.specs.Stretches.{NoneFlies, RanRounds};
 ghost use Rattle.worker_pool.specs.Rounding.{FiredTogether};
 ghost use Rattle.worker_pool.specs.Working.{AreRooms};
 
@@ -28,15 +27,12 @@ pub fn run_rounds<R: Threads + Wait + Sync, G: Gate + Sync>(
     rounds: u32,
     workers: u32,
     gate: &G,
-) -> Result<Book, (Book, Memory)>
+) -> Result<Book, Memory>
     requires workers { (1 ≤ workers) × (workers ≤ 16) }
     ensures ran { IfOk result (RanRounds book rounds) }
-    ensures grew { IfErr result (λ e. GrewFrom book e.0) }
 {
-    match no_rooms(alloc, workers) {
-        Ok(mut rooms) => run_in(rt, alloc, book, rounds, &mut rooms, gate),
-        Err(memory) => Err((book, memory)),
-    }
+    let mut rooms = no_rooms(alloc, workers)?;
+    run_in(rt, alloc, book, rounds, &mut rooms, gate)
 }
 
 /// A place for the room of each worker. The rooms are made by the workers, and kept from table to table.
@@ -59,16 +55,13 @@ pub(crate) fn run_in<R: Threads + Wait + Sync, G: Gate + Sync>(
     rounds: u32,
     rooms: &mut [Option<Room>],
     gate: &G,
-) -> Result<Book, (Book, Memory)>
+) -> Result<Book, Memory>
     requires workers { (1 ≤ length rooms.old) × (length rooms.old ≤ 16) }
     requires rooms { AreRooms (unfolding_of book.program) rooms.old }
     ensures ran { IfOk result (RanRounds book rounds) }
-    ensures grew { IfErr result (λ e. GrewFrom book e.0) }
 {
     let mut book = book;
-    if let Err(memory) = book.settle(alloc) {
-        return Err((book, memory));
-    }
+    book.settle(alloc)?;
     let mut left = rounds;
     while left > 0 {
         let (grown, ran) = some_rounds(rt, alloc, book, left, rooms, gate)?;
@@ -86,23 +79,20 @@ fn some_rounds<R: Threads + Wait + Sync, G: Gate + Sync>(
     most: u32,
     rooms: &mut [Option<Room>],
     gate: &G,
-) -> Result<(Book, u32), (Book, Memory)>
+) -> Result<(Book, u32), Memory>
     requires workers { (1 ≤ length rooms.old) × (length rooms.old ≤ 16) }
     requires some { 1 ≤ most }
     requires rests { NoneFlies (core_of book.core) }
     requires rooms { AreRooms (unfolding_of book.program) rooms.old }
     ensures ran { IfOk result (λ r. RanRounds book r.1 r.0) }
     ensures some { IfOk result (λ r. (1 ≤ r.1) × (r.1 ≤ most)) }
-    ensures grew { IfErr result (λ e. GrewFrom book e.0) }
     ensures rooms { AreRooms (unfolding_of book.program) rooms.new }
     ensures many { length rooms.new ≡ length rooms.old }
 {
     let front = book.log().len();
     let mut book = fire_together(rt, alloc, book, most, rooms, gate)?;
-    match complete(alloc, &mut book, front) {
-        Ok(ran) => Ok((book, ran as u32)),
-        Err(memory) => Err((book, memory)),
-    }
+    let ran = complete(alloc, &mut book, front)?;
+    Ok((book, ran as u32))
 }
 
 // Lets workers fire in a table over a book in which nothing flies. Devices begin firings in turn, each at most so many.
@@ -113,13 +103,12 @@ fn fire_together<R: Threads + Wait + Sync, G: Gate + Sync>(
     most: u32,
     rooms: &mut [Option<Room>],
     gate: &G,
-) -> Result<Book, (Book, Memory)>
+) -> Result<Book, Memory>
     requires workers { (1 ≤ length rooms.old) × (length rooms.old ≤ 16) }
     requires some { 1 ≤ most }
     requires rests { NoneFlies (core_of book.core) }
     requires rooms { AreRooms (unfolding_of book.program) rooms.old }
     ensures fired { IfOk result (FiredTogether most book) }
-    ensures back { IfErr result (λ e. IsSameBook book e.0) }
     ensures rooms { AreRooms (unfolding_of book.program) rooms.new }
     ensures many { length rooms.new ≡ length rooms.old }
 {

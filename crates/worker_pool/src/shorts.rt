@@ -1,13 +1,13 @@
 //! What the workers of a table left: flights, and devices that have begun one firing less than others.
 
-ghost use Rattle.std.specs.Prelude.{◌≡◌, ◌≤◌, ◌<◌, length, drop, get_or, IfOk, OnOk, OnErr, None};
+ghost use Rattle.std.specs.Prelude.{◌≡◌, ◌≤◌, ◌<◌, length, drop, get_or, IfOk, OnOk, None};
 ghost use Rattle.topology.specs.Networks.{IsNetwork, Lives, numbers};
 ghost use Rattle.fc_nodes.specs.Program.{unfolding_of};
 ghost use Rattle.firing_core.specs.CoreViews.{core_of};
 ghost use Rattle.firing_core.specs.Entries.{entry_of, entries_of};
 ghost use Rattle.firing_core.specs.Replays.{EntryFits, fault_of, net_fault_of};
-ghost use Rattle.firing_core.specs.Books.{AppendsEntry, IsBook, IsSameBook};
-ghost use Rattle.firing_core.specs.Stretches.{is_begin, begins, NoneFlies, GrewFrom};
+ghost use Rattle.firing_core.specs.Books.{AppendsEntry, IsBook};
+ghost use Rattle.firing_core.specs.Stretches.{is_begin, begins, NoneFlies};
 ghost use Rattle.worker_pool.specs.Pacing.{IsOrdered};
 ghost use Rattle.worker_pool.specs.Rounding.{Completes, FiredAlone, FiredIfShort, IsGreatest};
 
@@ -54,7 +54,6 @@ fn step(alloc: Global, book: &mut Book, entry: Entry) -> Result<(), Memory>
     requires has { fault_of (core_of book.old.core) (entry_of entry) ≡ None }
     requires no_edit { net_fault_of (core_of book.old.core) (entry_of entry) ≡ None }
     ensures ok { OnOk result (AppendsEntry book.old book.new entry) }
-    ensures err { OnErr result (IsSameBook book.old book.new) }
 {
     match book.step(alloc, entry) {
         Ok(()) => Ok(()),
@@ -68,7 +67,6 @@ fn fire_alone(alloc: Global, book: &mut Book, device: u32) -> Result<(), Memory>
     requires there { Lives (core_of book.old.core).net device }
     requires rests { NoneFlies (core_of book.old.core) }
     ensures ok { OnOk result (FiredAlone book.old device book.new) }
-    ensures err { OnErr result (GrewFrom book.old book.new) }
 {
     step(alloc, book, Entry::Begin(device))?;
     step(alloc, book, Entry::End(device))
@@ -98,7 +96,6 @@ fn fire_short(alloc: Global, book: &mut Book, front: usize, rounds: usize) -> Re
     requires ordered { IsOrdered (numbers book.old.core.net.devices) (drop front (entries_of book.old.log)) }
     requires greatest { IsGreatest (core_of book.old.core).net (drop front (entries_of book.old.log)) rounds }
     ensures ok { OnOk result (Completes front rounds book.old book.new) }
-    ensures err { OnErr result (GrewFrom book.old book.new) }
 {
     let count = device_count(book);
     for place in 0..count {
@@ -119,7 +116,6 @@ fn fire_if_short(
     requires place { place < length book.old.core.net.devices }
     requires rests { NoneFlies (core_of book.old.core) }
     ensures ok { OnOk result (FiredIfShort front rounds place book.old book.new) }
-    ensures err { OnErr result (GrewFrom book.old book.new) }
 {
     if begun_since(book, front, place) >= rounds {
         return Ok(());
@@ -147,7 +143,6 @@ pub(crate) fn complete(alloc: Global, book: &mut Book, front: usize) -> Result<u
     requires ordered { IsOrdered (numbers book.old.core.net.devices) (drop front (entries_of book.old.log)) }
     ensures ok { IfOk result (λ r. Completes front r book.old book.new) }
     ensures greatest { IfOk result (IsGreatest (core_of book.old.core).net (drop front (entries_of book.old.log))) }
-    ensures err { OnErr result (GrewFrom book.old book.new) }
 {
     book.settle(alloc)?;
     let rounds = greatest_since(book, front);

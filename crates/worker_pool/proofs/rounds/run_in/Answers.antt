@@ -1,7 +1,7 @@
 use Rattle.std.proofs.Common.{ℕ, ◌≡◌, ◌≤◌, ◌∙◌, ◌-◌, ◌+◌, refl, subst, sym, arith}
 use Rattle.firing_core.specs.Stretches.{RanRounds}
 use Rattle.worker_pool.proofs.Keeping.{rooms_of_same}
-use Rattle.worker_pool.proofs.Stretching.{grew_some, rounds_more, settled}
+use Rattle.worker_pool.proofs.Stretching.{rounds_more, settled}
 use Rattle.worker_pool.proofs.rounds.run_in.Goals as goal
 
 rest_is : (rounds left ran : ℕ) → left ≤ rounds → ran ≤ left → (rounds - left) + ran ≡ rounds - (left - ran)
@@ -10,15 +10,12 @@ rest_is rounds left ran a b = omega (arith, a, b)
 rest_within : (rounds left ran : ℕ) → left ≤ rounds → left - ran ≤ rounds
 rest_within rounds left ran a = omega (arith, a)
 
-pub returns-in-Err-clause-grew : goal.returns-in-Err-clause-grew
-returns-in-Err-clause-grew g c = grew_some c.args.book c.settle.new.self c.in-Err.ensures.memory
-
 pub loop-left-init : goal.loop-left-init
 loop-left-init g c =
     let none : 0 ≡ c.args.rounds - c.args.rounds = omega arith in
     record {
       within = omega arith;
-      ran = subst (λ k. RanRounds c.args.book k c.settle.new.self) none (settled c.args.book c.settle.new.self c.in_default.ensures.ok c.in_default.ensures.rests);
+      ran = subst (λ k. RanRounds c.args.book k c.settle.new.self) none (settled c.args.book c.settle.new.self c.in_ok-settle.ensures.ok c.in_ok-settle.ensures.rests);
       rooms = c.requires.rooms;
       many = refl;
     }
@@ -40,6 +37,7 @@ loop-left-preserved g c =
       many = c.some_rounds.ensures.many ∙ i.many;
     }
 
-pub returns-clause-ran : goal.returns-clause-ran
-returns-clause-ran g c =
-    let e : c.args.rounds - c.loop-left.left ≡ c.args.rounds = omega arith in subst (λ k. RanRounds c.args.book k c.loop-left.book) e c.loop-left.invariant.ran
+pub returns : goal.returns
+returns g c =
+    let e : c.args.rounds - c.loop-left.left ≡ c.args.rounds = omega arith in
+    record { ran = subst (λ k. RanRounds c.args.book k c.loop-left.book) e c.loop-left.invariant.ran }

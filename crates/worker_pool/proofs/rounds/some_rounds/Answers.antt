@@ -8,14 +8,14 @@ complete-requires-clause-ordered g c =
 
 pub overflow_cast-result : goal.overflow_cast-result
 overflow_cast-result g c =
-    let s = some_together (length c.log-front.result.now) c.args.most c.in-Ok.ran c.args.book c.in_ok-book.book c.in_ok-book.ensures.fired (ap length c.log-front.ensures.value) c.requires.some c.in-Ok.ensures.greatest in
+    let s = some_together (length c.log-front.result.now) c.args.most c.in_ok-ran.ran c.args.book c.in_ok-book.book c.in_ok-book.ensures.fired (ap length c.log-front.ensures.value) c.requires.some c.in_ok-ran.ensures.greatest in
     omega (arith, s)
 
-pub returns-in-Ok-clause-ran : goal.returns-in-Ok-clause-ran
-returns-in-Ok-clause-ran g c =
-    ran_some (length c.log-front.result.now) c.args.most c.in-Ok.ran c.args.book c.in_ok-book.book c.complete.new.book c.in_ok-book.ensures.fired (ap length c.log-front.ensures.value)
-    c.in-Ok.ensures.greatest.some c.in-Ok.ensures.ok
+pub returns-clause-ran : goal.returns-clause-ran
+returns-clause-ran g c =
+    ran_some (length c.log-front.result.now) c.args.most c.in_ok-ran.ran c.args.book c.in_ok-book.book c.complete.new.book c.in_ok-book.ensures.fired (ap length c.log-front.ensures.value)
+    c.in_ok-ran.ensures.greatest.some c.in_ok-ran.ensures.ok
 
-pub returns-in-Ok-clause-some : goal.returns-in-Ok-clause-some
-returns-in-Ok-clause-some g c =
-    some_together (length c.log-front.result.now) c.args.most c.in-Ok.ran c.args.book c.in_ok-book.book c.in_ok-book.ensures.fired (ap length c.log-front.ensures.value) c.requires.some c.in-Ok.ensures.greatest
+pub returns-clause-some : goal.returns-clause-some
+returns-clause-some g c =
+    some_together (length c.log-front.result.now) c.args.most c.in_ok-ran.ran c.args.book c.in_ok-book.book c.in_ok-book.ensures.fired (ap length c.log-front.ensures.value) c.requires.some c.in_ok-ran.ensures.greatest

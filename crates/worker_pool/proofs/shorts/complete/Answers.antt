@@ -1,16 +1,9 @@
 use Rattle.std.proofs.Common.{◌≤◌, ◌-◌, ap, drop, subst}
-use Rattle.std.proofs.lemmas.Result.{err_from_is_err_and}
 use Rattle.firing_core.specs.Entries.{entries_of}
 use Rattle.firing_core.specs.CoreViews.{core_of}
 use Rattle.firing_core.specs.Books.{in_flight}
-use Rattle.worker_pool.proofs.Stretching.{grew_some}
-use Rattle.worker_pool.proofs.OneByOne.{ordered_settled, greatest_settled, completes_settled, last_begins, complete_already, grew_settled}
+use Rattle.worker_pool.proofs.OneByOne.{ordered_settled, greatest_settled, completes_settled, last_begins, complete_already}
 use Rattle.worker_pool.proofs.shorts.complete.Goals as goal
-
-pub returns-in_err-settle-clause-err : goal.returns-in_err-settle-clause-err
-returns-in_err-settle-clause-err c =
-    let p = err_from_is_err_and c.from_residual.result c.from_residual.ensures.1 in
-    rw (p.1) (grew_some c.args.book.now c.settle.new.self c.in_err-settle.ensures.memory)
 
 pub greatest_since-rounds-requires-clause-ordered : goal.greatest_since-rounds-requires-clause-ordered
 greatest_since-rounds-requires-clause-ordered c =
@@ -47,8 +40,3 @@ pub returns-else-begun_since-rounds-clause-greatest : goal.returns-else-begun_si
 returns-else-begun_since-rounds-clause-greatest c =
     greatest_settled c.args.front c.greatest_since-rounds.result c.args.book.now c.settle.new.self (in_flight (core_of c.args.book.now.core)) c.requires.front c.in_ok-settle.ensures.ok
     c.greatest_since-rounds.ensures
-
-pub returns-in_err-fire_short-clause-err : goal.returns-in_err-fire_short-clause-err
-returns-in_err-fire_short-clause-err c =
-    let p = err_from_is_err_and c.from_residual-in_err-fire_short.result c.from_residual-in_err-fire_short.ensures.1 in
-    rw (p.1) (grew_settled c.args.book.now c.settle.new.self c.fire_short.new.book (in_flight (core_of c.args.book.now.core)) c.in_ok-settle.ensures.ok c.in_err-fire_short.ensures.err)

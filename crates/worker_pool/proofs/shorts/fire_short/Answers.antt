@@ -1,7 +1,5 @@
 use Rattle.std.proofs.Common.{length, ap, arith}
-use Rattle.std.proofs.lemmas.Result.{err_from_is_err_and}
 use Rattle.topology.specs.Networks.{Network}
-use Rattle.worker_pool.proofs.Stretching.{grew_ran, grew_more}
 use Rattle.worker_pool.proofs.OneByOne.{shorts_none, shorts_net, shorts_past, shorts_more, shorts_all}
 use Rattle.worker_pool.proofs.shorts.fire_short.Goals as goal
 
@@ -28,13 +26,7 @@ loop-place-preserved c =
           c.requires.front (omega (arith, t, k)) c.loop-place.invariant.shorts c.in_ok-fire_if_short.ensures.ok;
     }
 
-pub returns-in_err-fire_if_short-clause-err : goal.returns-in_err-fire_if_short-clause-err
-returns-in_err-fire_if_short-clause-err c =
-    let p = err_from_is_err_and c.from_residual.result c.from_residual.ensures.1 in
-    rw (p.1) (grew_more c.args.book.now c.loop-place.book c.fire_if_short.new.book (grew_ran c.args.book.now c.loop-place.book c.loop-place.invariant.shorts.part c.loop-place.invariant.shorts.ran)
-    c.in_err-fire_if_short.ensures.err)
-
-pub returns-clause-ok : goal.returns-clause-ok
-returns-clause-ok c =
+pub returns : goal.returns
+returns c =
     let k = c.device_count-count.ensures.count in
-    shorts_all c.args.front c.args.rounds c.args.book.now c.loop-place.book c.loop-place.place (omega arith) c.loop-place.invariant.shorts
+    record { ok = shorts_all c.args.front c.args.rounds c.args.book.now c.loop-place.book c.loop-place.place (omega arith) c.loop-place.invariant.shorts }
