@@ -16,7 +16,7 @@ ghost use Rattle.session.specs.Growing.{GrewBy, MayPoke, Scrambled};
 
 use crate::showing::show_edit;
 use fc_values::{Export, Memory, copy, copy_export};
-use firing_core::{Book, Core, Edit, Entry, runs_cut};
+use firing_core::{Book, Core, Edit, Entry, ReplayFault, runs_cut};
 use scramble::rubbish;
 use std::alloc::Global;
 use topology::{Device, copy_device};
@@ -42,7 +42,8 @@ pub(crate) fn make(alloc: Global, book: &mut Book, edit: Edit) -> Result<(), Mem
 {
     match book.step(alloc, Entry::Edit(edit)) {
         Ok(()) => Ok(()),
-        Err(_) => Err(Memory),
+        Err(ReplayFault::Memory) => Err(Memory),
+        Err(_) => unreachable!(),
     }
 }
 

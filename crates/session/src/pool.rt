@@ -1,11 +1,11 @@
 //! What runs the rounds of a script.
 
-ghost use Rattle.std.specs.Prelude.{◌≡◌, ◌≤◌, ◌+◌, IfOk, IfErr};
+ghost use Rattle.std.specs.Prelude.{◌≡◌, ◌≤◌, ◌+◌, IfOk};
 ghost use Rattle.fc_values.specs.declared.limits.TheConstants.{MOST_WORKERS};
 ghost use Rattle.fc_nodes.specs.Program.{unfolding_of};
 ghost use Rattle.firing_core.specs.CoreViews.{core_of};
 ghost use Rattle.firing_core.specs.Entries.{edit_of};
-ghost use Rattle.firing_core.specs.Stretches.{GrewFrom, MixedEdit, RanRounds};
+ghost use Rattle.firing_core.specs.Stretches.{MixedEdit, RanRounds};
 ghost use Rattle.session.specs.Conditions.{AllowsMix, FewFirings};
 
 use export_table::Gate;
@@ -36,26 +36,18 @@ impl<'a, W: Threads + Wait + Sync, G: Gate + Sync> Pool<'a, W, G> {
         Pool { rt, gate, workers }
     }
 
-    /// Runs so many rounds of a book's devices. It may wait. After `Memory` the book may have grown.
-    pub fn run(&self, alloc: Global, book: Book, rounds: u32) -> Result<Book, (Book, Memory)>
+    /// Runs so many rounds of a book's devices. It may wait.
+    pub fn run(&self, alloc: Global, book: Book, rounds: u32) -> Result<Book, Memory>
         requires few { FewFirings (core_of book.core) rounds }
         ensures ran { IfOk result (λ b. RanRounds book rounds b) }
-        ensures grew { IfErr result (λ e. GrewFrom book e.0) }
     {
         run_rounds(self.rt, alloc, book, rounds, self.workers, self.gate)
     }
 
-    /// Makes an edit among firings, and then runs so many rounds. It may wait. After `Memory` the book may have grown.
-    pub fn mix(
-        &self,
-        alloc: Global,
-        book: Book,
-        rounds: u32,
-        edit: Edit,
-    ) -> Result<Book, (Book, Memory)>
+    /// Makes an edit among firings, and then runs so many rounds. It may wait.
+    pub fn mix(&self, alloc: Global, book: Book, rounds: u32, edit: Edit) -> Result<Book, Memory>
         requires allowed { AllowsMix (unfolding_of book.program) (core_of book.core) rounds (edit_of edit) }
         ensures mixed { IfOk result (λ b. MixedEdit book rounds (edit_of edit) b) }
-        ensures grew { IfErr result (λ e. GrewFrom book e.0) }
     {
         run_mixed(self.rt, alloc, book, rounds, edit, self.workers, self.gate)
     }

@@ -28,10 +28,8 @@ fn start(alloc: Global, program: Arc<Unfolded>, core: Core) -> Result<Session, M
     let Ok(book) = Book::new(alloc, program, core) else {
         return Err(Memory);
     };
-    match Session::new(alloc, book, &verdict) {
-        Ok(session) => Ok(session),
-        Err((_, memory)) => Err(memory),
-    }
+    let session = Session::new(alloc, book, &verdict)?;
+    Ok(session)
 }
 
 /// Does what the lines of a script ask for, one after another, from a core on. It waits where it runs rounds alone.

@@ -61,7 +61,7 @@ fn add_part(
 }
 
 impl Session {
-    ghost use Rattle.std.specs.Prelude.{ℕ, ◌≡◌, IfOk, IfErr};
+    ghost use Rattle.std.specs.Prelude.{ℕ, ◌≡◌, IfOk};
     ghost use Rattle.fc_nodes.specs.Program.{unfolding_of};
     ghost use Rattle.firing_core.specs.CoreViews.{core_of};
     ghost use Rattle.firing_core.specs.Entries.{edit_of};
@@ -69,20 +69,17 @@ impl Session {
     ghost use Rattle.session.specs.Conditions.{Allows, AllowsEdit, AllowsMix, AllowsRounds};
     ghost use Rattle.session.specs.Sessions.{AfterLine, Opens};
 
-    /// A session that begins with the line of a verdict. A refusal hands the book back.
-    pub fn new(alloc: Global, book: Book, verdict: &Verdict) -> Result<Session, (Book, Memory)>
-        ensures opens { IfOk result (Opens book verdict.now) }
-        ensures back { IfErr result (λ e. e.0 ≡ book) }
+    /// A session that begins with the line of a verdict.
+    pub fn new(alloc: Global, book: Book, verdict: &Verdict) -> Result<Session, Memory>
+        ensures { IfOk result (Opens book verdict.now) }
     {
         let mut text = Vec::new(alloc);
-        match write_verdict(alloc, &mut text, verdict) {
-            Ok(()) => Ok(Session {
-                book,
-                parts: Vec::new(alloc),
-                text,
-            }),
-            Err(memory) => Err((book, memory)),
-        }
+        write_verdict(alloc, &mut text, verdict)?;
+        Ok(Session {
+            book,
+            parts: Vec::new(alloc),
+            text,
+        })
     }
 
     /// Does what a line asks for. It waits where it runs rounds alone. On `Memory` the session is given up.
@@ -122,9 +119,7 @@ impl Session {
             text,
         } = self;
         let from = book.log().len();
-        let Ok(book) = pool.run(alloc, book, rounds) else {
-            return Err(Memory);
-        };
+        let book = pool.run(alloc, book, rounds)?;
         add_part(&mut parts, line, rounds, from, &book)?;
         Ok(Session { book, parts, text })
     }
@@ -147,9 +142,7 @@ impl Session {
             text,
         } = self;
         let edit = copy_edit(alloc, edit)?;
-        let Ok(book) = pool.mix(alloc, book, rounds, edit) else {
-            return Err(Memory);
-        };
+        let book = pool.mix(alloc, book, rounds, edit)?;
         let from = book.log().len() - after_last_edit(book.log()).len();
         add_part(&mut parts, line, rounds, from, &book)?;
         Ok(Session { book, parts, text })

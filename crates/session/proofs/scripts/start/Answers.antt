@@ -4,8 +4,8 @@ use Rattle.session.specs.Shown.{verdict_in}
 use Rattle.session.proofs.Runs.{opened}
 use Rattle.session.proofs.scripts.start.Goals as goal
 
-pub returns-in-Ok-new : goal.returns-in-Ok-new
-returns-in-Ok-new c =
-    opened c.args.program.value c.args.core c.in-Ok-new.session c.in-Ok.book c.in_ok-verdict.verdict c.in-Ok-new.ensures.opens
+pub returns : goal.returns
+returns c =
+    opened c.args.program.value c.args.core c.in_ok-session.session c.in-Ok.book c.in_ok-verdict.verdict c.in_ok-session.ensures
     (c.in_ok-verdict.ensures ∙ ap (λ p. verdict_in p (core_of c.args.core)) (sym c.requires))
     c.in-Ok.ensures.program c.in-Ok.ensures.start c.in-Ok.ensures.log c.in-Ok.ensures.core

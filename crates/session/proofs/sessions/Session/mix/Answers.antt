@@ -14,10 +14,10 @@ overflow_sub-from g c =
 pub returns : goal.returns
 returns g c =
     let old : SessionValue = session_of c.self.inside.book c.self.inside.parts.items c.self.inside.text.items in
-    let new : SessionValue = session_of c.in-Ok.book c.add_part.new.parts.items c.self.inside.text.items in
+    let new : SessionValue = session_of c.in_ok-book.book c.add_part.new.parts.items c.self.inside.text.items in
     let e = edit_of c.args.edit.now in
     subst (λ s. AfterLine (c.args.line, MixCommand c.args.rounds e) s new) c.self.view_is
-    (after_mix old new c.args.line c.args.rounds (length c.log.result.now - length c.after_last_edit.result.now) (length c.in-Ok.book.log) e c.requires.mixed
-    (subst (λ k. MixedEdit c.self.inside.book c.args.rounds k c.in-Ok.book) c.in_ok-edit.ensures c.in-Ok.ensures.mixed)
-    (ap₂ (λ a n. a - n) (ap length c.log.ensures.value) (last_length c.after_last_edit.result.now c.log-2.result.now c.in-Ok.book.log c.after_last_edit.ensures c.log-2.ensures.value))
+    (after_mix old new c.args.line c.args.rounds (length c.log.result.now - length c.after_last_edit.result.now) (length c.in_ok-book.book.log) e c.requires.mixed
+    (subst (λ k. MixedEdit c.self.inside.book c.args.rounds k c.in_ok-book.book) c.in_ok-edit.ensures c.in_ok-book.ensures.mixed)
+    (ap₂ (λ a n. a - n) (ap length c.log.ensures.value) (last_length c.after_last_edit.result.now c.log-2.result.now c.in_ok-book.book.log c.after_last_edit.ensures c.log-2.ensures.value))
     refl c.in_ok-add_part.ensures refl)
