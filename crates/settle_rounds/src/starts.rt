@@ -21,7 +21,7 @@ use device_eval::evaluate;
 use export_bounds::{exact_export_bound, widen_bound};
 use fc_nodes::Unfolded;
 use fc_values::{Export, Memory};
-use firing_core::Core;
+use firing_core::{Core, StepFault};
 use std::alloc::Global;
 use topology::Network;
 use value_trees::Snap;
@@ -130,7 +130,8 @@ fn take_off(alloc: Global, core: &mut Core, device: u32) -> Result<(), Memory>
     }
     match core.begin(alloc, device) {
         Ok(()) => Ok(()),
-        Err(_) => Err(Memory),
+        Err(StepFault::Memory) => Err(Memory),
+        Err(_) => unreachable!(),
     }
 }
 
