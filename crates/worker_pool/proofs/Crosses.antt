@@ -59,5 +59,22 @@ bell_sync : IsSync Bell.the_row
 bell_sync = search (sendable, crosses) depth 40 fits 20000
 
 pub crew_sync : (ℓ : NamedLft) (G : RattleType) → IsSync G → IsSync (Crew.the_row ℓ G)
-crew_sync ℓ G gate = declared_sync (Crew.the_type ℓ G) (alloc_sync, (shared_sync, (program_sync, (bell_sync, (search sendable, (search sendable,
-    (search (sendable, crosses), (search (gate, sendable), tt))))))))
+crew_sync ℓ G gate = declared_sync (Crew.the_type ℓ G) (
+  alloc_sync,
+  (
+    shared_sync,
+    (
+      program_sync,
+      (
+        bell_sync,
+        (
+          search sendable,
+          (
+            search sendable,
+            (search (sendable, crosses), (search (gate, sendable), tt)),
+          ),
+        ),
+      ),
+    ),
+  ),
+)

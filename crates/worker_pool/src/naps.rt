@@ -6,6 +6,7 @@ use std::time::Duration;
 
 // The first sleep, in nanoseconds. Each is twice as long as the one before, up to a millisecond.
 const FIRST_SLEEP: u64 = 16_000;
+
 const DOUBLINGS: u32 = 6;
 
 /// The sleeps of a worker between its firings: none, or ever longer ones if it is in reserve.
