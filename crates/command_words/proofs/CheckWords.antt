@@ -6,7 +6,9 @@ use Rattle.clap.proofs.OnLiterals.{clap_on_literals}
 use Rattle.command_words.specs.declared.choices.Choices.{Choices}
 use Rattle.command_words.specs.declared.choices.Name.TheVariants.{Check}
 use Rattle.command_words.specs.declared.commands.Command.{Command}
-use Rattle.command_words.specs.declared.commands.Command.TheVariants as asked
+use Rattle.command_words.specs.declared.commands.Command.TheVariants as command
+use Rattle.command_words.specs.declared.commands.Quiet.TheVariants as quiet
+use Rattle.command_words.specs.declared.commands.CheckOptions.{CheckOptions}
 use Rattle.command_words.specs.declared.settings.Setting.TheVariants as set
 use Rattle.command_words.specs.Commands.{start_asked}
 use Rattle.command_words.specs.Options.{check_app, check_of}
@@ -47,7 +49,11 @@ there : (b : Bool) (command : Command) → is_some (if b then None else Some com
 there true command e = cc
 there false command e = refl
 
+-- the options that flags set
+abbrev pub options_of : Choices → CheckOptions
+options_of c = record { facts = c.facts; settle = start_asked c.settle c.from_table }
+
 -- flags that ask for a `check` ask for this one
 pub check_is : (c : Choices) → is_some (command_with Check c) ≡ true
-    → command_with Check c ≡ Some (asked.Check c.facts (start_asked c.settle c.from_table))
-check_is c e = there (c.from_table && not c.settle) (asked.Check c.facts (start_asked c.settle c.from_table)) e
+    → command_with Check c ≡ Some (command.Quiet (quiet.Check (options_of c)))
+check_is c e = there (c.from_table && not c.settle) (command.Quiet (quiet.Check (options_of c))) e

@@ -1,11 +1,13 @@
 //! The options of `check` and `replay`, and the commands that take nothing, read by `clap`.
 
-ghost use Rattle.std.specs.Prelude.{◌≡◌, true, is_some, map, string_bytes, IfOk, IfErr};
+ghost use Rattle.std.specs.Prelude.{◌≡◌, Some, true, is_some, map, string_bytes, IfOk, IfErr};
+ghost use Rattle.command_words.specs.declared.commands.Command.TheVariants as command;
+ghost use Rattle.command_words.specs.declared.commands.Quiet.TheVariants as quiet;
 ghost use Rattle.clap.specs.Words.{HasMatchesOf, app_of, kind_of};
 ghost use Rattle.command_words.specs.Options.{bare_app, bare_of, check_app, check_of, replay_app, replay_of, takes_nothing};
 
 use crate::choices::Name;
-use crate::commands::{Command as Asked, start_asked};
+use crate::commands::{CheckOptions, ReplayOptions, start_asked};
 use clap::error::ErrorKind;
 use clap::{Arg, ArgAction, ArgMatches, Command, Error};
 use fc_values::Memory;
@@ -85,13 +87,13 @@ fn bare_matches<'a>(
     bare_options(alloc, word).try_get_matches_from(words)
 }
 
-/// The `check` that the words ask for, of which the command's is the first.
-pub fn check(alloc: Global, words: &[String]) -> Result<Asked, Memory>
+/// The options of the `check` that the words ask for, of which the command's is the first.
+pub fn check(alloc: Global, words: &[String]) -> Result<CheckOptions, Memory>
     requires { is_some (check_of (map string_bytes words.now)) ≡ true }
-    ensures { IfOk result (λ asked. check_of (map string_bytes words.now) ≡ Some asked) }
+    ensures { IfOk result (λ o. check_of (map string_bytes words.now) ≡ Some (command.Quiet (quiet.Check o))) }
 {
     match check_matches(alloc, words) {
-        Ok(matches) => Ok(Asked::Check {
+        Ok(matches) => Ok(CheckOptions {
             facts: matches.get_flag("facts"),
             settle: start_asked(matches.get_flag("settle"), matches.get_flag("from-table")),
         }),
@@ -99,13 +101,13 @@ pub fn check(alloc: Global, words: &[String]) -> Result<Asked, Memory>
     }
 }
 
-/// The `replay` that the words ask for, of which the command's is the first.
-pub fn replay(alloc: Global, words: &[String]) -> Result<Asked, Memory>
+/// The options of the `replay` that the words ask for, of which the command's is the first.
+pub fn replay(alloc: Global, words: &[String]) -> Result<ReplayOptions, Memory>
     requires { is_some (replay_of (map string_bytes words.now)) ≡ true }
-    ensures { IfOk result (λ asked. replay_of (map string_bytes words.now) ≡ Some asked) }
+    ensures { IfOk result (λ o. replay_of (map string_bytes words.now) ≡ Some (command.Quiet (quiet.Replay o))) }
 {
     match replay_matches(alloc, words) {
-        Ok(matches) => Ok(Asked::Replay {
+        Ok(matches) => Ok(ReplayOptions {
             rounds: matches.get_flag("rounds"),
             table: matches.get_flag("table"),
         }),

@@ -5,7 +5,7 @@ ghost use Rattle.command_words.specs.Options.{takes_nothing};
 ghost use Rattle.command_words.specs.Words.{WordsAskForCommands, command_of};
 
 use crate::choices::{Name, command_of_settings, named};
-use crate::commands::Command;
+use crate::commands::{Command, Quiet};
 use crate::options::{bare, check, replay};
 use crate::settings::settings;
 use fc_values::Memory;
@@ -42,13 +42,13 @@ pub fn command(alloc: Global, words: &[String]) -> Result<Option<Command>, Memor
         return Ok(Some(command));
     }
     match name {
-        Name::Check => Ok(Some(check(alloc, asked)?)),
-        Name::Replay => Ok(Some(replay(alloc, asked)?)),
+        Name::Check => Ok(Some(Command::Quiet(Quiet::Check(check(alloc, asked)?)))),
+        Name::Replay => Ok(Some(Command::Quiet(Quiet::Replay(replay(alloc, asked)?)))),
         _ => Ok(Some(command)),
     }
 }
 
-/// What words ask for is a command: a scenario has at least three devices.
+/// What words ask for is a command: there is a worker at least, and a scenario has three devices at least.
 pub fn words_ask_for_commands()
     ensures { WordsAskForCommands }
 {}

@@ -3,7 +3,8 @@ use Rattle.clap.specs.Words.{found_of, matches_of, one_of, one_text, rows_of}
 use Rattle.clap.proofs.WalkLemmas.{one_text-rows}
 use Rattle.command_words.specs.Commands.{start_asked}
 use Rattle.command_words.specs.Options.{check_app}
-use Rattle.command_words.specs.declared.commands.Command.TheVariants.{Check}
+use Rattle.command_words.specs.declared.commands.Command.TheVariants.{Quiet}
+use Rattle.command_words.specs.declared.commands.Quiet.TheVariants.{Check}
 use Rattle.command_words.proofs.FlagWords.{flag_read, shows_is}
 use Rattle.command_words.proofs.CheckWords.{check_is_simple, check_words, check_is}
 use Rattle.command_words.proofs.Spelled.{both}
@@ -32,4 +33,4 @@ returns-in-Ok c =
     c.get_flag-in-Ok-2.ensures.value c.get_flag-in-Ok-2.ensures.other in
     reads.is
     ∙ check_is reads.choices (sym (ap is_some reads.is) ∙ c.requires)
-    ∙ sym (ap₂ (λ f s. Some (Check f s)) facts (c.start_asked.ensures ∙ ap₂ start_asked settle table))
+    ∙ sym (ap₂ (λ f s. Some (Quiet (Check (record { facts = f; settle = s })))) facts (c.start_asked.ensures ∙ ap₂ start_asked settle table))

@@ -2,7 +2,8 @@ use Rattle.std.proofs.Common.{◌≡◌, ap, ap₂, sym, codes, map, string_byte
 use Rattle.clap.specs.Words.{found_of, matches_of, one_of, one_text, rows_of}
 use Rattle.clap.proofs.WalkLemmas.{one_text-rows}
 use Rattle.command_words.specs.Options.{replay_app}
-use Rattle.command_words.specs.declared.commands.Command.TheVariants.{Replay}
+use Rattle.command_words.specs.declared.commands.Command.TheVariants.{Quiet}
+use Rattle.command_words.specs.declared.commands.Quiet.TheVariants.{Replay}
 use Rattle.command_words.proofs.FlagWords.{flag_read, shows_is}
 use Rattle.command_words.proofs.ReplayWords.{replay_is_simple, replay_words}
 use Rattle.command_words.proofs.Spelled.{both}
@@ -24,4 +25,4 @@ returns-in-Ok c =
     flag_read reads.choices.table (one_text found (codes "table")) c.get_flag-in-Ok.result
     (one_text-rows found (codes "table") ∙ ap (one_of (codes "table")) rows ∙ shows_is _ _ second.0)
     c.get_flag-in-Ok.ensures.value c.get_flag-in-Ok.ensures.other in
-    reads.is ∙ sym (ap₂ (λ r t. Some (Replay r t)) rounds table)
+    reads.is ∙ sym (ap₂ (λ r t. Some (Quiet (Replay (record { rounds = r; table = t })))) rounds table)
