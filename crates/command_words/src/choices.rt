@@ -27,16 +27,16 @@ pub enum Name {
 /// Which settings are there, each at most once.
 #[derive(Clone, Copy, Debug, PartialEq, Eq)]
 pub struct Choices {
-    facts: bool,
-    settle: bool,
-    from_table: bool,
-    log: bool,
-    table: bool,
-    rounds: bool,
-    workers: Option<u32>,
-    devices: Option<u32>,
-    number: Option<u32>,
-    alone: Option<u32>,
+    pub facts: bool,
+    pub settle: bool,
+    pub from_table: bool,
+    pub log: bool,
+    pub table: bool,
+    pub rounds: bool,
+    pub workers: Option<u32>,
+    pub devices: Option<u32>,
+    pub number: Option<u32>,
+    pub alone: Option<u32>,
 }
 
 /// The command that a word names.
@@ -185,8 +185,8 @@ fn worked_by(workers: Option<u32>, work: Work) -> Command
     })
 }
 
-// The command with what is chosen, and the defaults for the rest.
-fn chosen(name: Name, choices: Choices) -> Option<Command>
+/// The command with what is chosen, and the defaults for the rest.
+pub fn chosen(name: Name, choices: Choices) -> Option<Command>
     ensures { result ≡ command_with name choices }
 {
     let Choices {
