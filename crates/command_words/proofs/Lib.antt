@@ -1,9 +1,9 @@
 mod Apps
 mod Taken
-mod Spelled
-mod FlagWords
-mod CheckWords
-mod ReplayWords
-mod BareWords
+mod Pieces
+mod ClapWalk
+mod Enumerated
+mod ReadWords
+mod SameChoices
 mod AskedWords
 mod Enough

@@ -3,8 +3,10 @@ use Rattle.std.specs.Prelude.{ℕ, Bool, true, false, ◌≤◌, nat_lt, if◌th
 use Rattle.std.specs.Option.{option_or}
 use Rattle.fc_values.specs.declared.limits.TheConstants.{MOST_SCENARIO_DEVICES, MOST_WORKERS}
 use Rattle.command_words.specs.declared.commands.Command.{Command}
-use Rattle.command_words.specs.declared.commands.Command.TheVariants.{Check, Stable, Run, Replay}
-use Rattle.command_words.specs.declared.commands.Command.TheVariants.{Format, Gen, Trace, Mail}
+use Rattle.command_words.specs.declared.commands.Command.TheVariants as command
+use Rattle.command_words.specs.declared.commands.Threaded.{Threaded}
+use Rattle.command_words.specs.declared.commands.Work.{Work}
+use Rattle.command_words.specs.declared.commands.Work.TheVariants.{Run, Gen}
 use Rattle.command_words.specs.declared.commands.Limit.{Limit}
 use Rattle.command_words.specs.declared.commands.Limit.TheVariants.{Workers, Devices}
 use Rattle.command_words.specs.declared.commands.Start.{Start}
@@ -16,16 +18,20 @@ start_asked false from_table = None
 start_asked true false = Some start.Any
 start_asked true true = Some start.Table
 
--- a command with numbers that words can give it: a scenario has at least 3 devices
+-- work with numbers that words can give it: a scenario has at least 3 devices
+abbrev pub IsWork : Work → Type 0
+IsWork (Run options) = Unit {0}
+IsWork (Gen options) = 3 ≤ options.devices
+
+-- at least one worker does such work
+pub record IsThreaded (t : Threaded) : Type 0 where
+  pub some : 1 ≤ t.workers
+  pub work : IsWork t.work
+
+-- a command with numbers that words can give it
 abbrev pub IsCommand : Command → Type 0
-IsCommand (Gen number devices workers) = 3 ≤ devices
-IsCommand (Check facts settle) = Unit {0}
-IsCommand Stable = Unit {0}
-IsCommand (Run workers log table) = Unit {0}
-IsCommand (Replay rounds table) = Unit {0}
-IsCommand Format = Unit {0}
-IsCommand Trace = Unit {0}
-IsCommand (Mail number) = Unit {0}
+IsCommand (command.Quiet quiet) = Unit {0}
+IsCommand (command.Threaded threaded) = IsThreaded threaded
 
 -- a limit's name in texts
 abbrev pub limit_name : Limit → List ℕ
@@ -40,13 +46,11 @@ workers_limit n = if nat_lt MOST_WORKERS n then Some (Workers, n) else None
 abbrev pub devices_limit : ℕ → Option (Limit × ℕ)
 devices_limit n = if nat_lt MOST_SCENARIO_DEVICES n then Some (Devices, n) else None
 
+-- the limit that a number of some work passes
+abbrev pub work_limit : Work → Option (Limit × ℕ)
+work_limit (Run options) = None
+work_limit (Gen options) = devices_limit options.devices
+
 -- the limit that a command's numbers pass, with the number: workers are looked at before devices
-abbrev pub limit_of : Command → Option (Limit × ℕ)
-limit_of (Run workers log table) = workers_limit workers
-limit_of (Gen number devices workers) = option_or (workers_limit workers) (devices_limit devices)
-limit_of (Check facts settle) = None
-limit_of Stable = None
-limit_of (Replay rounds table) = None
-limit_of Format = None
-limit_of Trace = None
-limit_of (Mail number) = None
+abbrev pub limit_of : Threaded → Option (Limit × ℕ)
+limit_of t = option_or (workers_limit t.workers) (work_limit t.work)

@@ -1,9 +1,12 @@
--- The options of `check` and `replay`, and the commands that take nothing, for `clap`.
-use Rattle.std.specs.Prelude.{ℕ, Bool, true, false, List, [], ◌∷◌, codes, Option, Some, None}
-use Rattle.clap.specs.Words.{App, Rule, new_app, new_rule, with_rule}
+-- The options of each command, for `clap`, and what it reads of words that are inside.
+use Rattle.std.specs.Prelude.{ℕ, ◌≡◌, Bool, true, false, if◌then◌else◌, List, [], ◌∷◌, codes}
+use Rattle.std.specs.Prelude.{Option, Some, None, option_and_then}
+use Rattle.clap.specs.Words.{App, Row, Rule, first_of, new_app, new_rule, one_of, with_rule}
 use Rattle.clap.specs.Simple.{Shape, on_top}
-use Rattle.clap.specs.declared.builder.action.ArgAction.TheVariants.{SetTrue}
+use Rattle.clap.specs.declared.builder.action.ArgAction.TheVariants.{Set, SetTrue}
 use Rattle.command_words.specs.declared.commands.Command.{Command}
+use Rattle.fc_values.specs.Numbers.{number_of}
+use Rattle.command_words.specs.declared.choices.Choices.{Choices}
 use Rattle.command_words.specs.declared.choices.Name.{Name}
 use Rattle.command_words.specs.declared.choices.Name.TheVariants.{Check, Stable, Run, Replay, Format, Gen, Trace, Mail}
 use Rattle.command_words.specs.Settings.{settings_of}
@@ -12,46 +15,76 @@ use Rattle.command_words.specs.Words.{asked}
 abbrev pub flag_rule : List ℕ → Rule
 flag_rule name = record (new_rule name) { long = Some name; action = Some SetTrue }
 
+-- an option with a number
+abbrev pub number_rule : List ℕ → Rule
+number_rule name = record (new_rule name) { long = Some name; action = Some Set }
+
+-- a number that stands alone
+abbrev pub alone_rule : Rule
+alone_rule = record (new_rule (codes "alone")) { action = Some Set }
+
 -- help and version are off
 abbrev pub without_help : Shape → Shape
 without_help s = record s { disable_help_flag = true; disable_version_flag = true }
 
-abbrev pub plain_app : List ℕ → App
+-- a command without options, of this name
+unfoldable pub plain_app : List ℕ → App
 plain_app name = on_top without_help (new_app name)
 
-unfoldable pub check_app : App
-check_app =
-    with_rule (with_rule (with_rule (plain_app (codes "check")) (flag_rule (codes "facts")))
-    (flag_rule (codes "settle"))) (flag_rule (codes "from-table"))
+unfoldable pub check_app : List ℕ → App
+check_app name =
+    with_rule (with_rule (with_rule (plain_app name) (flag_rule (codes "facts"))) (flag_rule (codes "settle")))
+    (flag_rule (codes "from-table"))
 
-unfoldable pub replay_app : App
-replay_app = with_rule (with_rule (plain_app (codes "replay")) (flag_rule (codes "rounds"))) (flag_rule (codes "table"))
+unfoldable pub replay_app : List ℕ → App
+replay_app name =
+    with_rule (with_rule (plain_app name) (flag_rule (codes "rounds"))) (flag_rule (codes "table"))
 
-unfoldable pub bare_app : List ℕ → App
-bare_app name = plain_app name
+unfoldable pub run_app : List ℕ → App
+run_app name =
+    with_rule (with_rule (with_rule (plain_app name) (number_rule (codes "workers"))) (flag_rule (codes "log")))
+    (flag_rule (codes "table"))
 
--- the `check` that the words ask for, the first of which is the command's
-abbrev pub check_of : List (List ℕ) → Option Command
-check_of [] = None
-check_of (name ∷ words) = asked (Some Check) (settings_of words)
+unfoldable pub gen_app : List ℕ → App
+gen_app name =
+    with_rule (with_rule (with_rule (plain_app name) alone_rule) (number_rule (codes "devices")))
+    (number_rule (codes "workers"))
 
--- the same of `replay`
-abbrev pub replay_of : List (List ℕ) → Option Command
-replay_of [] = None
-replay_of (name ∷ words) = asked (Some Replay) (settings_of words)
+unfoldable pub mail_app : List ℕ → App
+mail_app name = with_rule (plain_app name) (number_rule (codes "number"))
 
--- the commands that take no flag, no option and no number
-abbrev pub takes_nothing : Name → Bool
-takes_nothing Format = true
-takes_nothing Stable = true
-takes_nothing Trace = true
-takes_nothing Check = false
-takes_nothing Run = false
-takes_nothing Replay = false
-takes_nothing Gen = false
-takes_nothing Mail = false
+-- the options of each command
+abbrev pub options_of : Name → List ℕ → App
+options_of Check name = check_app name
+options_of Stable name = plain_app name
+options_of Run name = run_app name
+options_of Replay name = replay_app name
+options_of Format name = plain_app name
+options_of Gen name = gen_app name
+options_of Trace name = plain_app name
+options_of Mail name = mail_app name
 
--- the same of a command that takes nothing
-abbrev pub bare_of : Name → List (List ℕ) → Option Command
-bare_of command [] = None
-bare_of command (name ∷ words) = asked (Some command) (settings_of words)
+-- the command of this name that the words ask for, of which the command's is the first
+abbrev pub asked_of : Name → List (List ℕ) → Option Command
+asked_of name [] = None
+asked_of name (word ∷ words) = asked (Some name) (settings_of words)
+
+-- ---- choices
+
+-- a flag is as `clap` shows it. It shows none that the command doesn't take
+abbrev pub IsFlag : Option (List ℕ) → Bool → Type 0
+IsFlag None b = b ≡ false
+IsFlag (Some text) b = text ≡ (if b then codes "true" else codes "false")
+
+-- the choices that `clap` has read
+pub record IsRead (rows : List Row) (c : Choices) : Type 0 where
+  pub facts : IsFlag (one_of (codes "facts") rows) c.facts
+  pub settle : IsFlag (one_of (codes "settle") rows) c.settle
+  pub from_table : IsFlag (one_of (codes "from-table") rows) c.from_table
+  pub log : IsFlag (one_of (codes "log") rows) c.log
+  pub table : IsFlag (one_of (codes "table") rows) c.table
+  pub rounds : IsFlag (one_of (codes "rounds") rows) c.rounds
+  pub workers : option_and_then number_of (first_of (codes "workers") rows) ≡ c.workers
+  pub devices : option_and_then number_of (first_of (codes "devices") rows) ≡ c.devices
+  pub number : option_and_then number_of (first_of (codes "number") rows) ≡ c.number
+  pub alone : option_and_then number_of (first_of (codes "alone") rows) ≡ c.alone

@@ -5,6 +5,9 @@ use Rattle.std.specs.List.{list_all}
 use Rattle.std.specs.Str.{bytes_eq}
 use Rattle.command_words.specs.declared.commands.Command.{Command}
 use Rattle.command_words.specs.declared.commands.Command.TheVariants as command
+use Rattle.command_words.specs.declared.commands.Quiet.TheVariants as quiet
+use Rattle.command_words.specs.declared.commands.Work.{Work}
+use Rattle.command_words.specs.declared.commands.Work.TheVariants as work
 use Rattle.command_words.specs.declared.choices.Name.{Name}
 use Rattle.command_words.specs.declared.choices.Name.TheVariants.{Check, Stable, Run, Replay, Format, Gen, Trace, Mail}
 use Rattle.command_words.specs.declared.choices.Choices.{Choices}
@@ -78,18 +81,24 @@ all_set c (s ∷ more) = option_and_then (λ d. all_set d more) (with_setting s 
 -- the `check` with its flags: `--from-table` stands beside `--settle` only
 abbrev pub check_with : Bool → Bool → Bool → Option Command
 check_with facts settle from_table =
-    if from_table && not settle then None else Some (command.Check facts (start_asked settle from_table))
+    if from_table && not settle then None
+    else Some (command.Quiet (quiet.Check (record { facts = facts; settle = start_asked settle from_table })))
+
+-- the command of some work: 4 workers do it, if the words don't say how many
+abbrev pub worked_by : Option ℕ → Work → Command
+worked_by workers work = command.Threaded (record { workers = unwrap_or workers 4; work = work })
 
 -- the command with what is set, and the defaults for the rest: 4 workers and 64 devices. `gen` needs its number
 abbrev pub command_with : Name → Choices → Option Command
 command_with Check c = check_with c.facts c.settle c.from_table
-command_with Stable c = Some command.Stable
-command_with Run c = Some (command.Run (unwrap_or c.workers 4) c.log c.table)
-command_with Replay c = Some (command.Replay c.rounds c.table)
-command_with Format c = Some command.Format
-command_with Gen c = option_map (λ n. command.Gen n (unwrap_or c.devices 64) (unwrap_or c.workers 4)) c.alone
-command_with Trace c = Some command.Trace
-command_with Mail c = Some (command.Mail c.number)
+command_with Stable c = Some (command.Quiet quiet.Stable)
+command_with Run c = Some (worked_by c.workers (work.Run (record { log = c.log; table = c.table })))
+command_with Replay c = Some (command.Quiet (quiet.Replay (record { rounds = c.rounds; table = c.table })))
+command_with Format c = Some (command.Quiet quiet.Format)
+command_with Gen c =
+    option_map (λ n. worked_by c.workers (work.Gen (record { number = n; devices = unwrap_or c.devices 64 }))) c.alone
+command_with Trace c = Some (command.Quiet quiet.Trace)
+command_with Mail c = Some (command.Quiet (quiet.Mail (record { number = c.number })))
 
 -- the command of a name with its settings, if it takes each of them and none stands twice
 abbrev pub command_from : Name → List Setting → Option Command

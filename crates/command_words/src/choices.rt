@@ -3,9 +3,12 @@
 ghost use Rattle.std.specs.Prelude.{◌≡◌};
 ghost use Rattle.std.specs.List.{list_all};
 ghost use Rattle.command_words.specs.Words.{all_set, allows, check_with, command_from, command_with, name_of};
-ghost use Rattle.command_words.specs.Words.{no_choices, with_setting};
+ghost use Rattle.command_words.specs.Words.{no_choices, with_setting, worked_by};
 
-use crate::commands::{Command, start_asked};
+use crate::commands::{
+    CheckOptions, Command, GenOptions, MailOptions, Quiet, ReplayOptions, RunOptions, Threaded,
+    Work, start_asked,
+};
 use crate::settings::{Numbered, Setting};
 
 /// The name of a command.
@@ -24,16 +27,16 @@ pub enum Name {
 /// Which settings are there, each at most once.
 #[derive(Clone, Copy, Debug, PartialEq, Eq)]
 pub struct Choices {
-    facts: bool,
-    settle: bool,
-    from_table: bool,
-    log: bool,
-    table: bool,
-    rounds: bool,
-    workers: Option<u32>,
-    devices: Option<u32>,
-    number: Option<u32>,
-    alone: Option<u32>,
+    pub facts: bool,
+    pub settle: bool,
+    pub from_table: bool,
+    pub log: bool,
+    pub table: bool,
+    pub rounds: bool,
+    pub workers: Option<u32>,
+    pub devices: Option<u32>,
+    pub number: Option<u32>,
+    pub alone: Option<u32>,
 }
 
 /// The command that a word names.
@@ -166,41 +169,53 @@ fn check_with(facts: bool, settle: bool, from_table: bool) -> Option<Command>
     if from_table && !settle {
         return None;
     }
-    Some(Command::Check {
+    Some(Command::Quiet(Quiet::Check(CheckOptions {
         facts,
         settle: start_asked(settle, from_table),
+    })))
+}
+
+// The command of some work, by 4 workers if nothing else is chosen.
+fn worked_by(workers: Option<u32>, work: Work) -> Command
+    ensures { result ≡ worked_by workers work }
+{
+    Command::Threaded(Threaded {
+        workers: workers.unwrap_or(4),
+        work,
     })
 }
 
-// The command with what is chosen, and the defaults for the rest.
-fn chosen(name: Name, choices: Choices) -> Option<Command>
+/// The command with what is chosen, and the defaults for the rest.
+pub fn chosen(name: Name, choices: Choices) -> Option<Command>
     ensures { result ≡ command_with name choices }
 {
+    let Choices {
+        facts,
+        settle,
+        from_table,
+        log,
+        table,
+        rounds,
+        workers,
+        devices,
+        number,
+        alone,
+    } = choices;
     match name {
-        Name::Check => check_with(choices.facts, choices.settle, choices.from_table),
-        Name::Stable => Some(Command::Stable),
-        Name::Run => Some(Command::Run {
-            workers: choices.workers.unwrap_or(4),
-            log: choices.log,
-            table: choices.table,
-        }),
-        Name::Replay => Some(Command::Replay {
-            rounds: choices.rounds,
-            table: choices.table,
-        }),
-        Name::Format => Some(Command::Format),
+        Name::Check => check_with(facts, settle, from_table),
+        Name::Stable => Some(Command::Quiet(Quiet::Stable)),
+        Name::Run => Some(worked_by(workers, Work::Run(RunOptions { log, table }))),
+        Name::Replay => Some(Command::Quiet(Quiet::Replay(ReplayOptions { rounds, table }))),
+        Name::Format => Some(Command::Quiet(Quiet::Format)),
         Name::Gen => {
-            let number = choices.alone?;
-            Some(Command::Gen {
-                number,
-                devices: choices.devices.unwrap_or(64),
-                workers: choices.workers.unwrap_or(4),
-            })
+            let options = GenOptions {
+                number: alone?,
+                devices: devices.unwrap_or(64),
+            };
+            Some(worked_by(workers, Work::Gen(options)))
         }
-        Name::Trace => Some(Command::Trace),
-        Name::Mail => Some(Command::Mail {
-            number: choices.number,
-        }),
+        Name::Trace => Some(Command::Quiet(Quiet::Trace)),
+        Name::Mail => Some(Command::Quiet(Quiet::Mail(MailOptions { number }))),
     }
 }
 

@@ -12,41 +12,87 @@ pub enum Start {
     Table,
 }
 
-/// A command with its options.
+/// The options of `check`.
 #[derive(Clone, Copy, Debug, PartialEq, Eq)]
-pub enum Command {
+pub struct CheckOptions {
+    /// Whether the facts of each node are written.
+    pub facts: bool,
+    /// From which exports the rounds that each device needs are counted, where they are asked for.
+    pub settle: Option<Start>,
+}
+
+/// The options of `replay`: what is written after the values.
+#[derive(Clone, Copy, Debug, PartialEq, Eq)]
+pub struct ReplayOptions {
+    /// The number of rounds.
+    pub rounds: bool,
+    /// The table of exports.
+    pub table: bool,
+}
+
+/// The options of `mail`.
+#[derive(Clone, Copy, Debug, PartialEq, Eq)]
+pub struct MailOptions {
+    /// The number that drives the run, where no log is given.
+    pub number: Option<u32>,
+}
+
+/// The options of `run`: what is written after what a script shows.
+#[derive(Clone, Copy, Debug, PartialEq, Eq)]
+pub struct RunOptions {
+    /// The log.
+    pub log: bool,
+    /// The table of exports.
+    pub table: bool,
+}
+
+/// The options of `gen`.
+#[derive(Clone, Copy, Debug, PartialEq, Eq)]
+pub struct GenOptions {
+    /// The number of the scenario.
+    pub number: u32,
+    /// How many devices it has.
+    pub devices: u32,
+}
+
+/// A command that no thread works for.
+#[derive(Clone, Copy, Debug, PartialEq, Eq)]
+pub enum Quiet {
     /// The verdict, and where they are asked for the facts of each node and the rounds that each device needs.
-    Check {
-        facts: bool,
-        settle: Option<Start>,
-    },
+    Check(CheckOptions),
     /// The stabilised field.
     Stable,
-    /// A script's run by so many workers, and its log and table where they are asked for.
-    Run {
-        workers: u32,
-        log: bool,
-        table: bool,
-    },
     /// The values after a log, and its rounds and table where they are asked for.
-    Replay {
-        rounds: bool,
-        table: bool,
-    },
+    Replay(ReplayOptions),
     /// The canonical text of a program.
     Format,
-    /// The summary of the scenario of a number, on so many devices, by so many workers.
-    Gen {
-        number: u32,
-        devices: u32,
-        workers: u32,
-    },
     /// The walks.
     Trace,
     /// The values after a log of mail lines, or after the run that is driven by a number.
-    Mail {
-        number: Option<u32>,
-    },
+    Mail(MailOptions),
+}
+
+/// What workers do.
+#[derive(Clone, Copy, Debug, PartialEq, Eq)]
+pub enum Work {
+    /// A script's run, and its log and table where they are asked for.
+    Run(RunOptions),
+    /// The summary of the scenario of a number.
+    Gen(GenOptions),
+}
+
+/// A command that so many workers work for.
+#[derive(Clone, Copy, Debug, PartialEq, Eq)]
+pub struct Threaded {
+    pub workers: u32,
+    pub work: Work,
+}
+
+/// A command with its options.
+#[derive(Clone, Copy, Debug, PartialEq, Eq)]
+pub enum Command {
+    Quiet(Quiet),
+    Threaded(Threaded),
 }
 
 /// What a number of the words may pass.
@@ -85,16 +131,16 @@ pub fn start_asked(settle: bool, from_table: bool) -> Option<Start>
 }
 
 /// The first limit that a number of the command passes, with this number.
-pub fn passed_limit(command: Command) -> Option<(Limit, u32)>
+pub fn passed_limit(command: Threaded) -> Option<(Limit, u32)>
     ensures { result ≡ limit_of command }
 {
-    match command {
-        Command::Run { workers, .. } if MOST_WORKERS < workers => Some((Limit::Workers, workers)),
-        Command::Gen { workers, .. } if MOST_WORKERS < workers => Some((Limit::Workers, workers)),
-        Command::Gen { devices, .. } if MOST_SCENARIO_DEVICES < devices => Some((
-            Limit::Devices,
-            devices,
-        )),
+    if MOST_WORKERS < command.workers {
+        return Some((Limit::Workers, command.workers));
+    }
+    match command.work {
+        Work::Gen(options) if MOST_SCENARIO_DEVICES < options.devices => {
+            Some((Limit::Devices, options.devices))
+        }
         _ => None,
     }
 }

@@ -7,5 +7,8 @@ mod options;
 mod settings;
 mod words;
 
-pub use commands::{Command, Limit, Start, passed_limit};
+pub use commands::{
+    CheckOptions, Command, GenOptions, Limit, MailOptions, Quiet, ReplayOptions, RunOptions, Start,
+    Threaded, Work, passed_limit,
+};
 pub use words::{command, words_ask_for_commands};

@@ -12,7 +12,6 @@ where_map P Q f (Some cause) h = f cause h
 
 -- a stop for a cause of which more holds
 pub stops_map : (P Q : Cause → Type 0) → ((cause : Cause) → P cause → Q cause) → (s : Stop) → StopsFor P s → StopsFor Q s
-stops_map P Q f stop.Read h = absurd h
 stops_map P Q f stop.Memory h = tt
 stops_map P Q f (stop.Refused refusal) h = f (Plainly refusal) h
 stops_map P Q f (stop.Scene fault) h = where_map P Q f (scene_cause fault) h

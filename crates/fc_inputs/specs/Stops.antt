@@ -26,9 +26,8 @@ scene_cause (json.Kept p place) = Some (InScene (BadKept p.text.items place))
 scene_cause (json.Devices count) = Some (InScene (TooManyDevices count))
 scene_cause json.Memory = None
 
--- the cause of a stop. A source that fails and want of memory have none
+-- the cause of a stop. Want of memory has none
 abbrev pub cause_of : Stop → Option Cause
-cause_of stop.Read = None
 cause_of stop.Memory = None
 cause_of (stop.Refused refusal) = Some (Plainly refusal)
 cause_of (stop.Scene fault) = scene_cause fault
@@ -37,9 +36,8 @@ abbrev pub WhereCause : (Cause → Type 0) → Option Cause → Type 0
 WhereCause P None = Unit {0}
 WhereCause P (Some cause) = P cause
 
--- A call that judges stops for a cause of which this holds, or by want of memory. It doesn't read the source.
+-- a call that judges stops for a cause of which this holds, or by want of memory
 abbrev pub StopsFor : (Cause → Type 0) → Stop → Type 0
-StopsFor P stop.Read = ⊥
 StopsFor P stop.Memory = Unit {0}
 StopsFor P (stop.Refused refusal) = P (Plainly refusal)
 StopsFor P (stop.Scene fault) = WhereCause P (scene_cause fault)

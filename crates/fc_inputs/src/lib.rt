@@ -17,6 +17,6 @@ pub use laws::{
     one_input, one_program_text, one_source, sections_are_within, texts_name_inputs, texts_unfold,
 };
 pub use refusal::{LineFault, Refusal, log_refusal, script_refusal};
-pub use reply::{Failure, Reply, rendered};
+pub use reply::{Reply, rendered};
 pub use sources::{read_program, read_source};
 pub use stop::Stop;

@@ -1,18 +1,17 @@
 //! The replies to what is refused: a status and a line.
-ghost use Rattle.std.specs.Prelude.{ℕ, ◌≡◌, ◌++◌, IfOk, IsErrOf, codes};
+ghost use Rattle.std.specs.Prelude.{ℕ, ◌≡◌, ◌++◌, IfOk, codes};
 ghost use Rattle.std.specs.Fmt.{decimal};
 ghost use Rattle.net_json.specs.Judging.{Misshaped, BadNetwork, BadKept};
 ghost use Rattle.fc_inputs.specs.Causes.{path_text, scene_reply, scene_refused};
 ghost use Rattle.fc_inputs.specs.Refusals.{refused};
 ghost use Rattle.fc_inputs.specs.Stops.{IsReplyFor, cause_of, scene_cause};
-ghost use Rattle.fc_inputs.specs.declared.reply.Failure.TheVariants as failure;
 
 use crate::fault_words::net_word;
 use crate::refusal::{Refusal, limit};
 use crate::stop::Stop;
 use fc_values::Memory;
 use net_json::{JsonFault, Path};
-use std::alloc::{AllocError, Global};
+use std::alloc::Global;
 use std::marker::Model;
 use topology::NetFault;
 
@@ -51,29 +50,6 @@ impl Reply {
         ensures { result.now ≡ self.now.text }
     {
         &self.text
-    }
-}
-
-/// Why there is no reply: the source failed, or memory was wanting.
-#[derive(Clone, Copy, Debug, PartialEq, Eq)]
-pub enum Failure {
-    Read,
-    Memory,
-}
-
-impl From<Memory> for Failure {
-    ghost from_gives = { λ _ e. e ≡ failure.Memory };
-
-    fn from(_: Memory) -> Self {
-        Failure::Memory
-    }
-}
-
-impl From<AllocError> for Failure {
-    ghost from_gives = { λ _ e. e ≡ failure.Memory };
-
-    fn from(_: AllocError) -> Self {
-        Failure::Memory
     }
 }
 
@@ -151,14 +127,11 @@ fn scene(alloc: Global, fault: &JsonFault) -> Result<Reply, Memory>
 }
 
 /// The reply to a stop, where it has a cause.
-pub fn rendered(alloc: Global, stop: &Stop) -> Result<Reply, Failure>
-    ensures reply { IfOk result (IsReplyFor (cause_of stop.now)) }
-    ensures read { IsErrOf result Failure.Read → stop.now ≡ Stop.Read }
-    ensures always { stop.now ≡ Stop.Read → IsErrOf result Failure.Read }
+pub fn rendered(alloc: Global, stop: &Stop) -> Result<Reply, Memory>
+    ensures { IfOk result (IsReplyFor (cause_of stop.now)) }
 {
     match stop {
-        Stop::Read => Err(Failure::Read),
-        Stop::Memory => Err(Failure::Memory),
+        Stop::Memory => Err(Memory),
         Stop::Refused(refusal) => Ok(refuse(alloc, *refusal)?),
         Stop::Scene(fault) => Ok(scene(alloc, fault)?),
     }

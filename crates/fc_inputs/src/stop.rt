@@ -9,10 +9,9 @@ use net_json::JsonFault;
 use std::alloc::{AllocError, AllocFailed};
 use unfold::UnfoldFault;
 
-/// The source failed, memory was wanting, or the input is refused: plainly, or by the first fault of its scene.
+/// Memory was wanting, or the input is refused: plainly, or by the first fault of its scene.
 #[derive(Drop)]
 pub enum Stop {
-    Read,
     Memory,
     Refused(Refusal),
     Scene(JsonFault),

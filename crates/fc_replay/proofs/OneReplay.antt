@@ -15,7 +15,7 @@ use Rattle.edit_commands.specs.Agreement.{SameEntries, ReadingsAgree, StepsAgree
 use Rattle.fc_inputs.specs.declared.refusal.LineFault.{LineFault}
 use Rattle.fc_inputs.specs.Causes.{Cause, Judged, Accepted, Refused, AndThen}
 use Rattle.fc_inputs.specs.Inputs.{InputOf, OneInput}
-use Rattle.fc_replay.specs.declared.replays.Options.{Options}
+use Rattle.command_words.specs.declared.commands.ReplayOptions.{ReplayOptions}
 use Rattle.fc_replay.specs.Stopping.{Logged, entries_in, first_stop}
 use Rattle.fc_replay.specs.Replays.{start_of, RoundsAsked, table_line, where_asked, Shown, book_of, ShowsBook, ReplaysEntries, ReplaysLog, Replays}
 use Rattle.fc_replay.specs.Laws.{Alike}
@@ -44,7 +44,7 @@ one_core : (a b : Core) → Some a ≡ Some b → a ≡ b
 one_core a b e = cc
 
 module _ (readings : ReadingsAgree) (steps : StepsAgree) (replays : ReplaysAgree) (parts : PartsAgree)
-    (input : OneInput) (options : Options) where
+    (input : OneInput) (options : ReplayOptions) where
   one_book : (U : Unfolding) (start : Core) (es fs : List EntryValue) (j k : Judged Shown) → SameEntries U es fs
       → ShowsBook options U start es j → ShowsBook options U start fs k → Alike j k
   one_book U start es fs j k same h g =

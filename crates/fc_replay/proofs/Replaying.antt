@@ -22,7 +22,7 @@ use Rattle.fc_inputs.specs.Causes.{Cause, Plainly, Judged, Accepted, Refused}
 use Rattle.fc_inputs.specs.Refusals.{log_refusal}
 use Rattle.fc_inputs.specs.Inputs.{ReadsInput}
 use Rattle.fc_inputs.specs.Stops.{StopsFor}
-use Rattle.fc_replay.specs.declared.replays.Options.{Options}
+use Rattle.command_words.specs.declared.commands.ReplayOptions.{ReplayOptions}
 use Rattle.fc_replay.specs.Ledgers.{Ledger, ledger_of}
 use Rattle.fc_replay.specs.Stopping.{Logged, entries_in, fault_in, step_fault, first_stop}
 use Rattle.fc_replay.specs.Replays.{start_of, RoundsAsked, IsText, table_line, where_asked, Shown, book_of, ShowsBook, ReplaysEntries, ReplaysLog, Replays}
@@ -70,7 +70,7 @@ is_stopped agree U c start log lines es (replay_fault.EditAt i g) read good fits
 is_stopped agree U c start log lines es replay_fault.Memory read good fits h = tt
 
 -- ---- the text
-pub is_text : (options : Options) (book : BookValue) (one two : CoreValue) (rounds table a b d e : List ℕ)
+pub is_text : (options : ReplayOptions) (book : BookValue) (one two : CoreValue) (rounds table a b d e : List ℕ)
     → one ≡ book.core → two ≡ book.core → book.core.program ≡ book.program → a ≡ [] → b ≡ a ++ values_text (core_of one)
     → RoundsAsked options.rounds (numbers (core_of book.core).net.devices) (entries_of book.log) rounds
     → table ≡ where_asked options.table (table_line (program_of two) (core_of two)) → d ≡ b ++ rounds → e ≡ d ++ table
@@ -104,7 +104,7 @@ is_faulty U n text (script.Firings count) h = absurd h
 is_faulty U n text script.Memory h = tt
 
 -- ---- the texts
-module _ (options : Options) (program network log : List ℕ) (U : Unfolding) (s : SceneValue)
+module _ (options : ReplayOptions) (program network log : List ℕ) (U : Unfolding) (s : SceneValue)
     (reads : ReadsInput program network (Accepted (U, s))) where
   ended : (j : Judged Shown) → ReplaysLog options U (start_of s) (log_of U s.net log) j
       → Replays options program network log j
@@ -162,6 +162,6 @@ module _ (options : Options) (program network log : List ℕ) (U : Unfolding) (s
   replay_shown es text book are h says = ended (Accepted (shown_of text book))
       (shows es text (ledger_of book) (log_of U s.net log) are h says)
 
-pub replay_unread : (options : Options) (program network log : List ℕ) (cause : Cause)
+pub replay_unread : (options : ReplayOptions) (program network log : List ℕ) (cause : Cause)
     → ReadsInput program network (Refused cause) → Replays options program network log (Refused cause)
 replay_unread options program network log cause h = record { judged = Refused cause; reads = h; ends = refl }

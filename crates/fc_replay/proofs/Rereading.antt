@@ -10,7 +10,7 @@ use Rattle.log_texts.specs.ReadingBack.{log_lines, numbered_from, AreNamed, Read
 use Rattle.fc_inputs.specs.declared.refusal.LineFault.{LineFault}
 use Rattle.fc_inputs.specs.Causes.{Judged, Accepted, AndThen}
 use Rattle.fc_inputs.specs.Inputs.{OneInput, TextsNameInputs, TextsUnfold}
-use Rattle.fc_replay.specs.declared.replays.Options.{Options}
+use Rattle.command_words.specs.declared.commands.ReplayOptions.{ReplayOptions}
 use Rattle.fc_replay.specs.Laws.{InputsStart}
 use Rattle.fc_replay.specs.Replays.{Shown, ShowsBook, ReplaysEntries, ReplaysLog, start_of}
 use Rattle.fc_replay.specs.Stopping.{Logged, entries_in, first_stop}
@@ -20,7 +20,7 @@ use Rattle.fc_replay.proofs.Stops.{never_stops}
 one_core : (a b : Core) → Some a ≡ Some b → a ≡ b
 one_core a b e = cc
 
-module _ (options : Options) (U : Unfolding) (start last : Core) (log : List EntryValue) (j : Judged Shown) where
+module _ (options : ReplayOptions) (U : Unfolding) (start last : Core) (log : List EntryValue) (j : Judged Shown) where
   abbrev Shows : Type 0
   Shows = WhereAccepted (ShowsLog options U start log last) j
 

@@ -34,7 +34,7 @@ use Rattle.fc_inputs.specs.Refusals.{log_refusal}
 use Rattle.fc_inputs.specs.Causes.{Plainly, Judged, Accepted, Refused, AndThen}
 use Rattle.fc_inputs.specs.Sources.{IsProgramText, ReadsProgram}
 use Rattle.fc_inputs.specs.Inputs.{InputOf, OneInput, ReadsInput, TextsUnfold, with_scene}
-use Rattle.fc_replay.specs.declared.replays.Options.{Options}
+use Rattle.command_words.specs.declared.commands.ReplayOptions.{ReplayOptions}
 use Rattle.fc_replay.specs.Laws.{InputsStart, SomeReplay}
 use Rattle.fc_replay.specs.Ledgers.{Ledger}
 use Rattle.fc_replay.specs.Replays.{Replays, ReplaysEntries, ReplaysLog, RoundsAsked, IsText, Shown, book_of, start_of, table_line, where_asked}
@@ -156,7 +156,7 @@ module _ (some : SomeGreatest) where
   rounds_there false live log h = ([], refl)
   rounds_there true live log h = let g = some live log h in (rounds_text g.0, (g.0, g.1, refl))
 
-  text_there : (options : Options) (book : Ledger) → 1 ≤ length book.core.net.devices
+  text_there : (options : ReplayOptions) (book : Ledger) → 1 ≤ length book.core.net.devices
       → (text : List ℕ) × IsText options book text
   text_there options book h =
       let long = length-map book.core.net.devices (λ (d : NetDevice). d.id) in
@@ -167,7 +167,7 @@ module _ (some : SomeGreatest) where
 
 -- ---- a log is replayed to something
 module _ (faultless : FaultlessStep) (agree : StepsAgree) (keep : StepsKeepGood) (some : SomeGreatest)
-    (entries : LogsHaveEntries) (options : Options) (P : Program) (is : IsProgram P) (start : Core)
+    (entries : LogsHaveEntries) (options : ReplayOptions) (P : Program) (is : IsProgram P) (start : Core)
     (good : IsGood (unfolding_of P) start) where
   entries_end : (log : List Logged) → LogFits (unfolding_of P) (entries_in log) → (o : Option (ℕ × LineFault))
       → first_stop (unfolding_of P) start log ≡ o

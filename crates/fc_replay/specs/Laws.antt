@@ -6,7 +6,7 @@ use Rattle.fc_inputs.specs.Causes.{Judged, Accepted, Refused}
 use Rattle.fc_inputs.specs.Inputs.{InputOf, ReadsInput}
 use Rattle.fc_inputs.specs.Sources.{IsProgramText}
 use Rattle.edit_commands.specs.Agreement.{SameEntries}
-use Rattle.fc_replay.specs.declared.replays.Options.{Options}
+use Rattle.command_words.specs.declared.commands.ReplayOptions.{ReplayOptions}
 use Rattle.fc_replay.specs.Replays.{Shown, Replays, start_of}
 
 -- Two replays are alike: refused for one cause, or with one text. The entries of their books may differ in what an
@@ -26,13 +26,13 @@ Alike (Refused cause) (Refused other) = cause ≡ other
 
 abbrev pub OneReplay : Type 0
 OneReplay =
-    (options : Options) (program network log : List ℕ) (j k : Judged Shown) → Replays options program network log j
-    → Replays options program network log k → Alike j k
+    (options : ReplayOptions) (program network log : List ℕ) (j k : Judged Shown)
+    → Replays options program network log j → Replays options program network log k → Alike j k
 
 -- texts, of which that of the program is within the limit, are replayed to something
 abbrev pub SomeReplay : Type 0
 SomeReplay =
-    (options : Options) (program network log : List ℕ) → length program ≤ MOST_BYTES
+    (options : ReplayOptions) (program network log : List ℕ) → length program ≤ MOST_BYTES
     → (j : Judged Shown) × Replays options program network log j
 
 -- an accepted input is the program of a text, and a scene that starts a good core of it

@@ -8,5 +8,5 @@ mod texts;
 
 pub use laws::{inputs_start, one_replay, some_replay, tables_resume, written_logs_replay};
 pub use logs::fault_in;
-pub use replays::{Options, replay, start};
+pub use replays::{replay, start};
 pub use texts::table_text;

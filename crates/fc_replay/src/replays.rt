@@ -16,6 +16,7 @@ ghost use Rattle.fc_replay.specs.Replays.{Replays, start_of};
 
 use crate::logs::{read_entries, stop};
 use crate::texts::shown;
+use command_words::ReplayOptions;
 use edit_commands::Log;
 use fc_inputs::{Stop, read_input};
 use fc_nodes::Unfolded;
@@ -24,15 +25,6 @@ use firing_core::{Book, Core, replay as replay_log, steps_agree};
 use net_json::Scene;
 use std::alloc::Global;
 use std::sync::Arc;
-
-/// What is written after the values.
-#[derive(Clone, Copy, Debug, PartialEq, Eq)]
-pub struct Options {
-    /// The number of rounds.
-    pub rounds: bool,
-    /// The table of exports.
-    pub table: bool,
-}
 
 /// The core that a scene starts from.
 pub fn start(alloc: Global, program: &Arc<Unfolded>, scene: Scene) -> Result<Core, Memory>
@@ -74,7 +66,7 @@ fn replayed(alloc: Global, program: Unfolded, scene: Scene, log: Log) -> Result<
 /// The text that `replay` writes of its three texts, and the book that it shows.
 pub fn replay(
     alloc: Global,
-    options: Options,
+    options: ReplayOptions,
     program: &[u8],
     network: &[u8],
     log: &[u8],

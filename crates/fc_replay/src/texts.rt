@@ -11,7 +11,7 @@ ghost use Rattle.round_count.specs.Laws.{IsGreatest};
 ghost use Rattle.fc_replay.specs.Ledgers.{ledger_of};
 ghost use Rattle.fc_replay.specs.Replays.{IsText, RoundsAsked, rows_of, table_line, where_asked};
 
-use crate::replays::Options;
+use command_words::ReplayOptions;
 use fc_values::{Export, Memory};
 use firing_core::{Book, Core};
 use net_json::write_table;
@@ -100,7 +100,7 @@ pub fn table_text(alloc: Global, asked: bool, core: &Core) -> Result<Vec<u8>, Me
 }
 
 /// The text of a book.
-pub fn shown(alloc: Global, options: Options, book: &Book) -> Result<Vec<u8>, Memory>
+pub fn shown(alloc: Global, options: ReplayOptions, book: &Book) -> Result<Vec<u8>, Memory>
     ensures { IfOk result (λ v. IsText options (ledger_of book.now) v.items) }
 {
     let rounds = rounds_asked(alloc, options.rounds, book)?;

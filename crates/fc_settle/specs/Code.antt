@@ -6,6 +6,7 @@ use Rattle.fc_nodes.specs.Program.{Program, unfolding_of}
 use Rattle.bound_rounds.specs.Rounds.{BoundTable}
 use Rattle.settle_rounds.specs.SettleTimes.{settle_time}
 use Rattle.net_json.specs.Scenes.{SceneValue}
+use Rattle.command_words.specs.declared.commands.Start.{Start}
 use Rattle.report.specs.Settling.{settling_text}
 use Rattle.fc_inputs.specs.Refusals.{Reply}
 use Rattle.fc_settle.specs.Settles.{StartsFrom, settle_status, settling_of}
@@ -18,7 +19,7 @@ settled_reply v text ds os = record {
 }
 
 -- what is written of a program and a scene of it
-pub record SettlesBy (facts from_table : Bool) (P : Program) (s : SceneValue) (reply : Reply) : Type 0 where
+pub record SettlesBy (facts : Bool) (from : Start) (P : Program) (s : SceneValue) (reply : Reply) : Type 0 where
   pub table : BoundTable
-  pub starts : StartsFrom from_table (unfolding_of P) s table
+  pub starts : StartsFrom from (unfolding_of P) s table
   pub is : reply ≡ settling_of facts P s.net table

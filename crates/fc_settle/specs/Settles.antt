@@ -1,7 +1,7 @@
 -- What `check --settle` makes of a program and a scene: the verdict's text, and behind it after how many rounds the
 -- devices of the network settle, and to which values. With `--from-table` the rounds are counted from the scene's table
 -- and copies in flight. Without it they are counted from any, and what the scene's are is judged and not used.
-use Rattle.std.specs.Prelude.{ℕ, Bool, true, false, ◌≡◌, List, ◌++◌, map, length, Option, Some, None}
+use Rattle.std.specs.Prelude.{ℕ, Bool, ◌≡◌, List, ◌++◌, map, length, Option, Some, None}
 use Rattle.fc_values.specs.Values.{LocalValue}
 use Rattle.fc_nodes.specs.Program.{IsProgram, Program, Unfolding, unfolding_of}
 use Rattle.topology.specs.Networks.{Network, numbers}
@@ -11,6 +11,8 @@ use Rattle.settle_rounds.specs.Rounds.{any_table}
 use Rattle.settle_rounds.specs.Starts.{StartTable, growing_cap}
 use Rattle.settle_rounds.specs.SettleTimes.{settle_time, settled_from}
 use Rattle.net_json.specs.Scenes.{SceneValue}
+use Rattle.command_words.specs.declared.commands.Start.{Start}
+use Rattle.command_words.specs.declared.commands.Start.TheVariants.{Any, Table}
 use Rattle.report.specs.Settling.{settling_text}
 use Rattle.fc_inputs.specs.Refusals.{Reply}
 use Rattle.fc_inputs.specs.Causes.{Judged, Accepted, AndThen}
@@ -39,23 +41,23 @@ settling_of facts P N table = record {
       ++ settling_text (time_of P N table) (settled_devices P N table);
 }
 
--- the table of bounds from which rounds are counted: that of any exports; with `--from-table` the one to which the
+-- the table of bounds from which rounds are counted: that of any exports, or the one to which the
 -- scene's exports and copies in flight grow, and where they grow too long that of any exports too
-abbrev pub StartsFrom : Bool → Unfolding → SceneValue → BoundTable → Type 0
-StartsFrom false U s table = table ≡ any_table U
-StartsFrom true U s table = StartTable U s.net (growing_cap (length s.net.devices)) (start_of s) table
+abbrev pub StartsFrom : Start → Unfolding → SceneValue → BoundTable → Type 0
+StartsFrom Any U s table = table ≡ any_table U
+StartsFrom Table U s table = StartTable U s.net (growing_cap (length s.net.devices)) (start_of s) table
 
 -- a program and a scene of it: the program is unfolded, and the network is the scene's
-pub record SettlesScene (facts from_table : Bool) (U : Unfolding) (s : SceneValue) (j : Judged Reply) : Type 0 where
+pub record SettlesScene (facts : Bool) (from : Start) (U : Unfolding) (s : SceneValue) (j : Judged Reply) : Type 0 where
   pub nodes : Program
   pub is_program : IsProgram nodes
   pub unfolded : unfolding_of nodes ≡ U
   pub table : BoundTable
-  pub starts : StartsFrom from_table U s table
+  pub starts : StartsFrom from U s table
   pub settled : j ≡ Accepted (settling_of facts nodes s.net table)
 
 -- the texts of a program and of a scene
-pub record Settles (facts from_table : Bool) (program network : List ℕ) (j : Judged Reply) : Type 0 where
+pub record Settles (facts : Bool) (from : Start) (program network : List ℕ) (j : Judged Reply) : Type 0 where
   pub judged : Judged InputOf
   pub reads : ReadsInput program network judged
-  pub ends : AndThen judged (λ i k. SettlesScene facts from_table i.0 i.1 k) j
+  pub ends : AndThen judged (λ i k. SettlesScene facts from i.0 i.1 k) j

@@ -1,6 +1,6 @@
 //! What `check --settle` makes of a program and a scene.
 
-ghost use Rattle.std.specs.Prelude.{◌≡◌, ◌≤◌, ◌++◌, IfErr, IfOk, OnOk, flat_map, length, map, option_map, true, zip};
+ghost use Rattle.std.specs.Prelude.{◌≡◌, ◌≤◌, ◌++◌, IfErr, IfOk, OnOk, flat_map, length, map, option_map, zip};
 ghost use Rattle.fc_values.specs.Values.{local_of};
 ghost use Rattle.fc_nodes.specs.Program.{IsProgram, unfolding_of};
 ghost use Rattle.fc_inputs.specs.Causes.{Accepted, Refused};
@@ -14,6 +14,7 @@ ghost use Rattle.topology.specs.Networks.{numbers};
 ghost use Rattle.fc_settle.specs.Code.{SettlesBy, settled_reply};
 ghost use Rattle.fc_settle.specs.Settles.{Settles, settle_status, settling_of};
 
+use command_words::Start;
 use fc_check::verdict_text;
 use fc_inputs::{Reply, Stop, read_input};
 use fc_nodes::{Unfolded, Verdict};
@@ -109,7 +110,7 @@ fn settle_scene(
     requires declared { scene.net.declared ≡ program.declared }
     requires rows { AreRows (unfolding_of program) scene.net scene.table.items }
     requires copies { AreCopies (unfolding_of program) scene.net scene.pending.items }
-    ensures { IfOk result (SettlesBy facts true program (value_of_scene (unfolding_of program) scene)) }
+    ensures { IfOk result (SettlesBy facts Start.Table program (value_of_scene (unfolding_of program) scene)) }
 {
     let program = Arc::new(alloc, program)?;
     let mut core = start(alloc, &program, scene)?;
@@ -124,21 +125,20 @@ fn settle_scene(
 pub fn settled(
     alloc: Global,
     facts: bool,
-    from_table: bool,
+    from: Start,
     program: &[u8],
     network: &[u8],
 ) -> Result<Reply, Stop>
     requires { length program.now ≤ MOST_BYTES }
-    ensures settles { IfOk result (λ r. Settles facts from_table program.now network.now (Accepted r)) }
+    ensures settles { IfOk result (λ r. Settles facts from program.now network.now (Accepted r)) }
     ensures refused { IfErr result (StopsFor (λ cause.
-        Settles facts from_table program.now network.now (Refused cause))) }
+        Settles facts from program.now network.now (Refused cause))) }
 {
     let (program, scene) = read_input(alloc, program, network)?;
     // Its clause: the nodes are a program.
     let _size = program.size();
-    if from_table {
-        Ok(settle_scene(alloc, facts, program, scene)?)
-    } else {
-        Ok(settle_any(alloc, facts, &program, &scene.net)?)
+    match from {
+        Start::Any => Ok(settle_any(alloc, facts, &program, &scene.net)?),
+        Start::Table => Ok(settle_scene(alloc, facts, program, scene)?),
     }
 }

@@ -7,8 +7,8 @@ use Rattle.fc_settle.proofs.settles.settled.Goals as goal
 
 pub returns-in_err-program-clause-refused : goal.returns-in_err-program-clause-refused
 returns-in_err-program-clause-refused c =
-    stop_is (λ cause. Settles c.args.facts c.args.from_table c.args.program.now c.args.network.now (Refused cause))
+    stop_is (λ cause. Settles c.args.facts c.args.from c.args.program.now c.args.network.now (Refused cause))
     c.from_residual.result _ c.from_residual.ensures.1
     (stops_map (λ cause. ReadsInput c.args.program.now c.args.network.now (Refused cause)) _
-    (λ cause k. refused_input c.args.facts c.args.from_table c.args.program.now c.args.network.now cause k)
+    (λ cause k. refused_input c.args.facts c.args.from c.args.program.now c.args.network.now cause k)
     c.in_err-program.field-0.0 c.in_err-program.ensures.refused)
