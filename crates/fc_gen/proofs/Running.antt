@@ -1,7 +1,8 @@
 -- What the code has run, as the definitions say it.
-use Rattle.std.proofs.Common.{ℕ, ◌≡◌, ◌≤◌, ◌+◌, ◌-◌, ◌*◌, List, [], ◌∷◌, length, take, drop, sym, ap, ap₂, subst, ◌∙◌, Some}
+use Rattle.std.proofs.Common.{ℕ, ◌≡◌, ◌≤◌, ◌+◌, ◌-◌, ◌*◌, List, [], ◌∷◌, length, take, drop, sym, ap, ap₂, subst, ◌∙◌, Some, arith}
 use Rattle.std.specs.Prelude.{count_by, slice_get}
 use Rattle.std.proofs.lemmas.List.{length-map, take-map, drop-map}
+use Rattle.std.proofs.Math.Nat.{mul-le-mul_right}
 use Rattle.fc_values.specs.declared.exports.Export.{Export}
 use Rattle.fc_values.specs.Fields.{Entries}
 use Rattle.fc_nodes.specs.declared.verdicts.Verdict.TheVariants as verdict
@@ -26,6 +27,12 @@ use Rattle.fc_gen.specs.Code.{FirstWithin, IsRun, gen_of}
 use Rattle.fc_gen.specs.Gens.{Gens, GenValue, empty_on, gen_text, scenario_lines, scenario_program, scenario_start}
 use Rattle.fc_gen.specs.Summaries.{agreeing, firings_in, held_sum, is_end, summary_text}
 use Rattle.fc_gen.proofs.Cutting.{cut_of, within}
+
+-- the rounds of a scenario stay within the limit of firings
+pub few_firings : (d rounds n : ℕ) → rounds ≡ 2 + 2 * d → n ≡ d → d ≤ 512 → rounds * n ≤ 1000000
+few_firings d rounds n is many few =
+    let l : rounds * n ≤ 1026 * n = mul-le-mul_right n (omega (arith, is, few)) in
+    omega (arith, l, many, few)
 
 -- the first part of a log in code
 pub first_part : (log : List Entry) (parts : List Part) (p : Part) → Some p ≡ slice_get parts 0

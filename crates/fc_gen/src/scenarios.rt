@@ -1,6 +1,6 @@
 //! Scenarios: their programs, the script runs over them, and what `gen` gives of these.
 
-ghost use Rattle.std.specs.Prelude.{◌≡◌, ◌≤◌, ◌+◌, ◌*◌, IfOk, length, map};
+ghost use Rattle.std.specs.Prelude.{ℕ, ◌≡◌, ◌≤◌, ◌+◌, ◌*◌, IfOk, length, map};
 ghost use Rattle.fc_values.specs.declared.limits.TheConstants.{MOST_SCENARIO_DEVICES};
 ghost use Rattle.edit_commands.specs.declared.scripts.TheConstants.{MOST_FIRINGS};
 ghost use Rattle.fc_values.specs.Fields.{Entries, entry_of};
@@ -8,6 +8,8 @@ ghost use Rattle.fc_syntax.specs.Terms.{program_of};
 ghost use Rattle.firing_core.specs.CoreViews.{core_of};
 ghost use Rattle.firing_core.specs.Entries.{entries_of};
 ghost use Rattle.fc_nodes.specs.Program.{unfolding_of};
+ghost use Rattle.fc_nodes.specs.declared.verdicts.Verdict.TheVariants as verdict;
+ghost use Rattle.fragment_check.specs.Verdicts.{verdict_of};
 ghost use Rattle.edit_commands.specs.Scripts.{numbered};
 ghost use Rattle.scramble.specs.Rings.{ring, ring_program};
 ghost use Rattle.stable_field.specs.Stable.{IsStableField};
@@ -20,18 +22,18 @@ use edit_commands::{Command, Line};
 use export_table::Gate;
 use fc_nodes::Unfolded;
 use fc_syntax::Program;
-use fc_types::check_types;
+use fc_types::{TypeFault, Typed, check_types};
 use fc_values::{Local, Memory};
 use firing_core::{Book, Core, Part};
 use ring_laws::{rings_are_networks, rings_are_typed, rings_stabilise};
 use scramble::scenario;
 use session::{Pool, Session, run_script};
-use stable_field::stable;
+use stable_field::{StableFault, stable};
 use std::alloc::Global;
 use std::sync::{Arc, Wait};
 use std::thread::Threads;
 use topology::Network;
-use unfold::unfold;
+use unfold::{UnfoldFault, unfold};
 
 /// What `gen` gives.
 #[derive(Drop)]
@@ -44,7 +46,22 @@ pub struct Generated {
     pub parts: Vec<Part>,
 }
 
-// The nodes of the program of a ring. It is typed and within the limit, so only memory can be wanting.
+// The program of a ring with its types.
+fn typed(alloc: Global, program: Program, devices: u32) -> Result<Typed, Memory>
+    requires least { 3 ≤ devices }
+    requires most { devices ≤ MOST_SCENARIO_DEVICES }
+    requires program { program_of program ≡ ring_program devices }
+    ensures { IfOk result (λ typed. program_of typed.program ≡ ring_program devices) }
+{
+    rings_are_typed();
+    match check_types(alloc, program) {
+        Ok(typed) => Ok(typed),
+        Err(TypeFault::Memory) => Err(Memory),
+        Err(TypeFault::Fault { .. }) => unreachable!(),
+    }
+}
+
+// The nodes of the program of a ring.
 fn nodes(alloc: Global, program: Program, devices: u32) -> Result<Unfolded, Memory>
     requires least { 3 ≤ devices }
     requires most { devices ≤ MOST_SCENARIO_DEVICES }
@@ -52,23 +69,24 @@ fn nodes(alloc: Global, program: Program, devices: u32) -> Result<Unfolded, Memo
     ensures { IfOk result (λ nodes. unfolding_of nodes ≡ scenario_program devices) }
 {
     rings_are_typed();
-    let Ok(typed) = check_types(alloc, program) else {
-        return Err(Memory);
-    };
+    let typed = typed(alloc, program, devices)?;
     match unfold(alloc, &typed) {
         Ok(nodes) => Ok(nodes),
-        Err(_) => Err(Memory),
+        Err(UnfoldFault::Memory) => Err(Memory),
+        Err(UnfoldFault::TooLarge { .. }) => unreachable!(),
     }
 }
 
-// The stabilised field of a scenario, whose verdict is a yes.
+// The stabilised field of a program on a network for which its verdict is a yes.
 fn field(alloc: Global, program: &Unfolded, net: &Network) -> Result<Vec<(u32, Local)>, Memory>
-    requires { net.now.declared ≡ program.now.declared }
+    requires declared { net.now.declared ≡ program.now.declared }
+    requires yes { (k : ℕ) × (verdict_of program.now (length net.now.devices) ≡ verdict.Yes k) }
     ensures { IfOk result (λ field. IsStableField (unfolding_of program.now) net.now (map entry_of field.items)) }
 {
     match stable(alloc, program, net) {
         Ok(field) => Ok(field),
-        Err(_) => Err(Memory),
+        Err(StableFault::Memory) => Err(Memory),
+        Err(StableFault::Unrecognised(_)) => unreachable!(),
     }
 }
 

@@ -1,9 +1,23 @@
-use Rattle.std.proofs.Common.{map, sym, subst}
+use Rattle.std.proofs.Common.{◌+◌, ◌*◌, ◌∙◌, map, length, ap, sym, subst}
 use Rattle.fc_values.specs.Fields.{entry_of}
 use Rattle.fc_nodes.specs.Program.{unfolding_of}
 use Rattle.stable_field.specs.Stable.{IsStableField}
-use Rattle.fc_gen.proofs.Running.{generated, run_within}
+use Rattle.topology.specs.Networks.{Network}
+use Rattle.fc_gen.proofs.Running.{few_firings, generated, run_within}
 use Rattle.fc_gen.proofs.scenarios.generate.Goals as goal
+
+-- the verdict on a ring is a yes
+pub field-requires-clause-yes : goal.field-requires-clause-yes
+field-requires-clause-yes g c = (
+  2 + 2 * c.args.devices,
+  c.rings_stabilise.ensures c.in_ok-program-2.program c.args.devices (length c.in_ok-program.net.devices) c.requires.least c.requires.most c.in_ok-program-2.ensures,
+)
+
+pub ran-requires-clause-few : goal.ran-requires-clause-few
+ran-requires-clause-few g c κs within =
+    let ring = c.rings_are_networks.ensures c.args.number c.args.devices c.requires.least c.requires.most in
+    few_firings c.args.devices c.rounds_of-rounds.result (length c.in_ok-program.net.devices) c.rounds_of-rounds.ensures
+    (ap (λ (n : Network). length n.devices) c.in_ok-program.ensures.network ∙ ring.devices) c.requires.most
 
 pub summed_up-requires : goal.summed_up-requires
 summed_up-requires g c = run_within _ _ _ _ c.in_ok-session.session c.in_ok-session.ensures
