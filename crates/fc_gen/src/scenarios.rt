@@ -18,6 +18,7 @@ ghost use Rattle.fc_gen.specs.Gens.{Gens, gen_text, scenario_lines, scenario_pro
 
 use crate::counts::{agreeing, firings, held_sum};
 use crate::summaries::{Counts, summary};
+use command_words::GenOptions;
 use edit_commands::{Command, Line};
 use export_table::Gate;
 use fc_nodes::Unfolded;
@@ -167,14 +168,14 @@ fn summed_up(
 /// rounds alone.
 pub fn generate<W: Threads + Wait + Sync, G: Gate + Sync>(
     alloc: Global,
-    number: u32,
-    devices: u32,
+    options: GenOptions,
     pool: &Pool<W, G>,
 ) -> Result<Generated, Memory>
-    requires least { 3 ≤ devices }
-    requires most { devices ≤ MOST_SCENARIO_DEVICES }
-    ensures { IfOk result (λ g. Gens number devices (gen_of g)) }
+    requires least { 3 ≤ options.devices }
+    requires most { options.devices ≤ MOST_SCENARIO_DEVICES }
+    ensures { IfOk result (λ g. Gens options.number options.devices (gen_of g)) }
 {
+    let GenOptions { number, devices } = options;
     rings_are_networks();
     rings_stabilise();
     let (program, net) = scenario(alloc, number, devices)?;

@@ -10,7 +10,7 @@ use Rattle.fc_inputs.specs.Causes.{Judged, Accepted, Refused, AndThen}
 use Rattle.fc_inputs.specs.Inputs.{InputOf, ReadsInput}
 use Rattle.fc_replay.specs.Laws.{InputsStart}
 use Rattle.fc_replay.specs.Replays.{start_of, book_of}
-use Rattle.fc_run.specs.declared.runs.RunOptions.{RunOptions}
+use Rattle.command_words.specs.declared.commands.RunOptions.{RunOptions}
 use Rattle.fc_run.specs.Laws.{RunKeepsYes, RunsKeepYes}
 use Rattle.fc_run.specs.Runs.{RanValue, run_text, RunsCommands, RunsScript}
 

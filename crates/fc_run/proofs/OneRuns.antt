@@ -14,7 +14,7 @@ use Rattle.fc_inputs.specs.Causes.{Cause, Judged, Accepted, Refused, AndThen}
 use Rattle.fc_inputs.specs.Inputs.{InputOf, OneInput, ReadsInput}
 use Rattle.fc_replay.specs.Laws.{InputsStart}
 use Rattle.fc_replay.specs.Replays.{start_of, book_of, table_line, where_asked}
-use Rattle.fc_run.specs.declared.runs.RunOptions.{RunOptions}
+use Rattle.command_words.specs.declared.commands.RunOptions.{RunOptions}
 use Rattle.fc_run.specs.Laws.{OneRun, AlikeRuns}
 use Rattle.fc_run.specs.Runs.{RanValue, run_text, RunsCommands, RunsScript}
 use Rattle.fc_run.proofs.LogTexts.{same_log}

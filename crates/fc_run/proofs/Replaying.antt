@@ -11,7 +11,7 @@ use Rattle.fc_inputs.specs.Causes.{Judged, Accepted, Refused, AndThen}
 use Rattle.fc_inputs.specs.Inputs.{InputOf, ReadsInput}
 use Rattle.fc_replay.specs.Replays.{start_of, book_of}
 use Rattle.fc_replay.specs.WrittenLogs.{WrittenLogsReplay}
-use Rattle.fc_run.specs.declared.runs.RunOptions.{RunOptions}
+use Rattle.command_words.specs.declared.commands.RunOptions.{RunOptions}
 use Rattle.fc_run.specs.LogsOfRuns.{LogReplays, RunsReplay}
 use Rattle.fc_run.specs.Runs.{RanValue, run_text, RunsCommands, RunsScript}
 

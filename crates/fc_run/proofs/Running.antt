@@ -23,7 +23,7 @@ use Rattle.fc_inputs.specs.Stops.{StopsFor}
 use Rattle.fc_replay.specs.Ledgers.{Ledger, ledger_of}
 use Rattle.fc_replay.specs.Replays.{start_of, book_of, table_line, where_asked}
 use Rattle.fc_run.specs.declared.runs.Ran.{Ran}
-use Rattle.fc_run.specs.declared.runs.RunOptions.{RunOptions}
+use Rattle.command_words.specs.declared.commands.RunOptions.{RunOptions}
 use Rattle.fc_run.specs.Code.{IsEnded, IsRefused, ran_of, script_stop}
 use Rattle.fc_run.specs.Runs.{RanValue, RunsCommands, RunsScript, Runs, run_text}
 

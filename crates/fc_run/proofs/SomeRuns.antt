@@ -17,7 +17,7 @@ use Rattle.fc_inputs.specs.Causes.{Plainly, Judged, Accepted, Refused}
 use Rattle.fc_inputs.specs.Inputs.{InputOf, OneInput, ReadsInput, TextsUnfold}
 use Rattle.fc_replay.specs.Laws.{InputsStart}
 use Rattle.fc_replay.specs.Replays.{start_of, book_of}
-use Rattle.fc_run.specs.declared.runs.RunOptions.{RunOptions}
+use Rattle.command_words.specs.declared.commands.RunOptions.{RunOptions}
 use Rattle.fc_run.specs.Laws.{SomeRun}
 use Rattle.fc_run.specs.Runs.{RanValue, run_text, line_refusal, RunsScript, Runs}
 

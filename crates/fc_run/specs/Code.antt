@@ -18,7 +18,7 @@ use Rattle.fc_inputs.specs.Refusals.{script_refusal}
 use Rattle.fc_replay.specs.Ledgers.{ledger_of}
 use Rattle.fc_replay.specs.Stopping.{fault_in}
 use Rattle.fc_run.specs.declared.runs.Ran.{Ran}
-use Rattle.fc_run.specs.declared.runs.RunOptions.{RunOptions}
+use Rattle.command_words.specs.declared.commands.RunOptions.{RunOptions}
 use Rattle.fc_run.specs.Runs.{RanValue, line_refusal, run_text}
 
 -- the stop of a script that isn't read

@@ -13,7 +13,7 @@ use Rattle.fc_values.specs.declared.limits.TheConstants.{MOST_BYTES}
 use Rattle.fc_inputs.specs.Causes.{Judged, Accepted, Refused}
 use Rattle.fc_inputs.specs.Inputs.{ReadsInput}
 use Rattle.fc_replay.specs.Replays.{book_of, start_of}
-use Rattle.fc_run.specs.declared.runs.RunOptions.{RunOptions}
+use Rattle.command_words.specs.declared.commands.RunOptions.{RunOptions}
 use Rattle.fc_run.specs.Runs.{RanValue, Runs, run_text}
 
 -- Two runs of one input: of one program from one start, and with one text where their logs agree. The logs may differ

@@ -17,7 +17,7 @@ use Rattle.fc_inputs.specs.Inputs.{InputOf, ReadsInput}
 use Rattle.fc_replay.specs.Ledgers.{Ledger}
 use Rattle.fc_replay.specs.Replays.{start_of, book_of, table_line, where_asked}
 use Rattle.fc_replay.specs.Stopping.{fault_in}
-use Rattle.fc_run.specs.declared.runs.RunOptions.{RunOptions}
+use Rattle.command_words.specs.declared.commands.RunOptions.{RunOptions}
 
 -- what a run gives: the text, the book, and the stretches of its log that lines made
 pub record RanValue : Type 0 where

@@ -6,4 +6,4 @@ mod runs;
 mod scripts;
 
 pub use laws::{one_run, runs_keep_yes, runs_replay, some_run};
-pub use runs::{Ran, RunOptions, run};
+pub use runs::{Ran, run};

@@ -11,6 +11,7 @@ ghost use Rattle.fc_run.specs.Code.{IsEnded, ran_of};
 ghost use Rattle.fc_run.specs.Runs.{Runs};
 
 use crate::scripts::read_lines;
+use command_words::RunOptions;
 use edit_commands::scripts_are_judged;
 use export_table::Gate;
 use fc_inputs::{Stop, read_input};
@@ -22,15 +23,6 @@ use session::{Pool, Session, run_script};
 use std::alloc::Global;
 use std::sync::{Arc, Wait};
 use std::thread::Threads;
-
-/// What is written after what a script shows.
-#[derive(Clone, Copy, Debug, PartialEq, Eq)]
-pub struct RunOptions {
-    /// The log.
-    pub log: bool,
-    /// The table of exports.
-    pub table: bool,
-}
 
 /// What a run gives.
 #[derive(Drop)]

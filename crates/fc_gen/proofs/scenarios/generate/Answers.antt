@@ -24,7 +24,7 @@ summed_up-requires g c = run_within _ _ _ _ c.in_ok-session.session c.in_ok-sess
 
 pub returns : goal.returns
 returns g c =
-    generated c.rings_stabilise.ensures c.args.number c.args.devices c.rounds_of-rounds.result c.rounds_of-rounds.ensures c.requires.least c.requires.most
+    generated c.rings_stabilise.ensures c.args.options.number c.args.options.devices c.rounds_of-rounds.result c.rounds_of-rounds.ensures c.requires.least c.requires.most
     c.in_ok-program-2.program c.size-size.ensures.program c.in_ok-program-2.ensures c.in_ok-program.net
     c.in_ok-program.ensures.network c.in_ok-session.session c.in_ok-session.ensures _
     (subst (λ fs. IsStableField (unfolding_of c.in_ok-program-2.program) c.in_ok-program.net (map entry_of fs)) (sym c.deref.ensures.value) c.in_ok-field.ensures)
