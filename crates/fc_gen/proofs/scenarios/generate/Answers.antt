@@ -9,14 +9,14 @@ use Rattle.fc_gen.proofs.scenarios.generate.Goals as goal
 -- the verdict on a ring is a yes
 pub field-requires-clause-yes : goal.field-requires-clause-yes
 field-requires-clause-yes g c = (
-  2 + 2 * c.args.devices,
-  c.rings_stabilise.ensures c.in_ok-program-2.program c.args.devices (length c.in_ok-program.net.devices) c.requires.least c.requires.most c.in_ok-program-2.ensures,
+  2 + 2 * c.args.options.devices,
+  c.rings_stabilise.ensures c.in_ok-program-2.program c.args.options.devices (length c.in_ok-program.net.devices) c.requires.least c.requires.most c.in_ok-program-2.ensures,
 )
 
 pub ran-requires-clause-few : goal.ran-requires-clause-few
 ran-requires-clause-few g c κs within =
-    let ring = c.rings_are_networks.ensures c.args.number c.args.devices c.requires.least c.requires.most in
-    few_firings c.args.devices c.rounds_of-rounds.result (length c.in_ok-program.net.devices) c.rounds_of-rounds.ensures
+    let ring = c.rings_are_networks.ensures c.args.options.number c.args.options.devices c.requires.least c.requires.most in
+    few_firings c.args.options.devices c.rounds_of-rounds.result (length c.in_ok-program.net.devices) c.rounds_of-rounds.ensures
     (ap (λ (n : Network). length n.devices) c.in_ok-program.ensures.network ∙ ring.devices) c.requires.most
 
 pub summed_up-requires : goal.summed_up-requires
