@@ -9,8 +9,15 @@ use Rattle.converge_laws.specs.Verdicts.{YesStabilises}
 use Rattle.net_json.specs.FittingScenes.{AcceptedScenesFit}
 use Rattle.net_json.specs.Scenes.{SceneValue}
 use Rattle.command_words.specs.declared.commands.Command.{Command}
-use Rattle.command_words.specs.declared.commands.Command.TheVariants.{Check, Stable, Run, Replay, Format, Gen, Trace, Mail}
+use Rattle.command_words.specs.declared.commands.Command.TheVariants as command
+use Rattle.command_words.specs.declared.commands.Quiet.{Quiet}
+use Rattle.command_words.specs.declared.commands.Quiet.TheVariants.{Check, Stable, Replay, Format, Trace, Mail}
+use Rattle.command_words.specs.declared.commands.ReplayOptions.{ReplayOptions}
+use Rattle.command_words.specs.declared.commands.RunOptions.{RunOptions}
+use Rattle.command_words.specs.declared.commands.Start.{Start}
 use Rattle.command_words.specs.declared.commands.Start.TheVariants.{Any, Table}
+use Rattle.command_words.specs.declared.commands.Work.{Work}
+use Rattle.command_words.specs.declared.commands.Work.TheVariants.{Run, Gen}
 use Rattle.command_words.specs.declared.commands.Limit.{Limit}
 use Rattle.command_words.specs.declared.commands.Limit.TheVariants.{Workers, Devices}
 use Rattle.command_words.specs.Commands.{limit_of}
@@ -39,12 +46,11 @@ use Rattle.fc_answers.specs.Stabilised.{Stabilised, StabilisedBy, StabilisesScen
 use Rattle.fc_gen.specs.Laws.{Agrees, AllAgree}
 use Rattle.fc_run.specs.Laws.{RunsKeepYes}
 use Rattle.fc_run.specs.Runs.{RanValue, Runs}
-use Rattle.fc_answers.specs.Asked.{limit_refusal, reads}
-use Rattle.fc_answers.specs.Answers.{AnswerValue, AnswersInput}
-use Rattle.fc_answers.specs.Answers.{AnswersWithin, ShowsRun, WritesLogReply, WritesReply, answer_of, replied}
-use Rattle.fc_answers.specs.Answers.{run_options, running}
-use Rattle.fc_answers.specs.Headline.{AnswersKeep, ChecksYes, HasYes, IsAnswered, KeepsYes, MailPromises}
-use Rattle.fc_answers.specs.Headline.{OfThree, OfTwo}
+use Rattle.fc_answers.specs.Asked.{limit_refusal}
+use Rattle.fc_answers.specs.Answers.{AnswerValue, AnswersMail, AnswersSections, AnswersWithin, AnswersWork, ChecksFrom, OfInput, OfLength}
+use Rattle.fc_answers.specs.Answers.{ShowsRun, Works, WritesLogReply, WritesReply, answer_of, replied, running}
+use Rattle.fc_answers.specs.Headline.{AnswersKeep, CheckPromises, ChecksYes, HasYes, IsAnswered, IsChecked, KeepsYes, MailPromises}
+use Rattle.fc_answers.specs.Headline.{OfThree, OfTwo, WorkIsKept, WorkPromises}
 use Rattle.fc_answers.specs.Headline.{Promises, RunsKept, SettlesKept, SolvesYes, StartKept, TracesYes, stable_entries}
 use Rattle.stable_field.proofs.OneField.{one_field}
 use Rattle.fc_trace.proofs.Scenes.{scene_fits}
@@ -215,12 +221,12 @@ module _ (law : YesStabilises) (start : InputsStart) (program network : List ℕ
       }
 
   -- from any exports
-  settle_keeps : SettleTimesHold → (k : Judged Reply) → Settles facts false program network k
+  settle_keeps : SettleTimesHold → (k : Judged Reply) → Settles facts Any program network k
       → (reply_of k).status ≤ 1 → SettlesKept facts program network (reply_of k).status (reply_of k).text
   settle_keeps hold k h low = by_input h.judged h.reads (input_causes program network h.judged h.reads) h.ends
     where
       by_input : (i : Judged InputOf) → ReadsInput program network i → IfRefused CauseJudges i
-          → AndThen i (λ i k. SettlesScene facts false i.0 i.1 k) k
+          → AndThen i (λ i k. SettlesScene facts Any i.0 i.1 k) k
           → SettlesKept facts program network (reply_of k).status (reply_of k).text
       by_input (Accepted i) r c e =
           let read = is_read i e.nodes r e.is_program e.unfolded in
@@ -240,17 +246,17 @@ module _ (law : YesStabilises) (start : InputsStart) (program network : List ℕ
       by_input (Refused cause) r c e = refused_settles k cause e c low
 
   -- from the start of the scene
-  start_keeps : StartTimesHold → (k : Judged Reply) → Settles facts true program network k
+  start_keeps : StartTimesHold → (k : Judged Reply) → Settles facts Table program network k
       → (reply_of k).status ≤ 1 → StartKept facts program network (reply_of k).status (reply_of k).text
   start_keeps hold k h low = by_input h.judged h.reads (input_causes program network h.judged h.reads) h.ends
     where
       by_input : (i : Judged InputOf) → ReadsInput program network i → IfRefused CauseJudges i
-          → AndThen i (λ i k. SettlesScene facts true i.0 i.1 k) k
+          → AndThen i (λ i k. SettlesScene facts Table i.0 i.1 k) k
           → StartKept facts program network (reply_of k).status (reply_of k).text
       by_input (Accepted i) r c e =
           let read = is_read i e.nodes r e.is_program e.unfolded in
-          let starts : StartsFrom true (unfolding_of e.nodes) i.1 e.table =
-          subst (λ (V : Unfolding). StartsFrom true V i.1 e.table) (sym e.unfolded) e.starts in
+          let starts : StartsFrom Table (unfolding_of e.nodes) i.1 e.table =
+          subst (λ (V : Unfolding). StartsFrom Table V i.1 e.table) (sym e.unfolded) e.starts in
           record {
             nodes = e.nodes;
             is_program = e.is_program;
@@ -299,11 +305,14 @@ module _ (Makes : List ℕ → List ℕ → Judged Reply → Type 0) (P : List �
   sections_keep (a ∷ b ∷ c ∷ ss) j h is =
       refused_low j (other_number (a ∷ b ∷ c ∷ ss)) h (omega arith) (low _ is)
 
-  low_keeps : (input : List ℕ) (j : Judged AnswerValue) (long : Bool) → (long ≡ true → j ≡ Refused (Plainly Bytes))
-      → (long ≡ false → WithTwo (WritesReply Makes) (sections_of input) j) → IsLow (answer_of j).status
-      → OfTwo (λ program network. Kept program network j) (sections_of input)
-  low_keeps input j true h k is = refused_low j (Plainly Bytes) (h refl) (omega arith) (low _ is)
-  low_keeps input j false h k is = sections_keep (sections_of input) j (k refl) is
+  low_keeps : (input : List ℕ) (j : Judged AnswerValue) → OfInput (λ ss k. WithTwo (WritesReply Makes) ss k) input j
+      → IsLow (answer_of j).status → OfTwo (λ program network. Kept program network j) (sections_of input)
+  low_keeps input j h is = by_length (nat_lt MOST_BYTES (length input)) h
+    where
+      by_length : (b : Bool) → OfLength b (λ ss k. WithTwo (WritesReply Makes) ss k) input j
+          → OfTwo (λ program network. Kept program network j) (sections_of input)
+      by_length true e = refused_low j (Plainly Bytes) e (omega arith) (low _ is)
+      by_length false k = sections_keep (sections_of input) j k is
 
 abbrev IsZero : ℕ → Type 0
 IsZero n = n ≡ 0
@@ -317,8 +326,8 @@ IsAtMostOne n = n ≤ 1
 -- the promise of a text, with status 0
 input_keeps : (Makes : List ℕ → List ℕ → Judged Reply → Type 0) (P : List ℕ → List ℕ → List ℕ → Type 0)
     → ((program network : List ℕ) (k : Judged Reply) → Makes program network k → Keeps P program network (reply_of k))
-    → (input : List ℕ) (j : Judged AnswerValue) (long : Bool) → (long ≡ true → j ≡ Refused (Plainly Bytes))
-    → (long ≡ false → WithTwo (WritesReply Makes) (sections_of input) j) → (answer_of j).status ≡ 0
+    → (input : List ℕ) (j : Judged AnswerValue) → OfInput (λ ss k. WithTwo (WritesReply Makes) ss k) input j
+    → (answer_of j).status ≡ 0
     → OfTwo (λ program network. P program network (answer_of j).text) (sections_of input)
 input_keeps Makes P keep = low_keeps Makes (λ program network status text. P program network text) IsZero zero_low keep
 
@@ -338,45 +347,53 @@ module _ (Shows : List ℕ → List ℕ → List ℕ → Judged AnswerValue → 
   three_keep (a ∷ b ∷ c ∷ []) j h zero = keep a b c j h zero
   three_keep (a ∷ b ∷ c ∷ d ∷ ss) j h zero = refused_zero j (other_number (a ∷ b ∷ c ∷ d ∷ ss)) h (omega arith) zero
 
-  three_input : (input : List ℕ) (j : Judged AnswerValue) (long : Bool)
-      → (long ≡ true → j ≡ Refused (Plainly Bytes)) → (long ≡ false → WithThree Shows (sections_of input) j)
+  three_input : (input : List ℕ) (j : Judged AnswerValue) → OfInput (λ ss k. WithThree Shows ss k) input j
       → (answer_of j).status ≡ 0 → ThreeKeep (sections_of input) j
-  three_input input j true h k zero = refused_zero j (Plainly Bytes) (h refl) (omega arith) zero
-  three_input input j false h k zero = three_keep (sections_of input) j (k refl) zero
+  three_input input j h zero = by_length (nat_lt MOST_BYTES (length input)) h
+    where
+      by_length : (b : Bool) → OfLength b (λ ss k. WithThree Shows ss k) input j → ThreeKeep (sections_of input) j
+      by_length true e = refused_zero j (Plainly Bytes) e (omega arith) zero
+      by_length false k = three_keep (sections_of input) j k zero
 
 -- ---- runs
-module _ (run : RunsKeepYes) (workers : ℕ) (log table : Bool) where
-  shows_keep : (program network script : List ℕ) (j : Judged AnswerValue)
-      → ShowsRun (run_options log table) program network script j → (answer_of j).status ≡ 0
-      → RunsKept (run_options log table) program network script (answer_of j)
+module _ (run : RunsKeepYes) (options : RunOptions) where
+  shows_keep : (program network script : List ℕ) (j : Judged AnswerValue) → ShowsRun options program network script j
+      → (answer_of j).status ≡ 0 → RunsKept options program network script (answer_of j)
   shows_keep program network script j h zero = by_judged h.judged h.runs h.shows
     where
-      by_judged : (k : Judged RanValue) → Runs (run_options log table) program network script k
-          → j ≡ judged_map running k → RunsKept (run_options log table) program network script (answer_of j)
+      by_judged : (k : Judged RanValue) → Runs options program network script k
+          → j ≡ judged_map running k → RunsKept options program network script (answer_of j)
       by_judged (Accepted r) runs e = record {
         ran = r;
         shows = ap answer_of e;
-        keeps = run (run_options log table) program network script r runs;
+        keeps = run options program network script r runs;
       }
       by_judged (Refused cause) runs e =
-          refused_zero j cause e (run_causes (run_options log table) program network script (Refused cause) runs).many
-          zero
+          refused_zero j cause e (run_causes options program network script (Refused cause) runs).many zero
 
-  abbrev RunKeeps : List (List ℕ) → Judged AnswerValue → Type 0
-  RunKeeps sections j =
-      OfThree (λ program network script. RunsKept (run_options log table) program network script (answer_of j))
-      sections
+-- ---- work
+module _ (run : RunsKeepYes) (agree : AllAgree) where
+  pub work_keeps : (work : Work) (input : List ℕ) (j : Judged AnswerValue) → AnswersWork work input j
+      → (answer_of j).status ≡ 0 → WorkPromises work (sections_of input) (answer_of j)
+  work_keeps (Run o) input j h zero =
+      three_input (ShowsRun o) (RunsKept o) (shows_keep run o) input j h zero
+  work_keeps (Gen o) input j h zero =
+      subst (λ x. Agrees o.number o.devices (answer_of x).text) (sym h.shows)
+      (agree o.number o.devices h.least h.most h.gen h.gens)
 
-  run_within : (o : Option (Limit × ℕ)) (input : List ℕ) (j : Judged AnswerValue)
-      → AnswersWithin o (Run workers log table) input j → (answer_of j).status ≡ 0 → RunKeeps (sections_of input) j
-  run_within (Some (Workers, count)) input j h zero =
+  pub works_keep : (work : Work) (input : List ℕ) (answer : AnswerValue) → Works work input answer
+      → WorkIsKept work input answer
+  works_keep work input answer h =
+      subst (λ (a : AnswerValue). a.status ≡ 0 → WorkPromises work (sections_of input) a) (sym h.is)
+      (work_keeps work input h.judged h.makes)
+
+  within_keeps : (o : Option (Limit × ℕ)) (work : Work) (input : List ℕ) (j : Judged AnswerValue)
+      → AnswersWithin o work input j → (answer_of j).status ≡ 0 → WorkPromises work (sections_of input) (answer_of j)
+  within_keeps (Some (Workers, count)) work input j h zero =
       refused_zero j (Plainly (limit_refusal Workers count)) h (omega arith) zero
-  run_within (Some (Devices, count)) input j h zero =
+  within_keeps (Some (Devices, count)) work input j h zero =
       refused_zero j (Plainly (limit_refusal Devices count)) h (omega arith) zero
-  run_within None input j h zero =
-      three_input (ShowsRun (run_options log table)) (RunsKept (run_options log table)) shows_keep input j
-      (nat_lt MOST_BYTES (length input)) (λ e. subst (λ b. AnswersInput b (Run workers log table) input j) e h)
-      (λ e. subst (λ b. AnswersInput b (Run workers log table) input j) e h) zero
+  within_keeps None work input j h zero = work_keeps work input j h zero
 
 -- ---- messages
 module _ (log : MailsKeepYes) (driven : DrivenMailsKeepYes) where
@@ -401,68 +418,44 @@ module _ (log : MailsKeepYes) (driven : DrivenMailsKeepYes) where
       (driven_replies number program network (Refused cause) h) zero
 
   mail_keeps : (number : Option ℕ) (input : List ℕ) (j : Judged AnswerValue)
-      → AnswersInput (nat_lt MOST_BYTES (length input)) (Mail number) input j → (answer_of j).status ≡ 0
+      → OfInput (λ ss k. AnswersMail number ss k) input j → (answer_of j).status ≡ 0
       → MailPromises number (sections_of input) (answer_of j)
   mail_keeps None input j h zero =
       three_input (WritesLogReply Mails) (λ program network lines answer.
-      MailKeepsYes program network lines answer.text) log_keeps input j
-      (nat_lt MOST_BYTES (length input)) (λ e. subst (λ b. AnswersInput b (Mail None) input j) e h)
-      (λ e. subst (λ b. AnswersInput b (Mail None) input j) e h) zero
+      MailKeepsYes program network lines answer.text) log_keeps input j h zero
   mail_keeps (Some number) input j h zero =
-      input_keeps (DrivesMail number) (DrivenMailKeepsYes number) (driven_keeps number) input j
-      (nat_lt MOST_BYTES (length input)) (λ e. subst (λ b. AnswersInput b (Mail (Some number)) input j) e h)
-      (λ e. subst (λ b. AnswersInput b (Mail (Some number)) input j) e h) zero
-
--- ---- scenarios
-gen_keeps : AllAgree → (number devices workers : ℕ) (o : Option (Limit × ℕ)) (input : List ℕ) (j : Judged AnswerValue)
-    → AnswersWithin o (Gen number devices workers) input j → (answer_of j).status ≡ 0
-    → Agrees number devices (answer_of j).text
-gen_keeps agree number devices workers (Some (Workers, count)) input j h zero =
-    refused_zero j (Plainly (limit_refusal Workers count)) h (omega arith) zero
-gen_keeps agree number devices workers (Some (Devices, count)) input j h zero =
-    refused_zero j (Plainly (limit_refusal Devices count)) h (omega arith) zero
-gen_keeps agree number devices workers None input j h zero =
-    subst (λ x. Agrees number devices (answer_of x).text) (sym h.shows)
-    (agree number devices h.least h.most h.gen h.gens)
+      input_keeps (DrivesMail number) (DrivenMailKeepsYes number) (driven_keeps number) input j h zero
 
 module _ (law : YesStabilises) (fit : AcceptedScenesFit) (start : InputsStart) (hold : SettleTimesHold)
     (hold_from : StartTimesHold) (least : SolutionsAreLeast) (run : RunsKeepYes) (agree : AllAgree)
     (log : MailsKeepYes) (driven : DrivenMailsKeepYes) where
-  command_keeps : (command : Command) (input : List ℕ) (j : Judged AnswerValue)
-      → AnswersWithin (limit_of command) command input j → IsAnswered command (answer_of j).status
-      → Promises command (sections_of input) (answer_of j)
-  command_keeps (Check facts None) input j h zero =
-      input_keeps (Checks facts) ChecksYes (λ p n. check_keeps law fit p n facts) input j
-      (nat_lt MOST_BYTES (length input)) (λ e. subst (λ b. AnswersInput b (Check facts None) input j) e h)
-      (λ e. subst (λ b. AnswersInput b (Check facts None) input j) e h) zero
-  command_keeps (Check facts (Some Any)) input j h low =
-      low_keeps (Settles facts false) (SettlesKept facts) IsAtMostOne (λ n e. e)
-      (λ p n. settle_keeps law start p n facts hold) input j
-      (nat_lt MOST_BYTES (length input)) (λ e. subst (λ b. AnswersInput b (Check facts (Some Any)) input j) e h)
-      (λ e. subst (λ b. AnswersInput b (Check facts (Some Any)) input j) e h) low
-  command_keeps (Check facts (Some Table)) input j h low =
-      low_keeps (Settles facts true) (StartKept facts) IsAtMostOne (λ n e. e)
-      (λ p n. start_keeps law start p n facts hold_from) input j
-      (nat_lt MOST_BYTES (length input)) (λ e. subst (λ b. AnswersInput b (Check facts (Some Table)) input j) e h)
-      (λ e. subst (λ b. AnswersInput b (Check facts (Some Table)) input j) e h) low
-  command_keeps Stable input j h zero =
-      input_keeps Stabilised SolvesYes (stable_keeps law fit) input j
-      (nat_lt MOST_BYTES (length input)) (λ e. subst (λ b. AnswersInput b Stable input j) e h)
-      (λ e. subst (λ b. AnswersInput b Stable input j) e h) zero
-  command_keeps Format input j h zero = tt
-  command_keeps (Replay rounds table) input j h zero = tt
-  command_keeps (Run workers log table) input j h zero =
-      run_within run workers log table (limit_of (Run workers log table)) input j h zero
-  command_keeps (Gen number devices workers) input j h zero =
-      gen_keeps agree number devices workers (limit_of (Gen number devices workers)) input j h zero
-  command_keeps Trace input j h zero =
-      input_keeps Traces TracesYes (trace_keeps law fit least) input j
-      (nat_lt MOST_BYTES (length input)) (λ e. subst (λ b. AnswersInput b Trace input j) e h)
-      (λ e. subst (λ b. AnswersInput b Trace input j) e h) zero
-  command_keeps (Mail number) input j h zero = mail_keeps log driven number input j h zero
+  from_keeps : (facts : Bool) (o : Option Start) (input : List ℕ) (j : Judged AnswerValue)
+      → OfInput (λ ss k. WithTwo (WritesReply (ChecksFrom facts o)) ss k) input j → IsChecked o (answer_of j).status
+      → OfTwo (λ program network. CheckPromises facts o program network (answer_of j)) (sections_of input)
+  from_keeps facts None input j h zero =
+      input_keeps (ChecksFrom facts None) ChecksYes (λ p n. check_keeps law fit p n facts) input j h zero
+  from_keeps facts (Some Any) input j h low =
+      low_keeps (ChecksFrom facts (Some Any)) (SettlesKept facts) IsAtMostOne (λ n e. e)
+      (λ p n. settle_keeps law start p n facts hold) input j h low
+  from_keeps facts (Some Table) input j h low =
+      low_keeps (ChecksFrom facts (Some Table)) (StartKept facts) IsAtMostOne (λ n e. e)
+      (λ p n. start_keeps law start p n facts hold_from) input j h low
+
+  quiet_keeps : (quiet : Quiet) (input : List ℕ) (j : Judged AnswerValue)
+      → OfInput (λ ss k. AnswersSections quiet ss k) input j → IsAnswered quiet (answer_of j).status
+      → Promises quiet (sections_of input) (answer_of j)
+  quiet_keeps (Check o) input j h low = from_keeps o.facts o.settle input j h low
+  quiet_keeps Stable input j h zero = input_keeps Stabilised SolvesYes (stable_keeps law fit) input j h zero
+  quiet_keeps Format input j h zero = tt
+  quiet_keeps (Replay o) input j h zero = tt
+  quiet_keeps Trace input j h zero = input_keeps Traces TracesYes (trace_keeps law fit least) input j h zero
+  quiet_keeps (Mail o) input j h zero = mail_keeps log driven o.number input j h zero
 
   pub answers_keep : AnswersKeep
   answers_keep None input answer h = tt
-  answers_keep (Some command) input answer h =
-      subst (λ (a : AnswerValue). IsAnswered command a.status → Promises command (sections_of input) a) (sym h.is)
-      (command_keeps command input h.judged h.makes)
+  answers_keep (Some (command.Quiet quiet)) input answer h =
+      subst (λ (a : AnswerValue). IsAnswered quiet a.status → Promises quiet (sections_of input) a) (sym h.is)
+      (quiet_keeps quiet input h.judged h.makes)
+  answers_keep (Some (command.Threaded t)) input answer h =
+      subst (λ (a : AnswerValue). a.status ≡ 0 → WorkPromises t.work (sections_of input) a) (sym h.is)
+      (within_keeps run agree (limit_of t) t.work input h.judged h.makes)

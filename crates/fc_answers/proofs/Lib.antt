@@ -4,3 +4,4 @@ mod Statuses
 mod OneAnswer
 mod SomeAnswer
 mod Headline
+mod Answering

@@ -3,7 +3,14 @@ use Rattle.std.proofs.Common.{ℕ, ◌≡◌, Bool, true, false, List, [], ◌�
 use Rattle.std.specs.Prelude.{nat_lt}
 use Rattle.fc_syntax.specs.Text.{program_text}
 use Rattle.command_words.specs.declared.commands.Command.{Command}
-use Rattle.command_words.specs.declared.commands.Command.TheVariants.{Check, Stable, Run, Replay, Format, Gen, Trace, Mail}
+use Rattle.command_words.specs.declared.commands.Command.TheVariants as command
+use Rattle.command_words.specs.declared.commands.Quiet.{Quiet}
+use Rattle.command_words.specs.declared.commands.Quiet.TheVariants.{Check, Stable, Replay, Format, Trace, Mail}
+use Rattle.command_words.specs.declared.commands.ReplayOptions.{ReplayOptions}
+use Rattle.command_words.specs.declared.commands.RunOptions.{RunOptions}
+use Rattle.command_words.specs.declared.commands.Start.{Start}
+use Rattle.command_words.specs.declared.commands.Work.{Work}
+use Rattle.command_words.specs.declared.commands.Work.TheVariants.{Run, Gen}
 use Rattle.command_words.specs.declared.commands.Limit.{Limit}
 use Rattle.command_words.specs.Commands.{limit_of}
 use Rattle.fc_values.specs.declared.limits.TheConstants.{MOST_BYTES}
@@ -18,18 +25,15 @@ use Rattle.fc_settle.specs.Settles.{Settles}
 use Rattle.fc_mail.specs.Drives.{DrivesMail}
 use Rattle.fc_mail.specs.Mails.{Mails}
 use Rattle.fc_mail.specs.Laws.{OneMail, OneDrivenMail}
-use Rattle.fc_replay.specs.declared.replays.Options.{Options}
 use Rattle.fc_replay.specs.Replays.{Shown}
 use Rattle.fc_replay.specs.Laws.{Alike, OneReplay}
 use Rattle.fc_trace.specs.Traces.{Traces}
 use Rattle.fc_gen.specs.Laws.{OneGen}
-use Rattle.fc_run.specs.declared.runs.RunOptions.{RunOptions}
 use Rattle.fc_run.specs.Laws.{AlikeRuns, OneRun}
 use Rattle.fc_run.specs.Runs.{RanValue}
-use Rattle.fc_answers.specs.Asked.{is_from_table, reads, runs_threads}
 use Rattle.fc_answers.specs.Stabilised.{Stabilised}
 use Rattle.fc_answers.specs.Answers.{AnswerValue, written, showing, running, generating, replied, answer_of, Formats, ShowsReplay, ShowsRun, WritesReply, WritesLogReply, AnswersMail}
-use Rattle.fc_answers.specs.Answers.{options_of, run_options, AnswersSections, AnswersInput, AnswersReading, AnswersUnread, AnswersWithin, AnswersAsked}
+use Rattle.fc_answers.specs.Answers.{AnswersSections, AnswersWork, AnswersWithin, AnswersAsked, ChecksFrom, OfInput, OfLength}
 use Rattle.fc_answers.specs.Laws.{SameText, threads_of, OneAnswer}
 
 by_threads : (b : Bool) (x y : AnswerValue) → x.text ≡ y.text → SameText b x y
@@ -95,7 +99,7 @@ module _ (source : OneSource) (check : OneCheck) (settle : OneSettle) (stable : 
       (g.prints ∙ ap (judged_map (λ ds. written (program_text ds))) (one.2 g.judged g.reads))
   same_format (a ∷ b ∷ ss) j k h g = equal false (Refused (other_number (a ∷ b ∷ ss))) j k h g
 
-  same_replay : (o : Options) (ss : List (List ℕ)) (j k : Judged AnswerValue) → WithThree (ShowsReplay o) ss j
+  same_replay : (o : ReplayOptions) (ss : List (List ℕ)) (j k : Judged AnswerValue) → WithThree (ShowsReplay o) ss j
       → WithThree (ShowsReplay o) ss k → Same false j k
   same_replay o [] j k h g = equal false (Refused (other_number [])) j k h g
   same_replay o (a ∷ []) j k h g = equal false (Refused (other_number (a ∷ []))) j k h g
@@ -128,52 +132,51 @@ module _ (source : OneSource) (check : OneCheck) (settle : OneSettle) (stable : 
   same_mail None ss j k h g = same_log ss j k h g
   same_mail (Some number) ss j k h g = same_reply (DrivesMail number) (driven number) ss j k h g
 
-  same_sections : (command : Command) (ss : List (List ℕ)) (j k : Judged AnswerValue) → AnswersSections command ss j
-      → AnswersSections command ss k → Same (runs_threads command) j k
-  same_sections Format ss j k h g = same_format ss j k h g
-  same_sections (Replay rounds table) ss j k h g = same_replay (options_of rounds table) ss j k h g
-  same_sections (Check facts None) ss j k h g = same_reply (Checks facts) (check facts) ss j k h g
-  same_sections (Check facts (Some start)) ss j k h g =
-      same_reply (Settles facts (is_from_table start)) (settle facts (is_from_table start)) ss j k h g
-  same_sections Stable ss j k h g = same_reply Stabilised stable ss j k h g
-  same_sections (Run workers log table) ss j k h g = same_run (run_options log table) ss j k h g
-  same_sections (Gen number devices workers) ss j k h g = absurd h
-  same_sections Trace ss j k h g = same_reply Traces trace ss j k h g
-  same_sections (Mail number) ss j k h g = same_mail number ss j k h g
+  one_from : (facts : Bool) (o : Option Start) → OneReply (ChecksFrom facts o)
+  one_from facts None = check facts
+  one_from facts (Some from) = settle facts from
 
-  same_unread : (command : Command) (j k : Judged AnswerValue) → AnswersUnread command j → AnswersUnread command k
-      → Same (runs_threads command) j k
-  same_unread (Gen number devices workers) j k h g =
-      let agree = gen number devices h.least h.most h.gen g.gen h.gens g.gens in
+  same_sections : (quiet : Quiet) (ss : List (List ℕ)) (j k : Judged AnswerValue) → AnswersSections quiet ss j
+      → AnswersSections quiet ss k → Same false j k
+  same_sections Format ss j k h g = same_format ss j k h g
+  same_sections (Replay o) ss j k h g = same_replay o ss j k h g
+  same_sections (Check o) ss j k h g =
+      same_reply (ChecksFrom o.facts o.settle) (one_from o.facts o.settle) ss j k h g
+  same_sections Stable ss j k h g = same_reply Stabilised stable ss j k h g
+  same_sections Trace ss j k h g = same_reply Traces trace ss j k h g
+  same_sections (Mail o) ss j k h g = same_mail o.number ss j k h g
+
+  same_input : (threads : Bool) (Judges : List (List ℕ) → Judged AnswerValue → Type 0)
+      → ((ss : List (List ℕ)) (j k : Judged AnswerValue) → Judges ss j → Judges ss k → Same threads j k)
+      → (input : List ℕ) (j k : Judged AnswerValue) → OfInput Judges input j → OfInput Judges input k
+      → Same threads j k
+  same_input threads Judges same input j k h g = by_length (nat_lt MOST_BYTES (length input)) h g
+    where
+      by_length : (b : Bool) → OfLength b Judges input j → OfLength b Judges input k → Same threads j k
+      by_length true e f = equal threads _ j k e f
+      by_length false x y = same (sections_of input) j k x y
+
+  same_work : (work : Work) (input : List ℕ) (j k : Judged AnswerValue) → AnswersWork work input j
+      → AnswersWork work input k → Same true j k
+  same_work (Run o) input j k h g =
+      same_input true (λ ss i. WithThree (ShowsRun o) ss i) (same_run o) input j k h g
+  same_work (Gen o) input j k h g =
+      let agree = gen o.number o.devices h.least h.most h.gen g.gen h.gens g.gens in
       subst (λ x. Same true x k) (sym h.shows) (subst (Same true (Accepted (generating h.gen))) (sym g.shows)
       (record { status = refl; text = agree.text }))
-  same_unread Format j k h g = absurd h
-  same_unread (Replay rounds table) j k h g = absurd h
-  same_unread (Check facts settles) j k h g = absurd h
-  same_unread Stable j k h g = absurd h
-  same_unread (Run workers log table) j k h g = absurd h
-  same_unread Trace j k h g = absurd h
-  same_unread (Mail number) j k h g = absurd h
 
-  same_input : (b : Bool) (command : Command) (input : List ℕ) (j k : Judged AnswerValue)
-      → AnswersInput b command input j → AnswersInput b command input k → Same (runs_threads command) j k
-  same_input true command input j k h g = equal (runs_threads command) _ j k h g
-  same_input false command input j k h g = same_sections command (sections_of input) j k h g
-
-  same_reading : (b : Bool) (command : Command) (input : List ℕ) (j k : Judged AnswerValue)
-      → AnswersReading b command input j → AnswersReading b command input k → Same (runs_threads command) j k
-  same_reading true command input j k h g = same_input (nat_lt MOST_BYTES (length input)) command input j k h g
-  same_reading false command input j k h g = same_unread command j k h g
-
-  same_within : (o : Option (Limit × ℕ)) (command : Command) (input : List ℕ) (j k : Judged AnswerValue)
-      → AnswersWithin o command input j → AnswersWithin o command input k → Same (runs_threads command) j k
-  same_within (Some limit) command input j k h g = equal (runs_threads command) _ j k h g
-  same_within None command input j k h g = same_reading (reads command) command input j k h g
+  same_within : (o : Option (Limit × ℕ)) (work : Work) (input : List ℕ) (j k : Judged AnswerValue)
+      → AnswersWithin o work input j → AnswersWithin o work input k → Same true j k
+  same_within (Some limit) work input j k h g = equal true _ j k h g
+  same_within None work input j k h g = same_work work input j k h g
 
   same_asked : (asked : Option Command) (input : List ℕ) (j k : Judged AnswerValue) → AnswersAsked asked input j
       → AnswersAsked asked input k → Same (threads_of asked) j k
   same_asked None input j k h g = equal false _ j k h g
-  same_asked (Some command) input j k h g = same_within (limit_of command) command input j k h g
+  same_asked (Some (command.Quiet quiet)) input j k h g =
+      same_input false (λ ss i. AnswersSections quiet ss i) (same_sections quiet) input j k h g
+  same_asked (Some (command.Threaded threaded)) input j k h g =
+      same_within (limit_of threaded) threaded.work input j k h g
 
   pub one_answer : OneAnswer
   one_answer asked input a b h g =

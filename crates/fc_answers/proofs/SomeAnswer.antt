@@ -6,11 +6,19 @@ use Rattle.std.specs.Option.{option_or}
 use Rattle.std.proofs.lemmas.Bool.Decides.{nat_tests}
 use Rattle.fc_syntax.specs.Text.{program_text}
 use Rattle.command_words.specs.declared.commands.Command.{Command}
-use Rattle.command_words.specs.declared.commands.Command.TheVariants.{Check, Stable, Run, Replay, Format, Gen, Trace, Mail}
+use Rattle.command_words.specs.declared.commands.Command.TheVariants as command
+use Rattle.command_words.specs.declared.commands.Quiet.{Quiet}
+use Rattle.command_words.specs.declared.commands.Quiet.TheVariants.{Check, Stable, Replay, Format, Trace, Mail}
+use Rattle.command_words.specs.declared.commands.ReplayOptions.{ReplayOptions}
+use Rattle.command_words.specs.declared.commands.RunOptions.{RunOptions}
+use Rattle.command_words.specs.declared.commands.Start.{Start}
+use Rattle.command_words.specs.declared.commands.Threaded.{Threaded}
+use Rattle.command_words.specs.declared.commands.Work.{Work}
+use Rattle.command_words.specs.declared.commands.Work.TheVariants.{Run, Gen}
 use Rattle.command_words.specs.declared.commands.Limit.{Limit}
 use Rattle.command_words.specs.declared.commands.Limit.TheVariants.{Workers, Devices}
 use Rattle.fc_values.specs.declared.limits.TheConstants.{MOST_SCENARIO_DEVICES, MOST_WORKERS}
-use Rattle.command_words.specs.Commands.{IsCommand, devices_limit, limit_of, workers_limit}
+use Rattle.command_words.specs.Commands.{IsThreaded, IsWork, devices_limit, limit_of, workers_limit, work_limit}
 use Rattle.fc_inputs.specs.declared.refusal.Refusal.TheVariants.{Usage, Bytes}
 use Rattle.fc_values.specs.declared.limits.TheConstants.{MOST_BYTES}
 use Rattle.fc_inputs.specs.Causes.{Plainly, Judged, Accepted, Refused, judged_map}
@@ -24,16 +32,14 @@ use Rattle.fc_settle.specs.Settles.{Settles}
 use Rattle.fc_mail.specs.Drives.{DrivesMail}
 use Rattle.fc_mail.specs.Mails.{Mails}
 use Rattle.fc_mail.specs.Laws.{SomeMail, SomeDrivenMail}
-use Rattle.fc_replay.specs.declared.replays.Options.{Options}
 use Rattle.fc_replay.specs.Laws.{SomeReplay}
 use Rattle.fc_trace.specs.Traces.{Traces}
 use Rattle.fc_gen.specs.Laws.{SomeGen}
-use Rattle.fc_run.specs.declared.runs.RunOptions.{RunOptions}
 use Rattle.fc_run.specs.Laws.{SomeRun}
 use Rattle.fc_answers.specs.Stabilised.{Stabilised}
-use Rattle.fc_answers.specs.Asked.{is_from_table, limit_refusal, reads, MayAsk}
+use Rattle.fc_answers.specs.Asked.{limit_refusal, MayAsk}
 use Rattle.fc_answers.specs.Answers.{AnswerValue, written, showing, running, generating, replied, answer_of, Formats, ShowsReplay, ShowsRun, WritesReply, WritesLogReply, AnswersMail}
-use Rattle.fc_answers.specs.Answers.{options_of, run_options, AnswersSections, AnswersInput, AnswersReading, AnswersWithin, AnswersAsked}
+use Rattle.fc_answers.specs.Answers.{AnswersSections, AnswersWork, AnswersWithin, AnswersAsked, ChecksFrom, OfInput, OfLength}
 use Rattle.fc_answers.specs.Laws.{SomeAnswer}
 
 -- a scenario whose numbers pass no limit has few devices
@@ -77,7 +83,7 @@ module _ (source : OneSource) (within : SectionsAreWithin) (check : SomeCheck) (
       (judged_map (λ ds. written (program_text ds)) one.0, record { judged = one.0; reads = one.1; prints = refl })
   some_format (a ∷ b ∷ ss) = (Refused (other_number (a ∷ b ∷ ss)), refl)
 
-  some_shown : (o : Options) (ss : List (List ℕ)) → AreWithin MOST_BYTES ss → IsJudgedSo (WithThree (ShowsReplay o) ss)
+  some_shown : (o : ReplayOptions) (ss : List (List ℕ)) → AreWithin MOST_BYTES ss → IsJudgedSo (WithThree (ShowsReplay o) ss)
   some_shown o [] w = (Refused (other_number []), refl)
   some_shown o (a ∷ []) w = (Refused (other_number (a ∷ [])), refl)
   some_shown o (a ∷ b ∷ []) w = (Refused (other_number (a ∷ b ∷ [])), refl)
@@ -108,56 +114,50 @@ module _ (source : OneSource) (within : SectionsAreWithin) (check : SomeCheck) (
   some_mail None ss w = some_log ss w
   some_mail (Some number) ss w = some_reply (DrivesMail number) (driven number) ss w
 
-  some_sections : (command : Command) → reads command ≡ true → (ss : List (List ℕ))
-      → AreWithin MOST_BYTES ss
-      → IsJudgedSo (AnswersSections command ss)
-  some_sections Format read ss w = some_format ss
-  some_sections (Replay rounds table) read ss w = some_shown (options_of rounds table) ss w
-  some_sections (Check facts None) read ss w = some_reply (Checks facts) (check facts) ss w
-  some_sections (Check facts (Some start)) read ss w =
-      some_reply (Settles facts (is_from_table start)) (settle facts (is_from_table start)) ss w
-  some_sections Stable read ss w = some_reply Stabilised stable ss w
-  some_sections (Run workers log table) read ss w = some_ran (run_options log table) ss w
-  some_sections (Gen number devices workers) read ss w = absurd cc
-  some_sections Trace read ss w = some_reply Traces trace ss w
-  some_sections (Mail number) read ss w = some_mail number ss w
+  some_from : (facts : Bool) (o : Option Start) → SomeReply (ChecksFrom facts o)
+  some_from facts None = check facts
+  some_from facts (Some from) = settle facts from
 
-  some_input : (command : Command) (input : List ℕ) → reads command ≡ true → (b : Bool)
-      → nat_lt MOST_BYTES (length input) ≡ b → IsJudgedSo (AnswersInput b command input)
-  some_input command input read true long = (Refused (Plainly Bytes), refl)
-  some_input command input read false short =
-      some_sections command read (sections_of input) (within input MOST_BYTES (few (length input) short))
+  some_sections : (quiet : Quiet) (ss : List (List ℕ)) → AreWithin MOST_BYTES ss
+      → IsJudgedSo (AnswersSections quiet ss)
+  some_sections Format ss w = some_format ss
+  some_sections (Replay o) ss w = some_shown o ss w
+  some_sections (Check o) ss w =
+      some_reply (ChecksFrom o.facts o.settle) (some_from o.facts o.settle) ss w
+  some_sections Stable ss w = some_reply Stabilised stable ss w
+  some_sections Trace ss w = some_reply Traces trace ss w
+  some_sections (Mail o) ss w = some_mail o.number ss w
+
+  some_input : (Judges : List (List ℕ) → Judged AnswerValue → Type 0)
+      → ((ss : List (List ℕ)) → AreWithin MOST_BYTES ss → IsJudgedSo (Judges ss)) → (input : List ℕ)
+      → IsJudgedSo (OfInput Judges input)
+  some_input Judges some input = by_length (nat_lt MOST_BYTES (length input)) refl
     where
       few : (n : ℕ) → nat_lt MOST_BYTES n ≡ false → n ≤ MOST_BYTES
       few n e = grind (arith, nat_tests)
 
-  some_reading : (command : Command) (input : List ℕ) → IsCommand command → limit_of command ≡ None
-      → IsJudgedSo (AnswersReading (reads command) command input)
-  some_reading (Gen number devices workers) input may past =
-      let high = few_devices workers devices past in
-      let g = gen number devices may high in
-      (Accepted (generating g.0), record { least = may; most = high; gen = g.0; gens = g.1; shows = refl })
-  some_reading Format input may past = some_input Format input refl (nat_lt MOST_BYTES (length input)) refl
-  some_reading (Replay rounds table) input may past =
-      some_input (Replay rounds table) input refl (nat_lt MOST_BYTES (length input)) refl
-  some_reading (Check facts settles) input may past =
-      some_input (Check facts settles) input refl (nat_lt MOST_BYTES (length input)) refl
-  some_reading Stable input may past = some_input Stable input refl (nat_lt MOST_BYTES (length input)) refl
-  some_reading (Run workers log table) input may past =
-      some_input (Run workers log table) input refl (nat_lt MOST_BYTES (length input)) refl
-  some_reading Trace input may past = some_input Trace input refl (nat_lt MOST_BYTES (length input)) refl
-  some_reading (Mail number) input may past =
-      some_input (Mail number) input refl (nat_lt MOST_BYTES (length input)) refl
+      by_length : (b : Bool) → nat_lt MOST_BYTES (length input) ≡ b → IsJudgedSo (OfLength b Judges input)
+      by_length true long = (Refused (Plainly Bytes), refl)
+      by_length false short = some (sections_of input) (within input MOST_BYTES (few (length input) short))
 
-  some_within : (command : Command) (input : List ℕ) → MayAsk (Some command) → (o : Option (Limit × ℕ))
-      → limit_of command ≡ o → IsJudgedSo (AnswersWithin o command input)
-  some_within command input may (Some limit) past = (Refused (Plainly (limit_refusal limit.0 limit.1)), refl)
-  some_within command input may None past =
-      some_reading command input may past
+  some_work : (workers : ℕ) (work : Work) (input : List ℕ) → IsWork work
+      → option_or (workers_limit workers) (work_limit work) ≡ None → IsJudgedSo (AnswersWork work input)
+  some_work workers (Run o) input may past = some_input (λ ss j. WithThree (ShowsRun o) ss j) (some_ran o) input
+  some_work workers (Gen o) input may past =
+      let high = few_devices workers o.devices past in
+      let g = gen o.number o.devices may high in
+      (Accepted (generating g.0), record { least = may; most = high; gen = g.0; gens = g.1; shows = refl })
+
+  some_within : (t : Threaded) (input : List ℕ) → IsThreaded t → (o : Option (Limit × ℕ)) → limit_of t ≡ o
+      → IsJudgedSo (AnswersWithin o t.work input)
+  some_within t input may (Some limit) past = (Refused (Plainly (limit_refusal limit.0 limit.1)), refl)
+  some_within t input may None past = some_work t.workers t.work input may.work past
 
   some_asked : (asked : Option Command) (input : List ℕ) → MayAsk asked → IsJudgedSo (AnswersAsked asked input)
   some_asked None input may = (Refused (Plainly Usage), refl)
-  some_asked (Some command) input may = some_within command input may (limit_of command) refl
+  some_asked (Some (command.Quiet quiet)) input may =
+      some_input (λ ss j. AnswersSections quiet ss j) (some_sections quiet) input
+  some_asked (Some (command.Threaded t)) input may = some_within t input may (limit_of t) refl
 
   pub some_answer : SomeAnswer
   some_answer asked input may =

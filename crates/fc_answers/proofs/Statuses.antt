@@ -12,7 +12,14 @@ use Rattle.edit_commands.specs.declared.types.Fault.{Fault}
 use Rattle.edit_commands.specs.LineByLine.{Lines, AllLines, StopsAt}
 use Rattle.edit_commands.specs.Logs.{LogLine, log_of}
 use Rattle.command_words.specs.declared.commands.Command.{Command}
-use Rattle.command_words.specs.declared.commands.Command.TheVariants.{Check, Stable, Run, Replay, Format, Gen, Trace, Mail}
+use Rattle.command_words.specs.declared.commands.Command.TheVariants as command
+use Rattle.command_words.specs.declared.commands.Quiet.{Quiet}
+use Rattle.command_words.specs.declared.commands.Quiet.TheVariants.{Check, Stable, Replay, Format, Trace, Mail}
+use Rattle.command_words.specs.declared.commands.ReplayOptions.{ReplayOptions}
+use Rattle.command_words.specs.declared.commands.RunOptions.{RunOptions}
+use Rattle.command_words.specs.declared.commands.Start.{Start}
+use Rattle.command_words.specs.declared.commands.Work.{Work}
+use Rattle.command_words.specs.declared.commands.Work.TheVariants.{Run, Gen}
 use Rattle.command_words.specs.declared.commands.Limit.{Limit}
 use Rattle.command_words.specs.declared.commands.Limit.TheVariants.{Workers, Devices}
 use Rattle.command_words.specs.Commands.{limit_of}
@@ -41,18 +48,16 @@ use Rattle.fc_inputs.specs.Causes.{Cause, Plainly, InScene, reply_to, or_network
 use Rattle.fc_inputs.specs.Sections.{sections_of, WithOne, WithTwo, WithThree, other_number}
 use Rattle.fc_inputs.specs.Sources.{IsNoSource, lexical, tokens, depth, syntax, IsNoProgram, no_source, ill_typed, too_large, ReadsSource, ReadsProgram}
 use Rattle.fc_inputs.specs.Inputs.{InputOf, with_scene, ReadsInput}
-use Rattle.fc_replay.specs.declared.replays.Options.{Options}
 use Rattle.fc_replay.specs.Stopping.{fault_in, first_stop}
 use Rattle.fc_replay.specs.Replays.{start_of, Shown, ReplaysEntries, ReplaysLog, Replays}
 use Rattle.fc_values.specs.declared.limits.TheConstants.{MOST_BYTES}
-use Rattle.fc_answers.specs.Asked.{reads, is_from_table, limit_refusal}
-use Rattle.fc_run.specs.declared.runs.RunOptions.{RunOptions}
+use Rattle.fc_answers.specs.Asked.{limit_refusal}
 use Rattle.fc_run.specs.Runs.{RanValue, Runs, RunsScript, line_refusal}
 use Rattle.edit_commands.specs.Scripts.{Script, TooManyLines, Within, OfLine, OfScrambles, OfFirings, script_of}
 use Rattle.edit_commands.specs.Scripts.{LineFault as ScriptFault}
 use Rattle.fc_answers.specs.Answers.{AnswerValue, showing, running, generating, replied, answer_of, Formats, ShowsReplay, ShowsRun}
-use Rattle.fc_answers.specs.Answers.{WritesReply, WritesLogReply, AnswersMail, options_of, run_options, AnswersSections, AnswersInput, AnswersReading, AnswersUnread}
-use Rattle.fc_answers.specs.Answers.{AnswersWithin, AnswersAsked}
+use Rattle.fc_answers.specs.Answers.{WritesReply, WritesLogReply, AnswersMail, AnswersSections, AnswersWork, AnswersWithin, AnswersAsked}
+use Rattle.fc_answers.specs.Answers.{ChecksFrom, OfInput, OfLength}
 use Rattle.fc_answers.specs.Laws.{AnswerStatus, AnswerStatuses}
 
 -- the status of an answer that is none to words outside: at most 4, and not that of the usage line
@@ -160,7 +165,7 @@ input_causes program network j h = by_program h.judged (program_causes program h
     by_program (Accepted U) c e = subst (IfRefused CauseJudges) (sym e) (with_scene_causes U (scene_of U network))
     by_program (Refused cause) c e = subst (IfRefused CauseJudges) (sym e) c
 
-log_causes : (o : Options) (U : Unfolding) (start : Core) (lines : Lines Fault LogLine) (j : Judged Shown)
+log_causes : (o : ReplayOptions) (U : Unfolding) (start : Core) (lines : Lines Fault LogLine) (j : Judged Shown)
     → ReplaysLog o U start lines j → IfRefused CauseJudges j
 log_causes o U start (StopsAt at fault) j e = subst (IfRefused CauseJudges) (sym e) (log_judges at _)
 log_causes o U start (AllLines lines) j h = by_stop (first_stop U start h.log) h.ends
@@ -169,7 +174,7 @@ log_causes o U start (AllLines lines) j h = by_stop (first_stop U start h.log) h
     by_stop (Some stop) e = subst (IfRefused CauseJudges) (sym e) (log_judges stop.0 stop.1)
     by_stop None b = subst (IfRefused CauseJudges) (sym b.is) tt
 
-replay_causes : (o : Options) (program network log : List ℕ) (j : Judged Shown) → Replays o program network log j
+replay_causes : (o : ReplayOptions) (program network log : List ℕ) (j : Judged Shown) → Replays o program network log j
     → IfRefused CauseJudges j
 replay_causes o program network log j h = by_input h.judged (input_causes program network h.judged h.reads) h.ends
   where
@@ -273,13 +278,13 @@ time_judges : (o : Option ℕ) → JudgesBy (settle_status o)
 time_judges (Some rounds) = by_zero
 time_judges None = by_one
 
-settle_replies : (facts from_table : Bool) (program network : List ℕ) (j : Judged Reply)
-    → Settles facts from_table program network j → ReplyJudges j
-settle_replies facts from_table program network j h =
+settle_replies : (facts : Bool) (from : Start) (program network : List ℕ) (j : Judged Reply)
+    → Settles facts from program network j → ReplyJudges j
+settle_replies facts from program network j h =
     by_input h.judged (input_causes program network h.judged h.reads) h.ends
   where
     by_input : (i : Judged InputOf) → IfRefused CauseJudges i
-        → AndThen i (λ i k. SettlesScene facts from_table i.0 i.1 k) j → ReplyJudges j
+        → AndThen i (λ i k. SettlesScene facts from i.0 i.1 k) j → ReplyJudges j
     by_input (Accepted i) c e = subst ReplyJudges (sym e.settled) (time_judges (time_of e.nodes i.1.net e.table))
     by_input (Refused cause) c e = subst ReplyJudges (sym e) c
 
@@ -327,7 +332,7 @@ reply_judges Makes well (a ∷ []) j h = other_judges (a ∷ []) j h
 reply_judges Makes well (a ∷ b ∷ []) j h = replied_judges h.judged (well a b h.judged h.makes) j h.writes
 reply_judges Makes well (a ∷ b ∷ c ∷ ss) j h = other_judges (a ∷ b ∷ c ∷ ss) j h
 
-replay_judges : (o : Options) (ss : List (List ℕ)) (j : Judged AnswerValue) → WithThree (ShowsReplay o) ss j
+replay_judges : (o : ReplayOptions) (ss : List (List ℕ)) (j : Judged AnswerValue) → WithThree (ShowsReplay o) ss j
     → JudgesWell j
 replay_judges o [] j h = other_judges [] j h
 replay_judges o (a ∷ []) j h = other_judges (a ∷ []) j h
@@ -355,48 +360,48 @@ mail_judges : (number : Option ℕ) (ss : List (List ℕ)) (j : Judged AnswerVal
 mail_judges None ss j h = log_judge ss j h
 mail_judges (Some number) ss j h = reply_judges (DrivesMail number) (driven_replies number) ss j h
 
-sections_judge : (command : Command) (ss : List (List ℕ)) (j : Judged AnswerValue) → AnswersSections command ss j
+from_replies : (facts : Bool) (o : Option Start) (program network : List ℕ) (j : Judged Reply)
+    → ChecksFrom facts o program network j → ReplyJudges j
+from_replies facts None = check_replies facts
+from_replies facts (Some from) = settle_replies facts from
+
+sections_judge : (quiet : Quiet) (ss : List (List ℕ)) (j : Judged AnswerValue) → AnswersSections quiet ss j
     → JudgesWell j
 sections_judge Format ss j h = format_judges ss j h
-sections_judge (Replay rounds table) ss j h = replay_judges (options_of rounds table) ss j h
-sections_judge (Check facts None) ss j h = reply_judges (Checks facts) (check_replies facts) ss j h
-sections_judge (Check facts (Some start)) ss j h =
-    reply_judges (Settles facts (is_from_table start)) (settle_replies facts (is_from_table start)) ss j h
+sections_judge (Replay o) ss j h = replay_judges o ss j h
+sections_judge (Check o) ss j h =
+    reply_judges (ChecksFrom o.facts o.settle) (from_replies o.facts o.settle) ss j h
 sections_judge Stable ss j h = reply_judges Stabilised stable_replies ss j h
-sections_judge (Run workers log table) ss j h = run_judges (run_options log table) ss j h
-sections_judge (Gen number devices workers) ss j h = absurd h
 sections_judge Trace ss j h = reply_judges Traces trace_replies ss j h
-sections_judge (Mail number) ss j h = mail_judges number ss j h
+sections_judge (Mail o) ss j h = mail_judges o.number ss j h
 
-unread_judges : (command : Command) (j : Judged AnswerValue) → AnswersUnread command j → JudgesWell j
-unread_judges (Gen number devices workers) j h = written_judges generating (λ x. refl) (Accepted h.gen) tt j h.shows
-unread_judges Format j h = absurd h
-unread_judges (Replay rounds table) j h = absurd h
-unread_judges (Check facts settle) j h = absurd h
-unread_judges Stable j h = absurd h
-unread_judges (Run workers log table) j h = absurd h
-unread_judges Trace j h = absurd h
-unread_judges (Mail number) j h = absurd h
+input_judges : (Judges : List (List ℕ) → Judged AnswerValue → Type 0)
+    → ((ss : List (List ℕ)) (j : Judged AnswerValue) → Judges ss j → JudgesWell j)
+    → (input : List ℕ) (j : Judged AnswerValue) → OfInput Judges input j → JudgesWell j
+input_judges Judges well input j h = by_length (nat_lt MOST_BYTES (length input)) h
+  where
+    by_length : (b : Bool) → OfLength b Judges input j → JudgesWell j
+    by_length true e = subst JudgesWell (sym e) (judges _ by_four)
+    by_length false k = well (sections_of input) j k
+
+work_judges : (work : Work) (input : List ℕ) (j : Judged AnswerValue) → AnswersWork work input j → JudgesWell j
+work_judges (Run o) input j h = input_judges (λ ss k. WithThree (ShowsRun o) ss k) (run_judges o) input j h
+work_judges (Gen o) input j h = written_judges generating (λ x. refl) (Accepted h.gen) tt j h.shows
 
 limit_judge : (limit : Limit) (count : ℕ) → RefusesBy (status_of (limit_refusal limit count))
 limit_judge Workers count = by_four
 limit_judge Devices count = by_four
 
+within_judges : (o : Option (Limit × ℕ)) (work : Work) (input : List ℕ) (j : Judged AnswerValue)
+    → AnswersWithin o work input j → JudgesWell j
+within_judges (Some l) work input j e = subst JudgesWell (sym e) (judges _ (limit_judge l.0 l.1))
+within_judges None work input j h = work_judges work input j h
+
 command_judges : (command : Command) (input : List ℕ) (j : Judged AnswerValue)
-    → AnswersWithin (limit_of command) command input j → JudgesWell j
-command_judges command input j h = by_limit (limit_of command) h
-  where
-    by_length : (b : Bool) → AnswersInput b command input j → JudgesWell j
-    by_length true e = subst JudgesWell (sym e) (judges _ by_four)
-    by_length false k = sections_judge command (sections_of input) j k
-
-    by_reading : (b : Bool) → AnswersReading b command input j → JudgesWell j
-    by_reading true k = by_length (nat_lt MOST_BYTES (length input)) k
-    by_reading false k = unread_judges command j k
-
-    by_limit : (o : Option (Limit × ℕ)) → AnswersWithin o command input j → JudgesWell j
-    by_limit (Some l) e = subst JudgesWell (sym e) (judges _ (limit_judge l.0 l.1))
-    by_limit None k = by_reading (reads command) k
+    → AnswersAsked (Some command) input j → JudgesWell j
+command_judges (command.Quiet quiet) input j h =
+    input_judges (λ ss k. AnswersSections quiet ss k) (sections_judge quiet) input j h
+command_judges (command.Threaded t) input j h = within_judges (limit_of t) t.work input j h
 
 -- ---- of answers
 asked_judges : (asked : Option Command) (input : List ℕ) (j : Judged AnswerValue) → AnswersAsked asked input j

@@ -4,9 +4,16 @@ use Rattle.fc_syntax.specs.Terms.{Declaration}
 use Rattle.fc_syntax.specs.Text.{program_text}
 use Rattle.firing_core.specs.declared.entries.Part.{Part}
 use Rattle.command_words.specs.declared.commands.Command.{Command}
-use Rattle.command_words.specs.declared.commands.Command.TheVariants.{Check, Stable, Run, Replay}
-use Rattle.command_words.specs.declared.commands.Command.TheVariants.{Format, Gen, Trace, Mail}
+use Rattle.command_words.specs.declared.commands.Command.TheVariants as command
+use Rattle.command_words.specs.declared.commands.GenOptions.{GenOptions}
 use Rattle.command_words.specs.declared.commands.Limit.{Limit}
+use Rattle.command_words.specs.declared.commands.Quiet.{Quiet}
+use Rattle.command_words.specs.declared.commands.Quiet.TheVariants.{Check, Stable, Replay, Format, Trace, Mail}
+use Rattle.command_words.specs.declared.commands.ReplayOptions.{ReplayOptions}
+use Rattle.command_words.specs.declared.commands.RunOptions.{RunOptions}
+use Rattle.command_words.specs.declared.commands.Start.{Start}
+use Rattle.command_words.specs.declared.commands.Work.{Work}
+use Rattle.command_words.specs.declared.commands.Work.TheVariants.{Run, Gen}
 use Rattle.command_words.specs.Commands.{limit_of}
 use Rattle.fc_inputs.specs.declared.refusal.Refusal.TheVariants.{Usage, Bytes}
 use Rattle.fc_inputs.specs.Refusals.{Reply}
@@ -16,14 +23,12 @@ use Rattle.fc_inputs.specs.Sources.{ReadsSource}
 use Rattle.fc_check.specs.Checks.{Checks}
 use Rattle.fc_mail.specs.Drives.{DrivesMail}
 use Rattle.fc_mail.specs.Mails.{Mails}
-use Rattle.fc_replay.specs.declared.replays.Options.{Options}
 use Rattle.fc_replay.specs.Ledgers.{Ledger}
 use Rattle.fc_replay.specs.Replays.{Shown, Replays}
 use Rattle.fc_gen.specs.Gens.{GenValue, Gens}
-use Rattle.fc_run.specs.declared.runs.RunOptions.{RunOptions}
 use Rattle.fc_run.specs.Runs.{RanValue, Runs}
 use Rattle.fc_values.specs.declared.limits.TheConstants.{MOST_BYTES, MOST_SCENARIO_DEVICES}
-use Rattle.fc_answers.specs.Asked.{reads, is_from_table, limit_refusal}
+use Rattle.fc_answers.specs.Asked.{limit_refusal}
 use Rattle.fc_settle.specs.Settles.{Settles}
 use Rattle.fc_trace.specs.Traces.{Traces}
 use Rattle.fc_answers.specs.Stabilised.{Stabilised}
@@ -58,7 +63,7 @@ pub record Formats (program : List ℕ) (j : Judged AnswerValue) : Type 0 where
   pub prints : j ≡ judged_map (λ ds. written (program_text ds)) judged
 
 -- `replay` shows the book of a program, a scene and a log
-pub record ShowsReplay (options : Options) (program network log : List ℕ) (j : Judged AnswerValue) : Type 0 where
+pub record ShowsReplay (options : ReplayOptions) (program network log : List ℕ) (j : Judged AnswerValue) : Type 0 where
   pub judged : Judged Shown
   pub replays : Replays options program network log judged
   pub shows : j ≡ judged_map showing judged
@@ -78,11 +83,11 @@ abbrev pub generating : GenValue → AnswerValue
 generating g = record { status = 0; text = g.text; book = Some g.book; parts = g.parts }
 
 -- `gen` shows the run of a scenario. The number of its workers makes no difference
-pub record ShowsGen (number devices : ℕ) (j : Judged AnswerValue) : Type 0 where
-  pub least : 3 ≤ devices
-  pub most : devices ≤ MOST_SCENARIO_DEVICES
+pub record ShowsGen (options : GenOptions) (j : Judged AnswerValue) : Type 0 where
+  pub least : 3 ≤ options.devices
+  pub most : options.devices ≤ MOST_SCENARIO_DEVICES
   pub gen : GenValue
-  pub gens : Gens number devices gen
+  pub gens : Gens options.number options.devices gen
   pub shows : j ≡ Accepted (generating gen)
 
 -- a command writes the reply that it makes of a program and a scene
@@ -104,58 +109,56 @@ abbrev pub AnswersMail : Option ℕ → List (List ℕ) → Judged AnswerValue �
 AnswersMail None sections j = WithThree (WritesLogReply Mails) sections j
 AnswersMail (Some number) sections j = WithTwo (WritesReply (DrivesMail number)) sections j
 
-abbrev pub options_of : Bool → Bool → Options
-options_of rounds table = record { rounds = rounds; table = table }
+-- `check` writes the verdict, and with `--settle` the rounds that each device needs behind it
+abbrev pub ChecksFrom : Bool → Option Start → List ℕ → List ℕ → Judged Reply → Type 0
+ChecksFrom facts None program network j = Checks facts program network j
+ChecksFrom facts (Some from) program network j = Settles facts from program network j
 
-abbrev pub run_options : Bool → Bool → RunOptions
-run_options log table = record { log = log; table = table }
-
--- a command over the sections of an input within the limit. `gen` takes none
-abbrev pub AnswersSections : Command → List (List ℕ) → Judged AnswerValue → Type 0
-AnswersSections Format sections j = WithOne Formats sections j
-AnswersSections (Replay rounds table) sections j = WithThree (ShowsReplay (options_of rounds table)) sections j
-AnswersSections (Check facts None) sections j = WithTwo (WritesReply (Checks facts)) sections j
-AnswersSections (Check facts (Some start)) sections j =
-    WithTwo (WritesReply (Settles facts (is_from_table start))) sections j
+-- a quiet command over the sections of an input within the limit
+abbrev pub AnswersSections : Quiet → List (List ℕ) → Judged AnswerValue → Type 0
+AnswersSections (Check options) sections j =
+    WithTwo (WritesReply (ChecksFrom options.facts options.settle)) sections j
 AnswersSections Stable sections j = WithTwo (WritesReply Stabilised) sections j
-AnswersSections (Run workers log table) sections j = WithThree (ShowsRun (run_options log table)) sections j
-AnswersSections (Gen number devices workers) sections j = ⊥
+AnswersSections (Replay options) sections j = WithThree (ShowsReplay options) sections j
+AnswersSections Format sections j = WithOne Formats sections j
 AnswersSections Trace sections j = WithTwo (WritesReply Traces) sections j
-AnswersSections (Mail number) sections j = AnswersMail number sections j
+AnswersSections (Mail options) sections j = AnswersMail options.number sections j
 
--- a command over an input that is longer than the limit, and over one that isn't
-abbrev pub AnswersInput : Bool → Command → List ℕ → Judged AnswerValue → Type 0
-AnswersInput true command input j = j ≡ Refused (Plainly Bytes)
-AnswersInput false command input j = AnswersSections command (sections_of input) j
+-- what is judged of an input that is longer than the limit, and of the sections of one that isn't
+abbrev pub OfLength : Bool → (List (List ℕ) → Judged AnswerValue → Type 0) → List ℕ → Judged AnswerValue → Type 0
+OfLength true Judges input j = j ≡ Refused (Plainly Bytes)
+OfLength false Judges input j = Judges (sections_of input) j
 
--- a command that reads nothing
-abbrev pub AnswersUnread : Command → Judged AnswerValue → Type 0
-AnswersUnread (Gen number devices workers) j = ShowsGen number devices j
-AnswersUnread Format j = ⊥
-AnswersUnread (Replay rounds table) j = ⊥
-AnswersUnread (Check facts settle) j = ⊥
-AnswersUnread Stable j = ⊥
-AnswersUnread (Run workers log table) j = ⊥
-AnswersUnread Trace j = ⊥
-AnswersUnread (Mail number) j = ⊥
+abbrev pub OfInput : (List (List ℕ) → Judged AnswerValue → Type 0) → List ℕ → Judged AnswerValue → Type 0
+OfInput Judges input j = OfLength (nat_lt MOST_BYTES (length input)) Judges input j
 
--- a command that reads, and one that reads nothing
-abbrev pub AnswersReading : Bool → Command → List ℕ → Judged AnswerValue → Type 0
-AnswersReading true command input j = AnswersInput (nat_lt MOST_BYTES (length input)) command input j
-AnswersReading false command input j = AnswersUnread command j
+-- work on an input, within the limits of its numbers. `gen` takes none
+abbrev pub AnswersWork : Work → List ℕ → Judged AnswerValue → Type 0
+AnswersWork (Run options) input j = OfInput (λ sections k. WithThree (ShowsRun options) sections k) input j
+AnswersWork (Gen options) input j = ShowsGen options j
 
--- a command with a number that is past its limit, which is judged before all reading, and one without
-abbrev pub AnswersWithin : Option (Limit × ℕ) → Command → List ℕ → Judged AnswerValue → Type 0
-AnswersWithin (Some limit) command input j = j ≡ Refused (Plainly (limit_refusal limit.0 limit.1))
-AnswersWithin None command input j = AnswersReading (reads command) command input j
+-- work with a number that is past its limit, which is judged before all reading, and work without
+abbrev pub AnswersWithin : Option (Limit × ℕ) → Work → List ℕ → Judged AnswerValue → Type 0
+AnswersWithin (Some limit) work input j = j ≡ Refused (Plainly (limit_refusal limit.0 limit.1))
+AnswersWithin None work input j = AnswersWork work input j
 
 -- what the words ask for
 abbrev pub AnswersAsked : Option Command → List ℕ → Judged AnswerValue → Type 0
 AnswersAsked None input j = j ≡ Refused (Plainly Usage)
-AnswersAsked (Some command) input j = AnswersWithin (limit_of command) command input j
+AnswersAsked (Some (command.Quiet quiet)) input j = OfInput (λ sections k. AnswersSections quiet sections k) input j
+AnswersAsked (Some (command.Threaded threaded)) input j =
+    AnswersWithin (limit_of threaded) threaded.work input j
+
+-- an answer of what is judged so
+pub record Answered (Judges : Judged AnswerValue → Type 0) (answer : AnswerValue) : Type 0 where
+  pub judged : Judged AnswerValue
+  pub makes : Judges judged
+  pub is : answer ≡ answer_of judged
 
 -- the answer to what the words ask for and to an input
-pub record Answers (asked : Option Command) (input : List ℕ) (answer : AnswerValue) : Type 0 where
-  pub judged : Judged AnswerValue
-  pub makes : AnswersAsked asked input judged
-  pub is : answer ≡ answer_of judged
+abbrev pub Answers : Option Command → List ℕ → AnswerValue → Type 0
+Answers asked input answer = Answered (λ j. AnswersAsked asked input j) answer
+
+-- the answer of work within the limits of its numbers
+abbrev pub Works : Work → List ℕ → AnswerValue → Type 0
+Works work input answer = Answered (λ j. AnswersWork work input j) answer

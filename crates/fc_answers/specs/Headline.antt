@@ -21,9 +21,14 @@ use Rattle.report.specs.Settling.{settling_text}
 use Rattle.report.specs.Texts.{field_text}
 use Rattle.report.specs.Verdicts.{verdict_text}
 use Rattle.command_words.specs.declared.commands.Command.{Command}
-use Rattle.command_words.specs.declared.commands.Command.TheVariants.{Check, Stable, Run, Replay}
-use Rattle.command_words.specs.declared.commands.Command.TheVariants.{Format, Gen, Trace, Mail}
+use Rattle.command_words.specs.declared.commands.Command.TheVariants as command
+use Rattle.command_words.specs.declared.commands.Quiet.{Quiet}
+use Rattle.command_words.specs.declared.commands.Quiet.TheVariants.{Check, Stable, Replay, Format, Trace, Mail}
+use Rattle.command_words.specs.declared.commands.RunOptions.{RunOptions}
+use Rattle.command_words.specs.declared.commands.Start.{Start}
 use Rattle.command_words.specs.declared.commands.Start.TheVariants.{Any, Table}
+use Rattle.command_words.specs.declared.commands.Work.{Work}
+use Rattle.command_words.specs.declared.commands.Work.TheVariants.{Run, Gen}
 use Rattle.fc_inputs.specs.Causes.{Accepted}
 use Rattle.fc_check.specs.Checks.{checked_of}
 use Rattle.fc_settle.specs.Settles.{settle_status, settled_devices, time_of}
@@ -33,10 +38,9 @@ use Rattle.fc_inputs.specs.Sections.{sections_of}
 use Rattle.fc_gen.specs.Laws.{Agrees}
 use Rattle.fc_mail.specs.Laws.{DrivenMailKeepsYes, MailKeepsYes}
 use Rattle.fc_replay.specs.Replays.{start_of}
-use Rattle.fc_run.specs.declared.runs.RunOptions.{RunOptions}
 use Rattle.fc_run.specs.Laws.{RunKeepsYes}
 use Rattle.fc_run.specs.Runs.{RanValue}
-use Rattle.fc_answers.specs.Answers.{AnswerValue, Answers, run_options, running}
+use Rattle.fc_answers.specs.Answers.{AnswerValue, Answers, running}
 
 -- The texts of a program and a scene, on which the verdict is a yes for so many rounds: exactly one field solves the
 -- program on the scene's network, and from every good core each log without an edit that has so many rounds leads to
@@ -140,31 +144,47 @@ MailPromises None sections answer =
 MailPromises (Some number) sections answer =
     OfTwo (λ program network. DrivenMailKeepsYes number program network answer.text) sections
 
--- the statuses of answers that promise something: `check --settle` ends with 1 where the network is open
-abbrev pub IsAnswered : Command → ℕ → Type 0
-IsAnswered (Check facts (Some start)) status = status ≤ 1
-IsAnswered command status = status ≡ 0
+-- what `check` promises, and with `--settle` from which exports
+abbrev pub CheckPromises : Bool → Option Start → List ℕ → List ℕ → AnswerValue → Type 0
+CheckPromises facts None program network answer = ChecksYes program network answer.text
+CheckPromises facts (Some Any) program network answer = SettlesKept facts program network answer.status answer.text
+CheckPromises facts (Some Table) program network answer = StartKept facts program network answer.status answer.text
 
--- what a command promises of an answer with such a status to these sections
-abbrev pub Promises : Command → List (List ℕ) → AnswerValue → Type 0
-Promises (Check facts None) sections answer =
-    OfTwo (λ program network. ChecksYes program network answer.text) sections
-Promises (Check facts (Some Any)) sections answer =
-    OfTwo (λ program network. SettlesKept facts program network answer.status answer.text) sections
-Promises (Check facts (Some Table)) sections answer =
-    OfTwo (λ program network. StartKept facts program network answer.status answer.text) sections
+-- the statuses of answers of `check` that promise something: `check --settle` ends with 1 where the network is open
+abbrev pub IsChecked : Option Start → ℕ → Type 0
+IsChecked None status = status ≡ 0
+IsChecked (Some from) status = status ≤ 1
+
+-- the statuses of a quiet command's answers that promise something
+abbrev pub IsAnswered : Quiet → ℕ → Type 0
+IsAnswered (Check options) status = IsChecked options.settle status
+IsAnswered quiet status = status ≡ 0
+
+-- what a quiet command promises of an answer with such a status to these sections
+abbrev pub Promises : Quiet → List (List ℕ) → AnswerValue → Type 0
+Promises (Check options) sections answer =
+    OfTwo (λ program network. CheckPromises options.facts options.settle program network answer) sections
 Promises Stable sections answer = OfTwo (λ program network. SolvesYes program network answer.text) sections
 Promises Format sections answer = Unit {0}
-Promises (Replay rounds table) sections answer = Unit {0}
-Promises (Run workers log table) sections answer =
-    OfThree (λ program network script. RunsKept (run_options log table) program network script answer) sections
-Promises (Gen number devices workers) sections answer = Agrees number devices answer.text
+Promises (Replay options) sections answer = Unit {0}
 Promises Trace sections answer = OfTwo (λ program network. TracesYes program network answer.text) sections
-Promises (Mail number) sections answer = MailPromises number sections answer
+Promises (Mail options) sections answer = MailPromises options.number sections answer
+
+-- what work promises of an answer with status 0 to these sections
+abbrev pub WorkPromises : Work → List (List ℕ) → AnswerValue → Type 0
+WorkPromises (Run options) sections answer =
+    OfThree (λ program network script. RunsKept options program network script answer) sections
+WorkPromises (Gen options) sections answer = Agrees options.number options.devices answer.text
+
+-- what work promises is kept
+abbrev pub WorkIsKept : Work → List ℕ → AnswerValue → Type 0
+WorkIsKept work input answer = answer.status ≡ 0 → WorkPromises work (sections_of input) answer
 
 abbrev pub IsKept : Option Command → List ℕ → AnswerValue → Type 0
 IsKept None input answer = Unit {0}
-IsKept (Some command) input answer = IsAnswered command answer.status → Promises command (sections_of input) answer
+IsKept (Some (command.Quiet quiet)) input answer =
+    IsAnswered quiet answer.status → Promises quiet (sections_of input) answer
+IsKept (Some (command.Threaded threaded)) input answer = WorkIsKept threaded.work input answer
 
 -- each answer keeps what its command promises
 abbrev pub AnswersKeep : Type 0

@@ -2,8 +2,9 @@
 use Rattle.std.specs.Prelude.{ℕ, Bool, true, false, ◌≡◌, ◌≤◌, List, Option, Some, None}
 use Rattle.edit_commands.specs.Agreement.{SameEntries}
 use Rattle.command_words.specs.declared.commands.Command.{Command}
+use Rattle.command_words.specs.declared.commands.Command.TheVariants as command
 use Rattle.fc_replay.specs.Ledgers.{Ledger}
-use Rattle.fc_answers.specs.Asked.{MayAsk, runs_threads}
+use Rattle.fc_answers.specs.Asked.{MayAsk}
 use Rattle.fc_answers.specs.Answers.{AnswerValue, Answers}
 
 -- the logs of two books agree: they may differ in what an export holds at the places of a branch that isn't taken
@@ -18,9 +19,11 @@ abbrev pub SameText : Bool → AnswerValue → AnswerValue → Type 0
 SameText false a b = a.text ≡ b.text
 SameText true a b = SameLogs a.book b.book → a.text ≡ b.text
 
+-- the commands whose log is made by threads
 abbrev pub threads_of : Option Command → Bool
 threads_of None = false
-threads_of (Some command) = runs_threads command
+threads_of (Some (command.Quiet quiet)) = false
+threads_of (Some (command.Threaded threaded)) = true
 
 -- two answers to one input: equal statuses, and equal texts
 pub record AnswersAgree (asked : Option Command) (a b : AnswerValue) : Type 0 where

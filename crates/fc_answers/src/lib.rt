@@ -5,8 +5,12 @@
 mod answers;
 mod asked;
 mod laws;
+mod quiet;
 mod stabilised;
+mod working;
 
-pub use answers::{Answer, answer_to, answer_unread};
-pub use asked::{past_limit, reads, workers_of};
+pub use answers::{Answer, refused};
+pub use asked::past_limit;
 pub use laws::{answer_statuses, answers_keep, limits_are, one_answer, some_answer};
+pub use quiet::answer_quiet;
+pub use working::{answer_gen, answer_run};

@@ -4,7 +4,7 @@ use Rattle.fc_inputs.specs.Causes.{Refused}
 use Rattle.fc_inputs.proofs.Stopping.{stop_is}
 use Rattle.fc_answers.specs.Answers.{Formats, written}
 use Rattle.fc_answers.proofs.Formatting.{format_stops, format_prints}
-use Rattle.fc_answers.proofs.answers.format.Goals as goal
+use Rattle.fc_answers.proofs.quiet.format.Goals as goal
 
 pub returns-in_err-program-clause-refused : goal.returns-in_err-program-clause-refused
 returns-in_err-program-clause-refused c =
