@@ -1,14 +1,12 @@
 //! What is answered to words and an input.
 
-ghost use Rattle.std.specs.Prelude.{◌≡◌, ◌≤◌, length};
-ghost use Rattle.command_words.specs.Commands.{IsCommand};
-ghost use Rattle.fc_values.specs.declared.limits.TheConstants.{MOST_BYTES};
+ghost use Rattle.command_words.specs.Commands.{IsThreaded};
 
-use command_words::{Command, command, words_ask_for_commands};
+use command_words::{Command, Threaded, Work, command, words_ask_for_commands};
 use export_table::OpenGate;
-use fc_answers::{Answer, answer_to, answer_unread, past_limit, reads, workers_of};
-use fc_inputs::{Reply, Stop, rendered};
-use fc_values::MOST_BYTES;
+use fc_answers::{Answer, answer_gen, answer_quiet, answer_run, past_limit, refused};
+use fc_inputs::Reply;
+use fc_values::Memory;
 use session::Pool;
 use std::alloc::Global;
 use std::process::Abort;
@@ -16,24 +14,23 @@ use std::sync::Wait;
 use std::test::Fail;
 use std::thread::Threads;
 
-// What a command makes of an input.
-fn answer<W: Threads + Wait + Sync>(
+// What is answered to a threaded command and an input.
+fn worked<W: Threads + Wait + Sync>(
     rt: &W,
     alloc: Global,
-    asked: Command,
+    asked: Threaded,
     input: &[u8],
-) -> Result<Answer, Stop>
-    requires may { IsCommand asked }
-    requires short { length input.now ≤ MOST_BYTES }
+) -> Result<Answer, Memory>
+    requires { IsThreaded asked }
 {
     if let Some(refusal) = past_limit(asked) {
-        return Err(Stop::Refused(refusal));
+        return refused(alloc, refusal);
     }
-    let pool = Pool::new(rt, &OpenGate, workers_of(Some(asked)));
-    if !reads(asked) {
-        return Ok(answer_unread(alloc, asked, &pool)?);
+    let pool = Pool::new(rt, &OpenGate, asked.workers);
+    match asked.work {
+        Work::Run(options) => answer_run(alloc, options, input, &pool),
+        Work::Gen(options) => answer_gen(alloc, options, &pool),
     }
-    answer_to(alloc, asked, input, &pool)
 }
 
 /// The reply to words that are a command's, and to an input.
@@ -48,19 +45,12 @@ pub fn reply<W: Threads + Wait + Sync>(
         words.push(String::from_str(alloc, word)?)?;
     }
     words_ask_for_commands();
-    let Some(asked) = command(alloc, &words)? else {
-        return Err(Fail::new("the words are no command's"));
+    let answer = match command(alloc, &words)? {
+        Some(Command::Quiet(quiet)) => answer_quiet(alloc, quiet, input)?,
+        Some(Command::Threaded(threaded)) => worked(rt, alloc, threaded, input)?,
+        None => return Err(Fail::new("the words are no command's")),
     };
-    if input.len() > MOST_BYTES {
-        return Err(Fail::new("the input is too long"));
-    }
-    match answer(rt, alloc, asked, input) {
-        Ok(answer) => Ok(answer.reply),
-        Err(stop) => match rendered(alloc, &stop) {
-            Ok(reply) => Ok(reply),
-            Err(_) => Err(Fail::new("there was no memory")),
-        },
-    }
+    Ok(answer.reply)
 }
 
 /// These words and this input have this status and text.

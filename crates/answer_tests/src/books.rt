@@ -6,10 +6,11 @@ ghost use Rattle.firing_core.specs.Rooms.{IsRoom};
 ghost use Rattle.fc_values.specs.declared.limits.TheConstants.{MOST_BYTES};
 
 use crate::rows::{HOPS, SOURCE};
+use command_words::ReplayOptions;
 use device_eval::fire;
 use fc_inputs::{read_program, read_source};
 use fc_nodes::{Op, Unfolded};
-use fc_replay::{Options, replay};
+use fc_replay::replay;
 use fc_values::{Local, MOST_BYTES};
 use firing_core::{Book, Entry, Room, copy_snap};
 use mail_lines::{MailLineFault, read_mail};
@@ -29,7 +30,7 @@ fn hop_count(alloc: Global) -> Result<Unfolded, Fail> {
 
 // The book of a log.
 fn book(alloc: Global, program: &str, network: &str, log: &str) -> Result<Book, Fail> {
-    let options = Options {
+    let options = ReplayOptions {
         rounds: true,
         table: true,
     };

@@ -88,9 +88,11 @@ fn judged(alloc: Global, command: Quiet, input: &[u8]) -> Result<Answer, Stop>
             let (program, network, log) = three_sections(&sections)?;
             Ok(Answer::replied(alloc, mail(alloc, program, network, log)?))
         }
-        Quiet::Mail(MailOptions {
-            number: Some(number),
-        }) => {
+        Quiet::Mail(
+            MailOptions {
+                number: Some(number),
+            },
+        ) => {
             let (program, network) = two_sections(&sections)?;
             Ok(Answer::replied(alloc, mail_number(alloc, number, program, network)?))
         }

@@ -1,17 +1,15 @@
 -- What `fc` promises of its source and its sink, its status, its book and its parts.
-use Rattle.std.specs.Prelude.{ℕ, ◌≡◌, ◌≢◌, ◌<◌, ◌≤◌, ◌⊎◌, true, List, [], length, take, IfSome, IsNone}
+use Rattle.std.specs.Prelude.{ℕ, ◌≡◌, ◌≢◌, ◌<◌, ◌≤◌, ◌⊎◌, true, nat_lt, if◌then◌else◌}
+use Rattle.std.specs.Prelude.{List, [], length, take, IfSome, IsNone}
 use Rattle.std.specs.Prelude.{Option, Some, None, option_map}
 use Rattle.std.specs.Io.KnownBytes.{Appends, IsAtEnd, Keeps}
 use Rattle.command_words.specs.declared.commands.Command.{Command}
+use Rattle.fc_values.specs.declared.limits.TheConstants.{MOST_BYTES}
 use Rattle.fc_io.specs.Causes.{Rose}
-use Rattle.fc_inputs.specs.declared.stop.Stop.{Stop}
-use Rattle.fc_inputs.specs.declared.stop.Stop.TheVariants as stop
-use Rattle.fc_inputs.specs.Causes.{Cause, Plainly, reply_to, Judged, Refused}
-use Rattle.fc_inputs.specs.Stops.{WhereCause, cause_of, scene_cause}
 use Rattle.fc_replay.specs.Ledgers.{ledger_of}
 use Rattle.fc_program.specs.declared.ending.Outcome.{Outcome}
 use Rattle.fc_answers.specs.Asked.{reads_source}
-use Rattle.fc_answers.specs.Answers.{AnswerValue, AnswersAsked, Answers}
+use Rattle.fc_answers.specs.Answers.{AnswerValue, Answers}
 use Rattle.fc_answers.specs.Headline.{IsKept}
 
 -- an answer to an input, which is what the source has left where it tells that; what a yes in it promises is kept
@@ -21,27 +19,15 @@ pub record IsAnswer (asked : Option Command) (left : Option (List ℕ)) (answer 
   pub answers : Answers asked input answer
   pub kept : IsKept asked input answer
 
--- the same of what is judged
-pub record IsJudged (asked : Option Command) (left : Option (List ℕ)) (j : Judged AnswerValue) : Type 0 where
+-- something holds of an input, which is what the source has left where it tells that
+pub record OfSource (Holds : List ℕ → Type 0) (left : Option (List ℕ)) : Type 0 where
   pub input : List ℕ
   pub there : IfSome left (λ bytes. input ≡ bytes)
-  pub makes : AnswersAsked asked input j
+  pub holds : Holds input
 
--- what is asked for stops for its cause, or because the source fails, or by want of memory
-abbrev pub StopsAsked : Option Command → Option (List ℕ) → Stop → Type 0
-StopsAsked asked left stop.Read = asked ≢ None
-StopsAsked asked left stop.Memory = Unit {0}
-StopsAsked asked left (stop.Refused refusal) = IsJudged asked left (Refused (Plainly refusal))
-StopsAsked asked left (stop.Scene fault) =
-    WhereCause (λ cause. IsJudged asked left (Refused cause)) (scene_cause fault)
-
--- the status of a stop that has a cause
-abbrev pub cause_status : Option Cause → ℕ
-cause_status None = 0
-cause_status (Some cause) = (reply_to cause).status
-
-abbrev pub stop_status : Stop → ℕ
-stop_status s = cause_status (cause_of s)
+-- an input, if it is no longer than the limit
+abbrev pub within_bytes : List ℕ → Option (List ℕ)
+within_bytes input = if nat_lt MOST_BYTES (length input) then None else Some input
 
 -- ---- how a call ends
 

@@ -3,13 +3,11 @@ ghost use Rattle.std.specs.Prelude.{◌≡◌, false};
 ghost use Rattle.fc_answers.specs.Asked.{reads_source, MayAsk};
 ghost use Rattle.fc_program.specs.Top.{Ends, TellsNothing, sink_at, source_at};
 
-use crate::judging::answered;
+use crate::judging::{Failure, answered};
 use command_words::Command;
 use export_table::Gate;
-use fc_inputs::Failure;
 use fc_io::{Sink, Source, write_all};
 use firing_core::{Book, Part};
-use session::Pool;
 use std::alloc::Global;
 use std::sync::Wait;
 use std::thread::Threads;
@@ -38,12 +36,13 @@ pub fn without_book(alloc: Global, status: u8) -> Outcome
 }
 
 /// All that is done for what the words ask for. It waits where it runs rounds alone.
-pub fn ended<S: Source, K: Sink, W: Threads + Wait + Sync, G: Gate + Sync>(
+pub fn ended<W: Threads + Wait + Sync, S: Source, K: Sink, G: Gate + Sync>(
+    rt: &W,
     alloc: Global,
     asked: Option<Command>,
     src: &mut S,
     out: &mut K,
-    pool: &Pool<W, G>,
+    gate: &G,
 ) -> Outcome
     requires { MayAsk asked }
     ensures ends { Ends asked
@@ -52,7 +51,7 @@ pub fn ended<S: Source, K: Sink, W: Threads + Wait + Sync, G: Gate + Sync>(
         (sink_at (K.taken out.new) (K.faults out.new) (K.room out.new)) result }
     ensures untouched { reads_source asked ≡ false → src.new ≡ src.old }
 {
-    match answered(alloc, asked, src, pool) {
+    match answered(rt, alloc, asked, src, gate) {
         Ok(answer) => match write_all(out, answer.reply.text()) {
             Ok(()) => Outcome {
                 status: answer.reply.status(),

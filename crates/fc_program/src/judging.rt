@@ -1,86 +1,169 @@
 //! What is made of what the words ask for.
-ghost use Rattle.std.specs.Prelude.{◌≡◌, ◌≢◌, ◌≤◌, IfErr, IfOk, IsErrOf, None, Some, true, false};
+ghost use Rattle.std.specs.Prelude.{◌≡◌, ◌≢◌, ◌≤◌, IfOk, IfSome, IsErrOf, None, Some, option_map, true, false};
 ghost use Rattle.std.specs.Io.KnownBytes.{IsAtEnd};
-ghost use Rattle.command_words.specs.Commands.{limit_of};
+ghost use Rattle.command_words.specs.Commands.{IsThreaded, IsWork, work_limit};
 ghost use Rattle.fc_io.specs.Causes.{Rose};
-ghost use Rattle.fc_inputs.specs.Causes.{Accepted};
-ghost use Rattle.fc_inputs.specs.declared.stop.Stop.TheVariants as stop;
-ghost use Rattle.fc_inputs.specs.declared.reply.Failure.TheVariants as failure;
-ghost use Rattle.fc_answers.specs.Asked.{reads as reads_of, reads_source, MayAsk};
+ghost use Rattle.fc_program.specs.declared.judging.Failure.TheVariants as failure;
+ghost use Rattle.fc_answers.specs.Answers.{Answers, Works};
+ghost use Rattle.fc_answers.specs.Asked.{MayAsk, reads_source, takes_input};
 ghost use Rattle.fc_answers.specs.Code.{value_of};
-ghost use Rattle.fc_program.specs.Top.{IsAnswer, IsJudged, StopsAsked, stop_status};
+ghost use Rattle.fc_program.specs.Top.{IsAnswer, OfSource, within_bytes};
 
-use command_words::Command;
+use command_words::{Command, Quiet, RunOptions, Threaded, Work};
 use export_table::Gate;
 use fc_answers::{
-    Answer, answer_statuses, answer_to, answer_unread, answers_keep, past_limit, reads,
+    Answer, answer_gen, answer_quiet, answer_run, answer_statuses, answers_keep, past_limit,
+    refused,
 };
-use fc_inputs::{Failure, Refusal, Stop, rendered};
+use fc_inputs::Refusal;
 use fc_io::{ReadAll, Source, read_all};
-use fc_values::MOST_BYTES;
+use fc_values::{MOST_BYTES, Memory};
 use session::Pool;
 use std::alloc::Global;
 use std::sync::Wait;
 use std::thread::Threads;
 
-// What a command that reads makes of what the source has left.
-fn read_and_judged<S: Source, W: Threads + Wait + Sync, G: Gate + Sync>(
-    alloc: Global,
-    command: Command,
-    src: &mut S,
-    pool: &Pool<W, G>,
-) -> Result<Answer, Stop>
-    requires within { limit_of command ≡ None }
-    requires reads { reads_of command ≡ true }
-    ensures makes { IfOk result (λ a. IsJudged (Some command) (S.left src.old) (Accepted (value_of a))) }
-    ensures refused { IfErr result (StopsAsked (Some command) (S.left src.old)) }
-    ensures end { IfOk result (λ a. IsAtEnd (S.left src.new)) }
-    ensures read { IfErr result (λ s. stop_status s ≡ 3 → IsAtEnd (S.left src.new)) }
-    ensures fault { IsErrOf result Stop.Read → Rose (S.faults src.old) (S.faults src.new) }
-    ensures quiet { (IsErrOf result Stop.Read → ⊥) → S.faults src.new ≡ S.faults src.old }
+/// Why there is no answer: the source failed, or memory was wanting.
+#[derive(Clone, Copy, Debug, PartialEq, Eq)]
+pub enum Failure {
+    Read,
+    Memory,
+}
+
+impl From<Memory> for Failure {
+    ghost from_gives = { λ _ e. e ≡ failure.Memory };
+
+    fn from(_: Memory) -> Self {
+        Failure::Memory
+    }
+}
+
+// The input that the source has left, or nothing where it has more bytes than the limit.
+fn input<S: Source>(alloc: Global, src: &mut S) -> Result<Option<Vec<u8>>, Failure>
+    ensures input { IfOk result (λ o.
+        OfSource (λ input. option_map (λ bytes. bytes.items) o ≡ within_bytes input) (S.left src.old)) }
+    ensures end { IfOk result (λ o. IfSome o (λ bytes. IsAtEnd (S.left src.new))) }
+    ensures fault { IsErrOf result Failure.Read → Rose (S.faults src.old) (S.faults src.new) }
+    ensures quiet { (IsErrOf result Failure.Read → ⊥) → S.faults src.new ≡ S.faults src.old }
 {
     match read_all(alloc, src, MOST_BYTES) {
-        Ok(input) => Ok(answer_to(alloc, command, &input, pool)?),
-        Err(ReadAll::TooLong) => Err(Stop::Refused(Refusal::Bytes)),
-        Err(ReadAll::ReadFault) => Err(Stop::Read),
-        Err(ReadAll::Memory) => Err(Stop::Memory),
+        Ok(bytes) => Ok(Some(bytes)),
+        Err(ReadAll::TooLong) => Ok(None),
+        Err(ReadAll::ReadFault) => Err(Failure::Read),
+        Err(ReadAll::Memory) => Err(Failure::Memory),
     }
 }
 
-// What is made of what the words ask for. A number past its limit is refused before anything is read.
-fn judged<S: Source, W: Threads + Wait + Sync, G: Gate + Sync>(
-    alloc: Global,
-    asked: Option<Command>,
-    src: &mut S,
-    pool: &Pool<W, G>,
-) -> Result<Answer, Stop>
-    requires { MayAsk asked }
-    ensures makes { IfOk result (λ a. IsJudged asked (S.left src.old) (Accepted (value_of a))) }
-    ensures refused { IfErr result (StopsAsked asked (S.left src.old)) }
-    ensures end { reads_source asked ≡ true → IfOk result (λ a. IsAtEnd (S.left src.new)) }
-    ensures read { IfErr result (λ s. stop_status s ≡ 3 → IsAtEnd (S.left src.new)) }
-    ensures untouched { reads_source asked ≡ false → src.new ≡ src.old }
-    ensures fault { IsErrOf result Stop.Read → Rose (S.faults src.old) (S.faults src.new) }
-    ensures quiet { (IsErrOf result Stop.Read → ⊥) → S.faults src.new ≡ S.faults src.old }
+// The answer to a quiet command and to what the source has left. Nothing here waits.
+fn quiet_answer<S: Source>(alloc: Global, command: Quiet, src: &mut S) -> Result<Answer, Failure>
+    ensures answers { IfOk result (λ a.
+        OfSource (λ input. Answers (Some (Command.Quiet command)) input (value_of a)) (S.left src.old)) }
+    ensures end { IfOk result (λ a. a.reply.status ≢ 4 → IsAtEnd (S.left src.new)) }
+    ensures fault { IsErrOf result Failure.Read → Rose (S.faults src.old) (S.faults src.new) }
+    ensures quiet { (IsErrOf result Failure.Read → ⊥) → S.faults src.new ≡ S.faults src.old }
 {
-    let Some(command) = asked else {
-        return Err(Stop::Refused(Refusal::Usage));
-    };
-    if let Some(refusal) = past_limit(command) {
-        return Err(Stop::Refused(refusal));
+    match input(alloc, src)? {
+        Some(bytes) => Ok(answer_quiet(alloc, command, &bytes)?),
+        None => Ok(refused(alloc, Refusal::Bytes)?),
     }
-    if !reads(command) {
-        return Ok(answer_unread(alloc, command, pool)?);
-    }
-    read_and_judged(alloc, command, src, pool)
 }
 
-/// The answer to what the words ask for: what stops with a cause is a reply.
-pub fn answered<S: Source, W: Threads + Wait + Sync, G: Gate + Sync>(
+// The answer of `run` to what the source has left. It waits where it runs rounds alone.
+fn run_answer<S: Source, W: Threads + Wait + Sync, G: Gate + Sync>(
+    alloc: Global,
+    options: RunOptions,
+    src: &mut S,
+    pool: &Pool<W, G>,
+) -> Result<Answer, Failure>
+    ensures works { IfOk result (λ a.
+        OfSource (λ input. Works (Work.Run options) input (value_of a)) (S.left src.old)) }
+    ensures end { IfOk result (λ a. a.reply.status ≢ 4 → IsAtEnd (S.left src.new)) }
+    ensures fault { IsErrOf result Failure.Read → Rose (S.faults src.old) (S.faults src.new) }
+    ensures quiet { (IsErrOf result Failure.Read → ⊥) → S.faults src.new ≡ S.faults src.old }
+{
+    match input(alloc, src)? {
+        Some(bytes) => Ok(answer_run(alloc, options, &bytes, pool)?),
+        None => Ok(refused(alloc, Refusal::Bytes)?),
+    }
+}
+
+// The answer of work within the limits of its numbers.
+fn work_answer<S: Source, W: Threads + Wait + Sync, G: Gate + Sync>(
+    alloc: Global,
+    work: Work,
+    src: &mut S,
+    pool: &Pool<W, G>,
+) -> Result<Answer, Failure>
+    requires may { IsWork work }
+    requires within { work_limit work ≡ None }
+    ensures works { IfOk result (λ a. OfSource (λ input. Works work input (value_of a)) (S.left src.old)) }
+    ensures end { takes_input work ≡ true → IfOk result (λ a. a.reply.status ≢ 4 → IsAtEnd (S.left src.new)) }
+    ensures untouched { takes_input work ≡ false → src.new ≡ src.old }
+    ensures fault { IsErrOf result Failure.Read → Rose (S.faults src.old) (S.faults src.new) }
+    ensures quiet { (IsErrOf result Failure.Read → ⊥) → S.faults src.new ≡ S.faults src.old }
+{
+    match work {
+        Work::Run(options) => run_answer(alloc, options, src, pool),
+        Work::Gen(options) => Ok(answer_gen(alloc, options, pool)?),
+    }
+}
+
+// The answer to a threaded command. A number past its limit is refused before anything is read.
+fn threaded_answer<W: Threads + Wait + Sync, S: Source, G: Gate + Sync>(
+    rt: &W,
+    alloc: Global,
+    command: Threaded,
+    src: &mut S,
+    gate: &G,
+) -> Result<Answer, Failure>
+    requires { IsThreaded command }
+    ensures answers { IfOk result (λ a.
+        OfSource (λ input. Answers (Some (Command.Threaded command)) input (value_of a)) (S.left src.old)) }
+    ensures end { reads_source (Some (Command.Threaded command)) ≡ true →
+        IfOk result (λ a. a.reply.status ≢ 4 → IsAtEnd (S.left src.new)) }
+    ensures untouched { reads_source (Some (Command.Threaded command)) ≡ false → src.new ≡ src.old }
+    ensures fault { IsErrOf result Failure.Read → Rose (S.faults src.old) (S.faults src.new) }
+    ensures quiet { (IsErrOf result Failure.Read → ⊥) → S.faults src.new ≡ S.faults src.old }
+{
+    if let Some(refusal) = past_limit(command) {
+        return Ok(refused(alloc, refusal)?);
+    }
+    let pool = Pool::new(rt, gate, command.workers);
+    work_answer(alloc, command.work, src, &pool)
+}
+
+// The answer to what the words ask for.
+fn made<W: Threads + Wait + Sync, S: Source, G: Gate + Sync>(
+    rt: &W,
     alloc: Global,
     asked: Option<Command>,
     src: &mut S,
-    pool: &Pool<W, G>,
+    gate: &G,
+) -> Result<Answer, Failure>
+    requires { MayAsk asked }
+    ensures answers { IfOk result (λ a. OfSource (λ input. Answers asked input (value_of a)) (S.left src.old)) }
+    ensures outside { IfOk result (λ a. asked ≡ None → a.reply.status ≡ 2) }
+    ensures end { reads_source asked ≡ true → IfOk result (λ a. a.reply.status ≢ 4 → IsAtEnd (S.left src.new)) }
+    ensures untouched { reads_source asked ≡ false → src.new ≡ src.old }
+    ensures inside { IsErrOf result Failure.Read → asked ≢ None }
+    ensures fault { IsErrOf result Failure.Read → Rose (S.faults src.old) (S.faults src.new) }
+    ensures quiet { (IsErrOf result Failure.Read → ⊥) → S.faults src.new ≡ S.faults src.old }
+{
+    match asked {
+        None => Ok(refused(alloc, Refusal::Usage)?),
+        Some(Command::Quiet(command)) => quiet_answer(alloc, command, src),
+        Some(Command::Threaded(command)) => threaded_answer(rt, alloc, command, src, gate),
+    }
+}
+
+/// The answer to what the words ask for. What a yes in it promises is kept, and its status is at most 4. It waits where
+/// it runs rounds alone.
+pub fn answered<W: Threads + Wait + Sync, S: Source, G: Gate + Sync>(
+    rt: &W,
+    alloc: Global,
+    asked: Option<Command>,
+    src: &mut S,
+    gate: &G,
 ) -> Result<Answer, Failure>
     requires { MayAsk asked }
     ensures answers { IfOk result (λ a. IsAnswer asked (S.left src.old) (value_of a)) }
@@ -88,16 +171,14 @@ pub fn answered<S: Source, W: Threads + Wait + Sync, G: Gate + Sync>(
     ensures outside { IfOk result (λ a. asked ≡ None → a.reply.status ≡ 2) }
     ensures status { IfOk result (λ a. a.reply.status ≤ 4) }
     ensures end { reads_source asked ≡ true → IfOk result (λ a. a.reply.status ≤ 1 → IsAtEnd (S.left src.new)) }
-    ensures refused { IfOk result (λ a. a.reply.status ≡ 3 → IsAtEnd (S.left src.new)) }
+    ensures refused { reads_source asked ≡ true →
+        IfOk result (λ a. a.reply.status ≡ 3 → IsAtEnd (S.left src.new)) }
     ensures untouched { reads_source asked ≡ false → src.new ≡ src.old }
-    ensures fault { IsErrOf result Failure.Read → Rose (S.faults src.old) (S.faults src.new) }
     ensures inside { IsErrOf result Failure.Read → asked ≢ None }
+    ensures fault { IsErrOf result Failure.Read → Rose (S.faults src.old) (S.faults src.new) }
     ensures quiet { (IsErrOf result Failure.Read → ⊥) → S.faults src.new ≡ S.faults src.old }
 {
     answers_keep();
     answer_statuses();
-    match judged(alloc, asked, src, pool) {
-        Ok(answer) => Ok(answer),
-        Err(stop) => Ok(Answer::replied(alloc, rendered(alloc, &stop)?)),
-    }
+    made(rt, alloc, asked, src, gate)
 }

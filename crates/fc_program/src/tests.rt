@@ -3,7 +3,6 @@
 use crate::top::{calm, fc};
 use export_table::OpenGate;
 use fc_io::{CalmSink, CalmSource};
-use session::Pool;
 use std::alloc::{AllocError, Global};
 use std::process::Abort;
 use std::sync::Wait;
@@ -74,8 +73,7 @@ fn calm_usage(rt: HostRuntime) -> Result<(), Fail> {
     let alloc = rt.alloc();
     let words = Vec::new(alloc);
     let mut sink = CalmSink::new(alloc, 100)?;
-    let pool = Pool::new(&rt, &OpenGate, 1);
-    let outcome = calm(alloc, &words, Vec::new(alloc), &mut sink, &pool);
+    let outcome = calm(&rt, alloc, &words, Vec::new(alloc), &mut sink, &OpenGate);
     assert_eq!(rt; outcome.status, 2);
     Ok(())
 }

@@ -8,9 +8,7 @@ ghost use Rattle.fc_program.specs.Top.{Ends, IsExact, sink_at, source_at};
 use crate::ending::{Outcome, ended, without_book};
 use command_words::{command, words_ask_for_commands};
 use export_table::Gate;
-use fc_answers::workers_of;
 use fc_io::{CalmSink, CalmSource, Sink, Source};
-use session::Pool;
 use std::alloc::Global;
 use std::sync::Wait;
 use std::thread::Threads;
@@ -35,10 +33,7 @@ pub fn fc<W: Threads + Wait + Sync, S: Source, K: Sink, G: Gate + Sync>(
 {
     words_ask_for_commands();
     match command(alloc, words) {
-        Ok(asked) => {
-            let pool = Pool::new(rt, gate, workers_of(asked));
-            ended(alloc, asked, src, out, &pool)
-        }
+        Ok(asked) => ended(rt, alloc, asked, src, out, gate),
         Err(_) => without_book(alloc, 7),
     }
 }
@@ -46,11 +41,12 @@ pub fn fc<W: Threads + Wait + Sync, S: Source, K: Sink, G: Gate + Sync>(
 /// What the words ask for, over a source and a sink that stay calm, with more room than the text has bytes: the status
 /// is never 5 or 6, and where memory suffices what is defined is done.
 pub fn calm<W: Threads + Wait + Sync, G: Gate + Sync>(
+    rt: &W,
     alloc: Global,
     words: &[String],
     input: Vec<u8>,
     out: &mut CalmSink,
-    pool: &Pool<W, G>,
+    gate: &G,
 ) -> Outcome
     requires fresh { out.old.faults ≡ 0 }
     requires empty { out.old.taken ≡ [] }
@@ -67,7 +63,7 @@ pub fn calm<W: Threads + Wait + Sync, G: Gate + Sync>(
     let Ok(asked) = command(alloc, words) else {
         return without_book(alloc, 7);
     };
-    let outcome = ended(alloc, asked, &mut source, out, pool);
+    let outcome = ended(rt, alloc, asked, &mut source, out, gate);
     // Its clause `calm`: with room left no write has failed.
     let _taken = out.taken();
     outcome

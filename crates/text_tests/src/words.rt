@@ -1,6 +1,9 @@
 //! Lines of words with the commands that they ask for, with ample memory.
 
-use command_words::{Command, Limit, Start, command, passed_limit};
+use command_words::{
+    CheckOptions, Command, GenOptions, Limit, MailOptions, Quiet, ReplayOptions, RunOptions, Start,
+    Threaded, Work, command, passed_limit,
+};
 use std::alloc::Global;
 use std::test::Fail;
 
@@ -84,93 +87,76 @@ fn words_outside(rt: HostRuntime) -> Result<(), Fail> {
     Ok(())
 }
 
+// `check` with these options.
+fn check(facts: bool, settle: Option<Start>) -> Command {
+    Command::Quiet(Quiet::Check(CheckOptions { facts, settle }))
+}
+
+// `replay` with these options.
+fn replay(rounds: bool, table: bool) -> Command {
+    Command::Quiet(Quiet::Replay(ReplayOptions { rounds, table }))
+}
+
+// `mail` with this number.
+fn mail(number: Option<u32>) -> Command {
+    Command::Quiet(Quiet::Mail(MailOptions { number }))
+}
+
+// `run` by so many workers, with these options.
+fn run(workers: u32, log: bool, table: bool) -> Command {
+    Command::Threaded(Threaded {
+        workers,
+        work: Work::Run(RunOptions { log, table }),
+    })
+}
+
+// `gen` of a number on so many devices, by so many workers.
+fn scenario(number: u32, devices: u32, workers: u32) -> Command {
+    Command::Threaded(Threaded {
+        workers,
+        work: Work::Gen(GenOptions { number, devices }),
+    })
+}
+
 #[test]
 fn words_inside(rt: HostRuntime) -> Result<(), Fail> {
     let rows = [
-        (
-            "fc check",
-            Command::Check {
-                facts: false,
-                settle: None,
-            },
-        ),
-        (
-            "fc check --facts",
-            Command::Check {
-                facts: true,
-                settle: None,
-            },
-        ),
-        (
-            "fc check --settle",
-            Command::Check {
-                facts: false,
-                settle: Some(Start::Any),
-            },
-        ),
-        (
-            "fc check --settle --facts",
-            Command::Check {
-                facts: true,
-                settle: Some(Start::Any),
-            },
-        ),
+        ("fc check", check(false, None)),
+        ("fc check --facts", check(true, None)),
+        ("fc check --settle", check(false, Some(Start::Any))),
+        ("fc check --settle --facts", check(true, Some(Start::Any))),
         (
             "fc check --settle --from-table",
-            Command::Check {
-                facts: false,
-                settle: Some(Start::Table),
-            },
+            check(false, Some(Start::Table)),
         ),
         (
             "fc check --from-table --settle",
-            Command::Check {
-                facts: false,
-                settle: Some(Start::Table),
-            },
+            check(false, Some(Start::Table)),
         ),
         (
             "fc check --from-table --facts --settle",
-            Command::Check {
-                facts: true,
-                settle: Some(Start::Table),
-            },
+            check(true, Some(Start::Table)),
         ),
-        ("fc stable", Command::Stable),
+        ("fc stable", Command::Quiet(Quiet::Stable)),
+        ("fc run", run(4, false, false)),
         (
             "fc run --table --workers=0000016 --log",
-            Command::Run {
-                workers: 16,
-                log: true,
-                table: true,
-            },
+            run(16, true, true),
         ),
+        ("fc run --log --workers 2", run(2, true, false)),
+        ("fc replay --table --rounds", replay(true, true)),
+        ("fc replay --rounds", replay(true, false)),
+        ("fc format", Command::Quiet(Quiet::Format)),
+        ("fc gen --devices 5 7", scenario(7, 5, 4)),
         (
-            "fc replay --table --rounds",
-            Command::Replay {
-                rounds: true,
-                table: true,
-            },
+            "fc gen --workers=2 0000007 --devices=0000005",
+            scenario(7, 5, 2),
         ),
-        (
-            "fc replay --rounds",
-            Command::Replay {
-                rounds: true,
-                table: false,
-            },
-        ),
-        ("fc format", Command::Format),
-        (
-            "fc gen --devices 5 7",
-            Command::Gen {
-                number: 7,
-                devices: 5,
-                workers: 4,
-            },
-        ),
-        ("fc trace", Command::Trace),
-        ("fc mail", Command::Mail { number: None }),
-        ("fc mail --number=7", Command::Mail { number: Some(7) }),
+        ("fc gen 7", scenario(7, 64, 4)),
+        ("fc trace", Command::Quiet(Quiet::Trace)),
+        ("fc mail", mail(None)),
+        ("fc mail --number=7", mail(Some(7))),
+        ("fc mail --number 0000007", mail(Some(7))),
     ];
     for (line, command) in rows {
         assert_eq!(rt; asked(rt.alloc(), line)?, Some(command), "{line}");
@@ -194,8 +180,8 @@ fn limits(rt: HostRuntime) -> Result<(), Fail> {
         ),
     ];
     for (line, passed) in rows {
-        let Some(command) = asked(rt.alloc(), line)? else {
-            return Err(Fail::new("a line is outside"));
+        let Some(Command::Threaded(command)) = asked(rt.alloc(), line)? else {
+            return Err(Fail::new("a line asks for no threads"));
         };
         assert_eq!(rt; passed_limit(command), passed, "{line}");
     }
