@@ -1,7 +1,9 @@
 -- What the source has left, and what is answered to it, as the definitions say it.
 use Rattle.std.proofs.Common.{ℕ, ◌≡◌, ◌+◌, ◌<◌, ◌≤◌, ◌++◌, Bool, true, false, if◌then◌else◌, List, [], length}
 use Rattle.std.proofs.Common.{length-append, refl, ap, ◌∙◌, sym, subst, arith, Option, Some, None, option_map}
-use Rattle.std.specs.Prelude.{IfSome, nat_lt}
+use Rattle.std.specs.Prelude.{IfOk, IfSome, nat_lt}
+use Rattle.std.specs.declared.result.Result.{Result}
+use Rattle.std.specs.declared.result.Result.TheVariants.{Ok, Err}
 use Rattle.std.specs.Option.{option_or}
 use Rattle.std.specs.Io.KnownBytes.{Consumes}
 use Rattle.std.proofs.lemmas.Bool.Decides.{nat_tests}
@@ -11,6 +13,7 @@ use Rattle.command_words.specs.declared.commands.GenOptions.{GenOptions}
 use Rattle.command_words.specs.declared.commands.Limit.{Limit}
 use Rattle.command_words.specs.declared.commands.Limit.TheVariants.{Workers}
 use Rattle.command_words.specs.declared.commands.Threaded.{Threaded}
+use Rattle.command_words.specs.declared.commands.Work.{Work}
 use Rattle.command_words.specs.declared.commands.Work.TheVariants.{Gen}
 use Rattle.command_words.specs.Commands.{limit_of, work_limit, workers_limit}
 use Rattle.fc_inputs.specs.declared.refusal.Refusal.{Refusal}
@@ -23,6 +26,11 @@ use Rattle.fc_answers.specs.Answers.{AnswerValue, Answered, Answers, AnswersWith
 use Rattle.fc_answers.specs.Headline.{AnswersKeep}
 use Rattle.fc_answers.specs.Laws.{AnswerStatuses}
 use Rattle.fc_program.specs.Top.{IsAnswer, IsExact, OfSource, within_bytes}
+
+-- what follows from what holds of a result
+pub on_ok : {A B : Type 0} {P Q : A → Type 0} (r : Result A B) → ((a : A) → P a → Q a) → IfOk r P → IfOk r Q
+on_ok (Ok a) f h = f a h
+on_ok (Err e) f h = tt
 
 -- ---- the input
 pub whole_input : (left : Option (List ℕ)) (bytes : List ℕ) → IfSome left (λ l. bytes ≡ l) → length bytes ≤ MOST_BYTES
@@ -74,6 +82,12 @@ long_is input e = go (nat_lt MOST_BYTES (length input)) e
     go true h = refl
     go false h = absurd cc
 
+-- nothing was read
+pub none_given : {V : Type 0} (o : Option V) (items : V → List ℕ) (left : Option (List ℕ)) → o ≡ None
+    → OfSource (λ input. option_map items o ≡ within_bytes input) left
+    → OfSource (λ input. None ≡ within_bytes input) left
+none_given o items left e h = subst (λ p. OfSource (λ input. option_map items p ≡ within_bytes input) left) e h
+
 -- the refusal of an input that is longer than the limit
 pub of_long : (Judges : List (List ℕ) → Judged AnswerValue → Type 0) (left : Option (List ℕ)) (answer : AnswerValue)
     → OfSource (λ input. None ≡ within_bytes input) left → answer ≡ answer_of (Refused (Plainly refusal.Bytes))
@@ -108,10 +122,11 @@ for_usage asked left a e is =
     (record { judged = Refused (Plainly refusal.Usage); makes = refl; is = is }))
 
 -- `gen` takes no input
-pub for_gen : (options : GenOptions) (left : Option (List ℕ)) (a : AnswerValue) → Works (Gen options) [] a
-    → OfSource (λ input. Works (Gen options) input a) left
-for_gen options left a h =
-    unread (λ input. Works (Gen options) input a) left (record { judged = h.judged; makes = h.makes; is = h.is })
+pub for_gen : (work : Work) (options : GenOptions) (left : Option (List ℕ)) (a : AnswerValue) → work ≡ Gen options
+    → Works (Gen options) [] a → OfSource (λ input. Works work input a) left
+for_gen work options left a e h =
+    subst (λ w. OfSource (λ input. Works w input a) left) (sym e)
+    (unread (λ input. Works (Gen options) input a) left (record { judged = h.judged; makes = h.makes; is = h.is }))
 
 -- ---- limits
 abbrev past : Option (Limit × ℕ) → Option Refusal
