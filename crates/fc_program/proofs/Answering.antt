@@ -1,31 +1,28 @@
 -- What the source has left, and what is answered to it, as the definitions say it.
 use Rattle.std.proofs.Common.{ℕ, ◌≡◌, ◌+◌, ◌<◌, ◌≤◌, ◌++◌, Bool, true, false, if◌then◌else◌, List, [], length}
-use Rattle.std.proofs.Common.{length-append, refl, ap, ◌∙◌, sym, subst, arith, Option, Some, None, option_map}
+use Rattle.std.proofs.Common.{length-append, refl, ap, sym, subst, arith, Option, Some, None, option_map}
 use Rattle.std.specs.Prelude.{IfOk, IfSome, nat_lt}
 use Rattle.std.specs.declared.result.Result.{Result}
 use Rattle.std.specs.declared.result.Result.TheVariants.{Ok, Err}
-use Rattle.std.specs.Option.{option_or}
 use Rattle.std.specs.Io.KnownBytes.{Consumes}
 use Rattle.std.proofs.lemmas.Bool.Decides.{nat_tests}
 use Rattle.command_words.specs.declared.commands.Command.{Command}
 use Rattle.command_words.specs.declared.commands.Command.TheVariants as command
 use Rattle.command_words.specs.declared.commands.GenOptions.{GenOptions}
 use Rattle.command_words.specs.declared.commands.Limit.{Limit}
-use Rattle.command_words.specs.declared.commands.Limit.TheVariants.{Workers}
 use Rattle.command_words.specs.declared.commands.Threaded.{Threaded}
 use Rattle.command_words.specs.declared.commands.Work.{Work}
 use Rattle.command_words.specs.declared.commands.Work.TheVariants.{Gen}
-use Rattle.command_words.specs.Commands.{limit_of, work_limit, workers_limit}
+use Rattle.command_words.specs.Commands.{limit_of}
 use Rattle.fc_inputs.specs.declared.refusal.Refusal.{Refusal}
 use Rattle.fc_inputs.specs.declared.refusal.Refusal.TheVariants as refusal
-use Rattle.fc_values.specs.declared.limits.TheConstants.{MOST_BYTES, MOST_WORKERS}
+use Rattle.fc_values.specs.declared.limits.TheConstants.{MOST_BYTES}
 use Rattle.fc_inputs.specs.Causes.{Plainly, Judged, Refused}
 use Rattle.fc_program.specs.declared.ending.Outcome.{Outcome}
 use Rattle.fc_answers.specs.Asked.{limit_refusal}
 use Rattle.fc_answers.specs.Answers.{AnswerValue, Answered, Answers, AnswersWithin, OfInput, OfLength, Works, answer_of}
-use Rattle.fc_answers.specs.Headline.{AnswersKeep}
 use Rattle.fc_answers.specs.Laws.{AnswerStatuses}
-use Rattle.fc_program.specs.Top.{IsAnswer, IsExact, OfSource, within_bytes}
+use Rattle.fc_program.specs.Top.{IsExact, OfSource, within_bytes}
 
 -- what follows from what holds of a result
 pub on_ok : {A B : Type 0} {P Q : A → Type 0} (r : Result A B) → ((a : A) → P a → Q a) → IfOk r P → IfOk r Q
@@ -33,16 +30,6 @@ on_ok (Ok a) f h = f a h
 on_ok (Err e) f h = tt
 
 -- ---- the input
-pub whole_input : (left : Option (List ℕ)) (bytes : List ℕ) → IfSome left (λ l. bytes ≡ l) → length bytes ≤ MOST_BYTES
-    → OfSource (λ input. Some bytes ≡ within_bytes input) left
-whole_input left bytes there short =
-    let few : nat_lt MOST_BYTES (length bytes) ≡ false = grind (arith, nat_tests) in
-    record {
-      input = bytes;
-      there = there;
-      holds = sym (ap (λ b. if b then None else Some bytes) few);
-    }
-
 too_many : (input : List ℕ) → MOST_BYTES < length input → None ≡ within_bytes input
 too_many input long =
     let many : nat_lt MOST_BYTES (length input) ≡ true = grind (arith, nat_tests) in
@@ -58,22 +45,6 @@ long_input None after bytes c h =
 long_input (Some xs) None bytes c h = absurd c
 long_input (Some xs) (Some rest) bytes c h =
     record { input = xs; there = refl; holds = too_many xs (longer xs bytes rest c h) }
-
-given_is : (bytes input : List ℕ) → Some bytes ≡ within_bytes input → bytes ≡ input
-given_is bytes input e = go (nat_lt MOST_BYTES (length input)) e
-  where
-    go : (b : Bool) → Some bytes ≡ (if b then None else Some input) → bytes ≡ input
-    go true h = absurd cc
-    go false h = cc
-
--- what holds of the bytes that were read holds of the input
-pub of_given : (Holds : List ℕ → Type 0) (left : Option (List ℕ)) (bytes given : List ℕ)
-    → OfSource (λ input. Some bytes ≡ within_bytes input) left → given ≡ bytes → Holds given → OfSource Holds left
-of_given Holds left bytes given h same holds = record {
-  input = h.input;
-  there = h.there;
-  holds = subst Holds (same ∙ given_is bytes h.input h.holds) holds;
-}
 
 long_is : (input : List ℕ) → None ≡ within_bytes input → nat_lt MOST_BYTES (length input) ≡ true
 long_is input e = go (nat_lt MOST_BYTES (length input)) e
@@ -149,23 +120,6 @@ pub none_past : (o : Option (Limit × ℕ)) → None ≡ past o → o ≡ None
 none_past None h = refl
 none_past (Some l) h = absurd cc
 
--- no number passes its limit
-pub few_workers : (t : Threaded) → limit_of t ≡ None → t.workers ≤ MOST_WORKERS
-few_workers t h = go (nat_lt MOST_WORKERS t.workers) refl h
-  where
-    go : (b : Bool) → nat_lt MOST_WORKERS t.workers ≡ b
-        → option_or {T = Limit × ℕ} (if b then Some (Workers, t.workers) else None) (work_limit t.work) ≡ None
-        → t.workers ≤ MOST_WORKERS
-    go true e h = absurd cc
-    go false e h = grind (arith, nat_tests)
-
-pub few_devices : (t : Threaded) → limit_of t ≡ None → work_limit t.work ≡ None
-few_devices t h = go (workers_limit t.workers) h
-  where
-    go : (o : Option (Limit × ℕ)) → option_or o (work_limit t.work) ≡ None → work_limit t.work ≡ None
-    go None e = e
-    go (Some l) e = absurd cc
-
 -- what is worked within the limits is answered
 pub for_work : (t : Threaded) (left : Option (List ℕ)) (a : AnswerValue) → limit_of t ≡ None
     → OfSource (λ input. Works t.work input a) left
@@ -181,11 +135,6 @@ for_work t left a none h = record {
 }
 
 -- ---- answers
-pub kept_answer : AnswersKeep → (asked : Option Command) (left : Option (List ℕ)) (a : AnswerValue)
-    → OfSource (λ input. Answers asked input a) left → IsAnswer asked left a
-kept_answer keep asked left a h =
-    record { input = h.input; there = h.there; answers = h.holds; kept = keep asked h.input a h.holds }
-
 -- what was written is an answer to what is asked for by another name
 pub exact_named : (asked named : Option Command) (left left' old old' new : Option (List ℕ)) (o : Outcome)
     → asked ≡ named → left ≡ left' → old ≡ old' → IsExact asked left old new o → IsExact named left' old' new o
