@@ -1,6 +1,7 @@
 pub mod Places
 pub mod Kids
 pub mod Standing
+pub mod Parts
 pub mod Fresh
 mod Counted
 pub mod Kept
