@@ -1,15 +1,15 @@
 -- What a count of faults says of the answers of a source or a sink.
 use Rattle.std.specs.Prelude.{ℕ, ◌≡◌, ◌+◌, ◌-◌, ◌^◌, ◌≤◌, min, Result, OnOk, OnErr}
 
--- one more on a counter of 64 bits, which stays at its last value
+-- a counter of 64 bits after one more count; it stays at its greatest value
 abbrev pub counted : ℕ → ℕ
 counted n = min (n + 1) (2 ^ 64 - 1)
 
--- the count has risen, or stands at the last value of its counter
+-- the count has risen, or stands at the greatest value of its counter
 abbrev pub Rose : ℕ → ℕ → Type 0
 Rose before now = counted before ≤ now
 
--- what a call says by its answer of the count before it and after it
+-- what the answer of a call says about the count before it and after it
 pub record HasCause {T E : Type 0} (before now : ℕ) (result : Result T E) : Type 0 where
   -- the count never falls
   pub later : before ≤ now

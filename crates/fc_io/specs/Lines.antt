@@ -17,6 +17,6 @@ abbrev pub line_size : List ℕ → ℕ
 line_size [] = 0
 line_size (b ∷ bs) = cond (b == 10) 1 (line_size bs + 1)
 
--- whether a line has no bytes beside its end
+-- whether a line has no bytes apart from its end
 abbrev pub is_empty : List ℕ → Bool
 is_empty line = length (line_text line) == 0

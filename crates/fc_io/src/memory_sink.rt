@@ -11,7 +11,7 @@ use fc_values::Memory;
 use std::alloc::Global;
 use std::marker::Model;
 
-/// A sink into memory, with a most of bytes that a call takes, and with calls that fail.
+/// A sink into memory, with a limit on the bytes that one call takes, and with chosen calls that fail.
 #[derive(Drop)]
 pub struct MemSink {
     taken: Vec<u8>,
@@ -41,8 +41,7 @@ impl Model for MemSink {
 }
 
 impl MemSink {
-    /// Takes the memory for all of its `room`. `most` is how many bytes a call takes at most; the calls of the
-    /// numbers in `fails`, from 1, fail.
+    /// Allocates all of its `room`. A call takes at most `most` bytes; the calls numbered in `fails`, from 1, fail.
     pub fn new(alloc: Global, room: usize, most: usize, fails: Vec<u64>) -> Result<Self, Memory>
         requires most { 0 < most }
         ensures fresh { IfOk result (λ s. s
@@ -130,7 +129,7 @@ impl Model for CalmSink {
 }
 
 impl CalmSink {
-    /// Takes the memory for all of its `room`.
+    /// Allocates all of its `room`.
     pub fn new(alloc: Global, room: usize) -> Result<Self, Memory>
         ensures fresh { IfOk result (λ s. s ≡ record { taken = []; room = room; faults = 0 }) }
     {

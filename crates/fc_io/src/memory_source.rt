@@ -21,7 +21,7 @@ fn give(bytes: &[u8], start: usize, most: usize, buf: &mut [u8]) -> usize
     count
 }
 
-/// A source over bytes, with a most of bytes that a call gives, and with calls that fail.
+/// A source over bytes, with a limit on the bytes that one call gives, and with chosen calls that fail.
 #[derive(Drop)]
 pub struct MemSource {
     bytes: Vec<u8>,
@@ -50,7 +50,7 @@ impl Model for MemSource {
 }
 
 impl MemSource {
-    /// `most` is how many bytes a call gives at most; the calls of the numbers in `fails`, from 1, fail.
+    /// A call gives at most `most` bytes; the calls numbered in `fails`, from 1, fail.
     pub fn new(bytes: Vec<u8>, most: usize, fails: Vec<u64>) -> Self
         requires most { 0 < most }
         ensures fresh { result

@@ -5,7 +5,7 @@ ghost use Rattle.std.specs.Io.{ReadsAtMost, WritesAtMost};
 ghost use Rattle.std.specs.Io.KnownBytes.{ReadConsumes, WriteAppends};
 ghost use Rattle.fc_io.specs.Causes.{HasCause, counted};
 
-/// The thing underneath failed.
+/// The underlying read or write failed.
 #[derive(Clone, Copy, Debug, PartialEq, Eq)]
 pub struct Failed;
 
@@ -26,7 +26,7 @@ pub trait Source {
     /// How often the source has failed.
     ghost faults: { Self → ℕ };
 
-    /// Puts the first bytes that are left at the front of `buf`, which are left no more, and answers how many.
+    /// Moves the first bytes that are left to the front of `buf`, and answers how many.
     /// For a `buf` that isn't empty, 0 is the end of input.
     fn read(&mut self, buf: &mut [u8]) -> Result<usize, Failed>
         // No more than `buf` holds.

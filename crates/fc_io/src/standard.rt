@@ -1,4 +1,4 @@
-//! Standard input and standard output. What they give and take no contract can tell.
+//! Standard input and standard output. No contract can tell what they give and take.
 ghost use Rattle.std.specs.Prelude.{None, ◌≡◌, length, ◌<◌, IfOk, OnErr};
 ghost use Rattle.std.specs.Io.{ReadsAtMost, WritesAtMost};
 ghost use Rattle.std.specs.Io.KnownBytes.{ReadConsumes, WriteAppends};

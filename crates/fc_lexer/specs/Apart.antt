@@ -1,4 +1,4 @@
--- Pieces that stand side by side without growing together.
+-- Pieces that stand side by side without merging.
 use Rattle.std.specs.Prelude.{ℕ, suc, ◌≡◌, ◌==◌, true, false, List, [], ◌∷◌, ◌++◌, length, map, Option, Some, None}
 use Rattle.fc_lexer.specs.declared.bytes.Class.{Class}
 use Rattle.fc_lexer.specs.declared.bytes.Class.TheVariants.{Space, Digit, Letter, Slash, Dot, Equals, Single, Other}
@@ -7,7 +7,7 @@ use Rattle.fc_lexer.specs.Bytes.{is_space, is_in_line, is_rest, begins}
 use Rattle.fc_lexer.specs.Kinds.{TokenKind, TokenView, token_kind}
 use Rattle.fc_lexer.specs.Lexes.{Lexes}
 
--- what follows doesn't go on with a piece of this class, of which these bytes follow the first
+-- what follows doesn't continue a piece of this class that has these bytes after its first
 abbrev pub Breaks : Class → List ℕ → List ℕ → Type 0
 Breaks class bs [] = Unit {0}
 Breaks Space bs (c ∷ rest) = is_space c ≡ false
@@ -46,7 +46,7 @@ kinds_of (p ∷ ps) = kind_as (token_kind (p.first ∷ p.others)) ++ kinds_of ps
 abbrev pub view_kind : TokenView → TokenKind
 view_kind t = t.kind
 
--- each is a piece, and what follows it doesn't go on with it
+-- each is a piece, and what follows doesn't continue it
 abbrev pub StandApart : List Piece → Type 0
 StandApart [] = Unit {0}
 StandApart (p ∷ ps) =

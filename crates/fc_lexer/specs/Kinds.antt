@@ -49,11 +49,11 @@ written (d ∷ ds) = (d - 48) * 10 ^ length ds + written ds
 abbrev pub number_of : List ℕ → ℕ
 number_of ds = min (written ds) CUT
 
--- letters that are spelled as a word are this word, and else a name
+-- letters that spell a reserved word are this word, and any others a name
 abbrev pub word_or_name_of : List ℕ → TokenKind
 word_or_name_of bs = option_map_or WordOf (word_of bs) (NameOf bs)
 
--- what a piece is whose first byte begins this, where it is a token
+-- the token that a piece is, if it is one, by what its first byte begins
 abbrev pub token_kind_as : Class → List ℕ → List ℕ → Option TokenKind
 token_kind_as Space bs rest = None
 token_kind_as Digit bs rest = Some (NumberOf (number_of bs))

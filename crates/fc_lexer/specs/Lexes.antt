@@ -7,7 +7,7 @@ use Rattle.fc_lexer.specs.declared.tokens.LexFault.TheVariants as fault
 use Rattle.fc_lexer.specs.Bytes.{is_line_feed, is_piece}
 use Rattle.fc_lexer.specs.Kinds.{TokenKind, TokenView, token_kind}
 
--- the first n bytes are a piece, and no more of them are: the longest piece that begins here
+-- the first n bytes are a piece, and no longer prefix is one: the longest piece that begins here
 pub record IsLongest (bytes : List ℕ) (n : ℕ) : Type 0 where
   pub within : n ≤ length bytes
   pub piece : is_piece (take n bytes) ≡ true

@@ -22,7 +22,7 @@ pub fn reads_back()
     ensures { ReadsBack }
 {}
 
-/// Names are the tokens that are read as names, and no others.
+/// A piece is read as a name exactly where it is one.
 pub fn names_are_read()
     ensures read { NamesAreTokens }
     ensures only { TokensAreNames }

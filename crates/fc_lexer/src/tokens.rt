@@ -43,7 +43,7 @@ pub struct Token {
     pub line: u32,
 }
 
-/// Nothing begins at this byte, or there was no memory.
+/// No token, space or comment begins at this byte, or there was no memory.
 #[derive(Clone, Copy, Debug, PartialEq, Eq)]
 pub enum LexFault {
     At(usize),

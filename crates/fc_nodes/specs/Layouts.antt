@@ -41,7 +41,7 @@ pub record IsLayout (ns : List Node) (l : LayoutValue) : Type 0 where
   pub each : (p : ℕ) → number_in l p ≡ number_at ns p
   pub forms : forms_of l.blanks ≡ kept_types (term_at ns 0)
 
--- the number of the slot of one more node, if it keeps something, after the slots of these values
+-- the slot number of a further node, if it keeps something, after the slots of these values
 abbrev pub next_number : List Local → Node → Option ℕ
 next_number blanks n = option_map (λ (t : LocalType). length blanks) (node_keeps n)
 

@@ -22,11 +22,11 @@ unfoldable pub uses_before : List Node → ℕ → ℕ → List ℕ
 uses_before ns x zero = []
 uses_before ns x (suc k) = uses_before ns x k ++ place_if (is_use ns x k) k
 
--- of each binder, by its place, the places of its variable
+-- for each binder, by its place, the places of its variable
 abbrev pub AreUses : List Node → List (List ℕ) → Type 0
 AreUses ns uses = (x : ℕ) → get_or uses x [] ≡ uses_before ns x (length ns)
 
--- of each place from one on, the first place behind the term there
+-- for each place from a given one on, the first place after the term there
 pub record AreEndsFrom (ns : List Node) (from : ℕ) (ends : List ℕ) : Type 0 where
   pub many : length ends ≡ length ns
   pub each : (p : ℕ) → from ≤ p → p < length ns → get_or ends p 0 ≡ p + size (term_at ns p)
@@ -34,7 +34,7 @@ pub record AreEndsFrom (ns : List Node) (from : ℕ) (ends : List ℕ) : Type 0 
 abbrev pub AreEnds : List Node → List ℕ → Type 0
 AreEnds ns ends = AreEndsFrom ns 0 ends
 
--- ---- as they are found
+-- ---- while they are being collected
 
 abbrev pub lists_of : List (Vec ℕ Global) → List (List ℕ)
 lists_of vs = map (λ v. v.items) vs
@@ -49,7 +49,7 @@ abbrev pub noted_sort : List (List ℕ) → Sort → ℕ → List (List ℕ)
 noted_sort uss (OfLeaf (Variable x)) p = noted uss x p
 noted_sort uss _ p = uss
 
--- the places before k, of the binders for which there are lists
+-- for each binder, the places of its variable before k
 pub record AreUsesBefore (ns : List Node) (k : ℕ) (uses : List (List ℕ)) : Type 0 where
   pub many : length uses ≡ length ns
   pub each : (x : ℕ) → x < length ns → get_or uses x [] ≡ uses_before ns x k

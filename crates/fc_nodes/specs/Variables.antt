@@ -1,4 +1,4 @@
--- Where the variable of a binder occurs, and what a `rep` or `share` hears of its own.
+-- Where the variable of a binder occurs, and which terms read the neighbours' values of it.
 use Rattle.std.specs.Prelude.{ℕ, Bool, false, ◌||◌, nat_eq}
 use Rattle.fc_nodes.specs.Terms.{Leaf, Variable, Evolution, ByRep, ByShare, Term, Terms, Plain, Apply, Nbr, Evolve, If, Let, NoMore, More}
 
@@ -26,7 +26,7 @@ abbrev pub is_own : ℕ → Term → Bool
 is_own x (Plain t l) = is_variable x l
 is_own x _ = false
 
--- whether a term is what is heard of the variable: in a `rep` its `nbr`, in a `share` the variable itself
+-- whether a term is the field of neighbours' values of the variable: in a `rep` its `nbr`, in a `share` the variable
 abbrev pub is_heard : Evolution → ℕ → Term → Bool
 is_heard ByRep x (Nbr t a) = is_own x a
 is_heard ByShare x (Plain t l) = is_variable x l

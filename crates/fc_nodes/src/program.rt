@@ -7,8 +7,8 @@ use fc_values::{Declared, Memory};
 use std::alloc::Global;
 use std::marker::Model;
 
-/// A program whose calls are unfolded: its declarations, its nodes in preorder, and their layout; of each place the
-/// first one behind the term there, and of each binder the places of its variable.
+/// A program whose calls are unfolded: its declarations, its nodes in preorder, and their layout; for each place, the
+/// first place after the term there, and for each binder, the places of its variable.
 #[derive(Drop)]
 pub struct Unfolded {
     declared: Declared,
@@ -97,8 +97,8 @@ impl Unfolded {
         &self.nodes[place as usize]
     }
 
-    /// Whether the variable of a binder occurs in the term at a place. It walks over nothing: the uses of the binder
-    /// before the term and before its end are counted by halves.
+    /// Whether the variable of a binder occurs in the term at a place. Two binary searches tell: one counts the uses of
+    /// the binder before the term, one those before its end.
     pub fn occurs(&self, binder: u32, place: u32) -> bool
         requires { StandsAt self.now.nodes place }
         ensures { result ≡ occurs_in_term binder (term_at self.now.nodes place) }

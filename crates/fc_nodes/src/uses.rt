@@ -20,7 +20,7 @@ pub(crate) fn before(places: &[u32], place: u32) -> usize
     places.partition_point(|n| *n < place)
 }
 
-/// Of each place of a program, the first place behind the term there.
+/// For each place of a program, the first place after the term there.
 pub(crate) fn ends_of(alloc: Global, nodes: &[Node]) -> Result<Vec<u32>, Memory>
     requires formed { WellFormed nodes.now }
     requires short { length nodes.now ≤ MOST_NODES }
@@ -35,7 +35,7 @@ pub(crate) fn ends_of(alloc: Global, nodes: &[Node]) -> Result<Vec<u32>, Memory>
     Ok(ends)
 }
 
-// The first place behind the term at a place, by those of later terms.
+// The first place after the term at a place, from the ends of later terms.
 fn end_of(nodes: &[Node], place: u32, ends: &[u32]) -> u32
     requires formed { WellFormed nodes.now }
     requires short { length nodes.now ≤ MOST_NODES }
@@ -49,7 +49,7 @@ fn end_of(nodes: &[Node], place: u32, ends: &[u32]) -> u32
     }
 }
 
-/// Of each binder of a program, by its place, the places of its variable, rising.
+/// For each binder of a program, by its place, the places of its variable, rising.
 pub(crate) fn uses_of(alloc: Global, nodes: &[Node]) -> Result<Vec<Vec<u32>>, Memory>
     requires { length nodes.now ≤ MOST_NODES }
     ensures { IfOk result (λ uses. AreUsesBefore nodes.now (length nodes.now) (lists_of uses.items)) }
@@ -61,7 +61,7 @@ pub(crate) fn uses_of(alloc: Global, nodes: &[Node]) -> Result<Vec<Vec<u32>>, Me
     Ok(uses)
 }
 
-// So many empty lists.
+// `count` empty lists.
 fn no_uses(alloc: Global, count: usize) -> Result<Vec<Vec<u32>>, Memory>
     ensures { IfOk result (λ uses. lists_of uses.items ≡ replicate count []) }
 {
@@ -72,7 +72,7 @@ fn no_uses(alloc: Global, count: usize) -> Result<Vec<Vec<u32>>, Memory>
     Ok(uses)
 }
 
-// Notes at which place a node stands, where it is a variable.
+// Notes the place of a node, where it is a variable.
 fn note_node(node: &Node, place: u32, uses: &mut Vec<Vec<u32>>) -> Result<(), Memory>
     ensures { OnOk result (lists_of uses.new.items ≡ noted_sort (lists_of uses.old.items) (sort_of node.now.op) place) }
 {

@@ -12,7 +12,7 @@ use Rattle.fc_parser.specs.Heads.{number_read, finish_read}
 use Rattle.fc_parser.specs.Types.{type_read, parameters_read}
 use Rattle.fc_parser.specs.Expressions.{expression_read, mark_read, name_read}
 
--- two numbers, as record of the least and the greatest
+-- two numbers, the least and the greatest
 pub record Range : Type 0 where
   pub least : ℕ
   pub greatest : ℕ

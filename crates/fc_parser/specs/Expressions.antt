@@ -31,7 +31,7 @@ use Rattle.fc_parser.specs.declared.refused.Refused.TheVariants as refused
 abbrev pub kinds_of : List Token → List TokenKind
 kinds_of ts = kinds (tokens_of ts)
 
--- the one where something is read, and else the other
+-- the first where something is read, and the second where nothing is
 abbrev pub if_got : {A B : Type 0} → Read A → (A → List TokenKind → Read B) → Read B → Read B
 if_got (Got a rest) f g = f a rest
 if_got Not f g = g
@@ -217,7 +217,7 @@ turns n most = if n == 3 then 1 else most
 unfoldable pub level_with : ℕ → Reader Term → Reader Term
 level_with n below ts = below ts >>= λ e a. chain_with n below (turns n (length a)) e a
 
--- by how much an atom is stronger than the place asks
+-- an expression at a place that asks a strength so far below an atom's
 unfoldable pub operations_left : Reader Term → ℕ → Reader Term
 operations_left atom zero = atom
 operations_left atom (suc zero) = unary_with atom

@@ -13,7 +13,7 @@ open_after before (MarkOf mark.CloseRound) = before - 1
 open_after before (MarkOf mark.CloseCurly) = before - 1
 open_after before _ = before
 
--- the most brackets that are open at one place, where so many are open before
+-- the most brackets that are open at one place, where this many are open already
 abbrev pub deepest : ℕ → List TokenKind → ℕ
 deepest before [] = before
 deepest before (k ∷ ks) = max before (deepest (open_after before k) ks)
@@ -23,7 +23,7 @@ pub data Passed : Type 0 where
   TooMany : ℕ → ℕ → Passed
   TooDeep : ℕ → Passed
 
--- the limit that a declaration passes: tokens before brackets
+-- the limit that a declaration passes; that on tokens is judged before that on brackets
 abbrev pub passed_by : ℕ → List TokenView → Option Passed
 passed_by number piece =
     if nat_lt MOST_TOKENS (length piece) then Some (TooMany number (length piece)) else

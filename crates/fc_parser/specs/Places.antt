@@ -25,7 +25,7 @@ place_at position.AfterLanguage = AfterLanguage
 place_at (position.Within second) = Within second
 place_at (position.AfterMain second) = AfterMain second
 
--- no declaration that may stand at this place is spelled by the piece
+-- the piece spells no declaration that may stand at this place
 abbrev pub StandsNever : Place → List TokenView → Type 0
 StandsNever place piece = (d : Declaration) (after : Place) → Stands place piece d after → ⊥
 

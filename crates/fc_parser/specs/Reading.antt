@@ -15,7 +15,7 @@ Not >>= f = Not
 abbrev pub Reader : Type 0 → Type 0
 Reader A = List TokenKind → Read A
 
--- the kinds are some of which P holds, and then a rest
+-- the kinds are some that satisfy P, and then a rest
 pub record Fronts (P : List TokenKind → Type 0) (ts rest : List TokenKind) : Type 0 where
   pub front : List TokenKind
   pub cut : ts ≡ front ++ rest

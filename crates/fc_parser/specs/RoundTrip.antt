@@ -17,17 +17,17 @@ RoundTrip =
     (ds : List Declaration) → IsPrintable ds → (tokens : List TokenView) × Lexes (program_text ds) tokens
     × Derives tokens ds
 
--- whatever its tokens are said to be, they derive this program
+-- any tokens that the canonical text has derive this program
 abbrev pub EachReading : Type 0
 EachReading =
     (ds : List Declaration) (tokens : List TokenView) → IsPrintable ds → Lexes (program_text ds) tokens
     → Derives tokens ds
 
--- reading it stops at no byte
+-- reading the canonical text stops at no byte
 abbrev pub NeverStops : Type 0
 NeverStops = (ds : List Declaration) (i : ℕ) → IsPrintable ds → StopsAt (program_text ds) i → ⊥
 
--- the program that is answered for its tokens is this one
+-- the program that its tokens parse as is this one
 abbrev pub SameProgram : Type 0
 SameProgram =
     (ds others : List Declaration) (tokens : List TokenView) → IsPrintable ds → Lexes (program_text ds) tokens

@@ -37,8 +37,8 @@ pub fn expression<'a>(
     expression_within(alloc, second, tokens.len() + 1, tokens)
 }
 
-// An expression, in which fewer expressions than the budget stand within one another. What `let` binds and its body
-// stand within it.
+// An expression, in which fewer expressions than the budget are nested in one another. What `let` binds and its body
+// count as nested in it.
 #[cycle(expressions)]
 fn expression_within<'a>(
     alloc: Global,

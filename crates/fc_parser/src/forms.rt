@@ -1,4 +1,4 @@
-//! The small pieces that expressions are read by and built of.
+//! Small functions that read and build the parts of expressions.
 
 ghost use Rattle.std.specs.Prelude.{◌≡◌, IfOk, true, ◌+◌, ◌≤◌, length};
 ghost use Rattle.fc_lexer.specs.Kinds.{kind_view};
@@ -210,7 +210,7 @@ pub fn arity(builtin: Builtin) -> usize
     }
 }
 
-/// A name's copy.
+/// A copy of a name.
 pub fn copy_name(alloc: Global, name: &Name) -> Result<Name, Memory>
     ensures { IfOk result (λ copy. copy.text.items ≡ name.now.text.items) }
 {
@@ -229,7 +229,7 @@ pub fn apply_two(alloc: Global, builtin: Builtin, left: Expr, right: Expr) -> Re
     Ok(Expr::Apply(builtin, args))
 }
 
-/// An operand behind so many `not`.
+/// An operand with `many` times `not` before it.
 pub fn negate(alloc: Global, operand: Expr, many: usize) -> Result<Expr, Memory>
     ensures { IfOk result (λ e. term_of e ≡ negated many (term_of operand)) }
 {

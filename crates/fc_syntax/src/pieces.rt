@@ -1,4 +1,4 @@
-//! The stack of pieces that are left to print. So no chain of operators or of `let` needs a recursion.
+//! The stack of pieces that are left to print, so that chains of operators and of `let` need no recursion.
 
 ghost use Rattle.std.specs.Prelude.{◌≡◌, ◌+◌, ◌≤◌, ◌<◌, ◌∷◌, ◌++◌, IfOk, map};
 ghost use Rattle.fc_syntax.specs.Terms.{IfTerm, LetTerm, term_of, terms};
@@ -9,7 +9,8 @@ use crate::tree::Expr;
 use crate::words::{builtin_strength, builtin_word, strength};
 use fc_values::{Builtin, Memory, Name};
 
-/// A piece of a text: bytes, a number, an expression, an operand with what its place asks, or arguments behind others.
+/// A piece of a text: bytes, a number, an expression, an operand with the strength that its place asks, or arguments
+/// that follow others.
 #[derive(Clone, Copy)]
 pub enum Piece<'a> {
     Text(&'a [u8]),
@@ -157,7 +158,7 @@ pub fn push_operand<'a>(stack: &mut Vec<Piece<'a>>, expr: &'a Expr, asks: u32) -
     }
 }
 
-/// Puts the pieces of arguments on the stack that stand behind others.
+/// Puts the pieces of arguments that follow others on the stack.
 pub fn push_rest<'a>(stack: &mut Vec<Piece<'a>>, args: &'a [Expr]) -> Result<(), Memory>
     ensures text { IfOk result (λ _. stack_text stack.new.items
         ≡ behind_commas (map (λ w. w.text) (all_written (terms (map term_of args.now))))

@@ -19,7 +19,7 @@ pub enum Expr {
     Call(Name, Vec<Expr>),
 }
 
-// Bodies of `let`, operands of `not` and left operands are let go by the loop, since no limit on brackets bounds their
+// Bodies of `let`, operands of `not` and left operands are freed in a loop, since no limit on brackets bounds their
 // chains.
 impl Drop for Expr {
     fn drop(mut self) {

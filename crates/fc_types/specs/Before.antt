@@ -1,4 +1,4 @@
--- What the declarations before have declared.
+-- What the earlier declarations have declared.
 use Rattle.std.specs.Prelude.{ℕ, if◌then◌else◌, List, [], ◌∷◌, ◌++◌, Option, Some, None, bytes_eq}
 use Rattle.fc_values.specs.Types.{ValueType, Input, Declarations}
 use Rattle.fc_syntax.specs.Terms.{Term, Parameter, Declaration, LanguageIs, CeilingIs, InputIs, MetricIs, DefIs, MainIs}
@@ -21,7 +21,7 @@ pub record Before : Type 0 where
 abbrev pub nothing : Before
 nothing = record { ceiling = 0; inputs = []; metric = None; functions = [] }
 
--- a declaration more
+-- after one more declaration
 abbrev pub and_then : Before → Declaration → Before
 and_then B (LanguageIs n) = B
 and_then B (CeilingIs n) = record { ceiling = n; inputs = B.inputs; metric = B.metric; functions = B.functions }
@@ -81,7 +81,7 @@ Scope = List Parameter
 abbrev pub bind : List ℕ → ValueType → Scope → Scope
 bind x t scope = record { name = x; type = t } ∷ scope
 
--- the type of the nearest that has a name
+-- the type of the nearest parameter or binder with a name
 abbrev pub type_in : List ℕ → Scope → Option ValueType
 type_in x [] = None
 type_in x (p ∷ scope) = if bytes_eq x p.name then Some p.type else type_in x scope

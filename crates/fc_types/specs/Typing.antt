@@ -19,7 +19,7 @@ IsFree x scope = type_in x scope ≡ None
 abbrev pub parameter_types : Function → List ValueType
 parameter_types f = map (λ (p : Parameter). p.type) f.params
 
--- An expression has a type, under what the declarations before have declared and in a scope; and expressions in a row
+-- An expression has a type, under what the earlier declarations have declared and in a scope; and expressions in a row
 -- have types.
 mutual
   pub data HasType : Before → Scope → Term → ValueType → Type 0 where

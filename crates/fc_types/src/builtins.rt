@@ -80,7 +80,7 @@ fn each_is(args: &[Ty], ty: &LocalTy) -> bool
     }
 }
 
-// So many arguments, each of one type.
+// `count` arguments, each of one type.
 fn all_of(args: &[Ty], each: &LocalTy, count: usize, ty: LocalTy) -> Result<Ty, Refusal>
     ensures { Gives result (type_or kind.Mismatch (any_field (map type_of args.now))
         (all_type (local_type_of each.now) count (local_type_of ty) (inners (map type_of args.now)))) }
@@ -95,7 +95,7 @@ fn all_of(args: &[Ty], each: &LocalTy, count: usize, ty: LocalTy) -> Result<Ty, 
     }
 }
 
-// Two arguments of one type, which is given.
+// Two arguments of one type, which is also the result's.
 fn alike(alloc: Global, args: &[Ty]) -> Result<Ty, Refusal>
     ensures { Gives result (type_or kind.Mismatch (any_field (map type_of args.now))
         (of_alike (λ t. t) (inners (map type_of args.now)))) }
@@ -128,7 +128,7 @@ fn compared(args: &[Ty]) -> Result<Ty, Refusal>
     }
 }
 
-// A truth value and two arguments of one type, which is given.
+// A truth value and two arguments of one type, which is also the result's.
 fn chosen(alloc: Global, args: &[Ty]) -> Result<Ty, Refusal>
     ensures { Gives result (type_or kind.Mismatch (any_field (map type_of args.now))
         (of_choice (inners (map type_of args.now)))) }
@@ -197,7 +197,7 @@ fn second_part(alloc: Global, args: &[Ty]) -> Result<Ty, Refusal>
     }
 }
 
-// A field and a local value of one type, which is given.
+// A field and a local value of one type, which is also the result's.
 fn field_and_local(alloc: Global, args: &[Ty]) -> Result<Ty, Refusal>
     ensures { Gives result (type_or kind.Mismatch false (of_field_and_local (map type_of args.now))) }
 {

@@ -1,4 +1,4 @@
-//! What the declarations before have declared.
+//! What the earlier declarations have declared.
 
 ghost use Rattle.std.specs.Prelude.{◌≡◌, IfOk, None, map};
 ghost use Rattle.std.specs.Option.{option_map};
@@ -21,7 +21,7 @@ pub struct Function<'a> {
     pub body: &'a Expr,
 }
 
-/// What the declarations before have declared: inputs and functions are numbered in the order of their declarations.
+/// What the earlier declarations have declared: inputs and functions are numbered in the order of their declarations.
 #[derive(Drop)]
 pub struct Known<'a> {
     pub ceiling: u32,
@@ -58,7 +58,7 @@ impl<'a> Known<'a> {
         self.functions.get(&name).copied()
     }
 
-    /// A declaration more.
+    /// Adds a declaration.
     pub fn declare(&mut self, decl: &'a Decl) -> Result<(), Memory>
         requires { IsTypedDeclaration (known_of self.old) (declaration_of decl.now) }
         ensures { IfOk result (λ _. known_of self.new ≡ and_then (known_of self.old) (declaration_of decl.now)) }

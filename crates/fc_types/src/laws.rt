@@ -3,7 +3,7 @@
 ghost use Rattle.fc_types.specs.Laws.{OneType, OneFaultIn, TypeOrFault, NoTypeWithFault, TypedOrAtFault};
 ghost use Rattle.fc_types.specs.Laws.{NotTypedAtFault, OneFirstFault};
 
-/// An expression has a type or a first fault, and one alone of either.
+/// An expression has one type or one first fault, and not both.
 pub fn one_type()
     ensures one_type { OneType }
     ensures one_fault { OneFaultIn }

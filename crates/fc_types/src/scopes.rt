@@ -17,7 +17,7 @@ pub enum Scope<'a> {
     Bind(&'a Name, &'a Ty, &'a Scope<'a>),
 }
 
-/// The type of the nearest that has a name.
+/// The type of the nearest binder or parameter with a name.
 pub fn lookup<'a>(scope: &Scope<'a>, name: &Name) -> Option<&'a Ty>
     ensures { option_map (λ t. type_of t.now) result ≡ type_in name.now.text.items (scope_of scope.now) }
 {

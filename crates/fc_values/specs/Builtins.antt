@@ -5,7 +5,7 @@ use Rattle.fc_values.specs.declared.builtins.Builtin.TheVariants as op
 use Rattle.fc_values.specs.Values.{LocalValue, IntValue, BoolValue, PairValue, compare_values, is_less, is_equal, lesser, greater}
 use Rattle.fc_values.specs.Fields.{Entries, AnyValue, ValueLocal, ValueField, devices, value_at, rises}
 
--- a function of so many integers, truth values or values, where the arguments are such
+-- a function of integers, truth values or any values, on arguments of exactly that number and form
 abbrev pub of_two_integers : (ℕ → ℕ → LocalValue) → List LocalValue → Option LocalValue
 of_two_integers f (IntValue a ∷ IntValue b ∷ []) = Some (f a b)
 of_two_integers f _ = None
@@ -89,7 +89,7 @@ abbrev pub sum_of : List LocalValue → Option ℕ
 sum_of [] = Some 0
 sum_of (v ∷ vs) = add_integer v (sum_of vs)
 
--- whether one, and whether each, of some truth values is true
+-- whether any, and whether each, of some truth values is true
 abbrev pub join_truths : (Bool → Bool → Bool) → LocalValue → Option Bool → Option Bool
 join_truths f (BoolValue b) (Some c) = Some (f b c)
 join_truths f _ _ = None

@@ -1,4 +1,4 @@
--- A code of local values, by which a type whose contracts see them tells its values apart: the value in postfix order.
+-- A code that tells local values apart, for types whose models hold them: the value in postfix order.
 use Rattle.std.specs.Prelude.{ℕ, zero, suc, ◌≡◌, Bool, true, false, List, [], ◌∷◌, refl}
 use Rattle.std.specs.Coded.{Coded, code_by, coded×, coded_ℕ, coded_list}
 use Rattle.std.proofs.Common.{◌∙◌, ap}

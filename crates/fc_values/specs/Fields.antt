@@ -7,7 +7,7 @@ use Rattle.fc_values.specs.declared.values.Value.TheVariants as value
 use Rattle.fc_values.specs.Types.{LocalType, ValueType, TypeLocal, TypeField}
 use Rattle.fc_values.specs.Values.{LocalValue, local_of, Fits}
 
--- a field: a finite map from devices to local values, as the list of its entries with rising devices
+-- a field: a finite map from devices to local values, as the list of its entries in rising order of devices
 abbrev pub Entries : Type 0
 Entries = List (ℕ × LocalValue)
 
@@ -56,7 +56,7 @@ abbrev pub with_number : ℕ → List ℕ → List ℕ
 with_number d [] = d ∷ []
 with_number d (n ∷ ns) = if nat_lt d n then (d ∷ n ∷ ns) else (n ∷ with_number d ns)
 
--- a field is restricted to a device and to those with these numbers, the aligned neighbours
+-- a field restricted to a device and its aligned neighbours, who have these numbers; a local value stays as it is
 abbrev pub restricted : ℕ → List ℕ → AnyValue → AnyValue
 restricted d ns (ValueLocal v) = ValueLocal v
 restricted d ns (ValueField es) = ValueField (filter (λ (e : ℕ × LocalValue). nat_eq e.0 d || is_in e.0 ns) es)

@@ -53,7 +53,7 @@ EqualSaysSame =
 
 -- ---- a field, read at a device
 
--- one more entry is the value at its device, and changes none at another
+-- a new entry is the value at its device, and leaves those at other devices as they were
 abbrev pub ReadsWithEntry : Type 0
 ReadsWithEntry =
     (d : ℕ) (v : LocalValue) (es : Entries) → is_in d (devices es) ≡ false →
@@ -78,7 +78,7 @@ ReadsPointwise =
     (builtin : Builtin) (ceiling device : ℕ) (xs : List AnyValue) (fs : Entries) → is_hood builtin ≡ false →
     builtin_value builtin ceiling device xs ≡ Some (ValueField fs) → IsPointwise builtin ceiling xs fs
 
--- a local value that an operator makes is its value of the arguments at any device, and no field is among them
+-- where an operator gives a local value, no argument is a field, and at any device the arguments give that value
 abbrev pub ReadsLocal : Type 0
 ReadsLocal =
     (builtin : Builtin) (ceiling device : ℕ) (xs : List AnyValue) (v : LocalValue) → is_hood builtin ≡ false →

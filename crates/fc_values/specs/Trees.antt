@@ -23,7 +23,7 @@ nth_tree i Done = leaf
 nth_tree zero (Then t ts) = t
 nth_tree (suc i) (Then t ts) = nth_tree i ts
 
--- the kid of a tree, from 0
+-- a kid of a tree by its number from 0
 abbrev pub child : ℕ → Tree → Tree
 child i (Keep v ts) = nth_tree i ts
 

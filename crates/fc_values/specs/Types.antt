@@ -29,7 +29,7 @@ abbrev pub type_of : Ty → ValueType
 type_of (anyty.Local t) = TypeLocal (local_type_of t)
 type_of (anyty.Field t) = TypeField (local_type_of t)
 
--- the whole numbers and truth values in a value of a type
+-- how many whole numbers and truth values a value of a type holds
 abbrev pub leaves : LocalType → ℕ
 leaves IntType = 1
 leaves BoolType = 1

@@ -45,7 +45,7 @@ compare_truths false true = ord.Less
 compare_truths true false = ord.Greater
 compare_truths true true = ord.Equal
 
--- the first order, and where it says equal the second
+-- the first order, or the second where the first says equal
 abbrev pub then_order : Ordering → Ordering → Ordering
 then_order ord.Less o = ord.Less
 then_order ord.Equal o = o

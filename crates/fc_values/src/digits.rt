@@ -3,7 +3,7 @@
 ghost use Rattle.std.specs.Prelude.{◌≡◌};
 ghost use Rattle.fc_values.specs.Numbers.{number_of};
 
-/// The number that a word writes in 1 to 7 decimal digits, or none where it is no such word.
+/// The number that a word of 1 to 7 decimal digits writes, or none for any other word.
 pub fn number(word: &[u8]) -> Option<u32>
     ensures { result ≡ number_of word.now }
 {

@@ -7,7 +7,7 @@ use crate::Memory;
 use crate::values::{Local, copy};
 use std::alloc::Global;
 
-/// What a kept place holds. The value of a slot that isn't kept says nothing.
+/// What a kept place holds. Where `kept` is false, `value` means nothing.
 #[derive(Drop)]
 pub struct Slot {
     pub kept: bool,

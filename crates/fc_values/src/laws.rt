@@ -7,7 +7,7 @@ pub fn builtin_has_value()
     ensures { BuiltinHasValue }
 {}
 
-/// The least of values of one form is one of them and at most each, and the greatest at least each.
+/// Among values of one form, the least is one of them and at most each, and the greatest one of them and at least each.
 pub fn least_and_greatest()
     ensures least { LeastIsLeast }
     ensures greatest { GreatestIsGreatest }
@@ -18,7 +18,7 @@ pub fn equal_says_same()
     ensures { EqualSaysSame }
 {}
 
-/// What fields have at a device: one with one more entry, a restricted one, and one that an operator makes.
+/// The value at a device of a field with a new entry, of a restricted field, and of a field that an operator gives.
 pub fn fields_are_read()
     ensures entry { ReadsWithEntry }
     ensures restricted { ReadsRestricted }

@@ -1,15 +1,15 @@
-//! Limits that crates share which don't stand on each other.
+//! Limits shared by crates that don't depend on each other.
 
 /// The most bytes of an input.
 pub const MOST_BYTES: usize = 1_048_576;
 
-/// The greatest number of a program, and so of its ceilings.
+/// The greatest number that a program may write, and so the greatest ceiling.
 pub const GREATEST: u32 = 1_000_000;
 
 /// The most nodes of an unfolded program.
 pub const MOST_NODES: u32 = 2_048;
 
-/// How many links a device has at most.
+/// The most links of a device.
 pub const MOST_LINKS: usize = 32;
 
 /// The most devices of a scenario.

@@ -2,7 +2,7 @@
 
 use std::alloc::{AllocError, AllocFailed};
 
-/// Memory was asked for and there was none. It is the one answer that may come freely.
+/// Memory was asked for and there was none. It is the one answer whose cause no contract names.
 #[derive(Clone, Copy, Debug, PartialEq, Eq)]
 pub struct Memory;
 

@@ -3,7 +3,7 @@ ghost use Rattle.std.specs.Prelude.{◌≡◌};
 ghost use Rattle.std.specs.List.{list_all};
 ghost use Rattle.fc_values.specs.Names.{is_digit as digit_test, is_letter as letter_test, is_name as name_test, is_name_byte as name_byte_test, spelling as spelling_of, word_of};
 
-/// A word, which is never a name. Each is spelled as its variant with a small first letter.
+/// A reserved word, which is never a name. It is spelled like its variant, but with a lower-case first letter.
 #[derive(Clone, Copy, Debug, PartialEq, Eq)]
 pub enum Word {
     Ceiling,

@@ -32,7 +32,7 @@ pub fn inner(ty: &Ty) -> &LocalTy
     }
 }
 
-/// The type of an input: a truth value, or a whole number from the first to the second.
+/// The type of an input: a truth value, or a whole number between two bounds, both included.
 #[derive(Clone, Copy, Debug, PartialEq, Eq)]
 pub enum InputTy {
     Truth,

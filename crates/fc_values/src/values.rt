@@ -94,7 +94,7 @@ pub fn copy_locals(alloc: Global, values: &[Local]) -> Result<Vec<Local>, Memory
     Ok(copies)
 }
 
-/// A value of a type: 0, false, or a pair of such.
+/// A default value of a type: 0, false, or a pair of defaults.
 pub fn blank_of(alloc: Global, ty: &LocalTy) -> Result<Local, Memory>
     ensures { IfOk result (λ v. form_of (local_of v) ≡ local_type_of ty.now) }
 {

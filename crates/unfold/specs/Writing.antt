@@ -1,4 +1,4 @@
--- What the code that writes nodes has in hand.
+-- What the code that writes nodes works with.
 use Rattle.std.specs.Prelude.{ℕ, List, [], ◌∷◌, ◌++◌, map, take, drop, length, ◌+◌, ◌<◌, ◌≤◌, Option, Some, None, ◌≡◌}
 use Rattle.std.specs.Borrow.{Bor}
 use Rattle.fc_values.specs.declared.types.InputTy.{InputTy}

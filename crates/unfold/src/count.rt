@@ -11,10 +11,10 @@ use fc_syntax::Expr;
 use fc_types::Known;
 use fc_values::Name;
 
-/// The greatest number of nodes that is told apart.
+/// Counts of nodes are cut at this number.
 pub const MOST_COUNTED: u32 = 1_000_000;
 
-// A sum, or the greatest number where it is greater.
+// A sum, cut at the greatest count.
 fn add(a: u32, b: u32) -> u32
     requires first { a ≤ MOST_COUNTED }
     requires second { b ≤ MOST_COUNTED }
@@ -23,8 +23,7 @@ fn add(a: u32, b: u32) -> u32
     MOST_COUNTED.min(a + b)
 }
 
-/// The number of nodes of an expression, or the greatest number where it is greater, from those of the functions
-/// before.
+/// The number of nodes of an expression, cut at the greatest count, from the counts of the functions before it.
 #[cycle(count)]
 pub fn count(known: &Known<'_>, counts: &[u32], expr: &Expr) -> u32
     requires visible { length counts.now ≤ length (known_of known.now).functions }

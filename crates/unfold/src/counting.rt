@@ -17,8 +17,8 @@ use fc_types::{Known, Typed};
 use fc_values::Memory;
 use std::alloc::Global;
 
-/// The number of nodes of a typed program, from the table of what it declares, or 1,000,000 where it is greater. None
-/// is made.
+/// The number of nodes of a typed program, from the table of what it declares, or 1,000,000 where it is greater. No
+/// node is made.
 pub fn count_nodes(alloc: Global, typed: &Typed, known: &Known<'_>) -> Result<u32, Memory>
     requires { known_of known.now ≡ and_all nothing (program_of typed.now.program) }
     ensures { IfOk result (λ n. n ≡ min MOST_COUNTED (length (Nodes (program_of typed.now.program)))) }

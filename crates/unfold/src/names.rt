@@ -10,7 +10,7 @@ use fc_syntax::Expr;
 use fc_types::{Function, Known};
 use fc_values::{InputTy, Name};
 
-/// A function among the first so many, with its number.
+/// The function of a name among the first `visible` ones, with its number.
 pub fn find<'k>(known: &Known<'k>, visible: usize, name: &Name) -> Option<(usize, Function<'k>)>
     ensures function { IsFound (known_of known.now) visible name.now.text.items result }
     ensures earlier { IfSome result (λ r. r.0 < visible) }
@@ -27,7 +27,7 @@ pub fn find<'k>(known: &Known<'k>, visible: usize, name: &Name) -> Option<(usize
     }
 }
 
-// The call without arguments that a function's body is, and how many functions it sees.
+// The call without arguments that a function's body is, if it is one, and how many functions it sees.
 fn bare_call<'k>(known: &Known<'k>, visible: usize, name: &Name) -> Option<(usize, &'k Name)>
     ensures { IsBareCall (known_of known.now) visible name.now.text.items result }
 {
@@ -38,8 +38,8 @@ fn bare_call<'k>(known: &Known<'k>, visible: usize, name: &Name) -> Option<(usiz
     }
 }
 
-/// What a call without arguments comes to, where the body is such a call again, and so on: these chains may be longer
-/// than the stack is deep.
+/// The last of a chain of calls without arguments, each of which is the body of the function called
+/// before. Chains may be longer than the stack is deep, so a loop follows them.
 pub fn last_call<'a>(known: &'a Known<'_>, visible: usize, name: &'a Name) -> (usize, &'a Name)
     ensures same { SameCall (known_of known.now) visible name.now.text.items result.0 result.1.now.text.items }
     ensures fewer { result.0 ≤ visible }

@@ -118,7 +118,7 @@ pub fn given_type(alloc: Global, builtin: Builtin, args: &[Ty]) -> Result<Ty, Me
     }
 }
 
-/// The type of fields of what has a type.
+/// The type of fields of values of a type.
 pub fn field_type(ty: Ty) -> Ty
     ensures { type_of result ≡ TypeField (inner_of (type_of ty)) }
 {

@@ -33,7 +33,7 @@ pub struct Sight<'a, 'k> {
     pub scope: &'a Scope<'a>,
 }
 
-/// The place and the type of the nearest that has a name.
+/// The place and the type of the nearest binder or parameter with a name.
 pub fn lookup<'a>(scope: &Scope<'a>, name: &Name) -> Option<(u32, &'a Ty)>
     ensures { variable_term (binder_of name.now.text.items (scope_of scope.now)) ≡ found_term result }
 {

@@ -138,7 +138,7 @@ fn write_all(
     Ok(())
 }
 
-// A sharing of a value with the neighbours.
+// An `nbr`, which shares a value with the neighbours.
 #[cycle(write)]
 #[inline(never)]
 fn write_nbr(
