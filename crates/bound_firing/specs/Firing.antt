@@ -56,7 +56,7 @@ abbrev pub evolving_bound : Evolution → Seats → BoundValue → AnyBound
 evolving_bound ByRep seats first = BoundLocal (own_bound seats.own first)
 evolving_bound ByShare seats first = seat_field (own_bound seats.own first) seat_held seats.near
 
--- the bound of one of two values, by which there may be; of neither nothing is said
+-- the bound of one of two values, by which of them may be there; nothing is said if neither may
 abbrev pub either_bound : Bool → Bool → AnyBound → AnyBound → AnyBound
 either_bound true true (BoundLocal a) (BoundLocal b) = BoundLocal (either a b)
 either_bound true true (BoundLocal a) (BoundField own es) = BoundAny

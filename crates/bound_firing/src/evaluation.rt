@@ -23,7 +23,7 @@ use fc_values::{Builtin, Local, Memory};
 use std::alloc::Global;
 use value_bounds::{Bound, LocalBound, bound_of_builtin, copy_bound, either, exactly};
 
-/// What a firing is of: a program, its layout, the device, and its inputs.
+/// What a firing depends on: a program, its layout, the device, and its inputs.
 #[derive(Clone, Copy)]
 pub struct Context<'a> {
     pub program: &'a Unfolded,
@@ -276,7 +276,7 @@ fn input_bound(alloc: Global, inputs: &[Local], index: u32) -> Result<LocalBound
     }
 }
 
-// The bound of a device's number, which is cut at the ceiling.
+// The bound of a device's number, capped at the ceiling.
 fn uid(device: u32, program: &Unfolded) -> LocalBound
     ensures { local_bound_in result ≡ Between (min device program.now.declared.ceiling)
         (min device program.now.declared.ceiling) }

@@ -2,7 +2,7 @@
 
 ghost use Rattle.bound_firing.specs.Firing.{FiringsLand};
 
-/// What lies in bounds fires to what lies in the bounds that they fire to.
+/// A firing that sees what lies in bounds gives what lies in the bounds that a firing over them gives.
 pub fn firings_land()
     ensures { FiringsLand }
 {}

@@ -54,6 +54,6 @@ grown U N start i d = table_after kind.Growing U N start i d
 abbrev pub IsFixed : RoundKind → Unfolding → Network → BoundTable → Type 0
 IsFixed k U N table = (d : ℕ) → Lives N d → next_table k U N table d ≡ table d
 
--- it doesn't grow any more
+-- the table doesn't grow any more
 abbrev pub IsFull : Unfolding → Network → BoundTable → Type 0
 IsFull U N table = IsFixed kind.Growing U N table

@@ -18,7 +18,7 @@ use Rattle.bound_rounds.specs.declared.rounds.RoundKind.{RoundKind}
 use Rattle.bound_rounds.specs.declared.rounds.Table.{Table}
 use Rattle.bound_rounds.specs.Rounds.{BoundTable, seats_in, next_table, IsFixed}
 
--- the bounds of all devices by a table of the definitions
+-- bounds are those that a table of the definitions has for all devices
 abbrev pub Stand : Unfolding → Network → BoundTable → List FlatBound → Type 0
 Stand U N table xs = map (export_bound_in U) xs ≡ map table (numbers N.devices)
 
@@ -105,14 +105,14 @@ pub record IsFiredTable (k : RoundKind) (U : Unfolding) (N : Network) (t : Table
   pub fired : (table : BoundTable) → Stand U N table t.bounds.items
       → AreFired k U N table t.changed.items t.drafts.items (length N.devices)
 
--- bounds before a place, with those of drafts in the place of those that changed
+-- the bounds before a place, with drafts in the place of those that changed
 abbrev pub AreSwapped : List Bool → ℕ → List FlatBound → List FlatBound → List FlatBound → Type 0
 AreSwapped changed k xs ys zs = (i : ℕ) (x : FlatBound) → i < k
     → get_or zs i x ≡ (if get_or changed i false then get_or ys i x else get_or xs i x)
 
 -- ---- what a round gives
 
--- bounds stand for the next table; and a round that says that it changes nothing changes no device, and else some
+-- bounds stand for the next table; a round that says that it changes nothing changes no device, otherwise at least one
 pub record IsRound (k : RoundKind) (U : Unfolding) (N : Network) (old : List FlatBound) (changes : Bool)
     (new : List FlatBound) : Type 0 where
   pub next : (table : BoundTable) → Stand U N table old → Stand U N (next_table k U N table) new

@@ -205,7 +205,7 @@ fn seats_at<'a>(
     Ok(Seats { own, near })
 }
 
-// Puts the drafts of the devices that changed in the place of their bounds, and those in the place of the drafts.
+// Swaps the bounds of the devices that changed with their drafts.
 fn take_drafts(changed: &[bool], bounds: &mut [ExportBound], drafts: &mut [ExportBound])
     requires bounds { length bounds.old ≡ length changed.now }
     requires drafts { length drafts.old ≡ length changed.now }

@@ -34,7 +34,7 @@ pub struct Column {
 }
 
 impl Column {
-    /// So many zeros of so many leaves.
+    /// A column of `many` zeros with `width` leaves each.
     pub fn zeros(
         alloc: Global,
         spread: Spread,

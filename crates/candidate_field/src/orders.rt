@@ -1,5 +1,5 @@
-//! A `rep` or `share` whose variable occurs in its body, solved device by device: the device with the least value that
-//! isn't settled is settled, or devices go by rising potential.
+//! A `rep` or `share` whose variable occurs in its body, solved device by device: the unsettled device with the least
+//! value is settled next, or devices go by rising potential.
 
 use crate::columns::spot_of;
 use crate::groups::Ear;
@@ -26,7 +26,7 @@ enum By {
     Hood(u32, u32),
 }
 
-/// The order of a `rep` or `share`. There is none where its variable doesn't occur, or in another form than in those.
+/// The order of a `rep` or `share`. There is none where its variable doesn't occur, or occurs in another form.
 pub fn order_of(context: &Context<'_>, place: u32, node: &Node) -> Result<Option<Order>, Memory> {
     let body = kid(node, 1);
     let Some(by) = by_of(context, place, body) else {

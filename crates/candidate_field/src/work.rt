@@ -1,4 +1,4 @@
-//! What a guess is of, and what it has found so far.
+//! What a guess is made for, and what it has found so far.
 
 ghost use Rattle.std.specs.Prelude.{◌<◌, length};
 
@@ -9,8 +9,8 @@ use fc_values::{LocalTy, Memory, Slot, Ty, inner};
 use std::alloc::Global;
 use topology::Network;
 
-/// A program and a network with the numbers of its devices and links, for the `rep`s and `share`s with a potential the
-/// places of its binder, and the sources of terms.
+/// A program, a network with the counts of its devices and links, each `rep` or `share` with a potential with the place
+/// of the potential's binder, and the sources of terms.
 #[derive(Drop)]
 pub struct Context<'a> {
     pub alloc: Global,

@@ -1,4 +1,4 @@
--- Crates above cite this module: an export lies in its bound, and in that of either where it lies in one.
+-- An export lies in its bound, and in that of either where it lies in one.
 use Rattle.std.proofs.Common.{◌≡◌, ℕ, suc, refl, sym, subst, Bool, true, false, Option, Some, None}
 use Rattle.fc_values.specs.Values.{LocalValue, IntValue, BoolValue, PairValue}
 use Rattle.fc_values.specs.Trees.{Tree, Trees, Keep, Done, Then, TreeExport, kept_of, child}

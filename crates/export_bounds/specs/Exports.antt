@@ -17,7 +17,7 @@ abbrev pub exactly_kept : Option LocalValue → BoundValue
 exactly_kept None = Unbounded
 exactly_kept (Some v) = exactly v
 
--- the bound of the one tree: of a branch that it doesn't take nothing is said
+-- the bound of a single tree; nothing is said of a branch that it doesn't take
 abbrev mutual
   pub exact_tree : Term → Tree → BoundTree
   exact_tree (Plain t l) T = bare
@@ -35,7 +35,7 @@ abbrev mutual
   exact_trees i NoMore T = NoneBelow
   exact_trees i (More x xs) T = Below (exact_tree x (child i T)) (exact_trees (suc i) xs T)
 
--- the bound of the one export; whether it is there for sure
+-- the bound of a single export, which is there for sure or may be missing
 abbrev pub exact_export : Unfolding → Bool → TreeExport → ExportBound
 exact_export U sure e = record { value = exactly e.value; tree = exact_tree U.main e.tree; sure = sure }
 

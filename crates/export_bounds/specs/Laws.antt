@@ -6,8 +6,8 @@ use Rattle.fc_nodes.specs.Flat.{IsWellTyped}
 use Rattle.bound_firing.specs.Exports.{ExportBound, ExportLies}
 use Rattle.export_bounds.specs.Exports.{exact_export, either_export}
 
--- A well-typed export lies in its bound; what lies in one of two bounds lies in that of either; and two bounds are the
--- same or they aren't
+-- A well-typed export lies in its bound; what lies in one of two bounds lies in that of either; and it is decidable
+-- whether two bounds are the same
 pub record BoundsHoldExports (U : Unfolding) : Type 0 where
   pub exact : (sure : Bool) (e : TreeExport) → IsWellTyped U e → ExportLies U (exact_export U sure e) e
   pub first : (b c : ExportBound) (e : TreeExport) → ExportLies U b e → ExportLies U (either_export U b c) e

@@ -2,8 +2,8 @@
 
 ghost use Rattle.export_bounds.specs.Laws.{ExportsHold};
 
-/// A well-typed export lies in its bound, what lies in one of two bounds lies in that of either, and two bounds are the
-/// same or they aren't.
+/// A well-typed export lies in its bound, what lies in one of two bounds lies in that of either, and it is decidable
+/// whether two bounds are the same.
 pub fn exports_hold()
     ensures { ExportsHold }
 {}

@@ -1,4 +1,4 @@
-//! Bounds of exports: that of one export, the least one of two, and whether two are the same.
+//! Bounds of exports: that of one export, the least one that holds either of two, and whether two are the same.
 #![tactic(auto)]
 
 mod either;

@@ -22,7 +22,7 @@ heard_of U l = option_map (tree_of U) l.heard
 abbrev pub transit_of : Unfolding → Letters → List MailMessage
 transit_of U l = map (message_of U) l.transit.items
 
--- exports of the program
+-- all messages hold exports of the program
 abbrev pub AllMessages : Unfolding → List Message → Type 0
 AllMessages U [] = Unit {0}
 AllMessages U (m ∷ ms) = IsExportOf U m.export × AllMessages U ms

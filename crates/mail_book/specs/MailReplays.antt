@@ -29,7 +29,7 @@ mail_fault c (MailDeliver a b) = message_fault (reaches c.core.net a b) (nat_lt 
 mail_fault c (MailAgain a b) = message_fault (reaches c.core.net a b) (nat_lt 0 (length (c.transit a b)))
 mail_fault c (MailLose a b i) = message_fault (reaches c.core.net a b) (nat_lt i (length (c.transit a b)))
 
--- a begin or an end has no step for this reason. Want of memory is free
+-- a begin or an end has no step for this reason. Want of memory is always allowed
 abbrev pub HasStepFault : MailCore → MailEntryValue → StepFault → Type 0
 HasStepFault c e step.NoDevice = mail_fault c e ≡ Some (fault.Step step.NoDevice)
 HasStepFault c e step.Flying = mail_fault c e ≡ Some (fault.Step step.Flying)
@@ -39,12 +39,12 @@ HasStepFault c e step.Memory = Unit {0}
 abbrev pub HasMailFault : MailCore → MailEntryValue → MailFault → Type 0
 HasMailFault c e f = mail_fault c e ≡ Some f
 
--- the entry at an index is refused: it has no step from a mail core, for this reason. Want of memory is free
+-- the entry at an index is refused: it has no step from a mail core, for this reason. Want of memory is always allowed
 abbrev pub RefusesMail : ℕ → MailCore → MailEntryValue → MailReplay → Type 0
 RefusesMail i c e (replay.At index why) = (index ≡ i) × (mail_fault c e ≡ Some why)
 RefusesMail i c e replay.Memory = Unit {0}
 
--- what the answer to the entry at an index says of a refusal. Want of memory is free
+-- what the answer to the entry at an index says of a refusal. Want of memory is always allowed
 abbrev pub AtStep : ℕ → Result (Unit {0}) StepFault → MailReplay → Type 0
 AtStep i answer (replay.At index why) =
     (f : StepFault) × (index ≡ i) × (answer ≡ Err f) × (why ≡ fault.Step f) × (f ≡ step.Memory → ⊥)

@@ -5,13 +5,13 @@ use Rattle.topology.specs.Networks.{Network, numbers, near}
 use Rattle.topology.specs.Nearby.{near_numbers, AtPlace}
 use Rattle.message_links.specs.MailCores.{Reaches, Pairs}
 
--- the item of a list that stands where a number stands in another, or what stands for none
+-- the item at the place that a number has in another list; `z` where it has none
 abbrev pub item_at : {X : Type 0} → X → List ℕ → List X → ℕ → X
 item_at z [] xs k = z
 item_at z (i ∷ is) [] k = z
 item_at z (i ∷ is) (x ∷ xs) k = if nat_eq k i then x else item_at z is xs k
 
--- what rows have for an ordered pair
+-- the item that rows hold for an ordered pair
 abbrev pub at_pair : {X : Type 0} → Network → X → List (List X) → Pairs X
 at_pair N z rows from to = item_at z (near_numbers (near N to)) (item_at [] (numbers N.devices) rows to) from
 

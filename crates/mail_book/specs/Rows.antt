@@ -26,7 +26,7 @@ heard_at U N rows = at_pair N None (heard_rows U rows)
 abbrev pub transit_at : Unfolding → Network → List (List Letters) → Pairs (List MailMessage)
 transit_at U N rows = at_pair N [] (transit_rows U rows)
 
--- exports of the program alone
+-- all rows hold exports of the program alone
 abbrev pub AllRows : Unfolding → List (List Letters) → Type 0
 AllRows U [] = Unit {0}
 AllRows U (r ∷ rows) = AllLetters U r × AllRows U rows

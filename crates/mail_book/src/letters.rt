@@ -37,7 +37,7 @@ pub(crate) fn no_letters(alloc: Global) -> Letters
     }
 }
 
-/// One message more, for which a full list first loses its oldest.
+/// Adds a message; a full list first loses its oldest.
 pub(crate) fn post(letters: &mut Letters, message: Message) -> Result<(), Memory>
     ensures heard { letters.new.heard ≡ letters.old.heard }
     ensures transit { OnOk result (letters.new.transit.items ≡ pushed letters.old.transit.items message) }

@@ -173,7 +173,7 @@ impl Mail {
         })
     }
 
-    // Evaluates the copy with which a device flies, publishes its export, and sends it to each neighbour.
+    // Evaluates a device's copy in flight, publishes its export, and sends it to each neighbour.
     fn end(&mut self, alloc: Global, index: usize, device: u32) -> Result<(), StepFault>
         ensures ok { OnOk result
             (MailStep (unfolded_of self.old) index (mail_of self.old) (MailEnd device) (mail_of self.new)) }

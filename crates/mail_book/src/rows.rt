@@ -113,7 +113,7 @@ pub(crate) fn post_all(
     Ok(())
 }
 
-/// Sends an export to a neighbour: a share of it.
+/// Sends a share of an export to a neighbour.
 pub(crate) fn post_to(
     net: &Network,
     rows: &mut Vec<Vec<Letters>>,

@@ -42,7 +42,7 @@ pub record TellsPairs (N : Network) (rows : List (Vec Bringing Global)) (s : See
   pub own : own_rows rows ≡ pair_rows N s.own
   pub brought : brought_rows rows ≡ pair_rows N s.brought
 
--- marks tell what was seen, and how many devices and pairs are wanting
+-- marks tell what was seen, and how many devices and pairs are still missing
 pub record Tells (N : Network) (m : Marks) (s : Seen) : Type 0 where
   pub flies : m.flies.items ≡ map s.flies (numbers N.devices)
   pub fired : m.fired.items ≡ map s.fired (numbers N.devices)

@@ -7,8 +7,8 @@ use Rattle.message_links.specs.MailCores.{MailEntryValue, MailBegin, MailEnd, Ma
 use Rattle.message_links.specs.MailCores.{MailDeliver, MailAgain, MailLose}
 use Rattle.message_links.specs.MailRounds.{Posts}
 
--- Of a device: whether it flies with a copy of the round, and whether it fired in the round. Of an ordered pair: which
--- messages in transit the round sent, the oldest first, and whether it brought one when each device had fired.
+-- Of a device: whether its copy in flight was taken in the round, and whether it fired in the round. Of an ordered
+-- pair: which messages in transit the round sent, the oldest first, and whether one came once each device had fired.
 pub record Seen : Type 0 where
   pub flies : ℕ → Bool
   pub fired : ℕ → Bool
@@ -28,7 +28,7 @@ abbrev pub oldest_own : List Bool → Bool
 oldest_own [] = false
 oldest_own (b ∷ bs) = b
 
--- at the begin of a round
+-- at the beginning of a round
 abbrev pub unseen : Pairs (List Bool) → Seen
 unseen own = record { flies = λ d. false; fired = λ d. false; own = own; brought = λ a b. false }
 
@@ -43,7 +43,7 @@ cleared s = unseen (λ a b. map (λ f. false) (s.own a b))
 abbrev pub brings : Network → Seen → ℕ → ℕ → Pairs Bool
 brings N s c d = put_pair s.brought c d (s.brought c d || (ready N s && oldest_own (s.own c d)))
 
--- after an entry, and after some
+-- after one entry, and after several
 abbrev pub noted : Network → Seen → MailEntryValue → Seen
 noted N s (MailBegin d) = record {
   flies = λ a. if nat_eq d a then true else s.flies a;

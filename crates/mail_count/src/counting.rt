@@ -1,4 +1,4 @@
-//! How many rounds a mail log has, counted as early as they can be.
+//! How many rounds a mail log has: each is counted as soon as it is complete.
 
 ghost use Rattle.std.specs.Prelude.{◌≤◌, ℕ, IfOk};
 ghost use Rattle.message_links.specs.MailEntries.{mail_entries};

@@ -16,9 +16,9 @@ use message_links::MailEntry;
 use std::alloc::Global;
 use topology::Network;
 
-/// Which devices fly with a copy of the round, which fired in it, and what was seen of the ordered pairs: a row for
-/// each device, with its neighbours as receivers. How many ordered pairs there are, and how many devices and pairs are
-/// wanting.
+/// Which devices fly with a copy taken in the round, which fired in it, and what was seen of the ordered pairs: a row
+/// for each device, with its neighbours as receivers. How many ordered pairs there are, and how many devices and pairs
+/// are still missing.
 #[derive(Drop)]
 pub(crate) struct Marks {
     pub(crate) flies: Vec<bool>,
@@ -146,7 +146,7 @@ impl Marks {
 ghost use Rattle.std.specs.Prelude.{◌+◌, ◌||◌, slice_index_or, slice_set, false};
 ghost use Rattle.mail_count.specs.Seen.{missing};
 
-// A firing ends, which was begun in the round or not. How many devices more have fired.
+// A firing ends, which was begun in the round or not. Answers how many more devices have fired.
 fn land(fired: &mut [bool], place: usize, own: bool) -> usize
     requires { place < length fired.old }
     ensures fired { fired.new ≡ slice_set fired.old place (own || slice_index_or fired.old place false) }

@@ -39,7 +39,7 @@ pub(crate) fn quiet_row(alloc: Global, mail: &Mail, from: u32) -> Result<Vec<Bri
     Ok(row)
 }
 
-/// A message is sent to each neighbour, for which full lists first lose their oldest.
+/// A message is sent to each neighbour; full lists first lose their oldest.
 pub(crate) fn send_row(row: &mut [Bringing], own: bool) -> Result<(), Memory>
     ensures own { OnOk result (own_row row.new ≡ map (λ fs. pushed fs own) (own_row row.old)) }
     ensures brought { OnOk result (brought_row row.new ≡ brought_row row.old) }
@@ -61,7 +61,8 @@ fn send(bringing: &mut Bringing, own: bool) -> Result<(), Memory>
     Ok(())
 }
 
-/// The oldest message is heard, where each device has fired or not. How many pairs more have brought one of the round.
+/// The oldest message is heard, once each device has fired or before. Answers how many more pairs have brought one of
+/// the round.
 pub(crate) fn hear(bringing: &mut Bringing, ready: bool) -> usize
     ensures own { bringing.new.own ≡ bringing.old.own }
     ensures brought { bringing.new.brought

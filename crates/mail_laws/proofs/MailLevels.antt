@@ -1,5 +1,5 @@
--- Crates above cite this module. A round over message links raises the level of a mail core by one: of its exports, of what
--- was heard, and of what is in transit. On an ordered pair messages that firings of the round sent come behind older ones.
+-- A round over message links raises the level of a mail core by one: of its exports, of what was heard, and of what is
+-- in transit. On an ordered pair messages that firings of the round sent come behind older ones.
 use Rattle.std.proofs.Common.{◌≡◌, ◌⊎◌, ◌+◌, ◌<◌, ℕ, zero, suc, List, [], ◌∷◌, ◌++◌, map, length, refl, sym, ◌∙◌, ap, subst, arith, Bool, true, false, ◌&&◌, ◌||◌, if◌then◌else◌, Option, Some, None, nat_eq, inl, inr, append_assoc, append-nil}
 use Rattle.std.specs.Prelude.{nat_le, take}
 use Rattle.std.proofs.lemmas.Bool.{eqb-true, eq-eqb}

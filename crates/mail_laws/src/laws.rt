@@ -12,7 +12,7 @@ use firing_core::{faultless_steps, steps_keep_good};
 use topology::Network;
 
 /// Rounds over message links raise each level that firings raise, whatever it says of exports: from every good mail
-/// core each mail log with so many rounds leads so many levels up.
+/// core each mail log with `k` rounds leads `k` levels up.
 pub fn mail_rounds_raise_levels<L: Levels>()
     ensures { LevelsOfMailRounds L.level (unfolding_of L.program) L.network }
 {
@@ -32,7 +32,7 @@ pub fn yes_stabilises_mail()
     faultless_steps();
 }
 
-/// The same of one program and one network with its declarations: where the verdict for the program and so many
+/// The same for one program and one network with its declarations: where the verdict for the program and so many
 /// devices is a yes for `k` rounds, exactly one field solves the program there, and from every good mail core each mail
 /// log with `k` rounds leads to its values.
 pub fn mail_stabilises(program: &Unfolded, net: &Network)

@@ -1,5 +1,5 @@
--- Message links: a device knows of each neighbour what a message brought it. Messages may be lost, repeated and late,
--- and come in the order in which they were sent.
+-- Message links: a device knows of a neighbour only what that neighbour's messages brought. Messages may be lost,
+-- repeated or late, but they arrive in the order in which they were sent.
 use Rattle.std.specs.Prelude.{ℕ, zero, suc, Bool, true, ◌≡◌, ◌≤◌, ◌<◌, ◌&&◌, if◌then◌else◌, nat_eq, nat_le}
 use Rattle.std.specs.Prelude.{List, [], ◌∷◌, ◌++◌, length, Option, Some, None}
 use Rattle.fc_values.specs.Trees.{TreeExport}
@@ -11,7 +11,7 @@ use Rattle.message_links.specs.declared.entries.TheConstants.{MOST_IN_TRANSIT}
 use Rattle.firing_core.specs.Entries.{BeginEntry}
 use Rattle.firing_core.specs.Cores.{Map as Table, Core, StepSeeing, Ends, GoodExport, IsGood}
 
--- whether a message can go from a device to another: the first is a neighbour of the second
+-- whether messages go from one device to another: the sender is a neighbour of the receiver
 abbrev pub reaches : Network → ℕ → ℕ → Bool
 reaches N from to = is_in from (near_numbers (near N to))
 
@@ -36,8 +36,8 @@ pub record MailCore : Type 0 where
   pub heard : Pairs (Option TreeExport)
   pub transit : Pairs (List Message)
 
--- an entry of a mail log: a begin, an end, a turn that changes nothing, or what happens to the oldest message of an
--- ordered pair: it is delivered, it is delivered and stays; or a message in transit, counted from the oldest, is lost
+-- an entry of a mail log: a begin, an end, or a turn that changes nothing; the oldest message of an ordered pair is
+-- delivered, or delivered and kept in transit; or a message in transit, counted from the oldest, is lost
 pub data MailEntryValue : Type 0 where
   MailBegin : ℕ → MailEntryValue
   MailEnd : ℕ → MailEntryValue
@@ -46,7 +46,7 @@ pub data MailEntryValue : Type 0 where
   MailAgain : ℕ → ℕ → MailEntryValue
   MailLose : ℕ → ℕ → ℕ → MailEntryValue
 
--- a list without its first item, and without that at an index
+-- a list without its first item, and a list without the item at an index
 abbrev pub rest_of : {X : Type 0} → List X → List X
 rest_of [] = []
 rest_of (x ∷ xs) = xs
@@ -56,11 +56,11 @@ without i [] = []
 without zero (x ∷ xs) = xs
 without (suc i) (x ∷ xs) = x ∷ without i xs
 
--- one item more, for which a full list first loses its oldest
+-- a list with one more item; a full list first loses its oldest
 abbrev pub pushed : {X : Type 0} → List X → X → List X
 pushed xs x = (if nat_le MOST_IN_TRANSIT (length xs) then rest_of xs else xs) ++ x ∷ []
 
--- a message of a device to each of its neighbours
+-- what is in transit once a device has sent a message to each of its neighbours
 abbrev pub posted : {X : Type 0} → Network → Pairs (List X) → ℕ → X → Pairs (List X)
 posted N transit d x a b = if nat_eq a d && reaches N a b then pushed (transit a b) x else transit a b
 
@@ -77,7 +77,7 @@ pub record MailEnds (U : Unfolding) (at : ℕ) (c : MailCore) (d : ℕ) (next : 
   pub heard : next.heard ≡ c.heard
   pub transit : next.transit ≡ posted c.core.net c.transit d (record { export = ends.export; sent = Some at })
 
--- what is heard is the oldest message of the pair, of which these stay in transit
+-- the oldest message of a pair is heard; `stay` says which of its messages remain in transit
 pub record Hears (c : MailCore) (a b : ℕ) (stay : Message → List Message → List Message) (next : MailCore)
     : Type 0 where
   pub linked : Reaches c.core.net a b

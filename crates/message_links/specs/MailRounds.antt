@@ -1,5 +1,5 @@
--- Rounds over message links: each device fires, and then each ordered pair of neighbours brings a message that was sent
--- by a firing of the round.
+-- Rounds over message links: each device fires, and then on each ordered pair of neighbours a message is delivered that
+-- a firing of the round sent.
 use Rattle.std.specs.Prelude.{ℕ, zero, suc, ◌≡◌, ◌+◌, ◌⊎◌, List, [], ◌∷◌, ◌++◌, map, length}
 use Rattle.std.specs.Prelude.{Option, Some, None}
 use Rattle.topology.specs.Networks.{Network, Lives}
@@ -49,7 +49,7 @@ abbrev pub oldest_post : List (Option ℕ) → Option ℕ
 oldest_post [] = None
 oldest_post (s ∷ ss) = s
 
--- Behind the first entries of a part, the message that is brought on an ordered pair was sent by an end in the part,
+-- After the first entries of a part, a message is delivered on an ordered pair that was sent by an end in the part,
 -- of a firing that was begun in it. The part stands at a position of the log.
 pub record Brings (N : Network) (at : ℕ) (p : Posts) (first second : List MailEntryValue) (a b : ℕ) : Type 0 where
   pub before : List MailEntryValue
@@ -61,8 +61,8 @@ pub record Brings (N : Network) (at : ℕ) (p : Posts) (first second : List Mail
   pub sent : oldest_post (posts_along N at p (first ++ before) a b) ≡ Some (at + index)
   pub own : EndsOwnBegin a (first ++ second) index
 
--- a part of the log, at a position, in which each device fires, and after that each ordered pair of neighbours brings a
--- message of a firing of the part
+-- a part of the log, at a position, in which each device fires, and after that each ordered pair of neighbours delivers
+-- a message of a firing of the part
 pub record CoversMail (N : Network) (at : ℕ) (p : Posts) (part : List MailEntryValue) : Type 0 where
   pub first : List MailEntryValue
   pub second : List MailEntryValue

@@ -2,10 +2,10 @@
 
 use firing_core::StepFault;
 
-/// How many messages are in transit on an ordered pair at most.
+/// The most messages that are in transit on an ordered pair.
 pub const MOST_IN_TRANSIT: usize = 4;
 
-/// An entry of a mail log: the begin or the end of a device's firing, nothing, or what happens to a message from a
+/// An entry of a mail log: the begin or the end of a device's firing, nothing, or what happens to a message from one
 /// device to another. The oldest is delivered, or delivered and kept; or one is lost, by its place from the oldest.
 #[derive(Clone, Copy, Debug, PartialEq, Eq)]
 pub enum MailEntry {

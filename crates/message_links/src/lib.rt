@@ -1,5 +1,4 @@
-//! Message links: devices know of each other what messages brought, and links lose messages, repeat them and deliver
-//! them late.
+//! Message links: devices know of each other only what messages brought, and links may lose, repeat and delay messages.
 #![tactic(auto)]
 
 mod entries;

@@ -1,4 +1,4 @@
--- The same over message links.
+-- What is reached over message links after so many rounds.
 use Rattle.std.specs.Prelude.{ℕ, true, ◌≡◌, ◌≤◌, List, Some}
 use Rattle.fc_values.specs.Values.{LocalValue}
 use Rattle.fc_values.specs.Trees.{TreeExport}

@@ -19,8 +19,8 @@ use Rattle.settle_rounds.specs.Mail.{MailReachedAt}
 abbrev pub Settlings : Type 0
 Settlings = ℕ → Option (ℕ × LocalValue)
 
--- at most so many rounds are looked at, of so many devices: all their firings are no more than the most, and with a yes
--- the rounds are no more than it has
+-- at most so many rounds are looked at, for so many devices: all their firings are no more than the most, and with a
+-- yes the rounds are no more than its own
 abbrev pub settle_cap : Verdict → ℕ → ℕ
 settle_cap (verdict.Yes rounds) n = min (MOST_BOUND_FIRINGS / n) rounds
 settle_cap (verdict.No place reason) n = MOST_BOUND_FIRINGS / n

@@ -12,11 +12,11 @@ use Rattle.bound_rounds.specs.declared.rounds.RoundKind.{RoundKind}
 use Rattle.bound_rounds.specs.Rounds.{BoundTable, table_after, rounds_from, IsFixed}
 use Rattle.settle_rounds.specs.Rounds.{bounds_after, is_reached}
 
--- a round that changes no bound of a device that is there
+-- the round after the first j ones changes no bound of a device that is there
 abbrev pub IsStill : RoundKind → Unfolding → Network → BoundTable → ℕ → Type 0
 IsStill k U N start j = IsFixed k U N (table_after k U N start j)
 
--- after it nothing changes, so what isn't known by then never will be
+-- from then on nothing changes, so what isn't known by then never will be
 abbrev pub StillStays : Type 0
 StillStays = (k : RoundKind) (U : Unfolding) (N : Network) → IsNetwork N → (start : BoundTable) (j i : ℕ)
     → IsStill k U N start j → j ≤ i → (d : ℕ) → Lives N d → table_after k U N start i d ≡ table_after k U N start j d

@@ -9,7 +9,7 @@ use Rattle.bound_rounds.specs.Rounds.{BoundTable}
 use Rattle.settle_rounds.specs.Starts.{ReachedFrom, StartTable, growing_cap}
 use Rattle.settle_rounds.specs.SettleTimes.{settled_from, IsSettleTime, RoundsLead, ValuesSolve, TimeLeads, TimeIsLow}
 
--- as of `SettlesWell`, of the logs from this core
+-- what `SettlesWell` says, but for the logs from this core alone
 pub record SettlesFrom (P : Program) (N : Network) (c : Core) (table : BoundTable) : Type 0 where
   pub rounds : RoundsLead (ReachedFrom (unfolding_of P) N c) N (settled_from P N table)
   pub solves : (K : ℕ) → verdict_of P (length N.devices) ≡ verdict.Yes K → ValuesSolve P N (settled_from P N table)

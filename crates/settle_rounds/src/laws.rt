@@ -49,7 +49,7 @@ pub fn bounds_reach_mail()
     runs_cut();
 }
 
-/// A round that changes no bound is the last one that does.
+/// Once a round would change no bound, no later round changes any.
 pub fn still_stays()
     ensures { StillStays }
 {}

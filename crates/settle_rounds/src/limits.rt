@@ -9,7 +9,7 @@ use fc_nodes::Verdict;
 /// The most firings of bounds with which settle rounds are looked for.
 pub const MOST_BOUND_FIRINGS: u32 = 1_000_000;
 
-/// The most rounds of growing that are looked at, of a network of so many devices.
+/// The most rounds of growing that are looked at, for a network of so many devices.
 pub fn growing_cap(devices: usize) -> u32
     requires { 1 ≤ devices }
     ensures { result ≡ growing_cap devices }
@@ -18,7 +18,7 @@ pub fn growing_cap(devices: usize) -> u32
     most as u32
 }
 
-/// The greatest settle round that is looked for, of a network of so many devices.
+/// The greatest settle round that is looked for, for a network of so many devices.
 pub fn settle_cap(verdict: Verdict, devices: usize) -> u32
     requires { 1 ≤ devices }
     ensures { result ≡ settle_cap verdict devices }

@@ -9,7 +9,7 @@ use Rattle.fc_nodes.specs.Terms.{Term, Terms, Plain, Apply, Nbr, Evolve, If, Let
 use Rattle.fc_nodes.specs.Layouts.{keeps_at}
 use Rattle.fc_nodes.specs.Program.{Program}
 
--- slots of a term, of which k is the first, are the same in two lists, but for those of first values
+-- slots of a term, of which k is the first, are the same in two lists, except those of first values
 abbrev mutual
   pub SameOutside : Term → ℕ → List SlotValue → List SlotValue → Type 0
   SameOutside (Plain t l) k xs ys = Unit {0}

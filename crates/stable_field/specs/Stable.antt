@@ -15,7 +15,7 @@ pub record IsStableField (U : Unfolding) (N : Network) (es : Entries) : Type 0 w
   pub one : HasOneSolution U N
   pub values : es ≡ map (λ (d : ℕ). (d, one.field d)) (numbers N.devices)
 
--- the verdict for so many devices is a no at the place; want of memory comes freely
+-- the verdict for so many devices is a no at the place; want of memory is always allowed
 abbrev pub IsFaultOf : Program → ℕ → StableFault → Type 0
 IsFaultOf P n (fault.Unrecognised place) = (why : Reason) × (verdict_of P n ≡ verdict.No place why)
 IsFaultOf P n fault.Memory = Unit {0}

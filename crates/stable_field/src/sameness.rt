@@ -1,4 +1,4 @@
-//! Whether exports are the same, but for first values.
+//! Whether exports are the same, apart from first values.
 
 ghost use Rattle.std.specs.Prelude.{◌≡◌, ◌<◌, IsTrue, length};
 ghost use Rattle.fc_values.specs.Values.{local_of};

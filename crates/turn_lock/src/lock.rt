@@ -184,7 +184,7 @@ impl<T: Logged> TurnLock<T> {
         answer
     }
 
-    // Waits until nobody seems to have a ticket. In a queue of many, each turn waits for a thread that may not run.
+    // Waits until nobody seems to have a ticket. In a long queue, each turn waits for a thread that may not be running.
     fn await_rest<W: Wait>(&self, rt: &W, urgency: Urgency) {
         let shared = &self.table.shared;
         let mut looks = Looks::none(urgency);
@@ -230,8 +230,8 @@ impl<T: Logged> TurnLock<T> {
         unreachable!()
     }
 
-    // Sleeps until another ticket than this one is served, or for so long. Who sleeps is counted before the word is
-    // looked at once more, and who serves looks at the count after the word has changed: so no wake is lost.
+    // Sleeps until another ticket than this one is served, at most for this time. A sleeper is counted before it looks
+    // at the word once more, and whoever serves looks at the count after changing the word: so no wake is lost.
     fn sleep<W: Wait>(&self, rt: &W, served: u64, time: Duration) {
         self.asleep.fetch_add(1, Ordering::SeqCst);
         self.table

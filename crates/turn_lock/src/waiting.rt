@@ -2,7 +2,7 @@
 
 use std::time::Duration;
 
-// As many looks, a microsecond or two in all, see most turns end. More of them keep processors from others.
+// So many looks, a microsecond or two in all, see most turns end. More would keep processors from others.
 const LOOKS: u32 = 100;
 // The first sleep, in nanoseconds. Where nobody waits for the thread, each is twice as long as the one before, up to a
 // millisecond.
@@ -10,7 +10,7 @@ const FIRST_SLEEP: u64 = 16_000;
 
 const DOUBLINGS: u32 = 6;
 
-/// Whether others wait for what a turn brings. It has no meaning but how long the thread sleeps that waits for it.
+/// Whether others wait for the outcome of a turn. It only sets how long the thread that takes the turn sleeps.
 #[derive(Clone, Copy)]
 pub enum Urgency {
     /// Nobody does: its sleeps grow.

@@ -238,7 +238,7 @@ abbrev pub builtin_bound : Builtin → ℕ → ℕ → List AnyBound → AnyBoun
 builtin_bound o m d bs = if is_hood o then BoundLocal (hood_bound o m bs)
     else pointwise_by (local_bound o m) d (spread_of bs) bs
 
--- what a builtin makes of values in bounds lies in the bound that it makes of these
+-- what a builtin gives for values in bounds lies in the bound that it gives for these bounds
 abbrev pub BuiltinsLie : Type 0
 BuiltinsLie = (o : Builtin) (m d : ℕ) (bs : List AnyBound) (xs : List AnyValue) (v : AnyValue) → AllLieIn d bs xs
     → builtin_value o m d xs ≡ Some v → LiesIn d (builtin_bound o m d bs) v

@@ -7,7 +7,7 @@ use Rattle.fc_values.specs.Values.{IntValue, BoolValue}
 use Rattle.fc_nodes.specs.declared.nodes.Node.{Node}
 use Rattle.fc_nodes.specs.Terms.{Literal, ByRep, Term, Plain, Apply, Evolve, Let, NoMore, More, OfLeaf, OfApply, OfEvolve, OfLet, View, Has, view_at}
 
--- so many times `not` of true
+-- `true` under so many `not`s
 abbrev pub nots : ℕ → Term
 nots zero = Plain (TypeLocal BoolType) (Literal (BoolValue true))
 nots (suc k) = Apply (TypeLocal BoolType) op.Not (More (nots k) NoMore)

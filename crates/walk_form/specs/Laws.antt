@@ -23,14 +23,14 @@ SolutionsAreLeast =
     → N.declared ≡ P.declared → verdict_of P (length N.devices) ≡ verdict.Yes k → AreCostsOf (unfolding_of P) N C
     → SolvesMain N (unfolding_of P).main F → (d : ℕ) → Lives N d → IsLeastAt C d (F d)
 
--- there are costs of it, which are those of a network
+-- where the verdict is a yes, a program of the walk form has costs on each network
 abbrev pub FormsHaveCosts : Type 0
 FormsHaveCosts =
     (P : Program) (N : Network) (k : ℕ) (w : WalkTerms) → IsProgram P → IsNetwork N → N.declared ≡ P.declared
     → verdict_of P (length N.devices) ≡ verdict.Yes k → walk_terms (unfolding_of P) ≡ Some w
     → (C : CostsValue) × AreCostsFor (unfolding_of P) N w C × IsCosts C
 
--- and one alone
+-- it has no other costs
 abbrev pub OneCosts : Type 0
 OneCosts = (U : Unfolding) (N : Network) (w : WalkTerms) (B C : CostsValue) → AreCostsFor U N w B → AreCostsFor U N w C
     → B ≡ C

@@ -72,7 +72,7 @@ fn is_int_rep(node: &Node) -> bool
     }
 }
 
-// Whether the root has the pattern of a least of what is heard.
+// Whether the root has the pattern `Minimising`.
 fn is_minimising(program: &Unfolded, ranges: &Ranges) -> bool
     requires ranges { AreRangesOf (unfolding_of program.now) ranges.now }
     requires evolving { IsEvolving program.now.nodes 0 }

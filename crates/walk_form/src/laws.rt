@@ -32,7 +32,7 @@ pub fn forms_have_costs()
     neighbours_are_mutual();
 }
 
-/// And one alone.
+/// It has no other costs.
 pub fn one_costs()
     ensures { OneCosts }
 {}

@@ -8,7 +8,7 @@ use Rattle.walks.specs.declared.types.Add.{Add}
 use Rattle.walks.specs.declared.types.Add.TheVariants as add
 use Rattle.walks.specs.Walks.{CostsValue, has}
 
--- what a step adds: what each device has, or the weight of the link
+-- what a step adds: the number given for the device to which it leads, or the weight of the link
 pub data Added : Type 0 where
   AddEach : List (ℕ × ℕ) → Added
   AddWeights : Added
@@ -43,7 +43,7 @@ abbrev pub AddFits : ℕ → Network → Added → Type 0
 AddFits ceiling N (AddEach xs) = AreOf N xs × All (λ (d : ℕ × ℕ). (1 ≤ d.1) × (d.1 ≤ ceiling)) xs
 AddFits ceiling N AddWeights = (d e w : ℕ) → Contains (near N d) (e, w) → (1 ≤ w) × (w ≤ ceiling)
 
--- what each device has stands by rising numbers
+-- the numbers given for devices stand by rising device
 abbrev pub EachRises : Added → Type 0
 EachRises (AddEach xs) = Rises (map (λ (d : ℕ × ℕ). d.0) xs)
 EachRises AddWeights = Unit {0}

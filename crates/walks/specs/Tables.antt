@@ -46,7 +46,7 @@ AreCoveredBut C values waiting d = All (λ (s : Step). IsCovered C values waitin
 abbrev pub AreDevices : CostsValue → Queue → Type 0
 AreDevices C waiting = All (λ (r : Reverse (ℕ × ℕ)). IsDevice C r.0.1) waiting
 
--- what falls with each step that lowers a value, and with each device that no longer waits
+-- a measure that falls with each step that lowers a value, and with each device that no longer waits
 abbrev pub left : List ℕ → Queue → ℕ
 left values waiting = 2 * sum values + length waiting
 

@@ -39,7 +39,7 @@ IsDevice C d = (s : ℕ) × StartsAt C d s
 abbrev pub StepsAt : CostsValue → ℕ → ℕ → ℕ → Type 0
 StepsAt C n d k = Contains C.steps (record { from = n; to = d; cost = k })
 
--- what pairs have for a device; 0 where they have nothing
+-- the number that pairs give for a device; 0 where they give none
 abbrev pub has : List (ℕ × ℕ) → ℕ → ℕ
 has [] d = 0
 has (x ∷ xs) d = if nat_eq x.0 d then x.1 else has xs d

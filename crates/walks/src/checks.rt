@@ -1,4 +1,4 @@
-//! The test of a claim, by itself.
+//! The test of a claim, on its own.
 
 ghost use Rattle.std.specs.Prelude.{◌≡◌, ℕ, true, false, IfSome, IfNone};
 ghost use Rattle.walks.specs.Walks.{costs_of, claim_of, IsCosts, WalkCosts, HasWalk, HasDevices};

@@ -13,7 +13,7 @@ pub fn traced_claims_hold()
     ensures { TracedClaimsHold }
 {}
 
-/// Each device has one least cost and one best walk, which costs so much.
+/// Each device has one least cost and one best walk, which has that cost.
 pub fn walks_are_one()
     ensures least { OneLeastCost }
     ensures best { OneBestWalk }
@@ -22,8 +22,8 @@ pub fn walks_are_one()
     ensures some { SomeTrace }
 {}
 
-/// Values are least costs where each is the lesser of its device's start and the least that a step to the device makes
-/// of the value of a neighbour.
+/// Values are least costs where each is the lesser of its device's start and the least sum of a neighbour's value and
+/// the step from there.
 pub fn fixed_values_are_least()
     ensures { FixedValuesAreLeast }
 {}

@@ -1,4 +1,4 @@
-//! Least walks between the devices of a network, and walks as evidence that can be checked by itself.
+//! Cheapest walks between the devices of a network, and walks as evidence that can be checked on its own.
 #![tactic(auto)]
 
 mod checks;

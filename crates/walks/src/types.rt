@@ -16,7 +16,7 @@ pub struct Costs {
     pub steps: Vec<Step>,
 }
 
-/// A device, its value, and a walk to it that costs so much.
+/// A device, its value, and a walk to it with that cost.
 #[derive(Drop)]
 pub struct Evidence {
     pub device: u32,
@@ -24,7 +24,7 @@ pub struct Evidence {
     pub walk: Vec<u32>,
 }
 
-/// What a step adds: what the device has to which it leads, or the weight of the link.
+/// What a step adds: the number given for the device to which it leads, or the weight of the link.
 #[derive(Drop)]
 pub enum Add {
     Each(Vec<(u32, u32)>),
