@@ -65,17 +65,17 @@ module _ (shapes : PatternsHaveShapes) (P : Program) (n : ℕ) (program : IsProg
   -- the binders in scope have the ranges of their variables
   abbrev Bound : Scope → Bounds → Type 0
   Bound [] [] = Unit {0}
-  Bound (b ∷ bs) (c ∷ cs) = (b.0 ≡ c.0) × (c.1 ≡ variable_range P c.0) × Bound bs cs
+  Bound (b ∷ bs) (c ∷ cs) = (b.0 ≡ c.0) × (c.1 ≡ variable_range (unfolding_of P) c.0) × Bound bs cs
   Bound _ _ = ⊥
 
-  bound_is : (other : RangeValue) (q : ℕ) (t : ValueType) (bs : Scope) (cs : Bounds) → type_at q bs ≡ Some t → Bound bs cs → bound_at other q cs ≡ variable_range P q
+  bound_is : (other : RangeValue) (q : ℕ) (t : ValueType) (bs : Scope) (cs : Bounds) → type_at q bs ≡ Some t → Bound bs cs → bound_at other q cs ≡ variable_range (unfolding_of P) q
   bound_is other q t [] [] e h = absurd cc
   bound_is other q t [] (c ∷ cs) e h = absurd h
   bound_is other q t (b ∷ bs) [] e h = absurd h
   bound_is other q t (b ∷ bs) (c ∷ cs) e h = by_test (nat_eq c.0 q) refl (λ k. bound_is other q t bs cs k h.2)
     where
-      by_test : (own : Bool) → nat_eq c.0 q ≡ own → (type_at q bs ≡ Some t → bound_at other q cs ≡ variable_range P q) → (if own then c.1 else bound_at other q cs) ≡ variable_range P q
-      by_test true i f = h.1 ∙ ap (variable_range P) (eqb-true c.0 q i)
+      by_test : (own : Bool) → nat_eq c.0 q ≡ own → (type_at q bs ≡ Some t → bound_at other q cs ≡ variable_range (unfolding_of P) q) → (if own then c.1 else bound_at other q cs) ≡ variable_range (unfolding_of P) q
+      by_test true i f = h.1 ∙ ap (variable_range (unfolding_of P)) (eqb-true c.0 q i)
       by_test false i f = let j : nat_eq b.0 q ≡ false = rw (sym h.0) at i in f (rw j at e)
 
   first_shown : (t : Term) (p : ℕ) (cs : Bounds) → Shows R p (node_ranges D cs p t) → R p ≡ term_range D cs p t
@@ -102,11 +102,11 @@ module _ (shapes : PatternsHaveShapes) (P : Program) (n : ℕ) (program : IsProg
         let k = none_first p (pattern_of D.ceiling R p (Evolve t e a u)) (first_refused (judged D.ceiling R (suc p + size a) u)) h in
         let here : term_at P.nodes p ≡ Evolve t e a u = laid_term P.nodes above (Evolve t e a u) p la in
         let is : A.pattern p ≡ k.0 = ap (λ z. pattern_or (pattern_of D.ceiling R p z)) here ∙ ap pattern_or k.1 in
-        let added : A.stages p ≡ added_levels n (variable_range P) e k.0 = ap (added_at D.ceiling R (variable_range P) n p) here ∙ ap (added_by n (variable_range P) e) k.1 in
+        let added : A.stages p ≡ added_levels n (variable_range (unfolding_of P)) e k.0 = ap (added_at D.ceiling R (variable_range (unfolding_of P)) n p) here ∙ ap (added_by n (variable_range (unfolding_of P)) e) k.1 in
         let has = shapes D bs D.ceiling R e p (suc p + size a) ty.0 u k.0 ty.5 k.1 in
         let has' : HasPattern D.ceiling R e p (suc p + size a) (inner t) u k.0 = subst (λ s. HasPattern D.ceiling R e p (suc p + size a) s u k.0) (sym (ap inner ty.1)) has in (
           subst (HasPattern D.ceiling R e p (suc p + size a) (inner t) u) (sym is) has',
-          added ∙ ap (added_levels n (variable_range P) e) (sym is),
+          added ∙ ap (added_levels n (variable_range (unfolding_of P)) e) (sym is),
           in_fragment u (suc p + size a) ((p, evolving_type e ty.0) ∷ bs) ((p, full D.ceiling (inner t)) ∷ cs) la.2 ty.5 (refl, sym (ap (bound_range D.ceiling R p) here), b)
               (shows_second R (suc p) (size a) (node_ranges D cs (suc p) a) (node_ranges D ((p, full D.ceiling (inner t)) ∷ cs) (suc p + size a) u) (as_many D a cs (suc p)) sh.1) k.2,
         )
@@ -140,7 +140,7 @@ module _ (shapes : PatternsHaveShapes) (P : Program) (n : ℕ) (program : IsProg
         )
 
   -- where nothing is refused
-  analysed : (N : Network) → N.declared ≡ P.declared → n ≡ length N.devices → first_refused (judged_of P) ≡ None → IsAnalysis P A N
+  analysed : (N : Network) → N.declared ≡ P.declared → n ≡ length N.devices → first_refused (judged_of (unfolding_of P)) ≡ None → IsAnalysis P A N
   analysed N same count none = record {
     ranges = refl;
     for = record {
@@ -159,7 +159,7 @@ yes_says (Some j) level k h = absurd cc
 
 pub yes_analyses : PatternsHaveShapes → YesAnalyses
 yes_analyses shapes P N k program net same h =
-    let y = yes_says (first_refused (judged_of P)) (main_level P (length N.devices)) k h in
+    let y = yes_says (first_refused (judged_of (unfolding_of P))) (main_level (unfolding_of P) (length N.devices)) k h in
     record { analysis = analysed shapes P (length N.devices) program N same refl y.0; level = y.1 }
 
 pub yes_stabilises : PatternsHaveShapes → StepsKeepGood → CopiesFit → RunsCut → YesStabilises

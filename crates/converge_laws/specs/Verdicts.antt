@@ -30,9 +30,9 @@ abbrev pub analysis_of : Program → ℕ → Analysis
 analysis_of P n = record {
   devices = n;
   ranges = range_of (unfolding_of P);
-  bounds = variable_range P;
-  pattern = λ p. pattern_or (pattern_at P p);
-  stages = stages_of P n;
+  bounds = variable_range (unfolding_of P);
+  pattern = λ p. pattern_or (pattern_at (unfolding_of P) p);
+  stages = stages_of (unfolding_of P) n;
 }
 
 -- a yes for so many rounds says that this is an analysis of the program, and that so many is the level of `main`
@@ -42,13 +42,13 @@ pub record IsAnalysed (P : Program) (N : Network) (k : ℕ) : Type 0 where
 
 abbrev pub YesAnalyses : Type 0
 YesAnalyses = (P : Program) (N : Network) (k : ℕ) → IsProgram P → IsNetwork N → N.declared ≡ P.declared
-    → verdict_of P (length N.devices) ≡ verdict.Yes k → IsAnalysed P N k
+    → verdict_of (unfolding_of P) (length N.devices) ≡ verdict.Yes k → IsAnalysed P N k
 
 -- the convergence law: a yes for so many rounds says that the program stabilises within them on each network with its
 -- declarations and so many devices
 abbrev pub YesStabilises : Type 0
 YesStabilises = (P : Program) (N : Network) (k : ℕ) → IsProgram P → IsNetwork N → N.declared ≡ P.declared
-    → verdict_of P (length N.devices) ≡ verdict.Yes k → Stabilises (unfolding_of P) N k
+    → verdict_of (unfolding_of P) (length N.devices) ≡ verdict.Yes k → Stabilises (unfolding_of P) N k
 
 -- the levels of exports that agree with the one field that solves a program, node by node
 abbrev pub level_by : (P : Program) (N : Network) → HasOneSolution (unfolding_of P) N → ExportLevel
@@ -66,7 +66,7 @@ pub record RaisesTo (P : Program) (N : Network) (k : ℕ) : Type 0 where
 
 abbrev pub YesRaises : Type 0
 YesRaises = (P : Program) (N : Network) (k : ℕ) → IsProgram P → IsNetwork N → N.declared ≡ P.declared
-    → verdict_of P (length N.devices) ≡ verdict.Yes k → RaisesTo P N k
+    → verdict_of (unfolding_of P) (length N.devices) ≡ verdict.Yes k → RaisesTo P N k
 
 -- a core's exports have the values of the one field that solves the program on the core's network
 pub record IsSettled (U : Unfolding) (c : Core) : Type 0 where
@@ -78,5 +78,5 @@ pub record IsSettled (U : Unfolding) (c : Core) : Type 0 where
 abbrev pub YesSettles : Type 0
 YesSettles =
     (P : Program) (start last : Core) (log : List EntryValue) (k : ℕ) → IsProgram P → IsGood (unfolding_of P) start
-    → Run (unfolding_of P) start log last → verdict_of P (length last.net.devices) ≡ verdict.Yes k
+    → Run (unfolding_of P) start log last → verdict_of (unfolding_of P) (length last.net.devices) ≡ verdict.Yes k
     → HasRounds (numbers last.net.devices) (after_edit log) k → IsSettled (unfolding_of P) last

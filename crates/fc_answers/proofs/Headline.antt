@@ -78,7 +78,7 @@ refused_keeps P program network r h zero = let many = h.many in absurd (omega (a
 module _ (law : YesStabilises) (fit : AcceptedScenesFit) (program network : List ℕ) where
   -- a yes on what was read
   abbrev has_yes : (U : Unfolding) (s : SceneValue) (P : Program) → ReadsInput program network (Accepted (U, s)) → IsProgram P
-      → unfolding_of P ≡ U → (k : ℕ) → verdict_of P (length s.net.devices) ≡ verdict.Yes k → HasYes program network
+      → unfolding_of P ≡ U → (k : ℕ) → verdict_of (unfolding_of P) (length s.net.devices) ≡ verdict.Yes k → HasYes program network
   has_yes U s P reads is unfolded k said =
       let fits = scene_fits fit program network (U, s) reads in
       let declared : s.net.declared ≡ P.declared = fits.declared ∙ ap (λ (V : Unfolding). V.declared) (sym unfolded) in
@@ -94,14 +94,14 @@ module _ (law : YesStabilises) (fit : AcceptedScenesFit) (program network : List
 
   check_by : (facts : Bool) (U : Unfolding) (s : SceneValue) (k : Judged Reply) (e : ChecksScene facts U s k)
       → ReadsInput program network (Accepted (U, s)) → (v : Verdict)
-      → verdict_of e.nodes (length s.net.devices) ≡ v → Keeps ChecksYes program network (reply_of k)
+      → verdict_of (unfolding_of e.nodes) (length s.net.devices) ≡ v → Keeps ChecksYes program network (reply_of k)
   check_by facts U s k e reads (verdict.Yes rounds) said zero = record {
     yes = has_yes U s e.nodes reads e.is_program e.unfolded rounds said;
-    facts = facts_behind facts (verdict_of e.nodes (length s.net.devices))
-        (facts_text e.nodes (ranges_of (unfolding_of e.nodes)) (levels_of e.nodes (length s.net.devices)));
+    facts = facts_behind facts (verdict_of (unfolding_of e.nodes) (length s.net.devices))
+        (facts_text e.nodes (ranges_of (unfolding_of e.nodes)) (levels_of (unfolding_of e.nodes) (length s.net.devices)));
     writes = ap (λ j. (reply_of j).text) e.checked
-        ∙ ap (λ v. verdict_text v ++ facts_behind facts (verdict_of e.nodes (length s.net.devices))
-        (facts_text e.nodes (ranges_of (unfolding_of e.nodes)) (levels_of e.nodes (length s.net.devices)))) said;
+        ∙ ap (λ v. verdict_text v ++ facts_behind facts (verdict_of (unfolding_of e.nodes) (length s.net.devices))
+        (facts_text e.nodes (ranges_of (unfolding_of e.nodes)) (levels_of (unfolding_of e.nodes) (length s.net.devices)))) said;
   }
   check_by facts U s k e reads (verdict.No place why) said zero =
       let one : 0 ≡ 1 = sym zero ∙ ap (λ j. (reply_of j).status) e.checked ∙ ap verdict_status said in
@@ -114,14 +114,14 @@ module _ (law : YesStabilises) (fit : AcceptedScenesFit) (program network : List
       by_input : (i : Judged InputOf) → ReadsInput program network i → IfRefused CauseJudges i
           → AndThen i (λ i k. ChecksScene facts i.0 i.1 k) k → Keeps ChecksYes program network (reply_of k)
       by_input (Accepted i) r c e =
-          check_by facts i.0 i.1 k e r (verdict_of e.nodes (length i.1.net.devices)) refl
+          check_by facts i.0 i.1 k e r (verdict_of (unfolding_of e.nodes) (length i.1.net.devices)) refl
       by_input (Refused cause) r c e =
           subst (λ j. Keeps ChecksYes program network (reply_of j)) (sym e)
           (refused_keeps ChecksYes program network (reply_to cause) c)
 
   stable_by : (U : Unfolding) (s : SceneValue) (k : Judged Reply) (e : StabilisesScene U s k)
       → ReadsInput program network (Accepted (U, s)) → (v : Verdict)
-      → verdict_of e.nodes (length s.net.devices) ≡ v → StabilisedBy v e.nodes s.net e.reply
+      → verdict_of (unfolding_of e.nodes) (length s.net.devices) ≡ v → StabilisedBy v e.nodes s.net e.reply
       → Keeps SolvesYes program network (reply_of k)
   stable_by U s k e reads (verdict.Yes rounds) said w zero =
       let y = has_yes U s e.nodes reads e.is_program e.unfolded rounds said in
@@ -143,7 +143,7 @@ module _ (law : YesStabilises) (fit : AcceptedScenesFit) (program network : List
       by_input : (i : Judged InputOf) → ReadsInput program network i → IfRefused CauseJudges i
           → AndThen i (λ i k. StabilisesScene i.0 i.1 k) k → Keeps SolvesYes program network (reply_of k)
       by_input (Accepted i) r c e =
-          stable_by i.0 i.1 k e r (verdict_of e.nodes (length i.1.net.devices)) refl e.writes
+          stable_by i.0 i.1 k e r (verdict_of (unfolding_of e.nodes) (length i.1.net.devices)) refl e.writes
       by_input (Refused cause) r c e =
           subst (λ j. Keeps SolvesYes program network (reply_of j)) (sym e)
           (refused_keeps SolvesYes program network (reply_to cause) c)
@@ -158,7 +158,7 @@ module _ (law : YesStabilises) (fit : AcceptedScenesFit) (least : SolutionsAreLe
 
   trace_by : (U : Unfolding) (s : SceneValue) (k : Judged Reply) (e : TracesScene U s k)
       → ReadsInput program network (Accepted (U, s)) → (v : Verdict)
-      → verdict_of e.nodes (length s.net.devices) ≡ v → (o : Option WalkTerms) → walk_terms U ≡ o
+      → verdict_of (unfolding_of e.nodes) (length s.net.devices) ≡ v → (o : Option WalkTerms) → walk_terms U ≡ o
       → TracedBy v o U s.net e.reply → Keeps TracesYes program network (reply_of k)
   trace_by U s k e reads (verdict.Yes rounds) said (Some w) form h zero =
       let y = has_yes law fit program network U s e.nodes reads e.is_program e.unfolded rounds said in
@@ -189,7 +189,7 @@ module _ (law : YesStabilises) (fit : AcceptedScenesFit) (least : SolutionsAreLe
       by_input : (i : Judged InputOf) → ReadsInput program network i → IfRefused CauseJudges i
           → AndThen i (λ i k. TracesScene i.0 i.1 k) k → Keeps TracesYes program network (reply_of k)
       by_input (Accepted i) r c e =
-          trace_by i.0 i.1 k e r (verdict_of e.nodes (length i.1.net.devices)) refl (walk_terms i.0) refl e.writes
+          trace_by i.0 i.1 k e r (verdict_of (unfolding_of e.nodes) (length i.1.net.devices)) refl (walk_terms i.0) refl e.writes
       by_input (Refused cause) r c e =
           subst (λ j. Keeps TracesYes program network (reply_of j)) (sym e)
           (refused_keeps TracesYes program network (reply_to cause) c)

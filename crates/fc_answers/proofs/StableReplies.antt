@@ -26,10 +26,10 @@ use Rattle.fc_answers.specs.Stabilised.{StabilisedBy, StabilisesScene, Stabilise
 -- ---- one reply
 module _ (P Q : Program) (N : Network) (r q : Reply) (same : unfolding_of P ≡ unfolding_of Q)
     (alike : checked_of false P (length N.devices) ≡ checked_of false Q (length N.devices)) where
-  status : verdict_status (verdict_of P (length N.devices)) ≡ verdict_status (verdict_of Q (length N.devices))
+  status : verdict_status (verdict_of (unfolding_of P) (length N.devices)) ≡ verdict_status (verdict_of (unfolding_of Q) (length N.devices))
   status = ap (λ (x : Reply). x.status) alike
 
-  one_reply : (v w : Verdict) → verdict_of P (length N.devices) ≡ v → verdict_of Q (length N.devices) ≡ w
+  one_reply : (v w : Verdict) → verdict_of (unfolding_of P) (length N.devices) ≡ v → verdict_of (unfolding_of Q) (length N.devices) ≡ w
       → StabilisedBy v P N r → StabilisedBy w Q N q → r ≡ q
   one_reply (verdict.Yes k) (verdict.Yes l) e f h g =
       let there : IsStableField (unfolding_of Q) N h.field = subst (λ U. IsStableField U N h.field) same h.stable in
@@ -53,8 +53,8 @@ one_scene U s j k h g =
     let same : unfolding_of h.nodes ≡ unfolding_of g.nodes = h.unfolded ∙ sym g.unfolded in
     h.is
     ∙ ap Accepted (one_reply h.nodes g.nodes s.net h.reply g.reply same
-    (checked_alike false h.nodes g.nodes h.is_program g.is_program same n) (verdict_of h.nodes n)
-    (verdict_of g.nodes n) refl refl h.writes g.writes)
+    (checked_alike false h.nodes g.nodes h.is_program g.is_program same n) (verdict_of (unfolding_of h.nodes) n)
+    (verdict_of (unfolding_of g.nodes) n) refl refl h.writes g.writes)
     ∙ sym g.is
 
 pub one_stable : OneInput → (program network : List ℕ) (j k : Judged Reply) → Stabilised program network j
@@ -71,7 +71,7 @@ one_stable input program network j k h g =
 
 -- ---- something
 module _ (law : YesStabilises) (P : Program) (is : IsProgram P) (N : Network) where
-  some_reply : IsNetwork N → N.declared ≡ P.declared → (v : Verdict) → verdict_of P (length N.devices) ≡ v
+  some_reply : IsNetwork N → N.declared ≡ P.declared → (v : Verdict) → verdict_of (unfolding_of P) (length N.devices) ≡ v
       → (r : Reply) × StabilisedBy v P N r
   some_reply net declared (verdict.Yes k) e =
       let one : HasOneSolution (unfolding_of P) N = (law P N k is net declared e).one in
@@ -96,7 +96,7 @@ some_stable law fit check program network short =
         let declared : i.1.net.declared ≡ e.nodes.declared =
         fits.declared ∙ ap (λ (U : Unfolding). U.declared) (sym e.unfolded) in
         let made = some_reply law e.nodes e.is_program i.1.net fits.net declared
-        (verdict_of e.nodes (length i.1.net.devices)) refl in (
+        (verdict_of (unfolding_of e.nodes) (length i.1.net.devices)) refl in (
           Accepted made.0,
           record {
             judged = Accepted i;

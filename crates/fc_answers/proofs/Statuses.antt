@@ -5,7 +5,7 @@ use Rattle.topology.specs.declared.types.NetFault.{NetFault}
 use Rattle.topology.specs.declared.types.NetFault.TheVariants as net
 use Rattle.net_json.specs.Judging as scene
 use Rattle.net_json.specs.Scenes.{SceneValue, scene_of}
-use Rattle.fc_nodes.specs.Program.{Unfolding}
+use Rattle.fc_nodes.specs.Program.{Unfolding, unfolding_of}
 use Rattle.firing_core.specs.Cores.{Core}
 use Rattle.fc_syntax.specs.Terms.{Declaration}
 use Rattle.edit_commands.specs.declared.types.Fault.{Fault}
@@ -238,13 +238,13 @@ check_replies facts program network j h = by_input h.judged (input_causes progra
     by_input : (i : Judged InputOf) → IfRefused CauseJudges i → AndThen i (λ i k. ChecksScene facts i.0 i.1 k) j
         → ReplyJudges j
     by_input (Accepted i) c e =
-        subst ReplyJudges (sym e.checked) (verdict_judges (verdict_of e.nodes (length i.1.net.devices)))
+        subst ReplyJudges (sym e.checked) (verdict_judges (verdict_of (unfolding_of e.nodes) (length i.1.net.devices)))
     by_input (Refused cause) c e = subst ReplyJudges (sym e) c
 
 stable_by : (v : Verdict) (P : Program) (N : Network) (r : Reply) → StabilisedBy v P N r → JudgesBy r.status
 stable_by (verdict.Yes rounds) P N r h = subst (λ (x : Reply). JudgesBy x.status) (sym h.is) by_zero
 stable_by (verdict.No place why) P N r h = subst (λ (x : Reply). JudgesBy x.status) (sym h)
-    (verdict_judges (verdict_of P (length N.devices)))
+    (verdict_judges (verdict_of (unfolding_of P) (length N.devices)))
 
 stable_replies : (program network : List ℕ) (j : Judged Reply) → Stabilised program network j → ReplyJudges j
 stable_replies program network j h = by_input h.judged (input_causes program network h.judged h.reads) h.ends
@@ -253,7 +253,7 @@ stable_replies program network j h = by_input h.judged (input_causes program net
         → ReplyJudges j
     by_input (Accepted i) c e =
         subst ReplyJudges (sym e.is)
-        (stable_by (verdict_of e.nodes (length i.1.net.devices)) e.nodes i.1.net e.reply e.writes)
+        (stable_by (verdict_of (unfolding_of e.nodes) (length i.1.net.devices)) e.nodes i.1.net e.reply e.writes)
     by_input (Refused cause) c e = subst ReplyJudges (sym e) c
 
 by_one : JudgesBy 1
@@ -271,7 +271,7 @@ trace_replies program network j h = by_input h.judged (input_causes program netw
         → ReplyJudges j
     by_input (Accepted i) c e =
         subst ReplyJudges (sym e.is)
-        (trace_by (verdict_of e.nodes (length i.1.net.devices)) (walk_terms i.0) i.0 i.1.net e.reply e.writes)
+        (trace_by (verdict_of (unfolding_of e.nodes) (length i.1.net.devices)) (walk_terms i.0) i.0 i.1.net e.reply e.writes)
     by_input (Refused cause) c e = subst ReplyJudges (sym e) c
 
 time_judges : (o : Option ℕ) → JudgesBy (settle_status o)
@@ -317,7 +317,7 @@ driven_replies number program network j h = by_input h.judged (input_causes prog
   where
     by_input : (i : Judged InputOf) → IfRefused CauseJudges i → AndThen i (λ i k. DrivesScene number i.0 i.1 k) j
         → ReplyJudges j
-    by_input (Accepted i) c e = drives_by number (verdict_of e.nodes (length i.1.net.devices)) i.0 i.1 j e.drives
+    by_input (Accepted i) c e = drives_by number (verdict_of (unfolding_of e.nodes) (length i.1.net.devices)) i.0 i.1 j e.drives
     by_input (Refused cause) c e = subst ReplyJudges (sym e) c
 
 replied_judges : (i : Judged Reply) → ReplyJudges i → (j : Judged AnswerValue) → j ≡ judged_map replied i → JudgesWell j

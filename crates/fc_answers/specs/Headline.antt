@@ -51,7 +51,7 @@ pub record HasYes (program network : List ℕ) : Type 0 where
   pub scene : SceneValue
   pub reads : ReadsInput program network (Accepted (unfolding_of nodes, scene))
   pub rounds : ℕ
-  pub yes : verdict_of nodes (length scene.net.devices) ≡ verdict.Yes rounds
+  pub yes : verdict_of (unfolding_of nodes) (length scene.net.devices) ≡ verdict.Yes rounds
   pub stabilises : Stabilises (unfolding_of nodes) scene.net rounds
 
 -- the values of the one field at all devices, rising
@@ -66,7 +66,7 @@ pub record ChecksYes (program network text : List ℕ) : Type 0 where
 
 -- a yes for the devices of a network is kept there: within its rounds the program stabilises
 abbrev pub KeepsYes : Program → Network → Type 0
-KeepsYes P N = (K : ℕ) → verdict_of P (length N.devices) ≡ verdict.Yes K → Stabilises (unfolding_of P) N K
+KeepsYes P N = (K : ℕ) → verdict_of (unfolding_of P) (length N.devices) ≡ verdict.Yes K → Stabilises (unfolding_of P) N K
 
 -- `check --settle` writes behind the text of the verdict the settle time of the scene's network, and for each device
 -- its settle round and its value then; or that the network is open, with the same lines. These rounds and this time are

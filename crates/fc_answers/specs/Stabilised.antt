@@ -32,7 +32,7 @@ pub record StabilisesScene (U : Unfolding) (s : SceneValue) (j : Judged Reply) :
   pub is_program : IsProgram nodes
   pub unfolded : unfolding_of nodes ≡ U
   pub reply : Reply
-  pub writes : StabilisedBy (verdict_of nodes (length s.net.devices)) nodes s.net reply
+  pub writes : StabilisedBy (verdict_of (unfolding_of nodes) (length s.net.devices)) nodes s.net reply
   pub is : j ≡ Accepted reply
 
 -- the texts of a program and of a scene

@@ -1,7 +1,7 @@
 //! What `stable` makes of a program and a scene.
 ghost use Rattle.std.specs.Prelude.{◌≡◌, ◌≤◌, IfErr, IfOk, length, map};
 ghost use Rattle.fc_values.specs.Fields.{Rises, devices, entry_of};
-ghost use Rattle.fc_nodes.specs.Program.{IsProgram};
+ghost use Rattle.fc_nodes.specs.Program.{IsProgram, unfolding_of};
 ghost use Rattle.fragment_check.specs.Verdicts.{verdict_of};
 ghost use Rattle.report.specs.Texts.{field_text};
 ghost use Rattle.fc_inputs.specs.Causes.{Accepted, Refused};
@@ -32,7 +32,7 @@ fn field_reply(alloc: Global, field: &[(u32, Local)]) -> Result<Reply, Memory>
 fn of_network(alloc: Global, program: &Unfolded, net: &Network) -> Result<Reply, Memory>
     requires program { IsProgram program.now }
     requires declared { net.now.declared ≡ program.now.declared }
-    ensures { IfOk result (StabilisedBy (verdict_of program.now (length net.now.devices)) program.now net.now) }
+    ensures { IfOk result (StabilisedBy (verdict_of (unfolding_of program.now) (length net.now.devices)) program.now net.now) }
 {
     match stable(alloc, program, net) {
         Ok(field) => field_reply(alloc, &field),

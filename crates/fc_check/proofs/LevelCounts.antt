@@ -1,7 +1,7 @@
 -- Each node of a program has its place in the list of levels.
 use Rattle.std.proofs.Common.{ℕ, zero, suc, ◌≡◌, ◌+◌, List, [], ◌∷◌, ◌++◌, length, length-append, refl, ap, ap₂, ◌∙◌, sym, arith, Option, None}
 use Rattle.std.specs.List.{repeat}
-use Rattle.fc_nodes.specs.Program.{IsProgram, Program}
+use Rattle.fc_nodes.specs.Program.{IsProgram, Program, unfolding_of}
 use Rattle.fc_nodes.specs.Terms.{Term, Terms, Plain, Apply, Nbr, Evolve, If, Let, NoMore, More, size, sizes, term_at}
 use Rattle.fragment_check.specs.Levels.{Stages, Lvs, all_node_levels, bind_level, level_of, node_levels}
 use Rattle.fragment_check.specs.Verdicts.{levels_of, stages_of}
@@ -45,5 +45,5 @@ module _ (K : Stages) where
     all_levels_long p b x lv (More t ts) =
         joined (node_levels K p b x lv t) (all_node_levels K (p + size t) b x lv ts) (size t) (sizes ts) (levels_long p b x lv t) (all_levels_long (p + size t) b x lv ts)
 
-pub all_levels : (P : Program) (n : ℕ) → IsProgram P → length (levels_of P n) ≡ length P.nodes
-all_levels P n is = levels_long (stages_of P n) 0 1 (size (term_at P.nodes 0)) (λ q. 0) (term_at P.nodes 0) ∙ sym is.formed.whole
+pub all_levels : (P : Program) (n : ℕ) → IsProgram P → length (levels_of (unfolding_of P) n) ≡ length P.nodes
+all_levels P n is = levels_long (stages_of (unfolding_of P) n) 0 1 (size (term_at P.nodes 0)) (λ q. 0) (term_at P.nodes 0) ∙ sym is.formed.whole

@@ -109,13 +109,13 @@ abbrev stages : ℕ → Unfolding → (ℕ → Term) → Stages
 stages n U T p = added_at U.declared.ceiling (range_of U) (λ q. bound_range U.declared.ceiling (range_of U) q (T q)) n p (T p)
 
 module _ (P Q : Program) (h : Alike P Q) (n : ℕ) where
-  pub one_verdict : verdict_of P n ≡ verdict_of Q n
+  pub one_verdict : verdict_of (unfolding_of P) n ≡ verdict_of (unfolding_of Q) n
   one_verdict =
       ap₂ (λ (U : Unfolding) (T : ℕ → Term).
       verdict_by (first_refused (judged U.declared.ceiling (range_of U) 0 (T 0))) (level_of (stages n U T) 0 1 (size (T 0)) (λ q. 0) (T 0)))
       h.unfolded h.terms
 
-  one_levels : levels_of P n ≡ levels_of Q n
+  one_levels : levels_of (unfolding_of P) n ≡ levels_of (unfolding_of Q) n
   one_levels = ap₂ (λ (U : Unfolding) (T : ℕ → Term). node_levels (stages n U T) 0 1 (size (T 0)) (λ q. 0) (T 0)) h.unfolded h.terms
 
   one_front : (rs : List RangeValue) (ls : List (Option ℕ)) (k : ℕ) → facts_before P rs ls k ≡ facts_before Q rs ls k
@@ -123,10 +123,10 @@ module _ (P Q : Program) (h : Alike P Q) (n : ℕ) where
   one_front rs ls (suc k) =
       ap₂ (λ (front : List ℕ) (o : Option View). front ++ fact_line k o (get_or rs k BoolRange) (get_or ls k None)) (one_front rs ls k) (h.views k)
 
-  one_text : facts_text P (ranges_of (unfolding_of P)) (levels_of P n) ≡ facts_text Q (ranges_of (unfolding_of Q)) (levels_of Q n)
+  one_text : facts_text P (ranges_of (unfolding_of P)) (levels_of (unfolding_of P) n) ≡ facts_text Q (ranges_of (unfolding_of Q)) (levels_of (unfolding_of Q) n)
   one_text =
-      one_front (ranges_of (unfolding_of P)) (levels_of P n) (length P.nodes)
-      ∙ ap (facts_before Q (ranges_of (unfolding_of P)) (levels_of P n)) h.long
+      one_front (ranges_of (unfolding_of P)) (levels_of (unfolding_of P) n) (length P.nodes)
+      ∙ ap (facts_before Q (ranges_of (unfolding_of P)) (levels_of (unfolding_of P) n)) h.long
       ∙ ap₂ (λ rs ls. facts_before Q rs ls (length Q.nodes)) (ap ranges_of h.unfolded) one_levels
 
   pub one_reply : (facts : Bool) → checked_of facts P n ≡ checked_of facts Q n

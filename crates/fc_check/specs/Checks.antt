@@ -27,9 +27,9 @@ facts_behind false v text = []
 -- what is written of a program for so many devices, and the status
 abbrev pub checked_of : Bool → Program → ℕ → Reply
 checked_of facts P n = record {
-  status = verdict_status (verdict_of P n);
-  text = verdict_text (verdict_of P n) ++ facts_behind facts (verdict_of P n)
-      (facts_text P (ranges_of (unfolding_of P)) (levels_of P n));
+  status = verdict_status (verdict_of (unfolding_of P) n);
+  text = verdict_text (verdict_of (unfolding_of P) n) ++ facts_behind facts (verdict_of (unfolding_of P) n)
+      (facts_text P (ranges_of (unfolding_of P)) (levels_of (unfolding_of P) n));
 }
 
 -- a program and a scene of it: the program is unfolded, and the devices are those of the scene's network

@@ -22,4 +22,4 @@ SomeCheck =
 abbrev pub OneVerdict : Type 0
 OneVerdict =
     (P Q : Program) → IsProgram P → IsProgram Q → unfolding_of P ≡ unfolding_of Q
-    → (n : ℕ) → verdict_of P n ≡ verdict_of Q n
+    → (n : ℕ) → verdict_of (unfolding_of P) n ≡ verdict_of (unfolding_of Q) n

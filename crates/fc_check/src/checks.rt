@@ -1,6 +1,6 @@
 //! What `check` makes of a program and a scene.
 ghost use Rattle.std.specs.Prelude.{◌≡◌, ◌≤◌, IfErr, IfOk, length};
-ghost use Rattle.fc_nodes.specs.Program.{IsProgram};
+ghost use Rattle.fc_nodes.specs.Program.{IsProgram, unfolding_of};
 ghost use Rattle.fragment_check.specs.Verdicts.{verdict_of};
 ghost use Rattle.fc_inputs.specs.Causes.{Accepted, Refused};
 ghost use Rattle.fc_inputs.specs.Stops.{StopsFor};
@@ -24,7 +24,7 @@ pub fn verdict_text(
 ) -> Result<(Verdict, Vec<u8>), Memory>
     requires program { IsProgram program.now }
     requires devices { 1 ≤ devices }
-    ensures verdict { IfOk result (λ r. r.0 ≡ verdict_of program.now devices) }
+    ensures verdict { IfOk result (λ r. r.0 ≡ verdict_of (unfolding_of program.now) devices) }
     ensures text { IfOk result (λ r. r.1.items ≡ (checked_of facts program.now devices).text) }
 {
     let analysis = Analysis::new(alloc, program)?;

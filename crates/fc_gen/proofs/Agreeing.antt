@@ -68,7 +68,7 @@ agree_all networks stabilise law step keep plain number devices low high g h =
     ring_is.declared ∙ sym (ap (λ (U : Unfolding). U.declared) h.unfolded) in
     let rounds : h.rounds ≡ 2 + 2 * devices = rounds_are stabilise number devices low high g h in
     let s : Stabilises (unfolding_of h.nodes) (ring number devices) h.rounds =
-    law h.nodes (ring number devices) h.rounds h.is_program ring_is.network declared (ap (verdict_of h.nodes) ring_is.devices ∙ h.yes) in
+    law h.nodes (ring number devices) h.rounds h.is_program ring_is.network declared (ap (verdict_of (unfolding_of h.nodes)) ring_is.devices ∙ h.yes) in
     let c = cut_of h.nodes (scenario_start number devices) number h.rounds h.log h.parts h.shown h.last h.run in
     let good = empty_good (unfolding_of h.nodes) (ring number devices) ring_is.network declared in
     let r = reached step keep plain h.nodes h.is_program (scenario_start number devices) h.last h.rounds good h.log h.parts c s in

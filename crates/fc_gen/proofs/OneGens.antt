@@ -51,7 +51,7 @@ module _ (stabilise : RingsStabilise) (number devices : ℕ) (low : 3 ≤ device
       let rounds : h.rounds ≡ g.rounds = rounds_are a h ∙ sym (rounds_are b g) in
       let lines : SameCommands (unfolding_of h.nodes) (scenario_lines number h.rounds) (scenario_lines number g.rounds) =
       (refl, refl, (refl, ap RunCommand (sym rounds), tt)) in
-      let verdicts : (n : ℕ) → verdict_of g.nodes n ≡ verdict_of h.nodes n =
+      let verdicts : (n : ℕ) → verdict_of (unfolding_of g.nodes) n ≡ verdict_of (unfolding_of h.nodes) n =
       λ n. stabilise g.nodes devices n low high g.unfolded ∙ sym (stabilise h.nodes devices n low high h.unfolded) in
       let texts : SameEntries (scenario_program devices) h.log g.log → text_of h ≡ text_of g =
       λ agree.

@@ -31,7 +31,7 @@ some_gen typed networks stabilise unfolds law some number devices low high =
     (lines_judged (unfolding_of nodes.program) (ring number devices) number (2 + 2 * devices) (omega arith) few) in
     let stabilises : Stabilises (unfolding_of nodes.program) (ring number devices) (2 + 2 * devices) =
     law nodes.program (ring number devices) (2 + 2 * devices) nodes.is ring_is.network declared
-    (ap (verdict_of nodes.program) ring_is.devices ∙ is_yes) in
+    (ap (verdict_of (unfolding_of nodes.program)) ring_is.devices ∙ is_yes) in
     let field : Entries = map (λ (d : ℕ). (d, stabilises.one.field d)) (numbers (ring number devices).devices) in (
       record {
         text = gen_text number devices (2 + 2 * devices) field run.0 run.1 run.3;

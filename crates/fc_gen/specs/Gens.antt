@@ -53,7 +53,7 @@ pub record Gens (number devices : ℕ) (g : GenValue) : Type 0 where
   pub is_program : IsProgram nodes
   pub unfolded : unfolding_of nodes ≡ scenario_program devices
   pub rounds : ℕ
-  pub yes : verdict_of nodes devices ≡ verdict.Yes rounds
+  pub yes : verdict_of (unfolding_of nodes) devices ≡ verdict.Yes rounds
   pub log : List EntryValue
   pub parts : List Part
   pub shown : List ℕ

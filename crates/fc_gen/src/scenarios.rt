@@ -81,7 +81,7 @@ fn nodes(alloc: Global, program: Program, devices: u32) -> Result<Unfolded, Memo
 // The stabilised field of a program on a network for which its verdict is a yes.
 fn field(alloc: Global, program: &Unfolded, net: &Network) -> Result<Vec<(u32, Local)>, Memory>
     requires declared { net.now.declared ≡ program.now.declared }
-    requires yes { (k : ℕ) × (verdict_of program.now (length net.now.devices) ≡ verdict.Yes k) }
+    requires yes { (k : ℕ) × (verdict_of (unfolding_of program.now) (length net.now.devices) ≡ verdict.Yes k) }
     ensures { IfOk result (λ field. IsStableField (unfolding_of program.now) net.now (map entry_of field.items)) }
 {
     match stable(alloc, program, net) {

@@ -50,14 +50,14 @@ module _ (starts : InputsStart) (law : YesStabilisesMail) (program network : Lis
   net : IsNetwork i.1.net
   net = start.good.net
 
-  stabilised : (k : ℕ) → verdict_of P (length i.1.net.devices) ≡ verdict.Yes k → MailStabilises (unfolding_of P) i.1.net k
+  stabilised : (k : ℕ) → verdict_of (unfolding_of P) (length i.1.net.devices) ≡ verdict.Yes k → MailStabilises (unfolding_of P) i.1.net k
   stabilised k said = law P i.1.net k is net start.good.declared said
 
 -- ---- a log
 
 module _ (starts : InputsStart) (law : YesStabilisesMail) (program network log : List ℕ) (r : Reply) (i : InputOf)
     (reads : ReadsInput program network (Accepted i)) (P : Program) (is : IsProgram P) (unfolded : unfolding_of P ≡ i.0) where
-  abbrev stable : (k : ℕ) → verdict_of P (length i.1.net.devices) ≡ verdict.Yes k → MailStabilises (unfolding_of P) i.1.net k
+  abbrev stable : (k : ℕ) → verdict_of (unfolding_of P) (length i.1.net.devices) ≡ verdict.Yes k → MailStabilises (unfolding_of P) i.1.net k
   stable k said = stabilised starts law program network i reads P is unfolded k said
 
   shown : (es : Mailed) → mail_log log ≡ AllLines es → ShowsMail (unfolding_of P) (quiet (start_of i.1)) es (Accepted r)
@@ -113,7 +113,7 @@ mails_keep_yes starts law program network log r h = by_input h.judged h.reads h.
 
 module _ (starts : InputsStart) (law : YesStabilisesMail) (runs : RunsKeepGood) (covers : DrivenRounds) (most : NoMoreRounds) (number : ℕ) (program network : List ℕ) (r : Reply) (zero_is : r.status ≡ 0)
     (i : InputOf) (reads : ReadsInput program network (Accepted i)) (P : Program) (is : IsProgram P) (unfolded : unfolding_of P ≡ i.0) where
-  driven_on : (k : ℕ) → verdict_of P (length i.1.net.devices) ≡ verdict.Yes k → WritesDriven number (unfolding_of P) i.1 k (Accepted r)
+  driven_on : (k : ℕ) → verdict_of (unfolding_of P) (length i.1.net.devices) ≡ verdict.Yes k → WritesDriven number (unfolding_of P) i.1 k (Accepted r)
       → DrivenMailKeepsYes number program network r.text
   driven_on k said h =
       let m = stabilised starts law program network i reads P is unfolded k said in
@@ -146,12 +146,12 @@ module _ (starts : InputsStart) (law : YesStabilisesMail) (runs : RunsKeepGood) 
             (field_values (unfolding_of P) i.1.net k m (quiet h.core) h.last log begins same h.leads has);
       }
 
-  within : (b : Bool) (k : ℕ) → verdict_of P (length i.1.net.devices) ≡ verdict.Yes k → DrivesWithin b number (unfolding_of P) i.1 k (Accepted r)
+  within : (b : Bool) (k : ℕ) → verdict_of (unfolding_of P) (length i.1.net.devices) ≡ verdict.Yes k → DrivesWithin b number (unfolding_of P) i.1 k (Accepted r)
       → DrivenMailKeepsYes number program network r.text
   within true k said h = absurd (cc (h))
   within false k said h = driven_on k said h
 
-  by_verdict : (v : Verdict) → verdict_of P (length i.1.net.devices) ≡ v → DrivesBy number v (unfolding_of P) i.1 (Accepted r)
+  by_verdict : (v : Verdict) → verdict_of (unfolding_of P) (length i.1.net.devices) ≡ v → DrivesBy number v (unfolding_of P) i.1 (Accepted r)
       → DrivenMailKeepsYes number program network r.text
   by_verdict (verdict.No place why) e h =
       let one : 0 ≡ 1 = sym zero_is ∙ ap (λ (x : Reply). x.status) (accepted_same r _ h) in
@@ -163,8 +163,8 @@ driven_mails_keep_yes starts law runs covers most number program network r h zer
   where
     by_scene : (i : InputOf) → ReadsInput program network (Accepted i) → DrivesScene number i.0 i.1 (Accepted r) → DrivenMailKeepsYes number program network r.text
     by_scene i reads e =
-        by_verdict starts law runs covers most number program network r zero i reads e.nodes e.is_program e.unfolded (verdict_of e.nodes (length i.1.net.devices)) refl
-        (subst (λ (V : Unfolding). DrivesBy number (verdict_of e.nodes (length i.1.net.devices)) V i.1 (Accepted r)) (sym e.unfolded) e.drives)
+        by_verdict starts law runs covers most number program network r zero i reads e.nodes e.is_program e.unfolded (verdict_of (unfolding_of e.nodes) (length i.1.net.devices)) refl
+        (subst (λ (V : Unfolding). DrivesBy number (verdict_of (unfolding_of e.nodes) (length i.1.net.devices)) V i.1 (Accepted r)) (sym e.unfolded) e.drives)
 
     by_input : (j : Judged InputOf) → ReadsInput program network j → AndThen j (λ i k. DrivesScene number i.0 i.1 k) (Accepted r) → DrivenMailKeepsYes number program network r.text
     by_input (Refused cause) reads e = absurd (cc (e))

@@ -117,9 +117,9 @@ one_driven input starts verdicts cores runs mails number program network j k h g
     by_input (Accepted i) r e f =
         let v = verdicts e.nodes f.nodes e.is_program f.is_program (e.unfolded ∙ sym f.unfolded) (length i.1.net.devices) in
         let good : IsGood (unfolding_of f.nodes) (start_of i.1) = subst (λ U. IsGood U (start_of i.1)) (sym f.unfolded) (starts program network i r).good in
-        let at : (x : Judged Reply) → DrivesBy number (verdict_of f.nodes (length i.1.net.devices)) i.0 i.1 x → DrivesBy number (verdict_of f.nodes (length i.1.net.devices)) (unfolding_of f.nodes) i.1 x =
-        λ x m. subst (λ U. DrivesBy number (verdict_of f.nodes (length i.1.net.devices)) U i.1 x) (sym f.unfolded) m in
-        one_driven_by cores mails number f.nodes f.is_program i.1 good runs j k (verdict_of f.nodes (length i.1.net.devices)) (at j (subst (λ v. DrivesBy number v i.0 i.1 j) v e.drives)) (at k f.drives)
+        let at : (x : Judged Reply) → DrivesBy number (verdict_of (unfolding_of f.nodes) (length i.1.net.devices)) i.0 i.1 x → DrivesBy number (verdict_of (unfolding_of f.nodes) (length i.1.net.devices)) (unfolding_of f.nodes) i.1 x =
+        λ x m. subst (λ U. DrivesBy number (verdict_of (unfolding_of f.nodes) (length i.1.net.devices)) U i.1 x) (sym f.unfolded) m in
+        one_driven_by cores mails number f.nodes f.is_program i.1 good runs j k (verdict_of (unfolding_of f.nodes) (length i.1.net.devices)) (at j (subst (λ v. DrivesBy number v i.0 i.1 j) v e.drives)) (at k f.drives)
 
 module _ (free : FaultlessStep) (keeps : StepsKeepGood) (leads : DrivenLeads) (greatest : SomeGreatestMail) (number : ℕ) (P : Program) (is : IsProgram P) (s : SceneValue)
     (good : IsGood (unfolding_of P) (start_of s)) where
@@ -155,7 +155,7 @@ some_driven check starts free keeps leads greatest number program network short 
     by_input k (Refused cause) r e = (Refused cause, record { judged = Refused cause; reads = r; ends = refl })
     by_input k (Accepted i) r e =
         let good : IsGood (unfolding_of e.nodes) (start_of i.1) = subst (λ U. IsGood U (start_of i.1)) (sym e.unfolded) (starts program network i r).good in
-        let made = some_driven_by free keeps leads greatest number e.nodes e.is_program i.1 good (verdict_of e.nodes (length i.1.net.devices)) in (
+        let made = some_driven_by free keeps leads greatest number e.nodes e.is_program i.1 good (verdict_of (unfolding_of e.nodes) (length i.1.net.devices)) in (
           made.0,
           record {
             judged = Accepted i;
@@ -164,7 +164,7 @@ some_driven check starts free keeps leads greatest number program network short 
               nodes = e.nodes;
               is_program = e.is_program;
               unfolded = e.unfolded;
-              drives = subst (λ U. DrivesBy number (verdict_of e.nodes (length i.1.net.devices)) U i.1 made.0) e.unfolded made.1;
+              drives = subst (λ U. DrivesBy number (verdict_of (unfolding_of e.nodes) (length i.1.net.devices)) U i.1 made.0) e.unfolded made.1;
             };
           },
         )

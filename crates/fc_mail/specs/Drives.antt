@@ -67,7 +67,7 @@ pub record DrivesScene (number : ℕ) (U : Unfolding) (s : SceneValue) (j : Judg
   pub nodes : Program
   pub is_program : IsProgram nodes
   pub unfolded : unfolding_of nodes ≡ U
-  pub drives : DrivesBy number (verdict_of nodes (length s.net.devices)) U s j
+  pub drives : DrivesBy number (verdict_of (unfolding_of nodes) (length s.net.devices)) U s j
 
 -- the texts of a program and of a scene
 pub record DrivesMail (number : ℕ) (program network : List ℕ) (j : Judged Reply) : Type 0 where

@@ -57,11 +57,11 @@ pub record MailKeepsYes (program network log text : List ℕ) : Type 0 where
   pub rounds : ℕ
   pub counted : IsGreatestMail scene.net nothing (entries_in entries) rounds
   pub writes : text ≡ values_text last.core ++ rounds_text rounds
-  pub stabilises : (k : ℕ) → verdict_of nodes (length scene.net.devices) ≡ verdict.Yes k
+  pub stabilises : (k : ℕ) → verdict_of (unfolding_of nodes) (length scene.net.devices) ≡ verdict.Yes k
       → MailStabilises (unfolding_of nodes) scene.net k
-  pub holds : (k : ℕ) (judged : verdict_of nodes (length scene.net.devices) ≡ verdict.Yes k) → k ≤ rounds
+  pub holds : (k : ℕ) (judged : verdict_of (unfolding_of nodes) (length scene.net.devices) ≡ verdict.Yes k) → k ≤ rounds
       → Holds last.core (stabilises k judged).one.field
-  pub shows : (k : ℕ) (judged : verdict_of nodes (length scene.net.devices) ≡ verdict.Yes k) → k ≤ rounds
+  pub shows : (k : ℕ) (judged : verdict_of (unfolding_of nodes) (length scene.net.devices) ≡ verdict.Yes k) → k ≤ rounds
       → text ≡ field_text (field_on scene.net (stabilises k judged).one.field) ++ rounds_text rounds
 
 -- The verdict is a yes, within whose rounds the program stabilises over message links. Once the flights of the scene
@@ -75,7 +75,7 @@ pub record DrivenMailKeepsYes (number : ℕ) (program network text : List ℕ) :
   pub scene : SceneValue
   pub reads : ReadsInput program network (Accepted (unfolding_of nodes, scene))
   pub rounds : ℕ
-  pub yes : verdict_of nodes (length scene.net.devices) ≡ verdict.Yes rounds
+  pub yes : verdict_of (unfolding_of nodes) (length scene.net.devices) ≡ verdict.Yes rounds
   pub core : Core
   pub settles : Settles (unfolding_of nodes) scene core
   pub last : MailCore

@@ -60,7 +60,7 @@ fn settled(alloc: Global, program: &Arc<Unfolded>, scene: Scene) -> Result<Mail,
 // The verdict on a program, for so many devices.
 fn verdict(alloc: Global, program: &Unfolded, devices: u32) -> Result<Verdict, Memory>
     requires { 1 ≤ devices }
-    ensures verdict { IfOk result (λ v. v ≡ verdict_of program.now devices) }
+    ensures verdict { IfOk result (λ v. v ≡ verdict_of (unfolding_of program.now) devices) }
     ensures few { IfOk result (λ v. (k : ℕ) → v ≡ verdict.Yes k → k < 2 ^ 33) }
 {
     Analysis::new(alloc, program)?.verdict(alloc, devices)
@@ -124,9 +124,9 @@ fn of_scene(alloc: Global, number: u32, program: Unfolded, scene: Scene) -> Resu
     requires declared { scene.net.declared ≡ program.declared }
     requires rows { AreRows (unfolding_of program) scene.net scene.table.items }
     requires copies { AreCopies (unfolding_of program) scene.net scene.pending.items }
-    ensures writes { IfOk result (λ r. DrivesBy number (verdict_of program (length scene.net.devices))
+    ensures writes { IfOk result (λ r. DrivesBy number (verdict_of (unfolding_of program) (length scene.net.devices))
         (unfolding_of program) (value_of_scene (unfolding_of program) scene) (Accepted r)) }
-    ensures refused { IfErr result (StopsFor (λ cause. DrivesBy number (verdict_of program (length scene.net.devices))
+    ensures refused { IfErr result (StopsFor (λ cause. DrivesBy number (verdict_of (unfolding_of program) (length scene.net.devices))
         (unfolding_of program) (value_of_scene (unfolding_of program) scene) (Refused cause))) }
 {
     // Its clause: the network has devices.

@@ -44,15 +44,15 @@ reply_with status text = record { status = status; text = text }
 pub record AreMade (facts : Bool) (P : Program) (N : Network) (table : BoundTable) (v : Verdict) (n most : ℕ)
     (text : List ℕ) (os : List (Option (ℕ × LocalValue))) : Type 0 where
   pub many : n ≡ length N.devices
-  pub verdict : v ≡ verdict_of P n
+  pub verdict : v ≡ verdict_of (unfolding_of P) n
   pub cap : most ≡ settle_cap v n
   pub judged : text ≡ (checked_of facts P n).text
   pub settled : os ≡ all_settle_to (unfolding_of P) N table most
 
 module _ (facts : Bool) (P : Program) (N : Network) (table : BoundTable) (v : Verdict) (n most : ℕ) (text : List ℕ)
     (os : List (Option (ℕ × LocalValue))) (m : AreMade facts P N table v n most text os) where
-  judged : v ≡ verdict_of P (length N.devices)
-  judged = m.verdict ∙ ap (verdict_of P) m.many
+  judged : v ≡ verdict_of (unfolding_of P) (length N.devices)
+  judged = m.verdict ∙ ap (verdict_of (unfolding_of P)) m.many
 
   each : os ≡ map (settled_from P N table) (numbers N.devices)
   each = m.settled ∙ ap (all_settle_to (unfolding_of P) N table) (m.cap ∙ ap₂ settle_cap judged m.many)

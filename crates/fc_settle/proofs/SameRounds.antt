@@ -84,7 +84,7 @@ module _ (facts : Bool) (P : Program) (N : Network) (net : IsNetwork N) (s t : B
 
       written : List (Option (ℕ × LocalValue)) → List (ℕ × Option (ℕ × LocalValue)) → Reply
       written os ds = record {
-        status = settle_status (settle_time (verdict_of P (length N.devices)) os);
+        status = settle_status (settle_time (verdict_of (unfolding_of P) (length N.devices)) os);
         text = (checked_of facts P (length N.devices)).text
-            ++ settling_text (settle_time (verdict_of P (length N.devices)) os) ds;
+            ++ settling_text (settle_time (verdict_of (unfolding_of P) (length N.devices)) os) ds;
       }

@@ -66,7 +66,7 @@ module _ (verdict : OneVerdict) (starts : StartsHold) (facts : Bool) (from : Sta
       → settling_of facts P s.net table ≡ settling_of facts Q s.net table
   one_settling P Q is other same table =
       let n = length s.net.devices in
-      ap (λ t. behind s.net table t (verdict_of P n) (unfolding_of P))
+      ap (λ t. behind s.net table t (verdict_of (unfolding_of P) n) (unfolding_of P))
       (ap (λ (r : Reply). r.text) (checked_alike facts P Q is other same n))
       ∙ ap₂ (behind s.net table (checked_of facts Q n).text) (verdict P Q is other same n) same
 

@@ -26,7 +26,7 @@ settled_devices P N table = map (λ (d : ℕ). (d, settled_from P N table d)) (n
 
 -- the settle time of a network from there, if it isn't open
 abbrev pub time_of : Program → Network → BoundTable → Option ℕ
-time_of P N table = settle_time (verdict_of P (length N.devices)) (map (settled_from P N table) (numbers N.devices))
+time_of P N table = settle_time (verdict_of (unfolding_of P) (length N.devices)) (map (settled_from P N table) (numbers N.devices))
 
 -- the status is 1 exactly where the network is open, whatever the verdict
 abbrev pub settle_status : Option ℕ → ℕ

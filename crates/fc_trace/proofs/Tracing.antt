@@ -52,12 +52,12 @@ module _ (costs : OneCosts) (trace : OneTrace) (U : Unfolding) (s : SceneValue) 
   one_scene j k h g =
       let n = length s.net.devices in
       let alike = checked_alike false h.nodes g.nodes h.is_program g.is_program (h.unfolded ∙ sym g.unfolded) n in
-      let line : verdict_text (verdict_of h.nodes n) ≡ verdict_text (verdict_of g.nodes n) =
-      sym (nothing_behind (verdict_text (verdict_of h.nodes n))) ∙ ap (λ (x : Reply). x.text) alike
-      ∙ nothing_behind (verdict_text (verdict_of g.nodes n)) in
+      let line : verdict_text (verdict_of (unfolding_of h.nodes) n) ≡ verdict_text (verdict_of (unfolding_of g.nodes) n) =
+      sym (nothing_behind (verdict_text (verdict_of (unfolding_of h.nodes) n))) ∙ ap (λ (x : Reply). x.text) alike
+      ∙ nothing_behind (verdict_text (verdict_of (unfolding_of g.nodes) n)) in
       h.is
-      ∙ ap Accepted (one_reply costs trace U s.net h.reply g.reply (walk_terms U) (verdict_of h.nodes n)
-      (verdict_of g.nodes n) (ap (λ (x : Reply). x.status) alike) line h.writes g.writes)
+      ∙ ap Accepted (one_reply costs trace U s.net h.reply g.reply (walk_terms U) (verdict_of (unfolding_of h.nodes) n)
+      (verdict_of (unfolding_of g.nodes) n) (ap (λ (x : Reply). x.status) alike) line h.writes g.writes)
       ∙ sym g.is
 
 pub one_traced : OneInput → OneCosts → OneTrace → (program network : List ℕ) (j k : Judged Reply)
@@ -75,7 +75,7 @@ one_traced input costs trace program network j k h g =
 -- ---- something
 
 module _ (forms : FormsHaveCosts) (trace : SomeTrace) (P : Program) (is : IsProgram P) (N : Network) (net : IsNetwork N) (declared : N.declared ≡ P.declared) where
-  some_walks : (k : ℕ) → verdict_of P (length N.devices) ≡ verdict.Yes k → (o : Option WalkTerms) → walk_terms (unfolding_of P) ≡ o
+  some_walks : (k : ℕ) → verdict_of (unfolding_of P) (length N.devices) ≡ verdict.Yes k → (o : Option WalkTerms) → walk_terms (unfolding_of P) ≡ o
       → (r : Reply) × TracedBy (verdict.Yes k) o (unfolding_of P) N r
   some_walks k said None e = (reply 1 (verdict_text (verdict.Yes k) ++ codes "no walks\n"), refl)
   some_walks k said (Some w) e =
@@ -83,7 +83,7 @@ module _ (forms : FormsHaveCosts) (trace : SomeTrace) (P : Program) (is : IsProg
       let t = trace c.0 c.2 in
       (reply 0 (verdict_text (verdict.Yes k) ++ walks_text t.0), record { costs = c.0; are = c.1; lawful = c.2; claim = t.0; traced = t.1; is = refl })
 
-  some_reply : (v : Verdict) → verdict_of P (length N.devices) ≡ v → (r : Reply) × TracedBy v (walk_terms (unfolding_of P)) (unfolding_of P) N r
+  some_reply : (v : Verdict) → verdict_of (unfolding_of P) (length N.devices) ≡ v → (r : Reply) × TracedBy v (walk_terms (unfolding_of P)) (unfolding_of P) N r
   some_reply (verdict.Yes k) e = some_walks k e (walk_terms (unfolding_of P)) refl
   some_reply (verdict.No place why) e = (reply 1 (verdict_text (verdict.No place why)), refl)
 
@@ -98,7 +98,7 @@ some_traced forms trace fit check program network short =
     by_input k (Accepted i) r e =
         let fits = scene_fits fit program network i r in
         let declared : i.1.net.declared ≡ e.nodes.declared = fits.declared ∙ ap (λ (U : Unfolding). U.declared) (sym e.unfolded) in
-        let made = some_reply forms trace e.nodes e.is_program i.1.net fits.net declared (verdict_of e.nodes (length i.1.net.devices)) refl in (
+        let made = some_reply forms trace e.nodes e.is_program i.1.net fits.net declared (verdict_of (unfolding_of e.nodes) (length i.1.net.devices)) refl in (
           Accepted made.0,
           record {
             judged = Accepted i;
@@ -108,7 +108,7 @@ some_traced forms trace fit check program network short =
               is_program = e.is_program;
               unfolded = e.unfolded;
               reply = made.0;
-              writes = subst (λ U. TracedBy (verdict_of e.nodes (length i.1.net.devices)) (walk_terms U) U i.1.net made.0) e.unfolded made.1;
+              writes = subst (λ U. TracedBy (verdict_of (unfolding_of e.nodes) (length i.1.net.devices)) (walk_terms U) U i.1.net made.0) e.unfolded made.1;
               is = refl;
             };
           },

@@ -39,7 +39,7 @@ pub record TracesScene (U : Unfolding) (s : SceneValue) (j : Judged Reply) : Typ
   pub is_program : IsProgram nodes
   pub unfolded : unfolding_of nodes ≡ U
   pub reply : Reply
-  pub writes : TracedBy (verdict_of nodes (length s.net.devices)) (walk_terms U) U s.net reply
+  pub writes : TracedBy (verdict_of (unfolding_of nodes) (length s.net.devices)) (walk_terms U) U s.net reply
   pub is : j ≡ Accepted reply
 
 -- the texts of a program and of a scene

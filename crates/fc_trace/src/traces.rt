@@ -63,7 +63,7 @@ fn no_walks(mut text: Vec<u8>) -> Result<Reply, Memory>
 // The walks of a program on a network, or that there are none.
 fn of_network(alloc: Global, program: &Unfolded, net: &Network) -> Result<Reply, Memory>
     requires { net.now.declared ≡ program.now.declared }
-    ensures { IfOk result (TracedBy (verdict_of program.now (length net.now.devices))
+    ensures { IfOk result (TracedBy (verdict_of (unfolding_of program.now) (length net.now.devices))
         (walk_terms (unfolding_of program.now)) (unfolding_of program.now) net.now) }
 {
     let analysis = Analysis::new(alloc, program)?;

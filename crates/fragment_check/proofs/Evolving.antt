@@ -69,7 +69,7 @@ module _ (ns : List Node) (formed : WellFormed ns) (p : ℕ) (s : Sort) (t : Val
 -- the pattern of the body is that of the node
 module _ (P : Program) (formed : WellFormed P.nodes) (p : ℕ) (s : Sort) (t : ValueType) (ks : List ℕ) (h : HasNode P.nodes p s t ks) (evolving : IsEvolving P.nodes p) where
   pub pattern_is : (q : ℕ) → q ≡ get_or ks 1 q → (b : Bool) → b ≡ is_share_sort s
-      → body_pattern P.declared.ceiling (range_of (unfolding_of P)) (evolution_by b) p q (term_at P.nodes q) ≡ pattern_at P p
+      → body_pattern P.declared.ceiling (range_of (unfolding_of P)) (evolution_by b) p q (term_at P.nodes q) ≡ pattern_at (unfolding_of P) p
   pattern_is q e b z =
       ap (λ v. body_pattern P.declared.ceiling (range_of (unfolding_of P)) v p q (term_at P.nodes q)) (evolution_shared P.nodes formed p s t ks h evolving b z)
       ∙ ap (λ i. body_pattern P.declared.ceiling (range_of (unfolding_of P)) (evolution_sort s) p i (term_at P.nodes q)) (body_is P.nodes formed p s t ks h evolving q e)

@@ -109,11 +109,11 @@ module _ (P : Program) (formed : WellFormed P.nodes) (p : ℕ) (st : StandsAt P.
       by_sort OfIf z = absurd cc
       by_sort OfLet z = absurd cc
 
-  pub evolving_judged : (z : is_evolve_sort s ≡ true) (q : ℕ) → q ≡ get_or ks 1 q → ((p, pattern_at P p) ∷ []) ++ judged_at P q ≡ judged_at P p
+  pub evolving_judged : (z : is_evolve_sort s ≡ true) (q : ℕ) → q ≡ get_or ks 1 q → ((p, pattern_at (unfolding_of P) p) ∷ []) ++ judged_at P q ≡ judged_at P p
   evolving_judged z q e =
       let b = body_is P.nodes formed p s t ks h (evolving_here z) q e in
       let k = term_is P.nodes formed p s t ks h (evolving_here z) q e in
-      ap (λ i. (p, pattern_at P p) ∷ judged P.declared.ceiling (range_of (unfolding_of P)) i (term_at P.nodes q)) b
+      ap (λ i. (p, pattern_at (unfolding_of P) p) ∷ judged P.declared.ceiling (range_of (unfolding_of P)) i (term_at P.nodes q)) b
       ∙ ap (λ u. (p, u) ∷ judged P.declared.ceiling (range_of (unfolding_of P)) (suc p + size (term_at P.nodes (get_or ks 0 0))) (term_at P.nodes q)) (ap (pattern_of P.declared.ceiling (range_of (unfolding_of P)) p) k)
       ∙ sym (ap (judged P.declared.ceiling (range_of (unfolding_of P)) p) k)
 

@@ -3,8 +3,9 @@ use Rattle.std.specs.Prelude.{ℕ, suc, ◌≡◌, ◌-◌, ◌*◌, List, min, 
 use Rattle.std.specs.declared.result.Result.{Result}
 use Rattle.std.specs.declared.result.Result.TheVariants.{Ok, Err}
 use Rattle.fc_values.specs.BuiltinTypes.{inner}
-use Rattle.fc_nodes.specs.Terms.{Evolution, ByRep, ByShare, Term, Evolve, Let, size, term_at}
-use Rattle.fc_nodes.specs.Program.{Program, unfolding_of}
+use Rattle.fc_nodes.specs.Terms.{Evolution, ByRep, ByShare, Term, Evolve, Let, size}
+use Rattle.fc_nodes.specs.Parts.{part_at}
+use Rattle.fc_nodes.specs.Program.{Unfolding}
 use Rattle.fc_nodes.specs.declared.verdicts.Reason.{Reason}
 use Rattle.fc_nodes.specs.declared.verdicts.Verdict.{Verdict}
 use Rattle.fc_nodes.specs.declared.verdicts.Verdict.TheVariants as verdict
@@ -47,47 +48,47 @@ bound_range m R q (Let t a b) = R (suc q)
 bound_range m R q (Evolve t e a b) = full m (inner t)
 bound_range m R q _ = IntRange 0 m
 
-abbrev pub variable_range : Program → ℕ → RangeValue
-variable_range P q = bound_range P.declared.ceiling (range_of (unfolding_of P)) q (term_at P.nodes q)
+abbrev pub variable_range : Unfolding → ℕ → RangeValue
+variable_range U q = bound_range U.declared.ceiling (range_of U) q (part_at q U.main)
 
 abbrev pub added_at : ℕ → (ℕ → RangeValue) → (ℕ → RangeValue) → ℕ → ℕ → Term → ℕ
 added_at m R W n p (Evolve t e a b) = added_by n W e (pattern_of m R p (Evolve t e a b))
 added_at m R W n p _ = 0
 
 -- what the `rep` or `share` at each place of a program adds to the level of its body, for n devices
-abbrev pub stages_of : Program → ℕ → Stages
-stages_of P n p = added_at P.declared.ceiling (range_of (unfolding_of P)) (variable_range P) n p (term_at P.nodes p)
+abbrev pub stages_of : Unfolding → ℕ → Stages
+stages_of U n p = added_at U.declared.ceiling (range_of U) (variable_range U) n p (part_at p U.main)
 
 -- ---- the fragment and the verdict
 
 -- what is said of the `rep` or `share` at a place of a program
-abbrev pub pattern_at : Program → ℕ → Result Pattern Reason
-pattern_at P p = pattern_of P.declared.ceiling (range_of (unfolding_of P)) p (term_at P.nodes p)
+abbrev pub pattern_at : Unfolding → ℕ → Result Pattern Reason
+pattern_at U p = pattern_of U.declared.ceiling (range_of U) p (part_at p U.main)
 
 -- what is said of each `rep` and `share` of a program outside the first values, in preorder
-abbrev pub judged_of : Program → List Judged
-judged_of P = judged P.declared.ceiling (range_of (unfolding_of P)) 0 (term_at P.nodes 0)
+abbrev pub judged_of : Unfolding → List Judged
+judged_of U = judged U.declared.ceiling (range_of U) 0 U.main
 
 -- each of them has a pattern
-abbrev pub InFragment : Program → Type 0
-InFragment P = first_refused (judged_of P) ≡ None
+abbrev pub InFragment : Unfolding → Type 0
+InFragment U = first_refused (judged_of U) ≡ None
 
 -- they are outside any first value, with their patterns
-abbrev pub patterns_of : Program → List (ℕ × Pattern)
-patterns_of P = patterns_in (judged_of P)
+abbrev pub patterns_of : Unfolding → List (ℕ × Pattern)
+patterns_of U = patterns_in (judged_of U)
 
 -- the level of `main`, which no `rep` or `share` is around: the size is the place of no binder
-abbrev pub main_level : Program → ℕ → ℕ
-main_level P n = level_of (stages_of P n) 0 1 (size (term_at P.nodes 0)) (λ q. 0) (term_at P.nodes 0)
+abbrev pub main_level : Unfolding → ℕ → ℕ
+main_level U n = level_of (stages_of U n) 0 1 (size U.main) (λ q. 0) U.main
 
--- the levels of all nodes, by their places
-abbrev pub levels_of : Program → ℕ → List (Option ℕ)
-levels_of P n = node_levels (stages_of P n) 0 1 (size (term_at P.nodes 0)) (λ q. 0) (term_at P.nodes 0)
+-- the levels of all parts, by their places
+abbrev pub levels_of : Unfolding → ℕ → List (Option ℕ)
+levels_of U n = node_levels (stages_of U n) 0 1 (size U.main) (λ q. 0) U.main
 
 abbrev pub verdict_by : Option (ℕ × Reason) → ℕ → Verdict
 verdict_by (Some (place, why)) level = verdict.No place why
 verdict_by None level = verdict.Yes level
 
 -- yes with the level of `main`, or no with the first place that has no pattern and its reason
-abbrev pub verdict_of : Program → ℕ → Verdict
-verdict_of P n = verdict_by (first_refused (judged_of P)) (main_level P n)
+abbrev pub verdict_of : Unfolding → ℕ → Verdict
+verdict_of U n = verdict_by (first_refused (judged_of U)) (main_level U n)

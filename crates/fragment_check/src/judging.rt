@@ -21,7 +21,7 @@ use interval_facts::{Range, Ranges};
 pub fn pattern(program: &Unfolded, ranges: &Ranges, rep: u32) -> Result<Pattern, Reason>
     requires ranges { AreRangesOf (unfolding_of program.now) ranges.now }
     requires evolving { IsEvolving program.now.nodes rep }
-    ensures { result ≡ pattern_at program.now rep }
+    ensures { result ≡ pattern_at (unfolding_of program.now) rep }
 {
     let node = program.node(rep);
     let own = Own {

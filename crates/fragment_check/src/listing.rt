@@ -22,9 +22,9 @@ pub fn patterns(
     ranges: &Ranges,
 ) -> Result<Vec<(u32, Pattern)>, PatternFault>
     requires { AreRangesOf (unfolding_of program.now) ranges.now }
-    ensures found { IfOk result (λ found. found.items ≡ patterns_of program.now) }
-    ensures fragment { OnOk result (InFragment program.now) }
-    ensures refused { IfErr result (Refuses (judged_of program.now)) }
+    ensures found { IfOk result (λ found. found.items ≡ patterns_of (unfolding_of program.now)) }
+    ensures fragment { OnOk result (InFragment (unfolding_of program.now)) }
+    ensures refused { IfErr result (Refuses (judged_of (unfolding_of program.now))) }
 {
     let mut found = Vec::with_capacity(alloc, program.size() as usize)?;
     judge(program, ranges, 0, &mut found)?;

@@ -33,4 +33,4 @@ pub record MailStabilises (U : Unfolding) (N : Network) (k : ℕ) : Type 0 where
 -- a yes for so many rounds says so on each network with the program's declarations and so many devices
 abbrev pub YesStabilisesMail : Type 0
 YesStabilisesMail = (P : Program) (N : Network) (k : ℕ) → IsProgram P → IsNetwork N → N.declared ≡ P.declared
-    → verdict_of P (length N.devices) ≡ verdict.Yes k → MailStabilises (unfolding_of P) N k
+    → verdict_of (unfolding_of P) (length N.devices) ≡ verdict.Yes k → MailStabilises (unfolding_of P) N k

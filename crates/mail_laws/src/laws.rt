@@ -37,7 +37,7 @@ pub fn yes_stabilises_mail()
 /// log with `k` rounds leads to its values.
 pub fn mail_stabilises(program: &Unfolded, net: &Network)
     requires declared { net.now.declared ≡ program.now.declared }
-    ensures { (k : ℕ) → verdict_of program.now (length net.now.devices) ≡ verdict.Yes k
+    ensures { (k : ℕ) → verdict_of (unfolding_of program.now) (length net.now.devices) ≡ verdict.Yes k
         → MailStabilises (unfolding_of program.now) net.now k }
 {
     program.declared();

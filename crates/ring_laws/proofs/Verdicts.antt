@@ -61,15 +61,15 @@ module _ (P : Program) (count devices : ℕ) (low : 3 ≤ count) (e : unfolding_
   main : term_at P.nodes 0 ≡ ring_main count
   main = ap (λ (U : Unfolding). U.main) e
 
-  stages : stages_of P devices 0 ≡ 2 * count
+  stages : stages_of (unfolding_of P) devices 0 ≡ 2 * count
   stages =
-      ap₂ (λ c t. added_at c ranges (variable_range P) devices 0 t) ceiling main
-      ∙ added count devices (variable_range P) (pattern_of count ranges 0 (ring_main count)) pattern_found
+      ap₂ (λ c t. added_at c ranges (variable_range (unfolding_of P)) devices 0 t) ceiling main
+      ∙ added count devices (variable_range (unfolding_of P)) (pattern_of count ranges 0 (ring_main count)) pattern_found
 
-  yes_found : verdict_of P devices ≡ verdict.Yes (2 + 2 * count)
+  yes_found : verdict_of (unfolding_of P) devices ≡ verdict.Yes (2 + 2 * count)
   yes_found =
-      ap₂ (λ c t. verdict_from c ranges (stages_of P devices) t) ceiling main
-      ∙ verdict_is count ranges (stages_of P devices) pattern_found stages
+      ap₂ (λ c t. verdict_from c ranges (stages_of (unfolding_of P) devices) t) ceiling main
+      ∙ verdict_is count ranges (stages_of (unfolding_of P) devices) pattern_found stages
 
 pub rings_stabilise : RingsStabilise
 rings_stabilise P count devices low high e = yes_found P count devices low e

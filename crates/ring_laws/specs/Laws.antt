@@ -38,4 +38,4 @@ RingsAreNetworks = (number count : ℕ) → 3 ≤ count → count ≤ MOST_SCENA
 abbrev pub RingsStabilise : Type 0
 RingsStabilise =
     (P : Program) (count devices : ℕ) → 3 ≤ count → count ≤ MOST_SCENARIO_DEVICES → unfolding_of P ≡ ring_unfolding count
-    → verdict_of P devices ≡ verdict.Yes (2 + 2 * count)
+    → verdict_of (unfolding_of P) devices ≡ verdict.Yes (2 + 2 * count)

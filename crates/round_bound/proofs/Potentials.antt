@@ -22,11 +22,11 @@ unfolding term_at term_to
 past_term ns q l = let e : length ns - q ≡ 0 = omega (arith, l) in rw e refl
 
 -- past the nodes
-pub past_range : (P : Program) (q : ℕ) → length P.nodes ≤ q → variable_range P q ≡ IntRange 0 P.declared.ceiling
+pub past_range : (P : Program) (q : ℕ) → length P.nodes ≤ q → variable_range (unfolding_of P) q ≡ IntRange 0 P.declared.ceiling
 past_range P q l = ap (bound_range P.declared.ceiling (range_of (unfolding_of P)) q) (past_term P.nodes q l)
 
 module _ (P : Program) (q : ℕ) (st : StandsAt P.nodes q) (s : Sort) (t : ValueType) (ks : List ℕ) (h : HasNode P.nodes q s t ks) where
-  pub let_range : is_let_sort s ≡ true → variable_range P q ≡ range_of (unfolding_of P) (suc q)
+  pub let_range : is_let_sort s ≡ true → variable_range (unfolding_of P) q ≡ range_of (unfolding_of P) (suc q)
   let_range z = by_term (term_at P.nodes q) st.laid
     where
       by_term : (u : Term) → Laid P.nodes q u → bound_range P.declared.ceiling (range_of (unfolding_of P)) q u ≡ range_of (unfolding_of P) (suc q)
@@ -48,7 +48,7 @@ module _ (P : Program) (q : ℕ) (st : StandsAt P.nodes q) (s : Sort) (t : Value
       by_term (If u c a b) l = let l0 = l.0 in let f : s ≡ OfIf = cc in let g = ap is_let_sort f in absurd cc
       by_term (Let u a b) l = laid_within P.nodes (suc q) a l.1
 
-  pub evolve_range : is_evolve_sort s ≡ true → variable_range P q ≡ full P.declared.ceiling (inner t)
+  pub evolve_range : is_evolve_sort s ≡ true → variable_range (unfolding_of P) q ≡ full P.declared.ceiling (inner t)
   evolve_range z = by_term (term_at P.nodes q) st.laid
     where
       by_term : (u : Term) → Laid P.nodes q u → bound_range P.declared.ceiling (range_of (unfolding_of P)) q u ≡ full P.declared.ceiling (inner t)
@@ -59,7 +59,7 @@ module _ (P : Program) (q : ℕ) (st : StandsAt P.nodes q) (s : Sort) (t : Value
       by_term (If u c a b) l = let l0 = l.0 in let f : s ≡ OfIf = cc in let g = ap is_evolve_sort f in absurd cc
       by_term (Let u a b) l = let l0 = l.0 in let f : s ≡ OfLet = cc in let g = ap is_evolve_sort f in absurd cc
 
-  pub other_range : is_let_sort s ≡ false → is_evolve_sort s ≡ false → variable_range P q ≡ IntRange 0 P.declared.ceiling
+  pub other_range : is_let_sort s ≡ false → is_evolve_sort s ≡ false → variable_range (unfolding_of P) q ≡ IntRange 0 P.declared.ceiling
   other_range z w = by_term (term_at P.nodes q) st.laid
     where
       by_term : (u : Term) → Laid P.nodes q u → bound_range P.declared.ceiling (range_of (unfolding_of P)) q u ≡ IntRange 0 P.declared.ceiling
@@ -90,20 +90,20 @@ range_behind U rs h q r e = let k : q + 1 ≡ suc q = omega arith in e ∙ ap (�
 
 -- what a `rep` or `share` adds
 module _ (P : Program) (n p : ℕ) (st : StandsAt P.nodes p) (evolving : IsEvolving P.nodes p) where
-  pub added_is : stages_of P n p ≡ added_by n (variable_range P) (evolution_at P.nodes p) (pattern_at P p)
+  pub added_is : stages_of (unfolding_of P) n p ≡ added_by n (variable_range (unfolding_of P)) (evolution_at P.nodes p) (pattern_at (unfolding_of P) p)
   added_is = by_term (term_at P.nodes p) st.laid
     where
       no_view : {A : Type 0} (v : View) → view_at P.nodes p ≡ Some v → (IsEvolveView (Some v) → ⊥) → A
       no_view v e f = absurd (f (subst IsEvolveView e evolving))
 
-      by_term : (u : Term) → Laid P.nodes p u → added_at P.declared.ceiling (range_of (unfolding_of P)) (variable_range P) n p u
-          ≡ added_by n (variable_range P) (evolution_at P.nodes p) (pattern_of P.declared.ceiling (range_of (unfolding_of P)) p u)
+      by_term : (u : Term) → Laid P.nodes p u → added_at P.declared.ceiling (range_of (unfolding_of P)) (variable_range (unfolding_of P)) n p u
+          ≡ added_by n (variable_range (unfolding_of P)) (evolution_at P.nodes p) (pattern_of P.declared.ceiling (range_of (unfolding_of P)) p u)
       by_term (Plain u v) l = no_view _ l (λ x. x)
       by_term (Apply u o xs) l = no_view _ l.0 (λ x. x)
       by_term (Nbr u a) l = no_view _ l.0 (λ x. x)
-      by_term (Evolve u v a b) l = ap (λ e. added_by n (variable_range P) e (pattern_of P.declared.ceiling (range_of (unfolding_of P)) p (Evolve u v a b))) (sym (ap evolution_in l.0))
+      by_term (Evolve u v a b) l = ap (λ e. added_by n (variable_range (unfolding_of P)) e (pattern_of P.declared.ceiling (range_of (unfolding_of P)) p (Evolve u v a b))) (sym (ap evolution_in l.0))
       by_term (If u c a b) l = no_view _ l.0 (λ x. x)
       by_term (Let u a b) l = no_view _ l.0 (λ x. x)
 
-  pub adds : (e : Evolution) (a : Pattern) → evolution_at P.nodes p ≡ e → pattern_at P p ≡ Ok a → added_levels n (variable_range P) e a ≡ stages_of P n p
-  adds e a f g = sym (added_is ∙ ap (λ v. added_by n (variable_range P) v (pattern_at P p)) f ∙ ap (added_by n (variable_range P) e) g)
+  pub adds : (e : Evolution) (a : Pattern) → evolution_at P.nodes p ≡ e → pattern_at (unfolding_of P) p ≡ Ok a → added_levels n (variable_range (unfolding_of P)) e a ≡ stages_of (unfolding_of P) n p
+  adds e a f g = sym (added_is ∙ ap (λ v. added_by n (variable_range (unfolding_of P)) v (pattern_at (unfolding_of P) p)) f ∙ ap (added_by n (variable_range (unfolding_of P)) e) g)

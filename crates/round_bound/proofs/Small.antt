@@ -271,11 +271,11 @@ bound_few m R few q (Evolve t e a b) = full_few m (inner t)
 bound_few m R few q (If t c a b) = (omega arith, omega arith)
 bound_few m R few q (Let t a b) = few (suc q)
 
-pub variable_few : (P : Program) → IsProgram P → (q : ℕ) → Few P.declared.ceiling (variable_range P q)
+pub variable_few : (P : Program) → IsProgram P → (q : ℕ) → Few P.declared.ceiling (variable_range (unfolding_of P) q)
 variable_few P h q = bound_few P.declared.ceiling (range_of (unfolding_of P)) (range_few P h) q (term_at P.nodes q)
 
-pub stages_few : (P : Program) → IsProgram P → (n p : ℕ) → stages_of P n p ≤ most_added
-stages_few P h n p = added_few P.declared.ceiling h.lawful.most n (variable_range P) (variable_few P h) (range_of (unfolding_of P)) (range_few P h) p (term_at P.nodes p)
+pub stages_few : (P : Program) → IsProgram P → (n p : ℕ) → stages_of (unfolding_of P) n p ≤ most_added
+stages_few P h n p = added_few P.declared.ceiling h.lawful.most n (variable_range (unfolding_of P)) (variable_few P h) (range_of (unfolding_of P)) (range_few P h) p (term_at P.nodes p)
 
-pub pattern_at_few : (P : Program) → IsProgram P → (p : ℕ) → ResultFew P.declared.ceiling (pattern_at P p)
+pub pattern_at_few : (P : Program) → IsProgram P → (p : ℕ) → ResultFew P.declared.ceiling (pattern_at (unfolding_of P) p)
 pattern_at_few P h p = pattern_few P.declared.ceiling (range_of (unfolding_of P)) (range_few P h) p (term_at P.nodes p)

@@ -37,7 +37,7 @@ pub record Ready (c : Context) (p : ℕ) (s : Sight) : Type 0 where
   pub scope : (q : ℕ) → levels_in s.scope.now q ≤ level_before p
 
 abbrev pub stages_in : Context → Stages
-stages_in c = stages_of c.program.now c.devices
+stages_in c = stages_of (unfolding_of c.program.now) c.devices
 
 -- the level of the term at a place
 abbrev pub level_at : Context → ℕ → Sight → ℕ

@@ -27,7 +27,7 @@ pub fn added(context: &Context<'_>, place: u32, is_share: bool) -> u64
     requires devices { 1 ≤ context.now.devices }
     requires program { IsProgram context.now.program.now }
     requires stands { StandsAt context.now.program.now.nodes place }
-    ensures { result ≡ stages_of context.now.program.now context.now.devices place }
+    ensures { result ≡ stages_of (unfolding_of context.now.program.now) context.now.devices place }
 {
     match pattern(context.program, context.ranges, place) {
         Ok(pattern) => levels_of_pattern(context, pattern, is_share),
@@ -41,7 +41,7 @@ fn levels_of_pattern(context: &Context<'_>, pattern: Pattern, is_share: bool) ->
     requires devices { 1 ≤ context.now.devices }
     requires program { IsProgram context.now.program.now }
     requires few { PatternFew context.now.program.now.declared.ceiling pattern }
-    ensures { result ≡ added_levels context.now.devices (variable_range context.now.program.now)
+    ensures { result ≡ added_levels context.now.devices (variable_range (unfolding_of context.now.program.now))
         (evolution_by is_share) pattern }
 {
     match pattern {
@@ -70,7 +70,7 @@ fn each_stage(is_share: bool, stages: u64) -> u64
 fn ranks(context: &Context<'_>, potential: u32) -> u64
     requires ranges { AreRangesOf (unfolding_of context.now.program.now) context.now.ranges.now }
     requires devices { 1 ≤ context.now.devices }
-    ensures value { result ≡ ranks_of context.now.devices (variable_range context.now.program.now potential) }
+    ensures value { result ≡ ranks_of context.now.devices (variable_range (unfolding_of context.now.program.now) potential) }
     ensures program { IsProgram context.now.program.now }
 {
     let (least, greatest) = potential_ends(context, potential);
@@ -81,8 +81,8 @@ fn ranks(context: &Context<'_>, potential: u32) -> u64
 // The least and the greatest integer of the variable of the binder at a place.
 fn potential_ends(context: &Context<'_>, place: u32) -> (u32, u32)
     requires { AreRangesOf (unfolding_of context.now.program.now) context.now.ranges.now }
-    ensures least { result.0 ≡ least_of (variable_range context.now.program.now place) }
-    ensures greatest { result.1 ≡ greatest_of (variable_range context.now.program.now place) }
+    ensures least { result.0 ≡ least_of (variable_range (unfolding_of context.now.program.now) place) }
+    ensures greatest { result.1 ≡ greatest_of (variable_range (unfolding_of context.now.program.now) place) }
     ensures program { IsProgram context.now.program.now }
 {
     let ceiling = context.program.declared().ceiling;

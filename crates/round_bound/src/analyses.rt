@@ -34,9 +34,9 @@ impl<'a> Model for Analysis<'a> {
     ghost view = { λ a. a.program.now };
 
     ghost invariant = { λ a. AreRangesOf (unfolding_of a.program.now) a.ranges
-        × IfOk a.patterns (λ found. found.items ≡ patterns_of a.program.now)
-        × OnOk a.patterns (InFragment a.program.now)
-        × IfErr a.patterns (λ refused. first_refused (judged_of a.program.now) ≡ Some refused) };
+        × IfOk a.patterns (λ found. found.items ≡ patterns_of (unfolding_of a.program.now))
+        × OnOk a.patterns (InFragment (unfolding_of a.program.now))
+        × IfErr a.patterns (λ refused. first_refused (judged_of (unfolding_of a.program.now)) ≡ Some refused) };
 }
 
 impl<'a> Analysis<'a> {
@@ -81,9 +81,9 @@ impl<'a> Analysis<'a> {
     /// All `rep` and `share` outside first values, rising, each with its pattern; or the first in preorder without one,
     /// with its reason.
     pub fn patterns(&self) -> Result<&[(u32, Pattern)], (u32, Reason)>
-        ensures found { IfOk result (λ found. found.now ≡ patterns_of self.now) }
-        ensures fragment { OnOk result (InFragment self.now) }
-        ensures refused { IfErr result (λ refused. first_refused (judged_of self.now) ≡ Some refused) }
+        ensures found { IfOk result (λ found. found.now ≡ patterns_of (unfolding_of self.now)) }
+        ensures fragment { OnOk result (InFragment (unfolding_of self.now)) }
+        ensures refused { IfErr result (λ refused. first_refused (judged_of (unfolding_of self.now)) ≡ Some refused) }
     {
         match &self.patterns {
             Ok(found) => Ok(found.as_slice()),
@@ -95,7 +95,7 @@ impl<'a> Analysis<'a> {
     /// has a pattern; else no, with the first place that has none, and its reason.
     pub fn verdict(&self, alloc: Global, devices: u32) -> Result<Verdict, Memory>
         requires { 1 ≤ devices }
-        ensures verdict { IfOk result (λ v. v ≡ verdict_of self.now devices) }
+        ensures verdict { IfOk result (λ v. v ≡ verdict_of (unfolding_of self.now) devices) }
         ensures few { IfOk result (λ v. (k : ℕ) → v ≡ verdict.Yes k → k < 2 ^ 33) }
     {
         let (verdict, _levels) = self.verdict_with_levels(alloc, devices)?;
@@ -109,9 +109,9 @@ impl<'a> Analysis<'a> {
         devices: u32,
     ) -> Result<(Verdict, Vec<Option<u64>>), Memory>
         requires { 1 ≤ devices }
-        ensures verdict { IfOk result (λ r. r.0 ≡ verdict_of self.now devices) }
+        ensures verdict { IfOk result (λ r. r.0 ≡ verdict_of (unfolding_of self.now) devices) }
         ensures few { IfOk result (λ r. (k : ℕ) → r.0 ≡ verdict.Yes k → k < 2 ^ 33) }
-        ensures levels { IfOk result (λ r. (k : ℕ) → r.0 ≡ verdict.Yes k → r.1.items ≡ levels_of self.now devices) }
+        ensures levels { IfOk result (λ r. (k : ℕ) → r.0 ≡ verdict.Yes k → r.1.items ≡ levels_of (unfolding_of self.now) devices) }
         ensures each { IfOk result (λ r. (k place level : ℕ) → r.0 ≡ verdict.Yes k
             → get_or r.1.items place None ≡ Some level → level < 2 ^ 33) }
     {

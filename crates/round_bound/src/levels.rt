@@ -21,8 +21,8 @@ pub(crate) fn main_levels(
 ) -> Result<(Vec<Option<u64>>, u64), Memory>
     requires ranges { AreRangesOf (unfolding_of program.now) ranges.now }
     requires devices { 1 ≤ devices }
-    ensures levels { IfOk result (λ f. f.0.items ≡ levels_of program.now devices) }
-    ensures main { IfOk result (λ f. f.1 ≡ main_level program.now devices) }
+    ensures levels { IfOk result (λ f. f.0.items ≡ levels_of (unfolding_of program.now) devices) }
+    ensures main { IfOk result (λ f. f.1 ≡ main_level (unfolding_of program.now) devices) }
     ensures few { IfOk result (λ f. f.1 < 2 ^ 33) }
     ensures each { IfOk result (λ f. (place level : ℕ) → get_or f.0.items place None ≡ Some level → level < 2 ^ 33) }
 {

@@ -57,7 +57,7 @@ verdict_at : (P : Program) (c d : Core) → numbers d.net.devices ≡ numbers c.
 verdict_at P c d e =
     let k : length d.net.devices ≡ length c.net.devices =
     sym (length-map d.net.devices (λ (n : NetDevice). n.id)) ∙ (ap (λ (l : List ℕ). length l) e ∙ length-map c.net.devices (λ (n : NetDevice). n.id)) in
-    ap (λ n. verdict_of P n) k
+    ap (λ n. verdict_of (unfolding_of P) n) k
 
 edit_verdict : (P : Program) (c d : Core) (line : ℕ) (e : EditValue) → d ≡ edited (unfolding_of P) c e → verdict_in P d ≡ last_verdict (verdict_in P c) (shown_after P line e d)
 edit_verdict P c d line (LinkEdit a b w) q = verdict_at P c d (ap (λ (k : Core). numbers k.net.devices) q)

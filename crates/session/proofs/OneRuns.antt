@@ -402,7 +402,7 @@ module _ (one : LogsLeadToOne) (agree : StepsAgree) (keep : StepsKeepGood) (P : 
 
 -- ---- two lists of nodes of one program
 
-module _ (P Q : Program) (same : unfolding_of Q ≡ unfolding_of P) (verdicts : (n : ℕ) → verdict_of Q n ≡ verdict_of P n) where
+module _ (P Q : Program) (same : unfolding_of Q ≡ unfolding_of P) (verdicts : (n : ℕ) → verdict_of (unfolding_of Q) n ≡ verdict_of (unfolding_of P) n) where
   other_line : (c next : Core) (at line : ℕ) (k : CommandValue) (a : Added) → DoesLine Q c at (line, k) a next → DoesLine P c at (line, k) a next
   other_line c next at line (RunCommand r) a d = subst (λ (U : Unfolding). RunsRounds U c at line r a next) same d
   other_line c next at line (EditCommand e) a d =

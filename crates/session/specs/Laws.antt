@@ -32,7 +32,7 @@ SomeScriptRun = (P : Program) (c : Core) (lines : List (ℕ × CommandValue)) �
 abbrev pub OneScriptRun : Type 0
 OneScriptRun = (P Q : Program) (c last other : Core) (xs ys : List (ℕ × CommandValue)) (log rest : List EntryValue)
     (parts more : List Part) (text says : List ℕ) → IsProgram P → unfolding_of Q ≡ unfolding_of P
-    → ((n : ℕ) → verdict_of Q n ≡ verdict_of P n) → IsGood (unfolding_of P) c
+    → ((n : ℕ) → verdict_of (unfolding_of Q) n ≡ verdict_of (unfolding_of P) n) → IsGood (unfolding_of P) c
     → SameCommands (unfolding_of P) xs ys → SameEntries (unfolding_of P) log rest
     → ScriptRun P c xs log parts text last → ScriptRun Q c ys rest more says other → (text ≡ says) × (last ≡ other)
 

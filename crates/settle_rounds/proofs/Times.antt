@@ -129,7 +129,7 @@ module _ (are : RoundsSettle) (P : Program) (N : Network) (net : IsNetwork N) (s
   U = unfolding_of P
 
   abbrev V : Verdict
-  V = verdict_of P (length N.devices)
+  V = verdict_of (unfolding_of P) (length N.devices)
 
   abbrev settled : Settlings
   settled d = settled_from P N start d

@@ -36,7 +36,7 @@ all_settle_to U N start cap = map (settles_to U N start cap) (numbers N.devices)
 
 -- those of a program on a network, up to its cap: from a start, and from any exports
 abbrev pub cap_of : Program → Network → ℕ
-cap_of P N = settle_cap (verdict_of P (length N.devices)) (length N.devices)
+cap_of P N = settle_cap (verdict_of (unfolding_of P) (length N.devices)) (length N.devices)
 
 abbrev pub settled_from : Program → Network → BoundTable → Settlings
 settled_from P N start d = settles_to (unfolding_of P) N start (cap_of P N) d
@@ -59,7 +59,7 @@ abbrev pub settle_time : Verdict → List (Option (ℕ × LocalValue)) → Optio
 settle_time v os = option_or (greatest_round os) (rounds_of_yes v)
 
 abbrev pub IsSettleTime : Program → Network → Settlings → ℕ → Type 0
-IsSettleTime P N settled R = settle_time (verdict_of P (length N.devices)) (map settled (numbers N.devices)) ≡ Some R
+IsSettleTime P N settled R = settle_time (verdict_of (unfolding_of P) (length N.devices)) (map settled (numbers N.devices)) ≡ Some R
 
 -- ---- what settle rounds and settle times promise, where so many rounds lead a device to a value in some sense
 
@@ -80,19 +80,19 @@ pub record ValuesSolve (P : Program) (N : Network) (settled : Settlings) : Type 
 -- rounds, and they lead it to the value of the one field
 pub record TimeLeads (Leads : Leading) (P : Program) (N : Network) (settled : Settlings) (R : ℕ) : Type 0 where
   pub known : (d k : ℕ) (v : LocalValue) → Lives N d → settled d ≡ Some (k, v) → Leads R d v
-  pub only_yes : (d : ℕ) → Lives N d → settled d ≡ None → verdict_of P (length N.devices) ≡ verdict.Yes R
+  pub only_yes : (d : ℕ) → Lives N d → settled d ≡ None → verdict_of (unfolding_of P) (length N.devices) ≡ verdict.Yes R
   pub solved : (d : ℕ) → Lives N d → settled d ≡ None
       → (one : HasOneSolution (unfolding_of P) N) × Leads R d (one.field d)
 
 -- it is no more than the rounds of a yes
 abbrev pub TimeIsLow : Program → Network → ℕ → Type 0
-TimeIsLow P N R = (K : ℕ) → verdict_of P (length N.devices) ≡ verdict.Yes K → R ≤ K
+TimeIsLow P N R = (K : ℕ) → verdict_of (unfolding_of P) (length N.devices) ≡ verdict.Yes K → R ≤ K
 
 -- so it is from every start, over firings and over message links
 pub record SettlesWell (P : Program) (N : Network) : Type 0 where
   pub rounds : RoundsLead (ReachedAt (unfolding_of P) N) N (settled_of P N)
   pub mail_rounds : RoundsLead (MailReachedAt (unfolding_of P) N) N (settled_of P N)
-  pub solves : (K : ℕ) → verdict_of P (length N.devices) ≡ verdict.Yes K → ValuesSolve P N (settled_of P N)
+  pub solves : (K : ℕ) → verdict_of (unfolding_of P) (length N.devices) ≡ verdict.Yes K → ValuesSolve P N (settled_of P N)
   pub time : (R : ℕ) → IsSettleTime P N (settled_of P N) R
       → TimeLeads (ReachedAt (unfolding_of P) N) P N (settled_of P N) R
   pub mail_time : (R : ℕ) → IsSettleTime P N (settled_of P N) R

@@ -29,7 +29,7 @@ pub record LeftIsSolved (P : Program) (N : Network) : Type 0 where
 
 abbrev pub YesLeaves : Type 0
 YesLeaves = (P : Program) (N : Network) (K : ℕ) → IsProgram P → IsNetwork N → N.declared ≡ P.declared
-    → verdict_of P (length N.devices) ≡ verdict.Yes K → LeftIsSolved P N
+    → verdict_of (unfolding_of P) (length N.devices) ≡ verdict.Yes K → LeftIsSolved P N
 
 -- the first of n rounds from j on after which a device is reached, and its settle round: the first up to the cap
 abbrev pub first_reached : (ℕ → ExportBound) → ℕ → ℕ → Option ℕ

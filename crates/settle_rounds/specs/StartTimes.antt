@@ -12,7 +12,7 @@ use Rattle.settle_rounds.specs.SettleTimes.{settled_from, IsSettleTime, RoundsLe
 -- what `SettlesWell` says, but for the logs from this core alone
 pub record SettlesFrom (P : Program) (N : Network) (c : Core) (table : BoundTable) : Type 0 where
   pub rounds : RoundsLead (ReachedFrom (unfolding_of P) N c) N (settled_from P N table)
-  pub solves : (K : ℕ) → verdict_of P (length N.devices) ≡ verdict.Yes K → ValuesSolve P N (settled_from P N table)
+  pub solves : (K : ℕ) → verdict_of (unfolding_of P) (length N.devices) ≡ verdict.Yes K → ValuesSolve P N (settled_from P N table)
   pub time : (R : ℕ) → IsSettleTime P N (settled_from P N table) R
       → TimeLeads (ReachedFrom (unfolding_of P) N c) P N (settled_from P N table) R
   pub low : (R : ℕ) → IsSettleTime P N (settled_from P N table) R → TimeIsLow P N R

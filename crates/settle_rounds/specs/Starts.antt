@@ -76,7 +76,7 @@ pub record LeftIsSolvedFrom (P : Program) (N : Network) (table : BoundTable) : T
 
 abbrev pub YesLeavesFrom : Type 0
 YesLeavesFrom = (P : Program) (N : Network) (K : ℕ) → IsProgram P → IsNetwork N → N.declared ≡ P.declared
-    → verdict_of P (length N.devices) ≡ verdict.Yes K → (table : BoundTable) → IsClosed (unfolding_of P) N table
+    → verdict_of (unfolding_of P) (length N.devices) ≡ verdict.Yes K → (table : BoundTable) → IsClosed (unfolding_of P) N table
     → (start : Core) → IsGood (unfolding_of P) start → start.net ≡ N → HoldsCore (unfolding_of P) N table start
     → LeftIsSolvedFrom P N table
 

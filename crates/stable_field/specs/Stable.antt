@@ -3,7 +3,7 @@ use Rattle.std.specs.Prelude.{ℕ, ◌≡◌, map}
 use Rattle.fc_values.specs.Fields.{Entries}
 use Rattle.fc_nodes.specs.declared.verdicts.Reason.{Reason}
 use Rattle.fc_nodes.specs.declared.verdicts.Verdict.TheVariants as verdict
-use Rattle.fc_nodes.specs.Program.{Program, Unfolding}
+use Rattle.fc_nodes.specs.Program.{Program, Unfolding, unfolding_of}
 use Rattle.topology.specs.Networks.{Network, numbers}
 use Rattle.fragment_check.specs.Verdicts.{verdict_of}
 use Rattle.converge_laws.specs.Stabilising.{HasOneSolution}
@@ -17,5 +17,5 @@ pub record IsStableField (U : Unfolding) (N : Network) (es : Entries) : Type 0 w
 
 -- the verdict for so many devices is a no at the place; want of memory is always allowed
 abbrev pub IsFaultOf : Program → ℕ → StableFault → Type 0
-IsFaultOf P n (fault.Unrecognised place) = (why : Reason) × (verdict_of P n ≡ verdict.No place why)
+IsFaultOf P n (fault.Unrecognised place) = (why : Reason) × (verdict_of (unfolding_of P) n ≡ verdict.No place why)
 IsFaultOf P n fault.Memory = Unit {0}

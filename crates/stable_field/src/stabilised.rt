@@ -30,7 +30,7 @@ pub fn stable(
     requires declared { net.now.declared ≡ program.now.declared }
     ensures field { IfOk result (λ v. IsStableField (unfolding_of program.now) net.now (map entry_of v.items)) }
     ensures rises { IfOk result (λ v. Rises (devices (map entry_of v.items))) }
-    ensures yes { OnOk result ((k : ℕ) × (verdict_of program.now (length net.now.devices) ≡ verdict.Yes k)) }
+    ensures yes { OnOk result ((k : ℕ) × (verdict_of (unfolding_of program.now) (length net.now.devices) ≡ verdict.Yes k)) }
     ensures refused { IfErr result (IsFaultOf program.now (length net.now.devices)) }
 {
     let analysis = Analysis::new(alloc, program)?;
@@ -47,7 +47,7 @@ fn field(
     rounds: u64,
 ) -> Result<Column, Memory>
     requires declared { net.now.declared ≡ program.now.declared }
-    requires yes { verdict_of program.now (length net.now.devices) ≡ verdict.Yes rounds }
+    requires yes { verdict_of (unfolding_of program.now) (length net.now.devices) ≡ verdict.Yes rounds }
     ensures field { IfOk result (λ v. IsStableField (unfolding_of program.now) net.now (map entry_of v.items)) }
     ensures rises { IfOk result (λ v. Rises (devices (map entry_of v.items))) }
 {

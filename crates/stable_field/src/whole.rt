@@ -25,7 +25,7 @@ use topology::Network;
 
 /// The rounds of a yes, or the place of a no.
 pub fn judged(alloc: Global, analysis: &Analysis<'_>, net: &Network) -> Result<u64, StableFault>
-    ensures yes { IfOk result (λ k. verdict_of analysis.now (length net.now.devices) ≡ verdict.Yes k) }
+    ensures yes { IfOk result (λ k. verdict_of (unfolding_of analysis.now) (length net.now.devices) ≡ verdict.Yes k) }
     ensures no { IfErr result (IsFaultOf analysis.now (length net.now.devices)) }
 {
     let devices = net.devices().len() as u32;
@@ -61,7 +61,7 @@ pub fn solved(
 ) -> Result<Column, Memory>
     requires declared { net.now.declared ≡ program.now.declared }
     requires table { IsTable (unfolding_of program.now) net.now start.items }
-    requires yes { verdict_of program.now (length net.now.devices) ≡ verdict.Yes rounds }
+    requires yes { verdict_of (unfolding_of program.now) (length net.now.devices) ≡ verdict.Yes rounds }
     ensures field { IfOk result (λ v. IsStableField (unfolding_of program.now) net.now (map entry_of v.items)) }
     ensures rises { IfOk result (λ v. Rises (devices (map entry_of v.items))) }
 {

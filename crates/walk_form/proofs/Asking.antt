@@ -19,7 +19,7 @@ use Rattle.walk_form.proofs.Parts.{local_placed}
 use Rattle.walk_form.proofs.Costing.{Neighbours, starts_fit, adds_fit}
 
 module _ (analyses : YesAnalyses) (one_law : SolutionsAreOne) (P : Program) (N : Network) (k : ℕ) (is : IsProgram P) (net : IsNetwork N) (same : N.declared ≡ P.declared)
-    (agreed : verdict_of P (length N.devices) ≡ verdict.Yes k) (f : WalkForm) (form : IsWalkForm P f) where
+    (agreed : verdict_of (unfolding_of P) (length N.devices) ≡ verdict.Yes k) (f : WalkForm) (form : IsWalkForm P f) where
   pub starts_asked : (start : List (ℕ × ℕ)) → IsFieldAt N f.local.from (term_at P.nodes f.local.from) start
       → AreOf N start × All (λ (d : ℕ × ℕ). d.1 ≤ P.declared.ceiling) start
   starts_asked start h =

@@ -80,7 +80,7 @@ two_maps N p x y D V Gs s =
     record { first = r.0; second = z.0; solves_first = r.3; solves_second = z.3; at = λ d. ap (at_device d) all }
 
 module _ (analyses : YesAnalyses) (one_law : SolutionsAreOne) (P : Program) (N : Network) (k : ℕ) (is : IsProgram P) (net : IsNetwork N) (same : N.declared ≡ P.declared)
-    (agreed : verdict_of P (length N.devices) ≡ verdict.Yes k) (w : WalkTerms) (form : walk_terms (unfolding_of P) ≡ Some w) where
+    (agreed : verdict_of (unfolding_of P) (length N.devices) ≡ verdict.Yes k) (w : WalkTerms) (form : walk_terms (unfolding_of P) ≡ Some w) where
   abbrev U : Unfolding
   U = unfolding_of P
 
@@ -335,7 +335,7 @@ module _ (analyses : YesAnalyses) (one_law : SolutionsAreOne) (P : Program) (N :
         record { cost = value d; value = is_value d i ∙ integer d i; least = fixed C value (lawful near_law start ad h g) is_fixed d (a.0, a.1) }
 
 pub solution_least : YesAnalyses → SolutionsAreOne → ReadsPointwise → FixedValuesAreLeast → (P : Program) (N : Network) (k : ℕ) (C : CostsValue) (F : ℕ → LocalValue) → Neighbours N → IsProgram P → IsNetwork N
-    → N.declared ≡ P.declared → verdict_of P (length N.devices) ≡ verdict.Yes k → AreCostsOf (unfolding_of P) N C → SolvesMain N (unfolding_of P).main F → (d : ℕ) → Lives N d → IsLeastAt C d (F d)
+    → N.declared ≡ P.declared → verdict_of (unfolding_of P) (length N.devices) ≡ verdict.Yes k → AreCostsOf (unfolding_of P) N C → SolvesMain N (unfolding_of P).main F → (d : ℕ) → Lives N d → IsLeastAt C d (F d)
 solution_least analyses one_law pointwise fixed P N k C F near_law is net same agreed costs solves d i =
     let c = costs.costs in
     let e : C ≡ gathered N.declared.ceiling N c.start c.added = c.is ∙ ap (λ m. gathered m N c.start c.added) (sym (ap (λ x. x.ceiling) same)) in

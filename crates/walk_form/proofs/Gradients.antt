@@ -163,7 +163,7 @@ sums_same : (t u : ValueType) (a b c d : Term) → Apply t op.MinHoodLoc (More a
 sums_same t u a b c d e = (cc, cc)
 
 module _ (analyses : YesAnalyses) (P : Program) (N : Network) (k : ℕ) (is : IsProgram P) (net : IsNetwork N) (same : N.declared ≡ P.declared)
-    (agreed : verdict_of P (length N.devices) ≡ verdict.Yes k) (w : WalkTerms) (form : walk_terms (unfolding_of P) ≡ Some w) where
+    (agreed : verdict_of (unfolding_of P) (length N.devices) ≡ verdict.Yes k) (w : WalkTerms) (form : walk_terms (unfolding_of P) ≡ Some w) where
   abbrev U : Unfolding
   U = unfolding_of P
 

@@ -190,7 +190,7 @@ pub record Part (P : Program) (A : Analysis) (m q : ℕ) (t : Term) : Type 0 whe
   pub fragment : InFragment A m q t
 
 module _ (analyses : YesAnalyses) (P : Program) (N : Network) (k : ℕ) (is : IsProgram P) (net : IsNetwork N) (same : N.declared ≡ P.declared)
-    (agreed : verdict_of P (length N.devices) ≡ verdict.Yes k) (w : WalkTerms) (form : walk_terms (unfolding_of P) ≡ Some w) where
+    (agreed : verdict_of (unfolding_of P) (length N.devices) ≡ verdict.Yes k) (w : WalkTerms) (form : walk_terms (unfolding_of P) ≡ Some w) where
   abbrev A : Analysis
   A = analysis_of P (length N.devices)
 
@@ -233,7 +233,7 @@ module _ (analyses : YesAnalyses) (P : Program) (N : Network) (k : ℕ) (is : Is
       let v = value_is G.added.place q G.added.term t w.step G.added.added e in
       subst (λ n. StepPart n t) v.0 (subst (λ z. StepPart G.added.place z) v.1 (record { part = summand_part; some = G.added.some }))
 
-pub part_part : YesAnalyses → (P : Program) (N : Network) (k : ℕ) (s : Span) → IsProgram P → IsNetwork N → N.declared ≡ P.declared → verdict_of P (length N.devices) ≡ verdict.Yes k
+pub part_part : YesAnalyses → (P : Program) (N : Network) (k : ℕ) (s : Span) → IsProgram P → IsNetwork N → N.declared ≡ P.declared → verdict_of (unfolding_of P) (length N.devices) ≡ verdict.Yes k
     → IsPart P s → Part P (analysis_of P (length N.devices)) N.declared.ceiling s.from (term_at P.nodes s.from)
 part_part analyses P N k s is net same agreed h = let r = part_terms P s h in by_part r.0 r.1 r.2
   where

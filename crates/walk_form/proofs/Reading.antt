@@ -149,7 +149,7 @@ module _ (P : Program) (is : IsProgram P) (s : Sort) (t : ValueType) (ks : List 
   ns = P.nodes
 
   pub no_root : is_int_rep s t ≡ false → walk_terms (unfolding_of P) ≡ None
-  no_root e = by_pattern (is_minimising (pattern_at P 0))
+  no_root e = by_pattern (is_minimising (pattern_at (unfolding_of P) 0))
     where
       contradiction : (w : WalkTerms) → root_terms (term_at ns 0) ≡ Some w → ⊥
       contradiction w f =
@@ -163,7 +163,7 @@ module _ (P : Program) (is : IsProgram P) (s : Sort) (t : ValueType) (ks : List 
       by_pattern true = none_or (root_terms (term_at ns 0)) contradiction
       by_pattern false = refl
 
-  pub not_minimising : is_minimising (pattern_at P 0) ≡ false → walk_terms (unfolding_of P) ≡ None
+  pub not_minimising : is_minimising (pattern_at (unfolding_of P) 0) ≡ false → walk_terms (unfolding_of P) ≡ None
   not_minimising e = ap (λ c. if_minimising c (root_terms (term_at ns 0))) e
 
   module _ (e : is_int_rep s t ≡ true) where
@@ -200,17 +200,17 @@ module _ (P : Program) (is : IsProgram P) (s : Sort) (t : ValueType) (ks : List 
       body_place : q ≡ suc 0 + size start
       body_place = at_body ∙ kids.second_is
 
-      read : is_minimising (pattern_at P 0) ≡ true → walk_terms (unfolding_of P) ≡ body_terms 0 q (term_at ns q)
+      read : is_minimising (pattern_at (unfolding_of P) 0) ≡ true → walk_terms (unfolding_of P) ≡ body_terms 0 q (term_at ns q)
       read m =
           ap (λ c. if_minimising c (root_terms (term_at ns 0))) m
           ∙ ap root_terms root_term
           ∙ ap (λ i. body_terms 0 i (term_at ns q)) (sym body_place)
 
       -- no `minHoodLoc`
-      pub no_hood : is_minimising (pattern_at P 0) ≡ true → (IsBuiltinAt op.MinHoodLoc ns q → ⊥) → walk_terms (unfolding_of P) ≡ None
+      pub no_hood : is_minimising (pattern_at (unfolding_of P) 0) ≡ true → (IsBuiltinAt op.MinHoodLoc ns q → ⊥) → walk_terms (unfolding_of P) ≡ None
       no_hood m g = read m ∙ none_or (body_terms 0 q (term_at ns q)) (λ w z. let b = body_is 0 q (term_at ns q) w z in g (b.type, b.sum, w.local, b.is))
 
-      module _ (m : is_minimising (pattern_at P 0) ≡ true) (a l : ℕ) (two : TwoAt ns op.MinHoodLoc q a l) where
+      module _ (m : is_minimising (pattern_at (unfolding_of P) 0) ≡ true) (a l : ℕ) (two : TwoAt ns op.MinHoodLoc q a l) where
         body_read : walk_terms (unfolding_of P) ≡ with_local l (term_at ns l) (sum_step 0 a (term_at ns a))
         body_read =
             read m

@@ -23,7 +23,7 @@ yes_or_no : (k place : ℕ) (why : Reason) → verdict.Yes k ≡ verdict.No plac
 yes_or_no k place why e = absurd cc
 
 module _ (analyses : YesAnalyses) (P Q : Program) (N : Network) (k : ℕ) (s : Span) (is : IsProgram P) (net : IsNetwork N) (same : N.declared ≡ P.declared)
-    (agreed : verdict_of P (length N.devices) ≡ verdict.Yes k) (part : IsPart P s) (declared : Q.declared ≡ P.declared)
+    (agreed : verdict_of (unfolding_of P) (length N.devices) ≡ verdict.Yes k) (part : IsPart P s) (declared : Q.declared ≡ P.declared)
     (main : term_at Q.nodes 0 ≡ alone_term s.from (term_at P.nodes s.from)) where
   abbrev t : Term
   t = term_at P.nodes s.from
@@ -37,11 +37,11 @@ module _ (analyses : YesAnalyses) (P Q : Program) (N : Network) (k : ℕ) (s : S
   placed : Placed P s.from t
   placed = part_placed P s is part
 
-  pub recognised : (place : ℕ) (why : Reason) → verdict_of Q (length N.devices) ≡ verdict.No place why → ⊥
+  pub recognised : (place : ℕ) (why : Reason) → verdict_of (unfolding_of Q) (length N.devices) ≡ verdict.No place why → ⊥
   recognised place why e =
       let h = part_is in
       let y = alone_yes P Q declared h.start h.body h.main s.from t h.stands placed.low h.free main (length N.devices) k (length N.devices) agreed in
-      yes_or_no (main_level Q (length N.devices)) place why (sym y ∙ e)
+      yes_or_no (main_level (unfolding_of Q) (length N.devices)) place why (sym y ∙ e)
 
   analysis : IsAnalysis P A N
   analysis = (analyses P N k is net same agreed).analysis

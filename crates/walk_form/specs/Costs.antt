@@ -33,6 +33,6 @@ pub record AreCostsOf (U : Unfolding) (N : Network) (C : CostsValue) : Type 0 wh
 -- the verdict for so many devices is this no, or a yes for so many rounds without the walk form; want of memory is
 -- always allowed
 abbrev pub IsCostFault : Program → ℕ → CostFault → Type 0
-IsCostFault P n (fault.Unrecognised place why) = verdict_of P n ≡ verdict.No place why
-IsCostFault P n (fault.NotWalks k) = (verdict_of P n ≡ verdict.Yes k) × (walk_terms (unfolding_of P) ≡ None)
+IsCostFault P n (fault.Unrecognised place why) = verdict_of (unfolding_of P) n ≡ verdict.No place why
+IsCostFault P n (fault.NotWalks k) = (verdict_of (unfolding_of P) n ≡ verdict.Yes k) × (walk_terms (unfolding_of P) ≡ None)
 IsCostFault P n fault.Memory = Unit {0}

@@ -76,7 +76,7 @@ fn is_int_rep(node: &Node) -> bool
 fn is_minimising(program: &Unfolded, ranges: &Ranges) -> bool
     requires ranges { AreRangesOf (unfolding_of program.now) ranges.now }
     requires evolving { IsEvolving program.now.nodes 0 }
-    ensures { result ≡ is_minimising_of (pattern_at program.now 0) }
+    ensures { result ≡ is_minimising_of (pattern_at (unfolding_of program.now) 0) }
 {
     match pattern(program, ranges, 0) {
         Ok(Pattern::Minimising { .. }) => true,

@@ -31,7 +31,7 @@ pub fn costs(
     requires declared { net.now.declared ≡ analysis.now.declared }
     ensures costs { IfOk result (λ c. AreCostsOf (unfolding_of analysis.now) net.now (costs_of c.1)) }
     ensures are { IfOk result (λ c. IsCosts (costs_of c.1)) }
-    ensures yes { IfOk result (λ c. verdict_of analysis.now (length net.now.devices) ≡ verdict.Yes c.0) }
+    ensures yes { IfOk result (λ c. verdict_of (unfolding_of analysis.now) (length net.now.devices) ≡ verdict.Yes c.0) }
     ensures refused { IfErr result (IsCostFault analysis.now (length net.now.devices)) }
 {
     let program = analysis.program();
@@ -53,7 +53,7 @@ fn form_costs(
     form: WalkForm,
 ) -> Result<Costs, Memory>
     requires declared { net.now.declared ≡ program.now.declared }
-    requires yes { (k : ℕ) × (verdict_of program.now (length net.now.devices) ≡ verdict.Yes k) }
+    requires yes { (k : ℕ) × (verdict_of (unfolding_of program.now) (length net.now.devices) ≡ verdict.Yes k) }
     requires form { IsWalkForm program.now form }
     ensures costs { IfOk result (λ c. AreCostsOf (unfolding_of program.now) net.now (costs_of c)) }
     ensures are { IfOk result (λ c. IsCosts (costs_of c)) }
@@ -71,7 +71,7 @@ fn form_costs(
 // What steps add.
 fn added(alloc: Global, program: &Unfolded, net: &Network, form: WalkForm) -> Result<Add, Memory>
     requires declared { net.now.declared ≡ program.now.declared }
-    requires yes { (k : ℕ) × (verdict_of program.now (length net.now.devices) ≡ verdict.Yes k) }
+    requires yes { (k : ℕ) × (verdict_of (unfolding_of program.now) (length net.now.devices) ≡ verdict.Yes k) }
     requires form { IsWalkForm program.now form }
     ensures { IfOk result (λ a. AddsAre net.now (step_of program.now.nodes form.adds) (added_of a)) }
 {

@@ -1,5 +1,6 @@
 //! The integers of a term's field.
 
+ghost use Rattle.fc_nodes.specs.Program.{unfolding_of};
 ghost use Rattle.std.specs.Prelude.{ℕ, ◌≡◌, IfOk, length, map};
 ghost use Rattle.fc_values.specs.Fields.{entry_of};
 ghost use Rattle.fc_values.specs.Values.{local_of};
@@ -27,7 +28,7 @@ pub fn integers_at(
     term: Span,
 ) -> Result<Vec<(u32, u32)>, Memory>
     requires declared { net.now.declared ≡ program.now.declared }
-    requires yes { (k : ℕ) × (verdict_of program.now (length net.now.devices) ≡ verdict.Yes k) }
+    requires yes { (k : ℕ) × (verdict_of (unfolding_of program.now) (length net.now.devices) ≡ verdict.Yes k) }
     requires part { IsPart program.now term }
     ensures { IfOk result (λ v. IsFieldAt net.now term.from (term_at program.now.nodes term.from) v.items) }
 {

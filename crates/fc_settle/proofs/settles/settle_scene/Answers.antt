@@ -42,7 +42,7 @@ returns c =
       many = sym (length-map ds device_of)
           ∙ ap length (c.devices-devices.ensures.value ∙ ap (λ (N : Network). N.devices) c.net.ensures.value)
           ∙ ap (λ (k : Core). length k.net.devices) starts;
-      verdict = c.in_ok-verdict.ensures.verdict ∙ ap (λ (Q : Program). verdict_of Q n) (c.deref.ensures ∙ same);
+      verdict = c.in_ok-verdict.ensures.verdict ∙ ap (λ (Q : Program). verdict_of (unfolding_of Q) n) (c.deref.ensures ∙ same);
       cap = c.settle_cap.ensures;
       judged = c.in_ok-verdict.ensures.text
           ∙ ap (λ (Q : Program). (checked_of c.args.facts Q n).text) (c.deref.ensures ∙ same);

@@ -7,6 +7,7 @@ use Rattle.fragment_check.proofs.Steps.{kids_row, first_later}
 use Rattle.fragment_check.proofs.Evolving.{body_stands}
 use Rattle.fragment_check.proofs.Judgements.{found_both, refuses_first, refused_second, refused_same, found_same, one_finds, kids_judged, evolving_here, evolving_judged, body_later}
 use Rattle.fragment_check.proofs.listing.+judge.Goals as goal
+use Rattle.fc_nodes.specs.Program.{unfolding_of}
 
 pub judge-judge-requires : goal.judge-judge-requires
 judge-judge-requires t c =
@@ -22,17 +23,17 @@ pub judge-returns-then-is_evolving-clause-found : goal.judge-returns-then-is_evo
 judge-returns-then-is_evolving-clause-found t c =
     let z = sym c.is_evolving.ensures ∙ c.if-is_evolving.true in
     let e = evolving_judged c.args.program.now c.node-node.ensures.program.formed c.args.place c.requires.stands _ _ _ c.node-node.ensures.node z _ c.index.ensures in
-    let f = one_finds c.args.place (pattern_at c.args.program.now c.args.place) c.in-Ok.pattern c.args.found.now.items (sym c.in-Ok.ensures) in
+    let f = one_finds c.args.place (pattern_at (unfolding_of c.args.program.now) c.args.place) c.in-Ok.pattern c.args.found.now.items (sym c.in-Ok.ensures) in
     found_same c.judge.result _ _ _ _ e
-    (found_both c.judge.result ((c.args.place, pattern_at c.args.program.now c.args.place) ∷ []) (judged_at c.args.program.now c.index.result.now) c.args.found.now.items _ _ f (rw c.in_ok-push-in-Ok.ensures.items at c.judge.ensures.found))
+    (found_both c.judge.result ((c.args.place, pattern_at (unfolding_of c.args.program.now) c.args.place) ∷ []) (judged_at c.args.program.now c.index.result.now) c.args.found.now.items _ _ f (rw c.in_ok-push-in-Ok.ensures.items at c.judge.ensures.found))
 
 pub judge-returns-then-is_evolving-clause-refused : goal.judge-returns-then-is_evolving-clause-refused
 judge-returns-then-is_evolving-clause-refused t c =
     let z = sym c.is_evolving.ensures ∙ c.if-is_evolving.true in
     let e = evolving_judged c.args.program.now c.node-node.ensures.program.formed c.args.place c.requires.stands _ _ _ c.node-node.ensures.node z _ c.index.ensures in
-    let f = one_finds c.args.place (pattern_at c.args.program.now c.args.place) c.in-Ok.pattern c.args.found.now.items (sym c.in-Ok.ensures) in
+    let f = one_finds c.args.place (pattern_at (unfolding_of c.args.program.now) c.args.place) c.in-Ok.pattern c.args.found.now.items (sym c.in-Ok.ensures) in
     refused_same c.judge.result _ _ e
-    (refused_second c.judge.result ((c.args.place, pattern_at c.args.program.now c.args.place) ∷ []) (judged_at c.args.program.now c.index.result.now) f.0 c.judge.ensures.refused)
+    (refused_second c.judge.result ((c.args.place, pattern_at (unfolding_of c.args.program.now) c.args.place) ∷ []) (judged_at c.args.program.now c.index.result.now) f.0 c.judge.ensures.refused)
 
 pub judge-judge_all-requires : goal.judge-judge_all-requires
 judge-judge_all-requires t c =

@@ -4,11 +4,12 @@ use Rattle.fragment_check.specs.Verdicts.{variable_range}
 use Rattle.round_bound.specs.Walks.{PatternFew}
 use Rattle.round_bound.proofs.Small.{few_ranks, variable_few}
 use Rattle.round_bound.proofs.added.levels_of_pattern.Goals as goal
+use Rattle.fc_nodes.specs.Program.{unfolding_of}
 
 pub each_stage-requires : goal.each_stage-requires
 each_stage-requires c =
     let e = c.ranks.ensures.value in
-    let f = few_ranks c.args.context.now.devices c.args.context.now.program.now.declared.ceiling (variable_range c.args.context.now.program.now c.in-Acyclic.potential) (variable_few c.args.context.now.program.now c.requires.program c.in-Acyclic.potential) c.requires.program.lawful.most in
+    let f = few_ranks c.args.context.now.devices c.args.context.now.program.now.declared.ceiling (variable_range (unfolding_of c.args.context.now.program.now) c.in-Acyclic.potential) (variable_few c.args.context.now.program.now c.requires.program c.in-Acyclic.potential) c.requires.program.lawful.most in
     omega (arith, e, f)
 
 pub nonzero_div-greatest : goal.nonzero_div-greatest
