@@ -1,4 +1,4 @@
--- The options of each command, for `clap`, and what it reads of words that are inside.
+-- The options of each command, for `clap`, and what it reads of words that ask for a command.
 use Rattle.std.specs.Prelude.{ℕ, ◌≡◌, Bool, true, false, if◌then◌else◌, List, [], ◌∷◌, codes}
 use Rattle.std.specs.Prelude.{Option, Some, None, option_and_then}
 use Rattle.clap.specs.Words.{App, Row, Rule, first_of, new_app, new_rule, one_of, with_rule}

@@ -111,7 +111,7 @@ asked (Some name) None = None
 asked None settings = None
 
 -- the command that the words ask for: the first word is the program's name and is ignored, the second names the
--- command, and each further one sets something that this command takes. None where the words are outside
+-- command, and each further one sets something that this command takes. None where the words ask for none
 abbrev pub command_of : List (List ℕ) → Option Command
 command_of [] = None
 command_of (program ∷ []) = None

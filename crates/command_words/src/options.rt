@@ -104,7 +104,7 @@ fn options<'a>(alloc: Global, name: Name, word: &'a str) -> Result<Command<'a>, 
     }
 }
 
-// The words begin with the command's. They are inside, so the parse fails for memory alone.
+// The words begin with the command's. They ask for a command, so the parse fails for memory alone.
 fn matches<'a>(
     alloc: Global,
     name: Name,
@@ -145,7 +145,7 @@ fn choices_in(matches: &ArgMatches) -> Choices
     }
 }
 
-/// The choices of words that are inside, as `clap` reads them. The command's word is the first.
+/// The choices of words that ask for a command, as `clap` reads them. The command's word is the first.
 pub fn choices(alloc: Global, name: Name, word: &str, words: &[String]) -> Result<Choices, Memory>
     requires { is_some (asked_of name (map string_bytes words.now)) ≡ true }
     ensures { IfOk result (λ c. asked_of name (map string_bytes words.now) ≡ command_with name c) }

@@ -28,7 +28,7 @@ line_of (line.Poke d v ks) = PokeLine d (local_of v) (map local_of ks.items)
 line_of (line.Join x) = JoinLine (device_of x)
 line_of (line.Leave d) = LeaveLine d
 
--- what was read is a line, but for values that are too wide for every type
+-- what was read is a line, in which other values stand for those that are too wide for every type
 abbrev pub ReadsLine : Option EditLine → Option Line → Type 0
 ReadsLine line read = option_map line_of read ≡ option_map narrow_line line
 
@@ -49,7 +49,7 @@ abbrev pub flies_in : Option (Bor CoreValue) → ℕ → Bool
 flies_in None d = false
 flies_in (Some c) d = is_some ((core_of c.now).flying d)
 
--- a fault in code is that of a line. Want of memory is free
+-- a fault in code is that of a line. Want of memory is always allowed
 abbrev pub IsFaultOf : Option Fault → LineFault → Type 0
 IsFaultOf fault (line_fault.Bad f) = fault ≡ Some f
 IsFaultOf fault line_fault.Memory = Unit {0}

@@ -22,7 +22,7 @@ use Rattle.edit_commands.specs.EditLines.{EditLine, LinkLine, UnlinkLine, SetLin
 abbrev pub fits_kept : Unfolding → LocalValue → List LocalValue → Bool
 fits_kept U v ks = has_type U.declared.ceiling (inner (type_of U.main)) v && is_none (misfit_of U ks)
 
--- why a device can't be poked, and why one can't leave where some devices are known to fly
+-- why a device can't be poked, and why one can't leave where some devices are known to be in flight
 abbrev pub poke_fault : Unfolding → Network → ℕ → LocalValue → List LocalValue → Option Fault
 poke_fault U n d v ks =
     if lives n d then (if fits_kept U v ks then None else Some fault.Kept) else Some (fault.Net net.NoDevice)

@@ -40,7 +40,7 @@ log_line is (b ∷ bs) =
     if b == 69 then option_map EndLine (number_of bs) else
     if b == 73 then idle_line bs else edit_in is (b ∷ bs)
 
--- The first fault of a line. That no device that leaves flies is found when the log is replayed.
+-- The first fault of a line. Whether a device that leaves is in flight is found when the log is replayed.
 abbrev pub line_fault : Unfolding → Network → LogLine → Option Fault
 line_fault U n (BeginLine d) = None
 line_fault U n (EndLine d) = None
@@ -61,7 +61,7 @@ text_judged U n (Some l) = unless (line_fault U n l) l
 abbrev pub line_judged : Unfolding → Network → List ℕ → Judgement Fault LogLine
 line_judged U n text = text_judged U n (log_line n.declared.inputs text)
 
--- the edit that words say, judged, and that of a text. That no device that leaves flies isn't judged
+-- the edit that words say, judged, and that of a text. Whether a device that leaves flies isn't judged
 abbrev pub edit_judged : Unfolding → Network → List (List ℕ) → Judgement Fault EditLine
 edit_judged U n words = words_judged U n (λ d. false) (edit_line n.declared.inputs words)
 
@@ -100,7 +100,7 @@ numbered (k ∷ ks) (e ∷ es) = (k, e) ∷ numbered ks es
 abbrev pub logged : Log → List (ℕ × EntryValue)
 logged l = numbered l.lines.items (entries_of l.entries.items)
 
--- the fault of a log: its first line that has one. Want of memory is free
+-- the fault of a log: its first line that has one. Want of memory is always allowed
 abbrev pub RefusesLog : Unfolding → Network → List ℕ → ScriptFault → Type 0
 RefusesLog U n text (script.At k f) = log_of U n text ≡ StopsAt k f
 RefusesLog U n text (script.Lines count) = ⊥

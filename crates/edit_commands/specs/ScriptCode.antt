@@ -69,7 +69,7 @@ text_in p text = script_line p.net.declared.inputs (words_of text)
 abbrev pub fault_in : Sight → ProgressCode → EditLine → Option Fault
 fault_in s p line = edit_fault (program_in s) p.net (flies (start_in s) p.quiet) line
 
--- a fault in code is that of a judged line of a number. Want of memory is free
+-- a fault in code is that of a judged line of a number. Want of memory is always allowed
 abbrev pub HasLineFaultAt : {A : Type 0} → ℕ → Judgement LineFault A → ScriptFault → Type 0
 HasLineFaultAt number judged (script.At k f) = (k ≡ number) × (judged ≡ Refused (OfLine f))
 HasLineFaultAt number judged (script.Lines count) = ⊥
@@ -80,7 +80,7 @@ HasLineFaultAt number judged script.Memory = Unit {0}
 abbrev pub IsAtFault : Sight → ProgressCode → Option ScriptLine → ScriptFault → Type 0
 IsAtFault s p line f = HasLineFaultAt s.number (seen s p line) f
 
--- a fault in code is that of an edit on the line of a number. Want of memory is free
+-- a fault in code is that of an edit on the line of a number. Want of memory is always allowed
 abbrev pub IsFaultAt : ℕ → Option Fault → ScriptFault → Type 0
 IsFaultAt number fault (script.At k f) = (k ≡ number) × (fault ≡ Some f)
 IsFaultAt number fault (script.Lines count) = ⊥

@@ -245,7 +245,7 @@ IsScript U start text cs = SaidByScript U cs (script_of U start text)
 abbrev pub numbered : Line → ℕ × CommandValue
 numbered l = (l.number, command_of l.command)
 
--- the fault of the lines of a script. Want of memory is free
+-- the fault of the lines of a script. Want of memory is always allowed
 abbrev pub RefusesLines : Unfolding → Core → List ℕ → ScriptFault → Type 0
 RefusesLines U start text (script.At k f) = lines_in U start text ≡ StopsAt k (OfLine f)
 RefusesLines U start text (script.Lines count) = ⊥

@@ -36,7 +36,7 @@ pub const MOST_SCRAMBLES: u32 = 4;
 /// The most firings of a script: the sum over its lines of rounds times devices.
 pub const MOST_FIRINGS: u64 = 1_000_000;
 
-/// What a line begins with that isn't an edit.
+/// What a line that isn't an edit begins with.
 #[derive(Clone, Copy, Debug, PartialEq, Eq)]
 pub(crate) enum ScriptWord {
     Run,

@@ -30,8 +30,8 @@ pub struct Log {
     pub entries: Vec<Entry>,
 }
 
-/// The fault of a line: it isn't one of the lines of its text, the network refuses its edit, or its value or kept list
-/// is none of an export.
+/// The fault of a line: it isn't one that its kind of text has, the network refuses its edit, or no export has its
+/// value and kept list.
 #[derive(Clone, Copy, Debug, PartialEq, Eq)]
 pub enum Fault {
     Form,

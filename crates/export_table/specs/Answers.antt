@@ -22,7 +22,7 @@ begun_from d n was (x ∷ xs) = begun_from d (n + 1) (after_item d n was x) xs
 abbrev pub last_begin : ℕ → List ItemValue → Option ℕ
 last_begin d items = begun_from d 0 None items
 
--- which place an item answers that stands behind these
+-- the place that an entry right after these items answers, if any
 abbrev pub entry_answers : List ItemValue → EntryValue → Option ℕ
 entry_answers before (BeginEntry d) = None
 entry_answers before (EndEntry d) = last_begin d before

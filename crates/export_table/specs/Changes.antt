@@ -9,7 +9,7 @@ use Rattle.export_table.specs.declared.agenda.Change.{Change}
 use Rattle.export_table.specs.declared.agenda.Change.TheVariants as change
 use Rattle.export_table.specs.Agendas.{AgendaValue, first_row}
 
--- what a device changes that leaves: it takes its row away, which has its place, if it is there
+-- what the leave of a device changes: its row goes, if the device is there
 abbrev pub IsLeave : List NetDevice → ℕ → Change → Type 0
 IsLeave ns d (change.Join place e) = ⊥
 IsLeave ns d (change.Leave place) = (place < length ns) × (slice_index (numbers ns) place ≡ d)

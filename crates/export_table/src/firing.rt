@@ -90,7 +90,7 @@ impl Firing {
     }
 }
 
-/// What a worker calls between the begin and the end of a firing, outside the lock. It has no meaning.
+/// What a worker calls between the begin and the end of a firing, outside the lock. No contract speaks of it.
 pub trait Gate {
     fn between(&self, firing: &Firing);
 }

@@ -1,4 +1,4 @@
--- What the words ask for, and what each command does with the outside.
+-- What the words ask for, and whether it reads the source.
 use Rattle.std.specs.Prelude.{ℕ, Bool, true, false, ◌&&◌, is_none, IfSome, Option, Some, None}
 use Rattle.command_words.specs.declared.commands.Command.{Command}
 use Rattle.command_words.specs.declared.commands.Command.TheVariants as command

@@ -1,4 +1,4 @@
--- Each input has an answer, and one in what is written, and what statuses answers have.
+-- Each input has an answer, answers to one input write the same, and which statuses answers have.
 use Rattle.std.specs.Prelude.{ℕ, Bool, true, false, ◌≡◌, ◌≤◌, List, Option, Some, None}
 use Rattle.edit_commands.specs.Agreement.{SameEntries}
 use Rattle.command_words.specs.declared.commands.Command.{Command}
@@ -41,7 +41,7 @@ SomeAnswer =
     (asked : Option Command) (input : List ℕ) → MayAsk asked
     → (answer : AnswerValue) × Answers asked input answer
 
--- the status of an answer: 2, that of the usage line, where the words are outside alone, and at most 4
+-- the status of an answer: 2, that of the usage line, only where the words ask for no command, and at most 4
 pub record AnswerStatus (asked : Option Command) (answer : AnswerValue) : Type 0 where
   pub usage : answer.status ≡ 2 → asked ≡ None
   pub few : answer.status ≤ 4

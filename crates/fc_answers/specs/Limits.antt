@@ -1,5 +1,5 @@
--- The limits of `fc`, as numerals. The definitions take them from constants of the code, so that who changes one moves
--- code and definitions together; here each is tied to its number.
+-- The limits of `fc`, as numerals. The definitions take them from constants of the code, so that whoever changes one
+-- changes code and definitions together; here each is tied to its number.
 use Rattle.std.specs.Prelude.{◌≡◌}
 use Rattle.fc_values.specs.declared.limits.TheConstants.{MOST_BYTES, GREATEST, MOST_NODES, MOST_LINKS}
 use Rattle.fc_values.specs.declared.limits.TheConstants.{MOST_SCENARIO_DEVICES, MOST_WORKERS}

@@ -1,5 +1,5 @@
 -- What `stable` makes of a program and a scene: the one field that solves the program on the scene's network, or the
--- verdict's no. What the scene's table and copies hold is judged and then not used.
+-- verdict's no. The scene's table and copies are judged, but not used.
 use Rattle.std.specs.Prelude.{ℕ, ◌≡◌, List, length, false}
 use Rattle.fc_values.specs.Fields.{Entries}
 use Rattle.fc_nodes.specs.Program.{IsProgram, Program, Unfolding, unfolding_of}

@@ -48,7 +48,7 @@ pub fn some_answer()
     some_mail();
 }
 
-/// The status of the usage line is that of words outside alone, and no answer has a status above 4.
+/// Only words that ask for no command get the status of the usage line, and no answer has a status above 4.
 pub fn answer_statuses()
     ensures { AnswerStatuses }
 {}

@@ -1,4 +1,4 @@
--- What `check` makes of a program and a scene: its verdict, and behind a yes the facts of each node, where they are
+-- What `check` makes of a program and a scene: its verdict, and after a yes the facts of each node, where they are
 -- asked for.
 use Rattle.std.specs.Prelude.{ℕ, Bool, true, false, ◌≡◌, List, [], ◌++◌, length}
 use Rattle.fc_nodes.specs.Program.{IsProgram, Program, Unfolding, unfolding_of}
@@ -18,7 +18,7 @@ abbrev pub verdict_status : Verdict → ℕ
 verdict_status (verdict.Yes rounds) = 0
 verdict_status (verdict.No place why) = 1
 
--- the lines of facts, behind a yes and where they are asked for
+-- the lines of facts, after a yes and where they are asked for
 abbrev pub facts_behind : Bool → Verdict → List ℕ → List ℕ
 facts_behind true (verdict.Yes rounds) text = text
 facts_behind true (verdict.No place why) text = []

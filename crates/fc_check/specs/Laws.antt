@@ -1,4 +1,4 @@
--- Texts are checked to something, and to one thing.
+-- `check` has a result for texts within the limit, and only one.
 use Rattle.std.specs.Prelude.{ℕ, Bool, ◌≡◌, ◌≤◌, List, length}
 use Rattle.fc_nodes.specs.Program.{IsProgram, Program, unfolding_of}
 use Rattle.fragment_check.specs.Verdicts.{verdict_of}
@@ -12,7 +12,7 @@ OneCheck =
     (facts : Bool) (program network : List ℕ) (j k : Judged Reply) → Checks facts program network j
     → Checks facts program network k → j ≡ k
 
--- texts, of which that of the program is within the limit, are checked to something
+-- `check` has a result where the text of the program is within the limit
 abbrev pub SomeCheck : Type 0
 SomeCheck =
     (facts : Bool) (program network : List ℕ) → length program ≤ MOST_BYTES

@@ -14,7 +14,7 @@ use report::{facts as write_facts, verdict as write_verdict};
 use round_bound::Analysis;
 use std::alloc::Global;
 
-/// The verdict on a program for so many devices, with its text: behind a yes the facts of each node, where they are
+/// The verdict on a program for so many devices, with its text: after a yes the facts of each node, where they are
 /// asked for.
 pub fn verdict_text(
     alloc: Global,

@@ -4,14 +4,14 @@ ghost use Rattle.fc_check.specs.Laws.{OneCheck, OneVerdict, SomeCheck};
 
 use fc_inputs::{one_input, texts_unfold};
 
-/// Texts are checked to one thing.
+/// `check` has at most one result for the same texts.
 pub fn one_check()
     ensures { OneCheck }
 {
     one_input();
 }
 
-/// Texts are checked to something.
+/// `check` has a result where the text of the program is within the limit.
 pub fn some_check()
     ensures { SomeCheck }
 {

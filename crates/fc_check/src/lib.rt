@@ -1,5 +1,5 @@
-//! What `check` makes of the texts of a program and a scene: the verdict's line, and behind a yes the facts of each
-//! node.
+//! What `check` makes of the texts of a program and a scene: the verdict's line, and after a yes the facts of each
+//! node, where they are asked for.
 #![tactic(auto)]
 
 mod checks;

@@ -1,4 +1,4 @@
--- Each scenario runs to something, to one text where the logs agree, and to the values of the one solution.
+-- Each scenario has a result, one text where the logs agree, and the values of the one solution.
 use Rattle.std.specs.Prelude.{ℕ, ◌≡◌, ◌≤◌, ◌+◌, ◌*◌, List, sum_by}
 use Rattle.fc_values.specs.Values.{LocalValue}
 use Rattle.topology.specs.Networks.{NetDevice}

@@ -34,7 +34,7 @@ net_word net.Devices = codes "devices"
 net_word net.InFlight = codes "in-flight"
 net_word net.Last = codes "last"
 
--- the word of a fault of a line: it is none of the lines of its text, a network's refusal, a kept list that is none, a
+-- the word of a fault of a line: no line of its kind of text, a network's refusal, a kept list that no export has, a
 -- begin of a device in flight, an end of one that isn't, and a message that isn't there
 abbrev pub line_word : LineFault → List ℕ
 line_word Form = codes "form"

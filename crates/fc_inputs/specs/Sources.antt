@@ -27,7 +27,7 @@ pub record IsSource (text : List ℕ) (ds : List Declaration) : Type 0 where
   pub within : limit_passed tokens ≡ None
   pub derives : Derives tokens ds
 
--- the text is refused: nothing begins at a byte that reading reaches, a declaration passes a limit, or one is at fault
+-- the text is refused: no token begins at a byte that reading reaches, a declaration passes a limit, or one is at fault
 pub data IsNoSource (text : List ℕ) : Refusal → Type 0 where
   lexical : (at : ℕ) → StopsAt text at → IsNoSource text (Lexical at)
   tokens : (tokens : List TokenView) (number count : ℕ) → Lexes text tokens

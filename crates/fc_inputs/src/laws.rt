@@ -25,7 +25,7 @@ pub fn one_program_text()
     one_first_fault();
 }
 
-/// The texts of a program and a scene are one of each, or are refused for one cause, and not both.
+/// The texts of a program and a scene are read as one of each, or are refused for one cause, and not both.
 pub fn one_input()
     ensures { OneInput }
 {

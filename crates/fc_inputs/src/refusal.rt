@@ -10,11 +10,11 @@ use topology::NetFault;
 /// What is at fault in a line of a script or a log: by itself, or for what the lines before leave.
 #[derive(Clone, Copy, Debug, PartialEq, Eq)]
 pub enum LineFault {
-    /// It is none of the lines of its text.
+    /// It isn't a line that its kind of text has.
     Form,
     /// The network refuses it, or the device of a begin or an end isn't there.
     Net(NetFault),
-    /// A kept list that is none of an export.
+    /// No export has its kept list.
     Kept,
     /// A begin of a device that is in flight.
     Flying,
@@ -35,7 +35,7 @@ pub enum Refusal {
     Bytes,
     /// The command takes another number of sections than this one.
     Sections(usize),
-    /// Nothing begins at this byte of the program.
+    /// No token begins at this byte of the program.
     Lexical(usize),
     /// A declaration has so many tokens.
     Tokens(u32),

@@ -102,7 +102,7 @@ fn network(alloc: Global, path: &Path, fault: NetFault) -> Result<Reply, Memory>
     Ok(line(text)?)
 }
 
-// A kept list that is none of an export.
+// A kept list that no export has.
 fn kept(alloc: Global, path: &Path, place: u32) -> Result<Reply, Memory>
     ensures { IfOk result (λ r. r ≡ scene_refused (BadKept path.now.text.items place)) }
 {

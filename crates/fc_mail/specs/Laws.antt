@@ -1,4 +1,4 @@
--- Texts of `mail` have one reply, and some reply; and what it writes keeps a yes.
+-- `mail` has a result for texts within the limit, and only one; and what it writes keeps a yes.
 use Rattle.std.specs.Prelude.{ℕ, ◌≡◌, ◌≤◌, List, ◌++◌, length}
 use Rattle.fc_nodes.specs.Program.{IsProgram, Program, unfolding_of}
 use Rattle.fc_nodes.specs.declared.verdicts.Verdict.TheVariants as verdict
@@ -31,7 +31,7 @@ abbrev pub OneDrivenMail : Type 0
 OneDrivenMail = (number : ℕ) (program network : List ℕ) (j k : Judged Reply) → DrivesMail number program network j
     → DrivesMail number program network k → j ≡ k
 
--- where the text of the program is within the limit
+-- `mail` has a result where the text of the program is within the limit
 abbrev pub SomeMail : Type 0
 SomeMail = (program network log : List ℕ) → length program ≤ MOST_BYTES
     → (j : Judged Reply) × Mails program network log j

@@ -12,7 +12,7 @@ use mail_count::some_greatest_mail;
 use mail_drive::{driven_logs_lead, driven_rounds_cover};
 use mail_laws::yes_stabilises_mail;
 
-/// Texts have one reply.
+/// `mail` has at most one result for the same texts.
 pub fn one_mail()
     ensures log { OneMail }
     ensures number { OneDrivenMail }
@@ -25,7 +25,7 @@ pub fn one_mail()
     steps_keep_good();
 }
 
-/// Texts have some reply.
+/// `mail` has a result where the text of the program is within the limit.
 pub fn some_mail()
     ensures log { SomeMail }
     ensures number { SomeDrivenMail }

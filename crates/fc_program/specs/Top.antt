@@ -66,7 +66,7 @@ pub record IsExact (asked : Option Command) (left old new : Option (List ℕ)) (
   pub text : Appends old new answer.text
   pub tells : Tells answer o
 
--- There is an answer with the outcome's book and parts, and the sink took a front of its text.
+-- There is an answer with the outcome's book and parts, and the sink took only the first part of its text.
 pub record IsCut (asked : Option Command) (left old new : Option (List ℕ)) (o : Outcome) : Type 0 where
   pub answer : AnswerValue
   pub answers : IsAnswer asked left answer
@@ -80,7 +80,7 @@ pub record IsUnread (src src' : SourceAt) (out out' : SinkAt) : Type 0 where
   pub cause : Rose src.faults src'.faults
   pub keeps : Keeps out.taken out'.taken
 
--- how a call ends of what the words ask for: the source and the sink before it and after it, and its outcome
+-- how a call for what the words ask ends: the source and the sink before it and after it, and its outcome
 pub record Ends (asked : Option Command) (src src' : SourceAt) (out out' : SinkAt) (o : Outcome) : Type 0 where
   -- A status from 0 to 4: an answer to the words and to what the source had left was written, and nothing else.
   pub exact : o.status ≤ 4 → IsExact asked src.left out.taken out'.taken o
@@ -101,6 +101,6 @@ pub record Ends (asked : Option Command) (src src' : SourceAt) (out out' : SinkA
   -- Nothing is told where nothing was made.
   pub unread_book : o.status ≡ 5 → TellsNothing o
   pub memory_book : o.status ≡ 7 → TellsNothing o
-  -- Where no count rose, want of memory is the one answer beside the defined one.
+  -- Where neither count of faults rose, the outcome is the prescribed one, unless memory was wanting.
   pub complete : (Rose src.faults src'.faults → ⊥) → (Rose out.faults out'.faults → ⊥) → o.status ≢ 7
       → IsExact asked src.left out.taken out'.taken o

@@ -1,6 +1,6 @@
-//! `fc`: writes a program's canonical text, or says whether a program stabilises and in how many rounds, or runs a
-//! script of rounds and edits on a network, or replays a log of firings there, and writes what each device holds; or
-//! runs the scenario of a number.
+//! `fc`: writes a program's canonical text, says whether and within how many rounds it stabilises, writes its
+//! stabilised field or cheapest walks, runs a script, replays a log of firings or of messages, drives messages from a
+//! number, or runs the scenario of a number.
 #![tactic(auto)]
 
 mod ending;

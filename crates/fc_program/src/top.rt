@@ -38,8 +38,8 @@ pub fn fc<W: Threads + Wait + Sync, S: Source, K: Sink, G: Gate + Sync>(
     }
 }
 
-/// What the words ask for, over a source and a sink that stay calm, with more room than the text has bytes: the status
-/// is never 5 or 6, and where memory suffices what is defined is done.
+/// What the words ask for, over a source and a sink that don't fail, with more room than the text has bytes: the status
+/// is never 5 or 6, and where memory suffices exactly the prescribed text is written.
 pub fn calm<W: Threads + Wait + Sync, G: Gate + Sync>(
     rt: &W,
     alloc: Global,

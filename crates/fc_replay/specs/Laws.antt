@@ -1,4 +1,4 @@
--- Texts are replayed to something, and to one thing in what is written.
+-- `replay` has a result for texts within the limit, and only one in what is written.
 use Rattle.std.specs.Prelude.{ℕ, ◌≡◌, ◌≤◌, List, length}
 use Rattle.firing_core.specs.Cores.{IsGood}
 use Rattle.fc_values.specs.declared.limits.TheConstants.{MOST_BYTES}
@@ -29,7 +29,7 @@ OneReplay =
     (options : ReplayOptions) (program network log : List ℕ) (j k : Judged Shown)
     → Replays options program network log j → Replays options program network log k → Alike j k
 
--- texts, of which that of the program is within the limit, are replayed to something
+-- `replay` has a result where the text of the program is within the limit
 abbrev pub SomeReplay : Type 0
 SomeReplay =
     (options : ReplayOptions) (program network log : List ℕ) → length program ≤ MOST_BYTES

@@ -1,4 +1,4 @@
--- Where a log is refused: by a line, or by an entry that has no step.
+-- Where a log is refused: at a line, or at an entry that has no step.
 use Rattle.std.specs.Prelude.{ℕ, List, [], ◌∷◌, map, Option, Some, None}
 use Rattle.fc_nodes.specs.Program.{Unfolding}
 use Rattle.topology.specs.declared.types.NetFault.{NetFault}

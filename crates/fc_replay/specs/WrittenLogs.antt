@@ -22,8 +22,8 @@ pub record ShowsLog (options : ReplayOptions) (U : Unfolding) (start : Core) (lo
   pub core : s.book.core ≡ last
   pub says : IsText options s.book s.text
 
--- The lines of each log that leads from an accepted scene to a core are replayed so, and never refused. That program,
--- scene and lines are together an input within its limit of bytes isn't said here.
+-- The lines of each log that leads from an accepted scene to a core are replayed so, and never refused. It isn't
+-- said here that program, scene and lines together stay within the limit of bytes of an input.
 abbrev pub WrittenLogsReplay : Type 0
 WrittenLogsReplay =
     (options : ReplayOptions) (program network : List ℕ) (i : InputOf) (log : List EntryValue) (last : Core)

@@ -11,7 +11,8 @@ use log_texts::logs_read_back;
 use net_json::{accepted_scenes_fit, tables_read_back};
 use round_count::some_greatest;
 
-/// Texts are replayed to one thing, but for what exports hold at the places of a branch that isn't taken.
+/// `replay` has at most one result for the same texts, but for what exports hold at the places of a branch that isn't
+/// taken.
 pub fn one_replay()
     ensures { OneReplay }
 {
@@ -19,7 +20,7 @@ pub fn one_replay()
     readings_agree();
 }
 
-/// Texts are replayed to something.
+/// `replay` has a result where the text of the program is within the limit.
 pub fn some_replay()
     ensures { SomeReplay }
 {

@@ -1,4 +1,4 @@
--- Texts are run to something, and to one text where the logs agree; and what is run keeps a yes.
+-- `run` has a result for texts within the limit, and one text where the logs agree; and what is run keeps a yes.
 use Rattle.std.specs.Prelude.{ℕ, ◌≡◌, ◌≤◌, ◌++◌, List, length}
 use Rattle.fc_nodes.specs.Program.{Program, IsProgram, unfolding_of}
 use Rattle.firing_core.specs.declared.entries.Part.{Part}
@@ -36,7 +36,7 @@ OneRun =
     → Runs options program network script j
     → Runs options program network script k → AlikeRuns j k
 
--- texts, of which that of the program is within the limit, are run to something
+-- `run` has a result where the text of the program is within the limit
 abbrev pub SomeRun : Type 0
 SomeRun =
     (options : RunOptions) (program network script : List ℕ) → length program ≤ MOST_BYTES

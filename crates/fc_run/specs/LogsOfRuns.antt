@@ -11,8 +11,8 @@ use Rattle.command_words.specs.declared.commands.RunOptions.{RunOptions}
 use Rattle.fc_run.specs.Runs.{RanValue, Runs}
 
 -- The text of a run has the lines of its log behind a line `log`, where the log is asked for. As the log of the same
--- program and network they are replayed to the core of the run, with its values, and never refused. That the three are
--- together an input within its limit of bytes isn't said here.
+-- program and network they are replayed to the core of the run, with its values, and never refused. It isn't said here
+-- that the three together stay within the limit of bytes of an input.
 pub record LogReplays (options : RunOptions) (program network : List ℕ) (r : RanValue) : Type 0 where
   pub shown : List ℕ
   pub lines : List ℕ

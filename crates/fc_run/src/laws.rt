@@ -9,7 +9,7 @@ use fc_inputs::{one_input, texts_unfold};
 use fc_replay::{inputs_start, written_logs_replay};
 use session::{one_script_run, script_runs_lead, scripts_keep_yes, some_script_run};
 
-/// Texts are run to one text where the logs agree, or refused for one cause.
+/// Two runs of the same texts have one text where their logs agree, or are refused for one cause.
 pub fn one_run()
     ensures { OneRun }
 {
@@ -20,7 +20,7 @@ pub fn one_run()
     one_script_run();
 }
 
-/// Texts are run to something.
+/// `run` has a result where the text of the program is within the limit.
 pub fn some_run()
     ensures { SomeRun }
 {

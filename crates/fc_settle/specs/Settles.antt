@@ -1,6 +1,6 @@
 -- What `check --settle` makes of a program and a scene: the verdict's text, and behind it after how many rounds the
 -- devices of the network settle, and to which values. With `--from-table` the rounds are counted from the scene's table
--- and copies in flight. Without it they are counted from any, and what the scene's are is judged and not used.
+-- and copies in flight. Without it they are counted from any; the scene's are judged, but not used.
 use Rattle.std.specs.Prelude.{ℕ, Bool, ◌≡◌, List, ◌++◌, map, length, Option, Some, None}
 use Rattle.fc_values.specs.Values.{LocalValue}
 use Rattle.fc_nodes.specs.Program.{IsProgram, Program, Unfolding, unfolding_of}
@@ -41,8 +41,8 @@ settling_of facts P N table = record {
       ++ settling_text (time_of P N table) (settled_devices P N table);
 }
 
--- the table of bounds from which rounds are counted: that of any exports, or the one to which the
--- scene's exports and copies in flight grow, and where they grow too long that of any exports too
+-- the table of bounds from which rounds are counted: that of any exports, or the one to which the scene's exports and
+-- copies in flight grow; where they grow for too many rounds, that of any exports as well
 abbrev pub StartsFrom : Start → Unfolding → SceneValue → BoundTable → Type 0
 StartsFrom Any U s table = table ≡ any_table U
 StartsFrom Table U s table = StartTable U s.net (growing_cap (length s.net.devices)) (start_of s) table

@@ -7,7 +7,7 @@ use fc_inputs::one_input;
 use fc_replay::inputs_start;
 use settle_rounds::starts_hold;
 
-/// Texts settle to one thing.
+/// `check --settle` has at most one result for the same texts.
 pub fn one_settle()
     ensures { OneSettle }
 {
@@ -17,7 +17,7 @@ pub fn one_settle()
     starts_hold();
 }
 
-/// Texts settle to something.
+/// `check --settle` has a result where the text of the program is within the limit.
 pub fn some_settle()
     ensures { SomeSettle }
 {

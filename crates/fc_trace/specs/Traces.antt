@@ -1,5 +1,5 @@
 -- What `trace` makes of a program and a scene: the verdict's line, and behind a yes a walk for each device, or `no
--- walks`. What the scene's table and copies hold is judged and then not used.
+-- walks`. The scene's table and copies are judged, but not used.
 use Rattle.std.specs.Prelude.{ℕ, ◌≡◌, List, ◌++◌, codes, length, Option, Some, None}
 use Rattle.fc_nodes.specs.Program.{IsProgram, Program, Unfolding, unfolding_of}
 use Rattle.fc_nodes.specs.declared.verdicts.Verdict.{Verdict}

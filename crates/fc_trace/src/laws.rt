@@ -8,7 +8,7 @@ use net_json::accepted_scenes_fit;
 use walk_form::{forms_have_costs, one_costs};
 use walks::walks_are_one;
 
-/// Texts are traced to one thing.
+/// `trace` has at most one result for the same texts.
 pub fn one_traced()
     ensures { OneTraced }
 {
@@ -17,7 +17,7 @@ pub fn one_traced()
     walks_are_one();
 }
 
-/// Texts are traced to something.
+/// `trace` has a result where the text of the program is within the limit.
 pub fn some_traced()
     ensures { SomeTraced }
 {

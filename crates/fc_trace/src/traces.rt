@@ -32,7 +32,7 @@ fn verdict_line(alloc: Global, verdict: Verdict) -> Result<Vec<u8>, Memory>
     Ok(text)
 }
 
-// For each device its least cost and its best walk, which are checked by themselves.
+// For each device its least cost and its best walk, which are then checked on their own.
 fn checked_walks(alloc: Global, costs: &Costs) -> Result<Vec<Evidence>, Memory>
     requires { IsCosts (costs_of costs.now) }
     ensures { IfOk result (λ v. AreTraced (costs_of costs.now) (claim_of v.items)) }

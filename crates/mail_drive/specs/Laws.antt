@@ -28,7 +28,7 @@ abbrev pub RoundsCover : Type 0
 RoundsCover = (N : Network) (at : ℕ) (words : Words) → IsNetwork N
     → CoversMail N at nothing (round N words).0 × (posts_along N at nothing (round N words).0 ≡ nothing)
 
--- so many driven rounds are so many rounds
+-- k driven rounds are k rounds
 abbrev pub DrivenRounds : Type 0
 DrivenRounds = (N : Network) (k : ℕ) (words : Words) → IsNetwork N → HasMailRounds N 0 nothing (driven N k words) k
 

@@ -13,8 +13,8 @@ pub fn driven_logs_lead()
     faultless_steps();
 }
 
-/// Where nothing is in transit, each driven round covers and leaves nothing in transit, so many of them are so many
-/// rounds; and where the network has a link, they are no more.
+/// Where nothing is in transit, each driven round covers and leaves nothing in transit, `k` driven rounds are `k`
+/// rounds, and where the network has a link they are no more.
 pub fn driven_rounds_cover()
     ensures round { RoundsCover }
     ensures rounds { DrivenRounds }

@@ -72,7 +72,7 @@ numbered (k ∷ ks) (e ∷ es) = (k, e) ∷ numbered ks es
 abbrev pub mailed : MailLines → List (ℕ × MailEntryValue)
 mailed l = numbered l.lines.items (mail_entries l.entries.items)
 
--- the fault of a mail log: its first line that is no entry. Want of memory is free
+-- the fault of a mail log: its first line that is no entry. Want of memory is always allowed
 abbrev pub RefusesMailLog : List ℕ → MailLineFault → Type 0
 RefusesMailLog text (line_fault.Form k) = mail_log text ≡ StopsAt k tt
 RefusesMailLog text line_fault.Memory = Unit {0}

@@ -9,8 +9,8 @@ use Rattle.fc_values.specs.Lists.{insert_after}
 use Rattle.net_json.specs.declared.types.JsonFault.{JsonFault}
 use Rattle.net_json.specs.declared.types.JsonFault.TheVariants as fault
 
--- Why a text is no scene: it is no JSON, or at a path it has another shape, a fault of networks, or a kept list that is
--- none of an export, with the place of its first misfit; or it has too many devices.
+-- Why a text is no scene: it is no JSON, or at a path it has another shape, a fault of networks, or a kept list that no
+-- export has, with the place of its first misfit; or it has too many devices.
 pub data Refusal : Type 0 where
   NotJson : Refusal
   Misshaped : List ℕ → Refusal
@@ -65,7 +65,7 @@ abbrev pub gather : {X : Type 0} → (X → ℕ) → (List ℕ → List ℕ → 
     → List ℕ → Items → Judged (List X)
 gather number judge path ds = in_turn (gathered number judge) path [] 0 ds
 
--- a fault in code is the refusal of a judgement. Want of memory is free
+-- a fault in code is the refusal of a judgement. Want of memory is always allowed
 abbrev pub RefusedWith : {A : Type 0} → Judged A → JsonFault → Type 0
 RefusedWith judged fault.Json = judged ≡ Refused NotJson
 RefusedWith judged (fault.Shape p) = judged ≡ Refused (Misshaped p.text.items)

@@ -19,7 +19,7 @@ abbrev pub small : Data → Option ℕ
 small d = option_and_then if_small (whole d)
 
 -- A whole number as a local value. Integers and ranges of programs end far below, so one past 32 bits fits nowhere, and
--- it may stand for the greatest of 32 bits.
+-- the greatest of 32 bits may stand for it.
 abbrev pub integer_value : ℕ → LocalValue
 integer_value n = IntValue (min n 4294967295)
 

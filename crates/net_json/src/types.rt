@@ -1,4 +1,4 @@
-//! What a text is read to, and why it isn't.
+//! What a text is read to, and why it is refused.
 
 use fc_values::{Export, Memory};
 use std::alloc::{AllocError, AllocFailed};
@@ -12,7 +12,7 @@ pub struct Path {
 }
 
 /// Why a text is no scene: the text is no JSON; at a path something has another shape, networks have a fault to name,
-/// or a kept list is none of an export, with the place of its first misfit; there are too many devices, with their
+/// or no export has this kept list, with the place of its first misfit; there are too many devices, with their
 /// number.
 #[derive(Drop)]
 pub enum JsonFault {

@@ -31,7 +31,7 @@ pub(crate) fn small(value: &Value) -> Option<u32>
     }
 }
 
-// A whole number as a local value. One past 32 bits fits nowhere, as the greatest of 32 bits.
+// A whole number as a local value. One past 32 bits fits no type, and the greatest of 32 bits stands for it.
 fn integer(n: u64) -> Local
     ensures { local_of result ≡ integer_value n }
 {

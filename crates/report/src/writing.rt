@@ -1,4 +1,4 @@
-//! The texts of numbers and local values, appended to a text that is given up where memory is wanting.
+//! The texts of numbers and local values, appended to a text that is dropped if memory runs out.
 
 ghost use Rattle.std.specs.Prelude.{◌≡◌, ◌++◌, OnOk, codes};
 ghost use Rattle.std.specs.Fmt.{decimal};

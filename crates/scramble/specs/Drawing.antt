@@ -1,4 +1,4 @@
--- What is put behind a list along the terms of a program, in the words of the code.
+-- What is appended to a list along the terms of a program, as code has it.
 use Rattle.std.specs.Prelude.{ℕ, ◌≡◌, List, [], ◌++◌, map, Option, Some, None}
 use Rattle.fc_values.specs.declared.values.Local.{Local}
 use Rattle.fc_values.specs.Types.{LocalType}
@@ -8,7 +8,7 @@ use Rattle.fc_nodes.specs.Program.{Program}
 use Rattle.scramble.specs.Words.{Words}
 use Rattle.scramble.specs.Draws.{Drawn, only, draw_value, draw_kept, draw_all_kept}
 
--- a list has what is drawn behind it, and the words after it are left
+-- what is drawn is appended to a list, and the words after it are left
 pub record Draws (drawn : Drawn) (old new : List Local) (after : Words) : Type 0 where
   pub values : map local_of new ≡ map local_of old ++ drawn.0
   pub left : after ≡ drawn.1

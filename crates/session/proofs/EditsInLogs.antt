@@ -1,4 +1,4 @@
--- Crates above cite this module: logs without an edit, and the part of a log after its last one.
+-- Logs without an edit, and the part of a log after its last one.
 use Rattle.std.proofs.Common.{◌≡◌, ◌≤◌, Bool, true, false, List, [], ◌∷◌, ◌++◌, length, refl, arith, if◌then◌else◌}
 use Rattle.fc_values.proofs.Booleans.{or_no, or_true}
 use Rattle.firing_core.specs.Entries.{EditValue, EntryValue, EditEntry}

@@ -1,4 +1,4 @@
--- What a command asks of the core that it is given to: that it was judged against it.
+-- What a command asks of the core to which it is given: that the command was judged against that core.
 use Rattle.std.specs.Prelude.{ℕ, ◌≡◌, ◌≤◌, ◌+◌, ◌*◌, length, None}
 use Rattle.fc_nodes.specs.Program.{Unfolding}
 use Rattle.firing_core.specs.Entries.{EditValue}

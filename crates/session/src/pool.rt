@@ -16,8 +16,8 @@ use std::sync::Wait;
 use std::thread::Threads;
 use worker_pool::{run_mixed, run_rounds};
 
-/// So many workers, with the runtime that starts their threads and the gate that is called between the begin and the
-/// end of their firings.
+/// A number of workers, with the runtime that starts their threads and the gate that is called between the begin and
+/// the end of their firings.
 #[derive(Drop)]
 pub struct Pool<'a, W, G> {
     rt: &'a W,

@@ -25,7 +25,7 @@ pub record WentOn (v w : PassView EntryValue) : Type 0 where
   pub out : w.out ≡ v.out
   pub begins : StartsWith w.seen v.seen
 
--- a turn of the pass v that begins nothing can't be
+-- the pass v can't take a turn that begins nothing
 abbrev pub NeverRests : Opening → PassView EntryValue → Type 0
 NeverRests o v = (w : PassView EntryValue) (is_over : Bool) → Rested o v w is_over → ⊥
 

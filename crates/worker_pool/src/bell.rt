@@ -48,7 +48,7 @@ impl Bell {
         self.stops.notify_all();
     }
 
-    // Whether the wait is over: it has rung since it had rung so often, or was stopped.
+    // Whether the wait is over: it has rung since its count was `seen`, or was stopped.
     fn is_heard(&self, seen: u64) -> bool {
         self.rings() != seen || self.is_stopped()
     }
@@ -78,7 +78,7 @@ impl Bell {
         }
     }
 
-    /// Waits until it rings, unless it has rung since it had rung so often. The answer is whether it rang; otherwise it
+    /// Waits until it rings, unless it has rung since its count was `seen`. The answer is whether it rang; otherwise it
     /// was stopped.
     pub(crate) fn wait<W: Wait>(&self, rt: &W, seen: u64) -> bool {
         self.waiting.fetch_add(1, Ordering::SeqCst);

@@ -21,8 +21,8 @@ use std::sync::Arc;
 use std::sync::atomic::{AtomicBool, Ordering};
 use turn_lock::Pass;
 
-// With fewer nodes a firing takes no longer than the turns of its begin and its end, and a second worker that fires all
-// the time only stands in the way of the first.
+// By calculation, with fewer nodes a firing takes no longer than the turns of its begin and its end, so a second worker
+// that fires all the time only stands in the way of the first.
 const FEW_NODES: u32 = 48;
 
 /// The table, its program, the bell that rings when a round begins, the number of the device that begins rounds, whether

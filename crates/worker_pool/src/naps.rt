@@ -17,7 +17,7 @@ pub(crate) struct Naps {
 }
 
 impl Naps {
-    /// Those of a worker that is in reserve or isn't.
+    /// The sleeps of a worker in reserve, or of one that isn't.
     pub(crate) fn new(is_reserve: bool) -> Naps {
         Naps {
             is_reserve,

@@ -10,7 +10,7 @@ use firing_core::Book;
 // For how many firings a table is opened, if one round has no more.
 const FIRINGS_AT_ONCE: usize = 8_192;
 
-/// As many workers, at most one a device; the rounds of one table; and for each of the workers turns for all firings of
+/// The number of workers, at most one a device; the rounds of one table; and for each worker turns for all firings of
 /// these rounds, with one a round and two more for turns that begin nothing.
 #[derive(Drop)]
 pub(crate) struct Plan {

@@ -1,4 +1,4 @@
-//! Rounds over a book: a table for many of them, in which workers fire, and then what is short.
+//! Rounds over a book: a table for many of them, in which workers fire, and then the firings that are still missing.
 
 ghost use Rattle.std.specs.Prelude.{◌≡◌, ◌≤◌, IfOk, length};
 ghost use Rattle.fc_nodes.specs.Program.{Unfolding, unfolding_of};
