@@ -50,9 +50,9 @@ SolvesWithoutRiseInScope =
 
 -- ---- stages
 
--- One firing gives the lesser of its target and its last result plus the rise s, which is at least `least`; so does the
--- solution's value, by its own target. Where the target is at stage i + 1 and the last result is as far as `done`
--- firings of stage i lead, the result is as far as one more leads.
+-- One firing gives the lesser of its target and its last result plus the rise s, which is at least `least`. The
+-- solution's value meets the same equation, with its own target. Where the target is at stage i + 1 and the last result
+-- is as far as `done` firings of stage i lead, the result is as far as one more leads.
 abbrev pub StepInAStage : Type 0
 StepInAStage =
     (ceiling growth least i done target last s goal value : ℕ) → least ≤ s → 1 ≤ s → value ≡ min goal (value + s)
