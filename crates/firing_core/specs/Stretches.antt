@@ -73,13 +73,6 @@ pub record MixStretch (U : Unfolding) (c : Core) (rounds : ℕ) (edit : EditValu
 
 -- ---- of books
 
--- program and start stay, and the log is extended
-pub record GrewFrom (old new : BookValue) : Type 0 where
-  pub program : new.program ≡ old.program
-  pub start : new.start ≡ old.start
-  pub more : List EntryValue
-  pub log : entries_of new.log ≡ entries_of old.log ++ more
-
 -- the log is extended by a stretch of this many rounds
 pub record RanRounds (old : BookValue) (rounds : ℕ) (new : BookValue) : Type 0 where
   pub program : new.program ≡ old.program

@@ -237,7 +237,8 @@ impl Book {
         }
         match self.step(alloc, Entry::End(device)) {
             Ok(()) => Ok(()),
-            Err(_) => Err(Memory),
+            Err(ReplayFault::Memory) => Err(Memory),
+            Err(ReplayFault::At { .. } | ReplayFault::EditAt { .. }) => unreachable!(),
         }
     }
 
