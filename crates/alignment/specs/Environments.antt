@@ -35,7 +35,7 @@ abbrev pub own_where : {A : Type 0} → (A → Bool) → Option A → Option A
 own_where p None = None
 own_where p (Some t) = if p t then Some t else None
 
--- the trees that keep this truth value, the own one too
+-- of all trees, the device's own as well, those that keep this truth value
 abbrev pub branch_env : Bool → Env → Env
 branch_env b env = record {
   own = own_where (λ t. keeps_truth b (kept_of t)) env.own;

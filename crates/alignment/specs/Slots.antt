@@ -26,7 +26,7 @@ NearHave k (n ∷ ns) = (k < length n.2) × NearHave k ns
 abbrev pub slot_keeps : ℕ → Bool → List SlotValue → Bool
 slot_keeps k b xs = (slot_at k xs).0 && keeps_truth b (Some (slot_at k xs).1)
 
--- the exports that keep this truth value in a slot, the own one too
+-- of all exports, the device's own as well, those that keep this truth value in a slot
 abbrev pub flat_branch : ℕ → Bool → FlatEnv → FlatEnv
 flat_branch k b env =
     record { own = own_where (slot_keeps k b) env.own; near = filter (λ (n : NearSlots). slot_keeps k b n.2) env.near }

@@ -1,5 +1,5 @@
 //! Alignment: a node sees the exports that took the same branches, and fields over their devices; what the variable of
-//! a `share` hears of these exports, and what a `nbr` gives.
+//! a `share` hears of these exports, and what an `nbr` gives.
 #![tactic(auto)]
 
 mod environments;

@@ -87,7 +87,7 @@ LevelsOfSteps P U N = (j : ℕ) (sees : ℕ → Table TreeExport) (c next : Core
 abbrev pub LevelsBegin : ExportLevel → Unfolding → Network → Type 0
 LevelsBegin P U N = (c : Core) → c.net ≡ N → IsGood U c → AtLevel P U N 0 c
 
--- one round raises the level by one: from a core at a level, a log with so many rounds leads so many levels up
+-- one round raises the level by one: from a core at a level, a log with k rounds leads k levels up
 abbrev pub LevelsOfRounds : ExportLevel → Unfolding → Network → Type 0
 LevelsOfRounds P U N = (j k : ℕ) (log : List EntryValue) (c last : Core) → AtLevel P U N j c → Run U c log last
     → HasRounds (numbers N.devices) log k → AtLevel P U N (j + k) last

@@ -10,7 +10,7 @@ use Rattle.fragment_check.specs.Shapes.{HasPattern}
 use Rattle.fragment_check.specs.Verdicts.{added_levels}
 
 -- what is said of a program by places: of each node its range, of each binder the range of its variable, of each `rep`
--- and `share` its pattern and how many levels it adds to that of its body, for so many devices
+-- and `share` its pattern and how many levels it adds to that of its body, for a number of devices
 pub record Analysis : Type 0 where
   pub devices : ℕ
   pub ranges : ℕ → RangeValue
@@ -18,7 +18,7 @@ pub record Analysis : Type 0 where
   pub pattern : ℕ → Pattern
   pub stages : ℕ → ℕ
 
--- it is for networks with so many devices, and no range goes past the ceiling
+-- the analysis is for this network's number of devices, and no range goes past the network's ceiling
 pub record IsFor (A : Analysis) (N : Network) : Type 0 where
   pub devices : A.devices ≡ length N.devices
   pub ends : (p : ℕ) → greatest_integer (A.ranges p) ≤ N.declared.ceiling

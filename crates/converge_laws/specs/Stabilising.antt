@@ -16,7 +16,7 @@ pub record HasOneSolution (U : Unfolding) (N : Network) : Type 0 where
   pub only : (G : ℕ → LocalValue) → SolvesMain N U.main G → (d : ℕ) → Lives N d → G d ≡ field d
 
 -- From every good core on the network, every log without an edit that has k rounds leads to exports with the values of
--- a field. Missing exports, rubbish exports and old copies are among the cores, and every interleaving among the logs.
+-- a field. The cores include missing exports, wrong ones and stale copies, and the logs every interleaving.
 abbrev pub RoundsReach : Unfolding → Network → ℕ → (ℕ → LocalValue) → Type 0
 RoundsReach U N k F =
     (start core : Core) (log : List EntryValue) → IsGood U start → start.net ≡ N → Run U start log core

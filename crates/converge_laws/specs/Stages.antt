@@ -40,8 +40,8 @@ pub record Stage : Type 0 where
   pub pattern : Pattern
   pub rank : ℕ → ℕ
 
--- what is kept is at the stages of level j: of a growth c, of which each of so many firings makes up r; and of a
--- potential
+-- what is kept is at the stages of level j: those of a growth c, towards which each of `turns` firings rises by r; and
+-- those of a potential
 abbrev pub ClimbsBy : ℕ → ℕ → ℕ → ℕ → ℕ → ℕ → ℕ → Option LocalValue → LocalValue → Type 0
 ClimbsBy m c r turns base lag j o w =
     (i q : ℕ) → q < turns → base + i * (turns + lag) + q ≤ j → KeptClose (climbed m c r i (suc q)) o w

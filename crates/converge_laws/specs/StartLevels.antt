@@ -56,7 +56,7 @@ FreshFrom L U N j d c = (s : Copy) → c.flying d ≡ Some s → CopyFrom L U N 
 abbrev pub FiredFrom : MaybeLevel → Unfolding → Network → ℕ → ℕ → Core → Type 0
 FiredFrom L U N j d c = L (suc j) d (c.exports d) × FreshFrom L U N j d c
 
--- one round raises the level by one: from a core at a level, a log with so many rounds leads so many levels up
+-- one round raises the level by one: from a core at a level, a log with k rounds leads k levels up
 abbrev pub LiftsByRounds : MaybeLevel → Unfolding → Network → Type 0
 LiftsByRounds L U N = (j k : ℕ) (log : List EntryValue) (c last : Core) → FromLevel L U N j c → Run U c log last
     → HasRounds (numbers N.devices) log k → FromLevel L U N (j + k) last

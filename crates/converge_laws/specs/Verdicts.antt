@@ -35,7 +35,7 @@ analysis_of P n = record {
   stages = stages_of (unfolding_of P) n;
 }
 
--- a yes for so many rounds says that this is an analysis of the program, and that so many is the level of `main`
+-- a yes for k rounds says that this is an analysis of the program, and that k is the level of `main`
 pub record IsAnalysed (P : Program) (N : Network) (k : ℕ) : Type 0 where
   pub analysis : IsAnalysis P (analysis_of P (length N.devices)) N
   pub level : root_level P (analysis_of P (length N.devices)) ≡ k
@@ -44,8 +44,8 @@ abbrev pub YesAnalyses : Type 0
 YesAnalyses = (P : Program) (N : Network) (k : ℕ) → IsProgram P → IsNetwork N → N.declared ≡ P.declared
     → verdict_of (unfolding_of P) (length N.devices) ≡ verdict.Yes k → IsAnalysed P N k
 
--- the convergence law: a yes for so many rounds says that the program stabilises within them on each network with its
--- declarations and so many devices
+-- the convergence law: a yes for k rounds says that the program stabilises within k rounds on each network with its
+-- declarations and as many devices as the verdict is for
 abbrev pub YesStabilises : Type 0
 YesStabilises = (P : Program) (N : Network) (k : ℕ) → IsProgram P → IsNetwork N → N.declared ≡ P.declared
     → verdict_of (unfolding_of P) (length N.devices) ≡ verdict.Yes k → Stabilises (unfolding_of P) N k
@@ -73,8 +73,8 @@ pub record IsSettled (U : Unfolding) (c : Core) : Type 0 where
   pub one : HasOneSolution U c.net
   pub values : (d : ℕ) → Lives c.net d → (e : TreeExport) × (c.exports d ≡ Some e) × (e.value ≡ one.field d)
 
--- Where the verdict for the network at the end of a log is a yes for so many rounds, and the part after the last edit
--- has them, the core to which the log leads from a good one is settled.
+-- Where the verdict for the network at the end of a log is a yes for k rounds, and the part after the last edit has k
+-- rounds, the core to which the log leads from a good one is settled.
 abbrev pub YesSettles : Type 0
 YesSettles =
     (P : Program) (start last : Core) (log : List EntryValue) (k : ℕ) → IsProgram P → IsGood (unfolding_of P) start

@@ -1,4 +1,4 @@
-//! Laws of convergence: what rounds make of exports and of copies in flight. They take no memory and compute nothing.
+//! Laws of convergence: what rounds do to exports and to copies in flight. They take no memory and compute nothing.
 #![tactic(auto)]
 
 mod ranks;

@@ -61,7 +61,7 @@ pub fn yes_stabilises()
     runs_cut();
 }
 
-/// The convergence law: where the verdict for a program and so many devices as a network with its declarations has is a
+/// The convergence law: where the verdict for a program and as many devices as a network with its declarations has is a
 /// yes for `k` rounds, exactly one field solves the program there, and from every good core each log without an edit
 /// with `k` rounds leads to its values.
 pub fn stabilises(program: &Unfolded, net: &Network)

@@ -1,4 +1,4 @@
--- What the rules and the function of evaluation, trees and slots have to do with each other.
+-- How the rules of evaluation agree with its function, and trees with slots.
 use Rattle.std.specs.Prelude.{ℕ, suc, Bool, ◌≡◌, ◌↔◌, ◌+◌, List, Some}
 use Rattle.fc_values.specs.Types.{ValueType}
 use Rattle.fc_values.specs.Values.{LocalValue}

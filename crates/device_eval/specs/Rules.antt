@@ -18,10 +18,10 @@ mutual
     -- a number or truth value is itself
     literal : {p : ℕ} {vars : Vars} {env : Env} (t : ValueType) (v : LocalValue)
         → Evaluates S p (Plain t (Literal v)) vars env (ValueLocal v) leaf
-    -- a variable is its value; a field is restricted to the aligned neighbours and the device
+    -- a variable has its value; a field is restricted to the aligned neighbours and the device
     variable : {p : ℕ} {vars : Vars} {env : Env} (t : ValueType) (n : ℕ) (v : AnyValue) → variable_at n vars ≡ Some v
         → Evaluates S p (Plain t (Variable n)) vars env (restricted S.device (near_numbers env.near) v) leaf
-    -- an input is that of the copy
+    -- an input has its value in the copy
     sense : {p : ℕ} {vars : Vars} {env : Env} (t : ValueType) (i : ℕ) (v : LocalValue) → slice_get S.inputs i ≡ Some v
         → Evaluates S p (Plain t (Sense i)) vars env (ValueLocal v) leaf
     -- the device's number, cut at the ceiling

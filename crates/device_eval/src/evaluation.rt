@@ -18,7 +18,7 @@ use fc_values::{Builtin, Local, Memory, Value, apply, copy};
 use flat_exports::{Draft, Layout};
 use std::alloc::Global;
 
-/// What an evaluation is of: a program, its layout, the device that fires, and the inputs of its copy.
+/// What is evaluated: a program with its layout, at the device that fires, with the inputs of its copy.
 #[derive(Clone, Copy)]
 pub struct Context<'a> {
     pub program: &'a Unfolded,
@@ -258,7 +258,7 @@ fn lookup<'a>(vars: &Scope<'a>, binder: u32) -> &'a Value
     }
 }
 
-// What a variable's value is for the device and the aligned neighbours.
+// A variable's value, restricted to the device and the aligned neighbours.
 fn aligned(alloc: Global, value: &Value, device: u32, env: &Env<'_>) -> Result<Value, Memory>
     ensures { IfOk result (λ v. value_of v ≡ restricted device (near_numbers (flat_of env.now).near)
         (value_of value.now)) }

@@ -84,7 +84,7 @@ impl Fired {
 
 ghost use Rattle.value_trees.specs.Snaps.{IsSnap};
 
-/// Evaluates a copy. For want of memory the copy comes back.
+/// Evaluates a copy. Where memory runs out, the copy comes back.
 pub fn fire(alloc: Global, program: &Arc<Unfolded>, snap: Snap) -> Result<Fired, (Snap, Memory)>
     requires { IsSnap (unfolding_of program.now.value) snap }
     ensures program { IfOk result (λ f. f.program ≡ program.now.value) }
@@ -114,7 +114,7 @@ pub fn publish(alloc: Global, program: &Unfolded, snap: &Snap) -> Result<Publish
     Published::new(alloc, export)
 }
 
-/// The export of a copy, which stays where it lies.
+/// The export of a copy, which is only borrowed.
 pub fn evaluate(alloc: Global, program: &Unfolded, snap: &Snap) -> Result<Export, Memory>
     requires { IsSnap (unfolding_of program.now) snap.now }
     ensures { IfOk result (λ e. IsFired (record { program = program.now; snap = snap.now; export = e })) }

@@ -26,21 +26,21 @@ module _ (ns : List Node) (ab : AllAbove ns) where
     part_laid (Nbr t a) p (suc q) l h = part_laid a (suc p) q l.1 (omega (arith, h)) ∙ ap (term_at ns) (omega arith)
     part_laid (Evolve t e a b) p (suc q) l h =
         either q (size a) _ _ _ (λ k. part_laid a (suc p) q l.1 k ∙ ap (term_at ns) (omega arith))
-            (λ k. part_laid b (suc p + size a) (q - size a) l.2 (omega (arith, h, k)) ∙ ap (term_at ns) (omega (arith, k)))
+        (λ k. part_laid b (suc p + size a) (q - size a) l.2 (omega (arith, h, k)) ∙ ap (term_at ns) (omega (arith, k)))
     part_laid (If t c a b) p (suc q) l h =
         either q (size c) _ _ _ (λ k. part_laid c (suc p) q l.1 k ∙ ap (term_at ns) (omega arith)) (λ k.
-            either (q - size c) (size a) _ _ _
-                (λ j. part_laid a (suc p + size c) (q - size c) l.2 j ∙ ap (term_at ns) (omega (arith, k)))
-                (λ j. part_laid b (suc p + size c + size a) (q - size c - size a) l.3 (omega (arith, h, k, j)) ∙ ap (term_at ns) (omega (arith, k, j))))
+        either (q - size c) (size a) _ _ _
+        (λ j. part_laid a (suc p + size c) (q - size c) l.2 j ∙ ap (term_at ns) (omega (arith, k)))
+        (λ j. part_laid b (suc p + size c + size a) (q - size c - size a) l.3 (omega (arith, h, k, j)) ∙ ap (term_at ns) (omega (arith, k, j))))
     part_laid (Let t a b) p (suc q) l h =
         either q (size a) _ _ _ (λ k. part_laid a (suc p) q l.1 k ∙ ap (term_at ns) (omega arith))
-            (λ k. part_laid b (suc p + size a) (q - size a) l.2 (omega (arith, h, k)) ∙ ap (term_at ns) (omega (arith, k)))
+        (λ k. part_laid b (suc p + size a) (q - size a) l.2 (omega (arith, h, k)) ∙ ap (term_at ns) (omega (arith, k)))
 
     parts_laid : (xs : Terms) (p q : ℕ) → AllLaid ns p xs → q < sizes xs → part_in q xs ≡ term_at ns (p + q)
     parts_laid NoMore p q l h = absurd (omega (arith, h))
     parts_laid (More x xs) p q l h =
         either q (size x) _ _ _ (part_laid x p q l.0)
-            (λ k. parts_laid xs (p + size x) (q - size x) l.1 (omega (arith, h, k)) ∙ ap (term_at ns) (omega (arith, k)))
+        (λ k. parts_laid xs (p + size x) (q - size x) l.1 (omega (arith, h, k)) ∙ ap (term_at ns) (omega (arith, k)))
 
 mutual
   no_part_past : (u : Term) (q : ℕ) → size u ≤ q → part_at q u ≡ no_part
@@ -51,8 +51,8 @@ mutual
       either q (size a) _ _ _ (λ k. absurd (omega (arith, h, k))) (λ k. no_part_past b (q - size a) (omega (arith, h)))
   no_part_past (If t c a b) (suc q) h =
       either q (size c) _ _ _ (λ k. absurd (omega (arith, h, k))) (λ k.
-          either (q - size c) (size a) _ _ _ (λ j. absurd (omega (arith, h, j)))
-              (λ j. no_part_past b (q - size c - size a) (omega (arith, h))))
+      either (q - size c) (size a) _ _ _ (λ j. absurd (omega (arith, h, j)))
+      (λ j. no_part_past b (q - size c - size a) (omega (arith, h))))
   no_part_past (Let t a b) (suc q) h =
       either q (size a) _ _ _ (λ k. absurd (omega (arith, h, k))) (λ k. no_part_past b (q - size a) (omega (arith, h)))
   no_part_past (Plain t v) zero h = absurd (omega (arith, h))

@@ -1,4 +1,4 @@
--- Crates above cite this module: fields, read at a device.
+-- Fields, read at a device.
 use Rattle.std.proofs.Common.{◌≡◌, ℕ, List, [], ◌∷◌, filter, refl, sym, ◌∙◌, ap, subst, Bool, true, false, nat_eq, nat_lt, ◌||◌, ◌&&◌, if◌then◌else◌, Option, Some, None, option_map, option_and_then}
 use Rattle.std.proofs.lemmas.Bool.{eqb-true, eq-eqb, ltb-true}
 use Rattle.fc_values.specs.declared.builtins.Builtin.{Builtin}

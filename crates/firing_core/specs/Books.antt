@@ -78,14 +78,14 @@ pub record EndsSome (old new : BookValue) : Type 0 where
 
 -- ---- refusals
 
--- an entry has no step from a core, for this reason. Want of memory is free
+-- an entry has no step from a core, for this reason; want of memory needs no reason
 abbrev pub HasFault : Core → EntryValue → StepFault → Type 0
 HasFault c e fault.NoDevice = fault_of c e ≡ Some fault.NoDevice
 HasFault c e fault.Flying = fault_of c e ≡ Some fault.Flying
 HasFault c e fault.NotFlying = fault_of c e ≡ Some fault.NotFlying
 HasFault c e fault.Memory = Unit {0}
 
--- the entry at an index of a log is refused: it has no step from a core, for this reason. Want of memory is free
+-- the entry at an index of a log is refused: it has no step from a core, for this reason; want of memory needs none
 abbrev pub RefusesAt : ℕ → Core → EntryValue → ReplayFault → Type 0
 RefusesAt i c e (replay_fault.At index why) = (index ≡ i) × (fault_of c e ≡ Some why)
 RefusesAt i c e (replay_fault.EditAt index why) = (index ≡ i) × (net_fault_of c e ≡ Some why)
@@ -107,7 +107,7 @@ IsStuckReplay U c log (replay_fault.At index why) = replay U c log ≡ None
 IsStuckReplay U c log (replay_fault.EditAt index why) = replay U c log ≡ None
 IsStuckReplay U c log replay_fault.Memory = Unit {0}
 
--- what the answer to the entry at an index says of a refusal. Want of memory is free
+-- what the answer to the entry at an index says of a refusal; want of memory needs no reason
 abbrev pub AtIndex : ℕ → Result (Unit {0}) StepFault → ReplayFault → Type 0
 AtIndex i answer (replay_fault.At index why) = (index ≡ i) × (answer ≡ Err why) × (why ≡ fault.Memory → ⊥)
 AtIndex i answer (replay_fault.EditAt index why) = ⊥

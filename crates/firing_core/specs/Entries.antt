@@ -8,8 +8,8 @@ use Rattle.firing_core.specs.declared.entries.Edit.TheVariants as edit
 use Rattle.firing_core.specs.declared.entries.Entry.{Entry}
 use Rattle.firing_core.specs.declared.entries.Entry.TheVariants as entry
 
--- an edit: of a link between two devices with its weight, of one less, of an input of a device, of the export of a
--- device, of a device more, and of one less
+-- an edit: it sets a link with its weight, removes a link, sets an input of a device or its export, adds a device, or
+-- removes one
 pub data EditValue : Type 0 where
   LinkEdit : ℕ → ℕ → ℕ → EditValue
   UnlinkEdit : ℕ → ℕ → EditValue

@@ -7,7 +7,7 @@ use Rattle.fc_values.specs.Values.{local_of, form_of}
 use Rattle.fc_nodes.specs.Program.{Unfolding}
 use Rattle.value_trees.specs.declared.copies.Snap.{Snap}
 
--- what contracts see of a room: two copies without anything
+-- what contracts see of a room: two blank copies
 pub record RoomValue : Type 0 where
   pub first : Snap
   pub second : Snap

@@ -33,7 +33,7 @@ pub record Covers (live : List ℕ) (part : List EntryValue) : Type 0 where
   pub plain : has_edit part ≡ false
   pub fires : (d : ℕ) → is_in d live ≡ true → HasFiring d part
 
--- a log without an edit that is so many covering parts and a rest
+-- a log without an edit that splits into k covering parts and a rest
 abbrev pub HasRounds : List ℕ → List EntryValue → ℕ → Type 0
 HasRounds live log zero = has_edit log ≡ false
 HasRounds live log (suc k) =

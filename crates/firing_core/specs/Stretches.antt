@@ -19,7 +19,7 @@ abbrev pub begins : ℕ → List EntryValue → ℕ
 begins d [] = 0
 begins d (e ∷ es) = if is_begin d e then begins d es + 1 else begins d es
 
--- each device of a network begins so many firings
+-- each device of a network begins k firings
 abbrev pub EachBegins : Network → List EntryValue → ℕ → Type 0
 EachBegins n part k = (d : ℕ) → Lives n d → begins d part ≡ k
 
@@ -41,8 +41,8 @@ IsMixed (PokeEdit d x) = Unit {0}
 IsMixed (JoinEdit x) = ⊥
 IsMixed (LeaveEdit d) = ⊥
 
--- A line `run` with so many rounds: a run from a core without an edit, in which each device begins so many firings. It
--- has so many rounds, and nothing is in flight after it.
+-- A line `run` with a number of rounds: a run from a core without an edit, in which each device begins as many firings.
+-- It has that many rounds, and nothing is in flight after it.
 pub record RunStretch (U : Unfolding) (c : Core) (rounds : ℕ) (part : List EntryValue) (last : Core) : Type 0 where
   pub leads : Run U c part last
   pub plain : has_edit part ≡ false
@@ -50,9 +50,9 @@ pub record RunStretch (U : Unfolding) (c : Core) (rounds : ℕ) (part : List Ent
   pub covers : HasRounds (numbers c.net.devices) part rounds
   pub rests : NoneFlies last
 
--- A line `mix` with so many rounds and an edit: a run from a core with this one edit, in which each device begins one
--- firing more than there are rounds. The first begin is of the smallest device, and the edit stands between it and the
--- next end of that device. What follows the edit has so many rounds, and nothing is in flight after it.
+-- A line `mix` with a number of rounds and an edit: a run from a core with this one edit, in which each device begins
+-- one firing more than there are rounds. The first begin is of the smallest device, and the edit stands between it and
+-- the next end of that device. What follows the edit has that many rounds, and nothing is in flight after it.
 pub record MixStretch (U : Unfolding) (c : Core) (rounds : ℕ) (edit : EditValue) (part : List EntryValue) (last : Core)
     : Type 0 where
   pub leads : Run U c part last
@@ -73,14 +73,7 @@ pub record MixStretch (U : Unfolding) (c : Core) (rounds : ℕ) (edit : EditValu
 
 -- ---- of books
 
--- program and start stay, and the log has more behind it
-pub record GrewFrom (old new : BookValue) : Type 0 where
-  pub program : new.program ≡ old.program
-  pub start : new.start ≡ old.start
-  pub more : List EntryValue
-  pub log : entries_of new.log ≡ entries_of old.log ++ more
-
--- what the log has more is a stretch of so many rounds
+-- the log is extended by a stretch of this many rounds
 pub record RanRounds (old : BookValue) (rounds : ℕ) (new : BookValue) : Type 0 where
   pub program : new.program ≡ old.program
   pub start : new.start ≡ old.start
@@ -88,7 +81,7 @@ pub record RanRounds (old : BookValue) (rounds : ℕ) (new : BookValue) : Type 0
   pub log : entries_of new.log ≡ entries_of old.log ++ part
   pub stretch : RunStretch (unfolding_of old.program) (core_of old.core) rounds part (core_of new.core)
 
--- what the log has more is a stretch with this edit among firings, and so many rounds after it
+-- the log is extended by a stretch with this edit among firings, and this many rounds after it
 pub record MixedEdit (old : BookValue) (rounds : ℕ) (edit : EditValue) (new : BookValue) : Type 0 where
   pub program : new.program ≡ old.program
   pub start : new.start ≡ old.start

@@ -213,8 +213,7 @@ impl Book {
         self.apply(alloc, entry)
     }
 
-    /// Ends each flight, that of the smallest device first. For want of memory some flights, the first of these, are
-    /// ended.
+    /// Ends each flight, in rising order of devices. Where memory runs out, only the first of them are ended.
     pub fn settle(&mut self, alloc: Global) -> Result<(), Memory>
         ensures ok { OnOk result (EndsFlights self.old self.new (in_flight (core_of self.old.core))) }
         ensures rests { OnOk result ((d : ℕ) → (core_of self.new.core).flying d ≡ None) }
@@ -238,7 +237,8 @@ impl Book {
         }
         match self.step(alloc, Entry::End(device)) {
             Ok(()) => Ok(()),
-            Err(_) => Err(Memory),
+            Err(ReplayFault::Memory) => Err(Memory),
+            Err(ReplayFault::At { .. } | ReplayFault::EditAt { .. }) => unreachable!(),
         }
     }
 

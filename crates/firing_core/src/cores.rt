@@ -104,7 +104,7 @@ impl Core {
         &self.net
     }
 
-    /// The export of a device, which more may share.
+    /// The export of a device, as others may share it.
     pub fn published(&self, device: u32) -> Option<&Published>
         ensures value { option_map (λ e. tree_of (program_of self.now) e.now) result
             ≡ (core_of self.now).exports device }
@@ -318,7 +318,7 @@ impl Core {
         Ok(())
     }
 
-    // A pair is no value of an input, so what is put is copied without memory.
+    // No input takes a pair, so the new value is copied without memory.
     fn set(&mut self, device: u32, input: u32, value: &Local) -> Result<(), EditFault>
         ensures ok { OnOk result (Edited self.old (SetEdit device input (local_of value.now)) self.new) }
         ensures refused { IfErr result (RefusesEdit (core_of self.old) (SetEdit device input (local_of value.now))) }

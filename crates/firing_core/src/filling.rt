@@ -12,7 +12,7 @@ use std::alloc::Global;
 use topology::Network;
 use value_trees::{Published, Snap};
 
-/// So many empty slots.
+/// `count` empty slots.
 pub(crate) fn no_slots<T: Drop>(alloc: Global, count: usize) -> Result<Vec<Option<T>>, Memory>
     ensures { IfOk result (λ v. v.items ≡ replicate count None) }
 {

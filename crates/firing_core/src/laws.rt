@@ -32,7 +32,7 @@ pub fn logs_decide()
     ensures flight { FlightsStay }
 {}
 
-/// Runs are cut and joined: anywhere, and after the last edit of their log.
+/// Runs can be cut and joined anywhere, and so after the last edit of their log.
 pub fn runs_cut()
     ensures cut { RunsCut }
     ensures edit { RunsCutAtEdit }

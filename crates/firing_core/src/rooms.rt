@@ -111,7 +111,7 @@ pub(crate) fn overwrite_locals(target: &mut [Local], source: &[Local])
     }
 }
 
-/// A copy whose exports were let go.
+/// A copy without its exports, with room for as many neighbours as a device may have.
 fn emptied(copy: Snap) -> Result<Snap, Memory>
     ensures { (U : Unfolding) → IsSnap U copy → IfOk result (IsBlank U) }
 {

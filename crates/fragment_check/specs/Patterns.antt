@@ -52,7 +52,7 @@ abbrev mutual
 
 -- ---- guards: `mux(nbr{a} < b, X, s)`, where X is what is heard and a, b and s are without x
 
--- the terms of a list with so many
+-- the terms of a list of exactly two, and of three
 abbrev pub two_of : Terms → Option (Term × Term)
 two_of (More a (More b NoMore)) = Some (a, b)
 two_of _ = None

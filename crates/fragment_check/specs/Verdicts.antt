@@ -1,4 +1,4 @@
--- The verdict on a program, for so many devices.
+-- The verdict on a program, for a number of devices.
 use Rattle.std.specs.Prelude.{ℕ, suc, ◌≡◌, ◌-◌, ◌*◌, List, min, Option, Some, None}
 use Rattle.std.specs.declared.result.Result.{Result}
 use Rattle.std.specs.declared.result.Result.TheVariants.{Ok, Err}
@@ -19,7 +19,7 @@ use Rattle.fragment_check.specs.Levels.{Stages, level_of, node_levels}
 
 -- ---- how many levels a pattern adds
 
--- how many different ranks a potential of this range can have on so many devices, less one
+-- how many different ranks a potential of this range can have on n devices, less one
 abbrev pub ranks : ℕ → RangeValue → ℕ
 ranks n r = min n (suc (greatest_integer r - least_integer r)) - 1
 

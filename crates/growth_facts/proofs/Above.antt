@@ -1,4 +1,4 @@
--- Crates above cite this module: the growth law of one operator, of what is at least a bound.
+-- The growth law of one operator, of what is at least a bound.
 use Rattle.std.proofs.Common.{◌≡◌, ℕ, zero, suc, ◌≤◌, ◌+◌, ◌*◌, List, [], ◌∷◌, refl, ap, subst, arith, Bool, true, false, not, ◌||◌, ◌&&◌, Some, nat_le, min}
 use Rattle.std.proofs.lemmas.Bool.Decides.{nat_tests}
 use Rattle.fc_values.specs.declared.builtins.Builtin.{Builtin}

@@ -1,4 +1,4 @@
--- Crates above cite this module: the growth law of one operator, of arguments that are raised.
+-- The growth law of one operator, of arguments that are raised.
 use Rattle.std.proofs.Common.{◌≡◌, ℕ, zero, suc, ◌≤◌, ◌+◌, ◌*◌, List, [], ◌∷◌, refl, ap, subst, arith, Bool, true, false, not, ◌||◌, ◌&&◌, Some, nat_le, min, max}
 use Rattle.fc_values.specs.declared.builtins.Builtin.{Builtin}
 use Rattle.fc_values.specs.declared.builtins.Builtin.TheVariants as op

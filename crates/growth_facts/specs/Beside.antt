@@ -1,4 +1,4 @@
--- Two values of an expression of a body, which differ in what is heard of the body's variable alone.
+-- Two values of an expression of a body that differ only by what is heard of the body's variable.
 use Rattle.std.specs.Prelude.{ℕ, suc, true, false, ◌≡◌, ◌+◌, List, [], ◌∷◌, Some}
 use Rattle.fc_values.specs.declared.builtins.Builtin.{Builtin}
 use Rattle.fc_values.specs.Types.{LocalType, ValueType, TypeField}

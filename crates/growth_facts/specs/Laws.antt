@@ -9,16 +9,16 @@ use Rattle.growth_facts.specs.Leads.{lead}
 use Rattle.growth_facts.specs.Growth.{Grows, growth_of}
 use Rattle.growth_facts.specs.Beside.{Beside, Hears, IsPart}
 
--- Where an expression grows by c, and a and b are heard of the variable at a device, the expression's entries v and w
--- there are at least that much more, or the ceiling. What is heard led by more gives an entry led by no less, and what
--- is the same gives the same. A pair stands for the integer that leads it.
+-- Where an expression grows by c, and values a and b are heard of the variable at a device, the expression's entries v
+-- and w there are greater by at least c, or reach the ceiling. A greater value never gives a lesser entry, and equal
+-- values give equal entries. A pair counts as the integer that leads it.
 pub record GrowsBy (ceiling c : ℕ) (a b v w : LocalValue) : Type 0 where
   pub first : min ceiling (lead a + c) ≤ lead v
   pub second : min ceiling (lead b + c) ≤ lead w
   pub raised : lead a ≤ lead b → lead v ≤ lead w
   pub same : a ≡ b → v ≡ w
 
--- the growth law: so it is at each of the devices ds over which device d sees fields, where the parts without the
+-- the growth law: this holds at each of the devices ds over which device d sees fields, where the parts without the
 -- variable have values in their ranges
 abbrev pub GrowthLaw : Type 0
 GrowthLaw = (ceiling d : ℕ) (ds : List ℕ) (e : Evolution) (x : ℕ) (rs : ℕ → RangeValue) (a b : ℕ → LocalValue)

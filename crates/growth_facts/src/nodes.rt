@@ -69,7 +69,7 @@ fn is_integer(ty: &LocalTy) -> bool
     }
 }
 
-// Whether values of a type are led by an integer that is they or their first component.
+// Whether values of a type are integers, or pairs whose first component is one.
 fn leads(ty: &LocalTy) -> bool
     ensures { result ≡ leads_of (local_type_of ty.now) }
 {
@@ -103,7 +103,7 @@ pub fn no_kids() -> Kids
     }
 }
 
-// One kid more.
+// The kids with one more, which has these facts.
 pub fn with_kid(kids: &Kids, facts: Facts) -> Kids
     requires { kids.now.count < 2 ^ 63 }
     ensures { (fs : List NodeFacts) → AreKids kids.now fs → AreKids result (fs ++ facts_value facts ∷ []) }

@@ -10,8 +10,8 @@ use Rattle.interval_facts.specs.Solutions.{Devices, In, Map, Maps, bind, local_m
 abbrev pub MapLiesIn : Devices → RangeValue → Map → Type 0
 MapLiesIn D r F = (d : ℕ) → In D d → LiesIn r (F d)
 
--- A solution lies in its ranges: at each node, outside the first values of `rep` and `share`, the map on which it rests
--- there, over the devices that `if` leaves.
+-- A solution lies in its ranges: at each node outside the first values of `rep` and `share`, the map on which it rests
+-- there lies in the node's range, over the devices that `if` leaves.
 abbrev mutual
   pub InRanges : (rs : ℕ → RangeValue) (N : Network) (p : ℕ) (t : Term) (D : Devices) (V : Maps) (F : Map)
       → Solves N p t D V F → Type 0

@@ -1,4 +1,4 @@
--- A code of ranges, by which a type whose contracts see them tells its values apart: the range in postfix order.
+-- A code that tells ranges apart, for types whose models hold them: the range in postfix order.
 use Rattle.std.specs.Prelude.{ℕ, zero, suc, ◌≡◌, List, [], ◌∷◌, refl}
 use Rattle.std.specs.Coded.{Coded, code_by, coded×, coded_ℕ, coded_list}
 use Rattle.std.proofs.Common.{◌∙◌, ap}

@@ -33,7 +33,7 @@ pub record AreNext (P : Program) (p : ℕ) (ks : List ℕ) (rs : List RangeValue
   pub ends : length rs + sizes (terms_by (term_at P.nodes) ks) ≡ end_of P p
   pub known : AreKnown P rs (end_of P p)
 
--- of so many ranges one is that of what the node of a variable binds
+-- for a variable, the range right behind its binder's is among the first n
 abbrev pub LeafIsThere : Program → ℕ → Leaf → Type 0
 LeafIsThere P n (Literal v) = Unit {0}
 LeafIsThere P n (Variable b) = (suc b < n) × (b < length P.nodes)

@@ -46,15 +46,15 @@ full ceiling IntType = IntRange 0 ceiling
 full ceiling BoolType = BoolRange
 full ceiling (PairType s t) = PairRange (full ceiling s) (full ceiling t)
 
--- ---- ranges of builtins. `other` stands where the arguments' ranges are none of the builtin, as no program has them
+-- ---- ranges of builtins. `other` is the answer for ranges that the builtin's arguments have in no program
 
--- what lies in one of two ranges of one form
+-- the least range that holds two ranges of one form
 abbrev pub hull : RangeValue → RangeValue → RangeValue
 hull (IntRange a b) (IntRange c d) = IntRange (min a c) (max b d)
 hull (PairRange r s) (PairRange u v) = PairRange (hull r u) (hull s v)
 hull r _ = r
 
--- the lesser, and the greater, of two values: pairs go by the first component, and have either second one
+-- the lesser, and the greater, of two values: the first component decides between pairs, so the second may be either's
 abbrev pub least_range : RangeValue → RangeValue → RangeValue
 least_range (IntRange a b) (IntRange c d) = IntRange (min a c) (min b d)
 least_range (PairRange r s) (PairRange u v) = PairRange (least_range r u) (hull s v)

@@ -59,7 +59,7 @@ pub fn literal_range(alloc: Global, value: &Local) -> Result<Range, Memory>
     }
 }
 
-/// What lies in one of two ranges.
+/// The least range that holds two ranges.
 pub fn hull(alloc: Global, a: &Range, b: &Range) -> Result<Range, Memory>
     ensures { IfOk result (λ r. range_value r ≡ hull_of (range_value a.now) (range_value b.now)) }
 {

@@ -1,4 +1,4 @@
--- Crates above cite this module: solutions of a body with limited rise, where the maps in scope lie in their ranges.
+-- Solutions of a body with limited rise, where the maps in scope lie in their ranges.
 use Rattle.std.proofs.Common.{◌≡◌, ◌↔◌, ℕ, suc, ◌+◌, List, [], ◌∷◌, refl, ap, subst, arith, Bool, true, false, ◌||◌}
 use Rattle.fc_values.specs.declared.builtins.Builtin.TheVariants as op
 use Rattle.fc_values.specs.Types.{LocalType, IntType, ValueType, TypeLocal, TypeField}

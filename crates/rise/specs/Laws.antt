@@ -36,8 +36,8 @@ SolvesWithoutRise = (N : Network) (D : Devices) (V : Maps) (f : ℕ → LocalVal
     ↔ (Solves N (suc p) t D (in_body x f V) (local_map f)
     × ((G : Map) × Solves N (suc p + size t + 1) s D (in_body x f V) G))
 
--- So it is where the devices are there, the binders in scope have their maps in the ranges of their variables, the body
--- is typed, and the range of s has a least that is at least 1.
+-- This holds where the devices are there, the binders in scope have their maps in the ranges of their variables, the
+-- body is typed, and the range of s has a least that is at least 1.
 abbrev pub SolvesWithoutRiseInScope : Type 0
 SolvesWithoutRiseInScope =
     (N : Network) (D : Devices) (bs : Scope) (cs : Bounds) (V : Maps) (f : ℕ → LocalValue) (x p : ℕ) (t s : Term)
@@ -51,8 +51,8 @@ SolvesWithoutRiseInScope =
 -- ---- stages
 
 -- One firing gives the lesser of its target and its last result plus the rise s, which is at least `least`. The
--- solution's value is so too, by its own target. Where the target is at stage i + 1 and the last result is where so
--- many firings of the stage lead, the result is where one more leads.
+-- solution's value meets the same equation, with its own target. Where the target is at stage i + 1 and the last result
+-- is as far as `done` firings of stage i lead, the result is as far as one more leads.
 abbrev pub StepInAStage : Type 0
 StepInAStage =
     (ceiling growth least i done target last s goal value : ℕ) → least ≤ s → 1 ≤ s → value ≡ min goal (value + s)
@@ -68,7 +68,7 @@ abbrev pub StageIsReached : Type 0
 StageIsReached = (ceiling growth least i : ℕ) → 1 ≤ least
     → climbed ceiling growth least i (turns_of growth least) ≡ stage ceiling growth (suc i)
 
--- so a run of firings leads from a stage to the next one, while the targets are there
+-- so a run of firings leads from a stage to the next one, where the targets are already
 abbrev pub StageByTurns : Type 0
 StageByTurns = (ceiling growth least i s goal value : ℕ) (targets results : ℕ → ℕ) → 1 ≤ least → least ≤ s
     → value ≡ min goal (value + s)

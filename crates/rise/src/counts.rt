@@ -16,7 +16,7 @@ pub fn turns(growth: u32, least: u32) -> u32
     (growth + (least - 1)) / least
 }
 
-/// The rounds of all stages up to the greatest value, behind those of the parts.
+/// The rounds of all stages up to the greatest value, after those of the parts.
 pub fn rounds(greatest: u32, growth: u32, least: u32) -> u64
     requires some_growth { 1 ≤ growth }
     requires most_growth { growth ≤ GREATEST }
@@ -29,7 +29,7 @@ pub fn rounds(greatest: u32, growth: u32, least: u32) -> u64
     rounds_by(greatest, growth, turns(growth, least))
 }
 
-// The rounds of all stages of so many firings each.
+// The rounds of all stages of `turns` firings each.
 fn rounds_by(greatest: u32, growth: u32, turns: u32) -> u64
     requires some_growth { 1 ≤ growth }
     requires some_turns { 1 ≤ turns }

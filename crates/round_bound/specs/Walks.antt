@@ -16,7 +16,7 @@ use Rattle.round_bound.specs.declared.scopes.Sight.{Sight}
 use Rattle.round_bound.specs.declared.scopes.Context.{Context}
 use Rattle.round_bound.specs.declared.scopes.Found.{Found}
 
--- a `rep` or `share` adds at most so many levels
+-- the most levels that a `rep` or `share` adds
 abbrev pub most_added : ℕ
 most_added = 3 * GREATEST
 
@@ -25,7 +25,7 @@ abbrev pub levels_in : Scope → Lvs
 levels_in scope.Empty = λ q. 0
 levels_in (scope.Bind' n l p rest) = bind_level n l (levels_in rest)
 
--- the greatest level before a place
+-- a bound on the levels before a place
 abbrev pub level_before : ℕ → ℕ
 level_before p = 1 + suc most_added * p
 

@@ -58,7 +58,7 @@ fn levels_of_pattern(context: &Context<'_>, pattern: Pattern, is_share: bool) ->
     }
 }
 
-// The rounds of so many stages: a `rep` hears of a result one round later than a `share`.
+// The rounds of a number of stages: a `rep` hears of a result one round later than a `share`.
 fn each_stage(is_share: bool, stages: u64) -> u64
     requires { stages ≤ GREATEST }
     ensures { result ≡ stage_rounds (evolution_by is_share) * stages }

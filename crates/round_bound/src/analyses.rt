@@ -91,8 +91,8 @@ impl<'a> Analysis<'a> {
         }
     }
 
-    /// The verdict for so many devices: yes, with the level of `main`, where each `rep` and `share` outside first values
-    /// has a pattern; else no, with the first place that has none, and its reason.
+    /// The verdict for a number of devices: yes, with the level of `main`, where each `rep` and `share` outside first
+    /// values has a pattern; else no, with the first place that has none, and its reason.
     pub fn verdict(&self, alloc: Global, devices: u32) -> Result<Verdict, Memory>
         requires { 1 ≤ devices }
         ensures verdict { IfOk result (λ v. v ≡ verdict_of (unfolding_of self.now) devices) }
@@ -102,7 +102,7 @@ impl<'a> Analysis<'a> {
         Ok(verdict)
     }
 
-    /// The verdict for so many devices, and behind a yes the levels of all nodes by their places.
+    /// The verdict for a number of devices, and with a yes the levels of all nodes by their places.
     pub fn verdict_with_levels(
         &self,
         alloc: Global,

@@ -6,7 +6,7 @@ ghost use Rattle.round_bound.specs.Walks.{levels_in};
 use fc_nodes::Unfolded;
 use interval_facts::Ranges;
 
-/// What levels are of: a program, its ranges, and the number of devices.
+/// What levels are computed from: a program, its ranges, and the number of devices.
 #[derive(Clone, Copy)]
 pub struct Context<'a> {
     pub program: &'a Unfolded,

@@ -7,7 +7,7 @@ abbrev pub wanting : List ℕ → ℕ
 wanting [] = 0
 wanting (m ∷ ms) = (if nat_lt m 2 then 1 else 0) + wanting ms
 
--- one mark of a device in the place of another, where it has that
+-- the mark of a device, changed from one to another where it has the first
 abbrev pub moved : ℕ → ℕ → ℕ → List ℕ → List ℕ → List ℕ
 moved e from to [] ms = []
 moved e from to (d ∷ ds) [] = []

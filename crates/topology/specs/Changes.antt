@@ -49,7 +49,7 @@ drop_links d ls = filter (λ l. not (touches d l)) ls
 abbrev pub insert_edge : Edge → List Edge → List Edge
 insert_edge e ls = insert_after (is_before e.a e.b) e ls
 
--- the link in place of that of its pair, or one more
+-- the link put in place of its pair's, or added
 abbrev pub put_edge : Edge → List Edge → List Edge
 put_edge e ls = insert_edge e (drop_pair e.a e.b ls)
 
@@ -144,13 +144,13 @@ left n d = record n { devices = drop_device d n.devices; links = drop_links d n.
 
 -- ---- making a network
 
--- the first device, by its index, whose number stands before it
+-- the first device, by its index, whose number an earlier one has
 abbrev pub twice_fault : ℕ → List ℕ → List ℕ → Option MakeFault
 twice_fault i before [] = None
 twice_fault i before (d ∷ ds) =
     if is_in d before then Some (make.Net i fault.Twice) else twice_fault (i + 1) (before ++ d ∷ []) ds
 
--- the first device, by its index, that has a value that is none of its input
+-- the first device, by its index, with a value that doesn't fit its input
 abbrev pub at_index : ℕ → Option NetFault → Option MakeFault → Option MakeFault
 at_index i None rest = rest
 at_index i (Some f) rest = Some (make.Net i f)
@@ -167,18 +167,18 @@ make_fault D ns = if nat_eq (length ns) 0 || nat_lt MOST_DEVICES (length ns)
 abbrev pub made : Declarations → List NetDevice → Network
 made D ns = record { declared = D; devices = in_order ns; links = [] }
 
--- what `new` refuses. Want of memory is free
+-- what `new` refuses; want of memory comes only where nothing else is at fault
 abbrev pub RefusesMake : Declarations → List NetDevice → MakeFault → Type 0
 RefusesMake D ns (make.Net i f) = make_fault D ns ≡ Some (make.Net i f)
 RefusesMake D ns (make.Devices count) = make_fault D ns ≡ Some (make.Devices count)
 RefusesMake D ns make.Memory = make_fault D ns ≡ None
 
--- what `join` refuses. Want of memory is free
+-- what `join` refuses; want of memory comes only where nothing else is at fault
 abbrev pub RefusesJoin : Network → NetDevice → JoinFault → Type 0
 RefusesJoin n x (join.Net f) = join_fault n x ≡ Some f
 RefusesJoin n x join.Memory = join_fault n x ≡ None
 
--- each device has so many inputs
+-- each device has this many inputs
 abbrev pub HaveInputs : ℕ → List NetDevice → Type 0
 HaveInputs count [] = Unit {0}
 HaveInputs count (n ∷ ns) = (length n.inputs ≡ count) × HaveInputs count ns

@@ -1,4 +1,4 @@
--- Why values are none of the declared inputs.
+-- Why values don't fit the declared inputs.
 use Rattle.std.specs.Prelude.{◌&&◌, List, [], ◌∷◌, nat_le, if◌then◌else◌, Option, Some, None}
 use Rattle.fc_values.specs.declared.types.InputTy.{InputTy}
 use Rattle.fc_values.specs.declared.types.InputTy.TheVariants as input
@@ -7,7 +7,7 @@ use Rattle.fc_values.specs.Values.{LocalValue, IntValue, BoolValue, PairValue}
 use Rattle.topology.specs.declared.types.NetFault.{NetFault}
 use Rattle.topology.specs.declared.types.NetFault.TheVariants as fault
 
--- why a value is none of an input: it has another type, or it is outside the range
+-- why a value doesn't fit an input: it has another type, or it is outside the range
 abbrev pub input_fault : InputTy → LocalValue → Option NetFault
 input_fault input.Truth (IntValue n) = Some fault.InputType
 input_fault input.Truth (BoolValue b) = None
@@ -22,7 +22,7 @@ abbrev pub or_fault : {F : Type 0} → Option F → Option F → Option F
 or_fault None g = g
 or_fault (Some f) g = Some f
 
--- the fault of the first value that is none of its input
+-- the fault of the first value that doesn't fit its input
 abbrev pub inputs_fault : List Input → List LocalValue → Option NetFault
 inputs_fault [] vs = None
 inputs_fault (i ∷ is) [] = None

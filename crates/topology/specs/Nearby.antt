@@ -26,19 +26,19 @@ insert_near d w ns = insert_after (λ n. nat_lt n.0 d) (d, w) ns
 abbrev pub items_of : ArrayVec (ℕ × ℕ) → List (ℕ × ℕ)
 items_of v = v.items
 
--- the links that the neighbours of a device tell of, of which it is the lesser end
+-- the links of which a device is the lesser end, read off its neighbours
 abbrev pub links_from : ℕ → List (ℕ × ℕ) → List Edge
 links_from d [] = []
 links_from d (n ∷ ns) =
     if nat_lt d n.0 then record { a = d; b = n.0; weight = n.1 } ∷ links_from d ns else links_from d ns
 
--- the links that the neighbours of devices tell of
+-- all links of some devices, read off their neighbours
 abbrev pub links_in : List ℕ → List (List (ℕ × ℕ)) → List Edge
 links_in [] lists = []
 links_in (d ∷ ds) [] = []
 links_in (d ∷ ds) (ns ∷ lists) = links_from d ns ++ links_in ds lists
 
--- a network as its draft has it: declarations, devices, and the neighbours of each, which tell of the links
+-- a network as its draft has it: declarations, devices, and the neighbours of each, off which the links are read
 abbrev pub drawn : Declarations → List NetDevice → List (List (ℕ × ℕ)) → Network
 drawn D ns lists = record { declared = D; devices = ns; links = links_in (numbers ns) lists }
 
@@ -47,7 +47,7 @@ pub record IsDrawn (n : Network) (lists : List (List (ℕ × ℕ))) : Type 0 whe
   pub network : IsNetwork n
   pub near : lists ≡ near_each (numbers n.devices) n.links
 
--- the lists tell of the links of a network, and are the neighbours of its devices
+-- the links that are read off the lists make a network, and the lists are the neighbours of its devices
 abbrev pub IsDraft : Declarations → List NetDevice → List (List (ℕ × ℕ)) → Type 0
 IsDraft D ns lists = IsDrawn (drawn D ns lists) lists
 

@@ -93,7 +93,7 @@ fn push_links(links: &mut Vec<Link>, device: u32, near: &Nearby) -> Result<(), M
     Ok(())
 }
 
-/// So many lists without a neighbour.
+/// `count` empty lists of neighbours.
 pub(crate) fn no_nearby(alloc: Global, count: usize) -> Result<Vec<Nearby>, Memory>
     ensures { IfOk result (λ v. map items_of v.items ≡ replicate count []) }
 {

@@ -12,7 +12,7 @@ use fc_values::{Declared, Local, MOST_LINKS, Memory, copy_declared};
 use std::alloc::Global;
 use std::marker::Model;
 
-/// A network whose links aren't written out yet: a link is judged and added at the cost of a search for its devices.
+/// A network whose links aren't written out yet: to judge and add a link costs a search for its two devices.
 #[derive(Drop)]
 pub struct Draft {
     declared: Declared,
@@ -211,7 +211,7 @@ impl Draft {
         self.near[at.1] = put_near(&self.near[at.1], a, weight);
     }
 
-    /// Takes the link of two devices away. It takes no memory.
+    /// Removes the link of two devices. It takes no memory.
     pub(crate) fn unlink(&mut self, a: u32, b: u32) -> Result<(), NetFault>
         ensures ok { OnOk result (self.new ≡ unlinked self.old a b) }
         ensures accepted { OnOk result (unlink_fault self.old a b ≡ None) }
@@ -241,7 +241,7 @@ impl Draft {
         Ok(at)
     }
 
-    // Takes the link of two linked devices away.
+    // Removes the link of two linked devices.
     fn drop_link(&mut self, at: (usize, usize), a: u32, b: u32)
         requires places { AtEnds self.old a b at }
         requires fault { unlink_fault self.old a b ≡ None }
@@ -315,7 +315,7 @@ impl Draft {
         Ok(())
     }
 
-    /// Takes a device and its links away. It takes no memory.
+    /// Removes a device and its links. It takes no memory.
     pub(crate) fn leave(&mut self, device: u32) -> Result<(), NetFault>
         ensures ok { OnOk result (self.new ≡ left self.old device) }
         ensures accepted { OnOk result (leave_fault self.old device ≡ None) }
@@ -332,7 +332,7 @@ impl Draft {
         Ok(())
     }
 
-    // Takes a device away that isn't the last.
+    // Removes a device that isn't the only one.
     fn drop_device(&mut self, at: usize, device: u32)
         requires place { AtPlace self.old device at }
         requires fault { leave_fault self.old device ≡ None }

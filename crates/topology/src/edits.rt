@@ -11,7 +11,7 @@ use crate::places::room_for_link;
 use crate::types::{Device, Link};
 use fc_values::{Local, Memory};
 
-/// Takes the link of a pair away, which is there.
+/// Removes the link of a pair that has one.
 pub(crate) fn drop_link(links: &mut Vec<Link>, a: u32, b: u32)
     requires rising { IsRisingLinks (map edge_of links.old.items) }
     requires there { has_pair a b (map edge_of links.old.items) ≡ true }
@@ -22,7 +22,7 @@ pub(crate) fn drop_link(links: &mut Vec<Link>, a: u32, b: u32)
     links.remove(at);
 }
 
-/// Takes the links of a device away.
+/// Removes the links of a device.
 pub(crate) fn drop_links(links: &mut Vec<Link>, device: u32)
     ensures links { map edge_of links.new.items ≡ drop_links device (map edge_of links.old.items) }
     ensures room { vec_capacity links.new ≡ vec_capacity links.old }
@@ -37,7 +37,7 @@ fn is_of_pair(link: &Link, a: u32, b: u32) -> bool
     link.a == a && link.b == b
 }
 
-/// Puts a link in the place of that of its pair, or as one more. There is room for it.
+/// Puts a link in place of its pair's, or adds it. There is room for it.
 pub(crate) fn put_link(links: &mut Vec<Link>, link: Link)
     requires rising { IsRisingLinks (map edge_of links.old.items) }
     requires room { length (put_edge (edge_of link) (map edge_of links.old.items)) ≤ vec_capacity links.old }
@@ -62,7 +62,7 @@ pub(crate) fn put_input(device: &mut Device, input: usize, value: Local)
     device.inputs[input] = value;
 }
 
-/// Takes a device out of the neighbours of each.
+/// Removes a device from each list of neighbours.
 pub(crate) fn drop_from_each(near: &mut Vec<Nearby>, device: u32)
     ensures { map items_of near.new.items ≡ map (λ ns. drop_near device ns) (map items_of near.old.items) }
 {

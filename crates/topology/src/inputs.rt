@@ -9,7 +9,7 @@ ghost use Rattle.topology.specs.Changes.{nth_fault, in_metric};
 use crate::types::NetFault;
 use fc_values::{Declared, InputDecl, InputTy, Local};
 
-/// Why a value is none of an input of a type.
+/// Why a value doesn't fit an input of a type.
 pub fn input_fault(ty: InputTy, value: &Local) -> Option<NetFault>
     ensures { result ≡ input_fault ty (local_of value.now) }
 {
@@ -26,7 +26,7 @@ pub fn input_fault(ty: InputTy, value: &Local) -> Option<NetFault>
     }
 }
 
-/// The fault of the first value that is none of its input.
+/// The fault of the first value that doesn't fit its input.
 pub(crate) fn inputs_fault(inputs: &[InputDecl], values: &[Local]) -> Option<NetFault>
     requires { length inputs.now ≡ length values.now }
     ensures { result ≡ inputs_fault (map input_of inputs.now) (map local_of values.now) }

@@ -183,7 +183,7 @@ impl Network {
         Ok(())
     }
 
-    /// Takes the link of two devices away. It takes no memory.
+    /// Removes the link of two devices. It takes no memory.
     pub fn unlink(&mut self, a: u32, b: u32) -> Result<(), NetFault>
         ensures ok { OnOk result (self.new ≡ unlinked self.old a b) }
         ensures accepted { OnOk result (unlink_fault self.old a b ≡ None) }
@@ -239,7 +239,7 @@ impl Network {
         Ok(())
     }
 
-    /// Takes a device and its links away. It takes no memory.
+    /// Removes a device and its links. It takes no memory.
     pub fn leave(&mut self, device: u32) -> Result<(), NetFault>
         ensures ok { OnOk result (self.new ≡ left self.old device) }
         ensures accepted { OnOk result (leave_fault self.old device ≡ None) }

@@ -18,7 +18,7 @@ pub(crate) fn room_for_device(devices: &[Device], id: u32) -> usize
     devices.partition_point(|one| one.id < id)
 }
 
-/// The place of a device. Numbers that count from 0 stand at their own places, where no search is needed.
+/// The place of a device. Where the numbers count from 0, each is its own place, and no search is needed.
 pub(crate) fn place(devices: &[Device], id: u32) -> Option<usize>
     requires { Rises (numbers (map device_of devices.now)) }
     ensures there { IfSome result (λ i. slice_index (numbers (map device_of devices.now)) i ≡ id) }

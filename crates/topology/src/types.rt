@@ -23,7 +23,7 @@ pub struct Link {
     pub weight: u32,
 }
 
-/// Why a network refuses a change. `InFlight` is the answer of a core alone.
+/// Why a network refuses a change. Only a core answers `InFlight`.
 #[derive(Clone, Copy, Debug, PartialEq, Eq)]
 pub enum NetFault {
     Twice,
@@ -40,8 +40,8 @@ pub enum NetFault {
     Last,
 }
 
-/// Why there is no network of some devices: the first device that is refused, by its index, the number of devices, or
-/// want of memory.
+/// Why there is no network of some devices: the first one that is refused, by its index; how many they are, where that
+/// is none or too many; or want of memory.
 #[derive(Clone, Copy, Debug, PartialEq, Eq)]
 pub enum MakeFault {
     Net(u32, NetFault),

@@ -35,7 +35,7 @@ pub record IsRead (U : Unfolding) (v : LocalValue) (vs : List LocalValue) (e : E
 abbrev pub NoExportKeeps : Unfolding → List LocalValue → Type 0
 NoExportKeeps U vs = (e : TreeExport) → IsWellTyped U e → kept_values e ≡ vs → ⊥
 
--- a fault of a list: its first misfit, and then it is no kept list; or want of memory
+-- a fault of a list: its first misfit, where no well-typed export keeps the list; or want of memory
 abbrev pub IsFault : Unfolding → List LocalValue → KeptFault → Type 0
 IsFault U vs (fault.At p) = (misfit_of U vs ≡ Some p) × NoExportKeeps U vs
 IsFault U vs fault.Memory = Unit {0}
@@ -85,7 +85,7 @@ pub record Extends (xs ys : List SlotValue) : Type 0 where
   pub long : length xs ≤ length ys
   pub same : (k : ℕ) → k < length xs → slot_at k ys ≡ slot_at k xs
 
--- slots ys are xs and others behind them, n in all, of which a fact holds; they have taken the items vs but for us
+-- slots ys extend xs to n in all, and a fact holds of them; of the items vs, us are left, and the others were taken
 pub record Fills (F : List SlotValue → Type 0) (n : ℕ) (l : Leaving) (vs us : List KeptItem) (xs ys : List SlotValue)
     : Type 0 where
   pub left : l ≡ Leaves us

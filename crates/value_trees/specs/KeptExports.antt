@@ -15,7 +15,7 @@ pub record Keeps (U : Unfolding) (v : LocalValue) (vs : List LocalValue) (x : Fl
   pub value : (tree_export U x).value ≡ v
   pub list : kept_values (tree_export U x) ≡ vs
 
--- each value of the type of `main` and each list without a misfit are those of an export
+-- for each value of the type of `main` and each list without a misfit there is an export that has both
 abbrev pub ListsHaveExports : Type 0
 ListsHaveExports =
     (U : Unfolding) (v : LocalValue) (vs : List LocalValue)

@@ -1,5 +1,5 @@
--- Items of kept lists: values, each with the place that it names, if it names one; and the trees that they are the kept
--- values of.
+-- Items of kept lists: values, each with the place that it names, if it names one; and the trees whose kept values they
+-- are.
 use Rattle.std.specs.Prelude.{ℕ, suc, Bool, true, ◌≡◌, ◌+◌, ◌&&◌, List, [], ◌∷◌, map, Option, Some, None, nat_eq}
 use Rattle.std.specs.Prelude.{if◌then◌else◌}
 use Rattle.fc_values.specs.Types.{LocalType, BoolType}

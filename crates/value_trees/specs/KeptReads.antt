@@ -31,8 +31,8 @@ abbrev pub own_left : ℕ → LocalType → ℕ → List LocalValue → (LocalVa
 own_left ceiling s p [] f = Off p
 own_left ceiling s p (v ∷ vs) f = if has_type ceiling s v then f v vs else Off p
 
--- the term at place p: first its own value, then those of its kids in order, in an `if` those of the branch that is
--- named
+-- the term at place p: first its own value, then those of its kids in order; in an `if` those of the condition and of
+-- the branch that its own value names
 abbrev mutual
   pub left_by : ℕ → ℕ → Term → List LocalValue → Left
   left_by c p (Plain t l) vs = Rest vs

@@ -5,7 +5,7 @@ use std::alloc::Global;
 use std::marker::Model;
 use std::sync::Arc;
 
-/// An export that stays as it is, and that all who read it share: a share of it is a count, and no copy.
+/// An immutable export that its readers share: a share of it costs a count, not a copy.
 #[derive(Drop)]
 pub struct Published {
     export: Arc<Export>,
@@ -34,8 +34,8 @@ impl Published {
         Ok(Published { export })
     }
 
-    /// The same export, for one more owner. It takes no memory; where the count of its owners is full, it says so as want
-    /// of memory.
+    /// The same export, for one more owner. It takes no memory; where the count of its owners is full, it answers
+    /// `Memory`.
     pub fn share(&self) -> Result<Published, Memory>
         ensures { IfOk result (λ p. p ≡ self.now) }
     {

@@ -73,7 +73,7 @@ pub fn from_kept(
     Ok(export)
 }
 
-/// The export with a value and the values of these items in preorder, each of which stands where it says that it does.
+/// The export with a value and the values of these items in preorder, each at the place that it names, if it names one.
 pub fn from_items(
     alloc: Global,
     program: &Unfolded,
@@ -100,7 +100,7 @@ pub fn from_items(
     })
 }
 
-// Fills the slots of the term at a place: the values that it leaves.
+// Fills the slots of the term at a place, and gives the items that are left.
 #[cycle(fill)]
 fn fill<'a>(
     alloc: Global,

@@ -4,10 +4,10 @@ use crate::bell::Bell;
 use std::sync::Wait;
 use std::time::Duration;
 
-// The first sleep, in nanoseconds. Each is twice as long as the one before, up to a millisecond.
-const FIRST_SLEEP: u64 = 16_000;
+// The first sleep, in nanoseconds. Each is twice as long as the one before, up to eight milliseconds.
+const FIRST_SLEEP: u64 = 1_000_000;
 
-const DOUBLINGS: u32 = 6;
+const DOUBLINGS: u32 = 3;
 
 /// The sleeps of a worker between its firings: none, or ever longer ones if it is in reserve.
 #[derive(Drop)]
