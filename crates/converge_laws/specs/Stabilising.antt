@@ -16,7 +16,8 @@ pub record HasOneSolution (U : Unfolding) (N : Network) : Type 0 where
   pub only : (G : ℕ → LocalValue) → SolvesMain N U.main G → (d : ℕ) → Lives N d → G d ≡ field d
 
 -- From every good core on the network, every log without an edit that has k rounds leads to exports with the values of
--- a field. The cores include missing exports, wrong ones and stale copies, and the logs every interleaving.
+-- a field. Behind these rounds the log may go on as it likes, so the values stay. The cores include missing exports,
+-- wrong ones and stale copies, and the logs every interleaving.
 abbrev pub RoundsReach : Unfolding → Network → ℕ → (ℕ → LocalValue) → Type 0
 RoundsReach U N k F =
     (start core : Core) (log : List EntryValue) → IsGood U start → start.net ≡ N → Run U start log core
