@@ -238,7 +238,8 @@ impl Book {
         match self.step(alloc, Entry::End(device)) {
             Ok(()) => Ok(()),
             Err(ReplayFault::Memory) => Err(Memory),
-            Err(ReplayFault::At { .. } | ReplayFault::EditAt { .. }) => unreachable!(),
+            Err(ReplayFault::At { .. }) => unreachable!(),
+            Err(ReplayFault::EditAt { .. }) => unreachable!(),
         }
     }
 
