@@ -5,3 +5,4 @@ mod Absent
 mod Judgements
 pub mod Shaped
 pub mod Bodies
+mod PartLevels

@@ -1,9 +1,15 @@
 //! Laws of the definitions.
 
-ghost use Rattle.fragment_check.specs.Laws.{PatternsHaveShapes};
+ghost use Rattle.fragment_check.specs.Laws.{PatternsHaveShapes, LevelsOfBodies};
 
 /// A well-typed body whose pattern is found has the shape that the pattern names: guards by the variable of one binder,
 /// or a least of what is heard that grows.
 pub fn patterns_have_shapes()
     ensures { PatternsHaveShapes }
+{}
+
+/// The row of the table of levels for a body that has its variable and isn't `nested`: the greatest of `b + 1` and the
+/// levels of its parts, where `b` is the level of the branch.
+pub fn levels_of_bodies()
+    ensures { LevelsOfBodies }
 {}
