@@ -6,3 +6,4 @@ mod Judgements
 pub mod Shaped
 pub mod Bodies
 mod PartLevels
+mod Unshaped
