@@ -23,7 +23,7 @@ neither : (a b : Bool) → a ≡ false → b ≡ false → (a || b) ≡ false
 neither a b e f = rw (e, f) refl
 
 module _ (e : Evolution) (x : ℕ) where
-  unheard : (t : Term) → occurs x t ≡ false → is_heard e x t ≡ false
+  pub unheard : (t : Term) → occurs x t ≡ false → is_heard e x t ≡ false
   unheard t h = by_evolution e t h
     where
       by_evolution : (e : Evolution) (t : Term) → occurs x t ≡ false → is_heard e x t ≡ false
@@ -92,7 +92,7 @@ module _ (e : Evolution) (x : ℕ) where
       by_test false q = no_mux e x o xs q
 
   mutual
-    not_guarded : (t : Term) → occurs x t ≡ false → guarding_of e x t ≡ guarding.Unused
+    pub not_guarded : (t : Term) → occurs x t ≡ false → guarding_of e x t ≡ guarding.Unused
     not_guarded (Plain t l) h = ap (λ b. if b then guarding.Missing else guarding.Unused) h
     not_guarded (Apply t o xs) h = ap (λ g. guarding_or g (guarding_in e x xs)) (no_guard o xs h) ∙ none_guarded xs h
     not_guarded (Nbr t a) h = not_guarded a h

@@ -73,9 +73,9 @@ hood_is x (Evolve t f a b) h l e = absurd cc
 hood_is x (If t c a b) h l e = absurd cc
 hood_is x (Let t a b) h l e = absurd cc
 
-record RiseIs (u a b c : Term) : Type 0 where
-  type : ValueType
-  term : u ≡ Apply type op.Rise (More a (More b (More c NoMore)))
+pub record RiseIs (u a b c : Term) : Type 0 where
+  pub type : ValueType
+  pub term : u ≡ Apply type op.Rise (More a (More b (More c NoMore)))
 
 three_rise : (t : ValueType) (xs : Terms) (a b c : Term) → three_of xs ≡ Some (a, b, c) → RiseIs (Apply t op.Rise xs) a b c
 three_rise t NoMore a b c e = absurd cc
@@ -89,7 +89,7 @@ three_rise t (More i (More j (More k NoMore))) a b c e =
     record { type = t; term = rw (fi, fj, fk) refl }
 three_rise t (More i (More j (More k (More n xs)))) a b c e = absurd cc
 
-rise_is : (u a b c : Term) → rise_of u ≡ Some (a, b, c) → RiseIs u a b c
+pub rise_is : (u a b c : Term) → rise_of u ≡ Some (a, b, c) → RiseIs u a b c
 rise_is (Plain t v) a b c e = absurd cc
 rise_is (Apply t op.Rise xs) a b c e = three_rise t xs a b c e
 rise_is (Apply t op.Less xs) a b c e = absurd cc

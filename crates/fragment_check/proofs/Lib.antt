@@ -5,3 +5,5 @@ mod Absent
 mod Judgements
 pub mod Shaped
 pub mod Bodies
+mod PartLevels
+mod Unshaped

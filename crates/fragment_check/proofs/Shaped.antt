@@ -40,14 +40,14 @@ not_true true e = absurd cc
 not_true false e = refl
 
 -- not heard, and used: one of them fails
-heard_where : (a b : Bool) → (not a && b) ≡ false → b ≡ true → a ≡ true
+pub heard_where : (a b : Bool) → (not a && b) ≡ false → b ≡ true → a ≡ true
 heard_where true b e f = refl
 heard_where false b e f = absurd (let g : b ≡ false = e in let h : true ≡ false = sym f ∙ g in cc)
 
-with_heard : (a b : Bool) → a ≡ true → (not a && b) ≡ false
+pub with_heard : (a b : Bool) → a ≡ true → (not a && b) ≡ false
 with_heard a b e = rw e refl
 
-with_none : (a b : Bool) → b ≡ false → (not a && b) ≡ false
+pub with_none : (a b : Bool) → b ≡ false → (not a && b) ≡ false
 with_none true b e = refl
 with_none false b e = e
 
@@ -118,7 +118,7 @@ mutual
 -- ---- without the variable nothing is bare
 
 mutual
-  bare_none : (e : Evolution) (x : ℕ) (t : Term) → occurs x t ≡ false → is_bare e x t ≡ false
+  pub bare_none : (e : Evolution) (x : ℕ) (t : Term) → occurs x t ≡ false → is_bare e x t ≡ false
   bare_none e x (Plain t l) o = with_none (is_heard e x (Plain t l)) (is_variable x l) o
   bare_none e x (Apply t f xs) o = bares_none e x xs o
   bare_none e x (Nbr t a) o = with_none (is_heard e x (Nbr t a)) (is_bare e x a) (bare_none e x a o)

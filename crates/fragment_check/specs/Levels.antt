@@ -27,8 +27,8 @@ leaf_level b x lv t NbrLink = suc b
 leaf_level b x lv t _ = b
 
 -- The level of the term at place p in a branch of level b. x is the place of the nearest `rep` or `share` in whose body
--- it is: x and `nbr` of x count as b + 1, so a body has the greatest of b + 1 and the levels of its parts, which are
--- its greatest subterms without x.
+-- it is: x and `nbr` of x count as b + 1, so a body with x has the greatest of b + 1 and the levels of its parts (the
+-- law `LevelsOfBodies`).
 abbrev mutual
   pub level_of : Stages → ℕ → ℕ → ℕ → Lvs → Term → ℕ
   level_of K p b x lv (Plain t l) = leaf_level b x lv t l
@@ -43,6 +43,29 @@ abbrev mutual
   pub level_all : Stages → ℕ → ℕ → ℕ → Lvs → Terms → ℕ
   level_all K p b x lv NoMore = b
   level_all K p b x lv (More t ts) = max (level_of K p b x lv t) (level_all K (p + size t) b x lv ts)
+
+-- the parts of the term at place p: its greatest subterms without x, each with its place
+abbrev mutual
+  pub parts : ℕ → ℕ → Term → List (ℕ × Term)
+  parts x p (Plain t l) = if occurs x (Plain t l) then [] else (p, Plain t l) ∷ []
+  parts x p (Apply t o xs) = if occurs x (Apply t o xs) then all_parts x (suc p) xs else (p, Apply t o xs) ∷ []
+  parts x p (Nbr t a) = if occurs x (Nbr t a) then parts x (suc p) a else (p, Nbr t a) ∷ []
+  parts x p (Evolve t e a u) = if occurs x (Evolve t e a u) then parts x (suc p) a ++ parts x (suc p + size a) u
+      else (p, Evolve t e a u) ∷ []
+  parts x p (If t c u v) = if occurs x (If t c u v)
+      then parts x (suc p) c ++ (parts x (suc p + size c) u ++ parts x (suc p + size c + size u) v)
+      else (p, If t c u v) ∷ []
+  parts x p (Let t a u) = if occurs x (Let t a u) then parts x (suc p) a ++ parts x (suc p + size a) u
+      else (p, Let t a u) ∷ []
+
+  pub all_parts : ℕ → ℕ → Terms → List (ℕ × Term)
+  all_parts x p NoMore = []
+  all_parts x p (More t ts) = parts x p t ++ all_parts x (p + size t) ts
+
+-- the greatest of b + 1 and the levels of terms, each with its place
+abbrev pub greatest_level : Stages → ℕ → ℕ → Lvs → List (ℕ × Term) → ℕ
+greatest_level K b x lv [] = suc b
+greatest_level K b x lv (t ∷ ts) = max (level_of K t.0 b x lv t.1) (greatest_level K b x lv ts)
 
 -- a term in which x occurs has no level of its own
 abbrev pub level_unless : Bool → ℕ → Option ℕ

@@ -13,5 +13,5 @@ mod listing;
 pub use faults::PatternFault;
 pub use judging::pattern;
 pub use kinds::Pattern;
-pub use laws::patterns_have_shapes;
+pub use laws::{levels_of_bodies, patterns_have_shapes, reasons_have_no_shape};
 pub use listing::patterns;
