@@ -68,7 +68,7 @@ module _ (agree : CommandsAgree) (verdict : OneVerdict) (one : OneScriptRun) (op
 
 pub one_run : OneInput → InputsStart → CommandsAgree → OneVerdict → OneScriptRun → OneRun
 one_run input starts agree verdict one options program network script j k h g =
-    let once = input program network in
+    let once = input program network h.reads.short in
     let same : h.judged ≡ g.judged = once.2 h.judged h.reads ∙ sym (once.2 g.judged g.reads) in
     by_end g.judged g.reads (subst (λ i. AndThen i
     (λ i k. RunsScript options i.0 (start_of i.1) (script_of i.0 (start_of i.1) script) k) j) same h.ends) g.ends
