@@ -60,7 +60,7 @@ one_scene U s j k h g =
 pub one_stable : OneInput → (program network : List ℕ) (j k : Judged Reply) → Stabilised program network j
     → Stabilised program network k → j ≡ k
 one_stable input program network j k h g =
-    let one = input program network in
+    let one = input program network h.reads.short in
     let same : h.judged ≡ g.judged = one.2 h.judged h.reads ∙ sym (one.2 g.judged g.reads) in
     by_input g.judged (subst (λ i. AndThen i (λ i k. StabilisesScene i.0 i.1 k) j) same h.ends) g.ends
   where

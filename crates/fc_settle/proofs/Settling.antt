@@ -82,7 +82,7 @@ pub one_settle : OneVerdict → StartsHold → InputsStart → OneInput → (fac
     (program network : List ℕ) (j k : Judged Reply) → Settles facts from program network j
     → Settles facts from program network k → j ≡ k
 one_settle verdict starts start input facts from program network j k h g =
-    let one = input program network in
+    let one = input program network h.reads.short in
     let same : h.judged ≡ g.judged = one.2 h.judged h.reads ∙ sym (one.2 g.judged g.reads) in
     by_input g.judged g.reads (subst (λ i. AndThen i (λ i k. SettlesScene facts from i.0 i.1 k) j) same h.ends)
     g.ends

@@ -63,7 +63,7 @@ module _ (costs : OneCosts) (trace : OneTrace) (U : Unfolding) (s : SceneValue) 
 pub one_traced : OneInput → OneCosts → OneTrace → (program network : List ℕ) (j k : Judged Reply)
     → Traces program network j → Traces program network k → j ≡ k
 one_traced input costs trace program network j k h g =
-    let one = input program network in
+    let one = input program network h.reads.short in
     let same : h.judged ≡ g.judged = one.2 h.judged h.reads ∙ sym (one.2 g.judged g.reads) in
     by_input g.judged (subst (λ i. AndThen i (λ i k. TracesScene i.0 i.1 k) j) same h.ends) g.ends
   where
