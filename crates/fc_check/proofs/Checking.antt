@@ -1,24 +1,14 @@
 -- What texts are checked to.
-use Rattle.std.proofs.Common.{ℕ, ◌≡◌, Bool, List, length, refl, ap, ◌∙◌, sym, subst}
-use Rattle.fc_nodes.specs.Program.{Unfolding}
-use Rattle.net_json.specs.Scenes.{SceneValue}
+use Rattle.std.proofs.Common.{ℕ, ◌≡◌, Bool, List, length, refl, ◌∙◌, sym, subst}
 use Rattle.fc_inputs.specs.Causes.{Cause, Judged, Accepted, Refused, AndThen}
 use Rattle.fc_inputs.specs.Refusals.{Reply}
-use Rattle.fc_inputs.specs.Inputs.{InputOf, OneInput, ReadsInput, TextsUnfold}
+use Rattle.fc_inputs.specs.Inputs.{InputOf, OneInput, ReadsInput}
 use Rattle.fc_check.specs.Checks.{Checks, ChecksScene, checked_of}
 use Rattle.fc_check.specs.Laws.{OneCheck, SomeCheck}
-use Rattle.fc_check.proofs.SamePrograms.{checked_alike}
 
 -- ---- one thing
-one_scene : (facts : Bool) (U : Unfolding) (s : SceneValue) (j k : Judged Reply) → ChecksScene facts U s j → ChecksScene facts U s k → j ≡ k
-one_scene facts U s j k h g =
-    h.checked
-    ∙ ap Accepted (checked_alike facts h.nodes g.nodes h.is_program g.is_program (h.unfolded ∙ sym g.unfolded)
-    (length s.net.devices))
-    ∙ sym g.checked
-
 one_end : (facts : Bool) (i : Judged InputOf) (j k : Judged Reply) → AndThen i (λ i k. ChecksScene facts i.0 i.1 k) j → AndThen i (λ i k. ChecksScene facts i.0 i.1 k) k → j ≡ k
-one_end facts (Accepted i) j k h g = one_scene facts i.0 i.1 j k h g
+one_end facts (Accepted i) j k h g = h ∙ sym g
 one_end facts (Refused cause) j k h g = h ∙ sym g
 
 pub one_check : OneInput → OneCheck
@@ -28,18 +18,17 @@ one_check input facts program network j k h g =
     one_end facts g.judged j k (subst (λ i. AndThen i (λ i k. ChecksScene facts i.0 i.1 k) j) same h.ends) g.ends
 
 -- ---- something
-pub some_check : OneInput → TextsUnfold → SomeCheck
-some_check input unfolds facts program network short =
+pub some_check : OneInput → SomeCheck
+some_check input facts program network short =
     let one = input program network short in
     by_input one.0 one.1
   where
     by_input : (i : Judged InputOf) → ReadsInput program network i → (j : Judged Reply) × Checks facts program network j
     by_input (Refused cause) h = (Refused cause, record { judged = Refused cause; reads = h; ends = refl })
-    by_input (Accepted i) h =
-        let p = unfolds program network i h in (
-          Accepted (checked_of facts p.0 (length i.1.net.devices)),
-          record { judged = Accepted i; reads = h; ends = record { nodes = p.0; is_program = p.1; unfolded = p.2; checked = refl } },
-        )
+    by_input (Accepted i) h = (
+      Accepted (checked_of facts i.0 (length i.1.net.devices)),
+      record { judged = Accepted i; reads = h; ends = refl },
+    )
 
 -- ---- what the code does
 pub refused_input : (facts : Bool) (program network : List ℕ) (cause : Cause) → ReadsInput program network (Refused cause) → Checks facts program network (Refused cause)

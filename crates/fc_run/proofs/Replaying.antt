@@ -1,6 +1,5 @@
 -- The log of a run is replayed to the core of the run.
 use Rattle.std.proofs.Common.{ℕ, ◌≡◌, List, refl, subst}
-use Rattle.fc_nodes.specs.Program.{Unfolding}
 use Rattle.firing_core.specs.Cores.{Run}
 use Rattle.edit_commands.specs.LineByLine.{AllLines, StopsAt}
 use Rattle.edit_commands.specs.Scripts.{CommandValue, Script, TooManyLines, Within, script_of}
@@ -26,8 +25,7 @@ module _ (lead : ScriptRunsLead) (written : WrittenLogsReplay) (options : RunOpt
       } in
       let is : ran ≡ r = cc (h.is) in
       let run : Run i.0 (start_of i.1) h.log h.last =
-      subst (λ (U : Unfolding). Run U (start_of i.1) h.log h.last) h.unfolded
-      (lead h.nodes (start_of i.1) h.last commands h.log h.parts h.shown h.run) in
+      lead i.0 (start_of i.1) h.last commands h.log h.parts h.shown h.run in
       subst (LogReplays options program network) is (record {
         shown = h.shown;
         lines = log_lines i.0.declared.inputs h.log;

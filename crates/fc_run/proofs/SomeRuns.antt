@@ -43,14 +43,10 @@ module _ (have : ScriptsHaveCommands) (judged : ScriptsAreJudged) (some : SomeSc
           commands = h.commands;
           said = h.said;
           runs = record {
-            nodes = P;
-            is_program = p;
-            unfolded = refl;
             log = r.0;
             parts = r.1;
             shown = r.2;
-            last =
-                r.3;
+            last = r.3;
             run = r.4;
             is = refl;
           };
