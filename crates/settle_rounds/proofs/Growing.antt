@@ -1,6 +1,7 @@
 -- The first bounds of a core: each device has one, they hold the core, and tables that grow out of them still do. One
 -- that doesn't grow any more is closed.
-use Rattle.std.proofs.Common.{◌≡◌, ℕ, zero, suc, [], refl, sym, ◌∙◌, ap, ap₂, subst, Bool, true, false, Option, Some, None}
+use Rattle.std.proofs.Common.{◌≡◌, ℕ, zero, suc, [], refl, sym, ◌∙◌, ap, ap₂, subst, Bool, true, false, Option}
+use Rattle.std.proofs.Common.{Some, None}
 use Rattle.fc_values.specs.Fields.{ValueLocal}
 use Rattle.fc_values.specs.Trees.{Tree, TreeExport, Copy}
 use Rattle.fc_values.specs.Values.{LocalValue}
@@ -90,7 +91,8 @@ module _ (U : Unfolding) (N : Network) (c : Core) (d : ℕ) where
   one_first a b (joins f q k v) (stands e q' k') = absurd (some_none (c.exports d) e q' q)
   one_first a b (joins f q k v) (stands_and_lands e s f' q' k' w) = absurd (some_none (c.exports d) e q' q)
   one_first a b (joins f q k v) (lands s f' q' k' w) = absurd (some_none (c.flying d) s k' k)
-  one_first a b (joins f q k v) (joins f' q' k' w) = ap (exact_export U false) (one_evaluation U (copy_of N c.exports d) f f' v w)
+  one_first a b (joins f q k v) (joins f' q' k' w) =
+      ap (exact_export U false) (one_evaluation U (copy_of N c.exports d) f f' v w)
 
 module _ (fit : CopiesFit) (P : Program) (N : Network) (program : IsProgram P) (net : IsNetwork N)
     (same : N.declared ≡ P.declared) (c : Core) (good : IsGood (unfolding_of P) c) (on : c.net ≡ N) where
