@@ -6,7 +6,8 @@ ghost use Rattle.fc_nodes.specs.Parts.{part_at};
 ghost use Rattle.fc_nodes.specs.Terms.{sort_of, type_of};
 ghost use Rattle.fc_nodes.specs.Program.{unfolding_of};
 ghost use Rattle.interval_facts.specs.Ranges.{AreRangesOf, range_value};
-ghost use Rattle.report.specs.Facts.{fact_line, facts_text, level_text, mark_text, node_text, range_text, root_sort, sort_text};
+ghost use Rattle.report.specs.Facts.{fact_line, facts_text, level_text, mark_text, node_text, range_text, root_sort};
+ghost use Rattle.report.specs.Facts.{sort_text};
 
 use crate::writing::{write_number, write_value};
 use fc_nodes::{Node, Op, Unfolded};
