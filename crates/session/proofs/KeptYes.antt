@@ -21,19 +21,9 @@ use Rattle.session.specs.ScriptRuns.{Added, both, nothing, DoesLines, ScriptRun}
 use Rattle.session.specs.Shown.{ShowsValues, shown_text, all_shown, script_text, verdict_in}
 use Rattle.session.specs.Since.{rounds_since}
 use Rattle.session.specs.Promises.{Holds, shows_field, KeepsYes}
-use Rattle.session.proofs.EditsInLogs.{plain_both}
+use Rattle.session.proofs.EditsInLogs.{fewer}
 use Rattle.session.proofs.Following.{Follows, follows_none, all_lines}
 use Rattle.session.proofs.ShownFields.{values_held}
-
-rounds_plain : (live : List ℕ) (log : List EntryValue) (n : ℕ) → HasRounds live log n → has_edit log ≡ false
-rounds_plain live log zero h = h
-rounds_plain live log (suc n) h = ap (λ l. has_edit l) h.2 ∙ plain_both h.0 h.1 h.3.plain (rounds_plain live h.1 n h.4)
-
--- fewer rounds than there are
-fewer : (live : List ℕ) (log : List EntryValue) (n k : ℕ) → k ≤ n → HasRounds live log n → HasRounds live log k
-fewer live log n zero l h = rounds_plain live log n h
-fewer live log zero (suc k) l h = absurd (omega (arith, l))
-fewer live log (suc n) (suc k) l h = (h.0, h.1, h.2, h.3, fewer live h.1 n k (omega (arith, l)) h.4)
 
 module _ (lines_cut : LinesCut) (runs : RunsKeepGood) (plain_net : PlainRunsKeepNet) (cut : RunsCut) (cut_at_edit : RunsCutAtEdit)
     (follow : RoundsFollow) (stabilise : YesStabilises) (P : Program) (c last : Core) (front rest : List (ℕ × CommandValue))
