@@ -37,7 +37,7 @@ fn of_network(alloc: Global, program: &Unfolded, net: &Network) -> Result<Reply,
 {
     match stable(alloc, program, net) {
         Ok(field) => field_reply(alloc, &field),
-        Err(StableFault::Unrecognised(_)) => {
+        Err(StableFault::Unrecognised { .. }) => {
             // Its clause: the network has devices.
             let devices = net.devices().len() as u32;
             checked(alloc, false, program, devices)
