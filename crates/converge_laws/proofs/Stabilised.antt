@@ -29,7 +29,7 @@ use Rattle.converge_laws.proofs.Agreement.{local_same}
 use Rattle.converge_laws.proofs.Whole.{step_of, converges}
 use Rattle.rise.proofs.WithoutRise.{solves_agree}
 
-module _ (P : Program) (A : Analysis) (N : Network) (program : IsProgram P) (net : IsNetwork N) (same : N.declared ≡ P.declared) (an : IsAnalysis P A N) where
+module _ (P : Program) (A : Analysis) (N : Network) (program : IsProgram P) (net : IsNetwork N) (same : N.declared ≡ P.declared) (an : IsAnalysis (unfolding_of P) A N) where
   abbrev U : Unfolding
   U = unfolding_of P
 
@@ -80,7 +80,7 @@ module _ (P : Program) (A : Analysis) (N : Network) (program : IsProgram P) (net
     pub raises : (F : ℕ → LocalValue) (s : SolvesMain N U.main F) → Raises (ExportAt U A N F s) U N
     raises F s = main_fires keeps fit cuts P A N program net same F s an.fragment (lies F s) (λ d j. step_of A N net an.for d j U.main)
 
-    pub stabilised : Stabilises U N (root_level P A)
+    pub stabilised : Stabilises U N (root_level U A)
     stabilised = record {
       one = one;
       reached = converges keeps fit cuts P A N program net an.for same one.field one.solves an.fragment (lies one.field one.solves);

@@ -11,9 +11,11 @@ use Rattle.fc_nodes.specs.declared.verdicts.Reason.{Reason}
 use Rattle.fc_nodes.specs.declared.verdicts.Verdict.TheVariants as verdict
 use Rattle.fc_nodes.specs.Terms.{Leaf, Literal, Variable, Sense, Uid, NbrLink, Term, Terms, Plain, Apply, Nbr, Evolve, If, Let, NoMore, More, type_of, size, term_at, Laid, AllLaid}
 use Rattle.fc_nodes.specs.Typing.{Scope, type_at, evolving_type, HasType, HaveTypes}
-use Rattle.fc_nodes.specs.Program.{Program, unfolding_of, IsProgram}
-use Rattle.fc_nodes.proofs.Places.{AllAbove, formed_above}
+use Rattle.fc_nodes.specs.Parts.{part_at}
+use Rattle.fc_nodes.specs.Program.{Program, Unfolding, unfolding_of, IsProgram}
+use Rattle.fc_nodes.proofs.Places.{formed_above}
 use Rattle.fc_nodes.proofs.Kids.{laid_term}
+use Rattle.fc_nodes.proofs.Parts.{part_is}
 use Rattle.topology.specs.Networks.{Network}
 use Rattle.firing_core.specs.Rounds.{after_edit}
 use Rattle.firing_core.specs.Laws.{StepsKeepGood, RunsKeepGood, CopiesFit, RunsCut, RunsCutAtEdit}
@@ -27,7 +29,7 @@ use Rattle.fragment_check.specs.Laws.{PatternsHaveShapes}
 use Rattle.fragment_check.specs.Verdicts.{bound_range, variable_range, added_levels, added_by, added_at, judged_of, main_level, verdict_by}
 use Rattle.converge_laws.specs.Fragment.{Analysis, InFragment, AllInFragment}
 use Rattle.converge_laws.specs.Laws.{IsAnalysis, root_level}
-use Rattle.converge_laws.specs.CoreLevels.{MaybeAt, Raises}
+use Rattle.converge_laws.specs.CoreLevels.{MaybeAt}
 use Rattle.converge_laws.specs.Stabilising.{HasOneSolution, Stabilises}
 use Rattle.converge_laws.specs.Verdicts.{pattern_or, analysis_of, level_by, YesAnalyses, YesStabilises, YesRaises, YesSettles}
 use Rattle.converge_laws.proofs.Ends.{greatest_within, get_within, nodes_within}
@@ -50,32 +52,36 @@ none_first p (Ok a) rest h = (a, refl, h)
 none_first p (Err r) rest h = absurd cc
 
 module _ (shapes : PatternsHaveShapes) (P : Program) (n : ℕ) (program : IsProgram P) where
+  abbrev U : Unfolding
+  U = unfolding_of P
+
   abbrev D : Declarations
   D = P.declared
 
   abbrev R : ℕ → RangeValue
-  R = range_of (unfolding_of P)
+  R = range_of U
 
   abbrev A : Analysis
-  A = analysis_of P n
+  A = analysis_of U n
 
-  above : AllAbove P.nodes
-  above = formed_above P.nodes program.formed
+  -- the part of a program at a place is the term that stands there
+  stands_at : (t : Term) (p : ℕ) → Laid P.nodes p t → part_at p U.main ≡ t
+  stands_at t p la = part_is P.nodes program.formed p ∙ laid_term P.nodes (formed_above P.nodes program.formed) t p la
 
   -- the binders in scope have the ranges of their variables
   abbrev Bound : Scope → Bounds → Type 0
   Bound [] [] = Unit {0}
-  Bound (b ∷ bs) (c ∷ cs) = (b.0 ≡ c.0) × (c.1 ≡ variable_range (unfolding_of P) c.0) × Bound bs cs
+  Bound (b ∷ bs) (c ∷ cs) = (b.0 ≡ c.0) × (c.1 ≡ variable_range U c.0) × Bound bs cs
   Bound _ _ = ⊥
 
-  bound_is : (other : RangeValue) (q : ℕ) (t : ValueType) (bs : Scope) (cs : Bounds) → type_at q bs ≡ Some t → Bound bs cs → bound_at other q cs ≡ variable_range (unfolding_of P) q
+  bound_is : (other : RangeValue) (q : ℕ) (t : ValueType) (bs : Scope) (cs : Bounds) → type_at q bs ≡ Some t → Bound bs cs → bound_at other q cs ≡ variable_range U q
   bound_is other q t [] [] e h = absurd cc
   bound_is other q t [] (c ∷ cs) e h = absurd h
   bound_is other q t (b ∷ bs) [] e h = absurd h
   bound_is other q t (b ∷ bs) (c ∷ cs) e h = by_test (nat_eq c.0 q) refl (λ k. bound_is other q t bs cs k h.2)
     where
-      by_test : (own : Bool) → nat_eq c.0 q ≡ own → (type_at q bs ≡ Some t → bound_at other q cs ≡ variable_range (unfolding_of P) q) → (if own then c.1 else bound_at other q cs) ≡ variable_range (unfolding_of P) q
-      by_test true i f = h.1 ∙ ap (variable_range (unfolding_of P)) (eqb-true c.0 q i)
+      by_test : (own : Bool) → nat_eq c.0 q ≡ own → (type_at q bs ≡ Some t → bound_at other q cs ≡ variable_range U q) → (if own then c.1 else bound_at other q cs) ≡ variable_range U q
+      by_test true i f = h.1 ∙ ap (variable_range U) (eqb-true c.0 q i)
       by_test false i f = let j : nat_eq b.0 q ≡ false = rw (sym h.0) at i in f (rw j at e)
 
   first_shown : (t : Term) (p : ℕ) (cs : Bounds) → Shows R p (node_ranges D cs p t) → R p ≡ term_range D cs p t
@@ -100,13 +106,13 @@ module _ (shapes : PatternsHaveShapes) (P : Program) (n : ℕ) (program : IsProg
     in_fragment (Nbr t a) p bs cs la ty b sh h = in_fragment a (suc p) bs cs la.1 ty.3 b sh.1 h
     in_fragment (Evolve t e a u) p bs cs la ty b sh h =
         let k = none_first p (pattern_of D.ceiling R p (Evolve t e a u)) (first_refused (judged D.ceiling R (suc p + size a) u)) h in
-        let here : term_at P.nodes p ≡ Evolve t e a u = laid_term P.nodes above (Evolve t e a u) p la in
+        let here = stands_at (Evolve t e a u) p la in
         let is : A.pattern p ≡ k.0 = ap (λ z. pattern_or (pattern_of D.ceiling R p z)) here ∙ ap pattern_or k.1 in
-        let added : A.stages p ≡ added_levels n (variable_range (unfolding_of P)) e k.0 = ap (added_at D.ceiling R (variable_range (unfolding_of P)) n p) here ∙ ap (added_by n (variable_range (unfolding_of P)) e) k.1 in
+        let added : A.stages p ≡ added_levels n (variable_range U) e k.0 = ap (added_at D.ceiling R (variable_range U) n p) here ∙ ap (added_by n (variable_range U) e) k.1 in
         let has = shapes D bs D.ceiling R e p (suc p + size a) ty.0 u k.0 ty.5 k.1 in
         let has' : HasPattern D.ceiling R e p (suc p + size a) (inner t) u k.0 = subst (λ s. HasPattern D.ceiling R e p (suc p + size a) s u k.0) (sym (ap inner ty.1)) has in (
           subst (HasPattern D.ceiling R e p (suc p + size a) (inner t) u) (sym is) has',
-          added ∙ ap (added_levels n (variable_range (unfolding_of P)) e) (sym is),
+          added ∙ ap (added_levels n (variable_range U) e) (sym is),
           in_fragment u (suc p + size a) ((p, evolving_type e ty.0) ∷ bs) ((p, full D.ceiling (inner t)) ∷ cs) la.2 ty.5 (refl, sym (ap (bound_range D.ceiling R p) here), b)
               (shows_second R (suc p) (size a) (node_ranges D cs (suc p) a) (node_ranges D ((p, full D.ceiling (inner t)) ∷ cs) (suc p + size a) u) (as_many D a cs (suc p)) sh.1) k.2,
         )
@@ -123,7 +129,7 @@ module _ (shapes : PatternsHaveShapes) (P : Program) (n : ℕ) (program : IsProg
         )
     in_fragment (Let t a u) p bs cs la ty b sh h =
         let k = none_both (judged D.ceiling R (suc p) a) (judged D.ceiling R (suc p + size a) u) h in
-        let here : term_at P.nodes p ≡ Let t a u = laid_term P.nodes above (Let t a u) p la in
+        let here = stands_at (Let t a u) p la in
         let first = shows_first R (suc p) (size a) (node_ranges D cs (suc p) a) (node_ranges D ((p, term_range D cs (suc p) a) ∷ cs) (suc p + size a) u) (as_many D a cs (suc p)) sh.1 in
         let rest = shows_second R (suc p) (size a) (node_ranges D cs (suc p) a) (node_ranges D ((p, term_range D cs (suc p) a) ∷ cs) (suc p + size a) u) (as_many D a cs (suc p)) sh.1 in (
           in_fragment a (suc p) bs cs la.1 ty.1 b first k.0,
@@ -140,16 +146,16 @@ module _ (shapes : PatternsHaveShapes) (P : Program) (n : ℕ) (program : IsProg
         )
 
   -- where nothing is refused
-  analysed : (N : Network) → N.declared ≡ P.declared → n ≡ length N.devices → first_refused (judged_of (unfolding_of P)) ≡ None → IsAnalysis P A N
+  analysed : (N : Network) → N.declared ≡ P.declared → n ≡ length N.devices → first_refused (judged_of U) ≡ None → IsAnalysis U A N
   analysed N same count none = record {
     ranges = refl;
     for = record {
       devices = count;
       ends = λ p. subst (λ k. greatest_integer (R p) ≤ k.ceiling) (sym same)
-          (greatest_within D.ceiling (R p) (get_within D.ceiling (ranges_of (unfolding_of P)) p (nodes_within D program.lawful (term_at P.nodes 0) 0 [] [] program.typed tt)));
+          (greatest_within D.ceiling (R p) (get_within D.ceiling (ranges_of U) p (nodes_within D program.lawful (term_at P.nodes 0) 0 [] [] program.typed tt)));
     };
     fragment = subst (λ k. InFragment A k.ceiling 0 (term_at P.nodes 0)) (sym same)
-        (in_fragment (term_at P.nodes 0) 0 [] [] program.formed.laid program.typed tt (shows_itself (ranges_of (unfolding_of P))) none);
+        (in_fragment (term_at P.nodes 0) 0 [] [] program.formed.laid program.typed tt (shows_itself (ranges_of U)) none);
   }
 
 -- a yes has nothing refused, and its number is the level of `main`
@@ -165,29 +171,29 @@ yes_analyses shapes P N k program net same h =
 pub yes_stabilises : PatternsHaveShapes → StepsKeepGood → CopiesFit → RunsCut → YesStabilises
 yes_stabilises shapes keeps fit cuts P N k program net same h =
     let a = yes_analyses shapes P N k program net same h in
-    subst (Stabilises (unfolding_of P) N) a.level (stabilised P (analysis_of P (length N.devices)) N program net same a.analysis keeps fit cuts)
+    subst (Stabilises (unfolding_of P) N) a.level (stabilised P (analysis_of (unfolding_of P) (length N.devices)) N program net same a.analysis keeps fit cuts)
 
 -- at the level of `main` an export is there, and has the value of the solution
-at_root : (P : Program) (N : Network) (s : HasOneSolution (unfolding_of P) N) (k : ℕ) → root_level P (analysis_of P (length N.devices)) ≡ k
-    → (d : ℕ) (o : Option TreeExport) → MaybeAt (level_by P N s) k d o → (e : TreeExport) × (o ≡ Some e) × (e.value ≡ s.field d)
-at_root P N s k q d (Some e) h = (e, refl, h.value (omega (arith, q)))
-at_root P N s zero q d None h =
-    let low = level_low (analysis_of P (length N.devices)).stages 0 1 (size (unfolding_of P).main) (λ p. 0) (unfolding_of P).main in
+at_root : (U : Unfolding) (N : Network) (s : HasOneSolution U N) (k : ℕ) → root_level U (analysis_of U (length N.devices)) ≡ k
+    → (d : ℕ) (o : Option TreeExport) → MaybeAt (level_by U N s) k d o → (e : TreeExport) × (o ≡ Some e) × (e.value ≡ s.field d)
+at_root U N s k q d (Some e) h = (e, refl, h.value (omega (arith, q)))
+at_root U N s zero q d None h =
+    let low = level_low (analysis_of U (length N.devices)).stages 0 1 (size U.main) (λ p. 0) U.main in
     absurd (omega (arith, q, low))
-at_root P N s (suc k) q d None h = absurd h
+at_root U N s (suc k) q d None h = absurd h
 
 pub yes_raises : PatternsHaveShapes → StepsKeepGood → CopiesFit → RunsCut → YesRaises
 yes_raises shapes keeps fit cuts P N k program net same h =
     let a = yes_analyses shapes P N k program net same h in
-    let A = analysis_of P (length N.devices) in
+    let A = analysis_of (unfolding_of P) (length N.devices) in
     let only = one P A N program net same a.analysis in
     let r = raises P A N program net same a.analysis keeps fit cuts only.field only.solves in
     record {
       one = only;
       raises = r;
-      begins = good_start keeps fit cuts (level_by P N only) P N program net same r;
-      steps = levels_of_steps keeps fit cuts (level_by P N only) P N program net same r;
-      reached = λ d o i. at_root P N only k a.level d o i;
+      begins = good_start keeps fit cuts (level_by (unfolding_of P) N only) P N program net same r;
+      steps = levels_of_steps keeps fit cuts (level_by (unfolding_of P) N only) P N program net same r;
+      reached = λ d o i. at_root (unfolding_of P) N only k a.level d o i;
     }
 
 pub yes_settles : PatternsHaveShapes → StepsKeepGood → RunsKeepGood → CopiesFit → RunsCut → RunsCutAtEdit → YesSettles

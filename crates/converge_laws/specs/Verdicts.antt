@@ -26,23 +26,23 @@ pattern_or (Ok a) = a
 pattern_or (Err r) = pattern.Constant
 
 -- what the definitions of ranges, patterns and levels say of a program by places, for n devices
-abbrev pub analysis_of : Program → ℕ → Analysis
-analysis_of P n = record {
+abbrev pub analysis_of : Unfolding → ℕ → Analysis
+analysis_of U n = record {
   devices = n;
-  ranges = range_of (unfolding_of P);
-  bounds = variable_range (unfolding_of P);
-  pattern = λ p. pattern_or (pattern_at (unfolding_of P) p);
-  stages = stages_of (unfolding_of P) n;
+  ranges = range_of U;
+  bounds = variable_range U;
+  pattern = λ p. pattern_or (pattern_at U p);
+  stages = stages_of U n;
 }
 
 -- a yes for so many rounds says that this is an analysis of the program, and that so many is the level of `main`
-pub record IsAnalysed (P : Program) (N : Network) (k : ℕ) : Type 0 where
-  pub analysis : IsAnalysis P (analysis_of P (length N.devices)) N
-  pub level : root_level P (analysis_of P (length N.devices)) ≡ k
+pub record IsAnalysed (U : Unfolding) (N : Network) (k : ℕ) : Type 0 where
+  pub analysis : IsAnalysis U (analysis_of U (length N.devices)) N
+  pub level : root_level U (analysis_of U (length N.devices)) ≡ k
 
 abbrev pub YesAnalyses : Type 0
 YesAnalyses = (P : Program) (N : Network) (k : ℕ) → IsProgram P → IsNetwork N → N.declared ≡ P.declared
-    → verdict_of (unfolding_of P) (length N.devices) ≡ verdict.Yes k → IsAnalysed P N k
+    → verdict_of (unfolding_of P) (length N.devices) ≡ verdict.Yes k → IsAnalysed (unfolding_of P) N k
 
 -- the convergence law: a yes for so many rounds says that the program stabilises within them on each network with its
 -- declarations and so many devices
@@ -51,22 +51,22 @@ YesStabilises = (P : Program) (N : Network) (k : ℕ) → IsProgram P → IsNetw
     → verdict_of (unfolding_of P) (length N.devices) ≡ verdict.Yes k → Stabilises (unfolding_of P) N k
 
 -- the levels of exports that agree with the one field that solves a program, node by node
-abbrev pub level_by : (P : Program) (N : Network) → HasOneSolution (unfolding_of P) N → ExportLevel
-level_by P N one = ExportAt (unfolding_of P) (analysis_of P (length N.devices)) N one.field one.solves
+abbrev pub level_by : (U : Unfolding) (N : Network) → HasOneSolution U N → ExportLevel
+level_by U N one = ExportAt U (analysis_of U (length N.devices)) N one.field one.solves
 
 -- The same step by step, for whatever tables the devices see: levels of exports that firings raise and steps keep, and
 -- at level k an export is there and has the value of the one field.
-pub record RaisesTo (P : Program) (N : Network) (k : ℕ) : Type 0 where
-  pub one : HasOneSolution (unfolding_of P) N
-  pub raises : Raises (level_by P N one) (unfolding_of P) N
-  pub begins : LevelsBegin (level_by P N one) (unfolding_of P) N
-  pub steps : LevelsOfSteps (level_by P N one) (unfolding_of P) N
-  pub reached : (d : ℕ) (o : Option TreeExport) → MaybeAt (level_by P N one) k d o
+pub record RaisesTo (U : Unfolding) (N : Network) (k : ℕ) : Type 0 where
+  pub one : HasOneSolution U N
+  pub raises : Raises (level_by U N one) U N
+  pub begins : LevelsBegin (level_by U N one) U N
+  pub steps : LevelsOfSteps (level_by U N one) U N
+  pub reached : (d : ℕ) (o : Option TreeExport) → MaybeAt (level_by U N one) k d o
       → (e : TreeExport) × (o ≡ Some e) × (e.value ≡ one.field d)
 
 abbrev pub YesRaises : Type 0
 YesRaises = (P : Program) (N : Network) (k : ℕ) → IsProgram P → IsNetwork N → N.declared ≡ P.declared
-    → verdict_of (unfolding_of P) (length N.devices) ≡ verdict.Yes k → RaisesTo P N k
+    → verdict_of (unfolding_of P) (length N.devices) ≡ verdict.Yes k → RaisesTo (unfolding_of P) N k
 
 -- a core's exports have the values of the one field that solves the program on the core's network
 pub record IsSettled (U : Unfolding) (c : Core) : Type 0 where

@@ -91,7 +91,8 @@ pub fn yes_raises_levels()
 /// Where the verdict for the network at the end of a book's log is a yes for `k` rounds, and the part of the log after
 /// its last edit has them, each device's export has the value of the one field that solves the program on that network.
 pub fn settled(book: &Book)
-    ensures { (k : ℕ) → verdict_of (unfolding_of book.now.program) (length (core_of book.now.core).net.devices) ≡ verdict.Yes k
+    ensures { (k : ℕ)
+        → verdict_of (unfolding_of book.now.program) (length (core_of book.now.core).net.devices) ≡ verdict.Yes k
         → HasRounds (numbers (core_of book.now.core).net.devices) (after_edit (entries_of book.now.log)) k
         → IsSettled (unfolding_of book.now.program) (core_of book.now.core) }
 {

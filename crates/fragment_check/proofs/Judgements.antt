@@ -12,15 +12,16 @@ use Rattle.fc_nodes.specs.Program.{Program, unfolding_of}
 use Rattle.fc_nodes.specs.Places.{StandsAt}
 use Rattle.fc_nodes.proofs.Places.{AllAbove, formed_above, laid_within}
 use Rattle.fc_nodes.proofs.Kids.{laid_term, kids_of, kids_are}
+use Rattle.fc_nodes.proofs.Parts.{part_is}
 use Rattle.interval_facts.specs.Ranges.{range_of, RangeValue}
 use Rattle.growth_facts.specs.Facts.{IsEvolving, IsEvolveView}
 use Rattle.fragment_check.specs.declared.kinds.Pattern.{Pattern}
 use Rattle.fragment_check.specs.declared.faults.PatternFault.{PatternFault}
 use Rattle.fragment_check.specs.declared.faults.PatternFault.TheVariants as fault
-use Rattle.fragment_check.specs.Patterns.{Judged, pattern_of, judged, all_judged, first_refused, patterns_in}
+use Rattle.fragment_check.specs.Patterns.{Judged, pattern_of, judged, all_judged, refusal_first, first_refused, patterns_in}
 use Rattle.fragment_check.specs.Verdicts.{pattern_at}
 use Rattle.fragment_check.specs.Listing.{judged_at, judged_at_all, Finds, Refuses}
-use Rattle.fragment_check.proofs.Evolving.{body_is, term_is}
+use Rattle.fragment_check.proofs.Evolving.{two_kids, body_is, term_is}
 
 -- ---- lists one after the other
 
@@ -114,8 +115,15 @@ module _ (P : Program) (formed : WellFormed P.nodes) (p : ℕ) (st : StandsAt P.
       let b = body_is P.nodes formed p s t ks h (evolving_here z) q e in
       let k = term_is P.nodes formed p s t ks h (evolving_here z) q e in
       ap (λ i. (p, pattern_at (unfolding_of P) p) ∷ judged P.declared.ceiling (range_of (unfolding_of P)) i (term_at P.nodes q)) b
-      ∙ ap (λ u. (p, u) ∷ judged P.declared.ceiling (range_of (unfolding_of P)) (suc p + size (term_at P.nodes (get_or ks 0 0))) (term_at P.nodes q)) (ap (pattern_of P.declared.ceiling (range_of (unfolding_of P)) p) k)
+      ∙ ap (λ u. (p, u) ∷ judged P.declared.ceiling (range_of (unfolding_of P)) (suc p + size (term_at P.nodes (get_or ks 0 0))) (term_at P.nodes q)) (ap (pattern_of P.declared.ceiling (range_of (unfolding_of P)) p) (part_is P.nodes formed p ∙ k))
       ∙ sym (ap (judged P.declared.ceiling (range_of (unfolding_of P)) p) k)
+
+  pub evolving_refused : is_evolve_sort s ≡ true → (why : Reason) → pattern_at (unfolding_of P) p ≡ Err why → first_refused (judged_at P p) ≡ Some (p, why)
+  evolving_refused z why e =
+      let k = (two_kids P.nodes formed p s t ks h (evolving_here z)).term in
+      let here = sym (ap (pattern_of P.declared.ceiling (range_of (unfolding_of P)) p) (part_is P.nodes formed p ∙ k)) ∙ e in
+      ap (λ u. first_refused (judged P.declared.ceiling (range_of (unfolding_of P)) p u)) k
+      ∙ ap (λ r. refusal_first p r (first_refused (judged P.declared.ceiling (range_of (unfolding_of P)) (suc p + size (term_at P.nodes (get_or ks 0 0))) (term_at P.nodes (get_or ks 1 0))))) here
 
   pub body_later : (z : is_evolve_sort s ≡ true) (q : ℕ) → q ≡ get_or ks 1 q → p < q
   body_later z q e = let b = body_is P.nodes formed p s t ks h (evolving_here z) q e in omega (arith, b)

@@ -134,6 +134,6 @@ yes_stabilises_mail raises keeps fit P N k program net same h =
     record {
       one = y.one;
       reached = λ start last log s n run rounds d l.
-          let end = levels_of_mail keeps fit (level_by P N y.one) P N program net same y.raises y.begins y.steps k start last log s n run rounds in
+          let end = levels_of_mail keeps fit (level_by (unfolding_of P) N y.one) P N program net same y.raises y.begins y.steps k start last log s n run rounds in
           y.reached d (last.core.exports d) (end.exports d l);
     }

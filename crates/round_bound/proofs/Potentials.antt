@@ -5,9 +5,11 @@ use Rattle.fc_values.specs.Types.{LocalType, IntType, BoolType, PairType, ValueT
 use Rattle.fc_values.specs.BuiltinTypes.{inner}
 use Rattle.fc_nodes.specs.declared.nodes.Node.{Node}
 use Rattle.fc_nodes.specs.Sorts.{is_evolve_sort, is_let_sort}
-use Rattle.fc_nodes.specs.Terms.{Evolution, Uid, Term, Plain, Apply, Nbr, Evolve, If, Let, Sort, OfLeaf, OfApply, OfNbr, OfEvolve, OfIf, OfLet, View, view_at, term_to, term_at, HasNode, Laid}
+use Rattle.fc_nodes.specs.Terms.{Evolution, Uid, Term, Plain, Apply, Nbr, Evolve, If, Let, Sort, OfLeaf, OfApply, OfNbr, OfEvolve, OfIf, OfLet, View, view_at, term_to, term_at, HasNode, Laid, WellFormed}
+use Rattle.fc_nodes.specs.Parts.{part_at}
 use Rattle.fc_nodes.specs.Program.{Program, Unfolding, unfolding_of}
 use Rattle.fc_nodes.specs.Places.{StandsAt}
+use Rattle.fc_nodes.proofs.Parts.{part_is}
 use Rattle.fc_nodes.proofs.Places.{laid_within}
 use Rattle.interval_facts.specs.Ranges.{RangeValue, IntRange, BoolRange, full, range_of, AreRangesOf}
 use Rattle.growth_facts.specs.Leads.{least_integer, greatest_integer}
@@ -21,13 +23,16 @@ past_term : (ns : List Node) (q : ℕ) → length ns ≤ q → term_at ns q ≡ 
 unfolding term_at term_to
 past_term ns q l = let e : length ns - q ≡ 0 = omega (arith, l) in rw e refl
 
--- past the nodes
-pub past_range : (P : Program) (q : ℕ) → length P.nodes ≤ q → variable_range (unfolding_of P) q ≡ IntRange 0 P.declared.ceiling
-past_range P q l = ap (bound_range P.declared.ceiling (range_of (unfolding_of P)) q) (past_term P.nodes q l)
+range_is : (P : Program) → WellFormed P.nodes → (q : ℕ) → variable_range (unfolding_of P) q ≡ bound_range P.declared.ceiling (range_of (unfolding_of P)) q (term_at P.nodes q)
+range_is P formed q = ap (bound_range P.declared.ceiling (range_of (unfolding_of P)) q) (part_is P.nodes formed q)
 
-module _ (P : Program) (q : ℕ) (st : StandsAt P.nodes q) (s : Sort) (t : ValueType) (ks : List ℕ) (h : HasNode P.nodes q s t ks) where
+-- past the nodes
+pub past_range : (P : Program) → WellFormed P.nodes → (q : ℕ) → length P.nodes ≤ q → variable_range (unfolding_of P) q ≡ IntRange 0 P.declared.ceiling
+past_range P formed q l = range_is P formed q ∙ ap (bound_range P.declared.ceiling (range_of (unfolding_of P)) q) (past_term P.nodes q l)
+
+module _ (P : Program) (formed : WellFormed P.nodes) (q : ℕ) (st : StandsAt P.nodes q) (s : Sort) (t : ValueType) (ks : List ℕ) (h : HasNode P.nodes q s t ks) where
   pub let_range : is_let_sort s ≡ true → variable_range (unfolding_of P) q ≡ range_of (unfolding_of P) (suc q)
-  let_range z = by_term (term_at P.nodes q) st.laid
+  let_range z = range_is P formed q ∙ by_term (term_at P.nodes q) st.laid
     where
       by_term : (u : Term) → Laid P.nodes q u → bound_range P.declared.ceiling (range_of (unfolding_of P)) q u ≡ range_of (unfolding_of P) (suc q)
       by_term (Plain u v) l = let f : s ≡ OfLeaf v = cc in let g = ap is_let_sort f in absurd cc
@@ -49,7 +54,7 @@ module _ (P : Program) (q : ℕ) (st : StandsAt P.nodes q) (s : Sort) (t : Value
       by_term (Let u a b) l = laid_within P.nodes (suc q) a l.1
 
   pub evolve_range : is_evolve_sort s ≡ true → variable_range (unfolding_of P) q ≡ full P.declared.ceiling (inner t)
-  evolve_range z = by_term (term_at P.nodes q) st.laid
+  evolve_range z = range_is P formed q ∙ by_term (term_at P.nodes q) st.laid
     where
       by_term : (u : Term) → Laid P.nodes q u → bound_range P.declared.ceiling (range_of (unfolding_of P)) q u ≡ full P.declared.ceiling (inner t)
       by_term (Plain u v) l = let f : s ≡ OfLeaf v = cc in let g = ap is_evolve_sort f in absurd cc
@@ -60,7 +65,7 @@ module _ (P : Program) (q : ℕ) (st : StandsAt P.nodes q) (s : Sort) (t : Value
       by_term (Let u a b) l = let l0 = l.0 in let f : s ≡ OfLet = cc in let g = ap is_evolve_sort f in absurd cc
 
   pub other_range : is_let_sort s ≡ false → is_evolve_sort s ≡ false → variable_range (unfolding_of P) q ≡ IntRange 0 P.declared.ceiling
-  other_range z w = by_term (term_at P.nodes q) st.laid
+  other_range z w = range_is P formed q ∙ by_term (term_at P.nodes q) st.laid
     where
       by_term : (u : Term) → Laid P.nodes q u → bound_range P.declared.ceiling (range_of (unfolding_of P)) q u ≡ IntRange 0 P.declared.ceiling
       by_term (Plain u v) l = refl
@@ -89,10 +94,16 @@ pub range_behind : (U : Unfolding) (rs : List RangeValue) → AreRangesOf U rs �
 range_behind U rs h q r e = let k : q + 1 ≡ suc q = omega arith in e ∙ ap (λ i. get_or rs i BoolRange) k ∙ ap (λ xs. get_or xs (suc q) BoolRange) h
 
 -- what a `rep` or `share` adds
-module _ (P : Program) (n p : ℕ) (st : StandsAt P.nodes p) (evolving : IsEvolving P.nodes p) where
+module _ (P : Program) (formed : WellFormed P.nodes) (n p : ℕ) (st : StandsAt P.nodes p) (evolving : IsEvolving P.nodes p) where
   pub added_is : stages_of (unfolding_of P) n p ≡ added_by n (variable_range (unfolding_of P)) (evolution_at P.nodes p) (pattern_at (unfolding_of P) p)
-  added_is = by_term (term_at P.nodes p) st.laid
+  added_is =
+      ap (added_at P.declared.ceiling (range_of (unfolding_of P)) (variable_range (unfolding_of P)) n p) here
+      ∙ by_term (term_at P.nodes p) st.laid
+      ∙ ap (λ u. added_by n (variable_range (unfolding_of P)) (evolution_at P.nodes p) (pattern_of P.declared.ceiling (range_of (unfolding_of P)) p u)) (sym here)
     where
+      here : part_at p (term_at P.nodes 0) ≡ term_at P.nodes p
+      here = part_is P.nodes formed p
+
       no_view : {A : Type 0} (v : View) → view_at P.nodes p ≡ Some v → (IsEvolveView (Some v) → ⊥) → A
       no_view v e f = absurd (f (subst IsEvolveView e evolving))
 

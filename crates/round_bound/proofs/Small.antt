@@ -11,6 +11,7 @@ use Rattle.fc_values.specs.BuiltinTypes.{inner}
 use Rattle.fc_nodes.specs.declared.verdicts.Reason.{Reason}
 use Rattle.fc_nodes.specs.declared.verdicts.Reason.TheVariants as reason
 use Rattle.fc_nodes.specs.Terms.{Evolution, ByRep, ByShare, Term, Terms, Plain, Apply, Nbr, Evolve, If, Let, NoMore, More, size, type_of, term_at}
+use Rattle.fc_nodes.specs.Parts.{part_at}
 use Rattle.fc_nodes.specs.Program.{Program, IsProgram, unfolding_of}
 use Rattle.interval_facts.specs.Ranges.{RangeValue, IntRange, BoolRange, PairRange, range_of}
 use Rattle.fc_nodes.specs.Variables.{occurs, is_heard}
@@ -272,10 +273,10 @@ bound_few m R few q (If t c a b) = (omega arith, omega arith)
 bound_few m R few q (Let t a b) = few (suc q)
 
 pub variable_few : (P : Program) → IsProgram P → (q : ℕ) → Few P.declared.ceiling (variable_range (unfolding_of P) q)
-variable_few P h q = bound_few P.declared.ceiling (range_of (unfolding_of P)) (range_few P h) q (term_at P.nodes q)
+variable_few P h q = bound_few P.declared.ceiling (range_of (unfolding_of P)) (range_few P h) q (part_at q (term_at P.nodes 0))
 
 pub stages_few : (P : Program) → IsProgram P → (n p : ℕ) → stages_of (unfolding_of P) n p ≤ most_added
-stages_few P h n p = added_few P.declared.ceiling h.lawful.most n (variable_range (unfolding_of P)) (variable_few P h) (range_of (unfolding_of P)) (range_few P h) p (term_at P.nodes p)
+stages_few P h n p = added_few P.declared.ceiling h.lawful.most n (variable_range (unfolding_of P)) (variable_few P h) (range_of (unfolding_of P)) (range_few P h) p (part_at p (term_at P.nodes 0))
 
 pub pattern_at_few : (P : Program) → IsProgram P → (p : ℕ) → ResultFew P.declared.ceiling (pattern_at (unfolding_of P) p)
-pattern_at_few P h p = pattern_few P.declared.ceiling (range_of (unfolding_of P)) (range_few P h) p (term_at P.nodes p)
+pattern_at_few P h p = pattern_few P.declared.ceiling (range_of (unfolding_of P)) (range_few P h) p (part_at p (term_at P.nodes 0))

@@ -70,7 +70,8 @@ fn each_stage(is_share: bool, stages: u64) -> u64
 fn ranks(context: &Context<'_>, potential: u32) -> u64
     requires ranges { AreRangesOf (unfolding_of context.now.program.now) context.now.ranges.now }
     requires devices { 1 ≤ context.now.devices }
-    ensures value { result ≡ ranks_of context.now.devices (variable_range (unfolding_of context.now.program.now) potential) }
+    ensures value { result ≡ ranks_of context.now.devices
+        (variable_range (unfolding_of context.now.program.now) potential) }
     ensures program { IsProgram context.now.program.now }
 {
     let (least, greatest) = potential_ends(context, potential);

@@ -91,8 +91,8 @@ impl<'a> Analysis<'a> {
         }
     }
 
-    /// The verdict for so many devices: yes, with the level of `main`, where each `rep` and `share` outside first values
-    /// has a pattern; else no, with the first place that has none, and its reason.
+    /// The verdict for so many devices: yes, with the level of `main`, where each `rep` and `share` outside first
+    /// values has a pattern; else no, with the first place that has none, and its reason.
     pub fn verdict(&self, alloc: Global, devices: u32) -> Result<Verdict, Memory>
         requires { 1 ≤ devices }
         ensures verdict { IfOk result (λ v. v ≡ verdict_of (unfolding_of self.now) devices) }
@@ -111,7 +111,8 @@ impl<'a> Analysis<'a> {
         requires { 1 ≤ devices }
         ensures verdict { IfOk result (λ r. r.0 ≡ verdict_of (unfolding_of self.now) devices) }
         ensures few { IfOk result (λ r. (k : ℕ) → r.0 ≡ verdict.Yes k → k < 2 ^ 33) }
-        ensures levels { IfOk result (λ r. (k : ℕ) → r.0 ≡ verdict.Yes k → r.1.items ≡ levels_of (unfolding_of self.now) devices) }
+        ensures levels { IfOk result (λ r. (k : ℕ) → r.0 ≡ verdict.Yes k
+            → r.1.items ≡ levels_of (unfolding_of self.now) devices) }
         ensures each { IfOk result (λ r. (k place level : ℕ) → r.0 ≡ verdict.Yes k
             → get_or r.1.items place None ≡ Some level → level < 2 ^ 33) }
     {

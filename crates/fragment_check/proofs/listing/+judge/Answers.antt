@@ -1,13 +1,24 @@
 use Rattle.std.proofs.Common.{◌∙◌, [], ◌∷◌, sym, ap, subst, arith}
 use Rattle.std.proofs.lemmas.Result.{err_from_is_err_and}
+use Rattle.fc_nodes.specs.Program.{unfolding_of}
 use Rattle.fragment_check.specs.Facts.{InRow}
 use Rattle.fragment_check.specs.Verdicts.{pattern_at}
 use Rattle.fragment_check.specs.Listing.{judged_at, judged_at_all}
 use Rattle.fragment_check.proofs.Steps.{kids_row, first_later}
-use Rattle.fragment_check.proofs.Evolving.{body_stands}
-use Rattle.fragment_check.proofs.Judgements.{found_both, refuses_first, refused_second, refused_same, found_same, one_finds, kids_judged, evolving_here, evolving_judged, body_later}
+use Rattle.fragment_check.proofs.Evolving.{some_body, body_stands}
+use Rattle.fragment_check.proofs.Judgements.{found_both, refuses_first, refused_second, refused_same, found_same, one_finds, kids_judged, evolving_here, evolving_judged, evolving_refused, body_later}
 use Rattle.fragment_check.proofs.listing.+judge.Goals as goal
-use Rattle.fc_nodes.specs.Program.{unfolding_of}
+
+pub judge-returns-in-Err-clause-refused : goal.judge-returns-in-Err-clause-refused
+judge-returns-in-Err-clause-refused t c =
+    let z = sym c.is_evolving.ensures ∙ c.if-is_evolving.true in
+    evolving_refused c.args.program.now c.node-node.ensures.program.formed c.args.place c.requires.stands _ _ _ c.node-node.ensures.node z c.in-Err.reason (sym c.in-Err.ensures)
+
+pub judge-index-requires : goal.judge-index-requires
+judge-index-requires t c =
+    let z = sym c.is_evolving.ensures ∙ c.if-is_evolving.true in
+    let l = some_body c.args.program.now.nodes c.node-node.ensures.program.formed c.args.place _ _ _ c.node-node.ensures.node (evolving_here c.args.program.now c.node-node.ensures.program.formed c.args.place c.requires.stands _ _ _ c.node-node.ensures.node z) in
+    omega (arith, l)
 
 pub judge-judge-requires : goal.judge-judge-requires
 judge-judge-requires t c =

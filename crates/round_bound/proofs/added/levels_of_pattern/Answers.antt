@@ -1,10 +1,10 @@
 use Rattle.std.proofs.Common.{subst, arith}
 use Rattle.std.proofs.Math.Nat.{div-le_self}
+use Rattle.fc_nodes.specs.Program.{unfolding_of}
 use Rattle.fragment_check.specs.Verdicts.{variable_range}
 use Rattle.round_bound.specs.Walks.{PatternFew}
 use Rattle.round_bound.proofs.Small.{few_ranks, variable_few}
 use Rattle.round_bound.proofs.added.levels_of_pattern.Goals as goal
-use Rattle.fc_nodes.specs.Program.{unfolding_of}
 
 pub each_stage-requires : goal.each_stage-requires
 each_stage-requires c =

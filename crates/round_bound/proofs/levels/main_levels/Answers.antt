@@ -1,11 +1,11 @@
 use Rattle.std.proofs.Common.{◌≡◌, ◌∙◌, ◌++◌, ap, sym, subst, arith}
 use Rattle.fc_nodes.specs.Terms.{term_at}
+use Rattle.fc_nodes.specs.Program.{unfolding_of}
 use Rattle.fragment_check.specs.Levels.{level_of, node_levels}
 use Rattle.fragment_check.specs.Verdicts.{stages_of}
 use Rattle.round_bound.proofs.Small.{stages_few}
 use Rattle.round_bound.proofs.LevelBounds.{AllAtMost, level_few, node_levels_few, at_most_at}
 use Rattle.round_bound.proofs.levels.main_levels.Goals as goal
-use Rattle.fc_nodes.specs.Program.{unfolding_of}
 
 pub returns-clause-few : goal.returns-clause-few
 returns-clause-few c =
