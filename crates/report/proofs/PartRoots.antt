@@ -4,7 +4,6 @@ use Rattle.fc_values.specs.Types.{type_of as type_of_value}
 use Rattle.fc_nodes.specs.declared.nodes.Node.{Node}
 use Rattle.fc_nodes.specs.Terms.{Term, Plain, Apply, Nbr, Evolve, If, Let, type_of, sort_of, view_of, view_at, term_at, Laid}
 use Rattle.fc_nodes.specs.Parts.{part_at}
-use Rattle.fc_nodes.specs.Places.{StandsAt}
 use Rattle.fc_nodes.specs.Program.{IsProgram, Program, unfolding_of}
 use Rattle.fc_nodes.proofs.Parts.{part_is}
 use Rattle.fc_nodes.proofs.Standing.{each_stands}
