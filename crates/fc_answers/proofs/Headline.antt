@@ -4,10 +4,9 @@ use Rattle.std.specs.Prelude.{nat_lt}
 use Rattle.fc_nodes.specs.Program.{Program, Unfolding, IsProgram, unfolding_of}
 use Rattle.fc_nodes.specs.declared.verdicts.Verdict.{Verdict}
 use Rattle.fc_nodes.specs.declared.verdicts.Verdict.TheVariants as verdict
+use Rattle.topology.specs.Networks.{Lives, Network}
 use Rattle.fragment_check.specs.Verdicts.{levels_of, verdict_of}
 use Rattle.converge_laws.specs.Verdicts.{YesStabilises}
-use Rattle.net_json.specs.FittingScenes.{AcceptedScenesFit}
-use Rattle.net_json.specs.Scenes.{SceneValue}
 use Rattle.command_words.specs.declared.commands.Command.{Command}
 use Rattle.command_words.specs.declared.commands.Command.TheVariants as command
 use Rattle.command_words.specs.declared.commands.Quiet.{Quiet}
@@ -23,19 +22,21 @@ use Rattle.command_words.specs.declared.commands.Limit.TheVariants.{Workers, Dev
 use Rattle.command_words.specs.Commands.{limit_of}
 use Rattle.fc_inputs.specs.declared.refusal.Refusal.TheVariants.{Bytes}
 use Rattle.fc_inputs.specs.Causes.{Cause, Plainly, Judged, Accepted, Refused, AndThen, reply_to, judged_map}
-use Rattle.fc_inputs.specs.Inputs.{InputOf, ReadsInput}
+use Rattle.fc_inputs.specs.Inputs.{InputOf, ReadsInput, TextsUnfold}
 use Rattle.fc_inputs.specs.Refusals.{Reply}
 use Rattle.fc_inputs.specs.Sections.{sections_of, other_number, WithTwo, WithThree}
 use Rattle.fc_values.specs.declared.limits.TheConstants.{MOST_BYTES}
 use Rattle.fc_check.specs.Checks.{Checks, ChecksScene, facts_behind, verdict_status}
 use Rattle.fc_settle.specs.Settles.{Settles, SettlesScene, StartsFrom, settling_of}
 use Rattle.settle_rounds.specs.Rounds.{any_table}
-use Rattle.settle_rounds.specs.SettleTimes.{SettleTimesHold}
-use Rattle.settle_rounds.specs.StartTimes.{StartTimesHold}
+use Rattle.settle_rounds.specs.SettleTimes.{SettlesWell, SettleTimesHold}
+use Rattle.settle_rounds.specs.StartTimes.{SettlesFrom, StartTimesHold}
 use Rattle.firing_core.specs.Cores.{IsGood}
 use Rattle.fc_replay.specs.Laws.{InputsStart}
 use Rattle.fc_replay.specs.Replays.{start_of}
 use Rattle.interval_facts.specs.Ranges.{ranges_of}
+use Rattle.interval_facts.specs.Solutions.{SolvesMain}
+use Rattle.fc_values.specs.Types.{LocalValue}
 use Rattle.report.specs.Facts.{facts_text}
 use Rattle.report.specs.Texts.{field_text}
 use Rattle.report.specs.Verdicts.{verdict_text}
@@ -53,11 +54,11 @@ use Rattle.fc_answers.specs.Headline.{AnswersKeep, CheckPromises, ChecksYes, Has
 use Rattle.fc_answers.specs.Headline.{OfThree, OfTwo, WorkIsKept, WorkPromises}
 use Rattle.fc_answers.specs.Headline.{Promises, RunsKept, SettlesKept, SolvesYes, StartKept, TracesYes, stable_entries}
 use Rattle.stable_field.proofs.OneField.{one_field}
-use Rattle.fc_trace.proofs.Scenes.{scene_fits}
 use Rattle.fc_trace.specs.Traces.{TracedBy, Traces, TracesScene}
+use Rattle.walks.specs.Walks.{CostsValue}
 use Rattle.walk_form.specs.Costs.{AreCostsOf}
 use Rattle.walk_form.specs.Forms.{WalkTerms, walk_terms}
-use Rattle.walk_form.specs.Laws.{SolutionsAreLeast}
+use Rattle.walk_form.specs.Laws.{IsLeastAt, SolutionsAreLeast}
 use Rattle.fc_answers.proofs.Statuses.{CauseJudges, IfRefused, RefusesBy, driven_replies, input_causes, mail_replies}
 use Rattle.fc_answers.proofs.Statuses.{run_causes}
 
@@ -75,36 +76,45 @@ refused_keeps : (P : List ℕ → List ℕ → List ℕ → Type 0) (program net
     → Keeps P program network r
 refused_keeps P program network r h zero = let many = h.many in absurd (omega (arith, many, zero))
 
-module _ (law : YesStabilises) (fit : AcceptedScenesFit) (program network : List ℕ) where
-  -- a yes on what was read
-  abbrev has_yes : (U : Unfolding) (s : SceneValue) (P : Program) → ReadsInput program network (Accepted (U, s)) → IsProgram P
-      → unfolding_of P ≡ U → (k : ℕ) → verdict_of (unfolding_of P) (length s.net.devices) ≡ verdict.Yes k → HasYes program network
-  has_yes U s P reads is unfolded k said =
-      let fits = scene_fits fit program network (U, s) reads in
-      let declared : s.net.declared ≡ P.declared = fits.declared ∙ ap (λ (V : Unfolding). V.declared) (sym unfolded) in
-      record {
-        nodes = P;
-        is_program = is;
-        scene = s;
-        reads = subst (λ (V : Unfolding). ReadsInput program network (Accepted (V, s))) (sym unfolded) reads;
-        rounds = k;
-        yes = said;
-        stabilises = law P s.net k is fits.net declared said;
-      }
+-- ---- a program and a scene that are read
+module _ (law : YesStabilises) (unfolds : TextsUnfold) (start : InputsStart) (program network : List ℕ) (i : InputOf)
+    (reads : ReadsInput program network (Accepted i)) where
+  -- what holds of programs of nodes and their good starts holds here
+  at_program : (Q : Unfolding → Type 0)
+      → ((P : Program) → IsProgram P → IsGood (unfolding_of P) (start_of i.1) → Q (unfolding_of P)) → Q i.0
+  at_program Q f =
+      let p = unfolds program network i reads in
+      subst (λ (U : Unfolding). IsGood U (start_of i.1) → Q U) p.2 (f p.0 p.1) (start program network i reads).good
 
-  check_by : (facts : Bool) (U : Unfolding) (s : SceneValue) (k : Judged Reply) (e : ChecksScene facts U s k)
-      → ReadsInput program network (Accepted (U, s)) → (v : Verdict)
-      → verdict_of (unfolding_of e.nodes) (length s.net.devices) ≡ v → Keeps ChecksYes program network (reply_of k)
-  check_by facts U s k e reads (verdict.Yes rounds) said zero = record {
-    yes = has_yes U s e.nodes reads e.is_program e.unfolded rounds said;
-    facts = facts_behind facts (verdict_of (unfolding_of e.nodes) (length s.net.devices))
-        (facts_text e.nodes (ranges_of (unfolding_of e.nodes)) (levels_of (unfolding_of e.nodes) (length s.net.devices)));
-    writes = ap (λ j. (reply_of j).text) e.checked
-        ∙ ap (λ v. verdict_text v ++ facts_behind facts (verdict_of (unfolding_of e.nodes) (length s.net.devices))
-        (facts_text e.nodes (ranges_of (unfolding_of e.nodes)) (levels_of (unfolding_of e.nodes) (length s.net.devices)))) said;
+  -- a yes is kept
+  yes_kept : KeepsYes i.0 i.1.net
+  yes_kept =
+      at_program (λ U. KeepsYes U i.1.net) (λ P is good k said. law P i.1.net k is good.net good.declared said)
+
+  abbrev has_yes : (k : ℕ) → verdict_of i.0 (length i.1.net.devices) ≡ verdict.Yes k → HasYes program network
+  has_yes k said = record {
+    unfolded = i.0;
+    scene = i.1;
+    reads = reads;
+    rounds = k;
+    yes = said;
+    stabilises = yes_kept k said;
   }
-  check_by facts U s k e reads (verdict.No place why) said zero =
-      let one : 0 ≡ 1 = sym zero ∙ ap (λ j. (reply_of j).status) e.checked ∙ ap verdict_status said in
+
+module _ (law : YesStabilises) (unfolds : TextsUnfold) (start : InputsStart) (program network : List ℕ) where
+  check_by : (facts : Bool) (i : InputOf) (k : Judged Reply) → ChecksScene facts i.0 i.1 k
+      → ReadsInput program network (Accepted i) → (v : Verdict)
+      → verdict_of i.0 (length i.1.net.devices) ≡ v → Keeps ChecksYes program network (reply_of k)
+  check_by facts i k e reads (verdict.Yes rounds) said zero =
+      let n = length i.1.net.devices in
+      let behind = facts_behind facts (verdict_of i.0 n) (facts_text i.0 (ranges_of i.0) (levels_of i.0 n)) in
+      record {
+        yes = has_yes law unfolds start program network i reads rounds said;
+        facts = behind;
+        writes = ap (λ j. (reply_of j).text) e ∙ ap (λ v. verdict_text v ++ behind) said;
+      }
+  check_by facts i k e reads (verdict.No place why) said zero =
+      let one : 0 ≡ 1 = sym zero ∙ ap (λ j. (reply_of j).status) e ∙ ap verdict_status said in
       absurd (cc one)
 
   check_keeps : (facts : Bool) (k : Judged Reply) → Checks facts program network k
@@ -113,26 +123,25 @@ module _ (law : YesStabilises) (fit : AcceptedScenesFit) (program network : List
     where
       by_input : (i : Judged InputOf) → ReadsInput program network i → IfRefused CauseJudges i
           → AndThen i (λ i k. ChecksScene facts i.0 i.1 k) k → Keeps ChecksYes program network (reply_of k)
-      by_input (Accepted i) r c e =
-          check_by facts i.0 i.1 k e r (verdict_of (unfolding_of e.nodes) (length i.1.net.devices)) refl
+      by_input (Accepted i) r c e = check_by facts i k e r (verdict_of i.0 (length i.1.net.devices)) refl
       by_input (Refused cause) r c e =
           subst (λ j. Keeps ChecksYes program network (reply_of j)) (sym e)
           (refused_keeps ChecksYes program network (reply_to cause) c)
 
-  stable_by : (U : Unfolding) (s : SceneValue) (k : Judged Reply) (e : StabilisesScene U s k)
-      → ReadsInput program network (Accepted (U, s)) → (v : Verdict)
-      → verdict_of (unfolding_of e.nodes) (length s.net.devices) ≡ v → StabilisedBy v e.nodes s.net e.reply
+  stable_by : (i : InputOf) (k : Judged Reply) (e : StabilisesScene i.0 i.1 k)
+      → ReadsInput program network (Accepted i) → (v : Verdict)
+      → verdict_of i.0 (length i.1.net.devices) ≡ v → StabilisedBy v i.0 i.1.net e.reply
       → Keeps SolvesYes program network (reply_of k)
-  stable_by U s k e reads (verdict.Yes rounds) said w zero =
-      let y = has_yes U s e.nodes reads e.is_program e.unfolded rounds said in
+  stable_by i k e reads (verdict.Yes rounds) said w zero =
+      let y = has_yes law unfolds start program network i reads rounds said in
       let same : w.field ≡ stable_entries program network y =
-      one_field (unfolding_of e.nodes) s.net w.field (stable_entries program network y) w.stable
+      one_field i.0 i.1.net w.field (stable_entries program network y) w.stable
       (record { one = y.stabilises.one; values = refl }) in
       record {
         yes = y;
         writes = ap (λ j. (reply_of j).text) e.is ∙ ap (λ (r : Reply). r.text) w.is ∙ ap field_text same;
       }
-  stable_by U s k e reads (verdict.No place why) said w zero =
+  stable_by i k e reads (verdict.No place why) said w zero =
       let one : 0 ≡ 1 =
       sym zero ∙ ap (λ j. (reply_of j).status) e.is ∙ ap (λ (r : Reply). r.status) w ∙ ap verdict_status said in
       absurd (cc one)
@@ -142,13 +151,19 @@ module _ (law : YesStabilises) (fit : AcceptedScenesFit) (program network : List
     where
       by_input : (i : Judged InputOf) → ReadsInput program network i → IfRefused CauseJudges i
           → AndThen i (λ i k. StabilisesScene i.0 i.1 k) k → Keeps SolvesYes program network (reply_of k)
-      by_input (Accepted i) r c e =
-          stable_by i.0 i.1 k e r (verdict_of (unfolding_of e.nodes) (length i.1.net.devices)) refl e.writes
+      by_input (Accepted i) r c e = stable_by i k e r (verdict_of i.0 (length i.1.net.devices)) refl e.writes
       by_input (Refused cause) r c e =
           subst (λ j. Keeps SolvesYes program network (reply_of j)) (sym e)
           (refused_keeps SolvesYes program network (reply_to cause) c)
 
-module _ (law : YesStabilises) (fit : AcceptedScenesFit) (least : SolutionsAreLeast) (program network : List ℕ) where
+module _ (law : YesStabilises) (unfolds : TextsUnfold) (start : InputsStart) (least : SolutionsAreLeast)
+    (program network : List ℕ) where
+  -- where the verdict is a yes, and these are the costs, a solution has the least of them
+  abbrev IsLeast : Network → ℕ → CostsValue → (ℕ → LocalValue) → Unfolding → Type 0
+  IsLeast N k C F U =
+      verdict_of U (length N.devices) ≡ verdict.Yes k → AreCostsOf U N C → SolvesMain N U.main F
+      → (d : ℕ) → Lives N d → IsLeastAt C d (F d)
+
   -- a reply with status 1 is none of a yes
   one_keeps : (k : Judged Reply) (r : Reply) → k ≡ Accepted r → r.status ≡ 1
       → Keeps TracesYes program network (reply_of k)
@@ -156,31 +171,28 @@ module _ (law : YesStabilises) (fit : AcceptedScenesFit) (least : SolutionsAreLe
       let none : 0 ≡ 1 = sym zero ∙ ap (λ j. (reply_of j).status) e ∙ one in
       absurd (cc none)
 
-  trace_by : (U : Unfolding) (s : SceneValue) (k : Judged Reply) (e : TracesScene U s k)
-      → ReadsInput program network (Accepted (U, s)) → (v : Verdict)
-      → verdict_of (unfolding_of e.nodes) (length s.net.devices) ≡ v → (o : Option WalkTerms) → walk_terms U ≡ o
-      → TracedBy v o U s.net e.reply → Keeps TracesYes program network (reply_of k)
-  trace_by U s k e reads (verdict.Yes rounds) said (Some w) form h zero =
-      let y = has_yes law fit program network U s e.nodes reads e.is_program e.unfolded rounds said in
-      let fits = scene_fits fit program network (U, s) reads in
-      let declared : s.net.declared ≡ e.nodes.declared =
-      fits.declared ∙ ap (λ (V : Unfolding). V.declared) (sym e.unfolded) in
-      let are : AreCostsOf (unfolding_of e.nodes) s.net h.costs =
-      subst (λ (V : Unfolding). AreCostsOf V s.net h.costs) (sym e.unfolded)
-      (record { terms = w; form = form; costs = h.are }) in
+  trace_by : (i : InputOf) (k : Judged Reply) (e : TracesScene i.0 i.1 k)
+      → ReadsInput program network (Accepted i) → (v : Verdict)
+      → verdict_of i.0 (length i.1.net.devices) ≡ v → (o : Option WalkTerms) → walk_terms i.0 ≡ o
+      → TracedBy v o i.0 i.1.net e.reply → Keeps TracesYes program network (reply_of k)
+  trace_by i k e reads (verdict.Yes rounds) said (Some w) form h zero =
+      let y = has_yes law unfolds start program network i reads rounds said in
+      let field : ℕ → LocalValue = y.stabilises.one.field in
+      let are : AreCostsOf i.0 i.1.net h.costs = record { terms = w; form = form; costs = h.are } in
       record {
         yes = y;
         costs = h.costs;
         are = are;
         claim = h.claim;
         traced = h.traced;
-        least = least e.nodes s.net rounds h.costs y.stabilises.one.field e.is_program fits.net declared said are
-            y.stabilises.one.solves;
+        least = at_program law unfolds start program network i reads (IsLeast i.1.net rounds h.costs field)
+            (λ P is good a b c. least P i.1.net rounds h.costs field is good.net good.declared a b c)
+            said are y.stabilises.one.solves;
         writes = ap (λ j. (reply_of j).text) e.is ∙ ap (λ (r : Reply). r.text) h.is;
       }
-  trace_by U s k e reads (verdict.Yes rounds) said None form h zero =
+  trace_by i k e reads (verdict.Yes rounds) said None form h zero =
       one_keeps k e.reply e.is (ap (λ (r : Reply). r.status) h) zero
-  trace_by U s k e reads (verdict.No place why) said o form h zero =
+  trace_by i k e reads (verdict.No place why) said o form h zero =
       one_keeps k e.reply e.is (ap (λ (r : Reply). r.status) h) zero
 
   trace_keeps : (k : Judged Reply) → Traces program network k → Keeps TracesYes program network (reply_of k)
@@ -189,7 +201,7 @@ module _ (law : YesStabilises) (fit : AcceptedScenesFit) (least : SolutionsAreLe
       by_input : (i : Judged InputOf) → ReadsInput program network i → IfRefused CauseJudges i
           → AndThen i (λ i k. TracesScene i.0 i.1 k) k → Keeps TracesYes program network (reply_of k)
       by_input (Accepted i) r c e =
-          trace_by i.0 i.1 k e r (verdict_of (unfolding_of e.nodes) (length i.1.net.devices)) refl (walk_terms i.0) refl e.writes
+          trace_by i k e r (verdict_of i.0 (length i.1.net.devices)) refl (walk_terms i.0) refl e.writes
       by_input (Refused cause) r c e =
           subst (λ j. Keeps TracesYes program network (reply_of j)) (sym e)
           (refused_keeps TracesYes program network (reply_to cause) c)
@@ -202,24 +214,8 @@ refused_settles k cause e c low =
     let same : (reply_of k).status ≡ (reply_to cause).status = ap (λ j. (reply_of j).status) e in
     absurd (omega (arith, many, low, same))
 
--- a program and a scene that were read: its start is good, and a yes is kept on its network
-record IsRead (program network : List ℕ) (P : Program) (s : SceneValue) : Type 0 where
-  pub reads : ReadsInput program network (Accepted (unfolding_of P, s))
-  pub good : IsGood (unfolding_of P) (start_of s)
-  pub yes : KeepsYes P s.net
-
-module _ (law : YesStabilises) (start : InputsStart) (program network : List ℕ) (facts : Bool) where
-  is_read : (i : InputOf) (P : Program) → ReadsInput program network (Accepted i) → IsProgram P
-      → unfolding_of P ≡ i.0 → IsRead program network P i.1
-  is_read i P reads is unfolded =
-      let good : IsGood (unfolding_of P) (start_of i.1) =
-      subst (λ (V : Unfolding). IsGood V (start_of i.1)) (sym unfolded) (start program network i reads).good in
-      record {
-        reads = subst (λ (V : Unfolding). ReadsInput program network (Accepted (V, i.1))) (sym unfolded) reads;
-        good = good;
-        yes = λ k said. law P i.1.net k is good.net good.declared said;
-      }
-
+module _ (law : YesStabilises) (unfolds : TextsUnfold) (start : InputsStart) (program network : List ℕ)
+    (facts : Bool) where
   -- from any exports
   settle_keeps : SettleTimesHold → (k : Judged Reply) → Settles facts Any program network k
       → (reply_of k).status ≤ 1 → SettlesKept facts program network (reply_of k).status (reply_of k).text
@@ -229,17 +225,15 @@ module _ (law : YesStabilises) (start : InputsStart) (program network : List ℕ
           → AndThen i (λ i k. SettlesScene facts Any i.0 i.1 k) k
           → SettlesKept facts program network (reply_of k).status (reply_of k).text
       by_input (Accepted i) r c e =
-          let read = is_read i e.nodes r e.is_program e.unfolded in
-          let table : e.table ≡ any_table (unfolding_of e.nodes) = e.starts ∙ ap any_table (sym e.unfolded) in
-          let settled : k ≡ Accepted (settling_of facts e.nodes i.1.net (any_table (unfolding_of e.nodes))) =
-          e.settled ∙ ap (λ t. Accepted (settling_of facts e.nodes i.1.net t)) table in
+          let settled : k ≡ Accepted (settling_of facts i.0 i.1.net (any_table i.0)) =
+          e.settled ∙ ap (λ t. Accepted (settling_of facts i.0 i.1.net t)) e.starts in
           record {
-            nodes = e.nodes;
-            is_program = e.is_program;
+            unfolded = i.0;
             scene = i.1;
-            reads = read.reads;
-            yes = read.yes;
-            well = hold e.nodes i.1.net e.is_program read.good.net read.good.declared;
+            reads = r;
+            yes = yes_kept law unfolds start program network i r;
+            well = at_program law unfolds start program network i r (λ U. SettlesWell U i.1.net)
+                (λ P is good. hold P i.1.net is good.net good.declared);
             ends = ap (λ j. (reply_of j).status) settled;
             writes = ap (λ j. (reply_of j).text) settled;
           }
@@ -253,23 +247,20 @@ module _ (law : YesStabilises) (start : InputsStart) (program network : List ℕ
       by_input : (i : Judged InputOf) → ReadsInput program network i → IfRefused CauseJudges i
           → AndThen i (λ i k. SettlesScene facts Table i.0 i.1 k) k
           → StartKept facts program network (reply_of k).status (reply_of k).text
-      by_input (Accepted i) r c e =
-          let read = is_read i e.nodes r e.is_program e.unfolded in
-          let starts : StartsFrom Table (unfolding_of e.nodes) i.1 e.table =
-          subst (λ (V : Unfolding). StartsFrom Table V i.1 e.table) (sym e.unfolded) e.starts in
-          record {
-            nodes = e.nodes;
-            is_program = e.is_program;
-            scene = i.1;
-            reads = read.reads;
-            yes = read.yes;
-            table = e.table;
-            starts = starts;
-            from = hold e.nodes i.1.net e.is_program read.good.net read.good.declared (start_of i.1) read.good refl
-                e.table starts;
-            ends = ap (λ j. (reply_of j).status) e.settled;
-            writes = ap (λ j. (reply_of j).text) e.settled;
-          }
+      by_input (Accepted i) r c e = record {
+        unfolded = i.0;
+        scene = i.1;
+        reads = r;
+        yes = yes_kept law unfolds start program network i r;
+        table = e.table;
+        starts = e.starts;
+        from = at_program law unfolds start program network i r
+            (λ U. StartsFrom Table U i.1 e.table → SettlesFrom U i.1.net (start_of i.1) e.table)
+            (λ P is good starts. hold P i.1.net is good.net good.declared (start_of i.1) good refl e.table starts)
+            e.starts;
+        ends = ap (λ j. (reply_of j).status) e.settled;
+        writes = ap (λ j. (reply_of j).text) e.settled;
+      }
       by_input (Refused cause) r c e = refused_settles k cause e c low
 
 -- ---- answers
@@ -426,29 +417,29 @@ module _ (log : MailsKeepYes) (driven : DrivenMailsKeepYes) where
   mail_keeps (Some number) input j h zero =
       input_keeps (DrivesMail number) (DrivenMailKeepsYes number) (driven_keeps number) input j h zero
 
-module _ (law : YesStabilises) (fit : AcceptedScenesFit) (start : InputsStart) (hold : SettleTimesHold)
+module _ (law : YesStabilises) (unfolds : TextsUnfold) (start : InputsStart) (hold : SettleTimesHold)
     (hold_from : StartTimesHold) (least : SolutionsAreLeast) (run : RunsKeepYes) (agree : AllAgree)
     (log : MailsKeepYes) (driven : DrivenMailsKeepYes) where
   from_keeps : (facts : Bool) (o : Option Start) (input : List ℕ) (j : Judged AnswerValue)
       → OfInput (λ ss k. WithTwo (WritesReply (ChecksFrom facts o)) ss k) input j → IsChecked o (answer_of j).status
       → OfTwo (λ program network. CheckPromises facts o program network (answer_of j)) (sections_of input)
   from_keeps facts None input j h zero =
-      input_keeps (ChecksFrom facts None) ChecksYes (λ p n. check_keeps law fit p n facts) input j h zero
+      input_keeps (ChecksFrom facts None) ChecksYes (λ p n. check_keeps law unfolds start p n facts) input j h zero
   from_keeps facts (Some Any) input j h low =
       low_keeps (ChecksFrom facts (Some Any)) (SettlesKept facts) IsAtMostOne (λ n e. e)
-      (λ p n. settle_keeps law start p n facts hold) input j h low
+      (λ p n. settle_keeps law unfolds start p n facts hold) input j h low
   from_keeps facts (Some Table) input j h low =
       low_keeps (ChecksFrom facts (Some Table)) (StartKept facts) IsAtMostOne (λ n e. e)
-      (λ p n. start_keeps law start p n facts hold_from) input j h low
+      (λ p n. start_keeps law unfolds start p n facts hold_from) input j h low
 
   quiet_keeps : (quiet : Quiet) (input : List ℕ) (j : Judged AnswerValue)
       → OfInput (λ ss k. AnswersSections quiet ss k) input j → IsAnswered quiet (answer_of j).status
       → Promises quiet (sections_of input) (answer_of j)
   quiet_keeps (Check o) input j h low = from_keeps o.facts o.settle input j h low
-  quiet_keeps Stable input j h zero = input_keeps Stabilised SolvesYes (stable_keeps law fit) input j h zero
+  quiet_keeps Stable input j h zero = input_keeps Stabilised SolvesYes (stable_keeps law unfolds start) input j h zero
   quiet_keeps Format input j h zero = tt
   quiet_keeps (Replay o) input j h zero = tt
-  quiet_keeps Trace input j h zero = input_keeps Traces TracesYes (trace_keeps law fit least) input j h zero
+  quiet_keeps Trace input j h zero = input_keeps Traces TracesYes (trace_keeps law unfolds start least) input j h zero
   quiet_keeps (Mail o) input j h zero = mail_keeps log driven o.number input j h zero
 
   pub answers_keep : AnswersKeep

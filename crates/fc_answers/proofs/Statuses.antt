@@ -5,7 +5,7 @@ use Rattle.topology.specs.declared.types.NetFault.{NetFault}
 use Rattle.topology.specs.declared.types.NetFault.TheVariants as net
 use Rattle.net_json.specs.Judging as scene
 use Rattle.net_json.specs.Scenes.{SceneValue, scene_of}
-use Rattle.fc_nodes.specs.Program.{Unfolding, unfolding_of}
+use Rattle.fc_nodes.specs.Program.{Unfolding}
 use Rattle.firing_core.specs.Cores.{Core}
 use Rattle.fc_syntax.specs.Terms.{Declaration}
 use Rattle.edit_commands.specs.declared.types.Fault.{Fault}
@@ -27,7 +27,6 @@ use Rattle.fc_inputs.specs.declared.refusal.LineFault.{LineFault}
 use Rattle.fc_inputs.specs.declared.refusal.LineFault.TheVariants as line_fault
 use Rattle.fc_inputs.specs.declared.refusal.Refusal.{Refusal}
 use Rattle.fc_inputs.specs.declared.refusal.Refusal.TheVariants as refusal
-use Rattle.fc_nodes.specs.Program.{Program}
 use Rattle.fc_nodes.specs.declared.verdicts.Verdict.{Verdict}
 use Rattle.fc_nodes.specs.declared.verdicts.Verdict.TheVariants as verdict
 use Rattle.topology.specs.Networks.{Network}
@@ -238,13 +237,13 @@ check_replies facts program network j h = by_input h.judged (input_causes progra
     by_input : (i : Judged InputOf) → IfRefused CauseJudges i → AndThen i (λ i k. ChecksScene facts i.0 i.1 k) j
         → ReplyJudges j
     by_input (Accepted i) c e =
-        subst ReplyJudges (sym e.checked) (verdict_judges (verdict_of (unfolding_of e.nodes) (length i.1.net.devices)))
+        subst ReplyJudges (sym e) (verdict_judges (verdict_of i.0 (length i.1.net.devices)))
     by_input (Refused cause) c e = subst ReplyJudges (sym e) c
 
-stable_by : (v : Verdict) (P : Program) (N : Network) (r : Reply) → StabilisedBy v P N r → JudgesBy r.status
-stable_by (verdict.Yes rounds) P N r h = subst (λ (x : Reply). JudgesBy x.status) (sym h.is) by_zero
-stable_by (verdict.No place why) P N r h = subst (λ (x : Reply). JudgesBy x.status) (sym h)
-    (verdict_judges (verdict_of (unfolding_of P) (length N.devices)))
+stable_by : (v : Verdict) (U : Unfolding) (N : Network) (r : Reply) → StabilisedBy v U N r → JudgesBy r.status
+stable_by (verdict.Yes rounds) U N r h = subst (λ (x : Reply). JudgesBy x.status) (sym h.is) by_zero
+stable_by (verdict.No place why) U N r h = subst (λ (x : Reply). JudgesBy x.status) (sym h)
+    (verdict_judges (verdict_of U (length N.devices)))
 
 stable_replies : (program network : List ℕ) (j : Judged Reply) → Stabilised program network j → ReplyJudges j
 stable_replies program network j h = by_input h.judged (input_causes program network h.judged h.reads) h.ends
@@ -253,7 +252,7 @@ stable_replies program network j h = by_input h.judged (input_causes program net
         → ReplyJudges j
     by_input (Accepted i) c e =
         subst ReplyJudges (sym e.is)
-        (stable_by (verdict_of (unfolding_of e.nodes) (length i.1.net.devices)) e.nodes i.1.net e.reply e.writes)
+        (stable_by (verdict_of i.0 (length i.1.net.devices)) i.0 i.1.net e.reply e.writes)
     by_input (Refused cause) c e = subst ReplyJudges (sym e) c
 
 by_one : JudgesBy 1
@@ -271,7 +270,7 @@ trace_replies program network j h = by_input h.judged (input_causes program netw
         → ReplyJudges j
     by_input (Accepted i) c e =
         subst ReplyJudges (sym e.is)
-        (trace_by (verdict_of (unfolding_of e.nodes) (length i.1.net.devices)) (walk_terms i.0) i.0 i.1.net e.reply e.writes)
+        (trace_by (verdict_of i.0 (length i.1.net.devices)) (walk_terms i.0) i.0 i.1.net e.reply e.writes)
     by_input (Refused cause) c e = subst ReplyJudges (sym e) c
 
 time_judges : (o : Option ℕ) → JudgesBy (settle_status o)
@@ -285,7 +284,7 @@ settle_replies facts from program network j h =
   where
     by_input : (i : Judged InputOf) → IfRefused CauseJudges i
         → AndThen i (λ i k. SettlesScene facts from i.0 i.1 k) j → ReplyJudges j
-    by_input (Accepted i) c e = subst ReplyJudges (sym e.settled) (time_judges (time_of e.nodes i.1.net e.table))
+    by_input (Accepted i) c e = subst ReplyJudges (sym e.settled) (time_judges (time_of i.0 i.1.net e.table))
     by_input (Refused cause) c e = subst ReplyJudges (sym e) c
 
 mail_lines_judge : (U : Unfolding) (start : MailCore) (lines : Lines (Unit {0}) MailEntryValue) (j : Judged Reply) → MailsLines U start lines j
@@ -299,7 +298,7 @@ mail_replies program network log j h = by_input h.judged (input_causes program n
   where
     by_input : (i : Judged InputOf) → IfRefused CauseJudges i → AndThen i (λ i k. MailsScene i.0 i.1 log k) j
         → ReplyJudges j
-    by_input (Accepted i) c e = mail_lines_judge i.0 (quiet (start_of i.1)) (mail_log log) j e.ends
+    by_input (Accepted i) c e = mail_lines_judge i.0 (quiet (start_of i.1)) (mail_log log) j e
     by_input (Refused cause) c e = subst ReplyJudges (sym e) c
 
 drives_by : (number : ℕ) (v : Verdict) (U : Unfolding) (s : SceneValue) (j : Judged Reply) → DrivesBy number v U s j
@@ -317,7 +316,7 @@ driven_replies number program network j h = by_input h.judged (input_causes prog
   where
     by_input : (i : Judged InputOf) → IfRefused CauseJudges i → AndThen i (λ i k. DrivesScene number i.0 i.1 k) j
         → ReplyJudges j
-    by_input (Accepted i) c e = drives_by number (verdict_of (unfolding_of e.nodes) (length i.1.net.devices)) i.0 i.1 j e.drives
+    by_input (Accepted i) c e = drives_by number (verdict_of i.0 (length i.1.net.devices)) i.0 i.1 j e
     by_input (Refused cause) c e = subst ReplyJudges (sym e) c
 
 replied_judges : (i : Judged Reply) → ReplyJudges i → (j : Judged AnswerValue) → j ≡ judged_map replied i → JudgesWell j

@@ -3,7 +3,7 @@
 use Rattle.std.specs.Prelude.{ℕ, Bool, ◌≡◌, ◌≤◌}
 use Rattle.std.specs.Prelude.{◌++◌, List, [], ◌∷◌, length, map, Option, Some, None}
 use Rattle.fc_values.specs.Fields.{Entries}
-use Rattle.fc_nodes.specs.Program.{IsProgram, Program, unfolding_of}
+use Rattle.fc_nodes.specs.Program.{Unfolding}
 use Rattle.fc_nodes.specs.declared.verdicts.Verdict.TheVariants as verdict
 use Rattle.topology.specs.Networks.{Network, Lives, numbers}
 use Rattle.walks.specs.Walks.{AreTraced, CostsValue, EvidenceValue}
@@ -46,13 +46,12 @@ use Rattle.fc_answers.specs.Answers.{AnswerValue, Answers, running}
 -- program on the scene's network, and from every good core each log without an edit that has so many rounds leads to
 -- its values.
 pub record HasYes (program network : List ℕ) : Type 0 where
-  pub nodes : Program
-  pub is_program : IsProgram nodes
+  pub unfolded : Unfolding
   pub scene : SceneValue
-  pub reads : ReadsInput program network (Accepted (unfolding_of nodes, scene))
+  pub reads : ReadsInput program network (Accepted (unfolded, scene))
   pub rounds : ℕ
-  pub yes : verdict_of (unfolding_of nodes) (length scene.net.devices) ≡ verdict.Yes rounds
-  pub stabilises : Stabilises (unfolding_of nodes) scene.net rounds
+  pub yes : verdict_of unfolded (length scene.net.devices) ≡ verdict.Yes rounds
+  pub stabilises : Stabilises unfolded scene.net rounds
 
 -- the values of the one field at all devices, rising
 abbrev pub stable_entries : (program network : List ℕ) → HasYes program network → Entries
@@ -65,38 +64,36 @@ pub record ChecksYes (program network text : List ℕ) : Type 0 where
   pub writes : text ≡ verdict_text (verdict.Yes yes.rounds) ++ facts
 
 -- a yes for the devices of a network is kept there: within its rounds the program stabilises
-abbrev pub KeepsYes : Program → Network → Type 0
-KeepsYes P N = (K : ℕ) → verdict_of (unfolding_of P) (length N.devices) ≡ verdict.Yes K → Stabilises (unfolding_of P) N K
+abbrev pub KeepsYes : Unfolding → Network → Type 0
+KeepsYes U N = (K : ℕ) → verdict_of U (length N.devices) ≡ verdict.Yes K → Stabilises U N K
 
 -- `check --settle` writes behind the text of the verdict the settle time of the scene's network, and for each device
 -- its settle round and its value then; or that the network is open, with the same lines. These rounds and this time are
 -- as good as they say: they lead from every good core to these values
 pub record SettlesKept (facts : Bool) (program network : List ℕ) (status : ℕ) (text : List ℕ) : Type 0 where
-  pub nodes : Program
-  pub is_program : IsProgram nodes
+  pub unfolded : Unfolding
   pub scene : SceneValue
-  pub reads : ReadsInput program network (Accepted (unfolding_of nodes, scene))
-  pub yes : KeepsYes nodes scene.net
-  pub well : SettlesWell nodes scene.net
-  pub ends : status ≡ settle_status (time_of nodes scene.net (any_table (unfolding_of nodes)))
-  pub writes : text ≡ (checked_of facts nodes (length scene.net.devices)).text
-      ++ settling_text (time_of nodes scene.net (any_table (unfolding_of nodes)))
-      (settled_devices nodes scene.net (any_table (unfolding_of nodes)))
+  pub reads : ReadsInput program network (Accepted (unfolded, scene))
+  pub yes : KeepsYes unfolded scene.net
+  pub well : SettlesWell unfolded scene.net
+  pub ends : status ≡ settle_status (time_of unfolded scene.net (any_table unfolded))
+  pub writes : text ≡ (checked_of facts unfolded (length scene.net.devices)).text
+      ++ settling_text (time_of unfolded scene.net (any_table unfolded))
+      (settled_devices unfolded scene.net (any_table unfolded))
 
 -- `check --settle --from-table` writes the same where rounds are counted from the start of the scene, its table and its
 -- copies in flight: they lead from there to these values
 pub record StartKept (facts : Bool) (program network : List ℕ) (status : ℕ) (text : List ℕ) : Type 0 where
-  pub nodes : Program
-  pub is_program : IsProgram nodes
+  pub unfolded : Unfolding
   pub scene : SceneValue
-  pub reads : ReadsInput program network (Accepted (unfolding_of nodes, scene))
-  pub yes : KeepsYes nodes scene.net
+  pub reads : ReadsInput program network (Accepted (unfolded, scene))
+  pub yes : KeepsYes unfolded scene.net
   pub table : BoundTable
-  pub starts : StartTable (unfolding_of nodes) scene.net (growing_cap (length scene.net.devices)) (start_of scene) table
-  pub from : SettlesFrom nodes scene.net (start_of scene) table
-  pub ends : status ≡ settle_status (time_of nodes scene.net table)
-  pub writes : text ≡ (checked_of facts nodes (length scene.net.devices)).text
-      ++ settling_text (time_of nodes scene.net table) (settled_devices nodes scene.net table)
+  pub starts : StartTable unfolded scene.net (growing_cap (length scene.net.devices)) (start_of scene) table
+  pub from : SettlesFrom unfolded scene.net (start_of scene) table
+  pub ends : status ≡ settle_status (time_of unfolded scene.net table)
+  pub writes : text ≡ (checked_of facts unfolded (length scene.net.devices)).text
+      ++ settling_text (time_of unfolded scene.net table) (settled_devices unfolded scene.net table)
 
 -- `stable` writes the one field
 pub record SolvesYes (program network text : List ℕ) : Type 0 where
@@ -108,7 +105,7 @@ pub record SolvesYes (program network text : List ℕ) : Type 0 where
 pub record TracesYes (program network text : List ℕ) : Type 0 where
   pub yes : HasYes program network
   pub costs : CostsValue
-  pub are : AreCostsOf (unfolding_of yes.nodes) yes.scene.net costs
+  pub are : AreCostsOf yes.unfolded yes.scene.net costs
   pub claim : List EvidenceValue
   pub traced : AreTraced costs claim
   pub least : (d : ℕ) → Lives yes.scene.net d → IsLeastAt costs d (yes.stabilises.one.field d)

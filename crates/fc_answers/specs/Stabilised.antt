@@ -2,7 +2,7 @@
 -- verdict's no. The scene's table and copies are judged, but not used.
 use Rattle.std.specs.Prelude.{ℕ, ◌≡◌, List, length, false}
 use Rattle.fc_values.specs.Fields.{Entries}
-use Rattle.fc_nodes.specs.Program.{IsProgram, Program, Unfolding, unfolding_of}
+use Rattle.fc_nodes.specs.Program.{Unfolding}
 use Rattle.fc_nodes.specs.declared.verdicts.Verdict.{Verdict}
 use Rattle.fc_nodes.specs.declared.verdicts.Verdict.TheVariants as verdict
 use Rattle.topology.specs.Networks.{Network}
@@ -22,17 +22,14 @@ pub record WritesField (U : Unfolding) (N : Network) (reply : Reply) : Type 0 wh
   pub is : reply ≡ record { status = 0; text = field_text field }
 
 -- what is written where this is the verdict: behind a no its line, as `check` writes it, with status 1
-abbrev pub StabilisedBy : Verdict → Program → Network → Reply → Type 0
-StabilisedBy (verdict.Yes rounds) P N reply = WritesField (unfolding_of P) N reply
-StabilisedBy (verdict.No place why) P N reply = reply ≡ checked_of false P (length N.devices)
+abbrev pub StabilisedBy : Verdict → Unfolding → Network → Reply → Type 0
+StabilisedBy (verdict.Yes rounds) U N reply = WritesField U N reply
+StabilisedBy (verdict.No place why) U N reply = reply ≡ checked_of false U (length N.devices)
 
--- a program and a scene of it: the program is unfolded
+-- a program and a scene of it
 pub record StabilisesScene (U : Unfolding) (s : SceneValue) (j : Judged Reply) : Type 0 where
-  pub nodes : Program
-  pub is_program : IsProgram nodes
-  pub unfolded : unfolding_of nodes ≡ U
   pub reply : Reply
-  pub writes : StabilisedBy (verdict_of (unfolding_of nodes) (length s.net.devices)) nodes s.net reply
+  pub writes : StabilisedBy (verdict_of U (length s.net.devices)) U s.net reply
   pub is : j ≡ Accepted reply
 
 -- the texts of a program and of a scene

@@ -6,7 +6,7 @@ ghost use Rattle.fc_answers.specs.Limits.{LimitsAre};
 use converge_laws::yes_stabilises;
 use fc_check::{one_check, some_check};
 use fc_gen::{all_agree, one_gen, some_gen};
-use fc_inputs::{one_input, one_source, sections_are_within};
+use fc_inputs::{one_input, one_source, sections_are_within, texts_unfold};
 use fc_mail::{mails_keep_yes, one_mail, some_mail};
 use fc_replay::{inputs_start, one_replay, some_replay};
 use fc_run::{one_run, runs_keep_yes, some_run};
@@ -36,6 +36,8 @@ pub fn some_answer()
     ensures { SomeAnswer }
 {
     one_source();
+    one_input();
+    texts_unfold();
     sections_are_within();
     yes_stabilises();
     accepted_scenes_fit();
@@ -66,7 +68,7 @@ pub fn answers_keep()
     ensures { AnswersKeep }
 {
     yes_stabilises();
-    accepted_scenes_fit();
+    texts_unfold();
     inputs_start();
     settle_times_hold();
     start_times_hold();

@@ -32,7 +32,8 @@ fn field_reply(alloc: Global, field: &[(u32, Local)]) -> Result<Reply, Memory>
 fn of_network(alloc: Global, program: &Unfolded, net: &Network) -> Result<Reply, Memory>
     requires program { IsProgram program.now }
     requires declared { net.now.declared ≡ program.now.declared }
-    ensures { IfOk result (StabilisedBy (verdict_of (unfolding_of program.now) (length net.now.devices)) program.now net.now) }
+    ensures { IfOk result (StabilisedBy (verdict_of (unfolding_of program.now) (length net.now.devices))
+        (unfolding_of program.now) net.now) }
 {
     match stable(alloc, program, net) {
         Ok(field) => field_reply(alloc, &field),

@@ -1,62 +1,34 @@
 -- What texts are checked to.
-use Rattle.std.proofs.Common.{ℕ, ◌≡◌, Bool, List, length, refl, ap, ◌∙◌, sym, subst}
-use Rattle.fc_nodes.specs.Program.{Unfolding}
-use Rattle.net_json.specs.Judging as scene
-use Rattle.net_json.specs.Scenes.{SceneValue, scene_of}
+use Rattle.std.proofs.Common.{ℕ, ◌≡◌, Bool, List, length, refl, ◌∙◌, sym, subst}
 use Rattle.fc_inputs.specs.Causes.{Cause, Judged, Accepted, Refused, AndThen}
 use Rattle.fc_inputs.specs.Refusals.{Reply}
-use Rattle.fc_inputs.specs.Sources.{IsProgramText, ReadsProgram}
-use Rattle.fc_inputs.specs.Inputs.{InputOf, OneInput, ReadsInput, TextsUnfold, with_scene}
+use Rattle.fc_inputs.specs.Inputs.{InputOf, OneInput, ReadsInput}
 use Rattle.fc_check.specs.Checks.{Checks, ChecksScene, checked_of}
 use Rattle.fc_check.specs.Laws.{OneCheck, SomeCheck}
-use Rattle.fc_check.proofs.SamePrograms.{checked_alike}
 
 -- ---- one thing
-one_scene : (facts : Bool) (U : Unfolding) (s : SceneValue) (j k : Judged Reply) → ChecksScene facts U s j → ChecksScene facts U s k → j ≡ k
-one_scene facts U s j k h g =
-    h.checked
-    ∙ ap Accepted (checked_alike facts h.nodes g.nodes h.is_program g.is_program (h.unfolded ∙ sym g.unfolded)
-    (length s.net.devices))
-    ∙ sym g.checked
-
 one_end : (facts : Bool) (i : Judged InputOf) (j k : Judged Reply) → AndThen i (λ i k. ChecksScene facts i.0 i.1 k) j → AndThen i (λ i k. ChecksScene facts i.0 i.1 k) k → j ≡ k
-one_end facts (Accepted i) j k h g = one_scene facts i.0 i.1 j k h g
+one_end facts (Accepted i) j k h g = h ∙ sym g
 one_end facts (Refused cause) j k h g = h ∙ sym g
 
 pub one_check : OneInput → OneCheck
 one_check input facts program network j k h g =
-    let one = input program network in
+    let one = input program network h.reads.short in
     let same : h.judged ≡ g.judged = one.2 h.judged h.reads ∙ sym (one.2 g.judged g.reads) in
     one_end facts g.judged j k (subst (λ i. AndThen i (λ i k. ChecksScene facts i.0 i.1 k) j) same h.ends) g.ends
 
 -- ---- something
--- the program of an accepted input is that of its text
-is_text : (program network : List ℕ) (i : InputOf) → ReadsInput program network (Accepted i) → IsProgramText program i.0
-is_text program network i h = by_program h.judged h.reads h.scene
-  where
-    by_scene : (U : Unfolding) (k : scene.Judged SceneValue) → IsProgramText program U → Accepted i ≡ with_scene U k → IsProgramText program i.0
-    by_scene U (scene.Refused r) text e = absurd cc
-    by_scene U (scene.Accepted s) text e =
-        let same : (U, s) ≡ i = cc in
-        let Q : InputOf → Type 0 = λ x. IsProgramText program x.0 in
-        subst Q same text
-
-    by_program : (q : Judged Unfolding) → ReadsProgram program q → AndThen q (λ U k. k ≡ with_scene U (scene_of U network)) (Accepted i) → IsProgramText program i.0
-    by_program (Refused cause) r e = absurd cc
-    by_program (Accepted U) r e = by_scene U (scene_of U network) r e
-
-pub some_check : OneInput → TextsUnfold → SomeCheck
-some_check input unfolds facts program network short =
-    let one = input program network in
+pub some_check : OneInput → SomeCheck
+some_check input facts program network short =
+    let one = input program network short in
     by_input one.0 one.1
   where
     by_input : (i : Judged InputOf) → ReadsInput program network i → (j : Judged Reply) × Checks facts program network j
     by_input (Refused cause) h = (Refused cause, record { judged = Refused cause; reads = h; ends = refl })
-    by_input (Accepted i) h =
-        let p = unfolds program i.0 short (is_text program network i h) in (
-          Accepted (checked_of facts p.0 (length i.1.net.devices)),
-          record { judged = Accepted i; reads = h; ends = record { nodes = p.0; is_program = p.1; unfolded = p.2; checked = refl } },
-        )
+    by_input (Accepted i) h = (
+      Accepted (checked_of facts i.0 (length i.1.net.devices)),
+      record { judged = Accepted i; reads = h; ends = refl },
+    )
 
 -- ---- what the code does
 pub refused_input : (facts : Bool) (program network : List ℕ) (cause : Cause) → ReadsInput program network (Refused cause) → Checks facts program network (Refused cause)

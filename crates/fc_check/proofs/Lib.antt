@@ -1,3 +1,2 @@
-pub mod SamePrograms
 pub mod LevelCounts
 pub mod Checking

@@ -1,7 +1,7 @@
 -- What `check` makes of a program and a scene: its verdict, and after a yes the facts of each node, where they are
 -- asked for.
 use Rattle.std.specs.Prelude.{ℕ, Bool, true, false, ◌≡◌, List, [], ◌++◌, length}
-use Rattle.fc_nodes.specs.Program.{IsProgram, Program, Unfolding, unfolding_of}
+use Rattle.fc_nodes.specs.Program.{Unfolding}
 use Rattle.fc_nodes.specs.declared.verdicts.Verdict.{Verdict}
 use Rattle.fc_nodes.specs.declared.verdicts.Verdict.TheVariants as verdict
 use Rattle.interval_facts.specs.Ranges.{ranges_of}
@@ -25,19 +25,16 @@ facts_behind true (verdict.No place why) text = []
 facts_behind false v text = []
 
 -- what is written of a program for so many devices, and the status
-abbrev pub checked_of : Bool → Program → ℕ → Reply
-checked_of facts P n = record {
-  status = verdict_status (verdict_of (unfolding_of P) n);
-  text = verdict_text (verdict_of (unfolding_of P) n) ++ facts_behind facts (verdict_of (unfolding_of P) n)
-      (facts_text P (ranges_of (unfolding_of P)) (levels_of (unfolding_of P) n));
+abbrev pub checked_of : Bool → Unfolding → ℕ → Reply
+checked_of facts U n = record {
+  status = verdict_status (verdict_of U n);
+  text = verdict_text (verdict_of U n)
+      ++ facts_behind facts (verdict_of U n) (facts_text U (ranges_of U) (levels_of U n));
 }
 
--- a program and a scene of it: the program is unfolded, and the devices are those of the scene's network
-pub record ChecksScene (facts : Bool) (U : Unfolding) (s : SceneValue) (j : Judged Reply) : Type 0 where
-  pub nodes : Program
-  pub is_program : IsProgram nodes
-  pub unfolded : unfolding_of nodes ≡ U
-  pub checked : j ≡ Accepted (checked_of facts nodes (length s.net.devices))
+-- a program and a scene of it: the devices are those of the scene's network
+abbrev pub ChecksScene : Bool → Unfolding → SceneValue → Judged Reply → Type 0
+ChecksScene facts U s j = j ≡ Accepted (checked_of facts U (length s.net.devices))
 
 -- the texts of a program and of a scene
 pub record Checks (facts : Bool) (program network : List ℕ) (j : Judged Reply) : Type 0 where

@@ -1,7 +1,5 @@
 -- `check` has a result for texts within the limit, and only one.
 use Rattle.std.specs.Prelude.{ℕ, Bool, ◌≡◌, ◌≤◌, List, length}
-use Rattle.fc_nodes.specs.Program.{IsProgram, Program, unfolding_of}
-use Rattle.fragment_check.specs.Verdicts.{verdict_of}
 use Rattle.fc_values.specs.declared.limits.TheConstants.{MOST_BYTES}
 use Rattle.fc_inputs.specs.Causes.{Judged}
 use Rattle.fc_inputs.specs.Refusals.{Reply}
@@ -17,9 +15,3 @@ abbrev pub SomeCheck : Type 0
 SomeCheck =
     (facts : Bool) (program network : List ℕ) → length program ≤ MOST_BYTES
     → (j : Judged Reply) × Checks facts program network j
-
--- programs of nodes that unfold one program have one verdict
-abbrev pub OneVerdict : Type 0
-OneVerdict =
-    (P Q : Program) → IsProgram P → IsProgram Q → unfolding_of P ≡ unfolding_of Q
-    → (n : ℕ) → verdict_of (unfolding_of P) n ≡ verdict_of (unfolding_of Q) n

@@ -25,7 +25,7 @@ pub fn verdict_text(
     requires program { IsProgram program.now }
     requires devices { 1 ≤ devices }
     ensures verdict { IfOk result (λ r. r.0 ≡ verdict_of (unfolding_of program.now) devices) }
-    ensures text { IfOk result (λ r. r.1.items ≡ (checked_of facts program.now devices).text) }
+    ensures text { IfOk result (λ r. r.1.items ≡ (checked_of facts (unfolding_of program.now) devices).text) }
 {
     let analysis = Analysis::new(alloc, program)?;
     let (verdict, levels) = analysis.verdict_with_levels(alloc, devices)?;
@@ -49,7 +49,7 @@ pub fn checked(
 ) -> Result<Reply, Memory>
     requires program { IsProgram program.now }
     requires devices { 1 ≤ devices }
-    ensures { IfOk result (λ r. r ≡ checked_of facts program.now devices) }
+    ensures { IfOk result (λ r. r ≡ checked_of facts (unfolding_of program.now) devices) }
 {
     let (verdict, text) = verdict_text(alloc, facts, program, devices)?;
     match verdict {

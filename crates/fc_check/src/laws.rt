@@ -1,8 +1,8 @@
 //! Laws of the definitions.
 
-ghost use Rattle.fc_check.specs.Laws.{OneCheck, OneVerdict, SomeCheck};
+ghost use Rattle.fc_check.specs.Laws.{OneCheck, SomeCheck};
 
-use fc_inputs::{one_input, texts_unfold};
+use fc_inputs::one_input;
 
 /// `check` has at most one result for the same texts.
 pub fn one_check()
@@ -16,10 +16,4 @@ pub fn some_check()
     ensures { SomeCheck }
 {
     one_input();
-    texts_unfold();
 }
-
-/// Programs of nodes that unfold one program have one verdict: they differ at most in how memory holds them.
-pub fn one_verdict()
-    ensures { OneVerdict }
-{}

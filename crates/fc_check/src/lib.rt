@@ -6,4 +6,4 @@ mod checks;
 mod laws;
 
 pub use checks::{check, checked, verdict_text};
-pub use laws::{one_check, one_verdict, some_check};
+pub use laws::{one_check, some_check};

@@ -4,6 +4,7 @@ use Rattle.std.specs.Prelude.{option_map, sum_by}
 use Rattle.std.proofs.lemmas.List.{length-map}
 use Rattle.fc_values.specs.Exports.{FlatExport}
 use Rattle.fc_nodes.specs.Program.{Program, Unfolding, unfolding_of, IsProgram}
+use Rattle.unfold.specs.Laws.{ProgramsUnfold}
 use Rattle.topology.specs.Networks.{NetDevice, Network, Lives, numbers}
 use Rattle.firing_core.specs.declared.entries.Part.{Part}
 use Rattle.firing_core.specs.Entries.{EntryValue}
@@ -11,22 +12,21 @@ use Rattle.firing_core.specs.Cores.{Core, Run, IsGood}
 use Rattle.firing_core.specs.Laws.{PlainRunsKeepNet, RunsKeepGood, StepsKeepGood}
 use Rattle.firing_core.specs.Stretches.{NoneFlies}
 use Rattle.firing_core.specs.Rounds.{HasRounds}
-use Rattle.fragment_check.specs.Verdicts.{verdict_of}
 use Rattle.converge_laws.specs.Stabilising.{HasOneSolution, Stabilises}
 use Rattle.interval_facts.specs.Solutions.{SolvesMain}
 use Rattle.converge_laws.specs.Verdicts.{YesStabilises}
 use Rattle.report.specs.Texts.{export_value}
 use Rattle.scramble.specs.Rings.{ring}
-use Rattle.session.specs.ScriptRuns.{poke}
-use Rattle.ring_laws.specs.Laws.{RingsAreNetworks, RingsStabilise}
-use Rattle.fc_gen.specs.Gens.{GenValue, scenario_program, scenario_start}
+use Rattle.session.specs.ScriptRuns.{ScriptRun, poke}
+use Rattle.ring_laws.specs.Laws.{RingsAreNetworks, RingsAreTyped, RingsStabilise}
+use Rattle.fc_gen.specs.Gens.{GenValue, scenario_lines, scenario_program, scenario_start}
 use Rattle.fc_gen.specs.Laws.{AllAgree, field_sum}
 use Rattle.fc_gen.specs.Summaries.{agreeing, firings_in, held, held_integer, held_sum, summary_text}
 use Rattle.fc_gen.proofs.Counting.{EachHolds, all_agree, all_summed}
 use Rattle.fc_gen.proofs.Cutting.{Cut, cut_of, run_firings}
 use Rattle.fc_gen.proofs.Firings.{run_ends}
 use Rattle.fc_gen.proofs.OneGens.{rounds_are}
-use Rattle.fc_gen.proofs.EachScenario.{empty_good}
+use Rattle.fc_gen.proofs.EachScenario.{empty_good, nodes_of, ring_stabilises}
 
 -- pokes keep the network
 poked_net : (U : Unfolding) (c last : Core) (xs : List (ℕ × FlatExport)) → Run U c (map poke xs) last → last.net ≡ c.net
@@ -61,27 +61,31 @@ module _ (step : StepsKeepGood) (keep : RunsKeepGood) (plain : PlainRunsKeepNet)
             ap (option_map export_value) e.1 ∙ ap Some e.2,
       )
 
-pub agree_all : RingsAreNetworks → RingsStabilise → YesStabilises → StepsKeepGood → RunsKeepGood → PlainRunsKeepNet → AllAgree
-agree_all networks stabilise law step keep plain number devices low high g h =
+pub agree_all : RingsAreTyped → RingsAreNetworks → RingsStabilise → ProgramsUnfold → YesStabilises → StepsKeepGood → RunsKeepGood → PlainRunsKeepNet → AllAgree
+agree_all typed networks stabilise unfolds law step keep plain number devices low high g h =
     let ring_is = networks number devices low high in
-    let declared : (ring number devices).declared ≡ h.nodes.declared =
-    ring_is.declared ∙ sym (ap (λ (U : Unfolding). U.declared) h.unfolded) in
     let rounds : h.rounds ≡ 2 + 2 * devices = rounds_are stabilise number devices low high g h in
-    let s : Stabilises (unfolding_of h.nodes) (ring number devices) h.rounds =
-    law h.nodes (ring number devices) h.rounds h.is_program ring_is.network declared (ap (verdict_of (unfolding_of h.nodes)) ring_is.devices ∙ h.yes) in
-    let c = cut_of h.nodes (scenario_start number devices) number h.rounds h.log h.parts h.shown h.last h.run in
-    let good = empty_good (unfolding_of h.nodes) (ring number devices) ring_is.network declared in
-    let r = reached step keep plain h.nodes h.is_program (scenario_start number devices) h.last h.rounds good h.log h.parts c s in
+    let t : Stabilises (scenario_program devices) (ring number devices) (2 + 2 * devices) =
+    ring_stabilises typed networks stabilise unfolds law number devices low high in
+    let nodes = nodes_of typed unfolds devices low high in
+    let U = unfolding_of nodes.program in
+    let s : Stabilises U (ring number devices) h.rounds =
+    subst (λ n. Stabilises U (ring number devices) n) (sym rounds)
+    (subst (λ (V : Unfolding). Stabilises V (ring number devices) (2 + 2 * devices)) (sym nodes.unfolds) t) in
+    let run : ScriptRun U (scenario_start number devices) (scenario_lines number h.rounds) h.log h.parts h.shown h.last =
+    subst (λ (V : Unfolding). ScriptRun V (scenario_start number devices) (scenario_lines number h.rounds) h.log h.parts h.shown h.last)
+    (sym nodes.unfolds) h.run in
+    let c = cut_of U (scenario_start number devices) number h.rounds h.log h.parts h.shown h.last run in
+    let good = empty_good U (ring number devices) ring_is.network
+    (ring_is.declared ∙ sym (ap (λ (V : Unfolding). V.declared) nodes.unfolds)) in
+    let r = reached step keep plain nodes.program nodes.is (scenario_start number devices) h.last h.rounds good h.log h.parts c s in
     let firings : firings_in h.log h.parts ≡ h.rounds * devices =
-    fired step keep plain h.nodes h.is_program (scenario_start number devices) h.last h.rounds good h.log h.parts (λ d. refl) c
+    fired step keep plain nodes.program nodes.is (scenario_start number devices) h.last h.rounds good h.log h.parts (λ d. refl) c
     ∙ ap (λ n. h.rounds * n) ring_is.devices in
     let solves : SolvesMain (ring number devices) (scenario_program devices).main s.one.field =
-    subst (λ (U : Unfolding). SolvesMain (ring number devices) U.main s.one.field) h.unfolded s.one.solves in
+    subst (λ (V : Unfolding). SolvesMain (ring number devices) V.main s.one.field) nodes.unfolds s.one.solves in
     let hold : (one : HasOneSolution (scenario_program devices) (ring number devices)) → EachHolds h.last one.field (numbers (ring number devices).devices) =
     λ one d l. r.1 d l ∙ ap Some (one.only s.one.field solves d l) in
-    let t : Stabilises (scenario_program devices) (ring number devices) (2 + 2 * devices) =
-    subst (λ n. Stabilises (scenario_program devices) (ring number devices) n) rounds
-    (subst (λ (U : Unfolding). Stabilises U (ring number devices) h.rounds) h.unfolded s) in
     let agree : agreeing h.last h.field ≡ devices =
     ap (agreeing h.last) h.stable.values ∙ all_agree h.last h.stable.one.field (numbers (ring number devices).devices) (hold h.stable.one)
     ∙ length-map (ring number devices).devices (λ (d : NetDevice). d.id) ∙ ring_is.devices in

@@ -4,7 +4,7 @@ use Rattle.std.specs.Prelude.{count_by}
 use Rattle.std.proofs.lemmas.List.{length-append, take_all}
 use Rattle.std.proofs.lemmas.List.Sums.{sum_by-cons, sum_by-append}
 use Rattle.fc_values.specs.Exports.{FlatExport}
-use Rattle.fc_nodes.specs.Program.{Program, Unfolding, unfolding_of}
+use Rattle.fc_nodes.specs.Program.{Unfolding}
 use Rattle.firing_core.specs.declared.entries.Part.{Part}
 use Rattle.firing_core.specs.Cores.{Core, Run}
 use Rattle.firing_core.specs.Entries.{EntryValue}
@@ -28,13 +28,13 @@ pub record Cut (U : Unfolding) (start : Core) (rounds : ℕ) (log : List EntryVa
 abbrev made : List EntryValue → List Part → List Shown → Added
 made s p l = record { stretch = s; parts = p; shown = l }
 
-module _ (P : Program) (start : Core) (number rounds : ℕ) where
-  one_line : (middle last : Core) (at : ℕ) (a : Added) → DoesLines P middle at ((2, RunCommand rounds) ∷ []) a last
-      → RunsRounds (unfolding_of P) middle at 2 rounds a last
+module _ (U : Unfolding) (start : Core) (number rounds : ℕ) where
+  one_line : (middle last : Core) (at : ℕ) (a : Added) → DoesLines U middle at ((2, RunCommand rounds) ∷ []) a last
+      → RunsRounds U middle at 2 rounds a last
   one_line middle last at a h =
       let same : a ≡ h.0 = h.3 ∙ ap (both h.0) h.5.0 ∙ all_of h.0 in
-      subst (λ (b : Added). RunsRounds (unfolding_of P) middle at 2 rounds b last) (sym same)
-      (subst (λ (c : Core). RunsRounds (unfolding_of P) middle at 2 rounds h.0 c) (sym h.5.1) h.4)
+      subst (λ (b : Added). RunsRounds U middle at 2 rounds b last) (sym same)
+      (subst (λ (c : Core). RunsRounds U middle at 2 rounds h.0 c) (sym h.5.1) h.4)
     where
       all_of : (b : Added) → both b nothing ≡ b
       all_of b =
@@ -42,10 +42,10 @@ module _ (P : Program) (start : Core) (number rounds : ℕ) where
           ∙ ap (made b.stretch b.parts) (append-nil b.shown)
 
   pub cut_of : (log : List EntryValue) (parts : List Part) (text : List ℕ) (last : Core)
-      → ScriptRun P start (scenario_lines number rounds) log parts text last → Cut (unfolding_of P) start rounds log parts last
+      → ScriptRun U start (scenario_lines number rounds) log parts text last → Cut U start rounds log parts last
   cut_of log parts text last r =
       let d = r.does in
-      let scrambles : Scrambles (unfolding_of P) start number d.0 d.2 = d.4 in
+      let scrambles : Scrambles U start number d.0 d.2 = d.4 in
       let runs = one_line d.2 last (0 + length d.0.stretch) d.1 d.5 in
       let pokes = scrambles.stretch in
       let from : 0 + length d.0.stretch ≡ length (map poke scrambles.rubbish) = omega (arith, ap length pokes) in
@@ -55,7 +55,7 @@ module _ (P : Program) (start : Core) (number rounds : ℕ) where
         rubbish = scrambles.rubbish;
         run = d.1.stretch;
         cut = ap (λ (a : Added). a.stretch) d.3 ∙ ap (λ l. l ++ d.1.stretch) pokes;
-        leads = subst (λ l. Run (unfolding_of P) start l d.2) pokes scrambles.leads;
+        leads = subst (λ l. Run U start l d.2) pokes scrambles.leads;
         stretch = runs.runs;
         part = ap (λ (a : Added). a.parts) d.3 ∙ ap (λ l. l ++ d.1.parts) scrambles.none ∙ runs.part
             ∙ ap₂ (λ m n. part_of 2 rounds m n ∷ []) from to;

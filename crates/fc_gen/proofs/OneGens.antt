@@ -4,23 +4,24 @@ use Rattle.std.specs.Prelude.{count_by}
 use Rattle.fc_values.proofs.Booleans.{or_true}
 use Rattle.fc_values.specs.Fields.{Entries, is_in}
 use Rattle.fc_values.specs.Values.{LocalValue}
-use Rattle.fc_nodes.specs.Program.{Unfolding, unfolding_of}
+use Rattle.fc_nodes.specs.Program.{Unfolding}
+use Rattle.unfold.specs.Laws.{ProgramsUnfold}
 use Rattle.topology.specs.Networks.{Network, numbers}
 use Rattle.firing_core.specs.Cores.{Core, IsGood}
-use Rattle.fragment_check.specs.Verdicts.{verdict_of}
 use Rattle.edit_commands.specs.Agreement.{SameCommands, SameEntries}
 use Rattle.edit_commands.specs.Scripts.{RunCommand}
 use Rattle.scramble.specs.Rings.{ring}
 use Rattle.session.specs.Laws.{OneScriptRun}
+use Rattle.session.specs.ScriptRuns.{ScriptRun}
 use Rattle.stable_field.specs.Stable.{IsStableField}
-use Rattle.ring_laws.specs.Laws.{RingsAreNetworks, RingsStabilise}
+use Rattle.ring_laws.specs.Laws.{RingsAreNetworks, RingsAreTyped, RingsStabilise}
 use Rattle.fc_gen.specs.Gens.{GenValue, Gens, gen_text, scenario_lines, scenario_program, scenario_start}
 use Rattle.fc_gen.specs.Laws.{GensAgree, OneGen}
 use Rattle.fc_gen.specs.Summaries.{agreeing, firings_in, held_sum, is_end, summary_text}
 use Rattle.fc_replay.specs.Replays.{book_of}
 use Rattle.fc_gen.proofs.Counting.{first_in, same_ends}
 use Rattle.fc_gen.proofs.Cutting.{cut_of, firings}
-use Rattle.fc_gen.proofs.EachScenario.{empty_good, yes_once}
+use Rattle.fc_gen.proofs.EachScenario.{empty_good, nodes_of, yes_once}
 
 -- a stabilised field is one
 same_values : (F G : ℕ → LocalValue) (ds : List ℕ) → ((d : ℕ) → is_in d ds ≡ true → F d ≡ G d)
@@ -35,32 +36,34 @@ same_field U N es fs h g =
 
 module _ (stabilise : RingsStabilise) (number devices : ℕ) (low : 3 ≤ devices) (high : devices ≤ 512) where
   pub rounds_are : (g : GenValue) (h : Gens number devices g) → h.rounds ≡ 2 + 2 * devices
-  rounds_are g h = yes_once h.rounds (2 + 2 * devices) (sym h.yes ∙ stabilise h.nodes devices devices low high h.unfolded)
+  rounds_are g h = yes_once h.rounds (2 + 2 * devices) (sym h.yes ∙ stabilise devices devices low high)
 
   -- all entries that end a firing are in the part
   ends_are : (g : GenValue) (h : Gens number devices g) → firings_in h.log h.parts ≡ count_by is_end h.log
   ends_are g h =
-      firings (unfolding_of h.nodes) (scenario_start number devices) h.last h.rounds h.log h.parts
-      (cut_of h.nodes (scenario_start number devices) number h.rounds h.log h.parts h.shown h.last h.run)
+      firings (scenario_program devices) (scenario_start number devices) h.last h.rounds h.log h.parts
+      (cut_of (scenario_program devices) (scenario_start number devices) number h.rounds h.log h.parts h.shown h.last h.run)
 
-  one : OneScriptRun → RingsAreNetworks → (a b : GenValue) → Gens number devices a → Gens number devices b → GensAgree a b
-  one script networks a b h g =
+  one : OneScriptRun → RingsAreTyped → RingsAreNetworks → ProgramsUnfold → (a b : GenValue) → Gens number devices a → Gens number devices b → GensAgree a b
+  one script typed networks unfolds a b h g =
+      let U = scenario_program devices in
+      let start = scenario_start number devices in
+      let nodes = nodes_of typed unfolds devices low high in
       let ring_is = networks number devices low high in
-      let good : IsGood (unfolding_of h.nodes) (scenario_start number devices) =
-      empty_good (unfolding_of h.nodes) (ring number devices) ring_is.network (ring_is.declared ∙ sym (ap (λ (U : Unfolding). U.declared) h.unfolded)) in
+      let good : IsGood U start = empty_good U (ring number devices) ring_is.network ring_is.declared in
       let rounds : h.rounds ≡ g.rounds = rounds_are a h ∙ sym (rounds_are b g) in
-      let lines : SameCommands (unfolding_of h.nodes) (scenario_lines number h.rounds) (scenario_lines number g.rounds) =
+      let lines : SameCommands U (scenario_lines number h.rounds) (scenario_lines number g.rounds) =
       (refl, refl, (refl, ap RunCommand (sym rounds), tt)) in
-      let verdicts : (n : ℕ) → verdict_of (unfolding_of g.nodes) n ≡ verdict_of (unfolding_of h.nodes) n =
-      λ n. stabilise g.nodes devices n low high g.unfolded ∙ sym (stabilise h.nodes devices n low high h.unfolded) in
-      let texts : SameEntries (scenario_program devices) h.log g.log → text_of h ≡ text_of g =
+      let One : Unfolding → Type 0 = λ V. IsGood V start → SameCommands V (scenario_lines number h.rounds) (scenario_lines number g.rounds)
+      → SameEntries V h.log g.log → ScriptRun V start (scenario_lines number h.rounds) h.log h.parts h.shown h.last
+      → ScriptRun V start (scenario_lines number g.rounds) g.log g.parts g.shown g.last → (h.shown ≡ g.shown) × (h.last ≡ g.last) in
+      let texts : SameEntries U h.log g.log → text_of h ≡ text_of g =
       λ agree.
-      let same : SameEntries (unfolding_of h.nodes) h.log g.log = subst (λ (U : Unfolding). SameEntries U h.log g.log) (sym h.unfolded) agree in
-      let r = script h.nodes g.nodes (scenario_start number devices) h.last g.last (scenario_lines number h.rounds) (scenario_lines number g.rounds)
-      h.log g.log h.parts g.parts h.shown g.shown h.is_program (g.unfolded ∙ sym h.unfolded) verdicts good lines same h.run g.run in
+      let r = subst One nodes.unfolds (script nodes.program start h.last g.last (scenario_lines number h.rounds) (scenario_lines number g.rounds)
+      h.log g.log h.parts g.parts h.shown g.shown nodes.is) good lines agree h.run g.run in
       let ends : firings_in h.log h.parts ≡ firings_in g.log g.parts =
-      ends_are a h ∙ same_ends (scenario_program devices) h.log g.log agree ∙ sym (ends_are b g) in
-      let field = same_field (scenario_program devices) (ring number devices) h.field g.field h.stable g.stable in
+      ends_are a h ∙ same_ends U h.log g.log agree ∙ sym (ends_are b g) in
+      let field = same_field U (ring number devices) h.field g.field h.stable g.stable in
       ap₂ (λ r f. summary_text number devices r f (agreeing h.last h.field) (held_sum h.last)) rounds ends
       ∙ ap₂ (λ (k : Core) es. summary_text number devices g.rounds (firings_in g.log g.parts) (agreeing k es) (held_sum k)) r.1 field in
       subst (λ (x : GenValue). GensAgree x b) (sym h.is)
@@ -72,5 +75,6 @@ module _ (stabilise : RingsStabilise) (number devices : ℕ) (low : 3 ≤ device
       value_of : {x : GenValue} → Gens number devices x → GenValue
       value_of k = record { text = text_of k; book = book_of (scenario_program devices) (scenario_start number devices) k.log k.last; parts = k.parts }
 
-pub one_gen : OneScriptRun → RingsAreNetworks → RingsStabilise → OneGen
-one_gen script networks stabilise number devices low high a b h g = one stabilise number devices low high script networks a b h g
+pub one_gen : OneScriptRun → RingsAreTyped → RingsAreNetworks → RingsStabilise → ProgramsUnfold → OneGen
+one_gen script typed networks stabilise unfolds number devices low high a b h g =
+    one stabilise number devices low high script typed networks unfolds a b h g

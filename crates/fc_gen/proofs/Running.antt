@@ -6,7 +6,7 @@ use Rattle.std.proofs.Math.Nat.{mul-le-mul_right}
 use Rattle.fc_values.specs.declared.exports.Export.{Export}
 use Rattle.fc_values.specs.Fields.{Entries}
 use Rattle.fc_nodes.specs.declared.verdicts.Verdict.TheVariants as verdict
-use Rattle.fc_nodes.specs.Program.{Program, Unfolding, IsProgram, unfolding_of}
+use Rattle.fc_nodes.specs.Program.{Program, Unfolding, unfolding_of}
 use Rattle.value_trees.specs.declared.copies.Snap.{Snap}
 use Rattle.topology.specs.Networks.{Network}
 use Rattle.firing_core.specs.declared.entries.Entry.{Entry}
@@ -64,8 +64,8 @@ is_run P Q net number rounds core table pending s q t p c h =
     record {
       program = h.program ∙ q;
       start = h.start ∙ start;
-      run = subst (λ (O : Program). ScriptRun O (empty_on net) (scenario_lines number rounds) (entries_of s.book.log) s.parts s.text (core_of s.book.core)) q
-          (subst (λ (k : Core). ScriptRun Q k (scenario_lines number rounds) (entries_of s.book.log) s.parts s.text (core_of s.book.core)) start h.run);
+      run = subst (λ (O : Program). ScriptRun (unfolding_of O) (empty_on net) (scenario_lines number rounds) (entries_of s.book.log) s.parts s.text (core_of s.book.core)) q
+          (subst (λ (k : Core). ScriptRun (unfolding_of Q) k (scenario_lines number rounds) (entries_of s.book.log) s.parts s.text (core_of s.book.core)) start h.run);
     }
 
 module _ (P : Program) (net : Network) (number rounds : ℕ) (s : SessionValue) (h : IsRun P net number rounds s) where
@@ -73,29 +73,27 @@ module _ (P : Program) (net : Network) (number rounds : ℕ) (s : SessionValue) 
   run_within =
       subst (λ n. FirstWithin n s.parts) (length-map s.book.log entry_of)
       (within (unfolding_of P) (empty_on net) (core_of s.book.core) rounds (entries_of s.book.log) s.parts
-      (cut_of P (empty_on net) number rounds (entries_of s.book.log) s.parts s.text (core_of s.book.core) h.run))
+      (cut_of (unfolding_of P) (empty_on net) number rounds (entries_of s.book.log) s.parts s.text (core_of s.book.core) h.run))
 
 abbrev given : List ℕ → Ledger → List Part → GenValue
 given t b p = record { text = t; book = b; parts = p }
 
 -- what is given of a scenario that has run
-pub generated : RingsStabilise → (number devices rounds : ℕ) → rounds ≡ 2 + 2 * devices → 3 ≤ devices → devices ≤ 512 → (P : Program) → IsProgram P → unfolding_of P ≡ scenario_program devices
+pub generated : RingsStabilise → (number devices rounds : ℕ) → rounds ≡ 2 + 2 * devices → 3 ≤ devices → devices ≤ 512 → (P : Program) → unfolding_of P ≡ scenario_program devices
     → (net : Network) → net ≡ ring number devices → (s : SessionValue) → IsRun P net number rounds s
     → (field : Entries) → IsStableField (unfolding_of P) net field → (g : Generated)
     → g.text.items ≡ gen_text number devices rounds field (entries_of s.book.log) s.parts (core_of s.book.core)
     → g.book ≡ s.book → g.parts.items ≡ s.parts → Gens number devices (gen_of g)
-generated stabilise number devices rounds same low high P is unfolded net ring_is s h field stable g text book parts =
+generated stabilise number devices rounds same low high P unfolded net ring_is s h field stable g text book parts =
     record {
-      nodes = P;
-      is_program = is;
-      unfolded = unfolded;
       rounds = rounds;
-      yes = stabilise P devices devices low high unfolded ∙ ap verdict.Yes (sym same);
+      yes = stabilise devices devices low high ∙ ap verdict.Yes (sym same);
       log = entries_of s.book.log;
       parts = s.parts;
       shown = s.text;
       last = core_of s.book.core;
-      run = subst (λ (n : Network). ScriptRun P (empty_on n) (scenario_lines number rounds) (entries_of s.book.log) s.parts s.text (core_of s.book.core)) ring_is h.run;
+      run = subst (λ (n : Network). ScriptRun (scenario_program devices) (empty_on n) (scenario_lines number rounds) (entries_of s.book.log) s.parts s.text (core_of s.book.core)) ring_is
+          (subst (λ (U : Unfolding). ScriptRun U (empty_on net) (scenario_lines number rounds) (entries_of s.book.log) s.parts s.text (core_of s.book.core)) unfolded h.run);
       field = field;
       stable = subst (λ (n : Network). IsStableField (scenario_program devices) n field) ring_is
           (subst (λ (U : Unfolding). IsStableField U net field) unfolded stable);

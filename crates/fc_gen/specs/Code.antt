@@ -1,6 +1,6 @@
 -- What the code of `gen` has on the way.
 use Rattle.std.specs.Prelude.{ℕ, ◌≡◌, ◌≤◌, List, [], ◌∷◌}
-use Rattle.fc_nodes.specs.Program.{Program}
+use Rattle.fc_nodes.specs.Program.{Program, unfolding_of}
 use Rattle.topology.specs.Networks.{Network}
 use Rattle.firing_core.specs.declared.entries.Part.{Part}
 use Rattle.firing_core.specs.CoreViews.{core_of}
@@ -29,5 +29,5 @@ gen_of g = record { text = g.text.items; book = ledger_of g.book; parts = g.part
 pub record IsRun (P : Program) (net : Network) (number rounds : ℕ) (s : SessionValue) : Type 0 where
   pub program : s.book.program ≡ P
   pub start : core_of s.book.start ≡ empty_on net
-  pub run : ScriptRun P (empty_on net) (scenario_lines number rounds) (entries_of s.book.log) s.parts s.text
-      (core_of s.book.core)
+  pub run : ScriptRun (unfolding_of P) (empty_on net) (scenario_lines number rounds) (entries_of s.book.log) s.parts
+      s.text (core_of s.book.core)

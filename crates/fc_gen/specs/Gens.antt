@@ -4,7 +4,7 @@ use Rattle.std.specs.Prelude.{ℕ, ◌≡◌, List, [], ◌∷◌, None}
 use Rattle.fc_values.specs.Fields.{Entries}
 use Rattle.fc_types.specs.Before.{declared_by}
 use Rattle.unfold.specs.Unfolding.{main_term}
-use Rattle.fc_nodes.specs.Program.{Program, Unfolding, IsProgram, unfolding_of}
+use Rattle.fc_nodes.specs.Program.{Unfolding}
 use Rattle.fc_nodes.specs.declared.verdicts.Verdict.TheVariants as verdict
 use Rattle.topology.specs.Networks.{Network}
 use Rattle.firing_core.specs.declared.entries.Part.{Part}
@@ -47,18 +47,16 @@ abbrev pub gen_text : ℕ → ℕ → ℕ → Entries → List EntryValue → Li
 gen_text number devices rounds field log parts last =
     summary_text number devices rounds (firings_in log parts) (agreeing last field) (held_sum last)
 
--- A script run of the scenario's lines by the program's nodes, with as many rounds as the verdict on them says
+-- A script run of the scenario's lines, with as many rounds as the verdict on its program says
 pub record Gens (number devices : ℕ) (g : GenValue) : Type 0 where
-  pub nodes : Program
-  pub is_program : IsProgram nodes
-  pub unfolded : unfolding_of nodes ≡ scenario_program devices
   pub rounds : ℕ
-  pub yes : verdict_of (unfolding_of nodes) devices ≡ verdict.Yes rounds
+  pub yes : verdict_of (scenario_program devices) devices ≡ verdict.Yes rounds
   pub log : List EntryValue
   pub parts : List Part
   pub shown : List ℕ
   pub last : Core
-  pub run : ScriptRun nodes (scenario_start number devices) (scenario_lines number rounds) log parts shown last
+  pub run : ScriptRun (scenario_program devices) (scenario_start number devices) (scenario_lines number rounds) log
+      parts shown last
   pub field : Entries
   pub stable : IsStableField (scenario_program devices) (ring number devices) field
   pub is : g ≡ record {

@@ -24,8 +24,10 @@ pub fn some_gen()
 pub fn one_gen()
     ensures { OneGen }
 {
+    rings_are_typed();
     rings_are_networks();
     rings_stabilise();
+    programs_unfold();
     one_script_run();
 }
 
@@ -33,8 +35,10 @@ pub fn one_gen()
 pub fn all_agree()
     ensures { AllAgree }
 {
+    rings_are_typed();
     rings_are_networks();
     rings_stabilise();
+    programs_unfold();
     yes_stabilises();
     steps_keep_good();
 }

@@ -180,8 +180,6 @@ pub fn generate<W: Threads + Wait + Sync, G: Gate + Sync>(
     rings_stabilise();
     let (program, net) = scenario(alloc, number, devices)?;
     let program = nodes(alloc, program, devices)?;
-    // Its clause: the nodes are a program.
-    let _size = program.size();
     let field = field(alloc, &program, &net)?;
     let rounds = rounds_of(devices);
     let session = ran(alloc, program, net, number, rounds, pool)?;

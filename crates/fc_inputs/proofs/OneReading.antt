@@ -175,9 +175,9 @@ module _ (program : OneProgramText) where
   only_after network (Refused cause) k h = h
 
   pub one_input : OneInput
-  one_input text network =
+  one_input text network short =
       let one = program text in (
         after network one.0,
-        record { judged = one.0; reads = one.1; scene = is_after network one.0 },
+        record { short = short; judged = one.0; reads = one.1; scene = is_after network one.0 },
         λ k h. only_after network h.judged k h.scene ∙ ap (after network) (one.2 h.judged h.reads),
       )

@@ -1,5 +1,5 @@
 -- Why texts are refused, as the code stops.
-use Rattle.std.proofs.Common.{ℕ, ◌≡◌, ◌<◌, List, length, min, refl, ap, subst, sym}
+use Rattle.std.proofs.Common.{ℕ, ◌≡◌, ◌<◌, ◌≤◌, List, length, min, refl, ap, subst, sym}
 use Rattle.fc_lexer.specs.Kinds.{TokenView}
 use Rattle.fc_lexer.specs.declared.tokens.LexFault.{LexFault}
 use Rattle.fc_lexer.specs.declared.tokens.LexFault.TheVariants as lex
@@ -15,7 +15,7 @@ use Rattle.fc_types.specs.Faults.{FirstFault}
 use Rattle.fc_types.specs.Views.{IfFault}
 use Rattle.fc_nodes.specs.Program.{Unfolding}
 use Rattle.unfold.specs.declared.count.TheConstants.{MOST_COUNTED}
-use Rattle.fc_values.specs.declared.limits.TheConstants.{MOST_NODES}
+use Rattle.fc_values.specs.declared.limits.TheConstants.{MOST_BYTES, MOST_NODES}
 use Rattle.unfold.specs.declared.faults.UnfoldFault.{UnfoldFault}
 use Rattle.unfold.specs.declared.faults.UnfoldFault.TheVariants as size_fault
 use Rattle.unfold.specs.Nodes.{Nodes}
@@ -60,13 +60,13 @@ by_size text ds (size_fault.TooLarge size) s t h k = subst (λ n. ReadsProgram t
 by_size text ds size_fault.Memory s t h k = tt
 
 -- ---- a program and its scene
-pub by_program : (program network : List ℕ) (s : Stop) → StopsFor (λ cause. ReadsProgram program (Refused cause)) s → StopsFor (λ cause. ReadsInput program network (Refused cause)) s
-by_program program network s h =
-    stops_map (λ cause. ReadsProgram program (Refused cause)) (λ cause. ReadsInput program network (Refused cause)) (λ cause k. record { judged = Refused cause; reads = k; scene = refl }) s h
+pub by_program : (program network : List ℕ) → length program ≤ MOST_BYTES → (s : Stop) → StopsFor (λ cause. ReadsProgram program (Refused cause)) s → StopsFor (λ cause. ReadsInput program network (Refused cause)) s
+by_program program network short s h =
+    stops_map (λ cause. ReadsProgram program (Refused cause)) (λ cause. ReadsInput program network (Refused cause)) (λ cause k. record { short = short; judged = Refused cause; reads = k; scene = refl }) s h
 
-module _ (program network : List ℕ) (U : Unfolding) (h : ReadsProgram program (Accepted U)) where
+module _ (program network : List ℕ) (short : length program ≤ MOST_BYTES) (U : Unfolding) (h : ReadsProgram program (Accepted U)) where
   scene_refused : (refusal : scene.Refusal) → scene_of U network ≡ scene.Refused refusal → ReadsInput program network (Refused (InScene refusal))
-  scene_refused refusal e = record { judged = Accepted U; reads = h; scene = sym (ap (with_scene U) e) }
+  scene_refused refusal e = record { short = short; judged = Accepted U; reads = h; scene = sym (ap (with_scene U) e) }
 
   pub by_scene : (f : JsonFault) → scene.RefusedWith (scene_of U network) f → StopsFor (λ cause. ReadsInput program network (Refused cause)) (stop.Scene f)
   by_scene json.Json e = scene_refused scene.NotJson e
@@ -77,4 +77,4 @@ module _ (program network : List ℕ) (U : Unfolding) (h : ReadsProgram program 
   by_scene json.Memory e = tt
 
   pub reads_input : (s : SceneValue) → scene_of U network ≡ scene.Accepted s → ReadsInput program network (Accepted (U, s))
-  reads_input s e = record { judged = Accepted U; reads = h; scene = sym (ap (with_scene U) e) }
+  reads_input s e = record { short = short; judged = Accepted U; reads = h; scene = sym (ap (with_scene U) e) }

@@ -20,8 +20,10 @@ abbrev pub with_scene : Unfolding → scene.Judged SceneValue → Judged InputOf
 with_scene U (scene.Accepted s) = Accepted (U, s)
 with_scene U (scene.Refused refusal) = Refused (InScene refusal)
 
--- the texts of a program and of a scene: the program is judged first, and then the scene of that program
+-- the texts of a program, within the limit, and of a scene: the program is judged first, and then the scene of that
+-- program
 pub record ReadsInput (program network : List ℕ) (j : Judged InputOf) : Type 0 where
+  pub short : length program ≤ MOST_BYTES
   pub judged : Judged Unfolding
   pub reads : ReadsProgram program judged
   pub scene : AndThen judged (λ U k. k ≡ with_scene U (scene_of U network)) j
@@ -40,15 +42,15 @@ OneProgramText =
 
 abbrev pub OneInput : Type 0
 OneInput =
-    (program network : List ℕ) → (j : Judged InputOf) × ReadsInput program network j
+    (program network : List ℕ) → length program ≤ MOST_BYTES → (j : Judged InputOf) × ReadsInput program network j
     × ((k : Judged InputOf) → ReadsInput program network k → k ≡ j)
 
--- ---- what a text unfolds to is a program of nodes, and its inputs have names of the language
+-- ---- what a text unfolds to is that of a program of nodes, and its inputs have names of the language
 
 abbrev pub TextsUnfold : Type 0
 TextsUnfold =
-    (text : List ℕ) (U : Unfolding) → length text ≤ MOST_BYTES → IsProgramText text U
-    → (P : Program) × IsProgram P × (unfolding_of P ≡ U)
+    (program network : List ℕ) (i : InputOf) → ReadsInput program network (Accepted i)
+    → (P : Program) × IsProgram P × (unfolding_of P ≡ i.0)
 
 abbrev pub TextsNameInputs : Type 0
 TextsNameInputs =

@@ -25,14 +25,15 @@ pub fn one_program_text()
     one_first_fault();
 }
 
-/// The texts of a program and a scene are read as one of each, or are refused for one cause, and not both.
+/// The texts of a program, within the limit, and a scene are read as one of each, or are refused for one cause, and not
+/// both.
 pub fn one_input()
     ensures { OneInput }
 {
     one_program_text();
 }
 
-/// The text of a program unfolds to a program of nodes.
+/// What a program that is read unfolds to is that of a program of nodes.
 pub fn texts_unfold()
     ensures { TextsUnfold }
 {

@@ -1,12 +1,12 @@
 -- What `mail` writes keeps a yes.
 use Rattle.std.proofs.Common.{ℕ, ◌≡◌, ◌≤◌, ◌⊎◌, Bool, true, false, List, ◌++◌, length, refl, ap, ◌∙◌, sym, subst, arith, inl, inr}
 use Rattle.std.specs.Prelude.{nat_lt}
-use Rattle.fc_nodes.specs.Program.{IsProgram, Program, Unfolding, unfolding_of}
+use Rattle.fc_nodes.specs.Program.{Unfolding}
 use Rattle.fc_nodes.specs.declared.verdicts.Verdict.{Verdict}
 use Rattle.fc_nodes.specs.declared.verdicts.Verdict.TheVariants as verdict
 use Rattle.topology.specs.Networks.{IsNetwork}
 use Rattle.firing_core.specs.Entries.{entries_of}
-use Rattle.firing_core.specs.Cores.{IsGood}
+use Rattle.firing_core.specs.Cores.{Core, IsGood}
 use Rattle.firing_core.specs.Books.{in_flight, ends_of}
 use Rattle.firing_core.specs.Laws.{RunsKeepGood}
 use Rattle.fragment_check.specs.Verdicts.{verdict_of}
@@ -22,11 +22,11 @@ use Rattle.mail_book.specs.MailViews.{quiet}
 use Rattle.report.specs.Texts.{values_text}
 use Rattle.report.specs.Verdicts.{rounds_text, verdict_text}
 use Rattle.fc_inputs.specs.Causes.{Judged, Accepted, Refused, AndThen}
-use Rattle.fc_inputs.specs.Inputs.{InputOf, ReadsInput}
+use Rattle.fc_inputs.specs.Inputs.{InputOf, ReadsInput, TextsUnfold}
 use Rattle.fc_inputs.specs.Refusals.{Reply}
 use Rattle.fc_replay.specs.Laws.{InputsStart}
 use Rattle.fc_replay.specs.Replays.{start_of}
-use Rattle.fc_mail.specs.Drives.{messages, driven_log, DrivesBy, DrivesScene, DrivesWithin, WritesDriven}
+use Rattle.fc_mail.specs.Drives.{messages, driven_log, DrivesBy, DrivesScene, DrivesWithin, Settles, WritesDriven}
 use Rattle.fc_mail.specs.declared.driven.TheConstants.{MOST_MESSAGES}
 use Rattle.fc_mail.specs.Laws.{DrivenMailKeepsYes, DrivenMailsKeepYes, MailKeepsYes, MailsKeepYes}
 use Rattle.fc_mail.specs.Mails.{Mailed, MailsLines, MailsScene, ShowsMail, StopsMail, entries_in}
@@ -39,39 +39,47 @@ accepted_same r q e = cc
 
 -- ---- a program and a scene that are read
 
-module _ (starts : InputsStart) (law : YesStabilisesMail) (program network : List ℕ) (i : InputOf)
-    (reads : ReadsInput program network (Accepted i)) (P : Program) (is : IsProgram P) (unfolded : unfolding_of P ≡ i.0) where
-  reads_nodes : ReadsInput program network (Accepted (unfolding_of P, i.1))
-  reads_nodes = subst (λ (V : Unfolding). ReadsInput program network (Accepted (V, i.1))) (sym unfolded) reads
-
-  start : IsMailStart (unfolding_of P) (quiet (start_of i.1))
-  start = scene_start starts program network (unfolding_of P, i.1) reads_nodes
+module _ (unfolds : TextsUnfold) (starts : InputsStart) (program network : List ℕ) (i : InputOf) (reads : ReadsInput program network (Accepted i)) where
+  start : IsMailStart i.0 (quiet (start_of i.1))
+  start = scene_start starts program network i reads
 
   net : IsNetwork i.1.net
   net = start.good.net
 
-  stabilised : (k : ℕ) → verdict_of (unfolding_of P) (length i.1.net.devices) ≡ verdict.Yes k → MailStabilises (unfolding_of P) i.1.net k
-  stabilised k said = law P i.1.net k is net start.good.declared said
+  stabilised : YesStabilisesMail → (k : ℕ) → verdict_of i.0 (length i.1.net.devices) ≡ verdict.Yes k → MailStabilises i.0 i.1.net k
+  stabilised law k said =
+      let p = unfolds program network i reads in
+      subst AtProgram p.2 (law p.0 i.1.net k p.1 net) start.good.declared said
+    where
+      AtProgram : Unfolding → Type 0
+      AtProgram U = i.1.net.declared ≡ U.declared → verdict_of U (length i.1.net.devices) ≡ verdict.Yes k → MailStabilises U i.1.net k
+
+  -- its flights ended
+  settled_good : RunsKeepGood → (core : Core) → Settles i.0 i.1 core → IsGood i.0 core
+  settled_good runs core settles =
+      let p = unfolds program network i reads in
+      subst AtProgram p.2 (λ good run. runs p.0 (start_of i.1) core (entries_of (ends_of (in_flight (start_of i.1)))) p.1 good run) start.good settles
+    where
+      AtProgram : Unfolding → Type 0
+      AtProgram U = IsGood U (start_of i.1) → Settles U i.1 core → IsGood U core
 
 -- ---- a log
 
-module _ (starts : InputsStart) (law : YesStabilisesMail) (program network log : List ℕ) (r : Reply) (i : InputOf)
-    (reads : ReadsInput program network (Accepted i)) (P : Program) (is : IsProgram P) (unfolded : unfolding_of P ≡ i.0) where
-  abbrev stable : (k : ℕ) → verdict_of (unfolding_of P) (length i.1.net.devices) ≡ verdict.Yes k → MailStabilises (unfolding_of P) i.1.net k
-  stable k said = stabilised starts law program network i reads P is unfolded k said
+module _ (unfolds : TextsUnfold) (starts : InputsStart) (law : YesStabilisesMail) (program network log : List ℕ) (r : Reply) (i : InputOf) (reads : ReadsInput program network (Accepted i)) where
+  abbrev stable : (k : ℕ) → verdict_of i.0 (length i.1.net.devices) ≡ verdict.Yes k → MailStabilises i.0 i.1.net k
+  stable k said = stabilised unfolds starts program network i reads law k said
 
-  shown : (es : Mailed) → mail_log log ≡ AllLines es → ShowsMail (unfolding_of P) (quiet (start_of i.1)) es (Accepted r)
+  shown : (es : Mailed) → mail_log log ≡ AllLines es → ShowsMail i.0 (quiet (start_of i.1)) es (Accepted r)
       → MailKeepsYes program network log r.text
   shown es lines h =
-      let begins = start starts law program network i reads P is unfolded in
+      let begins = start unfolds starts program network i reads in
       let text : r.text ≡ values_text h.last.core ++ rounds_text h.rounds = ap (λ (x : Reply). x.text) (accepted_same r _ h.is) in
       let rounds : (k : ℕ) → k ≤ h.rounds → HasMailRounds i.1.net 0 nothing (entries_in es) k =
       λ k few. fewer_rounds i.1.net 0 nothing (entries_in es) k h.rounds few h.counted.has in
       record {
-        nodes = P;
-        is_program = is;
+        unfolded = i.0;
         scene = i.1;
-        reads = reads_nodes starts law program network i reads P is unfolded;
+        reads = reads;
         entries = es;
         lines = lines;
         last = h.last;
@@ -81,54 +89,48 @@ module _ (starts : InputsStart) (law : YesStabilisesMail) (program network log :
         writes = text;
         stabilises = stable;
         holds = λ k said few.
-            held (unfolding_of P) i.1.net k (stable k said) (quiet (start_of i.1)) h.last (entries_in es) begins refl h.leads (rounds k few);
+            held i.0 i.1.net k (stable k said) (quiet (start_of i.1)) h.last (entries_in es) begins refl h.leads (rounds k few);
         shows = λ k said few. text ∙ ap (λ v. v ++ rounds_text h.rounds)
-            (field_values (unfolding_of P) i.1.net k (stable k said) (quiet (start_of i.1)) h.last (entries_in es) begins refl h.leads (rounds k few));
+            (field_values i.0 i.1.net k (stable k said) (quiet (start_of i.1)) h.last (entries_in es) begins refl h.leads (rounds k few));
       }
 
   either : (es : Mailed) → mail_log log ≡ AllLines es
-      → ShowsMail (unfolding_of P) (quiet (start_of i.1)) es (Accepted r) ⊎ StopsMail (unfolding_of P) (quiet (start_of i.1)) es (Accepted r)
+      → ShowsMail i.0 (quiet (start_of i.1)) es (Accepted r) ⊎ StopsMail i.0 (quiet (start_of i.1)) es (Accepted r)
       → MailKeepsYes program network log r.text
   either es lines (inl h) = shown es lines h
   either es lines (inr h) = absurd (cc (h.is))
 
-  by_lines : (ls : Lines (Unit {0}) MailEntryValue) → mail_log log ≡ ls → MailsLines (unfolding_of P) (quiet (start_of i.1)) ls (Accepted r)
+  by_lines : (ls : Lines (Unit {0}) MailEntryValue) → mail_log log ≡ ls → MailsLines i.0 (quiet (start_of i.1)) ls (Accepted r)
       → MailKeepsYes program network log r.text
   by_lines (StopsAt at u) e h = absurd (cc (h))
   by_lines (AllLines es) e h = either es e h
 
-pub mails_keep_yes : InputsStart → YesStabilisesMail → MailsKeepYes
-mails_keep_yes starts law program network log r h = by_input h.judged h.reads h.ends
+pub mails_keep_yes : TextsUnfold → InputsStart → YesStabilisesMail → MailsKeepYes
+mails_keep_yes unfolds starts law program network log r h = by_input h.judged h.reads h.ends
   where
-    by_scene : (i : InputOf) → ReadsInput program network (Accepted i) → MailsScene i.0 i.1 log (Accepted r) → MailKeepsYes program network log r.text
-    by_scene i reads e =
-        by_lines starts law program network log r i reads e.nodes e.is_program e.unfolded (mail_log log) refl
-        (subst (λ (V : Unfolding). MailsLines V (quiet (start_of i.1)) (mail_log log) (Accepted r)) (sym e.unfolded) e.ends)
-
     by_input : (j : Judged InputOf) → ReadsInput program network j → AndThen j (λ i k. MailsScene i.0 i.1 log k) (Accepted r) → MailKeepsYes program network log r.text
     by_input (Refused cause) reads e = absurd (cc (e))
-    by_input (Accepted i) reads e = by_scene i reads e
+    by_input (Accepted i) reads e = by_lines unfolds starts law program network log r i reads (mail_log log) refl e
 
 -- ---- a number
 
-module _ (starts : InputsStart) (law : YesStabilisesMail) (runs : RunsKeepGood) (covers : DrivenRounds) (most : NoMoreRounds) (number : ℕ) (program network : List ℕ) (r : Reply) (zero_is : r.status ≡ 0)
-    (i : InputOf) (reads : ReadsInput program network (Accepted i)) (P : Program) (is : IsProgram P) (unfolded : unfolding_of P ≡ i.0) where
-  driven_on : (k : ℕ) → verdict_of (unfolding_of P) (length i.1.net.devices) ≡ verdict.Yes k → WritesDriven number (unfolding_of P) i.1 k (Accepted r)
+module _ (unfolds : TextsUnfold) (starts : InputsStart) (law : YesStabilisesMail) (runs : RunsKeepGood) (covers : DrivenRounds) (most : NoMoreRounds) (number : ℕ) (program network : List ℕ) (r : Reply) (zero_is : r.status ≡ 0)
+    (i : InputOf) (reads : ReadsInput program network (Accepted i)) where
+  driven_on : (k : ℕ) → verdict_of i.0 (length i.1.net.devices) ≡ verdict.Yes k → WritesDriven number i.0 i.1 k (Accepted r)
       → DrivenMailKeepsYes number program network r.text
   driven_on k said h =
-      let m = stabilised starts law program network i reads P is unfolded k said in
+      let m = stabilised unfolds starts program network i reads law k said in
       let log : List MailEntryValue = driven_log number i.1.net k in
-      let good : IsGood (unfolding_of P) h.core = runs P (start_of i.1) h.core (entries_of (ends_of (in_flight (start_of i.1)))) is (start starts law program network i reads P is unfolded).good h.settles in
-      let begins : IsMailStart (unfolding_of P) (quiet h.core) = quiet_start (unfolding_of P) h.core good in
-      let same : h.core.net ≡ i.1.net = settled_net (unfolding_of P) i.1 h.core h.settles in
-      let has : HasMailRounds i.1.net 0 nothing log k = covers i.1.net k (words_of number) (net starts law program network i reads P is unfolded) in
+      let begins : IsMailStart i.0 (quiet h.core) = quiet_start i.0 h.core (settled_good unfolds starts program network i reads runs h.core h.settles) in
+      let same : h.core.net ≡ i.1.net = settled_net i.0 i.1 h.core h.settles in
+      let there : IsNetwork i.1.net = net unfolds starts program network i reads in
+      let has : HasMailRounds i.1.net 0 nothing log k = covers i.1.net k (words_of number) there in
       let text : r.text ≡ verdict_text (verdict.Yes k) ++ values_text h.last.core ++ rounds_text h.count = ap (λ (x : Reply). x.text) (accepted_same r _ h.is) in
       let enough : k ≤ h.count = h.counted.greatest k has in
       record {
-        nodes = P;
-        is_program = is;
+        unfolded = i.0;
         scene = i.1;
-        reads = reads_nodes starts law program network i reads P is unfolded;
+        reads = reads;
         rounds = k;
         yes = said;
         core = h.core;
@@ -138,34 +140,30 @@ module _ (starts : InputsStart) (law : YesStabilisesMail) (runs : RunsKeepGood) 
         count = h.count;
         counted = h.counted;
         enough = enough;
-        no_more = λ links. let few = most i.1.net k h.count (words_of number) (net starts law program network i reads P is unfolded) links h.counted.has in omega arith;
+        no_more = λ links. let few = most i.1.net k h.count (words_of number) there links h.counted.has in omega arith;
         writes = text;
         stabilises = m;
-        holds = held (unfolding_of P) i.1.net k m (quiet h.core) h.last log begins same h.leads has;
+        holds = held i.0 i.1.net k m (quiet h.core) h.last log begins same h.leads has;
         shows = text ∙ ap (λ v. verdict_text (verdict.Yes k) ++ v ++ rounds_text h.count)
-            (field_values (unfolding_of P) i.1.net k m (quiet h.core) h.last log begins same h.leads has);
+            (field_values i.0 i.1.net k m (quiet h.core) h.last log begins same h.leads has);
       }
 
-  within : (b : Bool) (k : ℕ) → verdict_of (unfolding_of P) (length i.1.net.devices) ≡ verdict.Yes k → DrivesWithin b number (unfolding_of P) i.1 k (Accepted r)
+  within : (b : Bool) (k : ℕ) → verdict_of i.0 (length i.1.net.devices) ≡ verdict.Yes k → DrivesWithin b number i.0 i.1 k (Accepted r)
       → DrivenMailKeepsYes number program network r.text
   within true k said h = absurd (cc (h))
   within false k said h = driven_on k said h
 
-  by_verdict : (v : Verdict) → verdict_of (unfolding_of P) (length i.1.net.devices) ≡ v → DrivesBy number v (unfolding_of P) i.1 (Accepted r)
+  by_verdict : (v : Verdict) → verdict_of i.0 (length i.1.net.devices) ≡ v → DrivesBy number v i.0 i.1 (Accepted r)
       → DrivenMailKeepsYes number program network r.text
   by_verdict (verdict.No place why) e h =
       let one : 0 ≡ 1 = sym zero_is ∙ ap (λ (x : Reply). x.status) (accepted_same r _ h) in
       absurd (cc one)
   by_verdict (verdict.Yes k) e h = within (nat_lt MOST_MESSAGES (messages i.1.net k)) k e h
 
-pub driven_mails_keep_yes : InputsStart → YesStabilisesMail → RunsKeepGood → DrivenRounds → NoMoreRounds → DrivenMailsKeepYes
-driven_mails_keep_yes starts law runs covers most number program network r h zero = by_input h.judged h.reads h.ends
+pub driven_mails_keep_yes : TextsUnfold → InputsStart → YesStabilisesMail → RunsKeepGood → DrivenRounds → NoMoreRounds → DrivenMailsKeepYes
+driven_mails_keep_yes unfolds starts law runs covers most number program network r h zero = by_input h.judged h.reads h.ends
   where
-    by_scene : (i : InputOf) → ReadsInput program network (Accepted i) → DrivesScene number i.0 i.1 (Accepted r) → DrivenMailKeepsYes number program network r.text
-    by_scene i reads e =
-        by_verdict starts law runs covers most number program network r zero i reads e.nodes e.is_program e.unfolded (verdict_of (unfolding_of e.nodes) (length i.1.net.devices)) refl
-        (subst (λ (V : Unfolding). DrivesBy number (verdict_of (unfolding_of e.nodes) (length i.1.net.devices)) V i.1 (Accepted r)) (sym e.unfolded) e.drives)
-
     by_input : (j : Judged InputOf) → ReadsInput program network j → AndThen j (λ i k. DrivesScene number i.0 i.1 k) (Accepted r) → DrivenMailKeepsYes number program network r.text
     by_input (Refused cause) reads e = absurd (cc (e))
-    by_input (Accepted i) reads e = by_scene i reads e
+    by_input (Accepted i) reads e =
+        by_verdict unfolds starts law runs covers most number program network r zero i reads (verdict_of i.0 (length i.1.net.devices)) refl e

@@ -25,9 +25,7 @@ use Rattle.fc_values.specs.declared.limits.TheConstants.{MOST_BYTES}
 use Rattle.fc_inputs.specs.declared.refusal.Refusal.TheVariants as refusal
 use Rattle.fc_inputs.specs.Refusals.{Reply}
 use Rattle.fc_inputs.specs.Causes.{Plainly, Judged, Accepted, Refused, AndThen}
-use Rattle.fc_inputs.specs.Inputs.{InputOf, OneInput, ReadsInput}
-use Rattle.fc_check.specs.Checks.{ChecksScene}
-use Rattle.fc_check.specs.Laws.{OneVerdict, SomeCheck}
+use Rattle.fc_inputs.specs.Inputs.{InputOf, OneInput, ReadsInput, TextsUnfold}
 use Rattle.fc_replay.specs.Replays.{start_of}
 use Rattle.fc_replay.specs.Laws.{InputsStart}
 use Rattle.fc_mail.specs.Mails.{Mails, MailsLines, MailsScene}
@@ -43,46 +41,36 @@ scene_start starts program network i r = quiet_start i.0 (start_of i.1) (starts 
 
 -- ---- a mail log
 
-pub one_mail : OneInput → InputsStart → MailLogsLeadToOne → MailLogsFailOnce → MailLogsLeadOrFail → (program network log : List ℕ) (j k : Judged Reply)
-    → Mails program network log j → Mails program network log k → j ≡ k
-one_mail input starts one once either program network log j k h g =
-    let i = input program network in
-    let same : h.judged ≡ g.judged = i.2 h.judged h.reads ∙ sym (i.2 g.judged g.reads) in
-    by_input g.judged g.reads (subst (λ i. AndThen i (λ i k. MailsScene i.0 i.1 log k) j) same h.ends) g.ends
-  where
-    by_scene : (i : InputOf) → ReadsInput program network (Accepted i) → MailsScene i.0 i.1 log j → MailsScene i.0 i.1 log k → j ≡ k
-    by_scene i r e f =
-        let start : IsMailStart (unfolding_of e.nodes) (quiet (start_of i.1)) = subst (λ U. IsMailStart U (quiet (start_of i.1))) (sym e.unfolded) (scene_start starts program network i r) in
-        let at : (x : Judged Reply) → MailsLines i.0 (quiet (start_of i.1)) (mail_log log) x → MailsLines (unfolding_of e.nodes) (quiet (start_of i.1)) (mail_log log) x =
-        λ x m. subst (λ U. MailsLines U (quiet (start_of i.1)) (mail_log log) x) (sym e.unfolded) m in
-        one_lines one once either e.nodes e.is_program (quiet (start_of i.1)) start (mail_log log) j k (at j e.ends) (at k f.ends)
+module _ (input : OneInput) (unfolds : TextsUnfold) (starts : InputsStart) (program network log : List ℕ) where
+  pub one_mail : MailLogsLeadToOne → MailLogsFailOnce → MailLogsLeadOrFail → (j k : Judged Reply) → Mails program network log j → Mails program network log k → j ≡ k
+  one_mail one once either j k h g =
+      let i = input program network h.reads.short in
+      let same : h.judged ≡ g.judged = i.2 h.judged h.reads ∙ sym (i.2 g.judged g.reads) in
+      by_input g.judged g.reads (subst (λ i. AndThen i (λ i k. MailsScene i.0 i.1 log k) j) same h.ends) g.ends
+    where
+      AtScene : SceneValue → Unfolding → Type 0
+      AtScene s U = IsMailStart U (quiet (start_of s)) → MailsScene U s log j → MailsScene U s log k → j ≡ k
 
-    by_input : (i : Judged InputOf) → ReadsInput program network i → AndThen i (λ i k. MailsScene i.0 i.1 log k) j → AndThen i (λ i k. MailsScene i.0 i.1 log k) k → j ≡ k
-    by_input (Refused cause) r e f = e ∙ sym f
-    by_input (Accepted i) r e f = by_scene i r e f
+      by_input : (i : Judged InputOf) → ReadsInput program network i → AndThen i (λ i k. MailsScene i.0 i.1 log k) j → AndThen i (λ i k. MailsScene i.0 i.1 log k) k → j ≡ k
+      by_input (Refused cause) r e f = e ∙ sym f
+      by_input (Accepted i) r e f =
+          let p = unfolds program network i r in
+          subst (AtScene i.1) p.2 (λ start e f. one_lines one once either p.0 p.1 (quiet (start_of i.1)) start (mail_log log) j k e f) (scene_start starts program network i r) e f
 
-pub some_mail : SomeCheck → InputsStart → MailLogsEnd → SomeGreatestMail → (program network log : List ℕ) → length program ≤ MOST_BYTES → (j : Judged Reply) × Mails program network log j
-some_mail check starts ends greatest program network log short =
-    let c = check false program network short in
-    by_input c.0 c.1.judged c.1.reads c.1.ends
-  where
-    by_input : (k : Judged Reply) (i : Judged InputOf) → ReadsInput program network i → AndThen i (λ i k. ChecksScene false i.0 i.1 k) k → (j : Judged Reply) × Mails program network log j
-    by_input k (Refused cause) r e = (Refused cause, record { judged = Refused cause; reads = r; ends = refl })
-    by_input k (Accepted i) r e =
-        let start : IsMailStart (unfolding_of e.nodes) (quiet (start_of i.1)) = subst (λ U. IsMailStart U (quiet (start_of i.1))) (sym e.unfolded) (scene_start starts program network i r) in
-        let made = some_lines ends greatest e.nodes e.is_program (quiet (start_of i.1)) start (mail_log log) in (
-          made.0,
-          record {
-            judged = Accepted i;
-            reads = r;
-            ends = record {
-              nodes = e.nodes;
-              is_program = e.is_program;
-              unfolded = e.unfolded;
-              ends = subst (λ U. MailsLines U (quiet (start_of i.1)) (mail_log log) made.0) e.unfolded made.1;
-            };
-          },
-        )
+  pub some_mail : MailLogsEnd → SomeGreatestMail → length program ≤ MOST_BYTES → (j : Judged Reply) × Mails program network log j
+  some_mail ends greatest short =
+      let i = input program network short in
+      by_input i.0 i.1
+    where
+      AtScene : SceneValue → Unfolding → Type 0
+      AtScene s U = IsMailStart U (quiet (start_of s)) → (j : Judged Reply) × MailsScene U s log j
+
+      by_input : (i : Judged InputOf) → ReadsInput program network i → (j : Judged Reply) × Mails program network log j
+      by_input (Refused cause) r = (Refused cause, record { judged = Refused cause; reads = r; ends = refl })
+      by_input (Accepted i) r =
+          let p = unfolds program network i r in
+          let made = subst (AtScene i.1) p.2 (λ start. some_lines ends greatest p.0 p.1 (quiet (start_of i.1)) start (mail_log log)) (scene_start starts program network i r) in
+          (made.0, record { judged = Accepted i; reads = r; ends = made.1 })
 
 -- ---- a driven log
 
@@ -106,20 +94,20 @@ module _ (cores : LogsLeadToOne) (mails : MailLogsLeadToOne) (number : ℕ) (P :
   one_driven_by (verdict.No place why) h g = h ∙ sym g
   one_driven_by (verdict.Yes rounds) h g = one_within (nat_lt MOST_MESSAGES (messages s.net rounds)) rounds h g
 
-pub one_driven : OneInput → InputsStart → OneVerdict → LogsLeadToOne → RunsKeepGood → MailLogsLeadToOne → (number : ℕ) (program network : List ℕ) (j k : Judged Reply) → DrivesMail number program network j → DrivesMail number program network k → j ≡ k
-one_driven input starts verdicts cores runs mails number program network j k h g =
-    let i = input program network in
+pub one_driven : OneInput → TextsUnfold → InputsStart → LogsLeadToOne → RunsKeepGood → MailLogsLeadToOne → (number : ℕ) (program network : List ℕ) (j k : Judged Reply) → DrivesMail number program network j → DrivesMail number program network k → j ≡ k
+one_driven input unfolds starts cores runs mails number program network j k h g =
+    let i = input program network h.reads.short in
     let same : h.judged ≡ g.judged = i.2 h.judged h.reads ∙ sym (i.2 g.judged g.reads) in
     by_input g.judged g.reads (subst (λ i. AndThen i (λ i k. DrivesScene number i.0 i.1 k) j) same h.ends) g.ends
   where
+    AtScene : SceneValue → Unfolding → Type 0
+    AtScene s U = IsGood U (start_of s) → DrivesScene number U s j → DrivesScene number U s k → j ≡ k
+
     by_input : (i : Judged InputOf) → ReadsInput program network i → AndThen i (λ i k. DrivesScene number i.0 i.1 k) j → AndThen i (λ i k. DrivesScene number i.0 i.1 k) k → j ≡ k
     by_input (Refused cause) r e f = e ∙ sym f
     by_input (Accepted i) r e f =
-        let v = verdicts e.nodes f.nodes e.is_program f.is_program (e.unfolded ∙ sym f.unfolded) (length i.1.net.devices) in
-        let good : IsGood (unfolding_of f.nodes) (start_of i.1) = subst (λ U. IsGood U (start_of i.1)) (sym f.unfolded) (starts program network i r).good in
-        let at : (x : Judged Reply) → DrivesBy number (verdict_of (unfolding_of f.nodes) (length i.1.net.devices)) i.0 i.1 x → DrivesBy number (verdict_of (unfolding_of f.nodes) (length i.1.net.devices)) (unfolding_of f.nodes) i.1 x =
-        λ x m. subst (λ U. DrivesBy number (verdict_of (unfolding_of f.nodes) (length i.1.net.devices)) U i.1 x) (sym f.unfolded) m in
-        one_driven_by cores mails number f.nodes f.is_program i.1 good runs j k (verdict_of (unfolding_of f.nodes) (length i.1.net.devices)) (at j (subst (λ v. DrivesBy number v i.0 i.1 j) v e.drives)) (at k f.drives)
+        let p = unfolds program network i r in
+        subst (AtScene i.1) p.2 (λ good e f. one_driven_by cores mails number p.0 p.1 i.1 good runs j k (verdict_of (unfolding_of p.0) (length i.1.net.devices)) e f) (starts program network i r).good e f
 
 module _ (free : FaultlessStep) (keeps : StepsKeepGood) (leads : DrivenLeads) (greatest : SomeGreatestMail) (number : ℕ) (P : Program) (is : IsProgram P) (s : SceneValue)
     (good : IsGood (unfolding_of P) (start_of s)) where
@@ -146,25 +134,17 @@ module _ (free : FaultlessStep) (keeps : StepsKeepGood) (leads : DrivenLeads) (g
   some_driven_by (verdict.No place why) = (Accepted (record { status = 1; text = verdict_text (verdict.No place why) }), refl)
   some_driven_by (verdict.Yes rounds) = some_within (nat_lt MOST_MESSAGES (messages s.net rounds)) rounds
 
-pub some_driven : SomeCheck → InputsStart → FaultlessStep → StepsKeepGood → DrivenLeads → SomeGreatestMail → (number : ℕ) (program network : List ℕ) → length program ≤ MOST_BYTES → (j : Judged Reply) × DrivesMail number program network j
-some_driven check starts free keeps leads greatest number program network short =
-    let c = check false program network short in
-    by_input c.0 c.1.judged c.1.reads c.1.ends
+pub some_driven : OneInput → TextsUnfold → InputsStart → FaultlessStep → StepsKeepGood → DrivenLeads → SomeGreatestMail → (number : ℕ) (program network : List ℕ) → length program ≤ MOST_BYTES → (j : Judged Reply) × DrivesMail number program network j
+some_driven input unfolds starts free keeps leads greatest number program network short =
+    let i = input program network short in
+    by_input i.0 i.1
   where
-    by_input : (k : Judged Reply) (i : Judged InputOf) → ReadsInput program network i → AndThen i (λ i k. ChecksScene false i.0 i.1 k) k → (j : Judged Reply) × DrivesMail number program network j
-    by_input k (Refused cause) r e = (Refused cause, record { judged = Refused cause; reads = r; ends = refl })
-    by_input k (Accepted i) r e =
-        let good : IsGood (unfolding_of e.nodes) (start_of i.1) = subst (λ U. IsGood U (start_of i.1)) (sym e.unfolded) (starts program network i r).good in
-        let made = some_driven_by free keeps leads greatest number e.nodes e.is_program i.1 good (verdict_of (unfolding_of e.nodes) (length i.1.net.devices)) in (
-          made.0,
-          record {
-            judged = Accepted i;
-            reads = r;
-            ends = record {
-              nodes = e.nodes;
-              is_program = e.is_program;
-              unfolded = e.unfolded;
-              drives = subst (λ U. DrivesBy number (verdict_of (unfolding_of e.nodes) (length i.1.net.devices)) U i.1 made.0) e.unfolded made.1;
-            };
-          },
-        )
+    AtScene : SceneValue → Unfolding → Type 0
+    AtScene s U = IsGood U (start_of s) → (j : Judged Reply) × DrivesScene number U s j
+
+    by_input : (i : Judged InputOf) → ReadsInput program network i → (j : Judged Reply) × DrivesMail number program network j
+    by_input (Refused cause) r = (Refused cause, record { judged = Refused cause; reads = r; ends = refl })
+    by_input (Accepted i) r =
+        let p = unfolds program network i r in
+        let made = subst (AtScene i.1) p.2 (λ good. some_driven_by free keeps leads greatest number p.0 p.1 i.1 good (verdict_of (unfolding_of p.0) (length i.1.net.devices))) (starts program network i r).good in
+        (made.0, record { judged = Accepted i; reads = r; ends = made.1 })

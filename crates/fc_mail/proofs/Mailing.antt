@@ -1,7 +1,7 @@
 -- What the code of `mail` makes of a log.
 use Rattle.std.proofs.Common.{◌≡◌, ℕ, List, [], ◌∷◌, ◌++◌, length, length-append, map, refl, sym, ◌∙◌, ap, ap₂, subst, arith, inl, inr}
 use Rattle.std.specs.Prelude.{slice_index}
-use Rattle.fc_nodes.specs.Program.{IsProgram, Program, Unfolding, unfolding_of}
+use Rattle.fc_nodes.specs.Program.{Unfolding}
 use Rattle.message_links.specs.MailCores.{MailCore, MailEntryValue, MailRun}
 use Rattle.message_links.specs.MailRounds.{posts_of}
 use Rattle.message_links.specs.declared.entries.MailReplay.{MailReplay}
@@ -71,14 +71,14 @@ stops U start log lines (replay.At index why) q h =
 
 -- ---- replies
 
-module _ (program network log : List ℕ) (P : Program) (is : IsProgram P) (s : SceneValue) (reads : ReadsInput program network (Accepted (unfolding_of P, s))) where
-  ends_in : (j : Judged Reply) → MailsLines (unfolding_of P) (quiet (start_of s)) (mail_log log) j → Mails program network log j
-  ends_in j h = record { judged = Accepted (unfolding_of P, s); reads = reads; ends = record { nodes = P; is_program = is; unfolded = refl; ends = h } }
+module _ (program network log : List ℕ) (U : Unfolding) (s : SceneValue) (reads : ReadsInput program network (Accepted (U, s))) where
+  ends_in : (j : Judged Reply) → MailsLines U (quiet (start_of s)) (mail_log log) j → Mails program network log j
+  ends_in j h = record { judged = Accepted (U, s); reads = reads; ends = h }
 
   pub faulty_log : (cause : Cause) → IsFaultyMail (mail_log log) cause → Mails program network log (Refused cause)
   faulty_log cause h = ends_in (Refused cause) (by_lines (mail_log log) h)
     where
-      by_lines : (lines : Lines (Unit {0}) MailEntryValue) → IsFaultyMail lines cause → MailsLines (unfolding_of P) (quiet (start_of s)) lines (Refused cause)
+      by_lines : (lines : Lines (Unit {0}) MailEntryValue) → IsFaultyMail lines cause → MailsLines U (quiet (start_of s)) lines (Refused cause)
       by_lines (AllLines ls) q = absurd q
       by_lines (StopsAt at u) q = ap (λ c. Refused c) q
 
@@ -86,12 +86,12 @@ module _ (program network log : List ℕ) (P : Program) (is : IsProgram P) (s : 
     all_lines : mail_log log ≡ AllLines es
     all_lines = read_whole (mail_log log) es said
 
-    pub stopped_log : (cause : Cause) → IsStoppedMail (unfolding_of P) (quiet (start_of s)) es cause → Mails program network log (Refused cause)
-    stopped_log cause h = ends_in (Refused cause) (subst (λ l. MailsLines (unfolding_of P) (quiet (start_of s)) l (Refused cause)) (sym all_lines)
+    pub stopped_log : (cause : Cause) → IsStoppedMail U (quiet (start_of s)) es cause → Mails program network log (Refused cause)
+    stopped_log cause h = ends_in (Refused cause) (subst (λ l. MailsLines U (quiet (start_of s)) l (Refused cause)) (sym all_lines)
         (inr (record { index = h.index; fault = h.fault; fails = h.fails; why = h.why; told = h.told; is = ap (λ c. Refused c) h.is })))
 
-    pub shown_log : (r : Reply) (last : MailCore) (rounds : ℕ) → MailRun (unfolding_of P) 0 (quiet (start_of s)) (entries_in es) last
+    pub shown_log : (r : Reply) (last : MailCore) (rounds : ℕ) → MailRun U 0 (quiet (start_of s)) (entries_in es) last
         → IsGreatestMail (quiet (start_of s)).core.net (posts_of (quiet (start_of s))) (entries_in es) rounds
         → r ≡ record { status = 0; text = values_text last.core ++ rounds_text rounds } → Mails program network log (Accepted r)
-    shown_log r last rounds leads counted is_r = ends_in (Accepted r) (subst (λ l. MailsLines (unfolding_of P) (quiet (start_of s)) l (Accepted r)) (sym all_lines)
+    shown_log r last rounds leads counted is_r = ends_in (Accepted r) (subst (λ l. MailsLines U (quiet (start_of s)) l (Accepted r)) (sym all_lines)
         (inl (record { last = last; leads = leads; rounds = rounds; counted = counted; is = ap (λ x. Accepted x) is_r })))

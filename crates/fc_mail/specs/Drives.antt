@@ -2,7 +2,7 @@
 -- mail log leads that is made from the number, and the greatest number of its rounds. The flights of the scene are
 -- ended first, and the log starts with nothing heard and nothing in transit.
 use Rattle.std.specs.Prelude.{ℕ, true, false, ◌≡◌, ◌+◌, ◌*◌, Bool, nat_lt, List, ◌++◌, length}
-use Rattle.fc_nodes.specs.Program.{IsProgram, Program, Unfolding, unfolding_of}
+use Rattle.fc_nodes.specs.Program.{Unfolding}
 use Rattle.fc_nodes.specs.declared.verdicts.Verdict.{Verdict}
 use Rattle.fc_nodes.specs.declared.verdicts.Verdict.TheVariants as verdict
 use Rattle.topology.specs.Networks.{Network}
@@ -62,12 +62,9 @@ DrivesBy number (verdict.No place why) U s j =
 DrivesBy number (verdict.Yes rounds) U s j =
     DrivesWithin (nat_lt MOST_MESSAGES (messages s.net rounds)) number U s rounds j
 
--- a program and a scene of it: the program is unfolded
-pub record DrivesScene (number : ℕ) (U : Unfolding) (s : SceneValue) (j : Judged Reply) : Type 0 where
-  pub nodes : Program
-  pub is_program : IsProgram nodes
-  pub unfolded : unfolding_of nodes ≡ U
-  pub drives : DrivesBy number (verdict_of (unfolding_of nodes) (length s.net.devices)) U s j
+-- a program and a scene of it
+abbrev pub DrivesScene : ℕ → Unfolding → SceneValue → Judged Reply → Type 0
+DrivesScene number U s j = DrivesBy number (verdict_of U (length s.net.devices)) U s j
 
 -- the texts of a program and of a scene
 pub record DrivesMail (number : ℕ) (program network : List ℕ) (j : Judged Reply) : Type 0 where

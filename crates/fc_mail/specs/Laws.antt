@@ -1,6 +1,6 @@
 -- `mail` has a result for texts within the limit, and only one; and what it writes keeps a yes.
 use Rattle.std.specs.Prelude.{ℕ, ◌≡◌, ◌≤◌, List, ◌++◌, length}
-use Rattle.fc_nodes.specs.Program.{IsProgram, Program, unfolding_of}
+use Rattle.fc_nodes.specs.Program.{Unfolding}
 use Rattle.fc_nodes.specs.declared.verdicts.Verdict.TheVariants as verdict
 use Rattle.fragment_check.specs.Verdicts.{verdict_of}
 use Rattle.mail_laws.specs.Laws.{MailStabilises}
@@ -46,22 +46,21 @@ SomeDrivenMail = (number : ℕ) (program network : List ℕ) → length program 
 -- each device holds its value of the one field that solves the program on the scene's network, and this field is what
 -- is written.
 pub record MailKeepsYes (program network log text : List ℕ) : Type 0 where
-  pub nodes : Program
-  pub is_program : IsProgram nodes
+  pub unfolded : Unfolding
   pub scene : SceneValue
-  pub reads : ReadsInput program network (Accepted (unfolding_of nodes, scene))
+  pub reads : ReadsInput program network (Accepted (unfolded, scene))
   pub entries : Mailed
   pub lines : mail_log log ≡ AllLines entries
   pub last : MailCore
-  pub leads : MailRun (unfolding_of nodes) 0 (quiet (start_of scene)) (entries_in entries) last
+  pub leads : MailRun unfolded 0 (quiet (start_of scene)) (entries_in entries) last
   pub rounds : ℕ
   pub counted : IsGreatestMail scene.net nothing (entries_in entries) rounds
   pub writes : text ≡ values_text last.core ++ rounds_text rounds
-  pub stabilises : (k : ℕ) → verdict_of (unfolding_of nodes) (length scene.net.devices) ≡ verdict.Yes k
-      → MailStabilises (unfolding_of nodes) scene.net k
-  pub holds : (k : ℕ) (judged : verdict_of (unfolding_of nodes) (length scene.net.devices) ≡ verdict.Yes k) → k ≤ rounds
+  pub stabilises : (k : ℕ) → verdict_of unfolded (length scene.net.devices) ≡ verdict.Yes k
+      → MailStabilises unfolded scene.net k
+  pub holds : (k : ℕ) (judged : verdict_of unfolded (length scene.net.devices) ≡ verdict.Yes k) → k ≤ rounds
       → Holds last.core (stabilises k judged).one.field
-  pub shows : (k : ℕ) (judged : verdict_of (unfolding_of nodes) (length scene.net.devices) ≡ verdict.Yes k) → k ≤ rounds
+  pub shows : (k : ℕ) (judged : verdict_of unfolded (length scene.net.devices) ≡ verdict.Yes k) → k ≤ rounds
       → text ≡ field_text (field_on scene.net (stabilises k judged).one.field) ++ rounds_text rounds
 
 -- The verdict is a yes, within whose rounds the program stabilises over message links. Once the flights of the scene
@@ -70,22 +69,21 @@ pub record MailKeepsYes (program network log text : List ℕ) : Type 0 where
 -- log: at least those of the yes, and where the network has a link no more. So each device holds its value of the one
 -- field that solves the program on the scene's network, and this field is what is written.
 pub record DrivenMailKeepsYes (number : ℕ) (program network text : List ℕ) : Type 0 where
-  pub nodes : Program
-  pub is_program : IsProgram nodes
+  pub unfolded : Unfolding
   pub scene : SceneValue
-  pub reads : ReadsInput program network (Accepted (unfolding_of nodes, scene))
+  pub reads : ReadsInput program network (Accepted (unfolded, scene))
   pub rounds : ℕ
-  pub yes : verdict_of (unfolding_of nodes) (length scene.net.devices) ≡ verdict.Yes rounds
+  pub yes : verdict_of unfolded (length scene.net.devices) ≡ verdict.Yes rounds
   pub core : Core
-  pub settles : Settles (unfolding_of nodes) scene core
+  pub settles : Settles unfolded scene core
   pub last : MailCore
-  pub leads : MailRun (unfolding_of nodes) 0 (quiet core) (driven_log number scene.net rounds) last
+  pub leads : MailRun unfolded 0 (quiet core) (driven_log number scene.net rounds) last
   pub count : ℕ
   pub counted : IsGreatestMail scene.net nothing (driven_log number scene.net rounds) count
   pub enough : rounds ≤ count
   pub no_more : 1 ≤ length scene.net.links → count ≡ rounds
   pub writes : text ≡ verdict_text (verdict.Yes rounds) ++ values_text last.core ++ rounds_text count
-  pub stabilises : MailStabilises (unfolding_of nodes) scene.net rounds
+  pub stabilises : MailStabilises unfolded scene.net rounds
   pub holds : Holds last.core stabilises.one.field
   pub shows : text ≡ verdict_text (verdict.Yes rounds)
       ++ field_text (field_on scene.net stabilises.one.field) ++ rounds_text count

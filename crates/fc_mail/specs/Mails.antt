@@ -1,6 +1,6 @@
 -- What `mail` makes of a program, a scene and a mail log.
 use Rattle.std.specs.Prelude.{ℕ, ◌≡◌, ◌⊎◌, List, ◌++◌, map, slice_index, Option, Some}
-use Rattle.fc_nodes.specs.Program.{IsProgram, Program, Unfolding, unfolding_of}
+use Rattle.fc_nodes.specs.Program.{Unfolding}
 use Rattle.topology.specs.declared.types.NetFault.TheVariants as net
 use Rattle.message_links.specs.MailCores.{MailCore, MailEntryValue, MailRun}
 use Rattle.message_links.specs.MailRounds.{posts_of}
@@ -60,12 +60,9 @@ abbrev pub MailsLines : Unfolding → MailCore → Lines (Unit {0}) MailEntryVal
 MailsLines U start (StopsAt at tt) j = j ≡ Refused (Plainly (log_refusal at Form))
 MailsLines U start (AllLines log) j = ShowsMail U start log j ⊎ StopsMail U start log j
 
--- a program and a scene of it, in which nothing was heard and nothing is in transit: the program is unfolded
-pub record MailsScene (U : Unfolding) (s : SceneValue) (log : List ℕ) (j : Judged Reply) : Type 0 where
-  pub nodes : Program
-  pub is_program : IsProgram nodes
-  pub unfolded : unfolding_of nodes ≡ U
-  pub ends : MailsLines U (quiet (start_of s)) (mail_log log) j
+-- a program and a scene of it, in which nothing was heard and nothing is in transit
+abbrev pub MailsScene : Unfolding → SceneValue → List ℕ → Judged Reply → Type 0
+MailsScene U s log j = MailsLines U (quiet (start_of s)) (mail_log log) j
 
 -- the texts of a program, a scene and a mail log
 pub record Mails (program network log : List ℕ) (j : Judged Reply) : Type 0 where

@@ -16,7 +16,7 @@ ghost use Rattle.fc_inputs.specs.Causes.{Accepted, Refused};
 ghost use Rattle.fc_inputs.specs.Stops.{StopsFor};
 ghost use Rattle.fc_values.specs.declared.limits.TheConstants.{MOST_BYTES};
 ghost use Rattle.fc_mail.specs.Code.{IsSettledOf};
-ghost use Rattle.fc_mail.specs.Drives.{DrivesBy, DrivesMail, WritesDriven, messages};
+ghost use Rattle.fc_mail.specs.Drives.{DrivesMail, DrivesScene, WritesDriven, messages};
 
 use crate::shown::show;
 use fc_inputs::{Refusal, Reply, Stop, read_input};
@@ -124,10 +124,10 @@ fn of_scene(alloc: Global, number: u32, program: Unfolded, scene: Scene) -> Resu
     requires declared { scene.net.declared ≡ program.declared }
     requires rows { AreRows (unfolding_of program) scene.net scene.table.items }
     requires copies { AreCopies (unfolding_of program) scene.net scene.pending.items }
-    ensures writes { IfOk result (λ r. DrivesBy number (verdict_of (unfolding_of program) (length scene.net.devices))
-        (unfolding_of program) (value_of_scene (unfolding_of program) scene) (Accepted r)) }
-    ensures refused { IfErr result (StopsFor (λ cause. DrivesBy number (verdict_of (unfolding_of program) (length scene.net.devices))
-        (unfolding_of program) (value_of_scene (unfolding_of program) scene) (Refused cause))) }
+    ensures writes { IfOk result (λ r. DrivesScene number (unfolding_of program)
+        (value_of_scene (unfolding_of program) scene) (Accepted r)) }
+    ensures refused { IfErr result (StopsFor (λ cause. DrivesScene number (unfolding_of program)
+        (value_of_scene (unfolding_of program) scene) (Refused cause))) }
 {
     // Its clause: the network has devices.
     let devices = scene.net.devices().len() as u32;

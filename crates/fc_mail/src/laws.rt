@@ -3,8 +3,7 @@
 ghost use Rattle.fc_mail.specs.Laws.{DrivenMailsKeepYes, MailsKeepYes};
 ghost use Rattle.fc_mail.specs.Laws.{OneDrivenMail, OneMail, SomeDrivenMail, SomeMail};
 
-use fc_check::{one_verdict, some_check};
-use fc_inputs::one_input;
+use fc_inputs::{one_input, texts_unfold};
 use fc_replay::inputs_start;
 use firing_core::{faultless_steps, logs_decide, steps_keep_good};
 use mail_book::mail_logs_end;
@@ -18,9 +17,9 @@ pub fn one_mail()
     ensures number { OneDrivenMail }
 {
     one_input();
+    texts_unfold();
     inputs_start();
     mail_logs_end();
-    one_verdict();
     logs_decide();
     steps_keep_good();
 }
@@ -30,7 +29,8 @@ pub fn some_mail()
     ensures log { SomeMail }
     ensures number { SomeDrivenMail }
 {
-    some_check();
+    one_input();
+    texts_unfold();
     inputs_start();
     mail_logs_end();
     some_greatest_mail();
@@ -46,6 +46,7 @@ pub fn mails_keep_yes()
     ensures log { MailsKeepYes }
     ensures number { DrivenMailsKeepYes }
 {
+    texts_unfold();
     inputs_start();
     yes_stabilises_mail();
     driven_rounds_cover();

@@ -117,8 +117,6 @@ pub fn mail(alloc: Global, program: &[u8], network: &[u8], log: &[u8]) -> Result
     ensures refused { IfErr result (StopsFor (λ cause. Mails program.now network.now log.now (Refused cause))) }
 {
     let (program, scene) = read_input(alloc, program, network)?;
-    // Its clause: the nodes are a program.
-    let _size = program.size();
     let log = read_lines(alloc, log)?;
     let book = replayed(alloc, program, scene, log)?;
     let mut text = Vec::new(alloc);

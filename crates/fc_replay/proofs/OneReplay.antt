@@ -88,7 +88,7 @@ module _ (readings : ReadingsAgree) (steps : StepsAgree) (replays : ReplaysAgree
   pub one_replay : (program network log : List ℕ) (j k : Judged Shown) → Replays options program network log j
       → Replays options program network log k → Alike j k
   one_replay program network log j k h g =
-      let one = input program network in
+      let one = input program network h.reads.short in
       let same : h.judged ≡ g.judged = one.2 h.judged h.reads ∙ sym (one.2 g.judged g.reads) in
       one_end log g.judged j k
       (subst (λ i. AndThen i (λ i k. ReplaysLog options i.0 (start_of i.1) (log_of i.0 i.1.net log) k) j) same h.ends)

@@ -48,11 +48,11 @@ module _ (options : ReplayOptions) (U : Unfolding) (start last : Core) (log : Li
       by_entries h.log (back.each h.log (subst (SaidBy (IsEntry U) h.log) (sym e) h.are)) h.ends
 
 pub written_logs : OneInput → InputsStart → TextsUnfold → TextsNameInputs → LogsReadBack → WrittenLogsReplay
-written_logs input starts unfolds names law options program network i log last j short reads run h =
-    let one = input program network in
+written_logs input starts unfolds names law options program network i log last j reads run h =
+    let one = input program network reads.short in
     let same : h.judged ≡ Accepted i = one.2 h.judged h.reads ∙ sym (one.2 (Accepted i) reads) in
     let there = starts program network i reads in
-    let p = unfolds program i.0 short there.text in
+    let p = unfolds program network i reads in
     let back : ReadsBack i.0 (start_of i.1) log last =
     subst AtProgram p.2 (law p.0 (start_of i.1) last log p.1) (names program i.0 there.text) there.good run in
     by_lines options i.0 (start_of i.1) last log j back (log_of i.0 i.1.net (log_lines i.0.declared.inputs log)) refl

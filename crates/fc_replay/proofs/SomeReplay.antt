@@ -226,7 +226,7 @@ inputs_start scenes program network i h =
 pub some_replay : OneInput → TextsUnfold → AcceptedScenesFit → FaultlessStep → StepsAgree → StepsKeepGood
     → SomeGreatest → LogsHaveEntries → SomeReplay
 some_replay input unfolds scenes faultless agree keep some entries options program network log short =
-    let one = input program network in
+    let one = input program network short in
     by_input one.0 one.1
   where
     -- under a program and a scene of it
@@ -245,6 +245,6 @@ some_replay input unfolds scenes faultless agree keep some entries options progr
     by_input (Refused cause) h = (Refused cause, record { judged = Refused cause; reads = h; ends = refl })
     by_input (Accepted i) h =
         let there = is_input program network i h in
-        let p = unfolds program i.0 short there.text in
+        let p = unfolds program network i h in
         let r = subst AtScene p.2 (at_scene p.0 p.1) i.1 there.scene_is in
         (r.0, record { judged = Accepted i; reads = h; ends = r.1 })

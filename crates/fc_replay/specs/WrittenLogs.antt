@@ -1,12 +1,11 @@
 -- A log that was written, given back as the log of the same program and scene.
-use Rattle.std.specs.Prelude.{ℕ, ◌≡◌, ◌≤◌, List, length}
+use Rattle.std.specs.Prelude.{◌≡◌, List, ℕ}
 use Rattle.fc_nodes.specs.Program.{Unfolding}
 use Rattle.firing_core.specs.Cores.{Core, Run}
 use Rattle.firing_core.specs.Entries.{EntryValue}
 use Rattle.edit_commands.specs.Agreement.{SameEntries}
 use Rattle.edit_commands.specs.LineByLine.{WhereAccepted}
 use Rattle.log_texts.specs.ReadingBack.{log_lines}
-use Rattle.fc_values.specs.declared.limits.TheConstants.{MOST_BYTES}
 use Rattle.fc_inputs.specs.Causes.{Judged, Accepted}
 use Rattle.fc_inputs.specs.Inputs.{InputOf, ReadsInput}
 use Rattle.command_words.specs.declared.commands.ReplayOptions.{ReplayOptions}
@@ -27,6 +26,6 @@ pub record ShowsLog (options : ReplayOptions) (U : Unfolding) (start : Core) (lo
 abbrev pub WrittenLogsReplay : Type 0
 WrittenLogsReplay =
     (options : ReplayOptions) (program network : List ℕ) (i : InputOf) (log : List EntryValue) (last : Core)
-    (j : Judged Shown) → length program ≤ MOST_BYTES → ReadsInput program network (Accepted i)
+    (j : Judged Shown) → ReadsInput program network (Accepted i)
     → Run i.0 (start_of i.1) log last → Replays options program network (log_lines i.0.declared.inputs log) j
     → WhereAccepted (ShowsLog options i.0 (start_of i.1) log last) j

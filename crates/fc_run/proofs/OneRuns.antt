@@ -1,6 +1,6 @@
 -- Texts are run to one text where the logs agree.
 use Rattle.std.proofs.Common.{ℕ, ◌≡◌, List, ◌++◌, refl, ap, ◌∙◌, sym, subst}
-use Rattle.fc_nodes.specs.Program.{Unfolding, unfolding_of}
+use Rattle.fc_nodes.specs.Program.{Program, Unfolding, IsProgram, unfolding_of}
 use Rattle.firing_core.specs.declared.entries.Part.{Part}
 use Rattle.firing_core.specs.Cores.{Core, IsGood}
 use Rattle.firing_core.specs.Entries.{EntryValue}
@@ -9,9 +9,9 @@ use Rattle.edit_commands.specs.LineByLine.{AllLines, StopsAt}
 use Rattle.edit_commands.specs.Scripts.{CommandValue, Script, TooManyLines, Within, script_of}
 use Rattle.report.specs.Logs.{log_text}
 use Rattle.session.specs.Laws.{OneScriptRun}
-use Rattle.fc_check.specs.Laws.{OneVerdict}
+use Rattle.session.specs.ScriptRuns.{ScriptRun}
 use Rattle.fc_inputs.specs.Causes.{Cause, Judged, Accepted, Refused, AndThen}
-use Rattle.fc_inputs.specs.Inputs.{InputOf, OneInput, ReadsInput}
+use Rattle.fc_inputs.specs.Inputs.{InputOf, OneInput, ReadsInput, TextsUnfold}
 use Rattle.fc_replay.specs.Laws.{InputsStart}
 use Rattle.fc_replay.specs.Replays.{start_of, book_of, table_line, where_asked}
 use Rattle.command_words.specs.declared.commands.RunOptions.{RunOptions}
@@ -33,21 +33,19 @@ same_text options U log rest last other shown says z c t =
     ∙ ap (λ l. (l ++ where_asked options.log (log_text U.declared.inputs rest)) ++ where_asked options.table
     (table_line U other)) t
 
-module _ (agree : CommandsAgree) (verdict : OneVerdict) (one : OneScriptRun) (options : RunOptions) (U : Unfolding)
-    (start : Core) (good : IsGood U start) where
+module _ (agree : CommandsAgree) (one : OneScriptRun) (options : RunOptions) (U : Unfolding) (start : Core)
+    (good : IsGood U start) (nodes : (P : Program) × IsProgram P × (unfolding_of P ≡ U)) where
   one_commands : (xs ys : List (ℕ × CommandValue)) (j k : Judged RanValue) → SameCommands U xs ys
       → RunsCommands options U start xs j → RunsCommands options U start ys k → AlikeRuns j k
   one_commands xs ys j k same h g =
-      let unfolded : unfolding_of g.nodes ≡ unfolding_of h.nodes = g.unfolded ∙ sym h.unfolded in
+      let One : Unfolding → Type 0 = λ V. IsGood V start → SameCommands V xs ys → SameEntries V h.log g.log
+      → ScriptRun V start xs h.log h.parts h.shown h.last → ScriptRun V start ys g.log g.parts g.shown g.last
+      → (h.shown ≡ g.shown) × (h.last ≡ g.last) in
       let agreed : SameEntries U h.log g.log → run_text options U h.log h.last h.shown
       ≡ run_text options U g.log g.last g.shown =
       λ z.
-      let r = one h.nodes g.nodes start h.last g.last xs ys h.log g.log h.parts g.parts h.shown g.shown
-      h.is_program unfolded
-      (verdict g.nodes h.nodes g.is_program h.is_program unfolded)
-      (subst (λ (V : Unfolding). IsGood V start) (sym h.unfolded) good)
-      (subst (λ (V : Unfolding). SameCommands V xs ys) (sym h.unfolded) same)
-      (subst (λ (V : Unfolding). SameEntries V h.log g.log) (sym h.unfolded) z) h.run g.run in
+      let r = subst One nodes.2 (one nodes.0 start h.last g.last xs ys h.log g.log h.parts g.parts h.shown g.shown
+      nodes.1) good same z h.run g.run in
       same_text options U h.log g.log h.last g.last h.shown g.shown z r.1 r.0 in
       subst (λ x. AlikeRuns x k) (sym h.is) (subst (λ x. AlikeRuns (Accepted (ran h.log h.last h.shown h.parts)) x)
       (sym g.is) (record { program = refl; start = refl; text = agreed }))
@@ -68,7 +66,7 @@ module _ (agree : CommandsAgree) (verdict : OneVerdict) (one : OneScriptRun) (op
 
 pub one_run : OneInput → InputsStart → CommandsAgree → OneVerdict → OneScriptRun → OneRun
 one_run input starts agree verdict one options program network script j k h g =
-    let once = input program network in
+    let once = input program network h.reads.short in
     let same : h.judged ≡ g.judged = once.2 h.judged h.reads ∙ sym (once.2 g.judged g.reads) in
     by_end g.judged g.reads (subst (λ i. AndThen i
     (λ i k. RunsScript options i.0 (start_of i.1) (script_of i.0 (start_of i.1) script) k) j) same h.ends) g.ends
@@ -79,5 +77,5 @@ one_run input starts agree verdict one options program network script j k h g =
         → AlikeRuns j k
     by_end (Refused cause) r a b = both_refused j k cause a b
     by_end (Accepted i) r a b =
-        one_script agree verdict one options i.0 (start_of i.1) (starts program network i r).good
-        (script_of i.0 (start_of i.1) script) j k a b
+        one_script agree one options i.0 (start_of i.1) (starts program network i r).good
+        (unfolds program network i r) (script_of i.0 (start_of i.1) script) j k a b

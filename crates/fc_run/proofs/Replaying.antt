@@ -1,12 +1,10 @@
 -- The log of a run is replayed to the core of the run.
-use Rattle.std.proofs.Common.{ℕ, ◌≡◌, ◌≤◌, List, length, refl, subst}
-use Rattle.fc_nodes.specs.Program.{Unfolding}
+use Rattle.std.proofs.Common.{ℕ, ◌≡◌, List, refl, subst}
 use Rattle.firing_core.specs.Cores.{Run}
 use Rattle.edit_commands.specs.LineByLine.{AllLines, StopsAt}
 use Rattle.edit_commands.specs.Scripts.{CommandValue, Script, TooManyLines, Within, script_of}
 use Rattle.log_texts.specs.ReadingBack.{log_lines}
 use Rattle.session.specs.Laws.{ScriptRunsLead}
-use Rattle.fc_values.specs.declared.limits.TheConstants.{MOST_BYTES}
 use Rattle.fc_inputs.specs.Causes.{Judged, Accepted, Refused, AndThen}
 use Rattle.fc_inputs.specs.Inputs.{InputOf, ReadsInput}
 use Rattle.fc_replay.specs.Replays.{start_of, book_of}
@@ -16,7 +14,7 @@ use Rattle.fc_run.specs.LogsOfRuns.{LogReplays, RunsReplay}
 use Rattle.fc_run.specs.Runs.{RanValue, run_text, RunsCommands, RunsScript}
 
 module _ (lead : ScriptRunsLead) (written : WrittenLogsReplay) (options : RunOptions) (program network script : List ℕ)
-    (short : length program ≤ MOST_BYTES) (r : RanValue) where
+    (r : RanValue) where
   by_commands : (i : InputOf) → ReadsInput program network (Accepted i) → (commands : List (ℕ × CommandValue))
       → RunsCommands options i.0 (start_of i.1) commands (Accepted r) → LogReplays options program network r
   by_commands i reads commands h =
@@ -27,14 +25,13 @@ module _ (lead : ScriptRunsLead) (written : WrittenLogsReplay) (options : RunOpt
       } in
       let is : ran ≡ r = cc (h.is) in
       let run : Run i.0 (start_of i.1) h.log h.last =
-      subst (λ (U : Unfolding). Run U (start_of i.1) h.log h.last) h.unfolded
-      (lead h.nodes (start_of i.1) h.last commands h.log h.parts h.shown h.run) in
+      lead i.0 (start_of i.1) h.last commands h.log h.parts h.shown h.run in
       subst (LogReplays options program network) is (record {
         shown = h.shown;
         lines = log_lines i.0.declared.inputs h.log;
         lines_are = refl;
         text = refl;
-        replays = λ asked j. written asked program network i h.log h.last j short reads run;
+        replays = λ asked j. written asked program network i h.log h.last j reads run;
       })
 
   by_script : (i : InputOf) → ReadsInput program network (Accepted i) → (q : Script)
@@ -50,5 +47,5 @@ module _ (lead : ScriptRunsLead) (written : WrittenLogsReplay) (options : RunOpt
   by_input (Accepted i) reads h = by_script i reads (script_of i.0 (start_of i.1) script) h
 
 pub runs_replay : ScriptRunsLead → WrittenLogsReplay → RunsReplay
-runs_replay lead written options program network script r short h =
-    by_input lead written options program network script short r h.judged h.reads h.ends
+runs_replay lead written options program network script r h =
+    by_input lead written options program network script r h.judged h.reads h.ends

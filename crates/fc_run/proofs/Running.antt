@@ -1,6 +1,6 @@
 -- What the code has run, as the definitions say it.
 use Rattle.std.proofs.Common.{ℕ, ◌≡◌, List, ◌++◌, refl, ap, ◌∙◌, sym, subst}
-use Rattle.fc_nodes.specs.Program.{Program, Unfolding, unfolding_of, IsProgram}
+use Rattle.fc_nodes.specs.Program.{Program, Unfolding, unfolding_of}
 use Rattle.firing_core.specs.declared.entries.Part.{Part}
 use Rattle.firing_core.specs.Cores.{Core}
 use Rattle.firing_core.specs.Books.{BookValue}
@@ -72,25 +72,23 @@ module _ (options : RunOptions) (program network text : List ℕ) (U : Unfolding
   abbrev value : List ℕ → Ledger → List Part → RanValue
   value t b p = record { text = t; book = b; parts = p }
 
-  pub run_ran : (P : Program) → IsProgram P → unfolding_of P ≡ U → (start : CoreValue) → core_of start ≡ start_of s
+  pub run_ran : (P : Program) → unfolding_of P ≡ U → (start : CoreValue) → core_of start ≡ start_of s
       → (commands : List (ℕ × CommandValue))
       → IsScript U (core_of start) text commands → (session : SessionValue) → HasRun P start commands session
       → (r : Ran) → IsEnded options session r
       → Runs options program network text (Accepted (ran_of r.text.items r.book r.parts.items))
-  run_ran P p unfolded start same commands said session h r e = record {
+  run_ran P unfolded start same commands said session h r e = record {
     judged = Accepted (U, s);
     reads = reads;
     ends = ran commands (Accepted (ran_of r.text.items r.book r.parts.items)) (script_of U (start_of s) text)
         (subst (λ (c : Core). IsScript U c text commands) same said) (record {
-          nodes = P;
-          is_program = p;
-          unfolded = unfolded;
-          log = entries_of session.book.log;
+          log = log;
           parts = session.parts;
           shown = session.text;
-          last = core_of session.book.core;
-          run = subst (λ (c : Core). ScriptRun P c commands (entries_of session.book.log) session.parts session.text
-              (core_of session.book.core)) same h.run;
+          last = last;
+          run = subst (λ (c : Core). ScriptRun U c commands log session.parts session.text last) same
+              (subst (λ (V : Unfolding). ScriptRun V (core_of start) commands log session.parts session.text last)
+              unfolded h.run);
           is = is;
         });
   }
@@ -135,13 +133,13 @@ module _ (options : RunOptions) (program network text : List ℕ) (S : Unfolding
       (same_start start same) cause
       (subst (λ (Q : Program). IsRefused (script_of (unfolding_of Q) start text) cause) (d ∙ v) h)
 
-  pub lines_ran : IsProgram P → (start : CoreValue) → core_of start ≡ start_of (S (unfolding_of V))
+  pub lines_ran : (start : CoreValue) → core_of start ≡ start_of (S (unfolding_of V))
       → (commands others : List (ℕ × CommandValue)) → others ≡ commands
       → IsScript (unfolding_of D) (core_of start) text commands → (session : SessionValue)
       → HasRun V start others session → (r : Ran) → IsEnded options session r
       → Runs options program network text (Accepted (ran_of r.text.items r.book r.parts.items))
-  lines_ran p start same commands others e said session h r ended =
-      run_ran options program network text (unfolding_of P) (S (unfolding_of P)) reads P p refl start
+  lines_ran start same commands others e said session h r ended =
+      run_ran options program network text (unfolding_of P) (S (unfolding_of P)) reads P refl start
       (same_start (core_of start) same) commands
       (subst (λ (Q : Program). IsScript (unfolding_of Q) (core_of start) text commands) (d ∙ v) said) session
       (subst (λ (Q : Program). HasRun Q start commands session) v

@@ -43,14 +43,10 @@ module _ (have : ScriptsHaveCommands) (judged : ScriptsAreJudged) (some : SomeSc
           commands = h.commands;
           said = h.said;
           runs = record {
-            nodes = P;
-            is_program = p;
-            unfolded = refl;
             log = r.0;
             parts = r.1;
             shown = r.2;
-            last =
-                r.3;
+            last = r.3;
             run = r.4;
             is = refl;
           };
@@ -71,7 +67,7 @@ module _ (have : ScriptsHaveCommands) (judged : ScriptsAreJudged) (some : SomeSc
 
 pub some_run : OneInput → TextsUnfold → InputsStart → ScriptsHaveCommands → ScriptsAreJudged → SomeScriptRun → SomeRun
 some_run input unfolds starts have judged some options program network script short =
-    let one = input program network in
+    let one = input program network short in
     by_input one.0 one.1
   where
     AtScene : SceneValue → Unfolding → Type 0
@@ -83,7 +79,7 @@ some_run input unfolds starts have judged some options program network script sh
     by_input (Refused cause) h = (Refused cause, record { judged = Refused cause; reads = h; ends = refl })
     by_input (Accepted i) h =
         let there = starts program network i h in
-        let p = unfolds program i.0 short there.text in
+        let p = unfolds program network i h in
         let r = subst (AtScene i.1) p.2 (λ g. some_script have judged some options p.0 p.1 (start_of i.1) g script)
         there.good in
         (r.0, record { judged = Accepted i; reads = h; ends = r.1 })

@@ -1,6 +1,6 @@
 -- `run` has a result for texts within the limit, and one text where the logs agree; and what is run keeps a yes.
 use Rattle.std.specs.Prelude.{ℕ, ◌≡◌, ◌≤◌, ◌++◌, List, length}
-use Rattle.fc_nodes.specs.Program.{Program, IsProgram, unfolding_of}
+use Rattle.fc_nodes.specs.Program.{Unfolding}
 use Rattle.firing_core.specs.declared.entries.Part.{Part}
 use Rattle.firing_core.specs.Cores.{Core}
 use Rattle.firing_core.specs.Entries.{EntryValue}
@@ -47,22 +47,21 @@ SomeRun =
 -- parts since the last edit have as many, each device holds the one solution there, and a `show` that comes next
 -- writes it.
 pub record RunKeepsYes (options : RunOptions) (program network script : List ℕ) (r : RanValue) : Type 0 where
-  pub nodes : Program
-  pub is_program : IsProgram nodes
+  pub unfolded : Unfolding
   pub scene : SceneValue
-  pub reads : ReadsInput program network (Accepted (unfolding_of nodes, scene))
+  pub reads : ReadsInput program network (Accepted (unfolded, scene))
   pub commands : List (ℕ × CommandValue)
-  pub said : IsScript (unfolding_of nodes) (start_of scene) script commands
+  pub said : IsScript unfolded (start_of scene) script commands
   pub log : List EntryValue
   pub parts : List Part
   pub shown : List ℕ
   pub last : Core
-  pub run : ScriptRun nodes (start_of scene) commands log parts shown last
+  pub run : ScriptRun unfolded (start_of scene) commands log parts shown last
   pub keeps : (front rest : List (ℕ × CommandValue)) → commands ≡ front ++ rest
-      → KeepsYes nodes (start_of scene) front rest log parts shown last
+      → KeepsYes unfolded (start_of scene) front rest log parts shown last
   pub is : r ≡ record {
-    text = run_text options (unfolding_of nodes) log last shown;
-    book = book_of (unfolding_of nodes) (start_of scene) log last;
+    text = run_text options unfolded log last shown;
+    book = book_of unfolded (start_of scene) log last;
     parts = parts;
   }
 

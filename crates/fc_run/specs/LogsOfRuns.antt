@@ -1,8 +1,7 @@
 -- The log of a run, given back as the log of the same program and network.
-use Rattle.std.specs.Prelude.{ℕ, ◌≡◌, ◌≤◌, List, ◌++◌, codes, length}
+use Rattle.std.specs.Prelude.{ℕ, ◌≡◌, List, ◌++◌, codes}
 use Rattle.edit_commands.specs.LineByLine.{WhereAccepted}
 use Rattle.log_texts.specs.ReadingBack.{log_lines}
-use Rattle.fc_values.specs.declared.limits.TheConstants.{MOST_BYTES}
 use Rattle.fc_inputs.specs.Causes.{Judged, Accepted}
 use Rattle.command_words.specs.declared.commands.ReplayOptions.{ReplayOptions}
 use Rattle.fc_replay.specs.Replays.{Shown, Replays, table_line, where_asked}
@@ -24,5 +23,5 @@ pub record LogReplays (options : RunOptions) (program network : List ℕ) (r : R
 
 abbrev pub RunsReplay : Type 0
 RunsReplay =
-    (options : RunOptions) (program network script : List ℕ) (r : RanValue) → length program ≤ MOST_BYTES
+    (options : RunOptions) (program network script : List ℕ) (r : RanValue)
     → Runs options program network script (Accepted r) → LogReplays options program network r

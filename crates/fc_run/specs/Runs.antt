@@ -1,6 +1,6 @@
 -- What `run` makes of a program, a scene and a script.
 use Rattle.std.specs.Prelude.{ℕ, ◌≡◌, List, ◌++◌}
-use Rattle.fc_nodes.specs.Program.{Program, Unfolding, IsProgram, unfolding_of}
+use Rattle.fc_nodes.specs.Program.{Unfolding}
 use Rattle.firing_core.specs.declared.entries.Part.{Part}
 use Rattle.firing_core.specs.Cores.{Core}
 use Rattle.firing_core.specs.Entries.{EntryValue}
@@ -30,17 +30,14 @@ abbrev pub run_text : RunOptions → Unfolding → List EntryValue → Core → 
 run_text options U log last shown =
     shown ++ where_asked options.log (log_text U.declared.inputs log) ++ where_asked options.table (table_line U last)
 
--- the commands of a script from a start: a script run of the program's nodes
+-- the commands of a script from a start: a script run
 pub record RunsCommands (options : RunOptions) (U : Unfolding) (start : Core) (commands : List (ℕ × CommandValue))
     (j : Judged RanValue) : Type 0 where
-  pub nodes : Program
-  pub is_program : IsProgram nodes
-  pub unfolded : unfolding_of nodes ≡ U
   pub log : List EntryValue
   pub parts : List Part
   pub shown : List ℕ
   pub last : Core
-  pub run : ScriptRun nodes start commands log parts shown last
+  pub run : ScriptRun U start commands log parts shown last
   pub is : j ≡ Accepted (record {
     text = run_text options U log last shown;
     book = book_of U start log last;

@@ -4,7 +4,6 @@ ghost use Rattle.fc_run.specs.Laws.{OneRun, RunsKeepYes, SomeRun};
 ghost use Rattle.fc_run.specs.LogsOfRuns.{RunsReplay};
 
 use edit_commands::{readings_agree, scripts_are_judged, scripts_have_commands};
-use fc_check::one_verdict;
 use fc_inputs::{one_input, texts_unfold};
 use fc_replay::{inputs_start, written_logs_replay};
 use session::{one_script_run, script_runs_lead, scripts_keep_yes, some_script_run};
@@ -14,9 +13,9 @@ pub fn one_run()
     ensures { OneRun }
 {
     one_input();
+    texts_unfold();
     inputs_start();
     readings_agree();
-    one_verdict();
     one_script_run();
 }
 
@@ -37,6 +36,7 @@ pub fn some_run()
 pub fn runs_keep_yes()
     ensures { RunsKeepYes }
 {
+    texts_unfold();
     inputs_start();
     scripts_keep_yes();
 }

@@ -96,8 +96,6 @@ pub fn run<W: Threads + Wait + Sync, G: Gate + Sync>(
         Runs options program.now network.now script.now (Refused cause))) }
 {
     let (program, scene) = read_input(alloc, program, network)?;
-    // Its clause: the nodes are a program.
-    let _size = program.size();
     let shared = Arc::new(alloc, program)?;
     let core = start(alloc, &shared, scene)?;
     let lines = read_lines(alloc, &shared, &core, script)?;

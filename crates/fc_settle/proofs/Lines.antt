@@ -4,7 +4,7 @@ use Rattle.std.proofs.Common.{refl, sym, ap, ap₂, ◌∙◌, Option, option_ma
 use Rattle.std.proofs.lemmas.List.{length-map}
 use Rattle.fc_values.specs.Values.{LocalValue}
 use Rattle.fc_nodes.specs.declared.verdicts.Verdict.{Verdict}
-use Rattle.fc_nodes.specs.Program.{Program, Unfolding, unfolding_of}
+use Rattle.fc_nodes.specs.Program.{Unfolding}
 use Rattle.topology.specs.declared.types.Device.{Device}
 use Rattle.topology.specs.Networks.{NetDevice, Network, device_of, numbers}
 use Rattle.fragment_check.specs.Verdicts.{verdict_of}
@@ -41,30 +41,30 @@ as_many U N table cap xs e =
 abbrev reply_with : ℕ → List ℕ → Reply
 reply_with status text = record { status = status; text = text }
 
-pub record AreMade (facts : Bool) (P : Program) (N : Network) (table : BoundTable) (v : Verdict) (n most : ℕ)
+pub record AreMade (facts : Bool) (U : Unfolding) (N : Network) (table : BoundTable) (v : Verdict) (n most : ℕ)
     (text : List ℕ) (os : List (Option (ℕ × LocalValue))) : Type 0 where
   pub many : n ≡ length N.devices
-  pub verdict : v ≡ verdict_of (unfolding_of P) n
+  pub verdict : v ≡ verdict_of U n
   pub cap : most ≡ settle_cap v n
-  pub judged : text ≡ (checked_of facts P n).text
-  pub settled : os ≡ all_settle_to (unfolding_of P) N table most
+  pub judged : text ≡ (checked_of facts U n).text
+  pub settled : os ≡ all_settle_to U N table most
 
-module _ (facts : Bool) (P : Program) (N : Network) (table : BoundTable) (v : Verdict) (n most : ℕ) (text : List ℕ)
-    (os : List (Option (ℕ × LocalValue))) (m : AreMade facts P N table v n most text os) where
-  judged : v ≡ verdict_of (unfolding_of P) (length N.devices)
-  judged = m.verdict ∙ ap (verdict_of (unfolding_of P)) m.many
+module _ (facts : Bool) (U : Unfolding) (N : Network) (table : BoundTable) (v : Verdict) (n most : ℕ) (text : List ℕ)
+    (os : List (Option (ℕ × LocalValue))) (m : AreMade facts U N table v n most text os) where
+  judged : v ≡ verdict_of U (length N.devices)
+  judged = m.verdict ∙ ap (verdict_of U) m.many
 
-  each : os ≡ map (settled_from P N table) (numbers N.devices)
-  each = m.settled ∙ ap (all_settle_to (unfolding_of P) N table) (m.cap ∙ ap₂ settle_cap judged m.many)
+  each : os ≡ map (settled_from U N table) (numbers N.devices)
+  each = m.settled ∙ ap (all_settle_to U N table) (m.cap ∙ ap₂ settle_cap judged m.many)
 
-  timed : settle_time v os ≡ time_of P N table
+  timed : settle_time v os ≡ time_of U N table
   timed = ap₂ settle_time judged each
 
-  listed : zip (numbers N.devices) os ≡ settled_devices P N table
-  listed = ap (zip (numbers N.devices)) each ∙ zip_map (settled_from P N table) (numbers N.devices)
+  listed : zip (numbers N.devices) os ≡ settled_devices U N table
+  listed = ap (zip (numbers N.devices)) each ∙ zip_map (settled_from U N table) (numbers N.devices)
 
-  pub are_settling : settled_reply v text (numbers N.devices) os ≡ settling_of facts P N table
+  pub are_settling : settled_reply v text (numbers N.devices) os ≡ settling_of facts U N table
   are_settling =
       ap₂ reply_with (ap settle_status timed)
-      (ap₂ (λ a b. a ++ b) (m.judged ∙ ap (λ k. (checked_of facts P k).text) m.many)
+      (ap₂ (λ a b. a ++ b) (m.judged ∙ ap (λ k. (checked_of facts U k).text) m.many)
       (ap₂ settling_text timed listed))

@@ -4,7 +4,7 @@ use Rattle.std.proofs.Common.{refl, ap, ap₂, ◌∙◌, Option, Some, None, op
 use Rattle.std.proofs.lemmas.Bool.{eq-eqb}
 use Rattle.fc_values.specs.Fields.{is_in}
 use Rattle.fc_values.specs.Values.{LocalValue}
-use Rattle.fc_nodes.specs.Program.{Program, Unfolding, unfolding_of}
+use Rattle.fc_nodes.specs.Program.{Unfolding}
 use Rattle.topology.specs.Networks.{Network, IsNetwork, Lives, numbers}
 use Rattle.fragment_check.specs.Verdicts.{verdict_of}
 use Rattle.value_bounds.specs.BoundValues.{value_left}
@@ -61,19 +61,19 @@ map_same f g (d ∷ ds) h =
     let there : is_in d (d ∷ ds) ≡ true = rw here refl in
     ap₂ (λ x xs. x ∷ xs) (h d there) (map_same f g ds (λ e i. h e (later (nat_eq e d) (is_in e ds) i)))
 
-module _ (facts : Bool) (P : Program) (N : Network) (net : IsNetwork N) (s t : BoundTable) (agree : Agree N s t) where
-  each_same : (d : ℕ) → Lives N d → settled_from P N s d ≡ settled_from P N t d
-  each_same d lives = settles_same (unfolding_of P) N net s t agree _ d lives
+module _ (facts : Bool) (U : Unfolding) (N : Network) (net : IsNetwork N) (s t : BoundTable) (agree : Agree N s t) where
+  each_same : (d : ℕ) → Lives N d → settled_from U N s d ≡ settled_from U N t d
+  each_same d lives = settles_same U N net s t agree _ d lives
 
   -- what is written of a program and a network
-  pub settling_same : settling_of facts P N s ≡ settling_of facts P N t
+  pub settling_same : settling_of facts U N s ≡ settling_of facts U N t
   settling_same = ap₂ written all_same lines_same
     where
-      all_same : map (settled_from P N s) (numbers N.devices) ≡ map (settled_from P N t) (numbers N.devices)
-      all_same = map_same (settled_from P N s) (settled_from P N t) (numbers N.devices) each_same
+      all_same : map (settled_from U N s) (numbers N.devices) ≡ map (settled_from U N t) (numbers N.devices)
+      all_same = map_same (settled_from U N s) (settled_from U N t) (numbers N.devices) each_same
 
       with_number : BoundTable → ℕ → ℕ × Option (ℕ × LocalValue)
-      with_number table d = (d, settled_from P N table d)
+      with_number table d = (d, settled_from U N table d)
 
       lines_same : map (with_number s) (numbers N.devices) ≡ map (with_number t) (numbers N.devices)
       lines_same = map_same (with_number s) (with_number t) (numbers N.devices)
@@ -84,7 +84,7 @@ module _ (facts : Bool) (P : Program) (N : Network) (net : IsNetwork N) (s t : B
 
       written : List (Option (ℕ × LocalValue)) → List (ℕ × Option (ℕ × LocalValue)) → Reply
       written os ds = record {
-        status = settle_status (settle_time (verdict_of (unfolding_of P) (length N.devices)) os);
-        text = (checked_of facts P (length N.devices)).text
-            ++ settling_text (settle_time (verdict_of (unfolding_of P) (length N.devices)) os) ds;
+        status = settle_status (settle_time (verdict_of U (length N.devices)) os);
+        text = (checked_of facts U (length N.devices)).text
+            ++ settling_text (settle_time (verdict_of U (length N.devices)) os) ds;
       }

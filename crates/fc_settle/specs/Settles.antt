@@ -3,7 +3,7 @@
 -- and copies in flight. Without it they are counted from any; the scene's are judged, but not used.
 use Rattle.std.specs.Prelude.{ℕ, Bool, ◌≡◌, List, ◌++◌, map, length, Option, Some, None}
 use Rattle.fc_values.specs.Values.{LocalValue}
-use Rattle.fc_nodes.specs.Program.{IsProgram, Program, Unfolding, unfolding_of}
+use Rattle.fc_nodes.specs.Program.{Unfolding}
 use Rattle.topology.specs.Networks.{Network, numbers}
 use Rattle.fragment_check.specs.Verdicts.{verdict_of}
 use Rattle.bound_rounds.specs.Rounds.{BoundTable}
@@ -21,12 +21,12 @@ use Rattle.fc_check.specs.Checks.{checked_of}
 use Rattle.fc_replay.specs.Replays.{start_of}
 
 -- each device, rising, with its settle round from a table of bounds and its value then
-abbrev pub settled_devices : Program → Network → BoundTable → List (ℕ × Option (ℕ × LocalValue))
-settled_devices P N table = map (λ (d : ℕ). (d, settled_from P N table d)) (numbers N.devices)
+abbrev pub settled_devices : Unfolding → Network → BoundTable → List (ℕ × Option (ℕ × LocalValue))
+settled_devices U N table = map (λ (d : ℕ). (d, settled_from U N table d)) (numbers N.devices)
 
 -- the settle time of a network from there, if it isn't open
-abbrev pub time_of : Program → Network → BoundTable → Option ℕ
-time_of P N table = settle_time (verdict_of (unfolding_of P) (length N.devices)) (map (settled_from P N table) (numbers N.devices))
+abbrev pub time_of : Unfolding → Network → BoundTable → Option ℕ
+time_of U N table = settle_time (verdict_of U (length N.devices)) (map (settled_from U N table) (numbers N.devices))
 
 -- the status is 1 exactly where the network is open, whatever the verdict
 abbrev pub settle_status : Option ℕ → ℕ
@@ -34,11 +34,11 @@ settle_status (Some rounds) = 0
 settle_status None = 1
 
 -- what is written of a program and a network where rounds are counted from a table of bounds, and the status
-abbrev pub settling_of : Bool → Program → Network → BoundTable → Reply
-settling_of facts P N table = record {
-  status = settle_status (time_of P N table);
-  text = (checked_of facts P (length N.devices)).text
-      ++ settling_text (time_of P N table) (settled_devices P N table);
+abbrev pub settling_of : Bool → Unfolding → Network → BoundTable → Reply
+settling_of facts U N table = record {
+  status = settle_status (time_of U N table);
+  text = (checked_of facts U (length N.devices)).text
+      ++ settling_text (time_of U N table) (settled_devices U N table);
 }
 
 -- the table of bounds from which rounds are counted: that of any exports, or the one to which the scene's exports and
@@ -47,14 +47,11 @@ abbrev pub StartsFrom : Start → Unfolding → SceneValue → BoundTable → Ty
 StartsFrom Any U s table = table ≡ any_table U
 StartsFrom Table U s table = StartTable U s.net (growing_cap (length s.net.devices)) (start_of s) table
 
--- a program and a scene of it: the program is unfolded, and the network is the scene's
+-- a program and a scene of it
 pub record SettlesScene (facts : Bool) (from : Start) (U : Unfolding) (s : SceneValue) (j : Judged Reply) : Type 0 where
-  pub nodes : Program
-  pub is_program : IsProgram nodes
-  pub unfolded : unfolding_of nodes ≡ U
   pub table : BoundTable
   pub starts : StartsFrom from U s table
-  pub settled : j ≡ Accepted (settling_of facts nodes s.net table)
+  pub settled : j ≡ Accepted (settling_of facts U s.net table)
 
 -- the texts of a program and of a scene
 pub record Settles (facts : Bool) (from : Start) (program network : List ℕ) (j : Judged Reply) : Type 0 where

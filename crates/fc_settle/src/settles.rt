@@ -11,8 +11,8 @@ ghost use Rattle.settle_rounds.specs.Rounds.{any_table};
 ghost use Rattle.net_json.specs.SceneCode.{AreCopies, AreRows, value_of_scene};
 ghost use Rattle.report.specs.Settling.{settled_device_text};
 ghost use Rattle.topology.specs.Networks.{numbers};
-ghost use Rattle.fc_settle.specs.Code.{SettlesBy, settled_reply};
-ghost use Rattle.fc_settle.specs.Settles.{Settles, settle_status, settling_of};
+ghost use Rattle.fc_settle.specs.Code.{settled_reply};
+ghost use Rattle.fc_settle.specs.Settles.{Settles, SettlesScene, settle_status, settling_of};
 
 use command_words::Start;
 use fc_check::verdict_text;
@@ -91,7 +91,8 @@ fn settle_any(
 ) -> Result<Reply, Memory>
     requires program { IsProgram program.now }
     requires declared { net.now.declared ≡ program.now.declared }
-    ensures { IfOk result (λ r. r ≡ settling_of facts program.now net.now (any_table (unfolding_of program.now))) }
+    ensures { IfOk result (λ r. r ≡ settling_of facts (unfolding_of program.now) net.now
+        (any_table (unfolding_of program.now))) }
 {
     let devices = net.devices().len();
     let (verdict, text) = verdict_text(alloc, facts, program, devices as u32)?;
@@ -110,7 +111,8 @@ fn settle_scene(
     requires declared { scene.net.declared ≡ program.declared }
     requires rows { AreRows (unfolding_of program) scene.net scene.table.items }
     requires copies { AreCopies (unfolding_of program) scene.net scene.pending.items }
-    ensures { IfOk result (SettlesBy facts Start.Table program (value_of_scene (unfolding_of program) scene)) }
+    ensures { IfOk result (λ r. SettlesScene facts Start.Table (unfolding_of program)
+        (value_of_scene (unfolding_of program) scene) (Accepted r)) }
 {
     let program = Arc::new(alloc, program)?;
     let mut core = start(alloc, &program, scene)?;

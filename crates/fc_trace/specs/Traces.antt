@@ -1,7 +1,7 @@
 -- What `trace` makes of a program and a scene: the verdict's line, and behind a yes a walk for each device, or `no
 -- walks`. The scene's table and copies are judged, but not used.
 use Rattle.std.specs.Prelude.{ℕ, ◌≡◌, List, ◌++◌, codes, length, Option, Some, None}
-use Rattle.fc_nodes.specs.Program.{IsProgram, Program, Unfolding, unfolding_of}
+use Rattle.fc_nodes.specs.Program.{Unfolding}
 use Rattle.fc_nodes.specs.declared.verdicts.Verdict.{Verdict}
 use Rattle.fc_nodes.specs.declared.verdicts.Verdict.TheVariants as verdict
 use Rattle.topology.specs.Networks.{Network}
@@ -33,13 +33,10 @@ TracedBy (verdict.Yes rounds) None U N reply =
     reply ≡ record { status = 1; text = verdict_text (verdict.Yes rounds) ++ codes "no walks\n" }
 TracedBy (verdict.Yes rounds) (Some w) U N reply = WritesWalks U N w (verdict_text (verdict.Yes rounds)) reply
 
--- a program and a scene of it: the program is unfolded
+-- a program and a scene of it
 pub record TracesScene (U : Unfolding) (s : SceneValue) (j : Judged Reply) : Type 0 where
-  pub nodes : Program
-  pub is_program : IsProgram nodes
-  pub unfolded : unfolding_of nodes ≡ U
   pub reply : Reply
-  pub writes : TracedBy (verdict_of (unfolding_of nodes) (length s.net.devices)) (walk_terms U) U s.net reply
+  pub writes : TracedBy (verdict_of U (length s.net.devices)) (walk_terms U) U s.net reply
   pub is : j ≡ Accepted reply
 
 -- the texts of a program and of a scene

@@ -2,8 +2,7 @@
 
 ghost use Rattle.fc_trace.specs.Laws.{OneTraced, SomeTraced};
 
-use fc_check::some_check;
-use fc_inputs::one_input;
+use fc_inputs::{one_input, texts_unfold};
 use net_json::accepted_scenes_fit;
 use walk_form::{forms_have_costs, one_costs};
 use walks::walks_are_one;
@@ -21,7 +20,8 @@ pub fn one_traced()
 pub fn some_traced()
     ensures { SomeTraced }
 {
-    some_check();
+    one_input();
+    texts_unfold();
     accepted_scenes_fit();
     forms_have_costs();
     walks_are_one();

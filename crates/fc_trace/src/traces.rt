@@ -1,7 +1,7 @@
 //! What `trace` makes of a program and a scene.
 
 ghost use Rattle.std.specs.Prelude.{◌≡◌, ◌≤◌, ◌++◌, IfErr, IfOk, codes, length};
-ghost use Rattle.fc_nodes.specs.Program.{IsProgram, unfolding_of};
+ghost use Rattle.fc_nodes.specs.Program.{unfolding_of};
 ghost use Rattle.fragment_check.specs.Verdicts.{verdict_of};
 ghost use Rattle.report.specs.Verdicts.{verdict_text};
 ghost use Rattle.walks.specs.Walks.{AreTraced, IsCosts, claim_of, costs_of};
@@ -89,7 +89,5 @@ pub fn traced(alloc: Global, program: &[u8], network: &[u8]) -> Result<Reply, St
     ensures refused { IfErr result (StopsFor (λ cause. Traces program.now network.now (Refused cause))) }
 {
     let (program, scene) = read_input(alloc, program, network)?;
-    // Its clause: the nodes are a program.
-    let _size = program.size();
     Ok(of_network(alloc, &program, &scene.net)?)
 }

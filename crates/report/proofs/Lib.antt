@@ -1,2 +1,3 @@
 pub mod WrittenSoFar
 pub mod ListTexts
+mod PartRoots

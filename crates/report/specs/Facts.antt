@@ -1,11 +1,13 @@
 -- The lines of facts: what each node of a program is, with its type, its range and its level.
-use Rattle.std.specs.Prelude.{ℕ, zero, suc, List, [], ◌++◌, Option, None, Some, codes, length, slice_index_or as get_or}
+use Rattle.std.specs.Prelude.{ℕ, zero, suc, List, [], ◌++◌, Option, None, Some, codes, slice_index_or as get_or}
 use Rattle.std.specs.Fmt.{decimal}
 use Rattle.fc_values.specs.declared.builtins.Builtin.{Builtin}
 use Rattle.fc_values.specs.declared.builtins.Builtin.TheVariants as op
+use Rattle.fc_values.specs.Types.{ValueType}
 use Rattle.fc_syntax.specs.Text.{builtin_word, type_text}
-use Rattle.fc_nodes.specs.Terms.{Leaf, Literal, Variable, Sense, Uid, NbrLink, ByRep, ByShare, Sort, OfLeaf, OfApply, OfNbr, OfEvolve, OfIf, OfLet, View, Has, view_at}
-use Rattle.fc_nodes.specs.Program.{Program}
+use Rattle.fc_nodes.specs.Terms.{Leaf, Literal, Variable, Sense, Uid, NbrLink, ByRep, ByShare, Term, Plain, Apply, Nbr, Evolve, If, Let, type_of, size, Sort, OfLeaf, OfApply, OfNbr, OfEvolve, OfIf, OfLet}
+use Rattle.fc_nodes.specs.Parts.{part_at}
+use Rattle.fc_nodes.specs.Program.{Unfolding}
 use Rattle.interval_facts.specs.Ranges.{RangeValue, IntRange, BoolRange, PairRange}
 use Rattle.report.specs.Texts.{value_text}
 
@@ -20,6 +22,15 @@ leaf_text NbrLink = codes "nbrLink"
 abbrev pub mark_text : Builtin → List ℕ
 mark_text op.Pair = codes "pair"
 mark_text builtin = builtin_word builtin
+
+-- what the root of a term is
+abbrev pub root_sort : Term → Sort
+root_sort (Plain t l) = OfLeaf l
+root_sort (Apply t o xs) = OfApply o
+root_sort (Nbr t a) = OfNbr
+root_sort (Evolve t e a b) = OfEvolve e
+root_sort (If t c a b) = OfIf
+root_sort (Let t a b) = OfLet
 
 abbrev pub sort_text : Sort → List ℕ
 sort_text (OfLeaf l) = leaf_text l
@@ -42,24 +53,24 @@ level_text None = codes "-"
 level_text (Some level) = decimal level
 
 -- a node at a place: the place, what the node is, and its type
-abbrev pub node_text : ℕ → View → List ℕ
-node_text place (Has s t ks) = decimal place ++ codes " " ++ sort_text s ++ codes " " ++ type_text t
+abbrev pub node_text : ℕ → Sort → ValueType → List ℕ
+node_text place s t = decimal place ++ codes " " ++ sort_text s ++ codes " " ++ type_text t
 
--- the line of a node: behind it its range and its level
-abbrev pub fact_line : ℕ → Option View → RangeValue → Option ℕ → List ℕ
-fact_line place None range level = []
-fact_line place (Some node) range level =
-    node_text place node ++ codes " " ++ range_text range ++ codes " " ++ level_text level ++ codes "\n"
+-- the line of the node at the root of a term: behind it its range and its level
+abbrev pub fact_line : ℕ → Term → RangeValue → Option ℕ → List ℕ
+fact_line place u range level =
+    node_text place (root_sort u) (type_of u)
+    ++ codes " " ++ range_text range ++ codes " " ++ level_text level ++ codes "\n"
 
-abbrev pub fact_at : Program → List RangeValue → List (Option ℕ) → ℕ → List ℕ
-fact_at P ranges levels place =
-    fact_line place (view_at P.nodes place) (get_or ranges place BoolRange) (get_or levels place None)
+abbrev pub fact_at : Unfolding → List RangeValue → List (Option ℕ) → ℕ → List ℕ
+fact_at U ranges levels place =
+    fact_line place (part_at place U.main) (get_or ranges place BoolRange) (get_or levels place None)
 
 -- the lines of the nodes before a place
-abbrev pub facts_before : Program → List RangeValue → List (Option ℕ) → ℕ → List ℕ
-facts_before P ranges levels zero = []
-facts_before P ranges levels (suc place) = facts_before P ranges levels place ++ fact_at P ranges levels place
+abbrev pub facts_before : Unfolding → List RangeValue → List (Option ℕ) → ℕ → List ℕ
+facts_before U ranges levels zero = []
+facts_before U ranges levels (suc place) = facts_before U ranges levels place ++ fact_at U ranges levels place
 
 -- a line for each node, by their places
-abbrev pub facts_text : Program → List RangeValue → List (Option ℕ) → List ℕ
-facts_text P ranges levels = facts_before P ranges levels (length P.nodes)
+abbrev pub facts_text : Unfolding → List RangeValue → List (Option ℕ) → List ℕ
+facts_text U ranges levels = facts_before U ranges levels (size U.main)

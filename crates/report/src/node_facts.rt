@@ -1,10 +1,13 @@
 //! The lines of facts of a program's nodes.
 
-ghost use Rattle.std.specs.Prelude.{◌≡◌, ◌++◌, IfOk, OnOk, OnErr, Some, length};
-ghost use Rattle.fc_nodes.specs.Terms.{sort_of, view_of};
+ghost use Rattle.std.specs.Prelude.{◌≡◌, ◌<◌, ◌++◌, IfOk, OnOk, OnErr, length};
+ghost use Rattle.fc_values.specs.Types.{type_of as type_of_value};
+ghost use Rattle.fc_nodes.specs.Parts.{part_at};
+ghost use Rattle.fc_nodes.specs.Terms.{sort_of, type_of};
 ghost use Rattle.fc_nodes.specs.Program.{unfolding_of};
 ghost use Rattle.interval_facts.specs.Ranges.{AreRangesOf, range_value};
-ghost use Rattle.report.specs.Facts.{fact_line, facts_text, level_text, mark_text, node_text, range_text, sort_text};
+ghost use Rattle.report.specs.Facts.{fact_line, facts_text, level_text, mark_text, node_text, range_text, root_sort};
+ghost use Rattle.report.specs.Facts.{sort_text};
 
 use crate::writing::{write_number, write_value};
 use fc_nodes::{Node, Op, Unfolded};
@@ -23,7 +26,8 @@ pub fn facts(
 ) -> Result<(), Memory>
     requires ranges { AreRangesOf (unfolding_of program.now) ranges.now }
     requires levels { length levels.now ≡ length program.now.nodes }
-    ensures ok { OnOk result (out.new.items ≡ out.old.items ++ facts_text program.now ranges.now levels.now) }
+    ensures ok { OnOk result (out.new.items
+        ≡ out.old.items ++ facts_text (unfolding_of program.now) ranges.now levels.now) }
     ensures err { OnErr result (out.new.items ≡ out.old.items) }
 {
     let lines = fact_lines(alloc, program, ranges, levels)?;
@@ -40,16 +44,15 @@ fn fact_lines(
 ) -> Result<Vec<u8>, Memory>
     requires ranges { AreRangesOf (unfolding_of program.now) ranges.now }
     requires levels { length levels.now ≡ length program.now.nodes }
-    ensures { IfOk result (λ v. v.items ≡ facts_text program.now ranges.now levels.now) }
+    ensures { IfOk result (λ v. v.items ≡ facts_text (unfolding_of program.now) ranges.now levels.now) }
 {
     let mut lines = Vec::new(alloc);
     for place in 0..program.size() {
-        let node = program.node(place);
         write_fact(
             alloc,
             &mut lines,
+            program,
             place,
-            node,
             ranges.at(place),
             levels[place as usize],
         )?;
@@ -57,19 +60,20 @@ fn fact_lines(
     Ok(lines)
 }
 
-// Appends the line of a node.
+// Appends the line of the node at a place.
 fn write_fact(
     alloc: Global,
     out: &mut Vec<u8>,
+    program: &Unfolded,
     place: u32,
-    node: &Node,
     range: &Range,
     level: Option<u64>,
 ) -> Result<(), Memory>
-    ensures { OnOk result (out.new.items
-        ≡ out.old.items ++ fact_line place (Some (view_of node.now)) (range_value range.now) level) }
+    requires { place < length program.now.nodes }
+    ensures { OnOk result (out.new.items ≡ out.old.items
+        ++ fact_line place (part_at place (unfolding_of program.now).main) (range_value range.now) level) }
 {
-    write_node(alloc, out, place, node)?;
+    write_node(alloc, out, place, node_at(program, place))?;
     out.push(b' ')?;
     write_range(alloc, out, range)?;
     out.push(b' ')?;
@@ -78,9 +82,19 @@ fn write_fact(
     Ok(())
 }
 
+// The node at a place: the root of the part there.
+fn node_at(program: &Unfolded, place: u32) -> &Node
+    requires { place < length program.now.nodes }
+    ensures sort { sort_of result.now.op ≡ root_sort (part_at place (unfolding_of program.now).main) }
+    ensures ty { type_of_value result.now.ty ≡ type_of (part_at place (unfolding_of program.now).main) }
+{
+    program.node(place)
+}
+
 // Appends the place of a node, what it is, and its type.
 fn write_node(alloc: Global, out: &mut Vec<u8>, place: u32, node: &Node) -> Result<(), Memory>
-    ensures { OnOk result (out.new.items ≡ out.old.items ++ node_text place (view_of node.now)) }
+    ensures { OnOk result (out.new.items
+        ≡ out.old.items ++ node_text place (sort_of node.now.op) (type_of_value node.now.ty)) }
 {
     write_number(alloc, out, place)?;
     out.push(b' ')?;

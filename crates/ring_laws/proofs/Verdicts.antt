@@ -1,12 +1,11 @@
 -- The verdict on the program of a ring.
-use Rattle.std.proofs.Common.{ℕ, ◌≡◌, ◌≤◌, ◌+◌, ◌*◌, ◌-◌, min, max, ap, ap₂, ◌∙◌, arith, None}
+use Rattle.std.proofs.Common.{ℕ, ◌≡◌, ◌≤◌, ◌+◌, ◌*◌, min, max, refl, ap, ap₂, ◌∙◌, arith, None}
 use Rattle.std.specs.declared.result.Result.{Result}
 use Rattle.std.specs.declared.result.Result.TheVariants.{Ok}
 use Rattle.fc_nodes.specs.declared.verdicts.Reason.{Reason}
 use Rattle.fc_nodes.specs.declared.verdicts.Verdict.{Verdict}
 use Rattle.fc_nodes.specs.declared.verdicts.Verdict.TheVariants as verdict
-use Rattle.fc_nodes.specs.Program.{Program, Unfolding, unfolding_of}
-use Rattle.fc_nodes.specs.Terms.{Term, ByRep, size, term_at}
+use Rattle.fc_nodes.specs.Terms.{Term, ByRep, size}
 use Rattle.interval_facts.specs.Ranges.{RangeValue, IntRange, range_of}
 use Rattle.growth_facts.specs.Growth.{Grows, growth_of}
 use Rattle.growth_facts.specs.Leads.{least_integer}
@@ -14,11 +13,10 @@ use Rattle.fragment_check.specs.declared.kinds.Pattern.{Pattern}
 use Rattle.fragment_check.specs.declared.kinds.Pattern.TheVariants as pattern
 use Rattle.fragment_check.specs.Levels.{Stages, level_of}
 use Rattle.fragment_check.specs.Patterns.{pattern_of, minimising, judged, first_refused, refusal_first}
-use Rattle.fragment_check.specs.Verdicts.{added_at, added_by, stages_of, variable_range, verdict_by, verdict_of}
+use Rattle.fragment_check.specs.Verdicts.{added_by, stages_of, variable_range, verdict_by}
 use Rattle.ring_laws.specs.RingTerms.{near_term, ring_main, ring_unfolding}
 use Rattle.ring_laws.specs.Laws.{RingsStabilise}
 
--- ---- ranges: of `nbrLink`, and of what a device takes where nothing is near
 -- ---- growth: what is heard of the variable, and 1 more
 growth : (count : ℕ) (R : ℕ → RangeValue) → 3 ≤ count → R 6 ≡ IntRange 1 1
     → growth_of count R ByRep 0 3 near_term ≡ Grows 1
@@ -47,29 +45,10 @@ verdict_is : (count : ℕ) (R : ℕ → RangeValue) (K : Stages) → pattern_of 
 verdict_is count R K p k =
     ap (λ r. verdict_by (refusal_first 0 r None) (2 + K 0)) p ∙ ap (λ l. verdict.Yes (2 + l)) k
 
-module _ (P : Program) (count devices : ℕ) (low : 3 ≤ count) (e : unfolding_of P ≡ ring_unfolding count) where
-  abbrev ranges : ℕ → RangeValue
-  ranges = range_of (unfolding_of P)
-
-  pattern_found : pattern_of count ranges 0 (ring_main count) ≡ Ok (pattern.Minimising count 1)
-  pattern_found =
-      pattern_is count ranges low (ap (λ (U : Unfolding). range_of U 6) e) (ap (λ (U : Unfolding). range_of U 7) e)
-
-  ceiling : P.declared.ceiling ≡ count
-  ceiling = ap (λ (U : Unfolding). U.declared.ceiling) e
-
-  main : term_at P.nodes 0 ≡ ring_main count
-  main = ap (λ (U : Unfolding). U.main) e
-
-  stages : stages_of (unfolding_of P) devices 0 ≡ 2 * count
-  stages =
-      ap₂ (λ c t. added_at c ranges (variable_range (unfolding_of P)) devices 0 t) ceiling main
-      ∙ added count devices (variable_range (unfolding_of P)) (pattern_of count ranges 0 (ring_main count)) pattern_found
-
-  yes_found : verdict_of (unfolding_of P) devices ≡ verdict.Yes (2 + 2 * count)
-  yes_found =
-      ap₂ (λ c t. verdict_from c ranges (stages_of (unfolding_of P) devices) t) ceiling main
-      ∙ verdict_is count ranges (stages_of (unfolding_of P) devices) pattern_found stages
-
 pub rings_stabilise : RingsStabilise
-rings_stabilise P count devices low high e = yes_found P count devices low e
+rings_stabilise count devices low high =
+    let U = ring_unfolding count in
+    let R = range_of U in
+    let found = pattern_is count R low refl refl in
+    verdict_is count R (stages_of U devices) found
+    (added count devices (variable_range U) (pattern_of count R 0 (ring_main count)) found)

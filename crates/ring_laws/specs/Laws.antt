@@ -8,7 +8,6 @@ use Rattle.unfold.specs.Nodes.{Nodes}
 use Rattle.unfold.specs.Unfolding.{main_term}
 use Rattle.topology.specs.Networks.{IsNetwork}
 use Rattle.fc_nodes.specs.declared.verdicts.Verdict.TheVariants as verdict
-use Rattle.fc_nodes.specs.Program.{Program, unfolding_of}
 use Rattle.fragment_check.specs.Verdicts.{verdict_of}
 use Rattle.scramble.specs.Rings.{ring, ring_declared, ring_program}
 use Rattle.ring_laws.specs.RingTerms.{ring_main, ring_unfolding}
@@ -33,9 +32,9 @@ pub record IsRingNetwork (number count : ℕ) : Type 0 where
 abbrev pub RingsAreNetworks : Type 0
 RingsAreNetworks = (number count : ℕ) → 3 ≤ count → count ≤ MOST_SCENARIO_DEVICES → IsRingNetwork number count
 
--- The verdict on the program of a ring, in whatever nodes it is held, is a yes for two rounds and two more for each
--- device of the ring. It is so for each number of devices that the verdict is asked for
+-- The verdict on the program of a ring is a yes for two rounds and two more for each device of the ring. It is so for
+-- each number of devices that the verdict is asked for
 abbrev pub RingsStabilise : Type 0
 RingsStabilise =
-    (P : Program) (count devices : ℕ) → 3 ≤ count → count ≤ MOST_SCENARIO_DEVICES → unfolding_of P ≡ ring_unfolding count
-    → verdict_of (unfolding_of P) devices ≡ verdict.Yes (2 + 2 * count)
+    (count devices : ℕ) → 3 ≤ count → count ≤ MOST_SCENARIO_DEVICES
+    → verdict_of (ring_unfolding count) devices ≡ verdict.Yes (2 + 2 * count)

@@ -54,12 +54,12 @@ module _ (P : Program) (first : CoreValue) where
         let n : suc i ≡ i + 1 = omega arith in
         let front : take (suc i) (map numbered lines) ≡ take i (map numbered lines) ++ numbered x ∷ [] =
         take-suc (map numbered lines) i (numbered x) within ∙ ap (λ y. take i (map numbered lines) ++ y ∷ []) (sym is) in
-        let row : DoesLine P (core_of s.book.core) (length s.book.log) (numbered x) a.added (core_of t.book.core) =
-        subst (λ (Q : Program). DoesLine Q (core_of s.book.core) (length s.book.log) (numbered x) a.added (core_of t.book.core)) u.run.program a.does in
+        let row : DoesLine (unfolding_of P) (core_of s.book.core) (length s.book.log) (numbered x) a.added (core_of t.book.core) =
+        subst (λ (Q : Program). DoesLine (unfolding_of Q) (core_of s.book.core) (length s.book.log) (numbered x) a.added (core_of t.book.core)) u.run.program a.does in
         let all : Upto P first (map numbered lines) (suc i) t = record {
           run = subst (λ l. HasRun P first l t) (sym front) (run_on P first s t (take i (map numbered lines)) (numbered x) u.run a);
           progress = after_command u.progress (numbered x).1;
-          left = left_after plain cut P (core_of first) u.progress (core_of s.book.core) (core_of t.book.core) (length s.book.log) (numbered x).0 a.added u.left good (numbered x).1 judged.0 row;
+          left = left_after plain cut (unfolding_of P) (core_of first) u.progress (core_of s.book.core) (core_of t.book.core) (length s.book.log) (numbered x).0 a.added u.left good (numbered x).1 judged.0 row;
           judged = judged.1;
         } in
         subst (λ j. Upto P first (map numbered lines) j t) n all

@@ -3,7 +3,7 @@ use Rattle.std.proofs.Common.{◌≡◌, ℕ, suc, ◌+◌, ◌≤◌, List, [],
 use Rattle.std.proofs.lemmas.List.{length-map}
 use Rattle.fc_values.specs.Exports.{FlatExport}
 use Rattle.fc_nodes.specs.declared.verdicts.Verdict.{Verdict}
-use Rattle.fc_nodes.specs.Program.{Program, unfolding_of}
+use Rattle.fc_nodes.specs.Program.{Unfolding}
 use Rattle.topology.proofs.Lemmas.{put_numbers}
 use Rattle.topology.specs.Networks.{Network, NetDevice, numbers}
 use Rattle.firing_core.specs.declared.entries.Part.{Part}
@@ -24,14 +24,14 @@ use Rattle.session.proofs.EditsInLogs.{after_last, after_short, plain_both}
 use Rattle.session.proofs.AfterEdits.{after_plain, rounds_join}
 use Rattle.session.proofs.PartRounds.{AllBegin, begin_later, begin_both, rounds_both, rounds_none, rounds_one}
 
-pub record Follows (P : Program) (c : Core) (a : Added) (now : Core) : Type 0 where
-  pub run : Run (unfolding_of P) c a.stretch now
-  pub verdict : verdict_in P now ≡ last_verdict (verdict_in P c) a.shown
+pub record Follows (U : Unfolding) (c : Core) (a : Added) (now : Core) : Type 0 where
+  pub run : Run U c a.stretch now
+  pub verdict : verdict_in U now ≡ last_verdict (verdict_in U c) a.shown
   pub begin : AllBegin a.parts (length a.stretch)
   pub rounds : HasRounds (numbers now.net.devices) (after_edit a.stretch) (rounds_since a)
 
-pub follows_none : (P : Program) (c : Core) → Follows P c nothing c
-follows_none P c = record { run = refl; verdict = refl; begin = tt; rounds = refl }
+pub follows_none : (U : Unfolding) (c : Core) → Follows U c nothing c
+follows_none U c = record { run = refl; verdict = refl; begin = tt; rounds = refl }
 
 verdict_more : (v : Verdict) (xs ys : List Shown) → last_verdict v (xs ++ ys) ≡ last_verdict (last_verdict v xs) ys
 verdict_more v [] ys = refl
@@ -53,19 +53,19 @@ added_more a e es = added_both a (record { stretch = e ∷ []; parts = []; shown
 
 -- ---- networks
 
-verdict_at : (P : Program) (c d : Core) → numbers d.net.devices ≡ numbers c.net.devices → verdict_in P d ≡ verdict_in P c
-verdict_at P c d e =
+verdict_at : (U : Unfolding) (c d : Core) → numbers d.net.devices ≡ numbers c.net.devices → verdict_in U d ≡ verdict_in U c
+verdict_at U c d e =
     let k : length d.net.devices ≡ length c.net.devices =
     sym (length-map d.net.devices (λ (n : NetDevice). n.id)) ∙ (ap (λ (l : List ℕ). length l) e ∙ length-map c.net.devices (λ (n : NetDevice). n.id)) in
-    ap (λ n. verdict_of (unfolding_of P) n) k
+    ap (verdict_of U) k
 
-edit_verdict : (P : Program) (c d : Core) (line : ℕ) (e : EditValue) → d ≡ edited (unfolding_of P) c e → verdict_in P d ≡ last_verdict (verdict_in P c) (shown_after P line e d)
-edit_verdict P c d line (LinkEdit a b w) q = verdict_at P c d (ap (λ (k : Core). numbers k.net.devices) q)
-edit_verdict P c d line (UnlinkEdit a b) q = verdict_at P c d (ap (λ (k : Core). numbers k.net.devices) q)
-edit_verdict P c d line (SetEdit x i v) q = verdict_at P c d (ap (λ (k : Core). numbers k.net.devices) q ∙ put_numbers x i v c.net.devices)
-edit_verdict P c d line (PokeEdit x v) q = verdict_at P c d (ap (λ (k : Core). numbers k.net.devices) q)
-edit_verdict P c d line (JoinEdit x) q = refl
-edit_verdict P c d line (LeaveEdit x) q = refl
+edit_verdict : (U : Unfolding) (c d : Core) (line : ℕ) (e : EditValue) → d ≡ edited U c e → verdict_in U d ≡ last_verdict (verdict_in U c) (shown_after U line e d)
+edit_verdict U c d line (LinkEdit a b w) q = verdict_at U c d (ap (λ (k : Core). numbers k.net.devices) q)
+edit_verdict U c d line (UnlinkEdit a b) q = verdict_at U c d (ap (λ (k : Core). numbers k.net.devices) q)
+edit_verdict U c d line (SetEdit x i v) q = verdict_at U c d (ap (λ (k : Core). numbers k.net.devices) q ∙ put_numbers x i v c.net.devices)
+edit_verdict U c d line (PokeEdit x v) q = verdict_at U c d (ap (λ (k : Core). numbers k.net.devices) q)
+edit_verdict U c d line (JoinEdit x) q = refl
+edit_verdict U c d line (LeaveEdit x) q = refl
 
 parted : (xs : List EntryValue) (y : EntryValue) (ys zs : List EntryValue) → xs ++ y ∷ ys ++ zs ≡ (xs ++ y ∷ ys) ++ zs
 parted [] y ys zs = refl
@@ -73,14 +73,14 @@ parted (x ∷ xs) y ys zs = ap (λ l. x ∷ l) (parted xs y ys zs)
 
 -- ---- one stretch more
 
-module _ (plain_net : PlainRunsKeepNet) (cut : RunsCut) (follow : RoundsFollow) (P : Program) (c : Core) where
+module _ (plain_net : PlainRunsKeepNet) (cut : RunsCut) (follow : RoundsFollow) (U : Unfolding) (c : Core) where
   -- a stretch without an edit
-  follows_plain : (a b : Added) (now next : Core) (j : ℕ) → Follows P c a now → has_edit b.stretch ≡ false → Run (unfolding_of P) now b.stretch next
+  follows_plain : (a b : Added) (now next : Core) (j : ℕ) → Follows U c a now → has_edit b.stretch ≡ false → Run U now b.stretch next
       → HasRounds (numbers now.net.devices) b.stretch j → rounds_from (place_after a.stretch) b.parts ≡ j
-      → AllBegin b.parts (length (a.stretch ++ b.stretch)) → ((v : Verdict) → last_verdict v b.shown ≡ v) → Follows P c (both a b) next
+      → AllBegin b.parts (length (a.stretch ++ b.stretch)) → ((v : Verdict) → last_verdict v b.shown ≡ v) → Follows U c (both a b) next
   follows_plain a b now next j f plain run rounds counts begin silent = record {
-    run = (cut (unfolding_of P) c next a.stretch b.stretch).1 (now, f.run, run);
-    verdict = verdict_at P now next (ap (λ (n : Network). numbers n.devices) net) ∙ (f.verdict ∙ sym (verdict_more (verdict_in P c) a.shown b.shown ∙ silent (last_verdict (verdict_in P c) a.shown)));
+    run = (cut U c next a.stretch b.stretch).1 (now, f.run, run);
+    verdict = verdict_at U now next (ap (λ (n : Network). numbers n.devices) net) ∙ (f.verdict ∙ sym (verdict_more (verdict_in U c) a.shown b.shown ∙ silent (last_verdict (verdict_in U c) a.shown)));
     begin = begin_both a.parts b.parts (length (a.stretch ++ b.stretch)) (begin_later a.parts (length a.stretch) (length (a.stretch ++ b.stretch)) f.begin longer) begin;
     rounds = subst (λ (ns : List ℕ). HasRounds ns (after_edit (a.stretch ++ b.stretch)) (rounds_since (both a b))) (sym (ap (λ (n : Network). numbers n.devices) net))
         (subst (λ l. HasRounds (numbers now.net.devices) l (rounds_since (both a b))) (sym after)
@@ -89,7 +89,7 @@ module _ (plain_net : PlainRunsKeepNet) (cut : RunsCut) (follow : RoundsFollow) 
   }
     where
       net : next.net ≡ now.net
-      net = plain_net (unfolding_of P) now next b.stretch plain run
+      net = plain_net U now next b.stretch plain run
 
       longer : length a.stretch ≤ length (a.stretch ++ b.stretch)
       longer = let l = length-append a.stretch b.stretch in omega (arith, l)
@@ -108,13 +108,13 @@ module _ (plain_net : PlainRunsKeepNet) (cut : RunsCut) (follow : RoundsFollow) 
       sum = ap (λ n. rounds_from n (a.parts ++ b.parts)) place ∙ (rounds_both (place_after a.stretch) a.parts b.parts ∙ ap (λ n. rounds_since a + n) counts)
 
   -- a stretch with an edit: what stands before it counts no more
-  follows_edit : (a b : Added) (now next : Core) (front after : List EntryValue) (e : EditValue) (j : ℕ) → Follows P c a now
-      → b.stretch ≡ front ++ EditEntry e ∷ after → has_edit after ≡ false → Run (unfolding_of P) now b.stretch next
+  follows_edit : (a b : Added) (now next : Core) (front after : List EntryValue) (e : EditValue) (j : ℕ) → Follows U c a now
+      → b.stretch ≡ front ++ EditEntry e ∷ after → has_edit after ≡ false → Run U now b.stretch next
       → HasRounds (numbers next.net.devices) after j → rounds_from (length a.stretch + suc (length front)) b.parts ≡ j
-      → AllBegin b.parts (length (a.stretch ++ b.stretch)) → verdict_in P next ≡ last_verdict (verdict_in P now) b.shown → Follows P c (both a b) next
+      → AllBegin b.parts (length (a.stretch ++ b.stretch)) → verdict_in U next ≡ last_verdict (verdict_in U now) b.shown → Follows U c (both a b) next
   follows_edit a b now next front after e j f is plain run rounds counts begin says = record {
-    run = (cut (unfolding_of P) c next a.stretch b.stretch).1 (now, f.run, run);
-    verdict = says ∙ (ap (λ v. last_verdict v b.shown) f.verdict ∙ sym (verdict_more (verdict_in P c) a.shown b.shown));
+    run = (cut U c next a.stretch b.stretch).1 (now, f.run, run);
+    verdict = says ∙ (ap (λ v. last_verdict v b.shown) f.verdict ∙ sym (verdict_more (verdict_in U c) a.shown b.shown));
     begin = begin_both a.parts b.parts (length (a.stretch ++ b.stretch)) (begin_later a.parts (length a.stretch) (length (a.stretch ++ b.stretch)) f.begin longer) begin;
     rounds = subst (λ l. HasRounds (numbers next.net.devices) l (rounds_since (both a b))) (sym left)
         (subst (λ n. HasRounds (numbers next.net.devices) after n) (sym sum) rounds);
@@ -146,7 +146,7 @@ module _ (plain_net : PlainRunsKeepNet) (cut : RunsCut) (follow : RoundsFollow) 
 
   -- ---- lines
 
-  runs_rounds : (a b : Added) (now next : Core) (line r : ℕ) → Follows P c a now → RunsRounds (unfolding_of P) now (length a.stretch) line r b next → Follows P c (both a b) next
+  runs_rounds : (a b : Added) (now next : Core) (line r : ℕ) → Follows U c a now → RunsRounds U now (length a.stretch) line r b next → Follows U c (both a b) next
   runs_rounds a b now next line r f d =
       let x : Part = part_of line r (length a.stretch) (length a.stretch + length b.stretch) in
       let l = length-append a.stretch b.stretch in
@@ -155,23 +155,23 @@ module _ (plain_net : PlainRunsKeepNet) (cut : RunsCut) (follow : RoundsFollow) 
       (subst (λ ps. AllBegin ps (length (a.stretch ++ b.stretch))) (sym d.part) (omega (arith, l), tt))
       (λ v. ap (λ s. last_verdict v s) d.silent)
 
-  shows_core : (a b : Added) (now next : Core) (line : ℕ) → Follows P c a now → ShowsCore now line b next → Follows P c (both a b) next
+  shows_core : (a b : Added) (now next : Core) (line : ℕ) → Follows U c a now → ShowsCore now line b next → Follows U c (both a b) next
   shows_core a b now next line f d =
-      follows_plain a b now next 0 f (ap (λ l. has_edit l) d.stretch) (subst (λ l. Run (unfolding_of P) now l next) (sym d.stretch) d.same)
+      follows_plain a b now next 0 f (ap (λ l. has_edit l) d.stretch) (subst (λ l. Run U now l next) (sym d.stretch) d.same)
       (ap (λ l. has_edit l) d.stretch) (ap (λ ps. rounds_from (place_after a.stretch) ps) d.none)
       (subst (λ ps. AllBegin ps (length (a.stretch ++ b.stretch))) (sym d.none) tt)
       (λ v. ap (λ s. last_verdict v s) d.shows)
 
-  makes_edit : (a b : Added) (now next : Core) (line : ℕ) (e : EditValue) → Follows P c a now → MakesEdit (unfolding_of P) now e (shown_after P line e next) b next → Follows P c (both a b) next
+  makes_edit : (a b : Added) (now next : Core) (line : ℕ) (e : EditValue) → Follows U c a now → MakesEdit U now e (shown_after U line e next) b next → Follows U c (both a b) next
   makes_edit a b now next line e f d =
       follows_edit a b now next [] [] e 0 f d.stretch refl d.leads refl
       (ap (λ ps. rounds_from (length a.stretch + 1) ps) d.none) (subst (λ ps. AllBegin ps (length (a.stretch ++ b.stretch))) (sym d.none) tt)
-      (edit_verdict P now next line e (made (subst (λ l. Run (unfolding_of P) now l next) d.stretch d.leads)) ∙ ap (λ s. last_verdict (verdict_in P now) s) (sym d.shows))
+      (edit_verdict U now next line e (made (subst (λ l. Run U now l next) d.stretch d.leads)) ∙ ap (λ s. last_verdict (verdict_in U now) s) (sym d.shows))
     where
-      made : Run (unfolding_of P) now (EditEntry e ∷ []) next → next ≡ edited (unfolding_of P) now e
+      made : Run U now (EditEntry e ∷ []) next → next ≡ edited U now e
       made r = r.2 ∙ r.1.after
 
-  mixes_edit : (a b : Added) (now next : Core) (line r : ℕ) (e : EditValue) → Follows P c a now → MixesEdit (unfolding_of P) now (length a.stretch) line r e b next → Follows P c (both a b) next
+  mixes_edit : (a b : Added) (now next : Core) (line r : ℕ) (e : EditValue) → Follows U c a now → MixesEdit U now (length a.stretch) line r e b next → Follows U c (both a b) next
   mixes_edit a b now next line r e f d =
       let x : Part = part_of line r (length a.stretch + d.place) (length a.stretch + length b.stretch) in
       let l = length-append a.stretch b.stretch in
@@ -181,9 +181,9 @@ module _ (plain_net : PlainRunsKeepNet) (cut : RunsCut) (follow : RoundsFollow) 
       (subst (λ (ns : List ℕ). HasRounds ns m.after r) (sym same) m.covers)
       (ap (λ ps. rounds_from (length a.stretch + suc (length front)) ps) d.part ∙ rounds_one (length a.stretch + suc (length front)) x (omega (arith, n, h)))
       (subst (λ ps. AllBegin ps (length (a.stretch ++ b.stretch))) (sym d.part) (omega (arith, l, h), tt))
-      (verdict_at P now next same ∙ ap (λ s. last_verdict (verdict_in P now) s) (sym d.silent))
+      (verdict_at U now next same ∙ ap (λ s. last_verdict (verdict_in U now) s) (sym d.silent))
     where
-      m : MixStretch (unfolding_of P) now r e b.stretch next
+      m : MixStretch U now r e b.stretch next
       m = d.mixes
 
       front : List EntryValue
@@ -200,34 +200,34 @@ module _ (plain_net : PlainRunsKeepNet) (cut : RunsCut) (follow : RoundsFollow) 
 
       same : numbers next.net.devices ≡ numbers now.net.devices
       same =
-          let k = (cut (unfolding_of P) now next front (EditEntry e ∷ m.after)).0 (subst (λ l. Run (unfolding_of P) now l next) is m.leads) in
-          let first = plain_net (unfolding_of P) now k.0 front plain_front k.1 in
-          let second = plain_net (unfolding_of P) k.2.0 next m.after m.plain_after k.2.2 in
+          let k = (cut U now next front (EditEntry e ∷ m.after)).0 (subst (λ l. Run U now l next) is m.leads) in
+          let first = plain_net U now k.0 front plain_front k.1 in
+          let second = plain_net U k.2.0 next m.after m.plain_after k.2.2 in
           ap (λ (n : Network). numbers n.devices) second
           ∙ (ap (λ (z : Core). numbers z.net.devices) k.2.1.after
-          ∙ (mixed_numbers (unfolding_of P) k.0 e d.mixed ∙ ap (λ (n : Network). numbers n.devices) first))
+          ∙ (mixed_numbers U k.0 e d.mixed ∙ ap (λ (n : Network). numbers n.devices) first))
 
-  pokes : (xs : List (ℕ × FlatExport)) (a : Added) (now next : Core) → Follows P c a now → Run (unfolding_of P) now (map poke xs) next
-      → Follows P c (both a (record { stretch = map poke xs; parts = []; shown = [] })) next
+  pokes : (xs : List (ℕ × FlatExport)) (a : Added) (now next : Core) → Follows U c a now → Run U now (map poke xs) next
+      → Follows U c (both a (record { stretch = map poke xs; parts = []; shown = [] })) next
   pokes [] a now next f r =
-      subst (λ z. Follows P c z next) (sym (none_added a)) (subst (λ (k : Core). Follows P c a k) (sym r) f)
+      subst (λ z. Follows U c z next) (sym (none_added a)) (subst (λ (k : Core). Follows U c a k) (sym r) f)
   pokes (x ∷ xs) a now next f r =
       let one : Added = record { stretch = poke x ∷ []; parts = []; shown = [] } in
-      let first : Follows P c (both a one) r.0 =
+      let first : Follows U c (both a one) r.0 =
       follows_edit a one now r.0 [] [] (PokeEdit x.0 x.1) 0 f refl refl (r.0, r.1, refl) refl refl tt
-      (verdict_at P now r.0 (ap (λ (k : Core). numbers k.net.devices) r.1.after)) in
-      subst (λ z. Follows P c z next) (added_more a (poke x) (map poke xs)) (pokes xs (both a one) r.0 next first r.2)
+      (verdict_at U now r.0 (ap (λ (k : Core). numbers k.net.devices) r.1.after)) in
+      subst (λ z. Follows U c z next) (added_more a (poke x) (map poke xs)) (pokes xs (both a one) r.0 next first r.2)
 
-  scrambles : (a b : Added) (now next : Core) (n : ℕ) → Follows P c a now → Scrambles (unfolding_of P) now n b next → Follows P c (both a b) next
+  scrambles : (a b : Added) (now next : Core) (n : ℕ) → Follows U c a now → Scrambles U now n b next → Follows U c (both a b) next
   scrambles a b now next n f d =
-      let s : Follows P c (both a (record { stretch = map poke d.rubbish; parts = []; shown = [] })) next =
-      pokes d.rubbish a now next f (subst (λ l. Run (unfolding_of P) now l next) d.stretch d.leads) in
-      subst (λ (l : List EntryValue). Follows P c (both a (record { stretch = l; parts = b.parts; shown = b.shown })) next) (sym d.stretch)
-      (subst (λ (l : List Part). Follows P c (both a (record { stretch = map poke d.rubbish; parts = l; shown = b.shown })) next) (sym d.none)
-      (subst (λ (l : List Shown). Follows P c (both a (record { stretch = map poke d.rubbish; parts = []; shown = l })) next) (sym d.silent) s))
+      let s : Follows U c (both a (record { stretch = map poke d.rubbish; parts = []; shown = [] })) next =
+      pokes d.rubbish a now next f (subst (λ l. Run U now l next) d.stretch d.leads) in
+      subst (λ (l : List EntryValue). Follows U c (both a (record { stretch = l; parts = b.parts; shown = b.shown })) next) (sym d.stretch)
+      (subst (λ (l : List Part). Follows U c (both a (record { stretch = map poke d.rubbish; parts = l; shown = b.shown })) next) (sym d.none)
+      (subst (λ (l : List Shown). Follows U c (both a (record { stretch = map poke d.rubbish; parts = []; shown = l })) next) (sym d.silent) s))
 
   -- one more line
-  one_line : (line : ℕ × CommandValue) (a b : Added) (now next : Core) → Follows P c a now → DoesLine P now (length a.stretch) line b next → Follows P c (both a b) next
+  one_line : (line : ℕ × CommandValue) (a b : Added) (now next : Core) → Follows U c a now → DoesLine U now (length a.stretch) line b next → Follows U c (both a b) next
   one_line (line, RunCommand r) a b now next f d = runs_rounds a b now next line r f d
   one_line (line, EditCommand e) a b now next f d = makes_edit a b now next line e f d
   one_line (line, ScrambleCommand n) a b now next f d = scrambles a b now next n f d
@@ -235,11 +235,11 @@ module _ (plain_net : PlainRunsKeepNet) (cut : RunsCut) (follow : RoundsFollow) 
   one_line (line, MixCommand r e) a b now next f d = mixes_edit a b now next line r e f d
 
   -- lines, one after another
-  pub all_lines : (lines : List (ℕ × CommandValue)) (a b : Added) (now last : Core) → Follows P c a now → DoesLines P now (length a.stretch) lines b last → Follows P c (both a b) last
+  pub all_lines : (lines : List (ℕ × CommandValue)) (a b : Added) (now last : Core) → Follows U c a now → DoesLines U now (length a.stretch) lines b last → Follows U c (both a b) last
   all_lines [] a b now last f d =
-      subst (λ z. Follows P c (both a z) last) (sym d.0) (subst (λ z. Follows P c z last) (sym (none_added a)) (subst (λ (k : Core). Follows P c a k) (sym d.1) f))
+      subst (λ z. Follows U c (both a z) last) (sym d.0) (subst (λ z. Follows U c z last) (sym (none_added a)) (subst (λ (k : Core). Follows U c a k) (sym d.1) f))
   all_lines (line ∷ lines) a b now last f d =
       let l = length-append a.stretch d.0.stretch in
-      let rest = subst (λ n. DoesLines P d.2 n lines d.1 last) (sym l) d.5 in
-      subst (λ z. Follows P c z last) (added_both a d.0 d.1 ∙ ap (λ z. both a z) (sym d.3))
+      let rest = subst (λ n. DoesLines U d.2 n lines d.1 last) (sym l) d.5 in
+      subst (λ z. Follows U c z last) (added_both a d.0 d.1 ∙ ap (λ z. both a z) (sym d.3))
       (all_lines lines (both a d.0) d.1 d.2 last (one_line line a d.0 now d.2 f d.4) rest)

@@ -21,26 +21,16 @@ use Rattle.session.specs.ScriptRuns.{Added, both, nothing, DoesLines, ScriptRun}
 use Rattle.session.specs.Shown.{ShowsValues, shown_text, all_shown, script_text, verdict_in}
 use Rattle.session.specs.Since.{rounds_since}
 use Rattle.session.specs.Promises.{Holds, shows_field, KeepsYes}
-use Rattle.session.proofs.EditsInLogs.{plain_both}
+use Rattle.session.proofs.EditsInLogs.{fewer}
 use Rattle.session.proofs.Following.{Follows, follows_none, all_lines}
 use Rattle.session.proofs.ShownFields.{values_held}
-
-rounds_plain : (live : List ℕ) (log : List EntryValue) (n : ℕ) → HasRounds live log n → has_edit log ≡ false
-rounds_plain live log zero h = h
-rounds_plain live log (suc n) h = ap (λ l. has_edit l) h.2 ∙ plain_both h.0 h.1 h.3.plain (rounds_plain live h.1 n h.4)
-
--- fewer rounds than there are
-fewer : (live : List ℕ) (log : List EntryValue) (n k : ℕ) → k ≤ n → HasRounds live log n → HasRounds live log k
-fewer live log n zero l h = rounds_plain live log n h
-fewer live log zero (suc k) l h = absurd (omega (arith, l))
-fewer live log (suc n) (suc k) l h = (h.0, h.1, h.2, h.3, fewer live h.1 n k (omega (arith, l)) h.4)
 
 module _ (lines_cut : LinesCut) (runs : RunsKeepGood) (plain_net : PlainRunsKeepNet) (cut : RunsCut) (cut_at_edit : RunsCutAtEdit)
     (follow : RoundsFollow) (stabilise : YesStabilises) (P : Program) (c last : Core) (front rest : List (ℕ × CommandValue))
     (log : List EntryValue) (parts : List Part) (text : List ℕ) (program : IsProgram P) (good : IsGood (unfolding_of P) c)
-    (run : ScriptRun P c (front ++ rest) log parts text last) where
-  two : InTwo P c 0 front rest (record { stretch = log; parts = parts; shown = run.shown }) last
-  two = (lines_cut P c last 0 front rest (record { stretch = log; parts = parts; shown = run.shown })).0 run.does
+    (run : ScriptRun (unfolding_of P) c (front ++ rest) log parts text last) where
+  two : InTwo (unfolding_of P) c 0 front rest (record { stretch = log; parts = parts; shown = run.shown }) last
+  two = (lines_cut (unfolding_of P) c last 0 front rest (record { stretch = log; parts = parts; shown = run.shown })).0 run.does
 
   abbrev before : Added
   before = two.0
@@ -57,51 +47,51 @@ module _ (lines_cut : LinesCut) (runs : RunsKeepGood) (plain_net : PlainRunsKeep
   shown_is : run.shown ≡ before.shown ++ after.shown
   shown_is = ap (λ (a : Added). a.shown) whole
 
-  does : DoesLines P c 0 front before core
+  does : DoesLines (unfolding_of P) c 0 front before core
   does = two.4
 
-  behind : DoesLines P core (length before.stretch) rest after last
-  behind = let e : 0 + length before.stretch ≡ length before.stretch = omega arith in subst (λ n. DoesLines P core n rest after last) e two.5
+  behind : DoesLines (unfolding_of P) core (length before.stretch) rest after last
+  behind = let e : 0 + length before.stretch ≡ length before.stretch = omega arith in subst (λ n. DoesLines (unfolding_of P) core n rest after last) e two.5
 
-  known : Follows P c before core
-  known = all_lines plain_net cut follow P c front nothing before c core (follows_none P c) does
+  known : Follows (unfolding_of P) c before core
+  known = all_lines plain_net cut follow (unfolding_of P) c front nothing before c core (follows_none (unfolding_of P) c) does
 
   there : IsGood (unfolding_of P) core
   there = runs P c core before.stretch program good known.run
 
-  stable : (k : ℕ) → verdict_in P core ≡ verdict.Yes k → Stabilises (unfolding_of P) core.net k
+  stable : (k : ℕ) → verdict_in (unfolding_of P) core ≡ verdict.Yes k → Stabilises (unfolding_of P) core.net k
   stable k judged = stabilise P core.net k program there.net there.declared judged
 
-  held : (k : ℕ) (judged : verdict_in P core ≡ verdict.Yes k) → k ≤ rounds_since before → Holds core (stable k judged).one.field
+  held : (k : ℕ) (judged : verdict_in (unfolding_of P) core ≡ verdict.Yes k) → k ≤ rounds_since before → Holds core (stable k judged).one.field
   held k judged enough =
       let at = cut_at_edit (unfolding_of P) c core before.stretch known.run in
       let start = runs P c at.middle at.front program good at.first in
       let covers = fewer (numbers core.net.devices) (after_edit before.stretch) (rounds_since before) k enough known.rounds in
       λ d l. (stable k judged).reached at.middle core (after_edit before.stretch) start (sym at.net) at.second covers d l
 
-  says : text ≡ script_text P c before.shown ++ all_shown after.shown
+  says : text ≡ script_text (unfolding_of P) c before.shown ++ all_shown after.shown
   says =
-      run.says ∙ (ap (λ s. script_text P c s) shown_is
-      ∙ (ap (λ t. verdict_text (verdict_in P c) ++ t) (flat_map-append shown_text before.shown after.shown)
-      ∙ sym (append_assoc (verdict_text (verdict_in P c)) (all_shown before.shown) (all_shown after.shown))))
+      run.says ∙ (ap (λ s. script_text (unfolding_of P) c s) shown_is
+      ∙ (ap (λ t. verdict_text (verdict_in (unfolding_of P) c) ++ t) (flat_map-append shown_text before.shown after.shown)
+      ∙ sym (append_assoc (verdict_text (verdict_in (unfolding_of P) c)) (all_shown before.shown) (all_shown after.shown))))
 
   -- a `show` that comes next
-  shows : (k line : ℕ) (more : List (ℕ × CommandValue)) (judged : verdict_in P core ≡ verdict.Yes k) → k ≤ rounds_since before
+  shows : (k line : ℕ) (more : List (ℕ × CommandValue)) (judged : verdict_in (unfolding_of P) core ≡ verdict.Yes k) → k ≤ rounds_since before
       → rest ≡ (line, ShowCommand) ∷ more
-      → (later : List ℕ) × (text ≡ script_text P c before.shown ++ shows_field line core.net (stable k judged).one.field ++ later)
+      → (later : List ℕ) × (text ≡ script_text (unfolding_of P) c before.shown ++ shows_field line core.net (stable k judged).one.field ++ later)
   shows k line more judged enough next =
-      let lines = subst (λ r. DoesLines P core (length before.stretch) r after last) next behind in
+      let lines = subst (λ r. DoesLines (unfolding_of P) core (length before.stretch) r after last) next behind in
       let field = (stable k judged).one.field in
       let values = values_held core field (held k judged enough) in
       let first : after.shown ≡ ShowsValues line core ∷ lines.1.shown = ap (λ (a : Added). a.shown) lines.3 ∙ ap (λ s. s ++ lines.1.shown) lines.4.shows in
       let line_is : shown_text (ShowsValues line core) ≡ shows_field line core.net field =
       ap (λ t. codes "@" ++ decimal line ++ codes "\n" ++ t) values in (
         all_shown lines.1.shown,
-        says ∙ (ap (λ t. script_text P c before.shown ++ t) (ap (λ s. all_shown s) first ∙ ap (λ t. t ++ all_shown lines.1.shown) line_is)
-            ∙ sym (append_assoc (script_text P c before.shown) (shows_field line core.net field) (all_shown lines.1.shown))),
+        says ∙ (ap (λ t. script_text (unfolding_of P) c before.shown ++ t) (ap (λ s. all_shown s) first ∙ ap (λ t. t ++ all_shown lines.1.shown) line_is)
+            ∙ sym (append_assoc (script_text (unfolding_of P) c before.shown) (shows_field line core.net field) (all_shown lines.1.shown))),
       )
 
-  pub keeps : KeepsYes P c front rest log parts text last
+  pub keeps : KeepsYes (unfolding_of P) c front rest log parts text last
   keeps = record {
     before = before;
     core = core;

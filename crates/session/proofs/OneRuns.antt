@@ -11,7 +11,6 @@ use Rattle.firing_core.specs.Cores.{Core, Run, Step, IsGood, edited}
 use Rattle.firing_core.specs.Rounds.{is_edit, has_edit}
 use Rattle.firing_core.specs.Laws.{StepsKeepGood, RunsKeepGood, LogsLeadToOne}
 use Rattle.firing_core.specs.Stretches.{begins, is_begin, IsMixed, NoneFlies, MixStretch}
-use Rattle.fragment_check.specs.Verdicts.{verdict_of}
 use Rattle.edit_commands.specs.Agreement.{SameEdit, SameEntry, SameEntries, SameCommand, SameCommands, StepsAgree}
 use Rattle.edit_commands.specs.Scripts.{CommandValue, RunCommand, EditCommand, ScrambleCommand, ShowCommand, MixCommand}
 use Rattle.scramble.specs.Rubbish.{AreDrawn, after_export}
@@ -291,7 +290,7 @@ module _ (one : LogsLeadToOne) (agree : StepsAgree) (keep : StepsKeepGood) (P : 
       same_runs xs ys u.0 a b (keep P c u.0 x p g u.1) h.1 u.2 (subst (λ (k : Core). Run U k ys b) (sym next) v.2)
 
   same_edit : (c next other : Core) (line : ℕ) (e f : EditValue) (a b : Added) (r s : List EntryValue) → IsGood (unfolding_of P) c → SameEdit (unfolding_of P) e f
-      → MakesEdit (unfolding_of P) c e (shown_after P line e next) a next → MakesEdit (unfolding_of P) c f (shown_after P line f other) b other
+      → MakesEdit (unfolding_of P) c e (shown_after (unfolding_of P) line e next) a next → MakesEdit (unfolding_of P) c f (shown_after (unfolding_of P) line f other) b other
       → SameEntries (unfolding_of P) (busy a.stretch ++ r) (busy b.stretch ++ s) → Alike a b next other r s
   same_edit c next other line e f a b r s g h d t z =
       let U : Unfolding = unfolding_of P in
@@ -302,11 +301,11 @@ module _ (one : LogsLeadToOne) (agree : StepsAgree) (keep : StepsKeepGood) (P : 
       let v : Run U c (EditEntry f ∷ []) other = subst (λ (l : List EntryValue). Run U c l other) t.stretch t.leads in
       let core = same_runs (EditEntry e ∷ []) (EditEntry f ∷ []) c next other g (k.0, tt) u v in
       let changes = changed_same U e f h in
-      let verdicts = ap (verdict_in P) core in
+      let verdicts = ap (verdict_in (unfolding_of P)) core in
       record {
         core = core;
         shown = ap all_shown d.shows
-            ∙ ap (λ t. all_shown (if t then ShowsVerdict line (verdict_in P next) ∷ [] else [])) changes
+            ∙ ap (λ t. all_shown (if t then ShowsVerdict line (verdict_in (unfolding_of P) next) ∷ [] else [])) changes
             ∙ ap (λ v. all_shown (if changes_devices f then ShowsVerdict line v ∷ [] else [])) verdicts
             ∙ sym (ap all_shown t.shows);
         rest = k.1;
@@ -354,13 +353,13 @@ module _ (one : LogsLeadToOne) (agree : StepsAgree) (keep : StepsKeepGood) (P : 
       (λ h l. d.mixes.begun h l ∙ sym (t.mixes.begun h l)) d.silent t.silent z
 
   same_line : (c next other : Core) (i j line : ℕ) (x y : CommandValue) (a b : Added) (r s : List EntryValue) → IsGood (unfolding_of P) c → SameCommand (unfolding_of P) x y
-      → DoesLine P c i (line, x) a next → DoesLine P c j (line, y) b other → SameEntries (unfolding_of P) (busy a.stretch ++ r) (busy b.stretch ++ s) → Alike a b next other r s
+      → DoesLine (unfolding_of P) c i (line, x) a next → DoesLine (unfolding_of P) c j (line, y) b other → SameEntries (unfolding_of P) (busy a.stretch ++ r) (busy b.stretch ++ s) → Alike a b next other r s
   same_line c next other i j line (RunCommand n) y a b r s g h d t z =
-      same_run c next other i j line n a b r s g d (subst (λ k. DoesLine P c j (line, k) b other) h t) z
+      same_run c next other i j line n a b r s g d (subst (λ k. DoesLine (unfolding_of P) c j (line, k) b other) h t) z
   same_line c next other i j line (ScrambleCommand n) y a b r s g h d t z =
-      same_scramble c next other n a b r s g d (subst (λ k. DoesLine P c j (line, k) b other) h t) z
+      same_scramble c next other n a b r s g d (subst (λ k. DoesLine (unfolding_of P) c j (line, k) b other) h t) z
   same_line c next other i j line ShowCommand y a b r s g h d t z =
-      same_show c next other line a b r s d (subst (λ k. DoesLine P c j (line, k) b other) h t) z
+      same_show c next other line a b r s d (subst (λ k. DoesLine (unfolding_of P) c j (line, k) b other) h t) z
   same_line c next other i j line (EditCommand e) (EditCommand f) a b r s g h d t z = same_edit c next other line e f a b r s g h d t z
   same_line c next other i j line (EditCommand e) (RunCommand n) a b r s g h d t z = absurd h
   same_line c next other i j line (EditCommand e) (ScrambleCommand n) a b r s g h d t z = absurd h
@@ -374,7 +373,7 @@ module _ (one : LogsLeadToOne) (agree : StepsAgree) (keep : StepsKeepGood) (P : 
   same_line c next other i j line (MixCommand n e) ShowCommand a b r s g h d t z = absurd h
 
   same_lines : RunsKeepGood → (xs ys : List (ℕ × CommandValue)) (c last other : Core) (i j : ℕ) (a b : Added) → IsGood (unfolding_of P) c → SameCommands (unfolding_of P) xs ys
-      → DoesLines P c i xs a last → DoesLines P c j ys b other → SameEntries (unfolding_of P) (busy a.stretch) (busy b.stretch)
+      → DoesLines (unfolding_of P) c i xs a last → DoesLines (unfolding_of P) c j ys b other → SameEntries (unfolding_of P) (busy a.stretch) (busy b.stretch)
       → (all_shown a.shown ≡ all_shown b.shown) × (last ≡ other)
   same_lines runs [] [] c last other i j a b g h d t z = (
     ap (λ (x : Added). all_shown x.shown) d.0 ∙ sym (ap (λ (x : Added). all_shown x.shown) t.0),
@@ -389,10 +388,10 @@ module _ (one : LogsLeadToOne) (agree : StepsAgree) (keep : StepsKeepGood) (P : 
       let both : SameEntries U (busy d.0.stretch ++ busy d.1.stretch) (busy t.0.stretch ++ busy t.1.stretch) =
       subst (λ (l : List EntryValue). SameEntries U (busy d.0.stretch ++ busy d.1.stretch) l) cut_b
       (subst (λ (l : List EntryValue). SameEntries U l (busy b.stretch)) cut_a z) in
-      let here : DoesLine P c j (x.0, y.1) t.0 t.2 = subst (λ n. DoesLine P c j (n, y.1) t.0 t.2) h.0 t.4 in
+      let here : DoesLine (unfolding_of P) c j (x.0, y.1) t.0 t.2 = subst (λ n. DoesLine (unfolding_of P) c j (n, y.1) t.0 t.2) h.0 t.4 in
       let k = same_line c d.2 t.2 i j x.0 x.1 y.1 d.0 t.0 (busy d.1.stretch) (busy t.1.stretch) g h.1 d.4 here both in
-      let g' = runs P c d.2 d.0.stretch p g (leads P c d.2 i x.0 x.1 d.0 d.4) in
-      let later : DoesLines P d.2 (j + length t.0.stretch) ys t.1 other = subst (λ (m : Core). DoesLines P m (j + length t.0.stretch) ys t.1 other) (sym k.core) t.5 in
+      let g' = runs P c d.2 d.0.stretch p g (leads (unfolding_of P) c d.2 i x.0 x.1 d.0 d.4) in
+      let later : DoesLines (unfolding_of P) d.2 (j + length t.0.stretch) ys t.1 other = subst (λ (m : Core). DoesLines (unfolding_of P) m (j + length t.0.stretch) ys t.1 other) (sym k.core) t.5 in
       let rest = same_lines runs xs ys d.2 last other (i + length d.0.stretch) (j + length t.0.stretch) d.1 t.1 g' h.2 d.5 later k.rest in (
         ap (λ (m : Added). all_shown m.shown) d.3 ∙ flat_map-append shown_text d.0.shown d.1.shown
             ∙ ap (λ l. l ++ all_shown d.1.shown) k.shown ∙ ap (λ l. all_shown t.0.shown ++ l) rest.0
@@ -400,29 +399,7 @@ module _ (one : LogsLeadToOne) (agree : StepsAgree) (keep : StepsKeepGood) (P : 
         rest.1,
       )
 
--- ---- two lists of nodes of one program
-
-module _ (P Q : Program) (same : unfolding_of Q ≡ unfolding_of P) (verdicts : (n : ℕ) → verdict_of (unfolding_of Q) n ≡ verdict_of (unfolding_of P) n) where
-  other_line : (c next : Core) (at line : ℕ) (k : CommandValue) (a : Added) → DoesLine Q c at (line, k) a next → DoesLine P c at (line, k) a next
-  other_line c next at line (RunCommand r) a d = subst (λ (U : Unfolding). RunsRounds U c at line r a next) same d
-  other_line c next at line (EditCommand e) a d =
-      let shows : shown_after Q line e next ≡ shown_after P line e next =
-      ap (λ v. if changes_devices e then ShowsVerdict line v ∷ [] else []) (verdicts (length next.net.devices)) in
-      subst (λ l. MakesEdit (unfolding_of P) c e l a next) shows (subst (λ (U : Unfolding). MakesEdit U c e (shown_after Q line e next) a next) same d)
-  other_line c next at line (ScrambleCommand n) a d = subst (λ (U : Unfolding). Scrambles U c n a next) same d
-  other_line c next at line ShowCommand a d = d
-  other_line c next at line (MixCommand r e) a d = subst (λ (U : Unfolding). MixesEdit U c at line r e a next) same d
-
-  other_lines : (lines : List (ℕ × CommandValue)) (c last : Core) (at : ℕ) (a : Added) → DoesLines Q c at lines a last → DoesLines P c at lines a last
-  other_lines [] c last at a d = d
-  other_lines (line ∷ lines) c last at a d =
-      (d.0, d.1, d.2, d.3, other_line c d.2 at line.0 line.1 d.0 d.4, other_lines lines d.2 last (at + length d.0.stretch) d.1 d.5)
-
 pub one_run : LogsLeadToOne → StepsAgree → StepsKeepGood → RunsKeepGood → OneScriptRun
-one_run one agree keep runs P Q c last other xs ys log rest parts more text says p same verdicts g h z d t =
-    let k = same_lines one agree keep P p runs xs ys c last other 0 0 _ _ g h d.does (other_lines P Q same verdicts ys c other 0 _ t.does)
-    (busy_same (unfolding_of P) log rest z) in (
-      d.says ∙ ap (λ l. verdict_text (verdict_in P c) ++ l) k.0
-          ∙ ap (λ v. verdict_text v ++ all_shown t.shown) (sym (verdicts (length c.net.devices))) ∙ sym t.says,
-      k.1,
-    )
+one_run one agree keep runs P c last other xs ys log rest parts more text says p g h z d t =
+    let k = same_lines one agree keep P p runs xs ys c last other 0 0 _ _ g h d.does t.does (busy_same (unfolding_of P) log rest z) in
+    (d.says ∙ ap (λ l. verdict_text (verdict_in (unfolding_of P) c) ++ l) k.0 ∙ sym t.says, k.1)

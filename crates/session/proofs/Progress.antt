@@ -3,7 +3,7 @@ use Rattle.std.proofs.Common.{ℕ, ◌≡◌, ◌+◌, ◌*◌, ◌≤◌, Bool,
 use Rattle.std.proofs.lemmas.Bool.{eqb-true}
 use Rattle.fc_values.specs.Exports.{FlatExport}
 use Rattle.fc_values.specs.Trees.{Copy}
-use Rattle.fc_nodes.specs.Program.{Program, Unfolding, unfolding_of}
+use Rattle.fc_nodes.specs.Program.{Unfolding}
 use Rattle.topology.specs.Networks.{Network, NetDevice, lives}
 use Rattle.topology.specs.declared.types.NetFault.{NetFault}
 use Rattle.topology.specs.declared.types.NetFault.TheVariants as fault
@@ -114,31 +114,31 @@ mixed_net plain cut U c last rounds e part m =
 
 -- ---- after a line
 
-module _ (plain : PlainRunsKeepNet) (cut : RunsCut) (P : Program) (start : Core) (p : Progress) (c next : Core) (at line : ℕ) (a : Added)
-    (left : IsLeftBy start p c) (good : IsGood (unfolding_of P) c) where
-  made : (e : EditValue) → edit_fault c e ≡ None → Run (unfolding_of P) c (EditEntry e ∷ []) next → IsLeftBy start (after_command p (EditCommand e)) next
+module _ (plain : PlainRunsKeepNet) (cut : RunsCut) (U : Unfolding) (start : Core) (p : Progress) (c next : Core) (at line : ℕ) (a : Added)
+    (left : IsLeftBy start p c) (good : IsGood U c) where
+  made : (e : EditValue) → edit_fault c e ≡ None → Run U c (EditEntry e ∷ []) next → IsLeftBy start (after_command p (EditCommand e)) next
   made e h r =
-      let is : next ≡ edited (unfolding_of P) c e = r.2 ∙ r.1.after in
+      let is : next ≡ edited U c e = r.2 ∙ r.1.after in
       record {
-        net = ap (λ (k : Core). k.net) is ∙ edited_net (unfolding_of P) c e ∙ ap (λ (n : Network). net_after n e) left.net;
-        flights = λ d. ap (λ (k : Core). is_some (k.flying d)) is ∙ edited_flies (unfolding_of P) c e good h d ∙ left.flights d;
+        net = ap (λ (k : Core). k.net) is ∙ edited_net U c e ∙ ap (λ (n : Network). net_after n e) left.net;
+        flights = λ d. ap (λ (k : Core). is_some (k.flying d)) is ∙ edited_flies U c e good h d ∙ left.flights d;
       }
 
-  pub left_after : (k : CommandValue) → MayCome (unfolding_of P) start p k → DoesLine P c at (line, k) a next → IsLeftBy start (after_command p k) next
+  pub left_after : (k : CommandValue) → MayCome U start p k → DoesLine U c at (line, k) a next → IsLeftBy start (after_command p k) next
   left_after (RunCommand r) m d = record {
-    net = plain (unfolding_of P) c next a.stretch d.runs.plain d.runs.leads ∙ left.net;
+    net = plain U c next a.stretch d.runs.plain d.runs.leads ∙ left.net;
     flights = λ e. ap is_some (d.runs.rests e);
   }
   left_after (EditCommand e) m d =
-      made e (m.allowed c left) (subst (λ (l : List EntryValue). Run (unfolding_of P) c l next) d.stretch d.leads)
+      made e (m.allowed c left) (subst (λ (l : List EntryValue). Run U c l next) d.stretch d.leads)
   left_after (ScrambleCommand n) m d =
-      let k = pokes_keep (unfolding_of P) c next d.rubbish (subst (λ (l : List EntryValue). Run (unfolding_of P) c l next) d.stretch d.leads) in
+      let k = pokes_keep U c next d.rubbish (subst (λ (l : List EntryValue). Run U c l next) d.stretch d.leads) in
       record { net = k.0 ∙ left.net; flights = λ e. ap (λ (f : ℕ → Option Copy). is_some (f e)) k.1 ∙ left.flights e }
   left_after ShowCommand m d = record {
     net = ap (λ (k : Core). k.net) d.same ∙ left.net;
     flights = λ e. ap (λ (k : Core). is_some (k.flying e)) d.same ∙ left.flights e;
   }
   left_after (MixCommand r e) m d = record {
-    net = mixed_net plain cut (unfolding_of P) c next r e a.stretch d.mixes ∙ ap (λ (n : Network). net_after n e) left.net;
+    net = mixed_net plain cut U c next r e a.stretch d.mixes ∙ ap (λ (n : Network). net_after n e) left.net;
     flights = λ i. ap is_some (d.mixes.rests i);
   }

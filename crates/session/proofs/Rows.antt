@@ -1,5 +1,6 @@
 -- What the code has made of a session, as the row of its line.
 use Rattle.std.proofs.Common.{ℕ, ◌≡◌, ◌+◌, ◌-◌, List, [], ◌∷◌, ◌++◌, length, map, refl, sym, ap, ◌∙◌, arith, append-nil}
+use Rattle.fc_nodes.specs.Program.{unfolding_of}
 use Rattle.firing_core.specs.declared.entries.Part.{Part}
 use Rattle.firing_core.specs.Books.{BookValue}
 use Rattle.firing_core.specs.CoreViews.{core_of}
@@ -71,11 +72,11 @@ module _ (s t : SessionValue) (line : ℕ) where
       }
 
   pub after_edit_line : (e : EditValue) → GrewBy s.book (EditEntry e ∷ []) t.book → t.parts ≡ s.parts
-      → t.text ≡ s.text ++ all_shown (shown_after s.book.program line e (core_of t.book.core)) → AfterLine (line, EditCommand e) s t
+      → t.text ≡ s.text ++ all_shown (shown_after (unfolding_of s.book.program) line e (core_of t.book.core)) → AfterLine (line, EditCommand e) s t
   after_edit_line e g parts text = record {
     program = g.program;
     start = g.start;
-    added = record { stretch = EditEntry e ∷ []; parts = []; shown = shown_after s.book.program line e (core_of t.book.core) };
+    added = record { stretch = EditEntry e ∷ []; parts = []; shown = shown_after (unfolding_of s.book.program) line e (core_of t.book.core) };
     log = g.log;
     parts = same_parts s.parts t.parts parts;
     text = text;

@@ -3,7 +3,7 @@ use Rattle.std.proofs.Common.{ℕ, ◌≡◌, ◌+◌, List, [], ◌∷◌, ◌+
 use Rattle.std.proofs.lemmas.List.{length-map}
 use Rattle.std.proofs.lemmas.Grind.{flat_map-append}
 use Rattle.fc_nodes.specs.declared.verdicts.Verdict.{Verdict}
-use Rattle.fc_nodes.specs.Program.{Program}
+use Rattle.fc_nodes.specs.Program.{Program, unfolding_of}
 use Rattle.firing_core.specs.Books.{BookValue}
 use Rattle.firing_core.specs.CoreViews.{CoreValue, core_of}
 use Rattle.firing_core.specs.Entries.{entry_of, entries_of}
@@ -16,7 +16,7 @@ use Rattle.session.proofs.Lines.{one_more}
 
 module _ (P : Program) (start : CoreValue) where
   -- before the first line
-  pub opened : (s : SessionValue) (book : BookValue) (v : Verdict) → Opens book v s → v ≡ verdict_in P (core_of start) → book.program ≡ P
+  pub opened : (s : SessionValue) (book : BookValue) (v : Verdict) → Opens book v s → v ≡ verdict_in (unfolding_of P) (core_of start) → book.program ≡ P
       → core_of book.start ≡ core_of start → book.log ≡ [] → book.core ≡ start → HasRun P start [] s
   opened s book v o w p q e c =
       let log : entries_of s.book.log ≡ [] = ap (λ (b : BookValue). entries_of b.log) o.book ∙ ap entries_of e in
@@ -28,7 +28,7 @@ module _ (P : Program) (start : CoreValue) where
         run = record {
           shown = [];
           does = (cc, core);
-          says = o.says ∙ ap verdict_text w ∙ sym (append-nil (verdict_text (verdict_in P (core_of start))));
+          says = o.says ∙ ap verdict_text w ∙ sym (append-nil (verdict_text (verdict_in (unfolding_of P) (core_of start))));
         };
       }
 
@@ -37,18 +37,18 @@ module _ (P : Program) (start : CoreValue) where
       → HasRun P start (lines ++ line ∷ []) t
   run_on s t lines line h a =
       let at : length s.book.log ≡ 0 + length (entries_of s.book.log) = omega (arith, length-map s.book.log entry_of) in
-      let row : DoesLine P (core_of s.book.core) (length s.book.log) line a.added (core_of t.book.core) =
-      subst (λ (Q : Program). DoesLine Q (core_of s.book.core) (length s.book.log) line a.added (core_of t.book.core)) h.program a.does in
-      let does = one_more P (core_of start) (core_of s.book.core) (core_of t.book.core) lines line _ a.added h.run.does
-      (subst (λ (n : ℕ). DoesLine P (core_of s.book.core) n line a.added (core_of t.book.core)) at row) in
+      let row : DoesLine (unfolding_of P) (core_of s.book.core) (length s.book.log) line a.added (core_of t.book.core) =
+      subst (λ (Q : Program). DoesLine (unfolding_of Q) (core_of s.book.core) (length s.book.log) line a.added (core_of t.book.core)) h.program a.does in
+      let does = one_more (unfolding_of P) (core_of start) (core_of s.book.core) (core_of t.book.core) lines line _ a.added h.run.does
+      (subst (λ (n : ℕ). DoesLine (unfolding_of P) (core_of s.book.core) n line a.added (core_of t.book.core)) at row) in
       record {
         program = a.program ∙ h.program;
         start = ap core_of a.start ∙ h.start;
         run = record {
           shown = h.run.shown ++ a.added.shown;
-          does = subst (λ x. DoesLines P (core_of start) 0 (lines ++ line ∷ []) x (core_of t.book.core)) (let e = a.log in let f = a.parts in cc) does;
+          does = subst (λ x. DoesLines (unfolding_of P) (core_of start) 0 (lines ++ line ∷ []) x (core_of t.book.core)) (let e = a.log in let f = a.parts in cc) does;
           says = a.text ∙ ap (λ l. l ++ all_shown a.added.shown) h.run.says
-              ∙ append_assoc (verdict_text (verdict_in P (core_of start))) (all_shown h.run.shown) (all_shown a.added.shown)
-              ∙ ap (λ l. verdict_text (verdict_in P (core_of start)) ++ l) (sym (flat_map-append shown_text h.run.shown a.added.shown));
+              ∙ append_assoc (verdict_text (verdict_in (unfolding_of P) (core_of start))) (all_shown h.run.shown) (all_shown a.added.shown)
+              ∙ ap (λ l. verdict_text (verdict_in (unfolding_of P) (core_of start)) ++ l) (sym (flat_map-append shown_text h.run.shown a.added.shown));
         };
       }

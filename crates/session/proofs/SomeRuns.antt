@@ -31,27 +31,27 @@ poke_run U (x ∷ xs) c m =
     let k = poke_run U xs next m.2 in
     (k.0, (next, record { fits = m.1; allowed = ap (λ b. first_fault ((not b, net.NoDevice) ∷ [])) m.0; after = refl }, k.1))
 
-pub leads : (P : Program) (c next : Core) (at line : ℕ) (k : CommandValue) (a : Added) → DoesLine P c at (line, k) a next → Run (unfolding_of P) c a.stretch next
-leads P c next at line (RunCommand r) a d = d.runs.leads
-leads P c next at line (EditCommand e) a d = d.leads
-leads P c next at line (ScrambleCommand n) a d = d.leads
-leads P c next at line ShowCommand a d = subst (λ (l : List EntryValue). Run (unfolding_of P) c l next) (sym d.stretch) d.same
-leads P c next at line (MixCommand r e) a d = d.mixes.leads
+pub leads : (U : Unfolding) (c next : Core) (at line : ℕ) (k : CommandValue) (a : Added) → DoesLine U c at (line, k) a next → Run U c a.stretch next
+leads U c next at line (RunCommand r) a d = d.runs.leads
+leads U c next at line (EditCommand e) a d = d.leads
+leads U c next at line (ScrambleCommand n) a d = d.leads
+leads U c next at line ShowCommand a d = subst (λ (l : List EntryValue). Run U c l next) (sym d.stretch) d.same
+leads U c next at line (MixCommand r e) a d = d.mixes.leads
 
-lines_lead : RunsCut → (P : Program) (c last : Core) (at : ℕ) (lines : List (ℕ × CommandValue)) (a : Added) → DoesLines P c at lines a last → Run (unfolding_of P) c a.stretch last
-lines_lead cut P c last at [] a d = subst (λ (b : Added). Run (unfolding_of P) c b.stretch last) (sym d.0) d.1
-lines_lead cut P c last at (line ∷ lines) a d =
-    subst (λ (b : Added). Run (unfolding_of P) c b.stretch last) (sym d.3)
-    ((cut (unfolding_of P) c last d.0.stretch d.1.stretch).1
-    (d.2, leads P c d.2 at line.0 line.1 d.0 d.4, lines_lead cut P d.2 last (at + length d.0.stretch) lines d.1 d.5))
+lines_lead : RunsCut → (U : Unfolding) (c last : Core) (at : ℕ) (lines : List (ℕ × CommandValue)) (a : Added) → DoesLines U c at lines a last → Run U c a.stretch last
+lines_lead cut U c last at [] a d = subst (λ (b : Added). Run U c b.stretch last) (sym d.0) d.1
+lines_lead cut U c last at (line ∷ lines) a d =
+    subst (λ (b : Added). Run U c b.stretch last) (sym d.3)
+    ((cut U c last d.0.stretch d.1.stretch).1
+    (d.2, leads U c d.2 at line.0 line.1 d.0 d.4, lines_lead cut U d.2 last (at + length d.0.stretch) lines d.1 d.5))
 
 pub runs_lead : RunsCut → ScriptRunsLead
-runs_lead cut P c last lines log parts text h = lines_lead cut P c last 0 lines _ h.does
+runs_lead cut U c last lines log parts text h = lines_lead cut U c last 0 lines _ h.does
 
 module _ (step : FaultlessStep) (keep : StepsKeepGood) (runs : RunsKeepGood) (plain : PlainRunsKeepNet) (cut : RunsCut) (follow : RoundsFollow)
     (rubbish : SomeRubbish) (P : Program) (p : IsProgram P) where
   mixed : (c : Core) (at line rounds : ℕ) (e : EditValue) → IsGood (unfolding_of P) c → AllowsMix (unfolding_of P) c rounds e → (ns : List NetDevice) → c.net.devices ≡ ns
-      → (a : Added) × (next : Core) × DoesLine P c at (line, MixCommand rounds e) a next
+      → (a : Added) × (next : Core) × DoesLine (unfolding_of P) c at (line, MixCommand rounds e) a next
   mixed c at line rounds e g h [] q = let few = g.net.some in let none = ap length q in absurd (omega arith)
   mixed c at line rounds e g h (n ∷ ns) q =
       let k = mix_stretch step keep cut follow P p c g rounds e h.mixed h.edit.fits h.edit.allowed n.id (numbers ns) (ap numbers q) in
@@ -66,7 +66,7 @@ module _ (step : FaultlessStep) (keep : StepsKeepGood) (runs : RunsKeepGood) (pl
       )
 
   -- a line that is allowed
-  some_line : (c : Core) (at line : ℕ) (k : CommandValue) → IsGood (unfolding_of P) c → Allows (unfolding_of P) c k → (a : Added) × (next : Core) × DoesLine P c at (line, k) a next
+  some_line : (c : Core) (at line : ℕ) (k : CommandValue) → IsGood (unfolding_of P) c → Allows (unfolding_of P) c k → (a : Added) × (next : Core) × DoesLine (unfolding_of P) c at (line, k) a next
   some_line c at line (RunCommand r) g h =
       let s = run_stretch step keep cut P p follow c r g in (
         record { stretch = s.0; parts = part_of line r at (at + length s.0) ∷ []; shown = [] },
@@ -75,7 +75,7 @@ module _ (step : FaultlessStep) (keep : StepsKeepGood) (runs : RunsKeepGood) (pl
       )
   some_line c at line (EditCommand e) g h =
       let next : Core = edited (unfolding_of P) c e in (
-        record { stretch = EditEntry e ∷ []; parts = []; shown = shown_after P line e next },
+        record { stretch = EditEntry e ∷ []; parts = []; shown = shown_after (unfolding_of P) line e next },
         next,
         record { stretch = refl; leads = (next, record { fits = h.fits; allowed = h.allowed; after = refl }, refl); none = refl; shows = refl },
       )
@@ -95,14 +95,14 @@ module _ (step : FaultlessStep) (keep : StepsKeepGood) (runs : RunsKeepGood) (pl
 
   -- lines that are judged
   some_lines : (start : Core) (lines : List (ℕ × CommandValue)) (q : Progress) (c : Core) (at : ℕ) → IsGood (unfolding_of P) c → IsLeftBy start q c
-      → AreJudged (unfolding_of P) start q lines → (a : Added) × (last : Core) × DoesLines P c at lines a last
+      → AreJudged (unfolding_of P) start q lines → (a : Added) × (last : Core) × DoesLines (unfolding_of P) c at lines a last
   some_lines start [] q c at g l j = (nothing, c, (refl, refl))
   some_lines start (line ∷ lines) q c at g l j =
       let s = some_line c at line.0 line.1 g (allowed (unfolding_of P) start q c l line.1 j.0) in
       let first : Added = s.0 in
       let next : Core = s.1 in
-      let g' = runs P c next first.stretch p g (leads P c next at line.0 line.1 first s.2) in
-      let l' = left_after plain cut P start q c next at line.0 first l g line.1 j.0 s.2 in
+      let g' = runs P c next first.stretch p g (leads (unfolding_of P) c next at line.0 line.1 first s.2) in
+      let l' = left_after plain cut (unfolding_of P) start q c next at line.0 first l g line.1 j.0 s.2 in
       let rest = some_lines start lines (after_command q line.1) next (at + length first.stretch) g' l' j.1 in
       (both first rest.0, rest.1, (first, rest.0, next, refl, s.2, rest.2))
 
@@ -110,4 +110,4 @@ pub some_run : FaultlessStep → StepsKeepGood → RunsKeepGood → PlainRunsKee
 some_run step keep runs plain cut follow rubbish P c lines p g j =
     let s = some_lines step keep runs plain cut follow rubbish P p c lines (at_start c.net) c 0 g (record { net = refl; flights = λ d. refl }) j in
     let a : Added = s.0 in
-    (a.stretch, a.parts, script_text P c a.shown, s.1, record { shown = a.shown; does = s.2; says = refl })
+    (a.stretch, a.parts, script_text (unfolding_of P) c a.shown, s.1, record { shown = a.shown; does = s.2; says = refl })

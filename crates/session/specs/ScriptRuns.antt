@@ -1,7 +1,7 @@
 -- What the lines of a script do: each takes the next stretch of a log, adds parts, and shows something.
 use Rattle.std.specs.Prelude.{ℕ, Bool, true, false, ◌≡◌, ◌+◌, List, [], ◌∷◌, ◌++◌, map, length, if◌then◌else◌}
 use Rattle.fc_values.specs.Exports.{FlatExport}
-use Rattle.fc_nodes.specs.Program.{Program, Unfolding, unfolding_of}
+use Rattle.fc_nodes.specs.Program.{Unfolding}
 use Rattle.topology.specs.Networks.{numbers}
 use Rattle.firing_core.specs.declared.entries.Part.{Part}
 use Rattle.firing_core.specs.Entries.{EditValue, LinkEdit, UnlinkEdit, SetEdit, PokeEdit, JoinEdit, LeaveEdit}
@@ -56,8 +56,8 @@ changes_devices (PokeEdit d x) = false
 changes_devices (JoinEdit x) = true
 changes_devices (LeaveEdit d) = true
 
-abbrev pub shown_after : Program → ℕ → EditValue → Core → List Shown
-shown_after P line e next = if changes_devices e then ShowsVerdict line (verdict_in P next) ∷ [] else []
+abbrev pub shown_after : Unfolding → ℕ → EditValue → Core → List Shown
+shown_after U line e next = if changes_devices e then ShowsVerdict line (verdict_in U next) ∷ [] else []
 
 pub record MakesEdit (U : Unfolding) (c : Core) (e : EditValue) (shown : List Shown) (a : Added) (next : Core)
     : Type 0 where
@@ -85,26 +85,25 @@ pub record ShowsCore (c : Core) (line : ℕ) (a : Added) (next : Core) : Type 0 
   pub none : a.parts ≡ []
   pub shows : a.shown ≡ ShowsValues line c ∷ []
 
-abbrev pub DoesLine : Program → Core → ℕ → ℕ × CommandValue → Added → Core → Type 0
-DoesLine P c at (line, RunCommand r) a next = RunsRounds (unfolding_of P) c at line r a next
-DoesLine P c at (line, EditCommand e) a next =
-    MakesEdit (unfolding_of P) c e (shown_after P line e next) a next
-DoesLine P c at (line, ScrambleCommand n) a next = Scrambles (unfolding_of P) c n a next
-DoesLine P c at (line, ShowCommand) a next = ShowsCore c line a next
-DoesLine P c at (line, MixCommand r e) a next = MixesEdit (unfolding_of P) c at line r e a next
+abbrev pub DoesLine : Unfolding → Core → ℕ → ℕ × CommandValue → Added → Core → Type 0
+DoesLine U c at (line, RunCommand r) a next = RunsRounds U c at line r a next
+DoesLine U c at (line, EditCommand e) a next = MakesEdit U c e (shown_after U line e next) a next
+DoesLine U c at (line, ScrambleCommand n) a next = Scrambles U c n a next
+DoesLine U c at (line, ShowCommand) a next = ShowsCore c line a next
+DoesLine U c at (line, MixCommand r e) a next = MixesEdit U c at line r e a next
 
 -- ---- lines, one after another
 
-abbrev pub DoesLines : Program → Core → ℕ → List (ℕ × CommandValue) → Added → Core → Type 0
-DoesLines P c at [] a last = (a ≡ nothing) × (last ≡ c)
-DoesLines P c at (line ∷ lines) a last =
+abbrev pub DoesLines : Unfolding → Core → ℕ → List (ℕ × CommandValue) → Added → Core → Type 0
+DoesLines U c at [] a last = (a ≡ nothing) × (last ≡ c)
+DoesLines U c at (line ∷ lines) a last =
     (first : Added) × (rest : Added) × (next : Core) × (a ≡ both first rest)
-    × DoesLine P c at line first next × DoesLines P next (at + length first.stretch) lines rest last
+    × DoesLine U c at line first next × DoesLines U next (at + length first.stretch) lines rest last
 
 -- A script run: the lines of a script are folded over a core and lead to another one. The log is their stretches, one
 -- after the other, and the text is made of what they show.
-pub record ScriptRun (P : Program) (c : Core) (lines : List (ℕ × CommandValue)) (log : List EntryValue)
+pub record ScriptRun (U : Unfolding) (c : Core) (lines : List (ℕ × CommandValue)) (log : List EntryValue)
     (parts : List Part) (text : List ℕ) (last : Core) : Type 0 where
   pub shown : List Shown
-  pub does : DoesLines P c 0 lines (record { stretch = log; parts = parts; shown = shown }) last
-  pub says : text ≡ script_text P c shown
+  pub does : DoesLines U c 0 lines (record { stretch = log; parts = parts; shown = shown }) last
+  pub says : text ≡ script_text U c shown

@@ -6,7 +6,7 @@ use Rattle.firing_core.specs.Books.{BookValue}
 use Rattle.firing_core.specs.CoreViews.{CoreValue, core_of}
 use Rattle.firing_core.specs.Entries.{entries_of}
 use Rattle.edit_commands.specs.Scripts.{CommandValue}
-use Rattle.fc_nodes.specs.Program.{Program}
+use Rattle.fc_nodes.specs.Program.{Program, unfolding_of}
 use Rattle.report.specs.Verdicts.{verdict_text}
 use Rattle.session.specs.Shown.{all_shown}
 use Rattle.session.specs.ScriptRuns.{Added, DoesLine, ScriptRun}
@@ -31,11 +31,13 @@ pub record AfterLine (line : ℕ × CommandValue) (old new : SessionValue) : Typ
   pub log : entries_of new.book.log ≡ entries_of old.book.log ++ added.stretch
   pub parts : new.parts ≡ old.parts ++ added.parts
   pub text : new.text ≡ old.text ++ all_shown added.shown
-  pub does : DoesLine old.book.program (core_of old.book.core) (length old.book.log) line added (core_of new.book.core)
+  pub does : DoesLine (unfolding_of old.book.program) (core_of old.book.core) (length old.book.log) line added
+      (core_of new.book.core)
 
 -- a session that has done the lines of a script: its book is of this program and start, and with its parts and its text
 -- it is a script run
 pub record HasRun (P : Program) (first : CoreValue) (lines : List (ℕ × CommandValue)) (s : SessionValue) : Type 0 where
   pub program : s.book.program ≡ P
   pub start : core_of s.book.start ≡ core_of first
-  pub run : ScriptRun P (core_of first) lines (entries_of s.book.log) s.parts s.text (core_of s.book.core)
+  pub run : ScriptRun (unfolding_of P) (core_of first) lines (entries_of s.book.log) s.parts s.text
+      (core_of s.book.core)

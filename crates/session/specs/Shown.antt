@@ -1,7 +1,7 @@
 -- What a script shows, and the text that is made of it.
 use Rattle.std.specs.Prelude.{ℕ, List, ◌++◌, codes, flat_map, length}
 use Rattle.std.specs.Fmt.{decimal}
-use Rattle.fc_nodes.specs.Program.{Program, unfolding_of}
+use Rattle.fc_nodes.specs.Program.{Unfolding}
 use Rattle.fc_nodes.specs.declared.verdicts.Verdict.{Verdict}
 use Rattle.fragment_check.specs.Verdicts.{verdict_of}
 use Rattle.firing_core.specs.Cores.{Core}
@@ -22,9 +22,9 @@ abbrev pub all_shown : List Shown → List ℕ
 all_shown shown = flat_map shown_text shown
 
 -- the verdict on a program for the network of a core
-abbrev pub verdict_in : Program → Core → Verdict
-verdict_in P c = verdict_of (unfolding_of P) (length c.net.devices)
+abbrev pub verdict_in : Unfolding → Core → Verdict
+verdict_in U c = verdict_of U (length c.net.devices)
 
 -- the text of a script: the line of the verdict for the network at the start comes first, whatever it is
-abbrev pub script_text : Program → Core → List Shown → List ℕ
-script_text P start shown = verdict_text (verdict_in P start) ++ all_shown shown
+abbrev pub script_text : Unfolding → Core → List Shown → List ℕ
+script_text U start shown = verdict_text (verdict_in U start) ++ all_shown shown

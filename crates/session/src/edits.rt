@@ -57,7 +57,8 @@ pub(crate) fn make_and_show(
     requires { AllowsEdit (unfolding_of book.old.program) (core_of book.old.core) (edit_of edit.now) }
     ensures grew { OnOk result (GrewBy book.old (EditEntry (edit_of edit.now) ∷ []) book.new) }
     ensures shows { OnOk result ((line : ℕ) → text.new.items ≡ text.old.items
-        ++ all_shown (shown_after book.new.program line (edit_of edit.now) (core_of book.new.core))) }
+        ++ all_shown (shown_after (unfolding_of book.new.program) line (edit_of edit.now)
+        (core_of book.new.core))) }
 {
     let made = copy_edit(alloc, edit)?;
     make(alloc, book, made)?;

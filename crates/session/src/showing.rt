@@ -1,6 +1,7 @@
 //! What lines show.
 
 ghost use Rattle.std.specs.Prelude.{ℕ, ◌≡◌, ◌++◌, IfOk, OnOk};
+ghost use Rattle.fc_nodes.specs.Program.{unfolding_of};
 ghost use Rattle.firing_core.specs.CoreViews.{core_of};
 ghost use Rattle.firing_core.specs.Entries.{edit_of};
 ghost use Rattle.session.specs.Shown.{ShowsValues, all_shown, shown_text, verdict_in};
@@ -15,7 +16,7 @@ use std::alloc::Global;
 
 /// The verdict on a core's program for its network.
 pub(crate) fn verdict_on(alloc: Global, core: &Core) -> Result<Verdict, Memory>
-    ensures { IfOk result (λ v. v ≡ verdict_in core.now.program (core_of core.now)) }
+    ensures { IfOk result (λ v. v ≡ verdict_in (unfolding_of core.now.program) (core_of core.now)) }
 {
     // Their clauses: the nodes are a program, and the network has devices.
     let program = core.program();
@@ -46,7 +47,8 @@ pub(crate) fn show_edit(
     book: &Book,
 ) -> Result<(), Memory>
     ensures { OnOk result ((line : ℕ) → text.new.items ≡ text.old.items
-        ++ all_shown (shown_after book.now.program line (edit_of edit.now) (core_of book.now.core))) }
+        ++ all_shown (shown_after (unfolding_of book.now.program) line (edit_of edit.now)
+        (core_of book.now.core))) }
 {
     if changes_devices(edit) {
         let verdict = verdict_on(alloc, book.core())?;

@@ -1,10 +1,14 @@
 -- The first bounds of a core: each device has one, they hold the core, and tables that grow out of them still do. One
 -- that doesn't grow any more is closed.
-use Rattle.std.proofs.Common.{◌≡◌, ℕ, zero, suc, refl, sym, ◌∙◌, ap, subst, Bool, true, false, Option, Some, None}
-use Rattle.fc_values.specs.Trees.{TreeExport, Copy}
+use Rattle.std.proofs.Common.{◌≡◌, ℕ, zero, suc, [], refl, sym, ◌∙◌, ap, ap₂, subst, Bool, true, false, Option}
+use Rattle.std.proofs.Common.{Some, None}
+use Rattle.fc_values.specs.Fields.{ValueLocal}
+use Rattle.fc_values.specs.Trees.{Tree, TreeExport, Copy}
+use Rattle.fc_values.specs.Values.{LocalValue}
 use Rattle.fc_nodes.specs.Program.{Program, Unfolding, unfolding_of, IsProgram}
 use Rattle.fc_nodes.specs.Flat.{IsWellTyped}
-use Rattle.device_eval.specs.Copies.{EvaluatesCopy, HasOneExport}
+use Rattle.device_eval.specs.Copies.{env_of, situation_of, EvaluatesCopy, HasOneExport}
+use Rattle.device_eval.proofs.Agree.{one_outcome}
 use Rattle.device_eval.proofs.OneExport.{program_export}
 use Rattle.topology.specs.Networks.{Network, lives, Lives, IsNetwork}
 use Rattle.firing_core.specs.Cores.{Core, copy_of, IsGood}
@@ -46,6 +50,49 @@ module _ (hold : ExportsHold) (U : Unfolding) (N : Network) where
         flights = λ d l s q e typed v.
             (hold U).first (grown U N first i d) (fired U N (grown U N first i) d) e (g.flights d l s q e typed v);
       }
+
+-- ---- each device has one first bound
+
+abbrev export_with : LocalValue → Tree → TreeExport
+export_with v t = record { value = v; tree = t }
+
+same_export : (e f : TreeExport) → ValueLocal e.value ≡ ValueLocal f.value → e.tree ≡ f.tree → e ≡ f
+same_export e f v t = let same : e.value ≡ f.value = cc in ap₂ export_with same t
+
+-- a copy evaluates to one export
+one_evaluation : (U : Unfolding) (s : Copy) (e f : TreeExport) → EvaluatesCopy U s e → EvaluatesCopy U s f → e ≡ f
+one_evaluation U s e f v w =
+    let same = one_outcome (situation_of U.declared s) 0 U.main [] (env_of s) (ValueLocal e.value) (ValueLocal f.value)
+    e.tree f.tree v.main w.main in
+    same_export e f same.0 same.1
+
+module _ (U : Unfolding) (N : Network) (c : Core) (d : ℕ) where
+  same_landing : (r s : Copy) (e f : TreeExport) → c.flying d ≡ Some r → EvaluatesCopy U r e → c.flying d ≡ Some s
+      → EvaluatesCopy U s f → e ≡ f
+  same_landing r s e f p v q w =
+      one_evaluation U s e f (subst (λ x. EvaluatesCopy U x e) (same_some (c.flying d) r s p q) v) w
+
+  pub one_first : (a b : ExportBound) → FirstBound U N c d a → FirstBound U N c d b → a ≡ b
+  one_first a b (stands e q k) (stands f q' k') = ap (exact_export U true) (same_some (c.exports d) e f q q')
+  one_first a b (stands e q k) (stands_and_lands e' s f q' k' w) = absurd (some_none (c.flying d) s k' k)
+  one_first a b (stands e q k) (lands s f q' k' w) = absurd (some_none (c.exports d) e q q')
+  one_first a b (stands e q k) (joins f q' k' w) = absurd (some_none (c.exports d) e q q')
+  one_first a b (stands_and_lands e s f q k v) (stands e' q' k') = absurd (some_none (c.flying d) s k k')
+  one_first a b (stands_and_lands e r f q k v) (stands_and_lands e' s f' q' k' w) =
+      ap (λ x. either_export U (exact_export U true x) (exact_export U true f)) (same_some (c.exports d) e e' q q')
+      ∙ ap (λ x. either_export U (exact_export U true e') (exact_export U true x)) (same_landing r s f f' k v k' w)
+  one_first a b (stands_and_lands e r f q k v) (lands s f' q' k' w) = absurd (some_none (c.exports d) e q q')
+  one_first a b (stands_and_lands e r f q k v) (joins f' q' k' w) = absurd (some_none (c.exports d) e q q')
+  one_first a b (lands r f q k v) (stands e q' k') = absurd (some_none (c.exports d) e q' q)
+  one_first a b (lands r f q k v) (stands_and_lands e s f' q' k' w) = absurd (some_none (c.exports d) e q' q)
+  one_first a b (lands r f q k v) (lands s f' q' k' w) =
+      ap (exact_export U false) (same_landing r s f f' k v k' w)
+  one_first a b (lands r f q k v) (joins f' q' k' w) = absurd (some_none (c.flying d) r k k')
+  one_first a b (joins f q k v) (stands e q' k') = absurd (some_none (c.exports d) e q' q)
+  one_first a b (joins f q k v) (stands_and_lands e s f' q' k' w) = absurd (some_none (c.exports d) e q' q)
+  one_first a b (joins f q k v) (lands s f' q' k' w) = absurd (some_none (c.flying d) s k' k)
+  one_first a b (joins f q k v) (joins f' q' k' w) =
+      ap (exact_export U false) (one_evaluation U (copy_of N c.exports d) f f' v w)
 
 module _ (fit : CopiesFit) (P : Program) (N : Network) (program : IsProgram P) (net : IsNetwork N)
     (same : N.declared ≡ P.declared) (c : Core) (good : IsGood (unfolding_of P) c) (on : c.net ≡ N) where
@@ -89,40 +136,6 @@ module _ (fit : CopiesFit) (P : Program) (N : Network) (program : IsProgram P) (
   pub some_first : (first : BoundTable) × FirstTable U N c first
   some_first = ((λ d. pick d (lives N d) refl), (λ d l. first_pick d (lives N d) refl l))
 
-  -- ---- and it is one
-
-  same_landing : (d : ℕ) (r s : Copy) (e f : TreeExport) → c.flying d ≡ Some r → EvaluatesCopy U r e
-      → c.flying d ≡ Some s → EvaluatesCopy U s f → e ≡ f
-  same_landing d r s e f p v q w =
-      let one = landing d s q in
-      one.only e (subst (λ x. EvaluatesCopy U x e) (same_some (c.flying d) r s p q) v) ∙ sym (one.only f w)
-
-  same_joining : (d : ℕ) → Lives N d → (e f : TreeExport) → EvaluatesCopy U (copy_of N c.exports d) e
-      → EvaluatesCopy U (copy_of N c.exports d) f → e ≡ f
-  same_joining d l e f v w = let one = joining d l in one.only e v ∙ sym (one.only f w)
-
-  module _ (d : ℕ) (l : Lives N d) where
-    pub one_first : (a b : ExportBound) → FirstBound U N c d a → FirstBound U N c d b → a ≡ b
-    one_first a b (stands e q k) (stands f q' k') = ap (exact_export U true) (same_some (c.exports d) e f q q')
-    one_first a b (stands e q k) (stands_and_lands e' s f q' k' w) = absurd (some_none (c.flying d) s k' k)
-    one_first a b (stands e q k) (lands s f q' k' w) = absurd (some_none (c.exports d) e q q')
-    one_first a b (stands e q k) (joins f q' k' w) = absurd (some_none (c.exports d) e q q')
-    one_first a b (stands_and_lands e s f q k v) (stands e' q' k') = absurd (some_none (c.flying d) s k k')
-    one_first a b (stands_and_lands e r f q k v) (stands_and_lands e' s f' q' k' w) =
-        ap (λ x. either_export U (exact_export U true x) (exact_export U true f)) (same_some (c.exports d) e e' q q')
-        ∙ ap (λ x. either_export U (exact_export U true e') (exact_export U true x)) (same_landing d r s f f' k v k' w)
-    one_first a b (stands_and_lands e r f q k v) (lands s f' q' k' w) = absurd (some_none (c.exports d) e q q')
-    one_first a b (stands_and_lands e r f q k v) (joins f' q' k' w) = absurd (some_none (c.exports d) e q q')
-    one_first a b (lands r f q k v) (stands e q' k') = absurd (some_none (c.exports d) e q' q)
-    one_first a b (lands r f q k v) (stands_and_lands e s f' q' k' w) = absurd (some_none (c.exports d) e q' q)
-    one_first a b (lands r f q k v) (lands s f' q' k' w) =
-        ap (exact_export U false) (same_landing d r s f f' k v k' w)
-    one_first a b (lands r f q k v) (joins f' q' k' w) = absurd (some_none (c.flying d) r k k')
-    one_first a b (joins f q k v) (stands e q' k') = absurd (some_none (c.exports d) e q' q)
-    one_first a b (joins f q k v) (stands_and_lands e s f' q' k' w) = absurd (some_none (c.exports d) e q' q)
-    one_first a b (joins f q k v) (lands s f' q' k' w) = absurd (some_none (c.flying d) s k' k)
-    one_first a b (joins f q k v) (joins f' q' k' w) = ap (exact_export U false) (same_joining d l f f' v w)
-
   -- ---- first bounds hold the core
 
   module _ (hold : ExportsHold) (d : ℕ) (l : Lives N d) where
@@ -141,7 +154,7 @@ module _ (fit : CopiesFit) (P : Program) (N : Network) (program : IsProgram P) (
     landing_lies : (sure : Bool) (r s : Copy) (f x : TreeExport) → c.flying d ≡ Some r → EvaluatesCopy U r f
         → c.flying d ≡ Some s → IsWellTyped U x → EvaluatesCopy U s x → ExportLies U (exact_export U sure f) x
     landing_lies sure r s f x p v q typed w =
-        subst (λ y. ExportLies U (exact_export U sure y) x) (same_landing d s r x f q w p v)
+        subst (λ y. ExportLies U (exact_export U sure y) x) (same_landing U N c d s r x f q w p v)
         ((hold U).exact sure x typed)
 
     first_flight : (b : ExportBound) → FirstBound U N c d b → (s : Copy) → c.flying d ≡ Some s → (x : TreeExport)

@@ -1,4 +1,4 @@
--- Each good core has one table from which its settle rounds are counted.
+-- A core has at most one table from which its settle rounds are counted, and each good core has one.
 use Rattle.std.proofs.Common.{◌≡◌, ℕ, zero, suc, ◌≤◌, List, [], ◌∷◌, refl, sym, ◌∙◌, subst, arith, Bool, true, false}
 use Rattle.std.proofs.Common.{nat_eq, ◌⊎◌, inl, inr}
 use Rattle.std.specs.Prelude.{nat_le}
@@ -14,7 +14,7 @@ use Rattle.export_bounds.specs.Laws.{ExportsHold}
 use Rattle.bound_rounds.specs.declared.rounds.RoundKind.TheVariants as kind
 use Rattle.bound_rounds.specs.Rounds.{BoundTable, next_table, grown, IsFull}
 use Rattle.settle_rounds.specs.Rounds.{any_table}
-use Rattle.settle_rounds.specs.Starts.{FirstTable, StartTable, grows, any_start, StartHolds, StartsHold}
+use Rattle.settle_rounds.specs.Starts.{FirstTable, StartTable, grows, any_start, OneStart, StartHolds, StartsHold}
 use Rattle.settle_rounds.proofs.Still.{after_same, fixed_same, still_stays}
 use Rattle.settle_rounds.proofs.Rising.{any_closed}
 use Rattle.settle_rounds.proofs.ReachFrom.{any_holds}
@@ -78,26 +78,11 @@ module _ (hold : ExportsHold) (U : Unfolding) (N : Network) where
 
 -- ---- the table of a core
 
-module _ (fit : CopiesFit) (hold : ExportsHold) (P : Program) (N : Network) (program : IsProgram P) (net : IsNetwork N)
-    (same : N.declared ≡ P.declared) (c : Core) (good : IsGood (unfolding_of P) c) (on : c.net ≡ N) (most : ℕ) where
-  abbrev U : Unfolding
-  U = unfolding_of P
-
-  some_start : (table : BoundTable) × StartTable U N most c table
-  some_start = by_first (some_first fit P N program net same c good on)
-    where
-      by_first : (first : BoundTable) × FirstTable U N c first → (table : BoundTable) × StartTable U N most c table
-      by_first t = by_full (gets_full hold U N t.0 most)
-        where
-          by_full : GetsFull hold U N t.0 most ⊎ NeverFull hold U N t.0 most
-              → (table : BoundTable) × StartTable U N most c table
-          by_full (inl found) = (grown U N t.0 found.rounds, grows t.0 found.rounds t.1 found.within found.full)
-          by_full (inr none) = (any_table U, any_start t.0 t.1 none)
-
+module _ (U : Unfolding) (N : Network) (net : IsNetwork N) (most : ℕ) (c : Core) where
   -- tables that grow out of first bounds are the same after as many rounds, and full after as many
   module _ (f g : BoundTable) (first : FirstTable U N c f) (second : FirstTable U N c g) where
     agree : (d : ℕ) → Lives N d → f d ≡ g d
-    agree d l = one_first fit P N program net same c good on d l (f d) (g d) (first d l) (second d l)
+    agree d l = one_first U N c d (f d) (g d) (first d l) (second d l)
 
     grown_same : (i d : ℕ) → Lives N d → grown U N f i d ≡ grown U N g i d
     grown_same i d l = after_same kind.Growing U N net f g agree i d l
@@ -114,14 +99,33 @@ module _ (fit : CopiesFit) (hold : ExportsHold) (P : Program) (N : Network) (pro
       by_order true t = sym (still_stays kind.Growing U N net g i k x (grind (arith, t)) d l)
       by_order false t = still_stays kind.Growing U N net g k i y (grind (arith, t)) d l
 
-  one_start : (s t : BoundTable) → StartTable U N most c s → StartTable U N most c t → (d : ℕ) → Lives N d → s d ≡ t d
-  one_start s t (grows f i first l x) (grows g k second m y) d here =
+  same_start : (s t : BoundTable) → StartTable U N most c s → StartTable U N most c t → (d : ℕ) → Lives N d → s d ≡ t d
+  same_start s t (grows f i first l x) (grows g k second m y) d here =
       grown_same f g first second i d here ∙ both_full g i k (full_same f g first second i x) y d here
-  one_start s t (grows f i first l x) (any_start g second none) d here =
+  same_start s t (grows f i first l x) (any_start g second none) d here =
       absurd (none i l (full_same f g first second i x))
-  one_start s t (any_start f first none) (grows g k second m y) d here =
+  same_start s t (any_start f first none) (grows g k second m y) d here =
       absurd (none k m (full_same g f second first k y))
-  one_start s t (any_start f first none) (any_start g second other) d here = refl
+  same_start s t (any_start f first none) (any_start g second other) d here = refl
+
+pub one_start : OneStart
+one_start U N net most c s t h g d here = same_start U N net most c s t h g d here
+
+module _ (fit : CopiesFit) (hold : ExportsHold) (P : Program) (N : Network) (program : IsProgram P) (net : IsNetwork N)
+    (same : N.declared ≡ P.declared) (c : Core) (good : IsGood (unfolding_of P) c) (on : c.net ≡ N) (most : ℕ) where
+  abbrev U : Unfolding
+  U = unfolding_of P
+
+  some_start : (table : BoundTable) × StartTable U N most c table
+  some_start = by_first (some_first fit P N program net same c good on)
+    where
+      by_first : (first : BoundTable) × FirstTable U N c first → (table : BoundTable) × StartTable U N most c table
+      by_first t = by_full (gets_full hold U N t.0 most)
+        where
+          by_full : GetsFull hold U N t.0 most ⊎ NeverFull hold U N t.0 most
+              → (table : BoundTable) × StartTable U N most c table
+          by_full (inl found) = (grown U N t.0 found.rounds, grows t.0 found.rounds t.1 found.within found.full)
+          by_full (inr none) = (any_table U, any_start t.0 t.1 none)
 
   start_holds : (s : BoundTable) → StartTable U N most c s → StartHolds U N c s
   start_holds s (grows first i has l full) = record {
@@ -133,6 +137,5 @@ module _ (fit : CopiesFit) (hold : ExportsHold) (P : Program) (N : Network) (pro
 pub starts_hold : CopiesFit → ExportsHold → StartsHold
 starts_hold fit hold P N program net same c good on most = record {
   some = some_start fit hold P N program net same c good on most;
-  one = one_start fit hold P N program net same c good on most;
   hold = start_holds fit hold P N program net same c good on most;
 }

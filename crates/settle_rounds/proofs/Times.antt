@@ -6,7 +6,7 @@ use Rattle.fc_values.specs.Fields.{is_in}
 use Rattle.fc_values.specs.Values.{LocalValue}
 use Rattle.fc_nodes.specs.declared.verdicts.Verdict.{Verdict}
 use Rattle.fc_nodes.specs.declared.verdicts.Verdict.TheVariants as verdict
-use Rattle.fc_nodes.specs.Program.{Program, Unfolding, unfolding_of}
+use Rattle.fc_nodes.specs.Program.{Unfolding, unfolding_of}
 use Rattle.topology.specs.Networks.{Network, IsNetwork, Lives, numbers}
 use Rattle.fragment_check.specs.Verdicts.{verdict_of}
 use Rattle.converge_laws.specs.Stabilising.{HasOneSolution}
@@ -124,23 +124,20 @@ time_from v os R e = by_greatest (greatest_round os) refl e
 
 -- ---- from a start
 
-module _ (are : RoundsSettle) (P : Program) (N : Network) (net : IsNetwork N) (start : BoundTable) where
-  abbrev U : Unfolding
-  U = unfolding_of P
-
+module _ (are : RoundsSettle) (U : Unfolding) (N : Network) (net : IsNetwork N) (start : BoundTable) where
   abbrev V : Verdict
-  V = verdict_of (unfolding_of P) (length N.devices)
+  V = verdict_of U (length N.devices)
 
   abbrev settled : Settlings
-  settled d = settled_from P N start d
+  settled d = settled_from U N start d
 
-  settled_at : (d k : ℕ) (v : LocalValue) → settled d ≡ Some (k, v) → LeftAt U N start (cap_of P N) d k v
-  settled_at d k v e = left_at U N start (cap_of P N) d k v e
+  settled_at : (d k : ℕ) (v : LocalValue) → settled d ≡ Some (k, v) → LeftAt U N start (cap_of U N) d k v
+  settled_at d k v e = left_at U N start (cap_of U N) d k v e
 
   -- a settle round is no more than the rounds of a yes
   round_low : (K : ℕ) → V ≡ verdict.Yes K → (d k : ℕ) (v : LocalValue) → settled d ≡ Some (k, v) → k ≤ K
   round_low K y d k v e =
-      let w = (are U N net start).within (cap_of P N) d k (settled_at d k v e).round in
+      let w = (are U N net start).within (cap_of U N) d k (settled_at d k v e).round in
       cap_low K (length N.devices) k (subst (λ x. k ≤ settle_cap x (length N.devices)) y w)
 
   -- the rounds of a device that settles lead it to its value
@@ -149,23 +146,23 @@ module _ (are : RoundsSettle) (P : Program) (N : Network) (net : IsNetwork N) (s
       → RoundsLead Leads N settled
   rounds_lead Leads law d k v l e m h =
       let a = settled_at d k v e in
-      let s = (are U N net start).settles (cap_of P N) d k a.round in
+      let s = (are U N net start).settles (cap_of U N) d k a.round in
       subst (Leads m d) (sym a.left) (law k d l s.reached m h)
 
-  values_solve : LeftIsSolvedFrom P N start → ValuesSolve P N settled
+  values_solve : LeftIsSolvedFrom U N start → ValuesSolve U N settled
   values_solve left = record {
     one = left.one;
     values = λ d k v l e.
         let a = settled_at d k v e in
-        a.left ∙ left.left k d l ((are U N net start).settles (cap_of P N) d k a.round).reached;
+        a.left ∙ left.left k d l ((are U N net start).settles (cap_of U N) d k a.round).reached;
   }
 
   time_leads : (Leads : Leading) → RoundsLead Leads N settled
       → ((K : ℕ) → V ≡ verdict.Yes K → (one : HasOneSolution U N) × ((d : ℕ) → Lives N d → Leads K d (one.field d)))
-      → (R : ℕ) → IsSettleTime P N settled R → TimeLeads Leads P N settled R
+      → (R : ℕ) → IsSettleTime U N settled R → TimeLeads Leads U N settled R
   time_leads Leads rounds solve R e = by_time (time_from V (map settled (numbers N.devices)) R e)
     where
-      by_time : TimeFrom V (map settled (numbers N.devices)) R → TimeLeads Leads P N settled R
+      by_time : TimeFrom V (map settled (numbers N.devices)) R → TimeLeads Leads U N settled R
       by_time (by_rounds q) = record {
         known = λ d k v l h.
             let b = greatest_all settled (numbers N.devices) R q d l in
@@ -180,7 +177,7 @@ module _ (are : RoundsSettle) (P : Program) (N : Network) (net : IsNetwork N) (s
         solved = λ d l h. let s = solve R y in (s.0, s.1 d l);
       }
 
-  time_low : (R : ℕ) → IsSettleTime P N settled R → TimeIsLow P N R
+  time_low : (R : ℕ) → IsSettleTime U N settled R → TimeIsLow U N R
   time_low R e K y = by_time (time_from V (map settled (numbers N.devices)) R e)
     where
       by_time : TimeFrom V (map settled (numbers N.devices)) R → R ≤ K
@@ -193,37 +190,37 @@ pub settle_times_hold : BoundsReach → BoundsReachMail → RoundsSettle → Yes
     → SettleTimesHold
 settle_times_hold reach mail are leaves steady mail_steady P N program net same =
     let U = unfolding_of P in
-    let rounds = rounds_lead are P N net (any_table U) (ReachedAt U N)
+    let rounds = rounds_lead are U N net (any_table U) (ReachedAt U N)
     (λ k d l h m g. reach P N program net same k d l h m g) in
-    let mail_rounds = rounds_lead are P N net (any_table U) (MailReachedAt U N)
+    let mail_rounds = rounds_lead are U N net (any_table U) (MailReachedAt U N)
     (λ k d l h m g. mail P N program net same k d l h m g) in
     record {
       rounds = rounds;
       mail_rounds = mail_rounds;
       solves = λ K y.
           let s = leaves P N K program net same y in
-          values_solve are P N net (any_table U) (record { one = s.one; left = s.left });
-      time = time_leads are P N net (any_table U) (ReachedAt U N) rounds (λ K y.
+          values_solve are U N net (any_table U) (record { one = s.one; left = s.left });
+      time = time_leads are U N net (any_table U) (ReachedAt U N) rounds (λ K y.
           let s = steady P N K program net same y in
           (s.one, λ d l start last log good is run has. s.reached start last log good is run has d l));
-      mail_time = time_leads are P N net (any_table U) (MailReachedAt U N) mail_rounds (λ K y.
+      mail_time = time_leads are U N net (any_table U) (MailReachedAt U N) mail_rounds (λ K y.
           let s = mail_steady P N K program net same y in
           (s.one, λ d l start last log good is run has. s.reached start last log good is run has d l));
-      low = time_low are P N net (any_table U);
+      low = time_low are U N net (any_table U);
     }
 
 pub start_times_hold : StartsHold → BoundsReachFrom → RoundsSettle → YesLeavesFrom → YesStabilises → StartTimesHold
 start_times_hold starts reach are leaves steady P N program net same c good on table from =
     let U = unfolding_of P in
     let h = (starts P N program net same c good on (growing_cap (length N.devices))).hold table from in
-    let rounds = rounds_lead are P N net table (ReachedFrom U N c)
+    let rounds = rounds_lead are U N net table (ReachedFrom U N c)
     (λ k d l r m g. reach P N program net same table h.closed c good on h.holds k d l r m g) in
     record {
       rounds = rounds;
       solves = λ K y.
-          values_solve are P N net table (leaves P N K program net same y table h.closed c good on h.holds);
-      time = time_leads are P N net table (ReachedFrom U N c) rounds (λ K y.
+          values_solve are U N net table (leaves P N K program net same y table h.closed c good on h.holds);
+      time = time_leads are U N net table (ReachedFrom U N c) rounds (λ K y.
           let s = steady P N K program net same y in
           (s.one, λ d l last r. s.reached c last r.log good on r.run r.rounds d l));
-      low = time_low are P N net table;
+      low = time_low are U N net table;
     }

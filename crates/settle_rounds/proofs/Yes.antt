@@ -105,11 +105,11 @@ module _ (fit : CopiesFit) (P : Program) (N : Network) (program : IsProgram P) (
 pub yes_leaves_from : CopiesFit → YesRaises → YesLeavesFrom
 yes_leaves_from fit says P N K program net same v table closed start good on held =
     let U = unfolding_of P in
-    let y : RaisesTo P N K = says P N K program net same v in
+    let y : RaisesTo U N K = says P N K program net same v in
     record {
       one = y.one;
       left = λ k d l q.
-          let b = both_at fit P N program net same table closed start good on held (level_by P N y.one) y.raises k K d l
+          let b = both_at fit P N program net same table closed start good on held (level_by U N y.one) y.raises k K d l
           in
           let x = y.reached d b.0 b.2 in
           let p = both_parts (rounds_from U N table k d).sure (is_known (rounds_from U N table k d).value) q in

@@ -35,14 +35,14 @@ abbrev pub all_settle_to : Unfolding → Network → BoundTable → ℕ → List
 all_settle_to U N start cap = map (settles_to U N start cap) (numbers N.devices)
 
 -- those of a program on a network, up to its cap: from a start, and from any exports
-abbrev pub cap_of : Program → Network → ℕ
-cap_of P N = settle_cap (verdict_of (unfolding_of P) (length N.devices)) (length N.devices)
+abbrev pub cap_of : Unfolding → Network → ℕ
+cap_of U N = settle_cap (verdict_of U (length N.devices)) (length N.devices)
 
-abbrev pub settled_from : Program → Network → BoundTable → Settlings
-settled_from P N start d = settles_to (unfolding_of P) N start (cap_of P N) d
+abbrev pub settled_from : Unfolding → Network → BoundTable → Settlings
+settled_from U N start d = settles_to U N start (cap_of U N) d
 
-abbrev pub settled_of : Program → Network → Settlings
-settled_of P N d = settled_from P N (any_table (unfolding_of P)) d
+abbrev pub settled_of : Unfolding → Network → Settlings
+settled_of U N d = settled_from U N (any_table U) d
 
 -- the greatest settle round, where each device has one
 abbrev pub greatest_round : List (Option (ℕ × LocalValue)) → Option ℕ
@@ -58,8 +58,9 @@ rounds_of_yes (verdict.No place reason) = None
 abbrev pub settle_time : Verdict → List (Option (ℕ × LocalValue)) → Option ℕ
 settle_time v os = option_or (greatest_round os) (rounds_of_yes v)
 
-abbrev pub IsSettleTime : Program → Network → Settlings → ℕ → Type 0
-IsSettleTime P N settled R = settle_time (verdict_of (unfolding_of P) (length N.devices)) (map settled (numbers N.devices)) ≡ Some R
+abbrev pub IsSettleTime : Unfolding → Network → Settlings → ℕ → Type 0
+IsSettleTime U N settled R =
+    settle_time (verdict_of U (length N.devices)) (map settled (numbers N.devices)) ≡ Some R
 
 -- ---- what settle rounds and settle times promise, where so many rounds lead a device to a value in some sense
 
@@ -72,32 +73,30 @@ RoundsLead Leads N settled = (d k : ℕ) (v : LocalValue) → Lives N d → sett
     → (m : ℕ) → k ≤ m → Leads m d v
 
 -- with a yes, that is the value of the one field
-pub record ValuesSolve (P : Program) (N : Network) (settled : Settlings) : Type 0 where
-  pub one : HasOneSolution (unfolding_of P) N
+pub record ValuesSolve (U : Unfolding) (N : Network) (settled : Settlings) : Type 0 where
+  pub one : HasOneSolution U N
   pub values : (d k : ℕ) (v : LocalValue) → Lives N d → settled d ≡ Some (k, v) → v ≡ one.field d
 
 -- the settle time leads each device to the value of its settle round; where one has none, there is a yes for so many
 -- rounds, and they lead it to the value of the one field
-pub record TimeLeads (Leads : Leading) (P : Program) (N : Network) (settled : Settlings) (R : ℕ) : Type 0 where
+pub record TimeLeads (Leads : Leading) (U : Unfolding) (N : Network) (settled : Settlings) (R : ℕ) : Type 0 where
   pub known : (d k : ℕ) (v : LocalValue) → Lives N d → settled d ≡ Some (k, v) → Leads R d v
-  pub only_yes : (d : ℕ) → Lives N d → settled d ≡ None → verdict_of (unfolding_of P) (length N.devices) ≡ verdict.Yes R
-  pub solved : (d : ℕ) → Lives N d → settled d ≡ None
-      → (one : HasOneSolution (unfolding_of P) N) × Leads R d (one.field d)
+  pub only_yes : (d : ℕ) → Lives N d → settled d ≡ None → verdict_of U (length N.devices) ≡ verdict.Yes R
+  pub solved : (d : ℕ) → Lives N d → settled d ≡ None → (one : HasOneSolution U N) × Leads R d (one.field d)
 
 -- it is no more than the rounds of a yes
-abbrev pub TimeIsLow : Program → Network → ℕ → Type 0
-TimeIsLow P N R = (K : ℕ) → verdict_of (unfolding_of P) (length N.devices) ≡ verdict.Yes K → R ≤ K
+abbrev pub TimeIsLow : Unfolding → Network → ℕ → Type 0
+TimeIsLow U N R = (K : ℕ) → verdict_of U (length N.devices) ≡ verdict.Yes K → R ≤ K
 
 -- so it is from every start, over firings and over message links
-pub record SettlesWell (P : Program) (N : Network) : Type 0 where
-  pub rounds : RoundsLead (ReachedAt (unfolding_of P) N) N (settled_of P N)
-  pub mail_rounds : RoundsLead (MailReachedAt (unfolding_of P) N) N (settled_of P N)
-  pub solves : (K : ℕ) → verdict_of (unfolding_of P) (length N.devices) ≡ verdict.Yes K → ValuesSolve P N (settled_of P N)
-  pub time : (R : ℕ) → IsSettleTime P N (settled_of P N) R
-      → TimeLeads (ReachedAt (unfolding_of P) N) P N (settled_of P N) R
-  pub mail_time : (R : ℕ) → IsSettleTime P N (settled_of P N) R
-      → TimeLeads (MailReachedAt (unfolding_of P) N) P N (settled_of P N) R
-  pub low : (R : ℕ) → IsSettleTime P N (settled_of P N) R → TimeIsLow P N R
+pub record SettlesWell (U : Unfolding) (N : Network) : Type 0 where
+  pub rounds : RoundsLead (ReachedAt U N) N (settled_of U N)
+  pub mail_rounds : RoundsLead (MailReachedAt U N) N (settled_of U N)
+  pub solves : (K : ℕ) → verdict_of U (length N.devices) ≡ verdict.Yes K → ValuesSolve U N (settled_of U N)
+  pub time : (R : ℕ) → IsSettleTime U N (settled_of U N) R → TimeLeads (ReachedAt U N) U N (settled_of U N) R
+  pub mail_time : (R : ℕ) → IsSettleTime U N (settled_of U N) R → TimeLeads (MailReachedAt U N) U N (settled_of U N) R
+  pub low : (R : ℕ) → IsSettleTime U N (settled_of U N) R → TimeIsLow U N R
 
 abbrev pub SettleTimesHold : Type 0
-SettleTimesHold = (P : Program) (N : Network) → IsProgram P → IsNetwork N → N.declared ≡ P.declared → SettlesWell P N
+SettleTimesHold =
+    (P : Program) (N : Network) → IsProgram P → IsNetwork N → N.declared ≡ P.declared → SettlesWell (unfolding_of P) N

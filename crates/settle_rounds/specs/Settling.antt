@@ -22,14 +22,14 @@ StillStays = (k : RoundKind) (U : Unfolding) (N : Network) → IsNetwork N → (
     → IsStill k U N start j → j ≤ i → (d : ℕ) → Lives N d → table_after k U N start i d ≡ table_after k U N start j d
 
 -- where the verdict is a yes, the value that is left is that of the one field
-pub record LeftIsSolved (P : Program) (N : Network) : Type 0 where
-  pub one : HasOneSolution (unfolding_of P) N
-  pub left : (k d : ℕ) → Lives N d → is_reached (bounds_after (unfolding_of P) N k d) ≡ true
-      → value_left (bounds_after (unfolding_of P) N k d).value ≡ one.field d
+pub record LeftIsSolved (U : Unfolding) (N : Network) : Type 0 where
+  pub one : HasOneSolution U N
+  pub left : (k d : ℕ) → Lives N d → is_reached (bounds_after U N k d) ≡ true
+      → value_left (bounds_after U N k d).value ≡ one.field d
 
 abbrev pub YesLeaves : Type 0
 YesLeaves = (P : Program) (N : Network) (K : ℕ) → IsProgram P → IsNetwork N → N.declared ≡ P.declared
-    → verdict_of (unfolding_of P) (length N.devices) ≡ verdict.Yes K → LeftIsSolved P N
+    → verdict_of (unfolding_of P) (length N.devices) ≡ verdict.Yes K → LeftIsSolved (unfolding_of P) N
 
 -- the first of n rounds from j on after which a device is reached, and its settle round: the first up to the cap
 abbrev pub first_reached : (ℕ → ExportBound) → ℕ → ℕ → Option ℕ

@@ -1,7 +1,7 @@
 -- What settle rounds and settle times from one core promise.
 use Rattle.std.specs.Prelude.{ℕ, ◌≡◌, length}
 use Rattle.fc_nodes.specs.declared.verdicts.Verdict.TheVariants as verdict
-use Rattle.fc_nodes.specs.Program.{Program, unfolding_of, IsProgram}
+use Rattle.fc_nodes.specs.Program.{Program, Unfolding, unfolding_of, IsProgram}
 use Rattle.topology.specs.Networks.{Network, IsNetwork}
 use Rattle.firing_core.specs.Cores.{Core, IsGood}
 use Rattle.fragment_check.specs.Verdicts.{verdict_of}
@@ -10,15 +10,16 @@ use Rattle.settle_rounds.specs.Starts.{ReachedFrom, StartTable, growing_cap}
 use Rattle.settle_rounds.specs.SettleTimes.{settled_from, IsSettleTime, RoundsLead, ValuesSolve, TimeLeads, TimeIsLow}
 
 -- what `SettlesWell` says, but for the logs from this core alone
-pub record SettlesFrom (P : Program) (N : Network) (c : Core) (table : BoundTable) : Type 0 where
-  pub rounds : RoundsLead (ReachedFrom (unfolding_of P) N c) N (settled_from P N table)
-  pub solves : (K : ℕ) → verdict_of (unfolding_of P) (length N.devices) ≡ verdict.Yes K → ValuesSolve P N (settled_from P N table)
-  pub time : (R : ℕ) → IsSettleTime P N (settled_from P N table) R
-      → TimeLeads (ReachedFrom (unfolding_of P) N c) P N (settled_from P N table) R
-  pub low : (R : ℕ) → IsSettleTime P N (settled_from P N table) R → TimeIsLow P N R
+pub record SettlesFrom (U : Unfolding) (N : Network) (c : Core) (table : BoundTable) : Type 0 where
+  pub rounds : RoundsLead (ReachedFrom U N c) N (settled_from U N table)
+  pub solves : (K : ℕ) → verdict_of U (length N.devices) ≡ verdict.Yes K → ValuesSolve U N (settled_from U N table)
+  pub time : (R : ℕ) → IsSettleTime U N (settled_from U N table) R
+      → TimeLeads (ReachedFrom U N c) U N (settled_from U N table) R
+  pub low : (R : ℕ) → IsSettleTime U N (settled_from U N table) R → TimeIsLow U N R
 
 -- from the table of any good core on the network
 abbrev pub StartTimesHold : Type 0
-StartTimesHold = (P : Program) (N : Network) → IsProgram P → IsNetwork N → N.declared ≡ P.declared
+StartTimesHold =
+    (P : Program) (N : Network) → IsProgram P → IsNetwork N → N.declared ≡ P.declared
     → (c : Core) → IsGood (unfolding_of P) c → c.net ≡ N → (table : BoundTable)
-    → StartTable (unfolding_of P) N (growing_cap (length N.devices)) c table → SettlesFrom P N c table
+    → StartTable (unfolding_of P) N (growing_cap (length N.devices)) c table → SettlesFrom (unfolding_of P) N c table

@@ -69,16 +69,17 @@ BoundsReachFrom = (P : Program) (N : Network) → IsProgram P → IsNetwork N �
     → ReachedFrom (unfolding_of P) N start m d (value_left (rounds_from (unfolding_of P) N table k d).value)
 
 -- with a yes, the value that is left is that of the one field
-pub record LeftIsSolvedFrom (P : Program) (N : Network) (table : BoundTable) : Type 0 where
-  pub one : HasOneSolution (unfolding_of P) N
-  pub left : (k d : ℕ) → Lives N d → is_reached (rounds_from (unfolding_of P) N table k d) ≡ true
-      → value_left (rounds_from (unfolding_of P) N table k d).value ≡ one.field d
+pub record LeftIsSolvedFrom (U : Unfolding) (N : Network) (table : BoundTable) : Type 0 where
+  pub one : HasOneSolution U N
+  pub left : (k d : ℕ) → Lives N d → is_reached (rounds_from U N table k d) ≡ true
+      → value_left (rounds_from U N table k d).value ≡ one.field d
 
 abbrev pub YesLeavesFrom : Type 0
 YesLeavesFrom = (P : Program) (N : Network) (K : ℕ) → IsProgram P → IsNetwork N → N.declared ≡ P.declared
-    → verdict_of (unfolding_of P) (length N.devices) ≡ verdict.Yes K → (table : BoundTable) → IsClosed (unfolding_of P) N table
+    → verdict_of (unfolding_of P) (length N.devices) ≡ verdict.Yes K
+    → (table : BoundTable) → IsClosed (unfolding_of P) N table
     → (start : Core) → IsGood (unfolding_of P) start → start.net ≡ N → HoldsCore (unfolding_of P) N table start
-    → LeftIsSolvedFrom P N table
+    → LeftIsSolvedFrom (unfolding_of P) N table
 
 -- ---- the table of a core
 
@@ -114,10 +115,15 @@ pub record StartHolds (U : Unfolding) (N : Network) (c : Core) (table : BoundTab
   pub closed : IsClosed U N table
   pub holds : HoldsCore U N table c
 
--- each good core on the network has one such table, up to what it says of other devices than those of the network
+-- a core has at most one such table, up to what it says of other devices than those of the network
+abbrev pub OneStart : Type 0
+OneStart =
+    (U : Unfolding) (N : Network) → IsNetwork N → (most : ℕ) (c : Core) (s t : BoundTable)
+    → StartTable U N most c s → StartTable U N most c t → (d : ℕ) → Lives N d → s d ≡ t d
+
+-- each good core on the network has one
 pub record StartsAre (U : Unfolding) (N : Network) (most : ℕ) (c : Core) : Type 0 where
   pub some : (table : BoundTable) × StartTable U N most c table
-  pub one : (s t : BoundTable) → StartTable U N most c s → StartTable U N most c t → (d : ℕ) → Lives N d → s d ≡ t d
   pub hold : (s : BoundTable) → StartTable U N most c s → StartHolds U N c s
 
 abbrev pub StartsHold : Type 0

@@ -5,7 +5,7 @@ ghost use Rattle.settle_rounds.specs.Rounds.{BoundsReach};
 ghost use Rattle.settle_rounds.specs.SettleTimes.{SettleTimesHold};
 ghost use Rattle.settle_rounds.specs.Settling.{RoundsSettle, StillStays, YesLeaves};
 ghost use Rattle.settle_rounds.specs.StartTimes.{StartTimesHold};
-ghost use Rattle.settle_rounds.specs.Starts.{BoundsHoldFrom, BoundsReachFrom, StartsHold, YesLeavesFrom};
+ghost use Rattle.settle_rounds.specs.Starts.{BoundsHoldFrom, BoundsReachFrom, OneStart, StartsHold, YesLeavesFrom};
 
 use converge_laws::{yes_raises_levels, yes_stabilises};
 use export_bounds::exports_hold;
@@ -74,7 +74,12 @@ pub fn rounds_settle()
     ensures { RoundsSettle }
 {}
 
-/// Each good core has one table from which its settle rounds are counted. It is closed and holds the core.
+/// A core has at most one table from which its settle rounds are counted.
+pub fn one_start()
+    ensures { OneStart }
+{}
+
+/// Each good core has one, which is closed and holds the core.
 pub fn starts_hold()
     ensures { StartsHold }
 {

@@ -7,7 +7,7 @@ mod settling;
 mod starts;
 
 pub use laws::{
-    bounds_hold_from, bounds_reach, bounds_reach_from, bounds_reach_mail, rounds_settle,
+    bounds_hold_from, bounds_reach, bounds_reach_from, bounds_reach_mail, one_start, rounds_settle,
     settle_times_hold, start_times_hold, starts_hold, still_stays, yes_leaves, yes_leaves_from,
 };
 pub use limits::{MOST_BOUND_FIRINGS, settle_cap};

@@ -3,6 +3,6 @@ use Rattle.fc_answers.proofs.laws.answers_keep.Goals as goal
 
 pub returns : goal.returns
 returns c =
-    answers_keep c.yes_stabilises.ensures c.accepted_scenes_fit.ensures c.inputs_start.ensures
+    answers_keep c.yes_stabilises.ensures c.texts_unfold.ensures c.inputs_start.ensures
     c.settle_times_hold.ensures c.start_times_hold.ensures c.solutions_are_least.ensures
     c.runs_keep_yes.ensures c.all_agree.ensures c.mails_keep_yes.ensures.log c.mails_keep_yes.ensures.number

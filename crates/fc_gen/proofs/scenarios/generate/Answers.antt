@@ -1,6 +1,7 @@
 use Rattle.std.proofs.Common.{◌+◌, ◌*◌, ◌∙◌, map, length, ap, sym, subst}
 use Rattle.fc_values.specs.Fields.{entry_of}
-use Rattle.fc_nodes.specs.Program.{unfolding_of}
+use Rattle.fc_nodes.specs.Program.{Unfolding, unfolding_of}
+use Rattle.fragment_check.specs.Verdicts.{verdict_of}
 use Rattle.stable_field.specs.Stable.{IsStableField}
 use Rattle.topology.specs.Networks.{Network}
 use Rattle.fc_gen.proofs.Running.{few_firings, generated, run_within}
@@ -10,7 +11,8 @@ use Rattle.fc_gen.proofs.scenarios.generate.Goals as goal
 pub field-requires-clause-yes : goal.field-requires-clause-yes
 field-requires-clause-yes g c = (
   2 + 2 * c.args.options.devices,
-  c.rings_stabilise.ensures c.in_ok-program-2.program c.args.options.devices (length c.in_ok-program.net.devices) c.requires.least c.requires.most c.in_ok-program-2.ensures,
+  ap (λ (U : Unfolding). verdict_of U (length c.in_ok-program.net.devices)) c.in_ok-program-2.ensures
+      ∙ c.rings_stabilise.ensures c.args.options.devices (length c.in_ok-program.net.devices) c.requires.least c.requires.most,
 )
 
 pub ran-requires-clause-few : goal.ran-requires-clause-few
@@ -25,7 +27,7 @@ summed_up-requires g c = run_within _ _ _ _ c.in_ok-session.session c.in_ok-sess
 pub returns : goal.returns
 returns g c =
     generated c.rings_stabilise.ensures c.args.options.number c.args.options.devices c.rounds_of-rounds.result c.rounds_of-rounds.ensures c.requires.least c.requires.most
-    c.in_ok-program-2.program c.size-size.ensures.program c.in_ok-program-2.ensures c.in_ok-program.net
+    c.in_ok-program-2.program c.in_ok-program-2.ensures c.in_ok-program.net
     c.in_ok-program.ensures.network c.in_ok-session.session c.in_ok-session.ensures _
     (subst (λ fs. IsStableField (unfolding_of c.in_ok-program-2.program) c.in_ok-program.net (map entry_of fs)) (sym c.deref.ensures.value) c.in_ok-field.ensures)
     c.in_ok-generated.generated c.in_ok-generated.ensures.text c.in_ok-generated.ensures.book c.in_ok-generated.ensures.parts

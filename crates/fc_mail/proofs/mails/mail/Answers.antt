@@ -24,14 +24,14 @@ pub returns-in_err-log-clause-refused : goal.returns-in_err-log-clause-refused
 returns-in_err-log-clause-refused c =
     stop_is (λ cause. Mails c.args.program.now c.args.network.now c.args.log.now (Refused cause)) c.from_residual-in_err-log.result _ c.from_residual-in_err-log.ensures.1
     (stops_map (IsFaultyMail (mail_log c.args.log.now)) _
-    (λ cause k. faulty_log c.args.program.now c.args.network.now c.args.log.now c.in_ok-program.program c.size-size.ensures.program (value_of_scene (unfolding_of c.in_ok-program.program) c.in_ok-program.scene) c.in_ok-program.ensures.input cause k)
+    (λ cause k. faulty_log c.args.program.now c.args.network.now c.args.log.now (unfolding_of c.in_ok-program.program) (value_of_scene (unfolding_of c.in_ok-program.program) c.in_ok-program.scene) c.in_ok-program.ensures.input cause k)
     c.in_err-log.field-0.0 c.in_err-log.ensures.refused)
 
 pub returns-in_err-book-clause-refused : goal.returns-in_err-book-clause-refused
 returns-in_err-book-clause-refused c =
     stop_is (λ cause. Mails c.args.program.now c.args.network.now c.args.log.now (Refused cause)) c.from_residual-in_err-book.result _ c.from_residual-in_err-book.ensures.1
     (stops_map (IsStoppedMail (unfolding_of c.in_ok-program.program) (quiet (start_of (value_of_scene (unfolding_of c.in_ok-program.program) c.in_ok-program.scene))) (mailed c.in_ok-log.log)) _
-    (λ cause k. stopped_log c.args.program.now c.args.network.now c.args.log.now c.in_ok-program.program c.size-size.ensures.program (value_of_scene (unfolding_of c.in_ok-program.program) c.in_ok-program.scene) c.in_ok-program.ensures.input
+    (λ cause k. stopped_log c.args.program.now c.args.network.now c.args.log.now (unfolding_of c.in_ok-program.program) (value_of_scene (unfolding_of c.in_ok-program.program) c.in_ok-program.scene) c.in_ok-program.ensures.input
     (mailed c.in_ok-log.log) c.in_ok-log.ensures.log cause k)
     c.in_err-book.field-0.0 c.in_err-book.ensures.refused)
 
@@ -52,5 +52,5 @@ returns-clause-writes c =
     subst (λ (l : List MailEntryValue). IsGreatestMail start.core.net (posts_of start) l shows.rounds) (made.log_is ∙ sym same)
     (subst (λ (m : MailCore). IsGreatestMail m.core.net (posts_of m) (mail_entries book.log) shows.rounds) made.start_is shows.counted) in
     let text : c.show.new.text.items ≡ values_text (core_of book.mail.core) ++ rounds_text shows.rounds = shows.is ∙ ap (λ (xs : List ℕ). (xs ++ values_text (core_of book.mail.core)) ++ rounds_text shows.rounds) c.new-text.ensures.items in
-    shown_log c.args.program.now c.args.network.now c.args.log.now c.in_ok-program.program c.size-size.ensures.program s c.in_ok-program.ensures.input es c.in_ok-log.ensures.log c.new.result (mail_of book.mail) shows.rounds leads counted
+    shown_log c.args.program.now c.args.network.now c.args.log.now U s c.in_ok-program.ensures.input es c.in_ok-log.ensures.log c.new.result (mail_of book.mail) shows.rounds leads counted
     (c.new.ensures ∙ ap (λ (xs : List ℕ). let r : Reply = record { status = 0; text = xs } in r) text)

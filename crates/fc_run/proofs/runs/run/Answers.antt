@@ -43,7 +43,7 @@ returns-clause-ran g c =
     lines_ran c.args.options c.args.program.now c.args.network.now c.args.script.now
     (λ (U : Unfolding). value_of_scene U c.in_ok-program.scene) c.in_ok-program.program c.in_ok-shared.shared.value
     c.deref.result.now c.in_ok-program.ensures.input c.in_ok-shared.ensures.ok c.deref.ensures
-    c.size-size.ensures.program c.in_ok-core.core c.in_ok-core.ensures.core
+    c.in_ok-core.core c.in_ok-core.ensures.core
     (map numbered c.in_ok-lines.lines.items) (map numbered c.deref-2.result.now)
     (ap (map numbered) c.deref-2.ensures.value) c.in_ok-lines.ensures.script c.in_ok-session.session
     c.in_ok-session.ensures c.in_ok-ended.field-0 c.in_ok-ended.ensures

@@ -11,13 +11,13 @@ use Rattle.fc_settle.proofs.settles.settle_any.Goals as goal
 
 pub returns : goal.returns
 returns c =
-    let P = c.args.program.now in
+    let U = unfolding_of c.args.program.now in
     let N = c.args.net.now in
     let v = c.in_ok-verdict.verdict in
     let text = c.in_ok-verdict.text.items in
     let os = map (option_map settled_in) c.in_ok-settled.settled.items in
     let ds = c.devices-devices.result.now in
-    let made = are_settling c.args.facts P N (any_table (unfolding_of P)) v (length ds) c.settle_cap.result text os
+    let made = are_settling c.args.facts U N (any_table U) v (length ds) c.settle_cap.result text os
     (record {
       many = sym (length-map ds device_of) ∙ ap length c.devices-devices.ensures.value;
       verdict = c.in_ok-verdict.ensures.verdict;

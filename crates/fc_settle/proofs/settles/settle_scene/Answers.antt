@@ -8,6 +8,7 @@ use Rattle.firing_core.specs.Cores.{Core}
 use Rattle.fragment_check.specs.Verdicts.{verdict_of}
 use Rattle.settle_rounds.specs.References.{settled_in}
 use Rattle.net_json.specs.SceneCode.{value_of_scene}
+use Rattle.fc_inputs.specs.Causes.{Accepted}
 use Rattle.fc_check.specs.Checks.{checked_of}
 use Rattle.fc_replay.specs.Replays.{start_of}
 use Rattle.fc_settle.specs.Code.{settled_reply}
@@ -38,14 +39,15 @@ returns c =
     let ds = c.devices-devices.result.now in
     let n = length ds in
     let text = c.in_ok-verdict.text.items in
-    let made = are_settling c.args.facts P s.net from.table v n c.settle_cap.result text os (record {
+    let made = are_settling c.args.facts (unfolding_of P) s.net from.table v n c.settle_cap.result text os (record {
       many = sym (length-map ds device_of)
           ∙ ap length (c.devices-devices.ensures.value ∙ ap (λ (N : Network). N.devices) c.net.ensures.value)
           ∙ ap (λ (k : Core). length k.net.devices) starts;
-      verdict = c.in_ok-verdict.ensures.verdict ∙ ap (λ (Q : Program). verdict_of (unfolding_of Q) n) (c.deref.ensures ∙ same);
+      verdict = c.in_ok-verdict.ensures.verdict
+          ∙ ap (λ (Q : Program). verdict_of (unfolding_of Q) n) (c.deref.ensures ∙ same);
       cap = c.settle_cap.ensures;
       judged = c.in_ok-verdict.ensures.text
-          ∙ ap (λ (Q : Program). (checked_of c.args.facts Q n).text) (c.deref.ensures ∙ same);
+          ∙ ap (λ (Q : Program). (checked_of c.args.facts (unfolding_of Q) n).text) (c.deref.ensures ∙ same);
       settled = from.settled;
     }) in
     let net : c.net-2.result.now ≡ s.net =
@@ -53,9 +55,9 @@ returns c =
     IfOk-weaker c.settled_reply.result _ _ (λ r h. record {
       table = from.table;
       starts = from.starts;
-      is = h
-          ∙ ap (λ (N : Network). settled_reply v text (numbers N.devices)
+      settled = ap Accepted
+          (h ∙ ap (λ (N : Network). settled_reply v text (numbers N.devices)
           (map (option_map settled_in) c.deref-2.result.now)) net
           ∙ ap (λ l. settled_reply v text (numbers s.net.devices) (map (option_map settled_in) l)) c.deref-2.ensures.value
-          ∙ made;
+          ∙ made);
     }) c.settled_reply.ensures

@@ -22,4 +22,4 @@ returns c = λ line.
     subst (λ s. AfterLine (line, EditCommand e) s new) c.self.view_is
     (after_edit_line old new line e grew refl
     (c.in_ok-make_and_show.ensures.shows line
-    ∙ ap (λ p. c.self.inside.text.items ++ all_shown (shown_after p line e (core_of c.make_and_show.new.book.core))) grew.program))
+    ∙ ap (λ p. c.self.inside.text.items ++ all_shown (shown_after (unfolding_of p) line e (core_of c.make_and_show.new.book.core))) grew.program))
