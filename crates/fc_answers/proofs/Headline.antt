@@ -37,7 +37,7 @@ use Rattle.firing_core.specs.Laws.{RunsCutAtEdit, RunsKeepGood}
 use Rattle.firing_core.specs.Rounds.{HasRounds, after_edit}
 use Rattle.converge_laws.specs.Verdicts.{IsSettled}
 use Rattle.session.proofs.EditsInLogs.{fewer}
-use Rattle.fc_replay.specs.Laws.{InputsStart, ReplaysShow}
+use Rattle.fc_replay.specs.Laws.{InputsStart, ReplaysLead}
 use Rattle.fc_replay.specs.Replays.{Replays, Shown, start_of}
 use Rattle.fc_replay.specs.Stopping.{entries_in}
 use Rattle.interval_facts.specs.Ranges.{ranges_of}
@@ -354,7 +354,7 @@ module _ (Shows : List ℕ → List ℕ → List ℕ → Judged AnswerValue → 
 
 -- ---- replays
 module _ (law : YesStabilises) (unfolds : TextsUnfold) (start : InputsStart) (good : RunsKeepGood) (cut : RunsCutAtEdit)
-    (show : ReplaysShow) (options : ReplayOptions) where
+    (show : ReplaysLead) (options : ReplayOptions) where
   -- where the verdict after a run is a yes, and the part after the last edit has its rounds, the values are the field's
   settled : (P : Program) → IsProgram P → (c last : Core) → IsGood (unfolding_of P) c → (log : List EntryValue)
       → Run (unfolding_of P) c log last → (k : ℕ)
@@ -467,7 +467,7 @@ module _ (log : MailsKeepYes) (driven : DrivenMailsKeepYes) where
 module _ (law : YesStabilises) (unfolds : TextsUnfold) (start : InputsStart) (hold : SettleTimesHold)
     (hold_from : StartTimesHold) (least : SolutionsAreLeast) (run : RunsKeepYes) (agree : AllAgree)
     (log : MailsKeepYes) (driven : DrivenMailsKeepYes) (good : RunsKeepGood) (cut : RunsCutAtEdit)
-    (show : ReplaysShow) where
+    (show : ReplaysLead) where
   from_keeps : (facts : Bool) (o : Option Start) (input : List ℕ) (j : Judged AnswerValue)
       → OfInput (λ ss k. WithTwo (WritesReply (ChecksFrom facts o)) ss k) input j → IsChecked o (answer_of j).status
       → OfTwo (λ program network. CheckPromises facts o program network (answer_of j)) (sections_of input)

@@ -40,7 +40,7 @@ use Rattle.fc_inputs.specs.Inputs.{ReadsInput}
 use Rattle.fc_inputs.specs.Sections.{sections_of}
 use Rattle.fc_gen.specs.Laws.{Agrees}
 use Rattle.fc_mail.specs.Laws.{DrivenMailKeepsYes, MailKeepsYes}
-use Rattle.fc_replay.specs.Laws.{ShowsLog}
+use Rattle.fc_replay.specs.Laws.{LogLeads}
 use Rattle.fc_replay.specs.Replays.{Shown, start_of}
 use Rattle.fc_replay.specs.Stopping.{entries_in}
 use Rattle.fc_run.specs.Laws.{RunKeepsYes}
@@ -122,7 +122,7 @@ pub record TracesYes (program network text : List ℕ) : Type 0 where
 pub record ReplaysKept (options : ReplayOptions) (program network log : List ℕ) (answer : AnswerValue) : Type 0 where
   pub shown : Shown
   pub shows : answer ≡ showing shown
-  pub led : ShowsLog options program network log shown
+  pub led : LogLeads options program network log shown
   pub holds : (k rounds : ℕ) → verdict_of led.unfolded (length led.last.net.devices) ≡ verdict.Yes k
       → IsGreatest (numbers led.last.net.devices) (entries_in led.entries) rounds → k ≤ rounds
       → IsSettled led.unfolded led.last

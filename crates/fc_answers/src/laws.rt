@@ -8,7 +8,7 @@ use fc_check::{one_check, some_check};
 use fc_gen::{all_agree, one_gen, some_gen};
 use fc_inputs::{one_input, one_source, sections_are_within, texts_unfold};
 use fc_mail::{mails_keep_yes, one_mail, some_mail};
-use fc_replay::{inputs_start, one_replay, replays_show, some_replay};
+use fc_replay::{inputs_start, one_replay, replays_lead, some_replay};
 use fc_run::{one_run, runs_keep_yes, some_run};
 use fc_settle::{one_settle, some_settle};
 use fc_trace::{one_traced, some_traced};
@@ -77,7 +77,7 @@ pub fn answers_keep()
     runs_keep_yes();
     all_agree();
     mails_keep_yes();
-    replays_show();
+    replays_lead();
     steps_keep_good();
     runs_cut();
 }

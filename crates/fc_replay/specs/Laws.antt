@@ -41,7 +41,7 @@ SomeReplay =
 
 -- A log that is shown: its lines say entries that lead from the scene to a core. The values of this core are written,
 -- and behind them what the options ask for.
-pub record ShowsLog (options : ReplayOptions) (program network log : List ℕ) (shown : Shown) : Type 0 where
+pub record LogLeads (options : ReplayOptions) (program network log : List ℕ) (shown : Shown) : Type 0 where
   pub unfolded : Unfolding
   pub scene : SceneValue
   pub reads : ReadsInput program network (Accepted (unfolded, scene))
@@ -52,10 +52,10 @@ pub record ShowsLog (options : ReplayOptions) (program network log : List ℕ) (
   pub is : shown.book ≡ book_of unfolded (start_of scene) (entries_in entries) last
   pub says : IsText options shown.book shown.text
 
-abbrev pub ReplaysShow : Type 0
-ReplaysShow =
+abbrev pub ReplaysLead : Type 0
+ReplaysLead =
     (options : ReplayOptions) (program network log : List ℕ) (shown : Shown)
-    → Replays options program network log (Accepted shown) → ShowsLog options program network log shown
+    → Replays options program network log (Accepted shown) → LogLeads options program network log shown
 
 -- an accepted input is the program of a text, and a scene that starts a good core of it
 pub record InputStarts (program : List ℕ) (i : InputOf) : Type 0 where

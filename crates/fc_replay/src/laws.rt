@@ -1,6 +1,6 @@
 //! Laws of the definitions.
 
-ghost use Rattle.fc_replay.specs.Laws.{InputsStart, OneReplay, ReplaysShow, SomeReplay};
+ghost use Rattle.fc_replay.specs.Laws.{InputsStart, OneReplay, ReplaysLead, SomeReplay};
 ghost use Rattle.fc_replay.specs.Resuming.{TablesResume};
 ghost use Rattle.fc_replay.specs.WrittenLogs.{WrittenLogsReplay};
 
@@ -35,8 +35,8 @@ pub fn some_replay()
 }
 
 /// What `replay` shows is a log that leads from the scene to a core, and the values of this core.
-pub fn replays_show()
-    ensures { ReplaysShow }
+pub fn replays_lead()
+    ensures { ReplaysLead }
 {
     inputs_start();
     readings_agree();

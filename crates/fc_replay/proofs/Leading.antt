@@ -15,7 +15,7 @@ use Rattle.fc_inputs.specs.declared.refusal.LineFault.{LineFault}
 use Rattle.fc_inputs.specs.Causes.{Judged, Accepted, Refused, AndThen}
 use Rattle.fc_inputs.specs.Inputs.{InputOf, ReadsInput}
 use Rattle.command_words.specs.declared.commands.ReplayOptions.{ReplayOptions}
-use Rattle.fc_replay.specs.Laws.{InputsStart, ReplaysShow, ShowsLog}
+use Rattle.fc_replay.specs.Laws.{InputsStart, ReplaysLead, LogLeads}
 use Rattle.fc_replay.specs.Replays.{Replays, ReplaysEntries, ReplaysLog, Shown, ShowsBook, book_of, start_of}
 use Rattle.fc_replay.specs.Stopping.{Logged, entries_in, first_stop}
 
@@ -57,7 +57,7 @@ module _ (start : InputsStart) (readings : ReadingsAgree) (have : LogsHaveEntrie
   by_book : (i : InputOf) → ReadsInput program network (Accepted i) → (ls : List (ℕ × LogLine))
       → log_of i.0 i.1.net log ≡ AllLines ls → (es : List Logged)
       → SaidBy (IsEntry i.0) es (AllLines ls) → ShowsBook options i.0 (start_of i.1) (entries_in es) (Accepted shown)
-      → ShowsLog options program network log shown
+      → LogLeads options program network log shown
   by_book i reads ls lines es said h =
       let some = have i.0 i.1.net log ls lines in
       let said_here = subst (SaidBy (IsEntry i.0) es) (sym lines) said in
@@ -79,26 +79,26 @@ module _ (start : InputsStart) (readings : ReadingsAgree) (have : LogsHaveEntrie
   by_stop : (i : InputOf) → ReadsInput program network (Accepted i) → (ls : List (ℕ × LogLine))
       → log_of i.0 i.1.net log ≡ AllLines ls → (es : List Logged) → SaidBy (IsEntry i.0) es (AllLines ls)
       → (o : Option (ℕ × LineFault)) → ReplaysEntries options i.0 (start_of i.1) es o (Accepted shown)
-      → ShowsLog options program network log shown
+      → LogLeads options program network log shown
   by_stop i reads ls lines es said (Some stop) h = absurd cc
   by_stop i reads ls lines es said None h = by_book i reads ls lines es said h
 
   by_lines : (i : InputOf) → ReadsInput program network (Accepted i) → (lines : Lines Fault LogLine)
       → log_of i.0 i.1.net log ≡ lines → ReplaysLog options i.0 (start_of i.1) lines (Accepted shown)
-      → ShowsLog options program network log shown
+      → LogLeads options program network log shown
   by_lines i reads (StopsAt at fault) e h = absurd cc
   by_lines i reads (AllLines ls) e h =
       by_stop i reads ls e h.log h.are (first_stop i.0 (start_of i.1) h.log) h.ends
 
-  shows : Replays options program network log (Accepted shown) → ShowsLog options program network log shown
+  shows : Replays options program network log (Accepted shown) → LogLeads options program network log shown
   shows h = by_input h.judged h.reads h.ends
     where
       by_input : (q : Judged InputOf) → ReadsInput program network q
           → AndThen q (λ i k. ReplaysLog options i.0 (start_of i.1) (log_of i.0 i.1.net log) k) (Accepted shown)
-          → ShowsLog options program network log shown
+          → LogLeads options program network log shown
       by_input (Refused cause) r e = absurd cc
       by_input (Accepted i) r e = by_lines i r (log_of i.0 i.1.net log) refl e
 
-pub replays_show : InputsStart → ReadingsAgree → LogsHaveEntries → RunsAgree → ReplaysShow
-replays_show start readings have agree options program network log shown h =
+pub replays_lead : InputsStart → ReadingsAgree → LogsHaveEntries → RunsAgree → ReplaysLead
+replays_lead start readings have agree options program network log shown h =
     shows start readings have agree options program network log shown h
