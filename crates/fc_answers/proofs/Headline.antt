@@ -65,6 +65,8 @@ use Rattle.walks.specs.Walks.{CostsValue}
 use Rattle.walk_form.specs.Costs.{AreCostsOf}
 use Rattle.walk_form.specs.Forms.{WalkTerms, walk_terms}
 use Rattle.walk_form.specs.Laws.{IsLeastAt, SolutionsAreLeast}
+use Rattle.walks.specs.Laws.{OneLeastCost}
+use Rattle.fc_answers.proofs.Traced.{traced_values}
 use Rattle.fc_answers.proofs.Statuses.{CauseJudges, IfRefused, RefusesBy, driven_replies, input_causes, mail_replies}
 use Rattle.fc_answers.proofs.Statuses.{replay_causes, run_causes}
 
@@ -163,7 +165,7 @@ module _ (law : YesStabilises) (unfolds : TextsUnfold) (start : InputsStart) (pr
           (refused_keeps SolvesYes program network (reply_to cause) c)
 
 module _ (law : YesStabilises) (unfolds : TextsUnfold) (start : InputsStart) (least : SolutionsAreLeast)
-    (program network : List ℕ) where
+    (one : OneLeastCost) (program network : List ℕ) where
   -- where the verdict is a yes, and these are the costs, a solution has the least of them
   abbrev IsLeast : Network → ℕ → CostsValue → (ℕ → LocalValue) → Unfolding → Type 0
   IsLeast N k C F U =
@@ -185,15 +187,18 @@ module _ (law : YesStabilises) (unfolds : TextsUnfold) (start : InputsStart) (le
       let y = has_yes law unfolds start program network i reads rounds said in
       let field : ℕ → LocalValue = y.stabilises.one.field in
       let are : AreCostsOf i.0 i.1.net h.costs = record { terms = w; form = form; costs = h.are } in
+      let lowest : (d : ℕ) → Lives i.1.net d → IsLeastAt h.costs d (field d) =
+      at_program law unfolds start program network i reads (IsLeast i.1.net rounds h.costs field)
+      (λ P is good a b c. least P i.1.net rounds h.costs field is good.net good.declared a b c)
+      said are y.stabilises.one.solves in
       record {
         yes = y;
         costs = h.costs;
         are = are;
         claim = h.claim;
         traced = h.traced;
-        least = at_program law unfolds start program network i reads (IsLeast i.1.net rounds h.costs field)
-            (λ P is good a b c. least P i.1.net rounds h.costs field is good.net good.declared a b c)
-            said are y.stabilises.one.solves;
+        least = lowest;
+        values = traced_values one i.1.net h.costs field lowest i.0 w h.are h.claim h.traced;
         writes = ap (λ j. (reply_of j).text) e.is ∙ ap (λ (r : Reply). r.text) h.is;
       }
   trace_by i k e reads (verdict.Yes rounds) said None form h zero =
@@ -466,7 +471,7 @@ module _ (log : MailsKeepYes) (driven : DrivenMailsKeepYes) where
 
 module _ (law : YesStabilises) (unfolds : TextsUnfold) (start : InputsStart) (hold : SettleTimesHold)
     (hold_from : StartTimesHold) (least : SolutionsAreLeast) (run : RunsKeepYes) (agree : AllAgree)
-    (log : MailsKeepYes) (driven : DrivenMailsKeepYes) (good : RunsKeepGood) (cut : RunsCutAtEdit)
+    (one : OneLeastCost) (log : MailsKeepYes) (driven : DrivenMailsKeepYes) (good : RunsKeepGood) (cut : RunsCutAtEdit)
     (show : ReplaysLead) where
   from_keeps : (facts : Bool) (o : Option Start) (input : List ℕ) (j : Judged AnswerValue)
       → OfInput (λ ss k. WithTwo (WritesReply (ChecksFrom facts o)) ss k) input j → IsChecked o (answer_of j).status
@@ -488,7 +493,7 @@ module _ (law : YesStabilises) (unfolds : TextsUnfold) (start : InputsStart) (ho
   quiet_keeps Format input j h zero = tt
   quiet_keeps (Replay o) input j h zero =
       three_input (ShowsReplay o) (ReplaysKept o) (replay_keeps law unfolds start good cut show o) input j h zero
-  quiet_keeps Trace input j h zero = input_keeps Traces TracesYes (trace_keeps law unfolds start least) input j h zero
+  quiet_keeps Trace input j h zero = input_keeps Traces TracesYes (trace_keeps law unfolds start least one) input j h zero
   quiet_keeps (Mail o) input j h zero = mail_keeps log driven o.number input j h zero
 
   pub answers_keep : AnswersKeep

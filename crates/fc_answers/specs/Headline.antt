@@ -2,7 +2,9 @@
 -- makes.
 use Rattle.std.specs.Prelude.{ℕ, Bool, ◌≡◌, ◌≤◌}
 use Rattle.std.specs.Prelude.{◌++◌, List, [], ◌∷◌, length, map, Option, Some, None}
+use Rattle.std.specs.List.{All}
 use Rattle.fc_values.specs.Fields.{Entries}
+use Rattle.fc_values.specs.Values.{IntValue}
 use Rattle.fc_nodes.specs.Program.{Unfolding}
 use Rattle.fc_nodes.specs.declared.verdicts.Verdict.TheVariants as verdict
 use Rattle.topology.specs.Networks.{Network, Lives, numbers}
@@ -106,7 +108,8 @@ pub record SolvesYes (program network text : List ℕ) : Type 0 where
   pub writes : text ≡ field_text (stable_entries program network yes)
 
 -- `trace` writes behind the line of a yes, for each device, the least of the costs of all walks that end in it and the
--- best of these walks, where the costs are those of the program on the network; and the one field has these least costs
+-- best of these walks, where the costs are those of the program on the network. The value of each line is that of the
+-- one field at its device
 pub record TracesYes (program network text : List ℕ) : Type 0 where
   pub yes : HasYes program network
   pub costs : CostsValue
@@ -114,6 +117,7 @@ pub record TracesYes (program network text : List ℕ) : Type 0 where
   pub claim : List EvidenceValue
   pub traced : AreTraced costs claim
   pub least : (d : ℕ) → Lives yes.scene.net d → IsLeastAt costs d (yes.stabilises.one.field d)
+  pub values : All (λ (e : EvidenceValue). yes.stabilises.one.field e.device ≡ IntValue e.value) claim
   pub writes : text ≡ verdict_text (verdict.Yes yes.rounds) ++ walks_text claim
 
 -- `replay` shows a log that leads from the scene to a core. Where the verdict for the network there is a yes for no more

@@ -16,6 +16,7 @@ use firing_core::{runs_cut, steps_keep_good};
 use net_json::accepted_scenes_fit;
 use settle_rounds::{settle_times_hold, start_times_hold};
 use walk_form::solutions_are_least;
+use walks::walks_are_one;
 
 /// Two answers to one input have one status and one text; where threads make the log, one text for logs that agree.
 pub fn one_answer()
@@ -77,6 +78,7 @@ pub fn answers_keep()
     runs_keep_yes();
     all_agree();
     mails_keep_yes();
+    walks_are_one();
     replays_lead();
     steps_keep_good();
     runs_cut();
