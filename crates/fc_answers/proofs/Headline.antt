@@ -31,9 +31,15 @@ use Rattle.fc_settle.specs.Settles.{Settles, SettlesScene, StartsFrom, settling_
 use Rattle.settle_rounds.specs.Rounds.{any_table}
 use Rattle.settle_rounds.specs.SettleTimes.{SettlesWell, SettleTimesHold}
 use Rattle.settle_rounds.specs.StartTimes.{SettlesFrom, StartTimesHold}
-use Rattle.firing_core.specs.Cores.{IsGood}
-use Rattle.fc_replay.specs.Laws.{InputsStart}
-use Rattle.fc_replay.specs.Replays.{start_of}
+use Rattle.firing_core.specs.Cores.{Core, IsGood, Run}
+use Rattle.firing_core.specs.Entries.{EntryValue}
+use Rattle.firing_core.specs.Laws.{RunsCutAtEdit, RunsKeepGood}
+use Rattle.firing_core.specs.Rounds.{HasRounds, after_edit}
+use Rattle.converge_laws.specs.Verdicts.{IsSettled}
+use Rattle.session.proofs.EditsInLogs.{fewer}
+use Rattle.fc_replay.specs.Laws.{InputsStart, ReplaysLead}
+use Rattle.fc_replay.specs.Replays.{Replays, Shown, start_of}
+use Rattle.fc_replay.specs.Stopping.{entries_in}
 use Rattle.interval_facts.specs.Ranges.{ranges_of}
 use Rattle.interval_facts.specs.Solutions.{SolvesMain}
 use Rattle.fc_values.specs.Types.{LocalValue}
@@ -49,18 +55,20 @@ use Rattle.fc_run.specs.Laws.{RunsKeepYes}
 use Rattle.fc_run.specs.Runs.{RanValue, Runs}
 use Rattle.fc_answers.specs.Asked.{limit_refusal}
 use Rattle.fc_answers.specs.Answers.{AnswerValue, AnswersMail, AnswersSections, AnswersWithin, AnswersWork, ChecksFrom, OfInput, OfLength}
-use Rattle.fc_answers.specs.Answers.{ShowsRun, Works, WritesLogReply, WritesReply, answer_of, replied, running}
+use Rattle.fc_answers.specs.Answers.{ShowsReplay, ShowsRun, Works, WritesLogReply, WritesReply, answer_of, replied, running, showing}
 use Rattle.fc_answers.specs.Headline.{AnswersKeep, CheckPromises, ChecksYes, HasYes, IsAnswered, IsChecked, KeepsYes, MailPromises}
 use Rattle.fc_answers.specs.Headline.{OfThree, OfTwo, WorkIsKept, WorkPromises}
-use Rattle.fc_answers.specs.Headline.{Promises, RunsKept, SettlesKept, SolvesYes, StartKept, TracesYes, stable_entries}
+use Rattle.fc_answers.specs.Headline.{Promises, ReplaysKept, RunsKept, SettlesKept, SolvesYes, StartKept, TracesYes, stable_entries}
 use Rattle.stable_field.proofs.OneField.{one_field}
 use Rattle.fc_trace.specs.Traces.{TracedBy, Traces, TracesScene}
 use Rattle.walks.specs.Walks.{CostsValue}
 use Rattle.walk_form.specs.Costs.{AreCostsOf}
 use Rattle.walk_form.specs.Forms.{WalkTerms, walk_terms}
 use Rattle.walk_form.specs.Laws.{IsLeastAt, SolutionsAreLeast}
+use Rattle.walks.specs.Laws.{OneLeastCost}
+use Rattle.fc_answers.proofs.Traced.{traced_values}
 use Rattle.fc_answers.proofs.Statuses.{CauseJudges, IfRefused, RefusesBy, driven_replies, input_causes, mail_replies}
-use Rattle.fc_answers.proofs.Statuses.{run_causes}
+use Rattle.fc_answers.proofs.Statuses.{replay_causes, run_causes}
 
 -- what is replied: a reply, or that of a refusal
 abbrev reply_of : Judged Reply → Reply
@@ -157,7 +165,7 @@ module _ (law : YesStabilises) (unfolds : TextsUnfold) (start : InputsStart) (pr
           (refused_keeps SolvesYes program network (reply_to cause) c)
 
 module _ (law : YesStabilises) (unfolds : TextsUnfold) (start : InputsStart) (least : SolutionsAreLeast)
-    (program network : List ℕ) where
+    (one : OneLeastCost) (program network : List ℕ) where
   -- where the verdict is a yes, and these are the costs, a solution has the least of them
   abbrev IsLeast : Network → ℕ → CostsValue → (ℕ → LocalValue) → Unfolding → Type 0
   IsLeast N k C F U =
@@ -179,15 +187,18 @@ module _ (law : YesStabilises) (unfolds : TextsUnfold) (start : InputsStart) (le
       let y = has_yes law unfolds start program network i reads rounds said in
       let field : ℕ → LocalValue = y.stabilises.one.field in
       let are : AreCostsOf i.0 i.1.net h.costs = record { terms = w; form = form; costs = h.are } in
+      let lowest : (d : ℕ) → Lives i.1.net d → IsLeastAt h.costs d (field d) =
+      at_program law unfolds start program network i reads (IsLeast i.1.net rounds h.costs field)
+      (λ P is good a b c. least P i.1.net rounds h.costs field is good.net good.declared a b c)
+      said are y.stabilises.one.solves in
       record {
         yes = y;
         costs = h.costs;
         are = are;
         claim = h.claim;
         traced = h.traced;
-        least = at_program law unfolds start program network i reads (IsLeast i.1.net rounds h.costs field)
-            (λ P is good a b c. least P i.1.net rounds h.costs field is good.net good.declared a b c)
-            said are y.stabilises.one.solves;
+        least = lowest;
+        values = traced_values one i.1.net h.costs field lowest i.0 w h.are h.claim h.traced;
         writes = ap (λ j. (reply_of j).text) e.is ∙ ap (λ (r : Reply). r.text) h.is;
       }
   trace_by i k e reads (verdict.Yes rounds) said None form h zero =
@@ -346,6 +357,47 @@ module _ (Shows : List ℕ → List ℕ → List ℕ → Judged AnswerValue → 
       by_length true e = refused_zero j (Plainly Bytes) e (omega arith) zero
       by_length false k = three_keep (sections_of input) j k zero
 
+-- ---- replays
+module _ (law : YesStabilises) (unfolds : TextsUnfold) (start : InputsStart) (good : RunsKeepGood) (cut : RunsCutAtEdit)
+    (show : ReplaysLead) (options : ReplayOptions) where
+  -- where the verdict after a run is a yes, and the part after the last edit has its rounds, the values are the field's
+  settled : (P : Program) → IsProgram P → (c last : Core) → IsGood (unfolding_of P) c → (log : List EntryValue)
+      → Run (unfolding_of P) c log last → (k : ℕ)
+      → verdict_of (unfolding_of P) (length last.net.devices) ≡ verdict.Yes k
+      → HasRounds (numbers last.net.devices) (after_edit log) k → IsSettled (unfolding_of P) last
+  settled P is c last fits log run k said has =
+      let two = cut (unfolding_of P) c last log run in
+      let there = good P c two.middle two.front is fits two.first in
+      let end = good P c last log is fits run in
+      let s = law P last.net k is end.net end.declared said in
+      record { one = s.one; values = λ d l. s.reached two.middle last (after_edit log) there (sym two.net) two.second has d l }
+
+  replay_keeps : (program network log : List ℕ) (j : Judged AnswerValue)
+      → ShowsReplay options program network log j → (answer_of j).status ≡ 0
+      → ReplaysKept options program network log (answer_of j)
+  replay_keeps program network log j h zero = by_judged h.judged h.replays h.shows
+    where
+      by_judged : (k : Judged Shown) → Replays options program network log k → j ≡ judged_map showing k
+          → ReplaysKept options program network log (answer_of j)
+      by_judged (Accepted shown) replays e =
+          let led = show options program network log shown replays in
+          let last = led.last in
+          let log = entries_in led.entries in
+          record {
+            shown = shown;
+            shows = ap answer_of e;
+            led = led;
+            holds = λ k rounds said counted few.
+                at_program law unfolds start program network (led.unfolded, led.scene) led.reads
+                (λ U. Run U (start_of led.scene) log last → verdict_of U (length last.net.devices) ≡ verdict.Yes k
+                → IsSettled U last)
+                (λ P is fits run said. settled P is (start_of led.scene) last fits log run k said
+                (fewer (numbers last.net.devices) (after_edit log) rounds k few counted.has))
+                led.leads said;
+          }
+      by_judged (Refused cause) replays e =
+          refused_zero j cause e (replay_causes options program network log (Refused cause) replays).many zero
+
 -- ---- runs
 module _ (run : RunsKeepYes) (options : RunOptions) where
   shows_keep : (program network script : List ℕ) (j : Judged AnswerValue) → ShowsRun options program network script j
@@ -419,7 +471,8 @@ module _ (log : MailsKeepYes) (driven : DrivenMailsKeepYes) where
 
 module _ (law : YesStabilises) (unfolds : TextsUnfold) (start : InputsStart) (hold : SettleTimesHold)
     (hold_from : StartTimesHold) (least : SolutionsAreLeast) (run : RunsKeepYes) (agree : AllAgree)
-    (log : MailsKeepYes) (driven : DrivenMailsKeepYes) where
+    (one : OneLeastCost) (log : MailsKeepYes) (driven : DrivenMailsKeepYes) (good : RunsKeepGood) (cut : RunsCutAtEdit)
+    (show : ReplaysLead) where
   from_keeps : (facts : Bool) (o : Option Start) (input : List ℕ) (j : Judged AnswerValue)
       → OfInput (λ ss k. WithTwo (WritesReply (ChecksFrom facts o)) ss k) input j → IsChecked o (answer_of j).status
       → OfTwo (λ program network. CheckPromises facts o program network (answer_of j)) (sections_of input)
@@ -438,8 +491,9 @@ module _ (law : YesStabilises) (unfolds : TextsUnfold) (start : InputsStart) (ho
   quiet_keeps (Check o) input j h low = from_keeps o.facts o.settle input j h low
   quiet_keeps Stable input j h zero = input_keeps Stabilised SolvesYes (stable_keeps law unfolds start) input j h zero
   quiet_keeps Format input j h zero = tt
-  quiet_keeps (Replay o) input j h zero = tt
-  quiet_keeps Trace input j h zero = input_keeps Traces TracesYes (trace_keeps law unfolds start least) input j h zero
+  quiet_keeps (Replay o) input j h zero =
+      three_input (ShowsReplay o) (ReplaysKept o) (replay_keeps law unfolds start good cut show o) input j h zero
+  quiet_keeps Trace input j h zero = input_keeps Traces TracesYes (trace_keeps law unfolds start least one) input j h zero
   quiet_keeps (Mail o) input j h zero = mail_keeps log driven o.number input j h zero
 
   pub answers_keep : AnswersKeep

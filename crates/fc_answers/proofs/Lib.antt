@@ -3,5 +3,6 @@ mod StableReplies
 mod Statuses
 mod OneAnswer
 mod SomeAnswer
+mod Traced
 mod Headline
 mod Answering

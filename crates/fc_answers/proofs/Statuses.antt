@@ -173,7 +173,7 @@ log_causes o U start (AllLines lines) j h = by_stop (first_stop U start h.log) h
     by_stop (Some stop) e = subst (IfRefused CauseJudges) (sym e) (log_judges stop.0 stop.1)
     by_stop None b = subst (IfRefused CauseJudges) (sym b.is) tt
 
-replay_causes : (o : ReplayOptions) (program network log : List ℕ) (j : Judged Shown) → Replays o program network log j
+pub replay_causes : (o : ReplayOptions) (program network log : List ℕ) (j : Judged Shown) → Replays o program network log j
     → IfRefused CauseJudges j
 replay_causes o program network log j h = by_input h.judged (input_causes program network h.judged h.reads) h.ends
   where

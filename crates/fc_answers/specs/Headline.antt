@@ -2,7 +2,9 @@
 -- makes.
 use Rattle.std.specs.Prelude.{ℕ, Bool, ◌≡◌, ◌≤◌}
 use Rattle.std.specs.Prelude.{◌++◌, List, [], ◌∷◌, length, map, Option, Some, None}
+use Rattle.std.specs.List.{All}
 use Rattle.fc_values.specs.Fields.{Entries}
+use Rattle.fc_values.specs.Values.{IntValue}
 use Rattle.fc_nodes.specs.Program.{Unfolding}
 use Rattle.fc_nodes.specs.declared.verdicts.Verdict.TheVariants as verdict
 use Rattle.topology.specs.Networks.{Network, Lives, numbers}
@@ -10,7 +12,9 @@ use Rattle.walks.specs.Walks.{AreTraced, CostsValue, EvidenceValue}
 use Rattle.walk_form.specs.Costs.{AreCostsOf}
 use Rattle.walk_form.specs.Laws.{IsLeastAt}
 use Rattle.fragment_check.specs.Verdicts.{verdict_of}
+use Rattle.round_count.specs.Laws.{IsGreatest}
 use Rattle.converge_laws.specs.Stabilising.{Stabilises}
+use Rattle.converge_laws.specs.Verdicts.{IsSettled}
 use Rattle.net_json.specs.Scenes.{SceneValue}
 use Rattle.bound_rounds.specs.Rounds.{BoundTable}
 use Rattle.settle_rounds.specs.Rounds.{any_table}
@@ -24,6 +28,7 @@ use Rattle.command_words.specs.declared.commands.Command.{Command}
 use Rattle.command_words.specs.declared.commands.Command.TheVariants as command
 use Rattle.command_words.specs.declared.commands.Quiet.{Quiet}
 use Rattle.command_words.specs.declared.commands.Quiet.TheVariants.{Check, Stable, Replay, Format, Trace, Mail}
+use Rattle.command_words.specs.declared.commands.ReplayOptions.{ReplayOptions}
 use Rattle.command_words.specs.declared.commands.RunOptions.{RunOptions}
 use Rattle.command_words.specs.declared.commands.Start.{Start}
 use Rattle.command_words.specs.declared.commands.Start.TheVariants.{Any, Table}
@@ -37,10 +42,12 @@ use Rattle.fc_inputs.specs.Inputs.{ReadsInput}
 use Rattle.fc_inputs.specs.Sections.{sections_of}
 use Rattle.fc_gen.specs.Laws.{Agrees}
 use Rattle.fc_mail.specs.Laws.{DrivenMailKeepsYes, MailKeepsYes}
-use Rattle.fc_replay.specs.Replays.{start_of}
+use Rattle.fc_replay.specs.Laws.{LogLeads}
+use Rattle.fc_replay.specs.Replays.{Shown, start_of}
+use Rattle.fc_replay.specs.Stopping.{entries_in}
 use Rattle.fc_run.specs.Laws.{RunKeepsYes}
 use Rattle.fc_run.specs.Runs.{RanValue}
-use Rattle.fc_answers.specs.Answers.{AnswerValue, Answers, running}
+use Rattle.fc_answers.specs.Answers.{AnswerValue, Answers, running, showing}
 
 -- The texts of a program and a scene, on which the verdict is a yes for so many rounds: exactly one field solves the
 -- program on the scene's network, and from every good core each log without an edit that has so many rounds leads to
@@ -101,7 +108,8 @@ pub record SolvesYes (program network text : List ℕ) : Type 0 where
   pub writes : text ≡ field_text (stable_entries program network yes)
 
 -- `trace` writes behind the line of a yes, for each device, the least of the costs of all walks that end in it and the
--- best of these walks, where the costs are those of the program on the network; and the one field has these least costs
+-- best of these walks, where the costs are those of the program on the network. The value of each line is that of the
+-- one field at its device
 pub record TracesYes (program network text : List ℕ) : Type 0 where
   pub yes : HasYes program network
   pub costs : CostsValue
@@ -109,7 +117,19 @@ pub record TracesYes (program network text : List ℕ) : Type 0 where
   pub claim : List EvidenceValue
   pub traced : AreTraced costs claim
   pub least : (d : ℕ) → Lives yes.scene.net d → IsLeastAt costs d (yes.stabilises.one.field d)
+  pub values : All (λ (e : EvidenceValue). yes.stabilises.one.field e.device ≡ IntValue e.value) claim
   pub writes : text ≡ verdict_text (verdict.Yes yes.rounds) ++ walks_text claim
+
+-- `replay` shows a log that leads from the scene to a core. Where the verdict for the network there is a yes for no more
+-- rounds than the log has behind its last edit, which `--rounds` writes, each device holds its value of the one field
+-- that solves the program there
+pub record ReplaysKept (options : ReplayOptions) (program network log : List ℕ) (answer : AnswerValue) : Type 0 where
+  pub shown : Shown
+  pub shows : answer ≡ showing shown
+  pub led : LogLeads options program network log shown
+  pub holds : (k rounds : ℕ) → verdict_of led.unfolded (length led.last.net.devices) ≡ verdict.Yes k
+      → IsGreatest (numbers led.last.net.devices) (entries_in led.entries) rounds → k ≤ rounds
+      → IsSettled led.unfolded led.last
 
 -- `run` shows a script run, which keeps a yes: before each line, where the last verdict written is a yes, the program
 -- stabilises on the network then, and where the parts since the last edit have as many rounds, a `show` writes the one
@@ -163,7 +183,8 @@ Promises (Check options) sections answer =
     OfTwo (λ program network. CheckPromises options.facts options.settle program network answer) sections
 Promises Stable sections answer = OfTwo (λ program network. SolvesYes program network answer.text) sections
 Promises Format sections answer = Unit {0}
-Promises (Replay options) sections answer = Unit {0}
+Promises (Replay options) sections answer =
+    OfThree (λ program network log. ReplaysKept options program network log answer) sections
 Promises Trace sections answer = OfTwo (λ program network. TracesYes program network answer.text) sections
 Promises (Mail options) sections answer = MailPromises options.number sections answer
 

@@ -8,13 +8,15 @@ use fc_check::{one_check, some_check};
 use fc_gen::{all_agree, one_gen, some_gen};
 use fc_inputs::{one_input, one_source, sections_are_within, texts_unfold};
 use fc_mail::{mails_keep_yes, one_mail, some_mail};
-use fc_replay::{inputs_start, one_replay, some_replay};
+use fc_replay::{inputs_start, one_replay, replays_lead, some_replay};
 use fc_run::{one_run, runs_keep_yes, some_run};
 use fc_settle::{one_settle, some_settle};
 use fc_trace::{one_traced, some_traced};
+use firing_core::{runs_cut, steps_keep_good};
 use net_json::accepted_scenes_fit;
 use settle_rounds::{settle_times_hold, start_times_hold};
 use walk_form::solutions_are_least;
+use walks::walks_are_one;
 
 /// Two answers to one input have one status and one text; where threads make the log, one text for logs that agree.
 pub fn one_answer()
@@ -62,8 +64,8 @@ pub fn answer_statuses()
 /// after as many rounds is its one field there. The settle rounds and the settle time that `check --settle` writes lead
 /// every device on the scene's network to the values that stand beside them, also of a network that is open, from every
 /// good start; those that `check --settle --from-table` writes do so from the start of the scene. `gen` writes that
-/// each device agrees with the one field of its scenario. The values that `mail` writes of a log with as many rounds are
-/// the one field too, and so are those to which the log of a number leads.
+/// each device agrees with the one field of its scenario. The values that `replay` and `mail` write of a log with as
+/// many rounds are the one field too, and so are those to which the log of a number leads.
 pub fn answers_keep()
     ensures { AnswersKeep }
 {
@@ -76,6 +78,10 @@ pub fn answers_keep()
     runs_keep_yes();
     all_agree();
     mails_keep_yes();
+    walks_are_one();
+    replays_lead();
+    steps_keep_good();
+    runs_cut();
 }
 
 /// Each limit of the code is the number of the definitions.

@@ -7,4 +7,5 @@ pub mod Resuming
 pub mod Rereading
 pub mod OneReplay
 pub mod SomeReplay
+mod Leading
 pub mod AskedRounds

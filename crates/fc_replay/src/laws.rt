@@ -1,6 +1,6 @@
 //! Laws of the definitions.
 
-ghost use Rattle.fc_replay.specs.Laws.{InputsStart, OneReplay, SomeReplay};
+ghost use Rattle.fc_replay.specs.Laws.{InputsStart, OneReplay, ReplaysLead, SomeReplay};
 ghost use Rattle.fc_replay.specs.Resuming.{TablesResume};
 ghost use Rattle.fc_replay.specs.WrittenLogs.{WrittenLogsReplay};
 
@@ -32,6 +32,16 @@ pub fn some_replay()
     steps_keep_good();
     some_greatest();
     logs_have_entries();
+}
+
+/// What `replay` shows is a log that leads from the scene to a core, and the values of this core.
+pub fn replays_lead()
+    ensures { ReplaysLead }
+{
+    inputs_start();
+    readings_agree();
+    logs_have_entries();
+    steps_agree();
 }
 
 /// A table that `replay` has written, given back as the table of a scene of the same network, is read to the same rows,

@@ -1,0 +1,65 @@
+-- The value of each line of `trace` is that of the field.
+use Rattle.std.proofs.Common.{ℕ, ◌≡◌, List, [], ◌∷◌, map, refl, ap, ◌∙◌, sym, subst, true}
+use Rattle.std.specs.List.{All}
+use Rattle.fc_values.specs.Fields.{is_in}
+use Rattle.fc_values.specs.Values.{LocalValue, IntValue}
+use Rattle.fc_values.proofs.Booleans.{or_true}
+use Rattle.std.specs.Prelude.{nat_eq}
+use Rattle.std.proofs.lemmas.Bool.Decides.{nat_tests}
+use Rattle.fc_nodes.specs.Program.{Unfolding}
+use Rattle.topology.specs.Networks.{Network, Lives, numbers}
+use Rattle.walks.specs.Laws.{OneLeastCost}
+use Rattle.walks.specs.Walks.{CostsValue, EvidenceValue, AreTraced, IsLeastCost}
+use Rattle.walk_form.specs.Costs.{AreCostsFor}
+use Rattle.walk_form.specs.Fields.{as_integer}
+use Rattle.walk_form.specs.Forms.{WalkTerms}
+use Rattle.walk_form.specs.Laws.{IsLeastAt}
+
+firsts : (f : ℕ → LocalValue) (xs : List (ℕ × ℕ)) (ns : List ℕ)
+    → map as_integer xs ≡ map (λ (n : ℕ). (n, f n)) ns → map (λ (x : ℕ × ℕ). x.0) xs ≡ ns
+firsts f [] [] e = refl
+firsts f [] (n ∷ ns) e = absurd cc
+firsts f (x ∷ xs) [] e = absurd cc
+firsts f (x ∷ xs) (n ∷ ns) e =
+    let head : as_integer x ≡ (n, f n) = cc in
+    let tail : map as_integer xs ≡ map (λ (m : ℕ). (m, f m)) ns = cc in
+    let first : x.0 ≡ n = ap (λ (p : ℕ × LocalValue). p.0) head in
+    let rest = firsts f xs ns tail in
+    cc
+
+-- the costs of a network have its devices
+devices_of : (U : Unfolding) (N : Network) (w : WalkTerms) (C : CostsValue) → AreCostsFor U N w C
+    → map (λ (d : ℕ × ℕ). d.0) C.start ≡ numbers N.devices
+devices_of U N w C are =
+    ap (λ (c : CostsValue). map (λ (d : ℕ × ℕ). d.0) c.start) are.is
+    ∙ firsts are.starts.one.field are.start (numbers N.devices) are.starts.values
+
+module _ (one : OneLeastCost) (N : Network) (C : CostsValue) (F : ℕ → LocalValue)
+    (least : (d : ℕ) → Lives N d → IsLeastAt C d (F d)) where
+  abbrev IsLine : EvidenceValue → Type 0
+  IsLine e = F e.device ≡ IntValue e.value
+
+  line : (e : EvidenceValue) → Lives N e.device → IsLeastCost C e.device e.value → IsLine e
+  line e lives cost =
+      let l = least e.device lives in
+      l.value ∙ ap IntValue (one C e.device l.cost e.value l.least cost)
+
+  here : (d : ℕ) (ds : List ℕ) → is_in d (d ∷ ds) ≡ true
+  here d ds = grind nat_tests
+
+  lines : (ds : List ℕ) → ((d : ℕ) → is_in d ds ≡ true → Lives N d) → (es : List EvidenceValue)
+      → map (λ (e : EvidenceValue). e.device) es ≡ ds
+      → All (λ (e : EvidenceValue). IsLeastCost C e.device e.value) es → All IsLine es
+  lines ds live [] same costs = tt
+  lines [] live (e ∷ es) same costs = absurd cc
+  lines (d ∷ ds) live (e ∷ es) same costs =
+      let head : d ≡ e.device = cc in
+      let tail : map (λ (e : EvidenceValue). e.device) es ≡ ds = cc in (
+        line e (subst (Lives N) head (live d (here d ds))) costs.0,
+        lines ds (λ x i. live x (or_true (nat_eq x d) (is_in x ds) i)) es tail costs.1,
+      )
+
+  pub traced_values : (U : Unfolding) (w : WalkTerms) → AreCostsFor U N w C → (es : List EvidenceValue)
+      → AreTraced C es → All IsLine es
+  traced_values U w are es traced =
+      lines (numbers N.devices) (λ d i. i) es (traced.devices ∙ devices_of U N w C are) traced.least

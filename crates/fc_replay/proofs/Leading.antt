@@ -1,0 +1,104 @@
+-- What is shown is a run.
+use Rattle.std.proofs.Common.{ℕ, ◌≡◌, List, [], ◌∷◌, refl, ap, ◌∙◌, sym, subst, Option, Some, None}
+use Rattle.fc_nodes.specs.Program.{Unfolding}
+use Rattle.firing_core.specs.Cores.{Core, EditFits, IsGood, Run}
+use Rattle.firing_core.specs.Entries.{EditValue, LinkEdit, UnlinkEdit, SetEdit, PokeEdit, JoinEdit, LeaveEdit, EntryValue, BeginEntry, EndEntry, IdleEntry, EditEntry}
+use Rattle.firing_core.specs.Laws.{RunsAgree}
+use Rattle.firing_core.specs.Replays.{EntryFits, LogFits}
+use Rattle.net_json.specs.Scenes.{SceneValue}
+use Rattle.edit_commands.specs.declared.types.Fault.{Fault}
+use Rattle.edit_commands.specs.Agreement.{SameEdit, SameEntry, SameEntries, ReadingsAgree}
+use Rattle.edit_commands.specs.LineByLine.{Lines, AllLines, StopsAt, SaidBy}
+use Rattle.edit_commands.specs.LogEntries.{LogsHaveEntries}
+use Rattle.edit_commands.specs.Logs.{LogLine, log_of, IsEntry}
+use Rattle.fc_inputs.specs.declared.refusal.LineFault.{LineFault}
+use Rattle.fc_inputs.specs.Causes.{Judged, Accepted, Refused, AndThen}
+use Rattle.fc_inputs.specs.Inputs.{InputOf, ReadsInput}
+use Rattle.command_words.specs.declared.commands.ReplayOptions.{ReplayOptions}
+use Rattle.fc_replay.specs.Laws.{InputsStart, ReplaysLead, LogLeads}
+use Rattle.fc_replay.specs.Replays.{Replays, ReplaysEntries, ReplaysLog, Shown, ShowsBook, book_of, start_of}
+use Rattle.fc_replay.specs.Stopping.{Logged, entries_in, first_stop}
+
+-- ---- an entry fits where the same one does
+same_edit_fits : (U : Unfolding) (e f : EditValue) → SameEdit U e f → EditFits U f → EditFits U e
+same_edit_fits U (LinkEdit a b w) f s h = tt
+same_edit_fits U (UnlinkEdit a b) f s h = tt
+same_edit_fits U (SetEdit d i v) f s h = tt
+same_edit_fits U (PokeEdit d x) (PokeEdit e y) s h = s.1.first
+same_edit_fits U (PokeEdit d x) (LinkEdit a b w) s h = absurd s
+same_edit_fits U (PokeEdit d x) (UnlinkEdit a b) s h = absurd s
+same_edit_fits U (PokeEdit d x) (SetEdit e i v) s h = absurd s
+same_edit_fits U (PokeEdit d x) (JoinEdit y) s h = absurd s
+same_edit_fits U (PokeEdit d x) (LeaveEdit e) s h = absurd s
+same_edit_fits U (JoinEdit x) f s h = subst (EditFits U) s h
+same_edit_fits U (LeaveEdit d) f s h = tt
+
+same_entry_fits : (U : Unfolding) (e f : EntryValue) → SameEntry U e f → EntryFits U f → EntryFits U e
+same_entry_fits U (BeginEntry d) f s h = tt
+same_entry_fits U (EndEntry d) f s h = tt
+same_entry_fits U IdleEntry f s h = tt
+same_entry_fits U (EditEntry e) (EditEntry f) s h = same_edit_fits U e f s h
+same_entry_fits U (EditEntry e) (BeginEntry d) s h = absurd s
+same_entry_fits U (EditEntry e) (EndEntry d) s h = absurd s
+same_entry_fits U (EditEntry e) IdleEntry s h = absurd s
+
+same_log_fits : (U : Unfolding) (es fs : List EntryValue) → SameEntries U es fs → LogFits U fs → LogFits U es
+same_log_fits U [] [] s h = tt
+same_log_fits U [] (f ∷ fs) s h = absurd s
+same_log_fits U (e ∷ es) [] s h = absurd s
+same_log_fits U (e ∷ es) (f ∷ fs) s h = (same_entry_fits U e f s.0 h.0, same_log_fits U es fs s.1 h.1)
+
+-- ---- a replay that is shown
+one_shown : (a b : Shown) → Accepted a ≡ Accepted b → a ≡ b
+one_shown a b e = cc
+
+module _ (start : InputsStart) (readings : ReadingsAgree) (have : LogsHaveEntries) (agree : RunsAgree)
+    (options : ReplayOptions) (program network log : List ℕ) (shown : Shown) where
+  by_book : (i : InputOf) → ReadsInput program network (Accepted i) → (ls : List (ℕ × LogLine))
+      → log_of i.0 i.1.net log ≡ AllLines ls → (es : List Logged)
+      → SaidBy (IsEntry i.0) es (AllLines ls) → ShowsBook options i.0 (start_of i.1) (entries_in es) (Accepted shown)
+      → LogLeads options program network log shown
+  by_book i reads ls lines es said h =
+      let some = have i.0 i.1.net log ls lines in
+      let said_here = subst (SaidBy (IsEntry i.0) es) (sym lines) said in
+      let same = (readings i.0 i.1.net log es some.entries said_here some.log).1 in
+      let fits = same_log_fits i.0 (entries_in es) (entries_in some.entries) same some.fits in
+      let is = one_shown shown _ h.is in
+      record {
+        unfolded = i.0;
+        scene = i.1;
+        reads = reads;
+        entries = es;
+        said = said_here;
+        last = h.core;
+        leads = (agree i.0 (start_of i.1) h.core (entries_in es) (start program network i reads).good fits).1 h.leads;
+        is = ap (λ (s : Shown). s.book) is;
+        says = rw is h.says;
+      }
+
+  by_stop : (i : InputOf) → ReadsInput program network (Accepted i) → (ls : List (ℕ × LogLine))
+      → log_of i.0 i.1.net log ≡ AllLines ls → (es : List Logged) → SaidBy (IsEntry i.0) es (AllLines ls)
+      → (o : Option (ℕ × LineFault)) → ReplaysEntries options i.0 (start_of i.1) es o (Accepted shown)
+      → LogLeads options program network log shown
+  by_stop i reads ls lines es said (Some stop) h = absurd cc
+  by_stop i reads ls lines es said None h = by_book i reads ls lines es said h
+
+  by_lines : (i : InputOf) → ReadsInput program network (Accepted i) → (lines : Lines Fault LogLine)
+      → log_of i.0 i.1.net log ≡ lines → ReplaysLog options i.0 (start_of i.1) lines (Accepted shown)
+      → LogLeads options program network log shown
+  by_lines i reads (StopsAt at fault) e h = absurd cc
+  by_lines i reads (AllLines ls) e h =
+      by_stop i reads ls e h.log h.are (first_stop i.0 (start_of i.1) h.log) h.ends
+
+  shows : Replays options program network log (Accepted shown) → LogLeads options program network log shown
+  shows h = by_input h.judged h.reads h.ends
+    where
+      by_input : (q : Judged InputOf) → ReadsInput program network q
+          → AndThen q (λ i k. ReplaysLog options i.0 (start_of i.1) (log_of i.0 i.1.net log) k) (Accepted shown)
+          → LogLeads options program network log shown
+      by_input (Refused cause) r e = absurd cc
+      by_input (Accepted i) r e = by_lines i r (log_of i.0 i.1.net log) refl e
+
+pub replays_lead : InputsStart → ReadingsAgree → LogsHaveEntries → RunsAgree → ReplaysLead
+replays_lead start readings have agree options program network log shown h =
+    shows start readings have agree options program network log shown h
