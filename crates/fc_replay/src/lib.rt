@@ -6,7 +6,9 @@ mod logs;
 mod replays;
 mod texts;
 
-pub use laws::{inputs_start, one_replay, replays_lead, some_replay, tables_resume, written_logs_replay};
+pub use laws::{
+    inputs_start, one_replay, replays_lead, some_replay, tables_resume, written_logs_replay,
+};
 pub use logs::fault_in;
 pub use replays::{replay, start};
 pub use texts::table_text;
