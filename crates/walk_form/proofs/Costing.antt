@@ -85,7 +85,7 @@ module _ (analyses : YesAnalyses) (one_law : SolutionsAreOne) (P : Program) (N :
   U = unfolding_of P
 
   abbrev A : Analysis
-  A = analysis_of P (length N.devices)
+  A = analysis_of U (length N.devices)
 
   abbrev M : ℕ
   M = N.declared.ceiling
@@ -93,7 +93,7 @@ module _ (analyses : YesAnalyses) (one_law : SolutionsAreOne) (P : Program) (N :
   abbrev D : Devices
   D = lives N
 
-  analysis : IsAnalysis P A N
+  analysis : IsAnalysis U A N
   analysis = (analyses P N k is net same agreed).analysis
 
   abbrev G : Gradient P A M w

@@ -168,7 +168,7 @@ module _ (analyses : YesAnalyses) (P : Program) (N : Network) (k : ℕ) (is : Is
   U = unfolding_of P
 
   abbrev A : Analysis
-  A = analysis_of P (length N.devices)
+  A = analysis_of U (length N.devices)
 
   abbrev M : ℕ
   M = N.declared.ceiling

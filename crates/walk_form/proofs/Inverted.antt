@@ -9,10 +9,10 @@ use Rattle.fc_nodes.specs.declared.verdicts.Reason.{Reason}
 use Rattle.fc_nodes.specs.Terms.{Literal, Variable, Sense, Uid, NbrLink, ByRep, ByShare, Term, Terms, Plain, Apply, Nbr, Evolve, If, Let, NoMore, More, type_of, size}
 use Rattle.fc_nodes.specs.Variables.{is_heard}
 use Rattle.fc_nodes.specs.Program.{Unfolding}
-use Rattle.interval_facts.specs.Ranges.{range_of}
 use Rattle.fragment_check.specs.declared.kinds.Pattern.{Pattern}
 use Rattle.fragment_check.specs.declared.kinds.Pattern.TheVariants as pattern
-use Rattle.fragment_check.specs.Patterns.{two_of, pattern_of}
+use Rattle.fragment_check.specs.Patterns.{two_of}
+use Rattle.fragment_check.specs.Verdicts.{pattern_at}
 use Rattle.walk_form.specs.Forms.{StepTerm, StepValue, StepWeight, WalkTerms, is_links, added_value, added_term, added_beside, sum_step, with_local, hood_terms, body_terms, root_terms, is_minimising, if_minimising, walk_terms}
 
 -- what a summand adds
@@ -178,11 +178,11 @@ least_of (Err r) e = absurd cc
 
 pub record IsGradient (U : Unfolding) (w : WalkTerms) : Type 0 where
   pub root : IsRoot U.main w
-  pub least : IsLeastOf (pattern_of U.declared.ceiling (range_of U) 0 U.main)
+  pub least : IsLeastOf (pattern_at U 0)
 
 pub gradient : (U : Unfolding) (w : WalkTerms) → walk_terms U ≡ Some w → IsGradient U w
-gradient U w e = by_pattern (is_minimising (pattern_of U.declared.ceiling (range_of U) 0 U.main)) refl e
+gradient U w e = by_pattern (is_minimising (pattern_at U 0)) refl e
   where
-    by_pattern : (c : Bool) → is_minimising (pattern_of U.declared.ceiling (range_of U) 0 U.main) ≡ c → if_minimising c (root_terms U.main) ≡ Some w → IsGradient U w
+    by_pattern : (c : Bool) → is_minimising (pattern_at U 0) ≡ c → if_minimising c (root_terms U.main) ≡ Some w → IsGradient U w
     by_pattern true k e = record { root = root_is U.main w e; least = least_of _ k }
     by_pattern false k e = absurd cc

@@ -265,8 +265,8 @@ body_judged m R a b e = by_result (pattern_of m R 0 (Evolve (TypeLocal IntType) 
 constant_judged : (m : ℕ) (R : ℕ → RangeValue) (a b : Term) → occurs 0 b ≡ false → first_refused (judged m R (suc 0 + size a) b) ≡ None → first_refused (judged m R 0 (Evolve (TypeLocal IntType) ByRep a b)) ≡ None
 constant_judged m R a b o e = rw o e
 
-none_yes : (P : Program) (n : ℕ) → first_refused (judged_of (unfolding_of P)) ≡ None → verdict_of (unfolding_of P) n ≡ verdict.Yes (main_level (unfolding_of P) n)
-none_yes P n e = ap (λ o. verdict_by o (main_level (unfolding_of P) n)) e
+none_yes : (U : Unfolding) (n : ℕ) → first_refused (judged_of U) ≡ None → verdict_of U n ≡ verdict.Yes (main_level U n)
+none_yes U n e = ap (λ o. verdict_by o (main_level U n)) e
 
 yes_none : (o : Option (ℕ × Reason)) (n k : ℕ) → verdict_by o n ≡ verdict.Yes k → o ≡ None
 yes_none None n k e = refl
@@ -297,14 +297,14 @@ module _ (P Q : Program) (declared : Q.declared ≡ P.declared) (a b : Term) (ma
       subst (λ n. SameOn M (range_of U) (range_of W) q n) (as_many P.declared t (bounds U) q)
       (shows_same M (range_of U) (range_of W) (node_ranges P.declared (bounds U) q t) q here_shows there_shows)
 
-  pub alone_yes : (n k l : ℕ) → verdict_of (unfolding_of P) n ≡ verdict.Yes k → verdict_of (unfolding_of Q) l ≡ verdict.Yes (main_level (unfolding_of Q) l)
+  pub alone_yes : (n k l : ℕ) → verdict_of U n ≡ verdict.Yes k → verdict_of W l ≡ verdict.Yes (main_level W l)
   alone_yes n k l agreed =
-      let all = yes_none (first_refused (judged_of (unfolding_of P))) (main_level (unfolding_of P) n) k agreed in
+      let all = yes_none (first_refused (judged_of U)) (main_level U n) k agreed in
       let whole = subst (λ u. first_refused (judged M (range_of U) 0 u) ≡ None) main all in
       let here = judged_under M (range_of U) (suc 0 + size a) b q t stands (body_judged M (range_of U) a b whole) in
       let there = subst (λ js. first_refused js ≡ None) (judged_same M (range_of U) (range_of W) t q ranges_same) here in
       let behind = subst (λ n. first_refused (judged M (range_of W) n t) ≡ None) (sym (filled q low)) there in
       let root = constant_judged M (range_of W) (filler (q - 4)) t free behind in
-      none_yes Q l
+      none_yes W l
       (subst (λ u. first_refused (judged Q.declared.ceiling (range_of W) 0 u) ≡ None) (sym other)
       (subst (λ D. first_refused (judged D.ceiling (range_of W) 0 (alone_term q t)) ≡ None) (sym declared) root))

@@ -192,7 +192,7 @@ pub record Part (P : Program) (A : Analysis) (m q : ℕ) (t : Term) : Type 0 whe
 module _ (analyses : YesAnalyses) (P : Program) (N : Network) (k : ℕ) (is : IsProgram P) (net : IsNetwork N) (same : N.declared ≡ P.declared)
     (agreed : verdict_of (unfolding_of P) (length N.devices) ≡ verdict.Yes k) (w : WalkTerms) (form : walk_terms (unfolding_of P) ≡ Some w) where
   abbrev A : Analysis
-  A = analysis_of P (length N.devices)
+  A = analysis_of (unfolding_of P) (length N.devices)
 
   abbrev M : ℕ
   M = N.declared.ceiling
@@ -234,12 +234,12 @@ module _ (analyses : YesAnalyses) (P : Program) (N : Network) (k : ℕ) (is : Is
       subst (λ n. StepPart n t) v.0 (subst (λ z. StepPart G.added.place z) v.1 (record { part = summand_part; some = G.added.some }))
 
 pub part_part : YesAnalyses → (P : Program) (N : Network) (k : ℕ) (s : Span) → IsProgram P → IsNetwork N → N.declared ≡ P.declared → verdict_of (unfolding_of P) (length N.devices) ≡ verdict.Yes k
-    → IsPart P s → Part P (analysis_of P (length N.devices)) N.declared.ceiling s.from (term_at P.nodes s.from)
+    → IsPart P s → Part P (analysis_of (unfolding_of P) (length N.devices)) N.declared.ceiling s.from (term_at P.nodes s.from)
 part_part analyses P N k s is net same agreed h = let r = part_terms P s h in by_part r.0 r.1 r.2
   where
     by_part : (w : WalkTerms) → walk_terms (unfolding_of P) ≡ Some w → (((w.place ≡ s.from) × (w.local ≡ term_at P.nodes s.from)) ⊎ (w.step ≡ StepValue s.from (term_at P.nodes s.from)))
-        → Part P (analysis_of P (length N.devices)) N.declared.ceiling s.from (term_at P.nodes s.from)
+        → Part P (analysis_of (unfolding_of P) (length N.devices)) N.declared.ceiling s.from (term_at P.nodes s.from)
     by_part w e (inl f) =
-        subst (λ n. Part P (analysis_of P (length N.devices)) N.declared.ceiling n (term_at P.nodes s.from)) f.0
-        (subst (λ z. Part P (analysis_of P (length N.devices)) N.declared.ceiling w.place z) f.1 (local_part analyses P N k is net same agreed w e))
+        subst (λ n. Part P (analysis_of (unfolding_of P) (length N.devices)) N.declared.ceiling n (term_at P.nodes s.from)) f.0
+        (subst (λ z. Part P (analysis_of (unfolding_of P) (length N.devices)) N.declared.ceiling w.place z) f.1 (local_part analyses P N k is net same agreed w e))
     by_part w e (inr f) = (step_part analyses P N k is net same agreed w e s.from (term_at P.nodes s.from) f).part

@@ -29,7 +29,7 @@ module _ (analyses : YesAnalyses) (P Q : Program) (N : Network) (k : ℕ) (s : S
   t = term_at P.nodes s.from
 
   abbrev A : Analysis
-  A = analysis_of P (length N.devices)
+  A = analysis_of (unfolding_of P) (length N.devices)
 
   part_is : Part P A N.declared.ceiling s.from t
   part_is = part_part analyses P N k s is net same agreed part
@@ -43,7 +43,7 @@ module _ (analyses : YesAnalyses) (P Q : Program) (N : Network) (k : ℕ) (s : S
       let y = alone_yes P Q declared h.start h.body h.main s.from t h.stands placed.low h.free main (length N.devices) k (length N.devices) agreed in
       yes_or_no (main_level (unfolding_of Q) (length N.devices)) place why (sym y ∙ e)
 
-  analysis : IsAnalysis P A N
+  analysis : IsAnalysis (unfolding_of P) A N
   analysis = (analyses P N k is net same agreed).analysis
 
   pub field_found : YesStabilises → SolutionsAreOne → (es : Entries) → IsStableField (unfolding_of Q) N es → IsFieldAt N s.from t (integers_in es)

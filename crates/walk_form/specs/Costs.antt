@@ -1,7 +1,7 @@
 -- The costs of walks that a program of the walk form has on a network, and why there are none.
 use Rattle.std.specs.Prelude.{ℕ, ◌≡◌, List, Some, None}
 use Rattle.fc_nodes.specs.declared.verdicts.Verdict.TheVariants as verdict
-use Rattle.fc_nodes.specs.Program.{Program, Unfolding, unfolding_of}
+use Rattle.fc_nodes.specs.Program.{Unfolding}
 use Rattle.topology.specs.Networks.{Network}
 use Rattle.fragment_check.specs.Verdicts.{verdict_of}
 use Rattle.walks.specs.Walks.{CostsValue}
@@ -32,7 +32,7 @@ pub record AreCostsOf (U : Unfolding) (N : Network) (C : CostsValue) : Type 0 wh
 
 -- the verdict for so many devices is this no, or a yes for so many rounds without the walk form; want of memory is
 -- always allowed
-abbrev pub IsCostFault : Program → ℕ → CostFault → Type 0
-IsCostFault P n (fault.Unrecognised place why) = verdict_of (unfolding_of P) n ≡ verdict.No place why
-IsCostFault P n (fault.NotWalks k) = (verdict_of (unfolding_of P) n ≡ verdict.Yes k) × (walk_terms (unfolding_of P) ≡ None)
-IsCostFault P n fault.Memory = Unit {0}
+abbrev pub IsCostFault : Unfolding → ℕ → CostFault → Type 0
+IsCostFault U n (fault.Unrecognised place why) = verdict_of U n ≡ verdict.No place why
+IsCostFault U n (fault.NotWalks k) = (verdict_of U n ≡ verdict.Yes k) × (walk_terms U ≡ None)
+IsCostFault U n fault.Memory = Unit {0}

@@ -9,10 +9,10 @@ use Rattle.fc_nodes.specs.declared.verdicts.Reason.{Reason}
 use Rattle.fc_nodes.specs.Terms.{NbrLink, ByRep, Term, Plain, Apply, Evolve, type_of, size}
 use Rattle.fc_nodes.specs.Program.{Unfolding}
 use Rattle.fc_nodes.specs.Variables.{is_heard}
-use Rattle.interval_facts.specs.Ranges.{range_of}
 use Rattle.fragment_check.specs.declared.kinds.Pattern.{Pattern}
 use Rattle.fragment_check.specs.declared.kinds.Pattern.TheVariants as pattern
-use Rattle.fragment_check.specs.Patterns.{two_of, pattern_of}
+use Rattle.fragment_check.specs.Patterns.{two_of}
+use Rattle.fragment_check.specs.Verdicts.{pattern_at}
 
 -- what a step adds: what a local term, with its place, has at the device to which the step leads; or the weight of the
 -- link
@@ -82,4 +82,4 @@ if_minimising false o = None
 
 -- the terms of the walk form of a program, where it has it
 abbrev pub walk_terms : Unfolding → Option WalkTerms
-walk_terms U = if_minimising (is_minimising (pattern_of U.declared.ceiling (range_of U) 0 U.main)) (root_terms U.main)
+walk_terms U = if_minimising (is_minimising (pattern_at U 0)) (root_terms U.main)

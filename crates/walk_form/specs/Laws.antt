@@ -20,8 +20,8 @@ pub record IsLeastAt (C : CostsValue) (d : ℕ) (v : LocalValue) : Type 0 where
 abbrev pub SolutionsAreLeast : Type 0
 SolutionsAreLeast =
     (P : Program) (N : Network) (k : ℕ) (C : CostsValue) (F : ℕ → LocalValue) → IsProgram P → IsNetwork N
-    → N.declared ≡ P.declared → verdict_of (unfolding_of P) (length N.devices) ≡ verdict.Yes k → AreCostsOf (unfolding_of P) N C
-    → SolvesMain N (unfolding_of P).main F → (d : ℕ) → Lives N d → IsLeastAt C d (F d)
+    → N.declared ≡ P.declared → verdict_of (unfolding_of P) (length N.devices) ≡ verdict.Yes k
+    → AreCostsOf (unfolding_of P) N C → SolvesMain N (unfolding_of P).main F → (d : ℕ) → Lives N d → IsLeastAt C d (F d)
 
 -- where the verdict is a yes, a program of the walk form has costs on each network
 abbrev pub FormsHaveCosts : Type 0

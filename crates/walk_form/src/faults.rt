@@ -7,8 +7,8 @@ use fc_nodes::Reason;
 use fc_values::Memory;
 use std::alloc::{AllocError, AllocFailed};
 
-/// The first place at which the verdict on the program is no, with its reason; a yes for so many rounds without the walk
-/// form; or want of memory.
+/// The first place at which the verdict on the program is no, with its reason; a yes for so many rounds without the
+/// walk form; or want of memory.
 #[derive(Clone, Copy, Debug, PartialEq, Eq)]
 pub enum CostFault {
     Unrecognised { place: u32, reason: Reason },

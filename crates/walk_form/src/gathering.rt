@@ -20,9 +20,9 @@ use std::alloc::Global;
 use topology::{Network, neighbours_are_mutual};
 use walks::{Add, Costs, gather};
 
-/// The rounds of the verdict's yes, and the costs of walks of a program on a network, found from the fields of its local
-/// argument and of what steps add. `Unrecognised` comes exactly where the verdict is a no, with its place and reason, and
-/// `NotWalks` exactly where it is a yes and the program hasn't the walk form, with the rounds.
+/// The rounds of the verdict's yes, and the costs of walks of a program on a network, found from the fields of its
+/// local argument and of what steps add. `Unrecognised` comes exactly where the verdict is a no, with its place and
+/// reason, and `NotWalks` exactly where it is a yes and the program hasn't the walk form, with the rounds.
 pub fn costs(
     alloc: Global,
     analysis: &Analysis<'_>,
@@ -32,7 +32,7 @@ pub fn costs(
     ensures costs { IfOk result (λ c. AreCostsOf (unfolding_of analysis.now) net.now (costs_of c.1)) }
     ensures are { IfOk result (λ c. IsCosts (costs_of c.1)) }
     ensures yes { IfOk result (λ c. verdict_of (unfolding_of analysis.now) (length net.now.devices) ≡ verdict.Yes c.0) }
-    ensures refused { IfErr result (IsCostFault analysis.now (length net.now.devices)) }
+    ensures refused { IfErr result (IsCostFault (unfolding_of analysis.now) (length net.now.devices)) }
 {
     let program = analysis.program();
     let devices = net.devices().len() as u32;

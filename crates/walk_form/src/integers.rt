@@ -1,10 +1,10 @@
 //! The integers of a term's field.
 
-ghost use Rattle.fc_nodes.specs.Program.{unfolding_of};
 ghost use Rattle.std.specs.Prelude.{ℕ, ◌≡◌, IfOk, length, map};
 ghost use Rattle.fc_values.specs.Fields.{entry_of};
 ghost use Rattle.fc_values.specs.Values.{local_of};
 ghost use Rattle.fc_nodes.specs.declared.verdicts.Verdict.TheVariants as verdict;
+ghost use Rattle.fc_nodes.specs.Program.{unfolding_of};
 ghost use Rattle.fc_nodes.specs.Terms.{term_at};
 ghost use Rattle.fragment_check.specs.Verdicts.{verdict_of};
 ghost use Rattle.walk_form.specs.Fields.{IsFieldAt, integer_in, integers_in};
@@ -40,7 +40,7 @@ pub fn integers_at(
     let alone = alone(alloc, program, term)?;
     match stable(alloc, &alone, net) {
         Ok(field) => Ok(integers(alloc, &field)?),
-        Err(StableFault::Unrecognised(_)) => unreachable!(),
+        Err(StableFault::Unrecognised { .. }) => unreachable!(),
         Err(StableFault::Memory) => Err(Memory),
     }
 }

@@ -1,6 +1,7 @@
 use Rattle.std.proofs.Common.{◌∙◌, sym, ap, subst, map, length}
 use Rattle.fc_values.specs.Fields.{entry_of}
 use Rattle.fc_nodes.specs.Terms.{term_at}
+use Rattle.fc_nodes.specs.Program.{unfolding_of}
 use Rattle.stable_field.specs.Stable.{IsFaultOf}
 use Rattle.walk_form.specs.Fields.{IsFieldAt, integers_in}
 use Rattle.walk_form.proofs.Soloing.{recognised, field_found}
@@ -8,9 +9,9 @@ use Rattle.walk_form.proofs.integers.integers_at.Goals as goal
 
 pub unreachable-requires : goal.unreachable-requires
 unreachable-requires c =
-    let r = subst (IsFaultOf c.in_ok-alone.alone (length c.args.net.now.devices)) c.in-Err-Unrecognised.field-0-is c.in-Err-Unrecognised.ensures.refused in
+    let r = subst (IsFaultOf (unfolding_of c.in_ok-alone.alone) (length c.args.net.now.devices)) c.in-Err-Unrecognised.field-0-is c.in-Err-Unrecognised.ensures.refused in
     recognised c.yes_analyses.ensures c.args.program.now c.in_ok-alone.alone c.args.net.now c.requires.yes.0 c.args.term c.declared-program.ensures.program c.declared-network.ensures.network
-    c.requires.declared c.requires.yes.1 c.requires.part c.in_ok-alone.ensures.declared c.in_ok-alone.ensures.main c.in-Err-Unrecognised.field-0-0 r.0 r.1
+    c.requires.declared c.requires.yes.1 c.requires.part c.in_ok-alone.ensures.declared c.in_ok-alone.ensures.main _ _ r
 
 pub returns-in-Ok : goal.returns-in-Ok
 returns-in-Ok c =
