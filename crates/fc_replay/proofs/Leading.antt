@@ -1,14 +1,13 @@
 -- What is shown is a run.
-use Rattle.std.proofs.Common.{ℕ, ◌≡◌, List, [], ◌∷◌, refl, ap, ◌∙◌, sym, subst, Option, Some, None}
+use Rattle.std.proofs.Common.{ℕ, ◌≡◌, List, [], ◌∷◌, refl, ap, sym, subst, Option, Some, None}
 use Rattle.fc_nodes.specs.Program.{Unfolding}
-use Rattle.firing_core.specs.Cores.{Core, EditFits, IsGood, Run}
+use Rattle.firing_core.specs.Cores.{EditFits}
 use Rattle.firing_core.specs.Entries.{EditValue, LinkEdit, UnlinkEdit, SetEdit, PokeEdit, JoinEdit, LeaveEdit, EntryValue, BeginEntry, EndEntry, IdleEntry, EditEntry}
 use Rattle.firing_core.specs.Laws.{RunsAgree}
 use Rattle.firing_core.specs.Replays.{EntryFits, LogFits}
-use Rattle.net_json.specs.Scenes.{SceneValue}
 use Rattle.edit_commands.specs.declared.types.Fault.{Fault}
 use Rattle.edit_commands.specs.Agreement.{SameEdit, SameEntry, SameEntries, ReadingsAgree}
-use Rattle.edit_commands.specs.LineByLine.{Lines, AllLines, StopsAt, SaidBy}
+use Rattle.edit_commands.specs.LineByLine.{Lines, AllLines, StopsAt, AreSaid, SaidBy}
 use Rattle.edit_commands.specs.LogEntries.{LogsHaveEntries}
 use Rattle.edit_commands.specs.Logs.{LogLine, log_of, IsEntry}
 use Rattle.fc_inputs.specs.declared.refusal.LineFault.{LineFault}
@@ -16,7 +15,7 @@ use Rattle.fc_inputs.specs.Causes.{Judged, Accepted, Refused, AndThen}
 use Rattle.fc_inputs.specs.Inputs.{InputOf, ReadsInput}
 use Rattle.command_words.specs.declared.commands.ReplayOptions.{ReplayOptions}
 use Rattle.fc_replay.specs.Laws.{InputsStart, ReplaysLead, LogLeads}
-use Rattle.fc_replay.specs.Replays.{Replays, ReplaysEntries, ReplaysLog, Shown, ShowsBook, book_of, start_of}
+use Rattle.fc_replay.specs.Replays.{Replays, ReplaysEntries, ReplaysLog, Shown, ShowsBook, start_of}
 use Rattle.fc_replay.specs.Stopping.{Logged, entries_in, first_stop}
 
 -- ---- an entry fits where the same one does
@@ -49,21 +48,21 @@ same_log_fits U (e ∷ es) [] s h = absurd s
 same_log_fits U (e ∷ es) (f ∷ fs) s h = (same_entry_fits U e f s.0 h.0, same_log_fits U es fs s.1 h.1)
 
 -- ---- a replay that is shown
-one_shown : (a b : Shown) → Accepted a ≡ Accepted b → a ≡ b
-one_shown a b e = cc
+one_shown : (a b : Shown) (j : Judged Shown) → j ≡ Accepted a → j ≡ Accepted b → a ≡ b
+one_shown a b j e f = cc
 
 module _ (start : InputsStart) (readings : ReadingsAgree) (have : LogsHaveEntries) (agree : RunsAgree)
     (options : ReplayOptions) (program network log : List ℕ) (shown : Shown) where
   by_book : (i : InputOf) → ReadsInput program network (Accepted i) → (ls : List (ℕ × LogLine))
       → log_of i.0 i.1.net log ≡ AllLines ls → (es : List Logged)
-      → SaidBy (IsEntry i.0) es (AllLines ls) → ShowsBook options i.0 (start_of i.1) (entries_in es) (Accepted shown)
+      → AreSaid (IsEntry i.0) ls es → ShowsBook options i.0 (start_of i.1) (entries_in es) (Accepted shown)
       → LogLeads options program network log shown
   by_book i reads ls lines es said h =
       let some = have i.0 i.1.net log ls lines in
-      let said_here = subst (SaidBy (IsEntry i.0) es) (sym lines) said in
+      let said_here = subst (λ (l : Lines Fault LogLine). SaidBy (IsEntry i.0) es l) (sym lines) said in
       let same = (readings i.0 i.1.net log es some.entries said_here some.log).1 in
       let fits = same_log_fits i.0 (entries_in es) (entries_in some.entries) same some.fits in
-      let is = one_shown shown _ h.is in
+      let is = one_shown shown _ (Accepted shown) refl h.is in
       record {
         unfolded = i.0;
         scene = i.1;
@@ -77,7 +76,7 @@ module _ (start : InputsStart) (readings : ReadingsAgree) (have : LogsHaveEntrie
       }
 
   by_stop : (i : InputOf) → ReadsInput program network (Accepted i) → (ls : List (ℕ × LogLine))
-      → log_of i.0 i.1.net log ≡ AllLines ls → (es : List Logged) → SaidBy (IsEntry i.0) es (AllLines ls)
+      → log_of i.0 i.1.net log ≡ AllLines ls → (es : List Logged) → AreSaid (IsEntry i.0) ls es
       → (o : Option (ℕ × LineFault)) → ReplaysEntries options i.0 (start_of i.1) es o (Accepted shown)
       → LogLeads options program network log shown
   by_stop i reads ls lines es said (Some stop) h = absurd cc
