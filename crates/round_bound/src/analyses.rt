@@ -91,11 +91,7 @@ impl<'a> Analysis<'a> {
         }
     }
 
-<<<<<<< HEAD
     /// The verdict for a number of devices: yes, with the level of `main`, where each `rep` and `share` outside first
-=======
-    /// The verdict for so many devices: yes, with the level of `main`, where each `rep` and `share` outside first
->>>>>>> b65f311abf53386aadf42243394153cb0de3d4f8
     /// values has a pattern; else no, with the first place that has none, and its reason.
     pub fn verdict(&self, alloc: Global, devices: u32) -> Result<Verdict, Memory>
         requires { 1 ≤ devices }
