@@ -1,5 +1,5 @@
 -- A script run in two, and what a yes promises there.
-use Rattle.std.proofs.Common.{◌≡◌, ℕ, zero, suc, ◌+◌, ◌≤◌, List, ◌∷◌, ◌++◌, length, append_assoc, sym, ap, ◌∙◌, subst, arith, false}
+use Rattle.std.proofs.Common.{◌≡◌, ℕ, ◌+◌, ◌≤◌, List, ◌∷◌, ◌++◌, length, append_assoc, sym, ap, ◌∙◌, subst, arith}
 use Rattle.std.proofs.lemmas.Grind.{flat_map-append}
 use Rattle.std.specs.Prelude.{codes}
 use Rattle.std.specs.Fmt.{decimal}
@@ -10,7 +10,7 @@ use Rattle.firing_core.specs.declared.entries.Part.{Part}
 use Rattle.firing_core.specs.Cores.{Core, IsGood}
 use Rattle.firing_core.specs.Entries.{EntryValue}
 use Rattle.firing_core.specs.Laws.{RunsKeepGood, PlainRunsKeepNet, RunsCut, RunsCutAtEdit}
-use Rattle.firing_core.specs.Rounds.{has_edit, after_edit, HasRounds}
+use Rattle.firing_core.specs.Rounds.{after_edit}
 use Rattle.round_count.specs.Laws.{RoundsFollow}
 use Rattle.converge_laws.specs.Stabilising.{Stabilises}
 use Rattle.converge_laws.specs.Verdicts.{YesStabilises}
