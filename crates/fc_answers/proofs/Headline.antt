@@ -142,8 +142,7 @@ module _ (law : YesStabilises) (unfolds : TextsUnfold) (start : InputsStart) (pr
         writes = ap (λ j. (reply_of j).text) e.is ∙ ap (λ (r : Reply). r.text) w.is ∙ ap field_text same;
       }
   stable_by i k e reads (verdict.No place why) said w zero =
-      let one : 0 ≡ 1 =
-      sym zero ∙ ap (λ j. (reply_of j).status) e.is ∙ ap (λ (r : Reply). r.status) w ∙ ap verdict_status said in
+      let one : 0 ≡ 1 = sym zero ∙ ap (λ j. (reply_of j).status) e.is ∙ ap (λ (r : Reply). r.status) w in
       absurd (cc one)
 
   stable_keeps : (k : Judged Reply) → Stabilised program network k → Keeps SolvesYes program network (reply_of k)

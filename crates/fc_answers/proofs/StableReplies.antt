@@ -11,11 +11,11 @@ use Rattle.converge_laws.specs.Verdicts.{YesStabilises}
 use Rattle.net_json.specs.FittingScenes.{AcceptedScenesFit, SceneFits}
 use Rattle.net_json.specs.Scenes.{SceneValue}
 use Rattle.report.specs.Texts.{field_text}
+use Rattle.report.specs.Verdicts.{verdict_text}
 use Rattle.fc_values.specs.declared.limits.TheConstants.{MOST_BYTES}
 use Rattle.fc_inputs.specs.Refusals.{Reply}
 use Rattle.fc_inputs.specs.Causes.{Cause, Judged, Accepted, Refused, AndThen}
 use Rattle.fc_inputs.specs.Inputs.{InputOf, OneInput, ReadsInput, TextsUnfold}
-use Rattle.fc_check.specs.Checks.{checked_of}
 use Rattle.stable_field.proofs.OneField.{one_field}
 use Rattle.fc_trace.proofs.Scenes.{scene_fits}
 use Rattle.fc_answers.specs.Stabilised.{StabilisedBy, StabilisesScene, Stabilised}
@@ -60,7 +60,8 @@ module _ (law : YesStabilises) (P : Program) (is : IsProgram P) (N : Network) (n
         record { status = 0; text = field_text field },
         record { field = field; stable = record { one = one; values = refl }; is = refl },
       )
-  some_reply (verdict.No place why) e = (checked_of false (unfolding_of P) (length N.devices), refl)
+  some_reply (verdict.No place why) e =
+      (record { status = 1; text = verdict_text (verdict.No place why) }, refl)
 
 pub some_stable : YesStabilises → AcceptedScenesFit → TextsUnfold → OneInput → (program network : List ℕ)
     → length program ≤ MOST_BYTES → (j : Judged Reply) × Stabilised program network j

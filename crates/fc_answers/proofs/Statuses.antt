@@ -240,10 +240,12 @@ check_replies facts program network j h = by_input h.judged (input_causes progra
         subst ReplyJudges (sym e) (verdict_judges (verdict_of i.0 (length i.1.net.devices)))
     by_input (Refused cause) c e = subst ReplyJudges (sym e) c
 
+by_one : JudgesBy 1
+by_one = record { no_usage = omega arith; few = omega arith }
+
 stable_by : (v : Verdict) (U : Unfolding) (N : Network) (r : Reply) → StabilisedBy v U N r → JudgesBy r.status
 stable_by (verdict.Yes rounds) U N r h = subst (λ (x : Reply). JudgesBy x.status) (sym h.is) by_zero
-stable_by (verdict.No place why) U N r h = subst (λ (x : Reply). JudgesBy x.status) (sym h)
-    (verdict_judges (verdict_of U (length N.devices)))
+stable_by (verdict.No place why) U N r h = subst (λ (x : Reply). JudgesBy x.status) (sym h) by_one
 
 stable_replies : (program network : List ℕ) (j : Judged Reply) → Stabilised program network j → ReplyJudges j
 stable_replies program network j h = by_input h.judged (input_causes program network h.judged h.reads) h.ends
@@ -254,9 +256,6 @@ stable_replies program network j h = by_input h.judged (input_causes program net
         subst ReplyJudges (sym e.is)
         (stable_by (verdict_of i.0 (length i.1.net.devices)) i.0 i.1.net e.reply e.writes)
     by_input (Refused cause) c e = subst ReplyJudges (sym e) c
-
-by_one : JudgesBy 1
-by_one = record { no_usage = omega arith; few = omega arith }
 
 trace_by : (v : Verdict) (o : Option WalkTerms) (U : Unfolding) (N : Network) (r : Reply) → TracedBy v o U N r → JudgesBy r.status
 trace_by (verdict.Yes rounds) None U N r h = subst (λ (x : Reply). JudgesBy x.status) (sym h) by_one

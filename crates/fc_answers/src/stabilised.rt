@@ -2,18 +2,19 @@
 ghost use Rattle.std.specs.Prelude.{◌≡◌, ◌≤◌, IfErr, IfOk, length, map};
 ghost use Rattle.fc_values.specs.Fields.{Rises, devices, entry_of};
 ghost use Rattle.fc_nodes.specs.Program.{IsProgram, unfolding_of};
+ghost use Rattle.fc_nodes.specs.declared.verdicts.Verdict.TheVariants as verdict;
 ghost use Rattle.fragment_check.specs.Verdicts.{verdict_of};
 ghost use Rattle.report.specs.Texts.{field_text};
+ghost use Rattle.report.specs.Verdicts.{verdict_text};
 ghost use Rattle.fc_inputs.specs.Causes.{Accepted, Refused};
 ghost use Rattle.fc_inputs.specs.Stops.{StopsFor};
 ghost use Rattle.fc_values.specs.declared.limits.TheConstants.{MOST_BYTES};
 ghost use Rattle.fc_answers.specs.Stabilised.{Stabilised, StabilisedBy};
 
-use fc_check::checked;
 use fc_inputs::{Reply, Stop, read_input};
-use fc_nodes::Unfolded;
+use fc_nodes::{Reason, Unfolded, Verdict};
 use fc_values::{Local, Memory};
-use report::field as write_field;
+use report::{field as write_field, verdict as write_verdict};
 use stable_field::{StableFault, stable};
 use std::alloc::Global;
 use topology::Network;
@@ -28,6 +29,15 @@ fn field_reply(alloc: Global, field: &[(u32, Local)]) -> Result<Reply, Memory>
     Ok(Reply::new(0, text))
 }
 
+// The line of a no.
+fn no_reply(alloc: Global, place: u32, reason: Reason) -> Result<Reply, Memory>
+    ensures { IfOk result (λ r. r ≡ record { status = 1; text = verdict_text (verdict.No place reason) }) }
+{
+    let mut text = Vec::new(alloc);
+    write_verdict(alloc, &mut text, &Verdict::No { place, reason })?;
+    Ok(Reply::new(1, text))
+}
+
 // The field that solves a program on a network, or the verdict's no.
 fn of_network(alloc: Global, program: &Unfolded, net: &Network) -> Result<Reply, Memory>
     requires program { IsProgram program.now }
@@ -37,11 +47,7 @@ fn of_network(alloc: Global, program: &Unfolded, net: &Network) -> Result<Reply,
 {
     match stable(alloc, program, net) {
         Ok(field) => field_reply(alloc, &field),
-        Err(StableFault::Unrecognised(_)) => {
-            // Its clause: the network has devices.
-            let devices = net.devices().len() as u32;
-            checked(alloc, false, program, devices)
-        }
+        Err(StableFault::Unrecognised { place, reason }) => no_reply(alloc, place, reason),
         Err(StableFault::Memory) => Err(Memory),
     }
 }

@@ -87,7 +87,7 @@ fn field(alloc: Global, program: &Unfolded, net: &Network) -> Result<Vec<(u32, L
     match stable(alloc, program, net) {
         Ok(field) => Ok(field),
         Err(StableFault::Memory) => Err(Memory),
-        Err(StableFault::Unrecognised(_)) => unreachable!(),
+        Err(StableFault::Unrecognised { .. }) => unreachable!(),
     }
 }
 

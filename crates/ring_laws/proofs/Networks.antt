@@ -1,5 +1,5 @@
 -- Rings are networks.
-use Rattle.std.proofs.Common.{ℕ, ◌%◌, refl}
+use Rattle.std.proofs.Common.{◌%◌, refl}
 use Rattle.scramble.proofs.RingNetworks.{ring_network, many}
 use Rattle.ring_laws.specs.Laws.{RingsAreNetworks}
 

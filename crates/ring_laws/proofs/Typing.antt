@@ -1,5 +1,5 @@
 -- The program of a ring is typed and unfolds within the limit.
-use Rattle.std.proofs.Common.{ℕ, ◌≡◌, ◌≤◌, [], ◌∷◌, refl, arith}
+use Rattle.std.proofs.Common.{ℕ, ◌≤◌, [], refl, arith}
 use Rattle.std.specs.Prelude.{codes}
 use Rattle.fc_values.specs.declared.types.InputTy.TheVariants as input
 use Rattle.fc_values.specs.BuiltinTypes.{takes_add, takes_mux, folds_min}
@@ -7,9 +7,9 @@ use Rattle.fc_values.specs.Names.{IsName, word_of}
 use Rattle.fc_values.specs.Types.{IntType, TypeLocal, TypeField}
 use Rattle.fc_syntax.specs.Printable.{IsPrintable}
 use Rattle.fc_types.specs.Before.{Before, Scope, nothing, and_all, bind}
-use Rattle.fc_types.specs.Typing.{HasType, HaveTypes, IsTyped, no_types, more_types, int_type, variable_type, nbr_link_type, sense_type, builtin_type, nbr_type, rep_type}
+use Rattle.fc_types.specs.Typing.{HasType, IsTyped, no_types, more_types, int_type, variable_type, nbr_link_type, sense_type, builtin_type, nbr_type, rep_type}
 use Rattle.scramble.specs.Rings.{hops, own_hops, ring_program}
-use Rattle.ring_laws.specs.Laws.{IsRingProgram, RingsAreTyped}
+use Rattle.ring_laws.specs.Laws.{RingsAreTyped}
 
 variable : IsName (codes "d")
 unfolding word_of

@@ -1,5 +1,5 @@
 -- The verdict on the program of a ring.
-use Rattle.std.proofs.Common.{ℕ, ◌≡◌, ◌≤◌, ◌+◌, ◌*◌, ◌-◌, min, max, refl, ap, ap₂, ◌∙◌, arith, None}
+use Rattle.std.proofs.Common.{ℕ, ◌≡◌, ◌≤◌, ◌+◌, ◌*◌, min, max, refl, ap, ap₂, ◌∙◌, arith, None}
 use Rattle.std.specs.declared.result.Result.{Result}
 use Rattle.std.specs.declared.result.Result.TheVariants.{Ok}
 use Rattle.fc_nodes.specs.declared.verdicts.Reason.{Reason}

@@ -98,20 +98,20 @@ module _ (U : Unfolding) (N : Network) (P : ExportLevel) (raises : Raises P U N)
     pub next_level : (ys : List (Option Export)) → AreFirings U N xs (numbers N.devices) ys → TableAt P N (suc j) (table_of U N ys)
     next_level ys f = raised (numbers N.devices) ys f (λ d h. h)
 
-module _ (laws : SolutionsRaiseLevels) (P : Program) (N : Network) (program : IsProgram P) (net : IsNetwork N) (same : N.declared ≡ P.declared) (an : IsAnalysis P (analysis_of P (length N.devices)) N) where
+module _ (laws : SolutionsRaiseLevels) (P : Program) (N : Network) (program : IsProgram P) (net : IsNetwork N) (same : N.declared ≡ P.declared) (an : IsAnalysis (unfolding_of P) (analysis_of (unfolding_of P) (length N.devices)) N) where
   abbrev U : Unfolding
   U = unfolding_of P
 
   abbrev At : (F : ℕ → LocalValue) → SolvesMain N U.main F → ExportLevel
-  At F s = ExportAt U (analysis_of P (length N.devices)) N F s
+  At F s = ExportAt U (analysis_of U (length N.devices)) N F s
 
   up : (F : ℕ → LocalValue) (s : SolvesMain N U.main F) → Raises (At F s) U N
-  up F s = laws P (analysis_of P (length N.devices)) N program net same an F s
+  up F s = laws P (analysis_of U (length N.devices)) N program net same an F s
 
-  pub starts : (xs : List (Option Export)) → IsTable U N xs → IsAtLevel P N 0 xs
+  pub starts : (xs : List (Option Export)) → IsTable U N xs → IsAtLevel U N 0 xs
   starts xs t F s = begins U N (At F s) (up F s) xs t
 
-  pub rises : (xs ys : List (Option Export)) (j : ℕ) → IsTable U N xs → AreFirings U N xs (numbers N.devices) ys → IsAtLevel P N j xs → IsAtLevel P N (suc j) ys
+  pub rises : (xs ys : List (Option Export)) (j : ℕ) → IsTable U N xs → AreFirings U N xs (numbers N.devices) ys → IsAtLevel U N j xs → IsAtLevel U N (suc j) ys
   rises xs ys j t f at F s = next_level U N (At F s) (up F s) xs t j (at F s) ys f
 
   module _ (is : List ℕ) (all : AreOutside U.main is) where
@@ -120,7 +120,7 @@ module _ (laws : SolutionsRaiseLevels) (P : Program) (N : Network) (program : Is
     same_export F s j d a b w e h = record {
       typed = w.typed;
       value = λ l. e.0 ∙ h.value l;
-      holds = holds_same (analysis_of P (length N.devices)) N j d (slots_of a.slots.list.items) (slots_of b.slots.list.items) U.main 0 0 1 (no_stage U.main) (λ q. 0) (lives N) no_binders (local_map F) s
+      holds = holds_same (analysis_of U (length N.devices)) N j d (slots_of a.slots.list.items) (slots_of b.slots.list.items) U.main 0 0 1 (no_stage U.main) (λ q. 0) (lives N) no_binders (local_map F) s
           (all (slots_of a.slots.list.items) (slots_of b.slots.list.items) e.1) h.holds;
     }
 
@@ -145,15 +145,15 @@ module _ (laws : SolutionsRaiseLevels) (P : Program) (N : Network) (program : Is
         by_test false h ih = ih h
 
     -- a table that a round doesn't change outside first values is at each level
-    stays_at : (xs ys : List (Option Export)) → IsTable U N xs → AreFirings U N xs (numbers N.devices) ys → SameExports is xs ys → (j : ℕ) → IsAtLevel P N j xs
+    stays_at : (xs ys : List (Option Export)) → IsTable U N xs → AreFirings U N xs (numbers N.devices) ys → SameExports is xs ys → (j : ℕ) → IsAtLevel U N j xs
     stays_at xs ys t f q zero = starts xs t
     stays_at xs ys t f q (suc j) =
         let r = rises xs ys j t f (stays_at xs ys t f q j) in
         λ F s d l. moved F s (suc j) d (numbers N.devices) xs ys q t.exports (r F s d l)
 
   -- firings that see a table at the level of `main` have the values of the solution
-  pub have_solution : (xs ys : List (Option Export)) (j : ℕ) → IsTable U N xs → AreFirings U N xs (numbers N.devices) ys → IsAtLevel P N j xs
-      → root_level P (analysis_of P (length N.devices)) ≤ j → HaveSolution U N ys
+  pub have_solution : (xs ys : List (Option Export)) (j : ℕ) → IsTable U N xs → AreFirings U N xs (numbers N.devices) ys → IsAtLevel U N j xs
+      → root_level U (analysis_of U (length N.devices)) ≤ j → HaveSolution U N ys
   have_solution xs ys j t f at h F s = values (numbers N.devices) ys f (λ d i. i)
     where
       values : (ds : List ℕ) (zs : List (Option Export)) → AreFirings U N xs ds zs → ((d : ℕ) → is_in d ds ≡ true → Lives N d) → AllHave F ds zs
@@ -172,4 +172,4 @@ module _ (laws : SolutionsRaiseLevels) (P : Program) (N : Network) (program : Is
 
   pub stays_solution : (is : List ℕ) → AreOutside U.main is → (xs ys : List (Option Export)) → IsTable U N xs → AreFirings U N xs (numbers N.devices) ys → SameExports is xs ys → HaveSolution U N ys
   stays_solution is all xs ys t f q =
-      have_solution xs ys (root_level P (analysis_of P (length N.devices))) t f (stays_at is all xs ys t f q (root_level P (analysis_of P (length N.devices)))) (omega arith)
+      have_solution xs ys (root_level U (analysis_of U (length N.devices))) t f (stays_at is all xs ys t f q (root_level U (analysis_of U (length N.devices)))) (omega arith)

@@ -2,7 +2,7 @@
 use Rattle.std.specs.Prelude.{ℕ, List, length, Option}
 use Rattle.fc_values.specs.declared.exports.Export.{Export}
 use Rattle.fc_values.specs.Values.{LocalValue}
-use Rattle.fc_nodes.specs.Program.{Program, unfolding_of}
+use Rattle.fc_nodes.specs.Program.{Unfolding}
 use Rattle.topology.specs.Networks.{Network}
 use Rattle.interval_facts.specs.Solutions.{SolvesMain}
 use Rattle.converge_laws.specs.CoreLevels.{TableAt}
@@ -11,6 +11,6 @@ use Rattle.converge_laws.specs.Verdicts.{analysis_of}
 use Rattle.stable_field.specs.Tables.{table_of}
 
 -- the exports of a table agree, at a level, with each field that solves the program
-abbrev pub IsAtLevel : Program → Network → ℕ → List (Option Export) → Type 0
-IsAtLevel P N j xs = (F : ℕ → LocalValue) (s : SolvesMain N (unfolding_of P).main F)
-    → TableAt (ExportAt (unfolding_of P) (analysis_of P (length N.devices)) N F s) N j (table_of (unfolding_of P) N xs)
+abbrev pub IsAtLevel : Unfolding → Network → ℕ → List (Option Export) → Type 0
+IsAtLevel U N j xs = (F : ℕ → LocalValue) (s : SolvesMain N U.main F)
+    → TableAt (ExportAt U (analysis_of U (length N.devices)) N F s) N j (table_of U N xs)

@@ -1,9 +1,8 @@
 -- The stabilised field of a program on a network, and why it isn't answered.
 use Rattle.std.specs.Prelude.{ℕ, ◌≡◌, map}
 use Rattle.fc_values.specs.Fields.{Entries}
-use Rattle.fc_nodes.specs.declared.verdicts.Reason.{Reason}
 use Rattle.fc_nodes.specs.declared.verdicts.Verdict.TheVariants as verdict
-use Rattle.fc_nodes.specs.Program.{Program, Unfolding, unfolding_of}
+use Rattle.fc_nodes.specs.Program.{Unfolding}
 use Rattle.topology.specs.Networks.{Network, numbers}
 use Rattle.fragment_check.specs.Verdicts.{verdict_of}
 use Rattle.converge_laws.specs.Stabilising.{HasOneSolution}
@@ -15,7 +14,7 @@ pub record IsStableField (U : Unfolding) (N : Network) (es : Entries) : Type 0 w
   pub one : HasOneSolution U N
   pub values : es ≡ map (λ (d : ℕ). (d, one.field d)) (numbers N.devices)
 
--- the verdict for so many devices is a no at the place; want of memory is always allowed
-abbrev pub IsFaultOf : Program → ℕ → StableFault → Type 0
-IsFaultOf P n (fault.Unrecognised place) = (why : Reason) × (verdict_of (unfolding_of P) n ≡ verdict.No place why)
-IsFaultOf P n fault.Memory = Unit {0}
+-- the verdict for so many devices is this no; want of memory is always allowed
+abbrev pub IsFaultOf : Unfolding → ℕ → StableFault → Type 0
+IsFaultOf U n (fault.Unrecognised place why) = verdict_of U n ≡ verdict.No place why
+IsFaultOf U n fault.Memory = Unit {0}

@@ -3,13 +3,14 @@
 ghost use Rattle.std.specs.Prelude.{◌≡◌};
 ghost use Rattle.stable_field.specs.declared.faults.StableFault.TheVariants as fault;
 
+use fc_nodes::Reason;
 use fc_values::Memory;
 use std::alloc::{AllocError, AllocFailed};
 
-/// The first place at which the verdict on the program is no, or want of memory.
+/// The first place at which the verdict on the program is no, with its reason; or want of memory.
 #[derive(Clone, Copy, Debug, PartialEq, Eq)]
 pub enum StableFault {
-    Unrecognised(u32),
+    Unrecognised { place: u32, reason: Reason },
     Memory,
 }
 

@@ -27,8 +27,10 @@ pub fn settled(
 ) -> Result<Slots, Memory>
     requires declared { net.now.declared ≡ program.now.declared }
     requires table { IsTable (unfolding_of program.now) net.now start.items }
-    requires analysis { IsAnalysis program.now (analysis_of program.now (length net.now.devices)) net.now }
-    requires level { root_level program.now (analysis_of program.now (length net.now.devices)) ≤ rounds }
+    requires analysis { IsAnalysis (unfolding_of program.now)
+        (analysis_of (unfolding_of program.now) (length net.now.devices)) net.now }
+    requires level { root_level (unfolding_of program.now)
+        (analysis_of (unfolding_of program.now) (length net.now.devices)) ≤ rounds }
     ensures { IfOk result (λ v. HaveSolution (unfolding_of program.now) net.now v.items) }
 {
     let _program = program.declared();

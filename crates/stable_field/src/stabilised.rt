@@ -21,7 +21,7 @@ use std::alloc::Global;
 use topology::Network;
 
 /// The one field that solves a program on a network: the value of `main` at each device, by rising devices.
-/// `Unrecognised` comes exactly where the verdict is a no, with its place.
+/// `Unrecognised` comes exactly where the verdict is a no, with its place and reason.
 pub fn stable(
     alloc: Global,
     program: &Unfolded,
@@ -30,8 +30,9 @@ pub fn stable(
     requires declared { net.now.declared ≡ program.now.declared }
     ensures field { IfOk result (λ v. IsStableField (unfolding_of program.now) net.now (map entry_of v.items)) }
     ensures rises { IfOk result (λ v. Rises (devices (map entry_of v.items))) }
-    ensures yes { OnOk result ((k : ℕ) × (verdict_of (unfolding_of program.now) (length net.now.devices) ≡ verdict.Yes k)) }
-    ensures refused { IfErr result (IsFaultOf program.now (length net.now.devices)) }
+    ensures yes { OnOk result ((k : ℕ)
+        × (verdict_of (unfolding_of program.now) (length net.now.devices) ≡ verdict.Yes k)) }
+    ensures refused { IfErr result (IsFaultOf (unfolding_of program.now) (length net.now.devices)) }
 {
     let analysis = Analysis::new(alloc, program)?;
     let rounds = judged(alloc, &analysis, net)?;

@@ -23,14 +23,14 @@ use round_bound::Analysis;
 use std::alloc::Global;
 use topology::Network;
 
-/// The rounds of a yes, or the place of a no.
+/// The rounds of a yes, or the place and reason of a no.
 pub fn judged(alloc: Global, analysis: &Analysis<'_>, net: &Network) -> Result<u64, StableFault>
     ensures yes { IfOk result (λ k. verdict_of (unfolding_of analysis.now) (length net.now.devices) ≡ verdict.Yes k) }
-    ensures no { IfErr result (IsFaultOf analysis.now (length net.now.devices)) }
+    ensures no { IfErr result (IsFaultOf (unfolding_of analysis.now) (length net.now.devices)) }
 {
     let devices = net.devices().len() as u32;
     match analysis.verdict(alloc, devices)? {
-        Verdict::No { place, .. } => Err(StableFault::Unrecognised(place)),
+        Verdict::No { place, reason } => Err(StableFault::Unrecognised { place, reason }),
         Verdict::Yes(rounds) => Ok(rounds),
     }
 }
@@ -46,7 +46,7 @@ pub fn whole(alloc: Global, program: &Unfolded, net: &Network) -> Result<Option<
             let start = guessed(alloc, program, net, &analysis)?;
             Ok(Some(solved(alloc, program, net, start, rounds)?))
         }
-        Err(StableFault::Unrecognised(_)) => Ok(None),
+        Err(StableFault::Unrecognised { .. }) => Ok(None),
         Err(StableFault::Memory) => Err(Memory),
     }
 }

@@ -6,5 +6,5 @@ use Rattle.stable_field.proofs.rounds.settled.Given as goal
 abbrev pub invariant-loop-done : goal.invariant-loop-done
 invariant-loop-done l = record {
   table : IsTable (unfolding_of l.program) l.net l.table.items;
-  level : IsAtLevel l.program l.net l.done l.table.items;
+  level : IsAtLevel (unfolding_of l.program) l.net l.done l.table.items;
 }

@@ -10,7 +10,7 @@ use Rattle.stable_field.proofs.Firings.{devices_are}
 use Rattle.stable_field.proofs.whole.solved.Goals as goal
 
 module _ (c : goal.After-yes_stabilises) where
-  pub analysed : IsAnalysed c.args.program.now c.args.net.now c.args.rounds
+  pub analysed : IsAnalysed (unfolding_of c.args.program.now) c.args.net.now c.args.rounds
   analysed = c.yes_analyses.ensures c.args.program.now c.args.net.now c.args.rounds c.declared-program.ensures.program c.declared-network.ensures.network c.requires.declared c.requires.yes
 
 module _ (c : goal.After-drop-table-2) where
