@@ -1,5 +1,5 @@
 -- What `mail` writes: something, and one thing.
-use Rattle.std.proofs.Common.{ℕ, ◌≡◌, ◌≤◌, List, length, refl, ap, ap₂, ◌∙◌, sym, subst, Bool, true, false, ◌++◌}
+use Rattle.std.proofs.Common.{ℕ, ◌≡◌, ◌≤◌, List, length, refl, ap₂, ◌∙◌, sym, subst, Bool, true, false, ◌++◌}
 use Rattle.std.specs.Prelude.{nat_lt}
 use Rattle.fc_nodes.specs.Program.{IsProgram, Program, Unfolding, unfolding_of}
 use Rattle.fc_nodes.specs.declared.verdicts.Verdict.{Verdict}
@@ -28,7 +28,7 @@ use Rattle.fc_inputs.specs.Causes.{Plainly, Judged, Accepted, Refused, AndThen}
 use Rattle.fc_inputs.specs.Inputs.{InputOf, OneInput, ReadsInput, TextsUnfold}
 use Rattle.fc_replay.specs.Replays.{start_of}
 use Rattle.fc_replay.specs.Laws.{InputsStart}
-use Rattle.fc_mail.specs.Mails.{Mails, MailsLines, MailsScene}
+use Rattle.fc_mail.specs.Mails.{Mails, MailsScene}
 use Rattle.fc_mail.specs.Drives.{messages, driven_log, DrivesWithin, DrivesBy, DrivesScene, DrivesMail}
 use Rattle.fc_mail.specs.declared.driven.TheConstants.{MOST_MESSAGES}
 use Rattle.fc_mail.proofs.Driving.{still}

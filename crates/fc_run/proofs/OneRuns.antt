@@ -64,8 +64,8 @@ module _ (agree : CommandsAgree) (one : OneScriptRun) (options : RunOptions) (U 
   one_script (Within (AllLines lines)) j k h g = one_commands h.commands g.commands j k
       (agree U lines h.commands g.commands h.said g.said) h.runs g.runs
 
-pub one_run : OneInput → InputsStart → CommandsAgree → OneVerdict → OneScriptRun → OneRun
-one_run input starts agree verdict one options program network script j k h g =
+pub one_run : OneInput → TextsUnfold → InputsStart → CommandsAgree → OneScriptRun → OneRun
+one_run input unfolds starts agree one options program network script j k h g =
     let once = input program network h.reads.short in
     let same : h.judged ≡ g.judged = once.2 h.judged h.reads ∙ sym (once.2 g.judged g.reads) in
     by_end g.judged g.reads (subst (λ i. AndThen i
