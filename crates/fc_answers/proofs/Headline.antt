@@ -4,10 +4,9 @@ use Rattle.std.specs.Prelude.{nat_lt}
 use Rattle.fc_nodes.specs.Program.{Program, Unfolding, IsProgram, unfolding_of}
 use Rattle.fc_nodes.specs.declared.verdicts.Verdict.{Verdict}
 use Rattle.fc_nodes.specs.declared.verdicts.Verdict.TheVariants as verdict
-use Rattle.topology.specs.Networks.{Lives, Network}
+use Rattle.topology.specs.Networks.{Lives, Network, numbers}
 use Rattle.fragment_check.specs.Verdicts.{levels_of, verdict_of}
 use Rattle.converge_laws.specs.Verdicts.{YesStabilises}
-use Rattle.command_words.specs.declared.commands.Command.{Command}
 use Rattle.command_words.specs.declared.commands.Command.TheVariants as command
 use Rattle.command_words.specs.declared.commands.Quiet.{Quiet}
 use Rattle.command_words.specs.declared.commands.Quiet.TheVariants.{Check, Stable, Replay, Format, Trace, Mail}
@@ -31,7 +30,7 @@ use Rattle.fc_settle.specs.Settles.{Settles, SettlesScene, StartsFrom, settling_
 use Rattle.settle_rounds.specs.Rounds.{any_table}
 use Rattle.settle_rounds.specs.SettleTimes.{SettlesWell, SettleTimesHold}
 use Rattle.settle_rounds.specs.StartTimes.{SettlesFrom, StartTimesHold}
-use Rattle.firing_core.specs.Cores.{Core, IsGood, Run}
+use Rattle.firing_core.specs.Cores.{Core, IsGood, Run as RunsTo}
 use Rattle.firing_core.specs.Entries.{EntryValue}
 use Rattle.firing_core.specs.Laws.{RunsCutAtEdit, RunsKeepGood}
 use Rattle.firing_core.specs.Rounds.{HasRounds, after_edit}
@@ -42,7 +41,7 @@ use Rattle.fc_replay.specs.Replays.{Replays, Shown, start_of}
 use Rattle.fc_replay.specs.Stopping.{entries_in}
 use Rattle.interval_facts.specs.Ranges.{ranges_of}
 use Rattle.interval_facts.specs.Solutions.{SolvesMain}
-use Rattle.fc_values.specs.Types.{LocalValue}
+use Rattle.fc_values.specs.Values.{LocalValue}
 use Rattle.report.specs.Facts.{facts_text}
 use Rattle.report.specs.Texts.{field_text}
 use Rattle.report.specs.Verdicts.{verdict_text}
@@ -361,7 +360,7 @@ module _ (law : YesStabilises) (unfolds : TextsUnfold) (start : InputsStart) (go
     (show : ReplaysLead) (options : ReplayOptions) where
   -- where the verdict after a run is a yes, and the part after the last edit has its rounds, the values are the field's
   settled : (P : Program) → IsProgram P → (c last : Core) → IsGood (unfolding_of P) c → (log : List EntryValue)
-      → Run (unfolding_of P) c log last → (k : ℕ)
+      → RunsTo (unfolding_of P) c log last → (k : ℕ)
       → verdict_of (unfolding_of P) (length last.net.devices) ≡ verdict.Yes k
       → HasRounds (numbers last.net.devices) (after_edit log) k → IsSettled (unfolding_of P) last
   settled P is c last fits log run k said has =
@@ -388,7 +387,7 @@ module _ (law : YesStabilises) (unfolds : TextsUnfold) (start : InputsStart) (go
             led = led;
             holds = λ k rounds said counted few.
                 at_program law unfolds start program network (led.unfolded, led.scene) led.reads
-                (λ U. Run U (start_of led.scene) log last → verdict_of U (length last.net.devices) ≡ verdict.Yes k
+                (λ U. RunsTo U (start_of led.scene) log last → verdict_of U (length last.net.devices) ≡ verdict.Yes k
                 → IsSettled U last)
                 (λ P is fits run said. settled P is (start_of led.scene) last fits log run k said
                 (fewer (numbers last.net.devices) (after_edit log) rounds k few counted.has))

@@ -18,10 +18,8 @@ use Rattle.fc_inputs.specs.Causes.{Judged, Accepted, Refused, judged_map}
 use Rattle.fc_inputs.specs.Refusals.{Reply}
 use Rattle.fc_inputs.specs.Sections.{sections_of, WithOne, WithTwo, WithThree, other_number}
 use Rattle.fc_inputs.specs.Inputs.{OneSource}
-use Rattle.fc_check.specs.Checks.{Checks}
 use Rattle.fc_check.specs.Laws.{OneCheck}
 use Rattle.fc_settle.specs.Laws.{OneSettle}
-use Rattle.fc_settle.specs.Settles.{Settles}
 use Rattle.fc_mail.specs.Drives.{DrivesMail}
 use Rattle.fc_mail.specs.Mails.{Mails}
 use Rattle.fc_mail.specs.Laws.{OneMail, OneDrivenMail}

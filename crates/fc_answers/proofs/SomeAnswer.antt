@@ -25,10 +25,8 @@ use Rattle.fc_inputs.specs.Causes.{Plainly, Judged, Accepted, Refused, judged_ma
 use Rattle.fc_inputs.specs.Refusals.{Reply}
 use Rattle.fc_inputs.specs.Sections.{sections_of, AreWithin, SectionsAreWithin, WithOne, WithTwo, WithThree, other_number}
 use Rattle.fc_inputs.specs.Inputs.{OneSource}
-use Rattle.fc_check.specs.Checks.{Checks}
 use Rattle.fc_check.specs.Laws.{SomeCheck}
 use Rattle.fc_settle.specs.Laws.{SomeSettle}
-use Rattle.fc_settle.specs.Settles.{Settles}
 use Rattle.fc_mail.specs.Drives.{DrivesMail}
 use Rattle.fc_mail.specs.Mails.{Mails}
 use Rattle.fc_mail.specs.Laws.{SomeMail, SomeDrivenMail}

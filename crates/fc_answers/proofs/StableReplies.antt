@@ -1,5 +1,5 @@
 -- What `stable` writes: something, and one thing; and what the code writes is that.
-use Rattle.std.proofs.Common.{ℕ, ◌≡◌, ◌≤◌, false, List, length, map, refl, ap, ◌∙◌, sym, subst}
+use Rattle.std.proofs.Common.{ℕ, ◌≡◌, ◌≤◌, List, length, map, refl, ap, ◌∙◌, sym, subst}
 use Rattle.fc_values.specs.Fields.{Entries}
 use Rattle.fc_nodes.specs.Program.{IsProgram, Program, Unfolding, unfolding_of}
 use Rattle.fc_nodes.specs.declared.verdicts.Verdict.{Verdict}

@@ -1,5 +1,5 @@
 -- The value of each line of `trace` is that of the field.
-use Rattle.std.proofs.Common.{ℕ, ◌≡◌, List, [], ◌∷◌, map, refl, ap, ◌∙◌, sym, subst, true}
+use Rattle.std.proofs.Common.{ℕ, zero, suc, ◌≡◌, ◌<◌, List, [], ◌∷◌, length, get_or, map, refl, ap, ◌∙◌, subst, arith, true}
 use Rattle.std.specs.List.{All}
 use Rattle.fc_values.specs.Fields.{is_in}
 use Rattle.fc_values.specs.Values.{LocalValue, IntValue}
@@ -45,21 +45,22 @@ module _ (one : OneLeastCost) (N : Network) (C : CostsValue) (F : ℕ → LocalV
       l.value ∙ ap IntValue (one C e.device l.cost e.value l.least cost)
 
   here : (d : ℕ) (ds : List ℕ) → is_in d (d ∷ ds) ≡ true
-  here d ds = grind nat_tests
+  here d ds = grind (arith, nat_tests)
 
-  lines : (ds : List ℕ) → ((d : ℕ) → is_in d ds ≡ true → Lives N d) → (es : List EvidenceValue)
-      → map (λ (e : EvidenceValue). e.device) es ≡ ds
-      → All (λ (e : EvidenceValue). IsLeastCost C e.device e.value) es → All IsLine es
-  lines ds live [] same costs = tt
-  lines [] live (e ∷ es) same costs = absurd cc
-  lines (d ∷ ds) live (e ∷ es) same costs =
-      let head : d ≡ e.device = cc in
-      let tail : map (λ (e : EvidenceValue). e.device) es ≡ ds = cc in (
-        line e (subst (Lives N) head (live d (here d ds))) costs.0,
-        lines ds (λ x i. live x (or_true (nat_eq x d) (is_in x ds) i)) es tail costs.1,
-      )
+  abbrev devices_in : List EvidenceValue → List ℕ
+  devices_in es = map (λ (e : EvidenceValue). e.device) es
+
+  among : (es : List EvidenceValue) (k : ℕ) (e : EvidenceValue) → k < length es
+      → is_in (get_or es k e).device (devices_in es) ≡ true
+  among [] k e h = absurd (omega (arith, h))
+  among (x ∷ xs) zero e h = here x.device (devices_in xs)
+  among (x ∷ xs) (suc k) e h =
+      let d = (get_or xs k e).device in
+      or_true (nat_eq d x.device) (is_in d (devices_in xs)) (among xs k e (omega (arith, h)))
 
   pub traced_values : (U : Unfolding) (w : WalkTerms) → AreCostsFor U N w C → (es : List EvidenceValue)
       → AreTraced C es → All IsLine es
-  traced_values U w are es traced =
-      lines (numbers N.devices) (λ d i. i) es (traced.devices ∙ devices_of U N w C are) traced.least
+  traced_values U w are es traced k e h =
+      let same : devices_in es ≡ numbers N.devices = traced.devices ∙ devices_of U N w C are in
+      let x = get_or es k e in
+      line x (subst (λ ds. is_in x.device ds ≡ true) same (among es k e h)) (traced.least k e h)

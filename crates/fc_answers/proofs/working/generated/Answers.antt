@@ -1,4 +1,3 @@
-use Rattle.std.proofs.Common.{ap}
 use Rattle.std.proofs.Common.{refl}
 use Rattle.fc_inputs.specs.Causes.{Accepted}
 use Rattle.fc_gen.specs.Code.{gen_of}
