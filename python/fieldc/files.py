@@ -157,7 +157,9 @@ def positions_for(name: str, devices: Sequence[int], names: Mapping[int, str]) -
     for device in devices:
         place = by_name.get(names.get(device, str(device)), by_name.get(str(device)))
         if place is None:
-            raise Fault(f"{name} has no position of device {names.get(device, str(device))}", 3)
+            without = found.names and not names
+            hint = "; its rows have names: give `--names` too, the file beside the network" if without else ""
+            raise Fault(f"{name} has no position of device {names.get(device, str(device))}{hint}", 3)
         placed[device] = place
     return placed
 

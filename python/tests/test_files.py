@@ -57,6 +57,8 @@ class Positions(InFolder):
         self.assertEqual(files.positions_for(name, [0], {0: "weir"}), {0: (2.0, 0.0)})
         with self.assertRaisesRegex(Fault, "no position of device roof"):
             files.positions_for(name, [0], {0: "roof"})
+        with self.assertRaisesRegex(Fault, "give `--names` too"):
+            files.positions_for(name, [0], {})
 
     def test_wrong_files(self) -> None:
         wrong = {

@@ -23,7 +23,9 @@ def lexical(text: str, offset: int, place: At) -> Fault:
     shown = sign if sign.isprintable() and not sign.isspace() else f"U+{ord(sign):04X}"
     what = f"`{shown}` isn't a character of the language."
     hint = CHARACTERS.get(sign, SIGNS)
-    if around.startswith("->"):
+    if text.lstrip().startswith("{"):
+        hint = "This begins like a network. The program comes first."
+    elif around.startswith("->"):
         place, what = At(place.line, place.column - 1), "`->` isn't a mark of the language."
         hint = "Behind the variable of a `rep` stands `=>`, and before the type of a result `:`, as `def f(x: int): int`."
         shown = "->"
