@@ -1,9 +1,8 @@
 //! The evaluation of a program's nodes over bounds.
 
-ghost use Rattle.std.specs.Prelude.{◌≡◌, ◌<◌, IfOk, OnOk, IsSome, Some, length, map, min, slice_get, slice_set};
+ghost use Rattle.std.specs.Prelude.{◌≡◌, ◌<◌, IfOk, OnOk, length, map, min, slice_get, slice_set};
 ghost use Rattle.fc_values.specs.Values.{local_of};
 ghost use Rattle.fc_nodes.specs.Terms.{OfApply, OfNbr, OfEvolve, OfIf, OfLet};
-ghost use Rattle.fc_nodes.specs.Layouts.{number_in};
 ghost use Rattle.value_bounds.specs.BoundValues.{Between};
 ghost use Rattle.value_bounds.specs.References.{local_bound_in, local_bounds_in, any_bound_in};
 ghost use Rattle.bound_firing.specs.Seats.{cut_to};
@@ -18,7 +17,7 @@ use crate::seating::{
     cut_to_seats, may_be, own_or_first, seat_field, seat_weights, seats_in_branch, slot_at,
 };
 use crate::seats::Seats;
-use fc_nodes::{Layout, Node, Op, Unfolded};
+use fc_nodes::{Layout, Node, Op, Unfolded, ceiling_of, least_weight, slot_of};
 use fc_values::{Builtin, Local, Memory};
 use std::alloc::Global;
 use value_bounds::{Bound, LocalBound, bound_of_builtin, copy_bound, either, exactly};
@@ -332,29 +331,4 @@ fn put(draft: &mut [LocalBound], slot: u32, bound: LocalBound)
     ensures { local_bounds_in draft.new ≡ slice_set (local_bounds_in draft.old) slot (local_bound_in bound) }
 {
     draft[slot as usize] = bound;
-}
-
-// The slot of a kept place.
-fn slot_of(layout: &Layout, place: u32) -> u32
-    requires { IsSome (number_in layout.now place) }
-    ensures { number_in layout.now place ≡ Some result }
-{
-    match layout.slot(place) {
-        Some(slot) => slot,
-        None => unreachable!(),
-    }
-}
-
-// The greatest integer of a program.
-fn ceiling_of(program: &Unfolded) -> u32
-    ensures { result ≡ program.now.declared.ceiling }
-{
-    program.declared().ceiling
-}
-
-// The least weight of a link.
-fn least_weight(program: &Unfolded) -> u32
-    ensures { result ≡ program.now.declared.least }
-{
-    program.declared().metric.0
 }

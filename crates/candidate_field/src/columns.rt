@@ -6,14 +6,14 @@ use std::cmp::Ordering;
 
 /// Where a value is looked for: at a device, by its place in the network, or at a link, by its number.
 #[derive(Clone, Copy, Debug, PartialEq, Eq)]
-pub struct Spot {
+pub struct Location {
     pub device: u32,
     pub link: u32,
 }
 
-/// The spot of a device.
-pub fn spot_of(device: u32) -> Spot {
-    Spot { device, link: 0 }
+/// The location of a device.
+pub fn at_device(device: u32) -> Location {
+    Location { device, link: 0 }
 }
 
 /// What a column has values for: one for all devices, one for each device, or one for each link.
@@ -67,12 +67,12 @@ impl Column {
         })
     }
 
-    /// Where the leaves of the value at a spot begin.
-    pub fn at(&self, spot: Spot) -> usize {
+    /// Where the leaves of the value at a location begin.
+    pub fn at(&self, location: Location) -> usize {
         let value = match self.spread {
             Spread::Everywhere => 0,
-            Spread::Devices => spot.device,
-            Spread::Links => spot.link,
+            Spread::Devices => location.device,
+            Spread::Links => location.link,
         };
         (value as usize).saturating_mul(self.width)
     }
@@ -85,34 +85,34 @@ impl Column {
         }
     }
 
-    /// The first leaf of the value at a spot.
-    pub fn number(&self, spot: Spot) -> u32 {
-        self.leaf(self.at(spot))
+    /// The first leaf of the value at a location.
+    pub fn number(&self, location: Location) -> u32 {
+        self.leaf(self.at(location))
     }
 
-    /// Puts a number at a spot.
-    pub fn put(&mut self, spot: Spot, number: u32) {
-        let at = self.at(spot);
+    /// Puts a number at a location.
+    pub fn put(&mut self, location: Location, number: u32) {
+        let at = self.at(location);
         if let Some(cell) = self.cells.get_mut(at) {
             *cell = number;
         }
     }
 
-    /// Puts the value that a column has at some spot.
-    pub fn carry(&mut self, spot: Spot, from: &Column, there: Spot) {
-        self.carry_leaves(spot, 0, from, from.at(there), from.width);
+    /// Puts the value that a column has at some location.
+    pub fn carry(&mut self, location: Location, from: &Column, there: Location) {
+        self.carry_leaves(location, 0, from, from.at(there), from.width);
     }
 
     /// Puts so many leaves from one on, behind so many leaves of the own value.
     pub fn carry_leaves(
         &mut self,
-        spot: Spot,
+        location: Location,
         behind: usize,
         from: &Column,
         first: usize,
         many: usize,
     ) {
-        let own = self.at(spot).saturating_add(behind);
+        let own = self.at(location).saturating_add(behind);
         for index in 0..many {
             let number = from.leaf(first.saturating_add(index));
             if let Some(cell) = self.cells.get_mut(own.saturating_add(index)) {
@@ -121,9 +121,9 @@ impl Column {
         }
     }
 
-    /// The order of the value at a spot and one of another column.
-    pub fn order(&self, spot: Spot, other: &Column, there: Spot) -> Ordering {
-        let own = self.at(spot);
+    /// The order of the value at a location and one of another column.
+    pub fn order(&self, location: Location, other: &Column, there: Location) -> Ordering {
+        let own = self.at(location);
         let its = other.at(there);
         for index in 0..self.width {
             let a = self.leaf(own.saturating_add(index));

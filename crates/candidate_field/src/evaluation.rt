@@ -27,7 +27,7 @@ pub fn candidate(
         potentials,
         sources: sources(alloc, program)?,
         devices: group.members.len(),
-        links: group.ears.len(),
+        links: group.link_ends.len(),
     };
     let size = program.size();
     let mut columns = Vec::with_capacity(alloc, size as usize)?;

@@ -1,6 +1,6 @@
 //! Exports from columns.
 
-use crate::columns::{Column, spot_of};
+use crate::columns::{Column, at_device};
 use crate::work::{Context, View, Work};
 use fc_values::{Export, Local, LocalTy, Memory, Slot, Slots, copy, inner};
 use std::alloc::Global;
@@ -29,7 +29,7 @@ pub fn keep(
 ) -> Result<(), Memory> {
     for device in view.devices {
         let column = work.column(place);
-        let mut at = column.at(spot_of(*device));
+        let mut at = column.at(at_device(*device));
         let value = local_at(view.context.alloc, ty, column, &mut at)?;
         if let Some(list) = work.slots.get_mut(*device as usize) {
             if let Some(cell) = list.get_mut(slot as usize) {
@@ -71,7 +71,7 @@ pub fn exports(context: &Context<'_>, work: Work) -> Result<Vec<Option<Export>>,
     };
     let mut place = 0u32;
     for list in slots {
-        let mut at = column.at(spot_of(place));
+        let mut at = column.at(at_device(place));
         let value = local_at(context.alloc, inner(&main.ty), column, &mut at)?;
         let slots = Slots { list };
         all.push(Some(Export { value, slots }))?;

@@ -1,7 +1,7 @@
 //! The columns of nodes, from those of their kids.
 
 use crate::builtins::Application;
-use crate::columns::{Column, Spread, spot_of};
+use crate::columns::{Column, Spread, at_device};
 use crate::work::{Context, View, Work, kid};
 use fc_nodes::{Node, Op};
 use fc_values::{Builtin, Local, Memory};
@@ -81,8 +81,8 @@ fn uids(context: &Context<'_>) -> Result<Column, Memory> {
 fn weights(view: &View<'_>) -> Result<Column, Memory> {
     let context = view.context;
     let mut column = Column::zeros(context.alloc, Spread::Links, 1, context.links)?;
-    for ear in view.ears {
-        column.put(ear.spot, ear.weight);
+    for end in view.link_ends {
+        column.put(end.location, end.weight);
     }
     Ok(column)
 }
@@ -97,8 +97,8 @@ fn heard(
 ) -> Result<Column, Memory> {
     let mut own = work.open(view.context, place, node)?;
     let column = work.column(from);
-    for ear in view.ears {
-        own.carry(ear.spot, column, spot_of(ear.near));
+    for end in view.link_ends {
+        own.carry(end.location, column, at_device(end.near));
     }
     Ok(own)
 }
@@ -121,12 +121,12 @@ fn applied(
         third: work.column(context.source(kid(node, 2))),
     };
     if own.spread == Spread::Links {
-        for ear in view.ears {
-            application.put(ear.spot, &mut own);
+        for end in view.link_ends {
+            application.put(end.location, &mut own);
         }
     } else {
         for device in view.devices {
-            application.put(spot_of(*device), &mut own);
+            application.put(at_device(*device), &mut own);
         }
     }
     Ok(own)

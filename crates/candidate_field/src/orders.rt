@@ -1,8 +1,8 @@
 //! A `rep` or `share` whose variable occurs in its body, solved device by device: the unsettled device with the least
 //! value is settled next, or devices go by rising potential.
 
-use crate::columns::spot_of;
-use crate::groups::Ear;
+use crate::columns::at_device;
+use crate::groups::LinkEnd;
 use crate::nodes::put;
 use crate::work::{Context, View, Work, kid};
 use fc_nodes::{Node, Op};
@@ -141,7 +141,7 @@ fn rising_order(
     let mut heap = BinaryHeap::new(context.alloc);
     let potential = work.column(context.source(term));
     for device in view.devices {
-        heap.push((u32::MAX - potential.number(spot_of(*device)), *device))?;
+        heap.push((u32::MAX - potential.number(at_device(*device)), *device))?;
     }
     for _ in 0..view.devices.len() {
         if let Some((_, device)) = heap.pop() {
@@ -164,7 +164,7 @@ fn solve_at(
         context: view.context,
         group: view.group,
         devices: &devices,
-        ears: view.group.heard(device),
+        link_ends: view.group.heard(device),
     };
     replay(&one, work, plan)?;
     work.copy(&one, body, place)
@@ -181,16 +181,16 @@ fn smallest_first(
     let context = view.context;
     let mut heap = BinaryHeap::new(context.alloc);
     for device in view.devices {
-        let lead = work.column(place).number(spot_of(*device));
+        let lead = work.column(place).number(at_device(*device));
         heap.push((u32::MAX - lead, *device))?;
     }
     let mut settled = vec![in context.alloc; false; context.devices]?;
-    for _ in 0..view.devices.len().saturating_add(view.ears.len()) {
+    for _ in 0..view.devices.len().saturating_add(view.link_ends.len()) {
         if let Some((_, device)) = heap.pop() {
             if settle(&mut settled, device) {
-                let ears = open(view, device, &settled)?;
-                replay_there(view, work, &ears, plan)?;
-                lower(view, work, place, field, &ears, &mut heap)?;
+                let link_ends = open(view, device, &settled)?;
+                replay_there(view, work, &link_ends, plan)?;
+                lower(view, work, place, field, &link_ends, &mut heap)?;
             }
         }
     }
@@ -210,16 +210,16 @@ fn settle(settled: &mut [bool], device: u32) -> bool {
 }
 
 // The links by which devices that aren't settled hear a device.
-fn open(view: &View<'_>, device: u32, settled: &[bool]) -> Result<Vec<Ear>, Memory> {
-    let mut ears = Vec::new(view.context.alloc);
-    for ear in view.group.heard(device) {
-        if settled.get(ear.near as usize) == Some(&false) {
-            if let Some(back) = view.group.back(ear) {
-                ears.push(back)?;
+fn open(view: &View<'_>, device: u32, settled: &[bool]) -> Result<Vec<LinkEnd>, Memory> {
+    let mut link_ends = Vec::new(view.context.alloc);
+    for end in view.group.heard(device) {
+        if settled.get(end.near as usize) == Some(&false) {
+            if let Some(back) = view.group.back(end) {
+                link_ends.push(back)?;
             }
         }
     }
-    Ok(ears)
+    Ok(link_ends)
 }
 
 // Puts what is heard at links where it is less than the value.
@@ -228,17 +228,17 @@ fn lower(
     work: &mut Work,
     place: u32,
     field: u32,
-    ears: &[Ear],
+    link_ends: &[LinkEnd],
     heap: &mut BinaryHeap<(u32, u32)>,
 ) -> Result<(), Memory> {
     let Some(mut own) = work.take(place) else {
         return Ok(());
     };
     let heard = work.column(view.context.source(field));
-    for ear in ears {
-        if heard.order(ear.spot, &own, ear.spot) == Ordering::Less {
-            own.carry(ear.spot, heard, ear.spot);
-            heap.push((u32::MAX - own.number(ear.spot), ear.spot.device))?;
+    for end in link_ends {
+        if heard.order(end.location, &own, end.location) == Ordering::Less {
+            own.carry(end.location, heard, end.location);
+            heap.push((u32::MAX - own.number(end.location), end.location.device))?;
         }
     }
     work.keep(place, own);
@@ -249,14 +249,14 @@ fn lower(
 fn replay_there(
     view: &View<'_>,
     work: &mut Work,
-    ears: &[Ear],
+    link_ends: &[LinkEnd],
     plan: &[u32],
 ) -> Result<(), Memory> {
     let there = View {
         context: view.context,
         group: view.group,
         devices: &[],
-        ears,
+        link_ends,
     };
     replay(&there, work, plan)
 }

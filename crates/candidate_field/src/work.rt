@@ -2,8 +2,8 @@
 
 ghost use Rattle.std.specs.Prelude.{◌<◌, length};
 
-use crate::columns::{Column, Spread, spot_of};
-use crate::groups::{Ear, Group};
+use crate::columns::{Column, Spread, at_device};
+use crate::groups::{Group, LinkEnd};
 use fc_nodes::{Node, Op, Unfolded};
 use fc_values::{LocalTy, Memory, Slot, Ty, inner};
 use std::alloc::Global;
@@ -111,7 +111,7 @@ pub struct View<'a> {
     pub context: &'a Context<'a>,
     pub group: &'a Group,
     pub devices: &'a [u32],
-    pub ears: &'a [Ear],
+    pub link_ends: &'a [LinkEnd],
 }
 
 impl<'a> View<'a> {
@@ -121,7 +121,7 @@ impl<'a> View<'a> {
             context,
             group,
             devices: &group.members,
-            ears: &group.ears,
+            link_ends: &group.link_ends,
         }
     }
 }
@@ -181,7 +181,7 @@ impl Work {
         let mut own = self.open(context, place, node)?;
         let column = self.column(context.source(from));
         for device in view.devices {
-            own.carry(spot_of(*device), column, spot_of(*device));
+            own.carry(at_device(*device), column, at_device(*device));
         }
         self.keep(place, own);
         Ok(())

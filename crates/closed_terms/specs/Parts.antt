@@ -7,7 +7,7 @@ use Rattle.fc_nodes.specs.Typing.{HasType}
 use Rattle.fc_nodes.specs.Places.{StandsAt}
 use Rattle.fc_nodes.specs.Program.{Program}
 use Rattle.topology.specs.Networks.{Network}
-use Rattle.interval_facts.specs.Solutions.{Devices, Map, Maps, Solves}
+use Rattle.interval_facts.specs.Solutions.{Devices, ValueMap, ValueMaps, Solves}
 
 abbrev pub lowered_leaf : ℕ → Leaf → Leaf
 lowered_leaf k (Literal v) = Literal v
@@ -61,6 +61,6 @@ pub record IsPart (P : Program) (p : ℕ) (Q : Program) : Type 0 where
 
 -- what solves the part solves the term at its place, whatever the binders around it and those of the part are
 abbrev pub PartsSolve : Type 0
-PartsSolve = (P Q : Program) (p : ℕ) (N : Network) (D : Devices) (V W : Maps) (F : Map)
+PartsSolve = (P Q : Program) (p : ℕ) (N : Network) (D : Devices) (V W : ValueMaps) (F : ValueMap)
     → HasType P.declared [] p (term_at P.nodes p) → IsPart P p Q
     → Solves N 0 (term_at Q.nodes 0) D W F → Solves N p (term_at P.nodes p) D V F

@@ -10,7 +10,7 @@ use Rattle.fc_nodes.specs.Terms.{Evolution, ByRep, ByShare, Term, Evolve, size}
 use Rattle.alignment.specs.Environments.{Env}
 use Rattle.device_eval.specs.Evaluation.{Vars}
 use Rattle.topology.specs.Networks.{Network, IsNetwork}
-use Rattle.interval_facts.specs.Solutions.{Devices, In, Map, Maps, bind, around, local_map, evolved, Solves}
+use Rattle.interval_facts.specs.Solutions.{Devices, In, ValueMap, ValueMaps, bind, around, local_map, evolved, Solves}
 use Rattle.fc_nodes.specs.Variables.{occurs}
 use Rattle.fragment_check.specs.Levels.{Lvs, level_of}
 use Rattle.converge_laws.specs.Fragment.{Analysis}
@@ -42,7 +42,7 @@ use Rattle.converge_laws.proofs.Around.{around_up}
 use Rattle.interval_facts.proofs.Claims.{some_around}
 use Rattle.fc_values.proofs.Rising.{rises_test}
 
-module _ (A : Analysis) (N : Network) (d j : ℕ) (t : ValueType) (e : Evolution) (a u : Term) (p b : ℕ) (st : Stage) (lv : Lvs) (D : Devices) (V : Maps) (F : Map) (s : Solves N p (Evolve t e a u) D V F) (vars : Vars) (env : Env) (v : AnyValue) (tree : Tree) (cl : occurs st.var (Evolve t e a u) ≡ false) (g : Given A N d j p b st lv (Evolve t e a u) D V F s vars env) (r : Evolves N d p e a u vars env v tree)
+module _ (A : Analysis) (N : Network) (d j : ℕ) (t : ValueType) (e : Evolution) (a u : Term) (p b : ℕ) (st : Stage) (lv : Lvs) (D : Devices) (V : ValueMaps) (F : ValueMap) (s : Solves N p (Evolve t e a u) D V F) (vars : Vars) (env : Env) (v : AnyValue) (tree : Tree) (cl : occurs st.var (Evolve t e a u) ≡ false) (g : Given A N d j p b st lv (Evolve t e a u) D V F s vars env) (r : Evolves N d p e a u vars env v tree)
     (net : IsNetwork N) (deep : suc b ≤ level_of A.stages (suc p + size a) b p lv u) (q : ℕ) (is : A.pattern p ≡ pattern.Acyclic q) (occ : occurs p u ≡ true) (shallow : Shallow e p (inner t) u) (guarded : Guarded e p q u)
     (steps : (h : Term) → size h ≤ size u → StepOf A N d j h) where
   abbrev M : ℕ
@@ -57,7 +57,7 @@ module _ (A : Analysis) (N : Network) (d j : ℕ) (t : ValueType) (e : Evolution
   abbrev y : Stage
   y = stage_of A N p b lv e a u D V
 
-  abbrev W : Maps
+  abbrev W : ValueMaps
   W = bind p (evolved e N D s.1) V
 
   abbrev ds : List ℕ
@@ -109,7 +109,7 @@ module _ (A : Analysis) (N : Network) (d j : ℕ) (t : ValueType) (e : Evolution
   abbrev Part : ℕ → Term → AnyValue → Type 0
   Part = IsPartBelow M ds A.ranges q low
 
-  parts : (k : ℕ) (h : Term) (G : Map) (z : Solves N k h D W G) → InRanges A.ranges N k h D W G z → Part k h (G d)
+  parts : (k : ℕ) (h : Term) (G : ValueMap) (z : Solves N k h D W G) → InRanges A.ranges N k h D W G z → Part k h (G d)
   parts k h G z rr = (
     (solution_fits N net h k D W G z d g.inside, lies_of A.ranges N k h D W G z rr d g.inside),
     λ u' v' same i l.

@@ -8,16 +8,16 @@ use Rattle.fc_values.specs.Fields.{Entries, AnyValue, ValueLocal, restricted}
 use Rattle.fc_nodes.specs.Terms.{Leaf, Literal, Variable, Sense, Uid, NbrLink, Term, Terms}
 use Rattle.alignment.specs.Environments.{same_truth}
 use Rattle.topology.specs.Networks.{Network, near}
-use Rattle.interval_facts.specs.Solutions.{Devices, In, Map, Maps, bind, near_among, field_of, where_is, LeafIs}
+use Rattle.interval_facts.specs.Solutions.{Devices, In, ValueMap, ValueMaps, bind, near_among, field_of, where_is, LeafIs}
 use Rattle.fc_nodes.specs.Variables.{occurs, occurs_in}
 use Rattle.converge_laws.proofs.Near.{AllSet, all_set}
 use Rattle.topology.specs.Nearby.{near_numbers}
 
 -- the maps of the binders that occur agree
-abbrev pub AgreeFor : Devices → Term → Maps → Maps → Type 0
+abbrev pub AgreeFor : Devices → Term → ValueMaps → ValueMaps → Type 0
 AgreeFor D t V W = (q : ℕ) → occurs q t ≡ true → (d : ℕ) → In D d → V q d ≡ W q d
 
-abbrev pub AgreeIn : Devices → Terms → Maps → Maps → Type 0
+abbrev pub AgreeIn : Devices → Terms → ValueMaps → ValueMaps → Type 0
 AgreeIn D xs V W = (q : ℕ) → occurs_in q xs ≡ true → (d : ℕ) → In D d → V q d ≡ W q d
 
 pub local_same : (v w : LocalValue) → ValueLocal v ≡ ValueLocal w → v ≡ w
@@ -47,21 +47,21 @@ module _ (N : Network) where
   pub field_same : (D : Devices) (g h : ℕ → LocalValue) → ((n : ℕ) → In D n → g n ≡ h n) → (d : ℕ) → In D d → field_of N D g d ≡ field_of N D h d
   field_same D g h e d i = let x = e d i in let r = map_same g h D e (near_among N D d) (all_set D (near N d)) in rw (x, r) refl
 
-  pub leaf_same : (D : Devices) (l : Leaf) (V W : Maps) (d : ℕ) (v w : AnyValue) → ((q : ℕ) → l ≡ Variable q → V q d ≡ W q d) → LeafIs N D l V d v → LeafIs N D l W d w → v ≡ w
+  pub leaf_same : (D : Devices) (l : Leaf) (V W : ValueMaps) (d : ℕ) (v w : AnyValue) → ((q : ℕ) → l ≡ Variable q → V q d ≡ W q d) → LeafIs N D l V d v → LeafIs N D l W d w → v ≡ w
   leaf_same D (Literal x) V W d v w e h k = h ∙ sym k
   leaf_same D (Variable q) V W d v w e h k = h ∙ ap (restricted d (near_numbers (near_among N D d))) (e q refl) ∙ sym k
   leaf_same D (Sense i) V W d v w e h k = let a = h.1 in let b = k.1 in let same : h.0 ≡ k.0 = cc in h.2 ∙ ap ValueLocal same ∙ sym k.2
   leaf_same D Uid V W d v w e h k = h ∙ sym k
   leaf_same D NbrLink V W d v w e h k = h ∙ sym k
 
-  pub bind_agree : (D : Devices) (p : ℕ) (u : Term) (G H : Map) (V W : Maps) → ((d : ℕ) → In D d → G d ≡ H d) → AgreeFor D u V W → AgreeFor D u (bind p G V) (bind p H W)
+  pub bind_agree : (D : Devices) (p : ℕ) (u : Term) (G H : ValueMap) (V W : ValueMaps) → ((d : ℕ) → In D d → G d ≡ H d) → AgreeFor D u V W → AgreeFor D u (bind p G V) (bind p H W)
   bind_agree D p u G H V W e h q o d i = by_test (nat_eq p q)
     where
       by_test : (c : Bool) → (if c then G else V q) d ≡ (if c then H else W q) d
       by_test true = e d i
       by_test false = h q o d i
 
-  pub bind_apart : (D : Devices) (p : ℕ) (u : Term) (G H : Map) (V W : Maps) → occurs p u ≡ false → AgreeFor D u V W → AgreeFor D u (bind p G V) (bind p H W)
+  pub bind_apart : (D : Devices) (p : ℕ) (u : Term) (G H : ValueMap) (V W : ValueMaps) → occurs p u ≡ false → AgreeFor D u V W → AgreeFor D u (bind p G V) (bind p H W)
   bind_apart D p u G H V W n h q o d i = by_test (nat_eq p q) refl
     where
       by_test : (c : Bool) → nat_eq p q ≡ c → (if c then G else V q) d ≡ (if c then H else W q) d

@@ -11,7 +11,7 @@ use Rattle.topology.specs.Networks.{Network, numbers, near, IsNetwork}
 use Rattle.fc_values.proofs.Numbers.{Part, part_none, part_skip, part_keep, rises_with, rises_part, not_in_part, still_stays}
 use Rattle.device_eval.proofs.Sights.{devices_with, fit_with, bound_fits}
 use Rattle.topology.proofs.Lemmas.{AllNear, near_rises, near_fits}
-use Rattle.interval_facts.specs.Solutions.{Devices, In, Map, Maps, bind, near_among, around, FitsOn, field_of, where_is, Solves}
+use Rattle.interval_facts.specs.Solutions.{Devices, In, ValueMap, ValueMaps, bind, near_among, around, FitsOn, field_of, where_is, Solves}
 use Rattle.converge_laws.proofs.Near.{in_part}
 use Rattle.device_eval.specs.Conditions.{VariableFits}
 use Rattle.topology.specs.Nearby.{near_numbers}
@@ -92,16 +92,16 @@ module _ (N : Network) (net : IsNetwork N) where
   around_up D d = rises_with d (heard_in N D d) (near_apart D d) (near_up D d)
 
   -- a variable over a set of devices
-  abbrev pub VarOn : Devices → ValueType → Map → Type 0
+  abbrev pub VarOn : Devices → ValueType → ValueMap → Type 0
   VarOn D t G = (d : ℕ) → In D d → VariableFits M d (heard_in N D d) t (G d)
 
-  abbrev pub VarsOn : Devices → Scope → Maps → Type 0
+  abbrev pub VarsOn : Devices → Scope → ValueMaps → Type 0
   VarsOn D scope V = (q : ℕ) (t : ValueType) → type_at q scope ≡ Some t → VarOn D t (V q)
 
-  pub bound_on : (D : Devices) (t : ValueType) (F : Map) → FitsOn N D t F → VarOn D t F
+  pub bound_on : (D : Devices) (t : ValueType) (F : ValueMap) → FitsOn N D t F → VarOn D t F
   bound_on D t F h = λ d i. bound_fits M d (heard_in N D d) t (F d) (near_up D d) (near_apart D d) (h d i)
 
-  pub bind_on : (D : Devices) (p : ℕ) (t : ValueType) (G : Map) (scope : Scope) (V : Maps) → VarOn D t G → VarsOn D scope V → VarsOn D ((p, t) ∷ scope) (bind p G V)
+  pub bind_on : (D : Devices) (p : ℕ) (t : ValueType) (G : ValueMap) (scope : Scope) (V : ValueMaps) → VarOn D t G → VarsOn D scope V → VarsOn D ((p, t) ∷ scope) (bind p G V)
   bind_on D p t G scope V g h q u e d i = by_test (nat_eq p q) e
     where
       by_test : (c : Bool) → (if c then Some t else type_at q scope) ≡ Some u → VariableFits M d (heard_in N D d) u ((if c then G else V q) d)
@@ -111,7 +111,7 @@ module _ (N : Network) (net : IsNetwork N) where
   pub in_branch : (b : Bool) (D : Devices) (k : ℕ → Bool) (n : ℕ × ℕ) → where_is b D k n.0 ≡ true → D n.0 ≡ true
   in_branch b D k n h = in_part b D k n.0 h
 
-  pub fewer_on : (b : Bool) (D : Devices) (k : ℕ → Bool) (t : ValueType) (G : Map) → VarOn D t G → VarOn (where_is b D k) t G
+  pub fewer_on : (b : Bool) (D : Devices) (k : ℕ → Bool) (t : ValueType) (G : ValueMap) → VarOn D t G → VarOn (where_is b D k) t G
   fewer_on b D k (TypeLocal t) G h d i = by_value (G d) (h d (in_part b D k d i))
     where
       by_value : (v : AnyValue) → VariableFits M d (heard_in N D d) (TypeLocal t) v → VariableFits M d (heard_in N (where_is b D k) d) (TypeLocal t) v
@@ -129,7 +129,7 @@ module _ (N : Network) (net : IsNetwork N) where
     fit_with M s d (f d) (map (λ (n : ℕ × ℕ). (n.0, f n.0)) (near_among N D d)) (h d) (entries_fit M s (λ n. f n.0) (λ n. h n.0) (near_among N D d)),
   )
 
-  pub solution_fits : (t : Term) (p : ℕ) (D : Devices) (V : Maps) (F : Map) → Solves N p t D V F → FitsOn N D (type_of t) F
+  pub solution_fits : (t : Term) (p : ℕ) (D : Devices) (V : ValueMaps) (F : ValueMap) → Solves N p t D V F → FitsOn N D (type_of t) F
   solution_fits (Plain t l) p D V F s = s.0
   solution_fits (Apply t o xs) p D V F s = s.0
   solution_fits (Nbr t a) p D V F s = s.0

@@ -16,7 +16,7 @@ use Rattle.topology.specs.Networks.{Network, Lives, numbers, near, IsNetwork}
 use Rattle.topology.specs.Nearby.{near_numbers}
 use Rattle.topology.proofs.Lemmas.{AllNear, near_fits}
 use Rattle.interval_facts.specs.Ranges.{RangeValue, IntRange, BoolRange, PairRange, LiesIn}
-use Rattle.interval_facts.specs.Solutions.{Devices, In, Map, Maps, near_among, around, at_device, field_of, Solves, SolveAll}
+use Rattle.interval_facts.specs.Solutions.{Devices, In, ValueMap, ValueMaps, near_among, around, at_device, field_of, Solves, SolveAll}
 use Rattle.interval_facts.specs.Claims.{InRanges, AllInRanges}
 use Rattle.interval_facts.proofs.Pointwise.{pointwise_nth}
 use Rattle.growth_facts.specs.Leads.{lead, least_integer, greatest_integer}
@@ -26,7 +26,7 @@ use Rattle.growth_facts.proofs.FieldPairs.{field_nth, pairs_with}
 use Rattle.growth_facts.proofs.Grow.{within_of}
 use Rattle.fragment_check.specs.Shapes.{int_of, IsGuard, guards, Guarded, AllGuarded}
 use Rattle.converge_laws.specs.Stages.{integer_of}
-use Rattle.converge_laws.specs.Fragment.{Analysis, InFragment, AllInFragment}
+use Rattle.converge_laws.specs.Fragment.{Analysis, TermInFragment, TermsInFragment}
 use Rattle.converge_laws.proofs.Around.{local_in, local_back}
 use Rattle.converge_laws.proofs.Guarded.{comparing}
 use Rattle.converge_laws.proofs.Ranged.{lies_of}
@@ -82,7 +82,7 @@ module _ (N : Network) (net : IsNetwork N) (D : Devices) where
       let pairs = pairs_with (IsEntry g d) d (g d) (g d) (map (λ (m : ℕ × ℕ). (m.0, g m.0)) (near_among N D d)) (map (λ (m : ℕ × ℕ). (m.0, g m.0)) (near_among N D d)) (refl, inl refl) (pairs_each g d (near_among N D d) there) in
       field_nth (IsEntry g d) M (around N D d) t (field_of N D g d) (field_of N D g d) i l pairs f
 
-  module _ (W : Maps) (q : ℕ) where
+  module _ (W : ValueMaps) (q : ℕ) where
     -- the potential of a device
     abbrev pub potential : ℕ → ℕ
     potential n = integer_of (W q n)
@@ -90,16 +90,16 @@ module _ (N : Network) (net : IsNetwork N) (D : Devices) where
     abbrev pub IsCompared : ℕ → ℕ → LocalValue → Type 0
     IsCompared d n v = (v ≡ BoolValue (nat_lt (potential n) (potential d))) × ((n ≡ d) ⊎ IsThere n)
 
-    own_is : (p : ℕ) (G : Map) → Solves N p (int_of q) D W G → (n : ℕ) → In D n → G n ≡ ValueLocal (IntValue (potential n))
+    own_is : (p : ℕ) (G : ValueMap) → Solves N p (int_of q) D W G → (n : ℕ) → In D n → G n ≡ ValueLocal (IntValue (potential n))
     own_is p G s n i =
         let b = local_back M (around N D n) (TypeLocal IntType) IntType (G n) refl (s.0 n i) in
         b.0 ∙ ap ValueLocal (variable_is n (near_numbers (near_among N D n)) (W q n) M (local_in (G n)) b.1 (sym b.0 ∙ s.1 n i))
 
     -- the comparison at each position
-    pub compared_is : (p : ℕ) (u v : ValueType) (G : Map) → Solves N p (comparing q u v) D W G → (d : ℕ) → In D d → (i : ℕ) → i < length (around N D d) → IsCompared d (get_or (around N D d) i 0) (argument_nth i (G d))
+    pub compared_is : (p : ℕ) (u v : ValueType) (G : ValueMap) → Solves N p (comparing q u v) D W G → (d : ℕ) → In D d → (i : ℕ) → i < length (around N D d) → IsCompared d (get_or (around N D d) i 0) (argument_nth i (G d))
     compared_is p u v G s d j i l = by_maps s.1 s.2 (s.3 d j)
       where
-        by_maps : (Gs : List Map) → SolveAll N (suc p) (More (Nbr v (int_of q)) (More (int_of q) NoMore)) D W Gs → builtin_value op.Less M d (at_device d Gs) ≡ Some (G d) → IsCompared d (get_or (around N D d) i 0) (argument_nth i (G d))
+        by_maps : (Gs : List ValueMap) → SolveAll N (suc p) (More (Nbr v (int_of q)) (More (int_of q) NoMore)) D W Gs → builtin_value op.Less M d (at_device d Gs) ≡ Some (G d) → IsCompared d (get_or (around N D d) i 0) (argument_nth i (G d))
         by_maps [] z e = absurd z
         by_maps (A ∷ []) z e = absurd z.1
         by_maps (A ∷ B ∷ C ∷ Gs) z e = absurd z.1.1
@@ -128,14 +128,14 @@ module _ (N : Network) (net : IsNetwork N) (D : Devices) where
       abbrev pub LiesBetween : Type 0
       LiesBetween = (n : ℕ) → In D n → (least_integer (A.bounds q) ≤ potential n) × (potential n ≤ greatest_integer (A.bounds q))
 
-      from_variable : (p : ℕ) (G : Map) (s : Solves N p (int_of q) D W G) → InRanges A.ranges N p (int_of q) D W G s → A.ranges p ≡ A.bounds q → LiesBetween
+      from_variable : (p : ℕ) (G : ValueMap) (s : Solves N p (int_of q) D W G) → InRanges A.ranges N p (int_of q) D W G s → A.ranges p ≡ A.bounds q → LiesBetween
       from_variable p G s r k n i = in_range (A.bounds q) (G n) (potential n) (own_is p G s n i) (subst (λ z. LiesIn z (G n)) k (lies_of A.ranges N p (int_of q) D W G s r n i))
 
-      from_guard : (p : ℕ) (b : Builtin) (xs : Terms) (t : ValueType) (Gs : List Map) → IsGuard e x q (Apply t b xs) → (s : SolveAll N p xs D W Gs) → AllInRanges A.ranges N p xs D W Gs s → AllInFragment A M p xs → LiesBetween
+      from_guard : (p : ℕ) (b : Builtin) (xs : Terms) (t : ValueType) (Gs : List ValueMap) → IsGuard e x q (Apply t b xs) → (s : SolveAll N p xs D W Gs) → AllInRanges A.ranges N p xs D W Gs s → TermsInFragment A M p xs → LiesBetween
       from_guard p b xs t [] (guards t' u v h w hd nq ns) s r f = absurd s
       from_guard p b xs t (C ∷ Gs) (guards t' u v h w hd nq ns) s r f = by_maps s.0.1 s.0.2 r.0.1
         where
-          by_maps : (Hs : List Map) (z : SolveAll N (suc p) (More (Nbr v (int_of q)) (More (int_of q) NoMore)) D W Hs) → AllInRanges A.ranges N (suc p) (More (Nbr v (int_of q)) (More (int_of q) NoMore)) D W Hs z → LiesBetween
+          by_maps : (Hs : List ValueMap) (z : SolveAll N (suc p) (More (Nbr v (int_of q)) (More (int_of q) NoMore)) D W Hs) → AllInRanges A.ranges N (suc p) (More (Nbr v (int_of q)) (More (int_of q) NoMore)) D W Hs z → LiesBetween
           by_maps [] z k = absurd z
           by_maps (G ∷ []) z k = absurd z.1
           by_maps (G ∷ B ∷ C' ∷ Hs) z k = absurd z.1.1
@@ -143,7 +143,7 @@ module _ (N : Network) (net : IsNetwork N) (D : Devices) where
 
       mutual
         -- so it is where a body has a guard
-        pub lies_between : (h : Term) → Guarded e x q h → occurs x h ≡ true → (p : ℕ) (G : Map) (s : Solves N p h D W G) → InRanges A.ranges N p h D W G s → InFragment A M p h → LiesBetween
+        pub lies_between : (h : Term) → Guarded e x q h → occurs x h ≡ true → (p : ℕ) (G : ValueMap) (s : Solves N p h D W G) → InRanges A.ranges N p h D W G s → TermInFragment A M p h → LiesBetween
         lies_between (Plain t l) g o p G s r f = absurd cc
         lies_between (Nbr t a) g o p G s r f = absurd cc
         lies_between (Apply t b xs) g o p G s r f = by_guard g.1 (λ k. all_between xs k o (suc p) s.1 s.2 r.1 f)
@@ -155,7 +155,7 @@ module _ (N : Network) (net : IsNetwork N) (D : Devices) where
         lies_between (If t c u w) g o p G s r f = absurd cc
         lies_between (Let t a u) g o p G s r f = absurd cc
 
-        all_between : (xs : Terms) → AllGuarded e x q xs → occurs_in x xs ≡ true → (p : ℕ) (Gs : List Map) (s : SolveAll N p xs D W Gs) → AllInRanges A.ranges N p xs D W Gs s → AllInFragment A M p xs → LiesBetween
+        all_between : (xs : Terms) → AllGuarded e x q xs → occurs_in x xs ≡ true → (p : ℕ) (Gs : List ValueMap) (s : SolveAll N p xs D W Gs) → AllInRanges A.ranges N p xs D W Gs s → TermsInFragment A M p xs → LiesBetween
         all_between NoMore g o p Gs s r f = absurd cc
         all_between (More h hs) g o p [] s r f = absurd s
         all_between (More h hs) g o p (G ∷ Gs) s r f = by_test (occurs x h) refl o (λ k. lies_between h g.0 k p G s.0 r.0 f.0) (λ k. all_between hs g.1 k (p + size h) Gs s.1 r.1 f.1)

@@ -10,7 +10,7 @@ use Rattle.fc_nodes.specs.Terms.{Evolution, ByRep, ByShare, Term, Evolve, size}
 use Rattle.alignment.specs.Environments.{Env, child_env}
 use Rattle.device_eval.specs.Evaluation.{Vars, own_or}
 use Rattle.topology.specs.Networks.{Network, near, IsNetwork}
-use Rattle.interval_facts.specs.Solutions.{Devices, Map, Maps, bind, near_among, around, local_map, evolved, Solves}
+use Rattle.interval_facts.specs.Solutions.{Devices, ValueMap, ValueMaps, bind, near_among, around, local_map, evolved, Solves}
 use Rattle.fc_nodes.specs.Variables.{occurs}
 use Rattle.fragment_check.specs.Levels.{Lvs, level_of}
 use Rattle.converge_laws.specs.Fragment.{Analysis}
@@ -28,7 +28,7 @@ use Rattle.converge_laws.proofs.Around.{heard_in, near_up, near_apart}
 use Rattle.device_eval.proofs.Sights.{devices_with, fit_with, bound_fits}
 use Rattle.converge_laws.proofs.Down.{stage_none, stage_later}
 
-module _ (A : Analysis) (N : Network) (d j : ℕ) (t : ValueType) (e : Evolution) (a u : Term) (p b : ℕ) (st : Stage) (lv : Lvs) (D : Devices) (V : Maps) (F : Map) (s : Solves N p (Evolve t e a u) D V F) (vars : Vars) (env : Env) (v : AnyValue) (tree : Tree) (cl : occurs st.var (Evolve t e a u) ≡ false) (g : Given A N d j p b st lv (Evolve t e a u) D V F s vars env) (r : Evolves N d p e a u vars env v tree)
+module _ (A : Analysis) (N : Network) (d j : ℕ) (t : ValueType) (e : Evolution) (a u : Term) (p b : ℕ) (st : Stage) (lv : Lvs) (D : Devices) (V : ValueMaps) (F : ValueMap) (s : Solves N p (Evolve t e a u) D V F) (vars : Vars) (env : Env) (v : AnyValue) (tree : Tree) (cl : occurs st.var (Evolve t e a u) ≡ false) (g : Given A N d j p b st lv (Evolve t e a u) D V F s vars env) (r : Evolves N d p e a u vars env v tree)
     (net : IsNetwork N) (deep : suc b ≤ level_of A.stages (suc p + size a) b p lv u) where
   abbrev m : ℕ
   m = N.declared.ceiling
@@ -42,7 +42,7 @@ module _ (A : Analysis) (N : Network) (d j : ℕ) (t : ValueType) (e : Evolution
   abbrev y : Stage
   y = stage_of A N p b lv e a u D V
 
-  abbrev W : Maps
+  abbrev W : ValueMaps
   W = bind p (evolved e N D s.1) V
 
   or_not : (b ≤ j) ⊎ (j < b)
@@ -103,7 +103,7 @@ module _ (A : Analysis) (N : Network) (d j : ℕ) (t : ValueType) (e : Evolution
       )
 
   -- the body beside that of the solution
-  pub seen_body : (P : ℕ → LocalValue → LocalValue → Type 0) (Part : ℕ → Term → AnyValue → Type 0) → ((q : ℕ) (h : Term) (G : Map) (z : Solves N q h D W G) → InRanges A.ranges N q h D W G z → Part q h (G d))
+  pub seen_body : (P : ℕ → LocalValue → LocalValue → Type 0) (Part : ℕ → Term → AnyValue → Type 0) → ((q : ℕ) (h : Term) (G : ValueMap) (z : Solves N q h D W G) → InRanges A.ranges N q h D W G z → Part q h (G d))
       → ((n : ℕ) (x : LocalValue) → Fits m ty x → KeptAt m y j n (Some x) (s.1 n) → P n x (s.1 n)) → (e ≡ ByRep → (n : ℕ) (x : LocalValue) → Fits m ty x → HeardAt m y j n (Some x) (s.1 n) → P n x (s.1 n))
       → Shallow e p ty u → ((h : Term) → size h ≤ size u → StepOf A N d j h)
       → (y.base ≤ suc j → Beside m d (around N D d) e p (FieldPair P) Part at u (ValueLocal r.result) (ValueLocal (s.1 d))) × Holds A N (suc j) at b y lv u D W (local_map s.1) s.2 d r.body

@@ -9,7 +9,7 @@ use Rattle.fc_nodes.specs.Terms.{Evolution, ByRep, Term, Evolve, type_of, size}
 use Rattle.alignment.specs.Environments.{Env}
 use Rattle.device_eval.specs.Evaluation.{Vars}
 use Rattle.topology.specs.Networks.{Network, IsNetwork}
-use Rattle.interval_facts.specs.Solutions.{Devices, Map, Maps, bind, around, local_map, evolved, Solves}
+use Rattle.interval_facts.specs.Solutions.{Devices, ValueMap, ValueMaps, bind, around, local_map, evolved, Solves}
 use Rattle.fc_nodes.specs.Variables.{occurs}
 use Rattle.fragment_check.specs.Levels.{Lvs, level_of}
 use Rattle.converge_laws.specs.Fragment.{Analysis}
@@ -41,7 +41,7 @@ as_climbs : (m : ℕ) (pt : Pattern) (c top base lag : ℕ) (rank : ℕ → ℕ)
     → ClimbsBy m c c 1 base lag j o w → StageBy m pt base lag rank j n o w
 as_climbs m pt c top base lag rank j n o w e h = subst (λ x. StageBy m x base lag rank j n o w) (sym e) h
 
-module _ (A : Analysis) (N : Network) (d j : ℕ) (t : ValueType) (e : Evolution) (a u : Term) (p b : ℕ) (st : Stage) (lv : Lvs) (D : Devices) (V : Maps) (F : Map) (s : Solves N p (Evolve t e a u) D V F) (vars : Vars) (env : Env) (v : AnyValue) (tree : Tree) (cl : occurs st.var (Evolve t e a u) ≡ false) (g : Given A N d j p b st lv (Evolve t e a u) D V F s vars env) (r : Evolves N d p e a u vars env v tree)
+module _ (A : Analysis) (N : Network) (d j : ℕ) (t : ValueType) (e : Evolution) (a u : Term) (p b : ℕ) (st : Stage) (lv : Lvs) (D : Devices) (V : ValueMaps) (F : ValueMap) (s : Solves N p (Evolve t e a u) D V F) (vars : Vars) (env : Env) (v : AnyValue) (tree : Tree) (cl : occurs st.var (Evolve t e a u) ≡ false) (g : Given A N d j p b st lv (Evolve t e a u) D V F s vars env) (r : Evolves N d p e a u vars env v tree)
     (net : IsNetwork N) (c top : ℕ) (is : A.pattern p ≡ pattern.Minimising top c) (shallow : Shallow e p (inner t) u) (deep : suc b ≤ level_of A.stages (suc p + size a) b p lv u)
     (steps : (h : Term) → size h ≤ size u → StepOf A N d j h) where
   abbrev m : ℕ
@@ -56,7 +56,7 @@ module _ (A : Analysis) (N : Network) (d j : ℕ) (t : ValueType) (e : Evolution
   abbrev y : Stage
   y = stage_of A N p b lv e a u D V
 
-  abbrev W : Maps
+  abbrev W : ValueMaps
   W = bind p (evolved e N D s.1) V
 
   abbrev Part : ℕ → Term → AnyValue → Type 0
@@ -66,7 +66,7 @@ module _ (A : Analysis) (N : Network) (d j : ℕ) (t : ValueType) (e : Evolution
   abbrev pub Grows : Type 0
   Grows = (k : ℕ) (x w : LocalValue) → Beside m d (around N D d) e p (FieldPair (λ n y z. Close k y z × (z ≡ s.1 n))) Part at u (ValueLocal x) (ValueLocal w) → Close (min m (k + c)) x w × FitsOver m (around N D d) (type_of u) (ValueLocal x)
 
-  parts : (q : ℕ) (h : Term) (G : Map) (z : Solves N q h D W G) → InRanges A.ranges N q h D W G z → Part q h (G d)
+  parts : (q : ℕ) (h : Term) (G : ValueMap) (z : Solves N q h D W G) → InRanges A.ranges N q h D W G z → Part q h (G d)
   parts q h G z rr = (solution_fits N net h q D W G z d g.inside, lies_of A.ranges N q h D W G z rr d g.inside)
 
   seen_by : (P : ℕ → LocalValue → LocalValue → Type 0) → ((n : ℕ) (x : LocalValue) → Fits m ty x → KeptAt m y j n (Some x) (s.1 n) → P n x (s.1 n)) → (e ≡ ByRep → (n : ℕ) (x : LocalValue) → Fits m ty x → HeardAt m y j n (Some x) (s.1 n) → P n x (s.1 n))

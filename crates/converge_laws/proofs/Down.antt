@@ -4,7 +4,7 @@ use Rattle.fc_values.specs.Values.{LocalValue, BoolValue}
 use Rattle.fc_values.specs.Trees.{Tree, kept_of, child}
 use Rattle.fc_nodes.specs.Terms.{Term, Terms, Plain, Apply, Nbr, Evolve, If, Let, NoMore, More, size}
 use Rattle.topology.specs.Networks.{Network}
-use Rattle.interval_facts.specs.Solutions.{Devices, Map, Maps, bind, local_map, evolved, where_is, Solves, SolveAll}
+use Rattle.interval_facts.specs.Solutions.{Devices, ValueMap, ValueMaps, bind, local_map, evolved, where_is, Solves, SolveAll}
 use Rattle.fragment_check.specs.Levels.{Lvs, bind_level, level_of}
 use Rattle.converge_laws.specs.Fragment.{Analysis}
 use Rattle.converge_laws.specs.Stages.{Stage, StageBy}
@@ -34,7 +34,7 @@ stage_later m (pattern.Rising top c r) base lag rank j n o w h = λ i q s l. h i
 
 module _ (A : Analysis) (N : Network) (j : ℕ) where
   mutual
-    pub holds_less : (i : ℕ) → i ≤ j → (t : Term) (p b : ℕ) (st : Stage) (lv : Lvs) (D : Devices) (V : Maps) (F : Map) (s : Solves N p t D V F) (n : ℕ) (T : Tree) → Holds A N j p b st lv t D V F s n T → Holds A N i p b st lv t D V F s n T
+    pub holds_less : (i : ℕ) → i ≤ j → (t : Term) (p b : ℕ) (st : Stage) (lv : Lvs) (D : Devices) (V : ValueMaps) (F : ValueMap) (s : Solves N p t D V F) (n : ℕ) (T : Tree) → Holds A N j p b st lv t D V F s n T → Holds A N i p b st lv t D V F s n T
     holds_less i l (Plain t k) p b st lv D V F s n T h = tt
     holds_less i l (Apply t o xs) p b st lv D V F s n T h = all_less i l xs (suc p) 0 b st lv D V s.1 s.2 n T h
     holds_less i l (Nbr t a) p b st lv D V F s n T h = (
@@ -60,13 +60,13 @@ module _ (A : Analysis) (N : Network) (j : ℕ) where
       holds_less i l u (suc p + size a) b st (bind_level p (level_of A.stages (suc p) b st.var lv a) lv) D (bind p s.1 V) F s.3 n (child 1 T) h.1,
     )
 
-    pub all_less : (i : ℕ) → i ≤ j → (xs : Terms) (p k b : ℕ) (st : Stage) (lv : Lvs) (D : Devices) (V : Maps) (Gs : List Map) (s : SolveAll N p xs D V Gs) (n : ℕ) (T : Tree) → HoldAll A N j p k b st lv xs D V Gs s n T → HoldAll A N i p k b st lv xs D V Gs s n T
+    pub all_less : (i : ℕ) → i ≤ j → (xs : Terms) (p k b : ℕ) (st : Stage) (lv : Lvs) (D : Devices) (V : ValueMaps) (Gs : List ValueMap) (s : SolveAll N p xs D V Gs) (n : ℕ) (T : Tree) → HoldAll A N j p k b st lv xs D V Gs s n T → HoldAll A N i p k b st lv xs D V Gs s n T
     all_less i l NoMore p k b st lv D V Gs s n T h = tt
     all_less i l (More x xs) p k b st lv D V [] s n T h = absurd h
     all_less i l (More x xs) p k b st lv D V (G ∷ Gs) s n T h = (holds_less i l x p b st lv D V G s.0 n (child k T) h.0, all_less i l xs (p + size x) (suc k) b st lv D V Gs s.1 n T h.1)
 
   mutual
-    pub holds_none : (t : Term) (p b : ℕ) (st : Stage) (lv : Lvs) (D : Devices) (V : Maps) (F : Map) (s : Solves N p t D V F) (n : ℕ) (T : Tree) → j < b → b ≤ st.base → Holds A N j p b st lv t D V F s n T
+    pub holds_none : (t : Term) (p b : ℕ) (st : Stage) (lv : Lvs) (D : Devices) (V : ValueMaps) (F : ValueMap) (s : Solves N p t D V F) (n : ℕ) (T : Tree) → j < b → b ≤ st.base → Holds A N j p b st lv t D V F s n T
     holds_none (Plain t k) p b st lv D V F s n T l m = tt
     holds_none (Apply t o xs) p b st lv D V F s n T l m = all_none xs (suc p) 0 b st lv D V s.1 s.2 n T l m
     holds_none (Nbr t a) p b st lv D V F s n T l m =
@@ -94,7 +94,7 @@ module _ (A : Analysis) (N : Network) (j : ℕ) where
       holds_none u (suc p + size a) b st (bind_level p (level_of A.stages (suc p) b st.var lv a) lv) D (bind p s.1 V) F s.3 n (child 1 T) l m,
     )
 
-    pub all_none : (xs : Terms) (p k b : ℕ) (st : Stage) (lv : Lvs) (D : Devices) (V : Maps) (Gs : List Map) (s : SolveAll N p xs D V Gs) (n : ℕ) (T : Tree) → j < b → b ≤ st.base → HoldAll A N j p k b st lv xs D V Gs s n T
+    pub all_none : (xs : Terms) (p k b : ℕ) (st : Stage) (lv : Lvs) (D : Devices) (V : ValueMaps) (Gs : List ValueMap) (s : SolveAll N p xs D V Gs) (n : ℕ) (T : Tree) → j < b → b ≤ st.base → HoldAll A N j p k b st lv xs D V Gs s n T
     all_none NoMore p k b st lv D V Gs s n T l m = tt
     all_none (More x xs) p k b st lv D V [] s n T l m = absurd s
     all_none (More x xs) p k b st lv D V (G ∷ Gs) s n T l m = (holds_none x p b st lv D V G s.0 n (child k T) l m, all_none xs (p + size x) (suc k) b st lv D V Gs s.1 n T l m)

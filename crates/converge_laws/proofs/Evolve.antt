@@ -15,7 +15,7 @@ use Rattle.device_eval.specs.Evaluation.{Vars, variable_at, own_or}
 use Rattle.device_eval.specs.Rules.{Evaluates, rep, share}
 use Rattle.device_eval.specs.Neighbours.{kept_there}
 use Rattle.topology.specs.Networks.{Network}
-use Rattle.interval_facts.specs.Solutions.{Devices, Map, Maps, bind, near_among, local_map, evolved, Solves}
+use Rattle.interval_facts.specs.Solutions.{Devices, ValueMap, ValueMaps, bind, near_among, local_map, evolved, Solves}
 use Rattle.fc_nodes.specs.Variables.{occurs}
 use Rattle.fragment_check.specs.Levels.{Lvs, level_of}
 use Rattle.converge_laws.specs.Fragment.{Analysis}
@@ -53,7 +53,7 @@ evolves_of N d p t ByRep a u vars env v tree (rep t' a' u' first x v' ta tb ea o
 evolves_of N d p t ByShare a u vars env v tree (share t' a' u' first x v' es ta tb ea o k eb) =
     record { first = first; start = ValueField (with_entry d x es); starts = (x, es, o, k, refl); result = v'; body = tb; evaluates = eb; is = refl; other = ta; keeps = refl }
 
-module _ (A : Analysis) (N : Network) (d j : ℕ) (t : ValueType) (e : Evolution) (a u : Term) (p b : ℕ) (st : Stage) (lv : Lvs) (D : Devices) (V : Maps) (F : Map) (s : Solves N p (Evolve t e a u) D V F) (vars : Vars) (env : Env) (v : AnyValue) (tree : Tree) (cl : occurs st.var (Evolve t e a u) ≡ false) (g : Given A N d j p b st lv (Evolve t e a u) D V F s vars env) (r : Evolves N d p e a u vars env v tree) where
+module _ (A : Analysis) (N : Network) (d j : ℕ) (t : ValueType) (e : Evolution) (a u : Term) (p b : ℕ) (st : Stage) (lv : Lvs) (D : Devices) (V : ValueMaps) (F : ValueMap) (s : Solves N p (Evolve t e a u) D V F) (vars : Vars) (env : Env) (v : AnyValue) (tree : Tree) (cl : occurs st.var (Evolve t e a u) ≡ false) (g : Given A N d j p b st lv (Evolve t e a u) D V F s vars env) (r : Evolves N d p e a u vars env v tree) where
   abbrev M : ℕ
   M = N.declared.ceiling
 
@@ -63,7 +63,7 @@ module _ (A : Analysis) (N : Network) (d j : ℕ) (t : ValueType) (e : Evolution
   abbrev pub st' : Stage
   st' = stage_of A N p b lv e a u D V
 
-  abbrev pub V' : Maps
+  abbrev pub V' : ValueMaps
   V' = bind p (evolved e N D s.1) V
 
   pub body_given : Given A N d j at b st' lv u D V' (local_map s.1) s.2 ((p, r.start) ∷ vars) (child_env 1 env)

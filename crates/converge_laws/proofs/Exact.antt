@@ -9,7 +9,7 @@ use Rattle.fc_values.specs.BuiltinTypes.{inner, HasRule, folds_min}
 use Rattle.fc_nodes.specs.Terms.{Evolution, Term, Apply, NoMore, More, type_of, size}
 use Rattle.topology.specs.Networks.{Network, IsNetwork}
 use Rattle.interval_facts.specs.Ranges.{RangeValue, IntRange, BoolRange, PairRange, InRange, LiesIn}
-use Rattle.interval_facts.specs.Solutions.{Devices, In, Map, Maps, around, at_device, Solves, SolveAll}
+use Rattle.interval_facts.specs.Solutions.{Devices, In, ValueMap, ValueMaps, around, at_device, Solves, SolveAll}
 use Rattle.interval_facts.specs.Claims.{InRanges, AllInRanges}
 use Rattle.fc_nodes.specs.Variables.{occurs}
 use Rattle.growth_facts.specs.Leads.{lead, Close, leads, greatest_integer}
@@ -97,7 +97,7 @@ hood_types ts t (folds_min s) = record { of = s; arguments = refl; value = refl 
 pub head_of : (a b u v : ValueType) (ts us : List ValueType) → (a ∷ b ∷ []) ≡ (u ∷ v ∷ []) → (a ≡ u) × (b ≡ v)
 head_of a b u v ts us e = (cc, cc)
 
-module _ (N : Network) (net : IsNetwork N) (rs : ℕ → RangeValue) (D : Devices) (W : Maps) where
+module _ (N : Network) (net : IsNetwork N) (rs : ℕ → RangeValue) (D : Devices) (W : ValueMaps) where
   abbrev M : ℕ
   M = N.declared.ceiling
 
@@ -108,11 +108,11 @@ module _ (N : Network) (net : IsNetwork N) (rs : ℕ → RangeValue) (D : Device
     pub lies : InRange r own
     pub most : lead v ≤ lead own
 
-  pub hood_top : (p : ℕ) (t : ValueType) (h l : Term) (s : LocalType) (G : Map) → type_of h ≡ TypeField s → type_of l ≡ TypeLocal s → (z : Solves N p (Apply t op.MinHoodLoc (More h (More l NoMore))) D W G)
+  pub hood_top : (p : ℕ) (t : ValueType) (h l : Term) (s : LocalType) (G : ValueMap) → type_of h ≡ TypeField s → type_of l ≡ TypeLocal s → (z : Solves N p (Apply t op.MinHoodLoc (More h (More l NoMore))) D W G)
       → InRanges rs N p (Apply t op.MinHoodLoc (More h (More l NoMore))) D W G z → (d : ℕ) → In D d → (v : LocalValue) → G d ≡ ValueLocal v → HasTop s (rs (suc p + size h)) v
   hood_top p t h l s G th tl z r d i v e = by_maps z.1 z.2 r.1 (z.3 d i ∙ ap Some e)
     where
-      by_maps : (Gs : List Map) (y : SolveAll N (suc p) (More h (More l NoMore)) D W Gs) → AllInRanges rs N (suc p) (More h (More l NoMore)) D W Gs y → builtin_value op.MinHoodLoc M d (at_device d Gs) ≡ Some (ValueLocal v) → HasTop s (rs (suc p + size h)) v
+      by_maps : (Gs : List ValueMap) (y : SolveAll N (suc p) (More h (More l NoMore)) D W Gs) → AllInRanges rs N (suc p) (More h (More l NoMore)) D W Gs y → builtin_value op.MinHoodLoc M d (at_device d Gs) ≡ Some (ValueLocal v) → HasTop s (rs (suc p + size h)) v
       by_maps [] y k q = absurd y
       by_maps (A ∷ []) y k q = absurd y.1
       by_maps (A ∷ B ∷ C ∷ Gs) y k q = absurd y.1.1
@@ -130,7 +130,7 @@ module _ (N : Network) (net : IsNetwork N) (rs : ℕ → RangeValue) (D : Device
           field_fit es f = f.1
 
   -- so the last stage of a minimising body is the solution
-  pub last_stage : (e : Evolution) (x p c : ℕ) (t : ValueType) (h l : Term) (s : LocalType) (G : Map) → Shallow e x s (Apply t op.MinHoodLoc (More h (More l NoMore))) → occurs x (Apply t op.MinHoodLoc (More h (More l NoMore))) ≡ true → occurs x l ≡ false
+  pub last_stage : (e : Evolution) (x p c : ℕ) (t : ValueType) (h l : Term) (s : LocalType) (G : ValueMap) → Shallow e x s (Apply t op.MinHoodLoc (More h (More l NoMore))) → occurs x (Apply t op.MinHoodLoc (More h (More l NoMore))) ≡ true → occurs x l ≡ false
       → growth_of M rs e x (suc p) h ≡ Grows c → 1 ≤ c → greatest_integer (rs (suc p + size h)) ≤ M → (is_pair (rs (suc p + size h)) ≡ true → greatest_integer (rs (suc p + size h)) ≡ M → ⊥)
       → (z : Solves N p (Apply t op.MinHoodLoc (More h (More l NoMore))) D W G) → InRanges rs N p (Apply t op.MinHoodLoc (More h (More l NoMore))) D W G z → (d : ℕ) → In D d → (a v : LocalValue) → FitsOver M (around N D d) t (ValueLocal a)
       → G d ≡ ValueLocal v → Close (min M (suc (greatest_integer (rs (suc p + size h)) / c) * c)) a v → a ≡ v

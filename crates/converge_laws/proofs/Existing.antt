@@ -14,7 +14,7 @@ use Rattle.alignment.specs.Environments.{same_truth}
 use Rattle.topology.specs.Networks.{Network, Lives, numbers, near, IsNetwork}
 use Rattle.device_eval.proofs.Sights.{devices_with, fit_with, restricted_fits}
 use Rattle.topology.proofs.Lemmas.{AllNear, near_fits}
-use Rattle.interval_facts.specs.Solutions.{Devices, In, Map, Maps, bind, near_among, around, field_over, at_device, field_of, local_map, evolved, where_is, LeafIs, Solves, SolveAll}
+use Rattle.interval_facts.specs.Solutions.{Devices, In, ValueMap, ValueMaps, bind, near_among, around, field_over, at_device, field_of, local_map, evolved, where_is, LeafIs, Solves, SolveAll}
 use Rattle.fc_nodes.specs.Variables.{occurs, occurs_in}
 use Rattle.converge_laws.proofs.Near.{is_same, in_part}
 use Rattle.converge_laws.proofs.Given.{situation_at}
@@ -30,7 +30,7 @@ module _ (N : Network) (net : IsNetwork N) where
   abbrev M : ℕ
   M = N.declared.ceiling
 
-  leaf_vars : (D : Devices) (l : Leaf) (V W : Maps) (d : ℕ) (v : AnyValue) → ((q : ℕ) → l ≡ Variable q → V q d ≡ W q d) → LeafIs N D l V d v → LeafIs N D l W d v
+  leaf_vars : (D : Devices) (l : Leaf) (V W : ValueMaps) (d : ℕ) (v : AnyValue) → ((q : ℕ) → l ≡ Variable q → V q d ≡ W q d) → LeafIs N D l V d v → LeafIs N D l W d v
   leaf_vars D (Literal x) V W d v e h = h
   leaf_vars D (Variable q) V W d v e h = h ∙ ap (restricted d (near_numbers (near_among N D d))) (e q refl)
   leaf_vars D (Sense i) V W d v e h = h
@@ -39,7 +39,7 @@ module _ (N : Network) (net : IsNetwork N) where
 
   mutual
     -- and on the maps of the binders that occur
-    pub solves_vars : (t : Term) (p : ℕ) (D : Devices) (V W : Maps) (F : Map) → AgreeFor D t V W → Solves N p t D V F → Solves N p t D W F
+    pub solves_vars : (t : Term) (p : ℕ) (D : Devices) (V W : ValueMaps) (F : ValueMap) → AgreeFor D t V W → Solves N p t D V F → Solves N p t D W F
     solves_vars (Plain t l) p D V W F h s = (s.0, (λ d i. leaf_vars D l V W d (F d) (λ q e. let o : occurs q (Plain t l) ≡ true = rw e (self_eq q) in h q o d i) (s.1 d i)))
     solves_vars (Apply t o xs) p D V W F h s = (s.0, s.1, all_vars xs (suc p) D V W s.1 h s.2, s.3)
     solves_vars (Nbr t a) p D V W F h s = (s.0, s.1, solves_vars a (suc p) D V W (local_map s.1) h s.2, s.3)
@@ -59,7 +59,7 @@ module _ (N : Network) (net : IsNetwork N) where
       solves_vars u (suc p + size a) D (bind p s.1 V) (bind p s.1 W) F (bind_agree N D p u s.1 s.1 V W (λ d i. refl) (λ q o. h q (or_right (occurs q a) (occurs q u) o))) s.3,
     )
 
-    pub all_vars : (xs : Terms) (p : ℕ) (D : Devices) (V W : Maps) (Gs : List Map) → AgreeIn D xs V W → SolveAll N p xs D V Gs → SolveAll N p xs D W Gs
+    pub all_vars : (xs : Terms) (p : ℕ) (D : Devices) (V W : ValueMaps) (Gs : List ValueMap) → AgreeIn D xs V W → SolveAll N p xs D V Gs → SolveAll N p xs D W Gs
     all_vars NoMore p D V W [] h s = tt
     all_vars NoMore p D V W (G ∷ Gs) h s = absurd s
     all_vars (More x xs) p D V W [] h s = absurd s
@@ -86,7 +86,7 @@ module _ (N : Network) (net : IsNetwork N) where
         by_test true k r = let b = h.0.below in rw k (omega (arith, b, greatest), r)
         by_test false k r = rw k r
 
-    pub leaf_exists : (t : ValueType) (l : Leaf) (scope : Scope) (p : ℕ) (D : Devices) (V : Maps) → ((d : ℕ) → In D d → Lives N d) → LeafHasType N.declared scope t l → VarsOn N net D scope V → (F : Map) × Solves N p (Plain t l) D V F
+    pub leaf_exists : (t : ValueType) (l : Leaf) (scope : Scope) (p : ℕ) (D : Devices) (V : ValueMaps) → ((d : ℕ) → In D d → Lives N d) → LeafHasType N.declared scope t l → VarsOn N net D scope V → (F : ValueMap) × Solves N p (Plain t l) D V F
     leaf_exists t (Literal (IntValue n)) scope p D V live ty h = ((λ d. ValueLocal (IntValue n)), ((λ d i. rw ty.0 ty.1), (λ d i. refl)))
     leaf_exists t (Literal (BoolValue b)) scope p D V live ty h = ((λ d. ValueLocal (BoolValue b)), ((λ d i. rw ty tt), (λ d i. refl)))
     leaf_exists t (Literal (PairValue a b)) scope p D V live ty h = absurd ty
@@ -114,8 +114,8 @@ module _ (N : Network) (net : IsNetwork N) where
       ),
     )
 
-    pub apply_exists : (t : ValueType) (o : Builtin) (xs : Terms) (p : ℕ) (D : Devices) (V : Maps) (Gs : List Map) → HasRule o (types_of xs) t → SolveAll N (suc p) xs D V Gs
-        → ((d : ℕ) → In D d → FitEachOver M (around N D d) (types_of xs) (at_device d Gs)) → (F : Map) × Solves N p (Apply t o xs) D V F
+    pub apply_exists : (t : ValueType) (o : Builtin) (xs : Terms) (p : ℕ) (D : Devices) (V : ValueMaps) (Gs : List ValueMap) → HasRule o (types_of xs) t → SolveAll N (suc p) xs D V Gs
+        → ((d : ℕ) → In D d → FitEachOver M (around N D d) (types_of xs) (at_device d Gs)) → (F : ValueMap) × Solves N p (Apply t o xs) D V F
     apply_exists t o xs p D V Gs rule s fit = (
       (λ d. some_or (builtin_value o M d (at_device d Gs))),
       (
@@ -130,7 +130,7 @@ module _ (N : Network) (net : IsNetwork N) where
         made d i = builtin_typed o M d (around N D d) (types_of xs) t (at_device d Gs) rule (rises_test (around N D d) (around_up N net D d)) (fit d i)
 
     -- a solution of local type, as local values
-    pub as_local : (t : Term) (s : LocalType) (p : ℕ) (D : Devices) (V : Maps) (F : Map) → type_of t ≡ TypeLocal s → Solves N p t D V F → (g : ℕ → LocalValue) × Solves N p t D V (local_map g) × ((d : ℕ) → In D d → F d ≡ ValueLocal (g d)) × ((d : ℕ) → In D d → Fits M s (g d))
+    pub as_local : (t : Term) (s : LocalType) (p : ℕ) (D : Devices) (V : ValueMaps) (F : ValueMap) → type_of t ≡ TypeLocal s → Solves N p t D V F → (g : ℕ → LocalValue) × Solves N p t D V (local_map g) × ((d : ℕ) → In D d → F d ≡ ValueLocal (g d)) × ((d : ℕ) → In D d → Fits M s (g d))
     as_local t s p D V F e h =
         let back : (d : ℕ) → In D d → (F d ≡ ValueLocal (local_in (F d))) × Fits M s (local_in (F d)) = λ d i. local_back M (around N D d) (type_of t) s (F d) e (solution_fits N net t p D V F h d i) in
         ((λ d. local_in (F d)), solves_agree N t p D V F (local_map (λ d. local_in (F d))) (λ d i. (back d i).0) h, (λ d i. (back d i).0), (λ d i. (back d i).1))
@@ -153,22 +153,22 @@ module _ (N : Network) (net : IsNetwork N) where
     evolved_on ByRep D s f h = λ d i. h d
     evolved_on ByShare D s f h = bound_on N net D (TypeField s) (field_of N D f) (field_fits N net D s f h)
 
-    pub nbr_exists : (t : ValueType) (a : Term) (s : LocalType) (p : ℕ) (D : Devices) (V : Maps) (F : Map) → t ≡ TypeField s → type_of a ≡ TypeLocal s → Solves N (suc p) a D V F → (G : Map) × Solves N p (Nbr t a) D V G
+    pub nbr_exists : (t : ValueType) (a : Term) (s : LocalType) (p : ℕ) (D : Devices) (V : ValueMaps) (F : ValueMap) → t ≡ TypeField s → type_of a ≡ TypeLocal s → Solves N (suc p) a D V F → (G : ValueMap) × Solves N p (Nbr t a) D V G
     nbr_exists t a s p D V F et ea h =
         let l = as_local a s (suc p) D V F ea h in
         let g = within D s l.0 in
         let h' = solves_agree N a (suc p) D V (local_map l.0) (local_map g) (λ d i. ap ValueLocal (sym (within_same D s l.0 d i))) l.1 in
         (field_of N D g, ((λ d i. rw et (field_fits N net D s g (within_fits D s l.0 l.3) d i)), g, h', (λ d i. refl)))
 
-    pub constant_exists : (t : ValueType) (e : Evolution) (a u : Term) (s : LocalType) (p : ℕ) (D : Devices) (V : Maps) (F : Map) → t ≡ TypeLocal s → type_of u ≡ TypeLocal s → occurs p u ≡ false
-        → Solves N (suc p + size a) u D (bind p (evolved e N D (λ d. some_value s)) V) F → (G : Map) × Solves N p (Evolve t e a u) D V G
+    pub constant_exists : (t : ValueType) (e : Evolution) (a u : Term) (s : LocalType) (p : ℕ) (D : Devices) (V : ValueMaps) (F : ValueMap) → t ≡ TypeLocal s → type_of u ≡ TypeLocal s → occurs p u ≡ false
+        → Solves N (suc p + size a) u D (bind p (evolved e N D (λ d. some_value s)) V) F → (G : ValueMap) × Solves N p (Evolve t e a u) D V G
     constant_exists t e a u s p D V F et eu none h =
         let l = as_local u s (suc p + size a) D (bind p (evolved e N D (λ d. some_value s)) V) F eu h in
         let h' = solves_vars u (suc p + size a) D (bind p (evolved e N D (λ d. some_value s)) V) (bind p (evolved e N D l.0) V) (local_map l.0) (bind_apart N D p u (evolved e N D (λ d. some_value s)) (evolved e N D l.0) V V none (λ q o d i. refl)) l.1 in
         (local_map l.0, ((λ d i. rw et (l.3 d i)), l.0, h', (λ d i. refl)))
 
-    pub if_exists : (t : ValueType) (c u w : Term) (s : LocalType) (p : ℕ) (D : Devices) (V : Maps) (k : ℕ → Bool) (A B : Map) → t ≡ TypeLocal s → type_of u ≡ TypeLocal s → type_of w ≡ TypeLocal s
-        → Solves N (suc p) c D V (local_map (λ d. BoolValue (k d))) → Solves N (suc p + size c) u (where_is true D k) V A → Solves N (suc p + size c + size u) w (where_is false D k) V B → (F : Map) × Solves N p (If t c u w) D V F
+    pub if_exists : (t : ValueType) (c u w : Term) (s : LocalType) (p : ℕ) (D : Devices) (V : ValueMaps) (k : ℕ → Bool) (A B : ValueMap) → t ≡ TypeLocal s → type_of u ≡ TypeLocal s → type_of w ≡ TypeLocal s
+        → Solves N (suc p) c D V (local_map (λ d. BoolValue (k d))) → Solves N (suc p + size c) u (where_is true D k) V A → Solves N (suc p + size c + size u) w (where_is false D k) V B → (F : ValueMap) × Solves N p (If t c u w) D V F
     if_exists t c u w s p D V k A B et eu ew hc hu hw = (
       pick,
       (
@@ -180,7 +180,7 @@ module _ (N : Network) (net : IsNetwork N) where
       ),
     )
       where
-        pick : Map
+        pick : ValueMap
         pick = λ d. if k d then A d else B d
 
         inside : (b : Bool) (d : ℕ) → In D d → k d ≡ b → In (where_is b D k) d

@@ -11,7 +11,7 @@ use Rattle.fc_nodes.specs.Typing.{Scope, evolving_type, types_of}
 use Rattle.device_eval.specs.Conditions.{Suits}
 use Rattle.topology.specs.Networks.{Network, Lives, IsNetwork}
 use Rattle.interval_facts.specs.Ranges.{Bounds, full}
-use Rattle.interval_facts.specs.Solutions.{Devices, In, Map, Maps, bind, around, at_device, local_map, evolved, where_is, Solves, SolveAll}
+use Rattle.interval_facts.specs.Solutions.{Devices, In, ValueMap, ValueMaps, bind, around, at_device, local_map, evolved, where_is, Solves, SolveAll}
 use Rattle.fc_nodes.specs.Variables.{occurs, is_own}
 use Rattle.growth_facts.specs.Leads.{lead, least_integer}
 use Rattle.fragment_check.specs.declared.kinds.Pattern.{Pattern}
@@ -20,7 +20,7 @@ use Rattle.growth_facts.specs.Growth.{Grows, growth_of}
 use Rattle.growth_facts.specs.Beside.{Shallow}
 use Rattle.rise.specs.Laws.{rising_body}
 use Rattle.rise.proofs.WithoutRise.{without_rise, solves_agree}
-use Rattle.converge_laws.specs.Fragment.{Analysis, IsFor, InFragment, AllInFragment}
+use Rattle.converge_laws.specs.Fragment.{Analysis, IsFor, TermInFragment, TermsInFragment}
 use Rattle.converge_laws.proofs.Around.{VarsOn, bound_on, bind_on, fewer_on, truth_in, truth_back, solution_fits}
 use Rattle.converge_laws.proofs.Existing.{some_value, some_fits, leaf_exists, apply_exists, as_local, within, within_fits, within_same, evolved_on, nbr_exists, if_exists, constant_exists}
 use Rattle.converge_laws.proofs.Given.{situation_at}
@@ -71,17 +71,17 @@ module _ (A : Analysis) (N : Network) (net : IsNetwork N) (for : IsFor A N) (met
   abbrev M : ℕ
   M = N.declared.ceiling
 
-  abbrev Stands : Scope → Bounds → ℕ → Term → Devices → Maps → Type 0
+  abbrev Stands : Scope → Bounds → ℕ → Term → Devices → ValueMaps → Type 0
   Stands bs cs p t D V = Standing A.ranges N net metric bs cs p t D V
 
-  abbrev HasSolution : ℕ → Term → Devices → Maps → Type 0
-  HasSolution p t D V = (F : Map) × Solves N p t D V F
+  abbrev HasSolution : ℕ → Term → Devices → ValueMaps → Type 0
+  HasSolution p t D V = (F : ValueMap) × Solves N p t D V F
 
   abbrev pub ExistsOf : Term → Type 0
-  ExistsOf t = (bs : Scope) (cs : Bounds) (p : ℕ) (D : Devices) (V : Maps) → InFragment A M p t → Standing A.ranges N net metric bs cs p t D V → VarsOn N net D bs V → (F : Map) × Solves N p t D V F
+  ExistsOf t = (bs : Scope) (cs : Bounds) (p : ℕ) (D : Devices) (V : ValueMaps) → TermInFragment A M p t → Standing A.ranges N net metric bs cs p t D V → VarsOn N net D bs V → (F : ValueMap) × Solves N p t D V F
 
   -- a solution as local values that fit everywhere
-  turn_of : (e : Evolution) (x p : ℕ) (b : Term) (s : LocalType) (bs : Scope) (cs : Bounds) (D : Devices) (V : Maps) (f : ℕ → LocalValue) → type_of b ≡ TypeLocal s → Stands bs cs p b D (bind x (evolved e N D f) V)
+  turn_of : (e : Evolution) (x p : ℕ) (b : Term) (s : LocalType) (bs : Scope) (cs : Bounds) (D : Devices) (V : ValueMaps) (f : ℕ → LocalValue) → type_of b ≡ TypeLocal s → Stands bs cs p b D (bind x (evolved e N D f) V)
       → HasSolution p b D (bind x (evolved e N D f) V) → Turn A.ranges N e x p b s D V f
   turn_of e x p b s bs cs D V f typed st h =
       let l = as_local N net least greatest suits b s p D (bind x (evolved e N D f) V) h.0 typed h.1 in
@@ -90,11 +90,11 @@ module _ (A : Analysis) (N : Network) (net : IsNetwork N) (for : IsFor A N) (met
       record { value = g; fits = within_fits N net least greatest suits D s l.0 l.3; solves = solved; ranged = ranged A.ranges N net metric bs cs p b D (bind x (evolved e N D f) V) (local_map g) st solved }
 
   -- a solution of a body is one of its `rep` or `share`
-  of_body : (t : ValueType) (e : Evolution) (a u : Term) (s : LocalType) (p : ℕ) (D : Devices) (V : Maps) (f : ℕ → LocalValue) → t ≡ TypeLocal s → ((d : ℕ) → Fits M s (f d))
+  of_body : (t : ValueType) (e : Evolution) (a u : Term) (s : LocalType) (p : ℕ) (D : Devices) (V : ValueMaps) (f : ℕ → LocalValue) → t ≡ TypeLocal s → ((d : ℕ) → Fits M s (f d))
       → Solves N (suc p + size a) u D (bind p (evolved e N D f) V) (local_map f) → HasSolution p (Evolve t e a u) D V
   of_body t e a u s p D V f et fits h = (local_map f, ((λ d i. rw et (fits d)), f, h, (λ d i. refl)))
 
-  module _ (t : ValueType) (e : Evolution) (a u : Term) (bs : Scope) (cs : Bounds) (p : ℕ) (D : Devices) (V : Maps) (st : Standing A.ranges N net metric bs cs p (Evolve t e a u) D V) (vars : VarsOn N net D bs V) where
+  module _ (t : ValueType) (e : Evolution) (a u : Term) (bs : Scope) (cs : Bounds) (p : ℕ) (D : Devices) (V : ValueMaps) (st : Standing A.ranges N net metric bs cs p (Evolve t e a u) D V) (vars : VarsOn N net D bs V) where
     abbrev s : LocalType
     s = st.typed.0
 
@@ -114,19 +114,19 @@ module _ (A : Analysis) (N : Network) (net : IsNetwork N) (for : IsFor A N) (met
     binders f fits = bind_on N net D p (evolving_type e s) (evolved e N D f) bs V (evolved_on N net least greatest suits e D s f fits) vars
 
     -- a turn of the whole body
-    body_turn : InFragment A M at u → ExistsOf u → (f : ℕ → LocalValue) → ((d : ℕ) → Fits M s (f d)) → Turn A.ranges N e p at u s D V f
+    body_turn : TermInFragment A M at u → ExistsOf u → (f : ℕ → LocalValue) → ((d : ℕ) → Fits M s (f d)) → Turn A.ranges N e p at u s D V f
     body_turn fr ih f fits = turn_of e p at u s scope bounds D V f st.typed.3 (stands f fits) (ih scope bounds at D (bind p (evolved e N D f) V) fr (stands f fits) (binders f fits))
 
-    from_fixed : (fr : InFragment A M at u) (ih : ExistsOf u) (i : ℕ) → ((d : ℕ) → In D d → val A N net for e p at u s (inner t) D V (body_turn fr ih) st.typed.3 fr i d ≡ val A N net for e p at u s (inner t) D V (body_turn fr ih) st.typed.3 fr (suc i) d)
+    from_fixed : (fr : TermInFragment A M at u) (ih : ExistsOf u) (i : ℕ) → ((d : ℕ) → In D d → val A N net for e p at u s (inner t) D V (body_turn fr ih) st.typed.3 fr i d ≡ val A N net for e p at u s (inner t) D V (body_turn fr ih) st.typed.3 fr (suc i) d)
         → HasSolution p (Evolve t e a u) D V
     from_fixed fr ih i k = of_body t e a u s p D V (val A N net for e p at u s (inner t) D V (body_turn fr ih) st.typed.3 fr (suc i)) st.typed.1 (val_fits A N net for e p at u s (inner t) D V (body_turn fr ih) st.typed.3 fr (suc i))
         (fixed A N net for e p at u s (inner t) D V (body_turn fr ih) st.typed.3 fr i k)
 
-  module _ (t : ValueType) (e : Evolution) (a : Term) (t1 u1 : ValueType) (h l own w : Term) (bs : Scope) (cs : Bounds) (p : ℕ) (D : Devices) (V : Maps)
+  module _ (t : ValueType) (e : Evolution) (a : Term) (t1 u1 : ValueType) (h l own w : Term) (bs : Scope) (cs : Bounds) (p : ℕ) (D : Devices) (V : ValueMaps)
       (st : Standing A.ranges N net metric bs cs p (Evolve t e a (Apply t1 op.Rise (More (Apply u1 op.MinHoodLoc (More h (More l NoMore))) (More own (More w NoMore))))) D V) (vars : VarsOn N net D bs V) (c : ℕ) (rep : e ≡ ByRep)
       (rule : HasRule op.Rise (types_of (More (Apply u1 op.MinHoodLoc (More h (More l NoMore))) (More own (More w NoMore)))) t1) (ow : is_own p own ≡ true) (n0 : occurs p l ≡ false) (sh : Shallow e p (inner t) (Apply u1 op.MinHoodLoc (More h (More l NoMore))))
       (gr : growth_of N.declared.ceiling A.ranges e p (suc (suc (suc p + size a))) h ≡ Grows c) (pos : 1 ≤ c) (low : 1 ≤ least_integer (A.ranges (suc (suc (suc (suc p + size a) + size h + size l)))))
-      (fr : InFragment A N.declared.ceiling (suc p + size a) (Apply t1 op.Rise (More (Apply u1 op.MinHoodLoc (More h (More l NoMore))) (More own (More w NoMore))))) (first : ExistsOf (Apply u1 op.MinHoodLoc (More h (More l NoMore)))) (third : ExistsOf w) where
+      (fr : TermInFragment A N.declared.ceiling (suc p + size a) (Apply t1 op.Rise (More (Apply u1 op.MinHoodLoc (More h (More l NoMore))) (More own (More w NoMore))))) (first : ExistsOf (Apply u1 op.MinHoodLoc (More h (More l NoMore)))) (third : ExistsOf w) where
     abbrev T : Term
     T = Apply u1 op.MinHoodLoc (More h (More l NoMore))
 
@@ -191,7 +191,7 @@ module _ (A : Analysis) (N : Network) (net : IsNetwork N) (for : IsFor A N) (met
         subst (λ n. Stands scope' bounds' n w D (bind p (local_map f) V)) same_place (subst (λ X. Stands scope' bounds' (suc place + size T + size own) w D X) own_bound (in_first A.ranges N net metric scope' bounds' (suc place + size T + size own) w NoMore D (bind p (evolved e N D f) V) rest))
 
     gain : HasSolution gain_place w D (bind p (local_map f) V)
-    gain = third scope' bounds' gain_place D (bind p (local_map f) V) (subst (λ n. InFragment A M n w) same_place fr.1.1.0) gain_stands (subst (λ X. VarsOn N net D scope' X) own_bound (binders t e a U bs cs p D V st vars f f_fits))
+    gain = third scope' bounds' gain_place D (bind p (local_map f) V) (subst (λ n. TermInFragment A M n w) same_place fr.1.1.0) gain_stands (subst (λ X. VarsOn N net D scope' X) own_bound (binders t e a U bs cs p D V st vars f f_fits))
 
     same_body : rising_body p T w ≡ U
     same_body = sym (ap (λ y. Apply y op.Rise (More T (More own (More w NoMore)))) types.value ∙ ap (λ y. Apply (TypeLocal IntType) op.Rise (More T (More y (More w NoMore)))) (own_form p own ow types.second))
@@ -206,8 +206,8 @@ module _ (A : Analysis) (N : Network) (net : IsNetwork N) (for : IsFor A N) (met
         (subst (λ X. Solves N (suc place) T D X (local_map f)) own_bound target, gain) in
         of_body t e a U k p D V f st.typed.1 f_fits (subst (λ X. Solves N place U D X (local_map f)) (sym own_bound) (subst (λ y. Solves N place y D (bind p (local_map f) V) (local_map f)) same_body both))
 
-  evolve_exists : (t : ValueType) (e : Evolution) (a u : Term) (bs : Scope) (cs : Bounds) (p : ℕ) (D : Devices) (V : Maps) (st : Standing A.ranges N net metric bs cs p (Evolve t e a u) D V) (vars : VarsOn N net D bs V)
-      (pt : Pattern) → HasPattern M A.ranges e p (suc p + size a) (inner t) u pt → InFragment A M (suc p + size a) u → ((y : Term) → size y ≤ size u → ExistsOf y) → HasSolution p (Evolve t e a u) D V
+  evolve_exists : (t : ValueType) (e : Evolution) (a u : Term) (bs : Scope) (cs : Bounds) (p : ℕ) (D : Devices) (V : ValueMaps) (st : Standing A.ranges N net metric bs cs p (Evolve t e a u) D V) (vars : VarsOn N net D bs V)
+      (pt : Pattern) → HasPattern M A.ranges e p (suc p + size a) (inner t) u pt → TermInFragment A M (suc p + size a) u → ((y : Term) → size y ≤ size u → ExistsOf y) → HasSolution p (Evolve t e a u) D V
   evolve_exists t e a u bs cs p D V st vars pt (constant u' o) fr P =
       let s = st.typed.0 in
       let f : ℕ → LocalValue = λ d. some_value N net s in
@@ -225,8 +225,8 @@ module _ (A : Analysis) (N : Network) (net : IsNetwork N) (for : IsFor A N) (met
   evolve_exists t e a u bs cs p D V st vars pt (rising t1 u1 h l own w c rep rule ow n0 nw sh shw gr pos low) fr P =
       rise_exists t e a t1 u1 h l own w bs cs p D V st vars c rep rule ow n0 sh gr pos low fr (P (Apply u1 op.MinHoodLoc (More h (More l NoMore))) (omega arith)) (P w (omega arith))
 
-  all_exist : (xs : Terms) → ((y : Term) → size y ≤ sizes xs → ExistsOf y) → (bs : Scope) (cs : Bounds) (p : ℕ) (D : Devices) (V : Maps) → AllInFragment A M p xs → StandAll A.ranges N net metric bs cs p xs D V → VarsOn N net D bs V
-      → (Gs : List Map) × SolveAll N p xs D V Gs × ((d : ℕ) → In D d → FitEachOver M (around N D d) (types_of xs) (at_device d Gs))
+  all_exist : (xs : Terms) → ((y : Term) → size y ≤ sizes xs → ExistsOf y) → (bs : Scope) (cs : Bounds) (p : ℕ) (D : Devices) (V : ValueMaps) → TermsInFragment A M p xs → StandAll A.ranges N net metric bs cs p xs D V → VarsOn N net D bs V
+      → (Gs : List ValueMap) × SolveAll N p xs D V Gs × ((d : ℕ) → In D d → FitEachOver M (around N D d) (types_of xs) (at_device d Gs))
   all_exist NoMore P bs cs p D V fr st vars = ([], tt, (λ d i. tt))
   all_exist (More x xs) P bs cs p D V fr st vars =
       let r = P x (omega arith) bs cs p D V fr.0 (in_first A.ranges N net metric bs cs p x xs D V st) vars in

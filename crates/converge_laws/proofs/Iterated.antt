@@ -9,7 +9,7 @@ use Rattle.fc_values.specs.Fields.{ValueLocal, FitsOver}
 use Rattle.fc_nodes.specs.Terms.{Evolution, ByRep, ByShare, Term, Apply, NoMore, More, type_of, size}
 use Rattle.topology.specs.Networks.{Network, IsNetwork}
 use Rattle.interval_facts.specs.Ranges.{RangeValue}
-use Rattle.interval_facts.specs.Solutions.{Devices, In, Maps, bind, around, local_map, evolved, Solves}
+use Rattle.interval_facts.specs.Solutions.{Devices, In, ValueMaps, bind, around, local_map, evolved, Solves}
 use Rattle.interval_facts.specs.Claims.{InRanges}
 use Rattle.fc_nodes.specs.Variables.{occurs}
 use Rattle.growth_facts.specs.Leads.{lead, Close, greatest_integer}
@@ -18,7 +18,7 @@ use Rattle.growth_facts.specs.Beside.{Shallow}
 use Rattle.fragment_check.specs.Patterns.{is_pair}
 use Rattle.fragment_check.specs.Shapes.{Guarded}
 use Rattle.converge_laws.specs.Stages.{integer_of}
-use Rattle.converge_laws.specs.Fragment.{Analysis, IsFor, InFragment}
+use Rattle.converge_laws.specs.Fragment.{Analysis, IsFor, TermInFragment}
 use Rattle.converge_laws.proofs.Below.{lies_between}
 use Rattle.converge_laws.proofs.Exact.{hood_types, head_of, hood_top, last_stage, exact_int}
 use Rattle.converge_laws.proofs.Existing.{some_value, some_fits, solves_vars}
@@ -29,14 +29,14 @@ use Rattle.converge_laws.proofs.Step.{self_eq}
 use Rattle.converge_laws.proofs.Agreement.{field_same, bind_agree}
 
 -- what one turn gives: a solution of the body, in its ranges
-pub record Turn (rs : ℕ → RangeValue) (N : Network) (e : Evolution) (x p : ℕ) (b : Term) (s : LocalType) (D : Devices) (V : Maps) (f : ℕ → LocalValue) : Type 0 where
+pub record Turn (rs : ℕ → RangeValue) (N : Network) (e : Evolution) (x p : ℕ) (b : Term) (s : LocalType) (D : Devices) (V : ValueMaps) (f : ℕ → LocalValue) : Type 0 where
   pub value : ℕ → LocalValue
   pub fits : (d : ℕ) → Fits N.declared.ceiling s (value d)
   pub solves : Solves N p b D (bind x (evolved e N D f) V) (local_map value)
   pub ranged : InRanges rs N p b D (bind x (evolved e N D f) V) (local_map value) solves
 
-module _ (A : Analysis) (N : Network) (net : IsNetwork N) (for : IsFor A N) (e : Evolution) (x p : ℕ) (b : Term) (s ty : LocalType) (D : Devices) (V : Maps)
-    (turn : (f : ℕ → LocalValue) → ((d : ℕ) → Fits N.declared.ceiling s (f d)) → Turn A.ranges N e x p b s D V f) (typed : type_of b ≡ TypeLocal s) (fr : InFragment A N.declared.ceiling p b) where
+module _ (A : Analysis) (N : Network) (net : IsNetwork N) (for : IsFor A N) (e : Evolution) (x p : ℕ) (b : Term) (s ty : LocalType) (D : Devices) (V : ValueMaps)
+    (turn : (f : ℕ → LocalValue) → ((d : ℕ) → Fits N.declared.ceiling s (f d)) → Turn A.ranges N e x p b s D V f) (typed : type_of b ≡ TypeLocal s) (fr : TermInFragment A N.declared.ceiling p b) where
   abbrev M : ℕ
   M = N.declared.ceiling
 
@@ -47,7 +47,7 @@ module _ (A : Analysis) (N : Network) (net : IsNetwork N) (for : IsFor A N) (e :
   abbrev pub val : ℕ → ℕ → LocalValue
   val i = (turns i).0
 
-  abbrev pub maps : ℕ → Maps
+  abbrev pub maps : ℕ → ValueMaps
   maps i = bind x (evolved e N D (val i)) V
 
   pub val_fits : (i d : ℕ) → Fits M s (val i d)
@@ -105,9 +105,9 @@ module _ (A : Analysis) (N : Network) (net : IsNetwork N) (for : IsFor A N) (e :
         stage_low last_low d i (omega (arith, z, k))
 
 -- the least of a neighbourhood
-module _ (A : Analysis) (N : Network) (net : IsNetwork N) (for : IsFor A N) (e : Evolution) (x p : ℕ) (t : ValueType) (h l : Term) (s ty : LocalType) (D : Devices) (V : Maps)
+module _ (A : Analysis) (N : Network) (net : IsNetwork N) (for : IsFor A N) (e : Evolution) (x p : ℕ) (t : ValueType) (h l : Term) (s ty : LocalType) (D : Devices) (V : ValueMaps)
     (turn : (f : ℕ → LocalValue) → ((d : ℕ) → Fits N.declared.ceiling s (f d)) → Turn A.ranges N e x p (Apply t op.MinHoodLoc (More h (More l NoMore))) s D V f) (typed : t ≡ TypeLocal s)
-    (fr : InFragment A N.declared.ceiling p (Apply t op.MinHoodLoc (More h (More l NoMore)))) (c : ℕ) (shallow : Shallow e x ty (Apply t op.MinHoodLoc (More h (More l NoMore)))) (apart : occurs x l ≡ false)
+    (fr : TermInFragment A N.declared.ceiling p (Apply t op.MinHoodLoc (More h (More l NoMore)))) (c : ℕ) (shallow : Shallow e x ty (Apply t op.MinHoodLoc (More h (More l NoMore)))) (apart : occurs x l ≡ false)
     (gr : growth_of N.declared.ceiling A.ranges e x (suc p) h ≡ Grows c) (pos : 1 ≤ c) where
   abbrev b : Term
   b = Apply t op.MinHoodLoc (More h (More l NoMore))
@@ -115,7 +115,7 @@ module _ (A : Analysis) (N : Network) (net : IsNetwork N) (for : IsFor A N) (e :
   abbrev v : ℕ → ℕ → LocalValue
   v i = val A N net for e x p b s ty D V turn typed fr i
 
-  abbrev W : ℕ → Maps
+  abbrev W : ℕ → ValueMaps
   W i = maps A N net for e x p b s ty D V turn typed fr i
 
   stage_close : (i n : ℕ) → In D n → Close (min N.declared.ceiling (i * c)) (v i n) (v (suc i) n)

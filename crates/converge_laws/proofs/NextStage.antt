@@ -9,7 +9,7 @@ use Rattle.fc_values.specs.BuiltinTypes.{inner}
 use Rattle.fc_values.proofs.Rising.{rises_test}
 use Rattle.fc_nodes.specs.Terms.{Evolution, Term, Apply, NoMore, More, type_of, size}
 use Rattle.topology.specs.Networks.{Network, IsNetwork}
-use Rattle.interval_facts.specs.Solutions.{Devices, In, Map, Maps, around, local_map, evolved, Solves}
+use Rattle.interval_facts.specs.Solutions.{Devices, In, ValueMap, ValueMaps, around, local_map, evolved, Solves}
 use Rattle.interval_facts.specs.Claims.{InRanges}
 use Rattle.fc_nodes.specs.Variables.{occurs}
 use Rattle.growth_facts.specs.Leads.{Close}
@@ -17,7 +17,7 @@ use Rattle.growth_facts.specs.Growth.{Grows, growth_of}
 use Rattle.growth_facts.specs.Beside.{FieldPair, Beside, Shallow, IsPart}
 use Rattle.fragment_check.specs.Shapes.{Guarded}
 use Rattle.converge_laws.specs.Stages.{integer_of}
-use Rattle.converge_laws.specs.Fragment.{Analysis, InFragment}
+use Rattle.converge_laws.specs.Fragment.{Analysis, TermInFragment}
 use Rattle.converge_laws.proofs.Around.{heard_in, around_up, solution_fits}
 use Rattle.interval_facts.proofs.Claims.{some_around}
 use Rattle.converge_laws.proofs.Below.{compared_is}
@@ -35,9 +35,9 @@ module _ (A : Analysis) (N : Network) (net : IsNetwork N) where
 
   -- a term has one solution at most, where its binders have the same maps
   abbrev pub OneOf : Term → Type 0
-  OneOf t = (p : ℕ) (D : Devices) (V W : Maps) (F G : Map) → InFragment A M p t → AgreeFor D t V W → Solves N p t D V F → (r : Solves N p t D W G) → InRanges A.ranges N p t D W G r → (d : ℕ) → In D d → F d ≡ G d
+  OneOf t = (p : ℕ) (D : Devices) (V W : ValueMaps) (F G : ValueMap) → TermInFragment A M p t → AgreeFor D t V W → Solves N p t D V F → (r : Solves N p t D W G) → InRanges A.ranges N p t D W G r → (d : ℕ) → In D d → F d ≡ G d
 
-  module _ (e : Evolution) (x : ℕ) (ty : LocalType) (D : Devices) (V W : Maps) (f f' r r' : ℕ → LocalValue) (vs : (n : ℕ) → V x n ≡ evolved e N D f n) (ws : (n : ℕ) → W x n ≡ evolved e N D f' n) where
+  module _ (e : Evolution) (x : ℕ) (ty : LocalType) (D : Devices) (V W : ValueMaps) (f f' r r' : ℕ → LocalValue) (vs : (n : ℕ) → V x n ≡ evolved e N D f n) (ws : (n : ℕ) → W x n ≡ evolved e N D f' n) where
     -- the other binders of a term have the same maps
     abbrev pub AgreeBeside : Term → Type 0
     AgreeBeside t = (q : ℕ) → occurs q t ≡ true → q ≢ x → (n : ℕ) → In D n → V q n ≡ W q n
@@ -46,8 +46,8 @@ module _ (A : Analysis) (N : Network) (net : IsNetwork N) where
     agree_apart t n h q o d i = h q o (λ z. let o' : occurs x t ≡ true = subst (λ y. occurs y t ≡ true) z o in absurd cc) d i
 
     -- the least of a neighbourhood
-    pub next_hood : (p : ℕ) (t : ValueType) (h l : Term) (c : ℕ) (F G : Map) → Shallow e x ty (Apply t op.MinHoodLoc (More h (More l NoMore))) → occurs x l ≡ false → growth_of M A.ranges e x (suc p) h ≡ Grows c
-        → InFragment A M p (Apply t op.MinHoodLoc (More h (More l NoMore))) → AgreeBeside (Apply t op.MinHoodLoc (More h (More l NoMore))) → ((y : Term) → size y ≤ size (Apply t op.MinHoodLoc (More h (More l NoMore))) → OneOf y)
+    pub next_hood : (p : ℕ) (t : ValueType) (h l : Term) (c : ℕ) (F G : ValueMap) → Shallow e x ty (Apply t op.MinHoodLoc (More h (More l NoMore))) → occurs x l ≡ false → growth_of M A.ranges e x (suc p) h ≡ Grows c
+        → TermInFragment A M p (Apply t op.MinHoodLoc (More h (More l NoMore))) → AgreeBeside (Apply t op.MinHoodLoc (More h (More l NoMore))) → ((y : Term) → size y ≤ size (Apply t op.MinHoodLoc (More h (More l NoMore))) → OneOf y)
         → Solves N p (Apply t op.MinHoodLoc (More h (More l NoMore))) D V F → (z : Solves N p (Apply t op.MinHoodLoc (More h (More l NoMore))) D W G) → InRanges A.ranges N p (Apply t op.MinHoodLoc (More h (More l NoMore))) D W G z
         → ((n : ℕ) → In D n → F n ≡ ValueLocal (r n)) → ((n : ℕ) → In D n → G n ≡ ValueLocal (r' n)) → (i : ℕ) → ((n : ℕ) → In D n → Close (min M (i * c)) (f n) (f' n)) → (n : ℕ) → In D n → Close (min M (suc i * c)) (r n) (r' n)
     next_hood p t h l c F G sh o gr fr ag P s z rr fe ge i close n m =
@@ -65,7 +65,7 @@ module _ (A : Analysis) (N : Network) (net : IsNetwork N) where
         (grows M n k c (around N D n) e x f' A.ranges (rises_test (around N D n) (around_up N net D n)) p t h l (r n) (r' n) o gr (ap inner two.0 ∙ sym (ap inner two.1)) b')
 
     -- a guarded body: where the maps are the same below a potential
-    pub next_low : (p q : ℕ) (u : Term) → Shallow e x ty u → Guarded e x q u → InFragment A M p u → AgreeBeside u → ((y : Term) → size y ≤ size u → OneOf y)
+    pub next_low : (p q : ℕ) (u : Term) → Shallow e x ty u → Guarded e x q u → TermInFragment A M p u → AgreeBeside u → ((y : Term) → size y ≤ size u → OneOf y)
         → Solves N p u D V (local_map r) → (z : Solves N p u D W (local_map r')) → InRanges A.ranges N p u D W (local_map r') z
         → (i : ℕ) → ((n : ℕ) → In D n → integer_of (W q n) < i → f n ≡ f' n) → (n : ℕ) → In D n → integer_of (W q n) < suc i → r n ≡ r' n
     next_low p q u sh gd fr ag P s z rr i close n m less =

@@ -10,7 +10,7 @@ use Rattle.fc_values.specs.BuiltinTypes.{inner}
 use Rattle.fc_values.specs.Positions.{argument_nth}
 use Rattle.fc_nodes.specs.Terms.{Evolution, Term, Terms, Plain, Apply, Nbr, Evolve, If, Let, NoMore, More, type_of, size, sizes}
 use Rattle.topology.specs.Networks.{Network, IsNetwork}
-use Rattle.interval_facts.specs.Solutions.{Devices, In, Map, Maps, bind, around, at_device, local_map, evolved, where_is, Solves, SolveAll}
+use Rattle.interval_facts.specs.Solutions.{Devices, In, ValueMap, ValueMaps, bind, around, at_device, local_map, evolved, where_is, Solves, SolveAll}
 use Rattle.fc_nodes.specs.Variables.{occurs, occurs_in}
 use Rattle.growth_facts.specs.Leads.{lead, Close}
 use Rattle.interval_facts.specs.Claims.{InRanges, AllInRanges}
@@ -27,7 +27,7 @@ use Rattle.growth_facts.proofs.Grow.{least_nth, within_of}
 use Rattle.fragment_check.specs.declared.kinds.Pattern.{Pattern}
 use Rattle.fragment_check.specs.Shapes.{HasPattern, constant, acyclic, minimising, rising}
 use Rattle.converge_laws.specs.Stages.{integer_of}
-use Rattle.converge_laws.specs.Fragment.{Analysis, IsFor, InFragment, AllInFragment}
+use Rattle.converge_laws.specs.Fragment.{Analysis, IsFor, TermInFragment, TermsInFragment}
 use Rattle.converge_laws.proofs.Around.{heard_in}
 use Rattle.interval_facts.proofs.Claims.{some_around}
 use Rattle.converge_laws.proofs.Exact.{HoodTypes, hood_types, head_of, hood_top, last_stage, exact_int}
@@ -45,7 +45,7 @@ own_size p (If t' c' k l') o = absurd cc
 own_size p (Let t' k l') o = absurd cc
 
 -- another binder
-pub beside_bound : (p q : ℕ) (G H : Map) (V W : Maps) (n : ℕ) → q ≢ p → V q n ≡ W q n → bind p G V q n ≡ bind p H W q n
+pub beside_bound : (p q : ℕ) (G H : ValueMap) (V W : ValueMaps) (n : ℕ) → q ≢ p → V q n ≡ W q n → bind p G V q n ≡ bind p H W q n
 beside_bound p q G H V W n ne h = by_test (nat_eq p q) refl
   where
     by_test : (b : Bool) → nat_eq p q ≡ b → (if b then G else V q) n ≡ (if b then H else W q) n
@@ -59,17 +59,17 @@ module _ (A : Analysis) (N : Network) (net : IsNetwork N) (for : IsFor A N) wher
   abbrev One : Term → Type 0
   One t = OneOf A N net t
 
-  bound_is : (p : ℕ) (G : Map) (X : Maps) (n : ℕ) → bind p G X p n ≡ G n
+  bound_is : (p : ℕ) (G : ValueMap) (X : ValueMaps) (n : ℕ) → bind p G X p n ≡ G n
   bound_is p G X n = let z = self_eq p in rw z refl
 
-  rep_one : (t : ValueType) (e : Evolution) (u : Term) (p at : ℕ) (D : Devices) (V W : Maps) (f f' : ℕ → LocalValue) (pt : Pattern) → HasPattern M A.ranges e p at (inner t) u pt → InFragment A M at u → AgreeFor D u V W
+  rep_one : (t : ValueType) (e : Evolution) (u : Term) (p at : ℕ) (D : Devices) (V W : ValueMaps) (f f' : ℕ → LocalValue) (pt : Pattern) → HasPattern M A.ranges e p at (inner t) u pt → TermInFragment A M at u → AgreeFor D u V W
       → Solves N at u D (bind p (evolved e N D f) V) (local_map f) → (r : Solves N at u D (bind p (evolved e N D f') W) (local_map f')) → InRanges A.ranges N at u D (bind p (evolved e N D f') W) (local_map f') r
       → ((y : Term) → size y ≤ size u → One y) → (d : ℕ) → In D d → f d ≡ f' d
   rep_one t e u p at D V W f f' pt (constant u' o) fr ag s r rr P d i =
       local_same (f d) (f' d) (P u (omega arith) at D (bind p (evolved e N D f) V) (bind p (evolved e N D f') W) (local_map f) (local_map f') fr (bind_apart N D p u (evolved e N D f) (evolved e N D f') V W o ag) s r rr d i)
   rep_one t e u p at D V W f f' pt (acyclic u' q o sh gd) fr ag s r rr P d i = stage (suc (integer_of (W' q d))) d i (omega arith)
     where
-      W' : Maps
+      W' : ValueMaps
       W' = bind p (evolved e N D f') W
 
       other_agree : (k : ℕ) → occurs k u ≡ true → k ≢ p → (n : ℕ) → In D n → bind p (evolved e N D f) V k n ≡ W' k n
@@ -82,7 +82,7 @@ module _ (A : Analysis) (N : Network) (net : IsNetwork N) (for : IsFor A N) wher
       last_stage N net A.ranges D W' e p at c t' h l (inner t) (local_map f') sh o n0 gr pos (for.ends (suc at + size h)) pair r rr d i (f d) (f' d) (solution_fits N net (Apply t' op.MinHoodLoc (More h (More l NoMore))) at D (bind p (evolved e N D f) V) (local_map f) s d i) refl
       (stage (suc (greatest_integer (A.ranges (suc at + size h)) / c)) d i)
     where
-      W' : Maps
+      W' : ValueMaps
       W' = bind p (evolved e N D f') W
 
       other_agree : (k : ℕ) → occurs k (Apply t' op.MinHoodLoc (More h (More l NoMore))) ≡ true → k ≢ p → (n : ℕ) → In D n → bind p (evolved e N D f) V k n ≡ W' k n
@@ -102,10 +102,10 @@ module _ (A : Analysis) (N : Network) (net : IsNetwork N) (for : IsFor A N) wher
       T : Term
       T = Apply u1 op.MinHoodLoc (More h (More l NoMore))
 
-      V' : Maps
+      V' : ValueMaps
       V' = bind p (evolved e N D f) V
 
-      W' : Maps
+      W' : ValueMaps
       W' = bind p (evolved e N D f') W
 
       place : ℕ
@@ -120,7 +120,7 @@ module _ (A : Analysis) (N : Network) (net : IsNetwork N) (for : IsFor A N) wher
       two : (type_of h ≡ TypeField types.of) × (type_of l ≡ TypeLocal types.of)
       two = head_of (type_of h) (type_of l) (TypeField types.of) (TypeLocal types.of) [] [] types.arguments
 
-      own_bound : (g : ℕ → LocalValue) (X : Maps) (n : ℕ) → bind p (evolved e N D g) X p n ≡ ValueLocal (g n)
+      own_bound : (g : ℕ → LocalValue) (X : ValueMaps) (n : ℕ) → bind p (evolved e N D g) X p n ≡ ValueLocal (g n)
       own_bound g X n = bound_is p (evolved e N D g) X n ∙ ap (λ k. evolved k N D g n) rep
 
       s1 : RiseGoal A.ranges N net D (bind p (evolved e N D f) V) p at u1 h l own w f s.1 s.2
@@ -157,7 +157,7 @@ module _ (A : Analysis) (N : Network) (net : IsNetwork N) (for : IsFor A N) wher
       stage zero n m = inr (omega arith, omega arith)
       stage (suc j) n m = next_hood A N net e p (inner t) D V' W' f f' f f' (bound_is p (evolved e N D f) V) (bound_is p (evolved e N D f') W) (suc at) u1 h l c s1.goal g2.goal sh n0 gr fr.0 (λ k z ne n m. other_agree k ne n (ag k (in_first k z) n m)) (λ y g. P y (omega (arith, g))) s1.solves g2.solves (g2.ranged rr.1).0 goal_was goal_is j (λ k z. stage j k z) n m
 
-  all_one : (xs : Terms) → ((y : Term) → size y ≤ sizes xs → One y) → (p : ℕ) (D : Devices) (V W : Maps) (Gs Hs : List Map) → AllInFragment A M p xs → AgreeIn D xs V W → SolveAll N p xs D V Gs → (r : SolveAll N p xs D W Hs) → AllInRanges A.ranges N p xs D W Hs r → (d : ℕ) → In D d → at_device d Gs ≡ at_device d Hs
+  all_one : (xs : Terms) → ((y : Term) → size y ≤ sizes xs → One y) → (p : ℕ) (D : Devices) (V W : ValueMaps) (Gs Hs : List ValueMap) → TermsInFragment A M p xs → AgreeIn D xs V W → SolveAll N p xs D V Gs → (r : SolveAll N p xs D W Hs) → AllInRanges A.ranges N p xs D W Hs r → (d : ℕ) → In D d → at_device d Gs ≡ at_device d Hs
   all_one NoMore P p D V W [] [] c h s r rr d i = refl
   all_one NoMore P p D V W [] (H ∷ Hs) c h s r rr d i = absurd r
   all_one NoMore P p D V W (G ∷ Gs) Hs c h s r rr d i = absurd s

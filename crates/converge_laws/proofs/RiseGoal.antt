@@ -13,7 +13,7 @@ use Rattle.fc_nodes.specs.Terms.{Literal, Variable, Sense, Uid, NbrLink, Term, T
 use Rattle.topology.specs.Networks.{Network, IsNetwork}
 use Rattle.topology.specs.Nearby.{near_numbers}
 use Rattle.interval_facts.specs.Ranges.{RangeValue}
-use Rattle.interval_facts.specs.Solutions.{Devices, In, Map, Maps, near_among, around, at_device, Solves, SolveAll}
+use Rattle.interval_facts.specs.Solutions.{Devices, In, ValueMap, ValueMaps, near_among, around, at_device, Solves, SolveAll}
 use Rattle.interval_facts.specs.Claims.{InRanges, AllInRanges}
 use Rattle.interval_facts.proofs.Pointwise.{pointwise_nth}
 use Rattle.fc_nodes.specs.Variables.{is_own}
@@ -22,7 +22,7 @@ use Rattle.converge_laws.proofs.Around.{local_back, local_in}
 use Rattle.converge_laws.proofs.Exact.{hood_types}
 use Rattle.converge_laws.proofs.LimitedRise.{IsRise, rise_is}
 
-module _ (rs : ℕ → RangeValue) (N : Network) (net : IsNetwork N) (D : Devices) (W : Maps) (p at : ℕ) (u1 : ValueType) (h l own w : Term) (f : ℕ → LocalValue) where
+module _ (rs : ℕ → RangeValue) (N : Network) (net : IsNetwork N) (D : Devices) (W : ValueMaps) (p at : ℕ) (u1 : ValueType) (h l own w : Term) (f : ℕ → LocalValue) where
   abbrev M : ℕ
   M = N.declared.ceiling
 
@@ -36,16 +36,16 @@ module _ (rs : ℕ → RangeValue) (N : Network) (net : IsNetwork N) (D : Device
   place = suc at + size (Apply u1 op.MinHoodLoc (More h (More l NoMore))) + size own
 
   -- the target and the gain
-  pub record RiseGoal (Gs : List Map) (z : SolveAll N (suc at) args D W Gs) : Type 0 where
-    pub goal : Map
-    pub gain : Map
+  pub record RiseGoal (Gs : List ValueMap) (z : SolveAll N (suc at) args D W Gs) : Type 0 where
+    pub goal : ValueMap
+    pub gain : ValueMap
     pub solves : Solves N (suc at) T D W goal
     pub gains : Solves N place w D W gain
     pub ranged : AllInRanges rs N (suc at) args D W Gs z → InRanges rs N (suc at) T D W goal solves × InRanges rs N place w D W gain gains
     pub is : (d : ℕ) → In D d → 1 ≤ lead (argument_nth 0 (gain d)) → goal d ≡ ValueLocal (f d)
     pub int : (d : ℕ) → In D d → f d ≡ IntValue (lead (f d))
 
-  own_map : (q : ℕ) (k : Term) (G : Map) → is_own p k ≡ true → Solves N q k D W G → (d : ℕ) → In D d → W p d ≡ ValueLocal (f d) → G d ≡ ValueLocal (f d)
+  own_map : (q : ℕ) (k : Term) (G : ValueMap) → is_own p k ≡ true → Solves N q k D W G → (d : ℕ) → In D d → W p d ≡ ValueLocal (f d) → G d ≡ ValueLocal (f d)
   own_map q (Plain t' (Variable n)) G o z d i e =
       let n' : n ≡ p = grind (arith, o, nat_tests) in
       z.1 d i ∙ ap (restricted d (near_numbers (near_among N D d))) (ap (λ k. W k d) n' ∙ e)
@@ -59,7 +59,7 @@ module _ (rs : ℕ → RangeValue) (N : Network) (net : IsNetwork N) (D : Device
   own_map q (If t' c k l) G o z d i e = absurd cc
   own_map q (Let t' k l) G o z d i e = absurd cc
 
-  pub rise_goal : is_own p own ≡ true → HasRule op.MinHoodLoc (types_of (More h (More l NoMore))) u1 → ((n : ℕ) → W p n ≡ ValueLocal (f n)) → (Gs : List Map) (z : SolveAll N (suc at) args D W Gs)
+  pub rise_goal : is_own p own ≡ true → HasRule op.MinHoodLoc (types_of (More h (More l NoMore))) u1 → ((n : ℕ) → W p n ≡ ValueLocal (f n)) → (Gs : List ValueMap) (z : SolveAll N (suc at) args D W Gs)
       → ((d : ℕ) → In D d → builtin_value op.Rise M d (at_device d Gs) ≡ Some (ValueLocal (f d))) → RiseGoal Gs z
   rise_goal o rule e [] z q = absurd z
   rise_goal o rule e (X ∷ []) z q = absurd z.1

@@ -10,7 +10,7 @@ use Rattle.fc_nodes.specs.Terms.{Evolution, ByRep, Term, Terms, Plain, Apply, Nb
 use Rattle.alignment.specs.Environments.{Env, child_env}
 use Rattle.device_eval.specs.Evaluation.{Vars, variable_at, own_or}
 use Rattle.topology.specs.Networks.{Network, IsNetwork}
-use Rattle.interval_facts.specs.Solutions.{Devices, Map, Maps, bind, near_among, around, local_map, evolved, Solves}
+use Rattle.interval_facts.specs.Solutions.{Devices, ValueMap, ValueMaps, bind, near_among, around, local_map, evolved, Solves}
 use Rattle.fc_nodes.specs.Variables.{occurs}
 use Rattle.fragment_check.specs.Levels.{Lvs, level_of}
 use Rattle.converge_laws.specs.Fragment.{Analysis}
@@ -71,7 +71,7 @@ module _ (t1 u1 : ValueType) (h l own w : Term) where
   abbrev U : Term
   U = Apply t1 op.Rise (More (Apply u1 op.MinHoodLoc (More h (More l NoMore))) (More own (More w NoMore)))
 
-  module _ (A : Analysis) (N : Network) (d j : ℕ) (t : ValueType) (e : Evolution) (a : Term) (p b : ℕ) (st : Stage) (lv : Lvs) (D : Devices) (V : Maps) (F : Map) (s : Solves N p (Evolve t e a U) D V F) (vars : Vars) (env : Env) (v : AnyValue) (tree : Tree) (cl : occurs st.var (Evolve t e a U) ≡ false) (g : Given A N d j p b st lv (Evolve t e a U) D V F s vars env) (r : Evolves N d p e a U vars env v tree)
+  module _ (A : Analysis) (N : Network) (d j : ℕ) (t : ValueType) (e : Evolution) (a : Term) (p b : ℕ) (st : Stage) (lv : Lvs) (D : Devices) (V : ValueMaps) (F : ValueMap) (s : Solves N p (Evolve t e a U) D V F) (vars : Vars) (env : Env) (v : AnyValue) (tree : Tree) (cl : occurs st.var (Evolve t e a U) ≡ false) (g : Given A N d j p b st lv (Evolve t e a U) D V F s vars env) (r : Evolves N d p e a U vars env v tree)
       (net : IsNetwork N) (deep : suc b ≤ level_of A.stages (suc p + size a) b p lv U) (rep : e ≡ ByRep) (steps : (k : Term) → size k ≤ size U → StepOf A N d j k)
       (owns : is_own p own ≡ true) (apart : occurs p w ≡ false) (shallow : Shallow e p (inner t) T) where
     abbrev M : ℕ
@@ -86,7 +86,7 @@ module _ (t1 u1 : ValueType) (h l own w : Term) where
     abbrev y : Stage
     y = stage_of A N p b lv e a U D V
 
-    abbrev W : Maps
+    abbrev W : ValueMaps
     W = bind p (evolved e N D s.1) V
 
     abbrev ds : List ℕ
@@ -109,10 +109,10 @@ module _ (t1 u1 : ValueType) (h l own w : Term) where
     start = subst (λ f. Starts f d r.first env r.start) rep r.starts
 
     -- the arguments of `rise` in the firing and in the solution
-    record Rises (P : ℕ → LocalValue → LocalValue → Type 0) (Gs : List Map) (z : SolveAll N (suc at) args D W Gs) (vs : List AnyValue) (ts : Trees) : Type 0 where
+    record Rises (P : ℕ → LocalValue → LocalValue → Type 0) (Gs : List ValueMap) (z : SolveAll N (suc at) args D W Gs) (vs : List AnyValue) (ts : Trees) : Type 0 where
       target : AnyValue
       step : AnyValue
-      goal : Map
+      goal : ValueMap
       gain : AnyValue
       values : vs ≡ target ∷ ValueLocal start.0 ∷ step ∷ []
       maps : at_device d Gs ≡ goal d ∷ ValueLocal (s.1 d) ∷ gain ∷ []
@@ -124,10 +124,10 @@ module _ (t1 u1 : ValueType) (h l own w : Term) where
       ranged : InRanges A.ranges N (suc at) T D W goal solves
       holds : (K : Tree) → kids_from 0 K ≡ ts → HoldAll A N (suc j) (suc at) 0 b y lv args D W Gs z d K
 
-    parts : (q : ℕ) (k : Term) (G : Map) (z : Solves N q k D W G) → InRanges A.ranges N q k D W G z → IsPart M ds A.ranges q k (G d)
+    parts : (q : ℕ) (k : Term) (G : ValueMap) (z : Solves N q k D W G) → InRanges A.ranges N q k D W G z → IsPart M ds A.ranges q k (G d)
     parts q k G z rr = (solution_fits N net k q D W G z d g.inside, lies_of A.ranges N q k D W G z rr d g.inside)
 
-    own_map : (q : ℕ) (k : Term) (G : Map) → is_own p k ≡ true → Solves N q k D W G → G d ≡ ValueLocal (s.1 d)
+    own_map : (q : ℕ) (k : Term) (G : ValueMap) → is_own p k ≡ true → Solves N q k D W G → G d ≡ ValueLocal (s.1 d)
     own_map q (Plain t' (Variable n)) G o z =
         let n' : n ≡ p = grind (arith, o, nat_tests) in
         let same = self_eq p in
@@ -160,7 +160,7 @@ module _ (t1 u1 : ValueType) (h l own w : Term) where
     own_value q (If t' c k l) en x T' o z = absurd cc
     own_value q (Let t' k l) en x T' o z = absurd cc
 
-    own_holds : (q : ℕ) (k : Term) (G : Map) (z : Solves N q k D W G) (K : Tree) → is_own p k ≡ true → Holds A N (suc j) q b y lv k D W G z d K
+    own_holds : (q : ℕ) (k : Term) (G : ValueMap) (z : Solves N q k D W G) (K : Tree) → is_own p k ≡ true → Holds A N (suc j) q b y lv k D W G z d K
     own_holds q (Plain t' l') G z K o = tt
     own_holds q (Apply t' f xs) G z K o = absurd cc
     own_holds q (Nbr t' k) G z K o = absurd cc
@@ -169,7 +169,7 @@ module _ (t1 u1 : ValueType) (h l own w : Term) where
     own_holds q (Let t' k l) G z K o = absurd cc
 
     module _ (P : ℕ → LocalValue → LocalValue → Type 0) (k : (n : ℕ) (x : LocalValue) → Fits M ty x → KeptAt M y j n (Some x) (s.1 n) → P n x (s.1 n)) (k' : e ≡ ByRep → (n : ℕ) (x : LocalValue) → Fits M ty x → HeardAt M y j n (Some x) (s.1 n) → P n x (s.1 n)) where
-      rises_all : (Gs : List Map) (z : SolveAll N (suc at) args D W Gs) (vs : List AnyValue) (ts : Trees) → GivenAll A N d j (suc at) 0 b y lv args D W Gs z vars' env' → EvaluateAll (situation_at N d) (suc at) 0 args vars' env' vs ts → Rises P Gs z vs ts
+      rises_all : (Gs : List ValueMap) (z : SolveAll N (suc at) args D W Gs) (vs : List AnyValue) (ts : Trees) → GivenAll A N d j (suc at) 0 b y lv args D W Gs z vars' env' → EvaluateAll (situation_at N d) (suc at) 0 args vars' env' vs ts → Rises P Gs z vs ts
       rises_all [] z vs ts gs ev = absurd z
       rises_all (X ∷ []) z vs ts gs ev = absurd z.1
       rises_all (X ∷ Y ∷ []) z vs ts gs ev = absurd z.1.1

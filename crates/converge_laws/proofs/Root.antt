@@ -21,7 +21,7 @@ use Rattle.fragment_check.specs.Levels.{Lvs, level_of}
 use Rattle.converge_laws.specs.Fragment.{Analysis}
 use Rattle.converge_laws.specs.Invariant.{no_stage, ExportAt}
 use Rattle.converge_laws.specs.CoreLevels.{MaybeAt, TableAt, Raises}
-use Rattle.converge_laws.specs.Fragment.{InFragment}
+use Rattle.converge_laws.specs.Fragment.{TermInFragment}
 use Rattle.interval_facts.specs.Claims.{InRanges}
 use Rattle.topology.proofs.Lemmas.{AllNear, near_fits}
 use Rattle.converge_laws.proofs.Near.{NearAre, OwnIs}
@@ -37,7 +37,7 @@ all_stay D ds d [] h = refl
 all_stay D ds d (n ∷ ns) h = let t = h.0.there in let r = all_stay D ds d ns h.1 in rw (t, r) refl
 
 module _ (keeps : StepsKeepGood) (fit : CopiesFit) (cuts : RunsCut) (p : Program) (A : Analysis) (N : Network) (program : IsProgram p) (net : IsNetwork N) (same : N.declared ≡ p.declared) (F : ℕ → LocalValue) (s : SolvesMain N (unfolding_of p).main F)
-    (frag : InFragment A N.declared.ceiling 0 (unfolding_of p).main) (ranges : InRanges A.ranges N 0 (unfolding_of p).main (lives N) no_binders (local_map F) s) (steps : (d j : ℕ) → StepOf A N d j (unfolding_of p).main) where
+    (frag : TermInFragment A N.declared.ceiling 0 (unfolding_of p).main) (ranges : InRanges A.ranges N 0 (unfolding_of p).main (lives N) no_binders (local_map F) s) (steps : (d j : ℕ) → StepOf A N d j (unfolding_of p).main) where
   abbrev U : Unfolding
   U = unfolding_of p
 

@@ -16,7 +16,7 @@ use Rattle.device_eval.specs.Rules.{Evaluates, EvaluateAll, variable, builtin, n
 use Rattle.device_eval.proofs.Sights.{kids_from, first_kid, rest_kids, devices_with, fit_with, restricted_fits}
 use Rattle.fc_nodes.specs.Flat.{KeepsWith, FitsTree, FitTrees}
 use Rattle.topology.specs.Networks.{Network, near, IsNetwork}
-use Rattle.interval_facts.specs.Solutions.{Devices, In, Map, Maps, near_among, around, at_device, Solves, SolveAll}
+use Rattle.interval_facts.specs.Solutions.{Devices, In, ValueMap, ValueMaps, near_among, around, at_device, Solves, SolveAll}
 use Rattle.fc_nodes.specs.Variables.{occurs, occurs_in, is_variable, is_heard}
 use Rattle.fragment_check.specs.Levels.{Lvs, level_of, level_all}
 use Rattle.converge_laws.specs.Fragment.{Analysis}
@@ -74,27 +74,27 @@ keeps_fit m s Q (Keep (Some w) ts) v h e = let q : w ≡ v = cc in subst (Fits m
 pub variable_value : (N : Network) (d : ℕ) (p q : ℕ) (t : ValueType) (vars : Vars) (env : Env) (v w : AnyValue) (tree : Tree) → Evaluates (situation_at N d) p (Plain t (Variable q)) vars env v tree → variable_at q vars ≡ Some w → v ≡ restricted d (tree_numbers env.near) w
 variable_value N d p q t vars env v w tree (variable t' q' w' e) e' = let same : w' ≡ w = cc in ap (restricted d (tree_numbers env.near)) same
 
-module _ (A : Analysis) (N : Network) (d j b : ℕ) (st : Stage) (P : ℕ → LocalValue → LocalValue → Type 0) (D : Devices) (V : Maps) (f : ℕ → LocalValue) (vars : Vars) (ty : LocalType) where
+module _ (A : Analysis) (N : Network) (d j b : ℕ) (st : Stage) (P : ℕ → LocalValue → LocalValue → Type 0) (D : Devices) (V : ValueMaps) (f : ℕ → LocalValue) (vars : Vars) (ty : LocalType) where
   -- what a firing of d has of the variable: in a `rep` its own last result, in a `share` that and what the others keep
   abbrev pub Hears : Evolution → Type 0
   Hears ByRep = (x : LocalValue) × (variable_at st.var vars ≡ Some (ValueLocal x)) × ((n : ℕ) → V st.var n ≡ ValueLocal (f n)) × (b ≤ j → P d x (f d) × Fits N.declared.ceiling ty x)
       × HeardAt N.declared.ceiling st (suc j) d (Some x) (f d) × ((n : ℕ) (v : LocalValue) → Fits N.declared.ceiling ty v → HeardAt N.declared.ceiling st j n (Some v) (f n) → P n v (f n))
   Hears ByShare = (v : AnyValue) × (variable_at st.var vars ≡ Some v) × (b ≤ j → FieldPair P v (V st.var d) × VariableFits N.declared.ceiling d (heard_in N D d) (TypeField ty) v)
 
-module _ (A : Analysis) (N : Network) (d j b : ℕ) (st : Stage) (lv : Lvs) (e : Evolution) (P : ℕ → LocalValue → LocalValue → Type 0) (Part : ℕ → Term → AnyValue → Type 0) (D : Devices) (V : Maps) (f : ℕ → LocalValue) (vars : Vars) (ty : LocalType) (net : IsNetwork N)
-    (deep : suc b ≤ st.base) (hears : Hears A N d j b st P D V f vars ty e) (parts : (p : ℕ) (h : Term) (G : Map) (z : Solves N p h D V G) → InRanges A.ranges N p h D V G z → Part p h (G d)) where
+module _ (A : Analysis) (N : Network) (d j b : ℕ) (st : Stage) (lv : Lvs) (e : Evolution) (P : ℕ → LocalValue → LocalValue → Type 0) (Part : ℕ → Term → AnyValue → Type 0) (D : Devices) (V : ValueMaps) (f : ℕ → LocalValue) (vars : Vars) (ty : LocalType) (net : IsNetwork N)
+    (deep : suc b ≤ st.base) (hears : Hears A N d j b st P D V f vars ty e) (parts : (p : ℕ) (h : Term) (G : ValueMap) (z : Solves N p h D V G) → InRanges A.ranges N p h D V G z → Part p h (G d)) where
   abbrev pub M : ℕ
   M = N.declared.ceiling
 
-  pub record Seen (p : ℕ) (t : Term) (F : Map) (s : Solves N p t D V F) (v : AnyValue) (tree : Tree) : Type 0 where
+  pub record Seen (p : ℕ) (t : Term) (F : ValueMap) (s : Solves N p t D V F) (v : AnyValue) (tree : Tree) : Type 0 where
     pub beside : st.base ≤ suc j → Beside M d (around N D d) e st.var (FieldPair P) Part p t v (F d)
     pub holds : Holds A N (suc j) p b st lv t D V F s d tree
 
   abbrev pub SeenOf : Term → Type 0
-  SeenOf t = (p : ℕ) (F : Map) (s : Solves N p t D V F) (env : Env) (v : AnyValue) (tree : Tree) → Shallow e st.var ty t → level_of A.stages p b st.var lv t ≤ st.base
+  SeenOf t = (p : ℕ) (F : ValueMap) (s : Solves N p t D V F) (env : Env) (v : AnyValue) (tree : Tree) → Shallow e st.var ty t → level_of A.stages p b st.var lv t ≤ st.base
       → Given A N d j p b st lv t D V F s vars env → Evaluates (situation_at N d) p t vars env v tree → Seen p t F s v tree
 
-  pub record SeenAll (p i : ℕ) (xs : Terms) (Gs : List Map) (s : SolveAll N p xs D V Gs) (vs : List AnyValue) (ts : Trees) : Type 0 where
+  pub record SeenAll (p i : ℕ) (xs : Terms) (Gs : List ValueMap) (s : SolveAll N p xs D V Gs) (vs : List AnyValue) (ts : Trees) : Type 0 where
     pub beside : st.base ≤ suc j → BesideAll M d (around N D d) e st.var (FieldPair P) Part p xs vs (at_device d Gs)
     pub holds : (T : Tree) → kids_from i T ≡ ts → HoldAll A N (suc j) p i b st lv xs D V Gs s d T
 
@@ -104,7 +104,7 @@ module _ (A : Analysis) (N : Network) (d j b : ℕ) (st : Stage) (lv : Lvs) (e :
       let r = step p b st lv D V F s vars env v tree cl g h in
       record { beside = λ k. apart p t cl (r.value (omega (arith, l, k))) (parts p t F s g.ranges); holds = r.holds }
 
-  share_heard : (t : ValueType) (q p : ℕ) (F : Map) (s : Solves N p (Plain t (Variable q)) D V F) (env : Env) (v : AnyValue) (tree : Tree) → nat_eq q st.var ≡ true → (w : AnyValue) → variable_at st.var vars ≡ Some w → (b ≤ j → FieldPair P w (V st.var d) × VariableFits M d (heard_in N D d) (TypeField ty) w) → t ≡ TypeField ty
+  share_heard : (t : ValueType) (q p : ℕ) (F : ValueMap) (s : Solves N p (Plain t (Variable q)) D V F) (env : Env) (v : AnyValue) (tree : Tree) → nat_eq q st.var ≡ true → (w : AnyValue) → variable_at st.var vars ≡ Some w → (b ≤ j → FieldPair P w (V st.var d) × VariableFits M d (heard_in N D d) (TypeField ty) w) → t ≡ TypeField ty
       → Given A N d j p b st lv (Plain t (Variable q)) D V F s vars env → Evaluates (situation_at N d) p (Plain t (Variable q)) vars env v tree → st.base ≤ suc j → FieldPair P v (F d) × FitsOver M (around N D d) t v
   share_heard t q p F s env v tree i w e' k et g h l =
       let z : q ≡ st.var = grind (arith, i, nat_tests) in
@@ -115,7 +115,7 @@ module _ (A : Analysis) (N : Network) (d j b : ℕ) (st : Stage) (lv : Lvs) (e :
       let fit = restricted_fits d (heard_in N D d) M (TypeField ty) w (k (omega (arith, l, deep))).1 in
       (rw (is, cut, sol) k', rw (is, cut, et) fit)
 
-  rep_heard : (t t' : ValueType) (q p : ℕ) (F : Map) (s : Solves N p (Nbr t (Plain t' (Variable q))) D V F) (env : Env) (v : AnyValue) (tree : Tree) → nat_eq q st.var ≡ true → t ≡ TypeField ty → Hears A N d j b st P D V f vars ty ByRep
+  rep_heard : (t t' : ValueType) (q p : ℕ) (F : ValueMap) (s : Solves N p (Nbr t (Plain t' (Variable q))) D V F) (env : Env) (v : AnyValue) (tree : Tree) → nat_eq q st.var ≡ true → t ≡ TypeField ty → Hears A N d j b st P D V f vars ty ByRep
       → Given A N d j p b st lv (Nbr t (Plain t' (Variable q))) D V F s vars env → Evaluates (situation_at N d) p (Nbr t (Plain t' (Variable q))) vars env v tree
       → (st.base ≤ suc j → FieldPair P v (F d) × FitsOver M (around N D d) t v) × Holds A N (suc j) p b st lv (Nbr t (Plain t' (Variable q))) D V F s d tree
   rep_heard t t' q p F s env v tree i et k g (nbr t0 a0 x ta es ea e') = (
@@ -147,7 +147,7 @@ module _ (A : Analysis) (N : Network) (d j b : ℕ) (st : Stage) (lv : Lvs) (e :
       same = let e = variable_value N d (suc p) q t' vars (child_env 0 env) (ValueLocal x) (ValueLocal k.0) ta ea (ap (λ y. variable_at y vars) z ∙ k.1) in cc
 
   -- by whether the variable occurs
-  by_use : (t : Term) (p : ℕ) (F : Map) (s : Solves N p t D V F) (env : Env) (v : AnyValue) (tree : Tree) → StepOf A N d j t → Shallow e st.var ty t → level_of A.stages p b st.var lv t ≤ st.base
+  by_use : (t : Term) (p : ℕ) (F : ValueMap) (s : Solves N p t D V F) (env : Env) (v : AnyValue) (tree : Tree) → StepOf A N d j t → Shallow e st.var ty t → level_of A.stages p b st.var lv t ≤ st.base
       → Given A N d j p b st lv t D V F s vars env → Evaluates (situation_at N d) p t vars env v tree → (c : Bool) → occurs st.var t ≡ c → (occurs st.var t ≡ true → Seen p t F s v tree) → Seen p t F s v tree
   by_use t p F s env v tree step sh l g h false o k = apart_seen t step o p F s env v tree sh l g h
   by_use t p F s env v tree step sh l g h true o k = k o
@@ -155,7 +155,7 @@ module _ (A : Analysis) (N : Network) (d j b : ℕ) (st : Stage) (lv : Lvs) (e :
   not_both : {X : Type 0} (c : Bool) → c ≡ true → c ≡ false → X
   not_both c e e' = absurd cc
 
-  plain_seen : (ev : Evolution) → ev ≡ e → (t : ValueType) (l : Leaf) (p : ℕ) (F : Map) (s : Solves N p (Plain t l) D V F) (env : Env) (v : AnyValue) (tree : Tree) → Given A N d j p b st lv (Plain t l) D V F s vars env
+  plain_seen : (ev : Evolution) → ev ≡ e → (t : ValueType) (l : Leaf) (p : ℕ) (F : ValueMap) (s : Solves N p (Plain t l) D V F) (env : Env) (v : AnyValue) (tree : Tree) → Given A N d j p b st lv (Plain t l) D V F s vars env
       → Evaluates (situation_at N d) p (Plain t l) vars env v tree → is_variable st.var l ≡ true → is_heard ev st.var (Plain t l) ≡ true → t ≡ TypeField ty → Hears A N d j b st P D V f vars ty ev → Seen p (Plain t l) F s v tree
   plain_seen ByRep q t l p F s env v tree g h i hd et k = absurd cc
   plain_seen ByShare q t (Variable n) p F s env v tree g h i hd et k =
@@ -165,7 +165,7 @@ module _ (A : Analysis) (N : Network) (d j b : ℕ) (st : Stage) (lv : Lvs) (e :
   plain_seen ByShare q t Uid p F s env v tree g h i hd et k = absurd cc
   plain_seen ByShare q t NbrLink p F s env v tree g h i hd et k = absurd cc
 
-  nbr_seen : (ev : Evolution) → ev ≡ e → (t : ValueType) (a : Term) (p : ℕ) (F : Map) (s : Solves N p (Nbr t a) D V F) (env : Env) (v : AnyValue) (tree : Tree) → Given A N d j p b st lv (Nbr t a) D V F s vars env
+  nbr_seen : (ev : Evolution) → ev ≡ e → (t : ValueType) (a : Term) (p : ℕ) (F : ValueMap) (s : Solves N p (Nbr t a) D V F) (env : Env) (v : AnyValue) (tree : Tree) → Given A N d j p b st lv (Nbr t a) D V F s vars env
       → Evaluates (situation_at N d) p (Nbr t a) vars env v tree → is_heard ev st.var (Nbr t a) ≡ true → t ≡ TypeField ty → Hears A N d j b st P D V f vars ty ev → Seen p (Nbr t a) F s v tree
   nbr_seen ByShare q t a p F s env v tree g h hd et k = absurd cc
   nbr_seen ByRep q t (Plain t' (Variable n)) p F s env v tree g h hd et k =
@@ -181,7 +181,7 @@ module _ (A : Analysis) (N : Network) (d j b : ℕ) (st : Stage) (lv : Lvs) (e :
   nbr_seen ByRep q t (If t' c u w) p F s env v tree g h hd et k = absurd cc
   nbr_seen ByRep q t (Let t' a u) p F s env v tree g h hd et k = absurd cc
 
-  apply_seen : (t : ValueType) (o : Builtin) (xs : Terms) (p : ℕ) (F : Map) (s : Solves N p (Apply t o xs) D V F) (env : Env) (v : AnyValue) (tree : Tree) → HasRule o (types_of xs) t → In D d → Evaluates (situation_at N d) p (Apply t o xs) vars env v tree → occurs_in st.var xs ≡ true
+  apply_seen : (t : ValueType) (o : Builtin) (xs : Terms) (p : ℕ) (F : ValueMap) (s : Solves N p (Apply t o xs) D V F) (env : Env) (v : AnyValue) (tree : Tree) → HasRule o (types_of xs) t → In D d → Evaluates (situation_at N d) p (Apply t o xs) vars env v tree → occurs_in st.var xs ≡ true
       → ((vs : List AnyValue) (ts : Trees) → EvaluateAll (situation_at N d) (suc p) 0 xs vars env vs ts → SeenAll (suc p) 0 xs s.1 s.2 vs ts) → Seen p (Apply t o xs) F s v tree
   apply_seen t o xs p F s env v tree rule i (builtin t' o' xs' vs ts w es q) u k =
       let r = k vs ts es in
@@ -201,7 +201,7 @@ module _ (A : Analysis) (N : Network) (d j b : ℕ) (st : Stage) (lv : Lvs) (e :
     seen (If t c u w) step p F s env v tree sh m g h = apart_seen (If t c u w) (step (If t c u w) (omega arith)) sh p F s env v tree sh m g h
     seen (Let t a u) step p F s env v tree sh m g h = apart_seen (Let t a u) (step (Let t a u) (omega arith)) sh p F s env v tree sh m g h
 
-    pub seen_all : (xs : Terms) → ((r : Term) → size r ≤ sizes xs → StepOf A N d j r) → (p i : ℕ) (Gs : List Map) (s : SolveAll N p xs D V Gs) (env : Env) (vs : List AnyValue) (ts : Trees) → AllShallow e st.var ty xs
+    pub seen_all : (xs : Terms) → ((r : Term) → size r ≤ sizes xs → StepOf A N d j r) → (p i : ℕ) (Gs : List ValueMap) (s : SolveAll N p xs D V Gs) (env : Env) (vs : List AnyValue) (ts : Trees) → AllShallow e st.var ty xs
         → level_all A.stages p b st.var lv xs ≤ st.base → GivenAll A N d j p i b st lv xs D V Gs s vars env → EvaluateAll (situation_at N d) p i xs vars env vs ts → SeenAll p i xs Gs s vs ts
     seen_all NoMore step p i [] s env vs ts sh m g none = record { beside = λ l. no_more p; holds = λ T k. tt }
     seen_all NoMore step p i (G ∷ Gs) s env vs ts sh m g h = absurd s

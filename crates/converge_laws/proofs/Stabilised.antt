@@ -11,7 +11,7 @@ use Rattle.topology.specs.Networks.{Network, Lives, lives, IsNetwork, inputs_in}
 use Rattle.topology.proofs.Lemmas.{inputs_fit}
 use Rattle.firing_core.specs.Laws.{StepsKeepGood, CopiesFit, RunsCut}
 use Rattle.interval_facts.specs.Ranges.{range_of, node_ranges, ranges_of}
-use Rattle.interval_facts.specs.Solutions.{Map, around, Solves, SolvesMain, no_binders, local_map}
+use Rattle.interval_facts.specs.Solutions.{ValueMap, around, Solves, SolvesMain, no_binders, local_map}
 use Rattle.interval_facts.specs.Claims.{InRanges}
 use Rattle.interval_facts.proofs.Tables.{Shows, shows_itself}
 use Rattle.converge_laws.specs.CoreLevels.{Raises}
@@ -62,7 +62,7 @@ module _ (P : Program) (A : Analysis) (N : Network) (program : IsProgram P) (net
   unfolding bare
   suits d l = copy_suits N.declared (bare d) (subst IsLawful (sym same) program.lawful) (inputs_fit N.declared N.devices d net.devices l)
 
-  solution : (F : Map) × Solves N 0 U.main (lives N) no_binders F
+  solution : (F : ValueMap) × Solves N 0 U.main (lives N) no_binders F
   solution = exists A N net an.for metric least greatest suits U.main [] [] 0 (lives N) no_binders an.fragment stands (λ q t e. absurd cc)
 
   pub one : HasOneSolution U N

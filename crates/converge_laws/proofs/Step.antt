@@ -17,7 +17,7 @@ use Rattle.alignment.specs.Environments.{Env, child_env, branch_env, keeps_truth
 use Rattle.device_eval.specs.Evaluation.{Vars, variable_at}
 use Rattle.device_eval.specs.Rules.{literal, variable, sense, uid, nbr_link, builtin, nbr, if_true, if_false, binding, none, one_more}
 use Rattle.topology.specs.Networks.{Network, near}
-use Rattle.interval_facts.specs.Solutions.{Devices, In, Map, Maps, bind, near_among, around, where_is, local_map, Solves}
+use Rattle.interval_facts.specs.Solutions.{Devices, In, ValueMap, ValueMaps, bind, near_among, around, where_is, local_map, Solves}
 use Rattle.fc_nodes.specs.Variables.{occurs, occurs_in, is_own}
 use Rattle.fragment_check.specs.Levels.{Lvs, bind_level, leaf_level, reads_level, level_of, level_all}
 use Rattle.converge_laws.specs.Fragment.{Analysis}
@@ -135,7 +135,7 @@ module _ (A : Analysis) (N : Network) (d j : ℕ) where
       let y' : y ≡ restricted d (near_numbers (near_among N D d)) (ValueField es) = e' ∙ ap (restricted d (near_numbers (near_among N D d))) (sym e) in
       absurd (rw y' at f)
 
-  step_variable : (t : ValueType) (q p b : ℕ) (st : Stage) (lv : Lvs) (D : Devices) (V : Maps) (F : Map) (s : Solves N p (Plain t (Variable q)) D V F) (vars : Vars) (env : Env) (w : AnyValue)
+  step_variable : (t : ValueType) (q p b : ℕ) (st : Stage) (lv : Lvs) (D : Devices) (V : ValueMaps) (F : ValueMap) (s : Solves N p (Plain t (Variable q)) D V F) (vars : Vars) (env : Env) (w : AnyValue)
       → nat_eq q st.var ≡ false → Given A N d j p b st lv (Plain t (Variable q)) D V F s vars env → variable_at q vars ≡ Some w
       → leaf_level b st.var lv t (Variable q) ≤ suc j → restricted d (tree_numbers env.near) w ≡ F d
   step_variable (TypeField t) q p b st lv D V F s vars env w cl g e l =
@@ -187,7 +187,7 @@ module _ (A : Analysis) (N : Network) (d j : ℕ) where
         holds = λ T k. let kid = kid_is i T t ts' k in (subst (λ u. Holds A N (suc j) p b st lv x D V G s.0 d u) (sym kid.0) first.holds, rest.holds T kid.1);
       }
 
-  pub all_given : (t : ValueType) (o : Builtin) (xs : Terms) (p b : ℕ) (st : Stage) (lv : Lvs) (D : Devices) (V : Maps) (F : Map) (s : Solves N p (Apply t o xs) D V F) (vars : Vars) (env : Env) → Given A N d j p b st lv (Apply t o xs) D V F s vars env
+  pub all_given : (t : ValueType) (o : Builtin) (xs : Terms) (p b : ℕ) (st : Stage) (lv : Lvs) (D : Devices) (V : ValueMaps) (F : ValueMap) (s : Solves N p (Apply t o xs) D V F) (vars : Vars) (env : Env) → Given A N d j p b st lv (Apply t o xs) D V F s vars env
       → GivenAll A N d j (suc p) 0 b st lv xs D V s.1 s.2 vars env
   all_given t o xs p b st lv D V F s vars env g = record {
     frag = g.frag;
@@ -255,7 +255,7 @@ module _ (A : Analysis) (N : Network) (d j : ℕ) where
   in_branch_too : (D : Devices) (k : ℕ → Bool) (r : Bool) → In D d → k d ≡ r → In (where_is r D k) d
   in_branch_too D k r i e = let t = is_same r (k d) e in rw (i, t) refl
 
-  module _ (t : ValueType) (c u w : Term) (p b : ℕ) (st : Stage) (lv : Lvs) (D : Devices) (V : Maps) (F : Map) (s : Solves N p (If t c u w) D V F) (vars : Vars) (env : Env) (g : Given A N d j p b st lv (If t c u w) D V F s vars env) where
+  module _ (t : ValueType) (c u w : Term) (p b : ℕ) (st : Stage) (lv : Lvs) (D : Devices) (V : ValueMaps) (F : ValueMap) (s : Solves N p (If t c u w) D V F) (vars : Vars) (env : Env) (g : Given A N d j p b st lv (If t c u w) D V F s vars env) where
     abbrev kc : ℕ
     kc = level_of A.stages (suc p) b st.var lv c
 

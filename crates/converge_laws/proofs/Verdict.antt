@@ -11,11 +11,11 @@ use Rattle.fc_nodes.specs.declared.verdicts.Reason.{Reason}
 use Rattle.fc_nodes.specs.declared.verdicts.Verdict.TheVariants as verdict
 use Rattle.fc_nodes.specs.Terms.{Leaf, Literal, Variable, Sense, Uid, NbrLink, Term, Terms, Plain, Apply, Nbr, Evolve, If, Let, NoMore, More, type_of, size, term_at, Laid, AllLaid}
 use Rattle.fc_nodes.specs.Typing.{Scope, type_at, evolving_type, HasType, HaveTypes}
-use Rattle.fc_nodes.specs.Parts.{part_at}
+use Rattle.fc_nodes.specs.Subterms.{subterm_at}
 use Rattle.fc_nodes.specs.Program.{Program, Unfolding, unfolding_of, IsProgram}
 use Rattle.fc_nodes.proofs.Places.{formed_above}
 use Rattle.fc_nodes.proofs.Kids.{laid_term}
-use Rattle.fc_nodes.proofs.Parts.{part_is}
+use Rattle.fc_nodes.proofs.Subterms.{subterm_is}
 use Rattle.topology.specs.Networks.{Network}
 use Rattle.firing_core.specs.Rounds.{after_edit}
 use Rattle.firing_core.specs.Laws.{StepsKeepGood, RunsKeepGood, CopiesFit, RunsCut, RunsCutAtEdit}
@@ -23,11 +23,11 @@ use Rattle.interval_facts.specs.Ranges.{RangeValue, Bounds, full, bound_at, term
 use Rattle.interval_facts.proofs.Tables.{Shows, shows_first, shows_second, shows_itself, as_many}
 use Rattle.growth_facts.specs.Leads.{greatest_integer}
 use Rattle.fragment_check.specs.declared.kinds.Pattern.{Pattern}
-use Rattle.fragment_check.specs.Patterns.{Judged, pattern_of, judged, all_judged, refusal_first, first_refused}
+use Rattle.fragment_check.specs.Patterns.{JudgedPlace, pattern_of, judged, all_judged, refusal_first, first_refused}
 use Rattle.fragment_check.specs.Shapes.{HasPattern}
 use Rattle.fragment_check.specs.Laws.{PatternsHaveShapes}
 use Rattle.fragment_check.specs.Verdicts.{bound_range, variable_range, added_levels, added_by, added_at, judged_of, main_level, verdict_by}
-use Rattle.converge_laws.specs.Fragment.{Analysis, InFragment, AllInFragment}
+use Rattle.converge_laws.specs.Fragment.{Analysis, TermInFragment, TermsInFragment}
 use Rattle.converge_laws.specs.Laws.{IsAnalysis, root_level}
 use Rattle.converge_laws.specs.CoreLevels.{MaybeAt}
 use Rattle.converge_laws.specs.Stabilising.{HasOneSolution, Stabilises}
@@ -38,7 +38,7 @@ use Rattle.converge_laws.proofs.Step.{level_low}
 use Rattle.converge_laws.proofs.Stabilised.{stabilised, one, raises}
 
 -- none is refused among two lists of judgements
-none_both : (js ks : List Judged) → first_refused (js ++ ks) ≡ None → (first_refused js ≡ None) × (first_refused ks ≡ None)
+none_both : (js ks : List JudgedPlace) → first_refused (js ++ ks) ≡ None → (first_refused js ≡ None) × (first_refused ks ≡ None)
 none_both [] ks h = (refl, h)
 none_both (j ∷ js) ks h = by_judgement j.1 refl h (λ k. none_both js ks k)
   where
@@ -65,8 +65,8 @@ module _ (shapes : PatternsHaveShapes) (P : Program) (n : ℕ) (program : IsProg
   A = analysis_of U n
 
   -- the part of a program at a place is the term that stands there
-  stands_at : (t : Term) (p : ℕ) → Laid P.nodes p t → part_at p U.main ≡ t
-  stands_at t p la = part_is P.nodes program.formed p ∙ laid_term P.nodes (formed_above P.nodes program.formed) t p la
+  stands_at : (t : Term) (p : ℕ) → Laid P.nodes p t → subterm_at p U.main ≡ t
+  stands_at t p la = subterm_is P.nodes program.formed p ∙ laid_term P.nodes (formed_above P.nodes program.formed) t p la
 
   -- the binders in scope have the ranges of their variables
   abbrev Bound : Scope → Bounds → Type 0
@@ -92,7 +92,7 @@ module _ (shapes : PatternsHaveShapes) (P : Program) (n : ℕ) (program : IsProg
   first_shown (If t c u w) p cs h = h.0
   first_shown (Let t a u) p cs h = h.0
 
-  leaf_fragment : (t : ValueType) (l : Leaf) (p : ℕ) (bs : Scope) (cs : Bounds) → HasType D bs p (Plain t l) → Bound bs cs → Shows R p (node_ranges D cs p (Plain t l)) → InFragment A D.ceiling p (Plain t l)
+  leaf_fragment : (t : ValueType) (l : Leaf) (p : ℕ) (bs : Scope) (cs : Bounds) → HasType D bs p (Plain t l) → Bound bs cs → Shows R p (node_ranges D cs p (Plain t l)) → TermInFragment A D.ceiling p (Plain t l)
   leaf_fragment t (Variable q) p bs cs ty b sh = sh.0 ∙ bound_is (full D.ceiling (inner t)) q t bs cs ty b
   leaf_fragment t (Literal v) p bs cs ty b sh = tt
   leaf_fragment t (Sense i) p bs cs ty b sh = tt
@@ -100,7 +100,7 @@ module _ (shapes : PatternsHaveShapes) (P : Program) (n : ℕ) (program : IsProg
   leaf_fragment t NbrLink p bs cs ty b sh = tt
 
   mutual
-    in_fragment : (t : Term) (p : ℕ) (bs : Scope) (cs : Bounds) → Laid P.nodes p t → HasType D bs p t → Bound bs cs → Shows R p (node_ranges D cs p t) → first_refused (judged D.ceiling R p t) ≡ None → InFragment A D.ceiling p t
+    in_fragment : (t : Term) (p : ℕ) (bs : Scope) (cs : Bounds) → Laid P.nodes p t → HasType D bs p t → Bound bs cs → Shows R p (node_ranges D cs p t) → first_refused (judged D.ceiling R p t) ≡ None → TermInFragment A D.ceiling p t
     in_fragment (Plain t l) p bs cs la ty b sh h = leaf_fragment t l p bs cs ty b sh
     in_fragment (Apply t o xs) p bs cs la ty b sh h = all_in_fragment xs (suc p) bs cs la.1 ty.1 b sh.1 h
     in_fragment (Nbr t a) p bs cs la ty b sh h = in_fragment a (suc p) bs cs la.1 ty.3 b sh.1 h
@@ -137,7 +137,7 @@ module _ (shapes : PatternsHaveShapes) (P : Program) (n : ℕ) (program : IsProg
               (refl, sym (first_shown a (suc p) cs first) ∙ sym (ap (bound_range D.ceiling R p) here), b) rest k.1,
         )
 
-    all_in_fragment : (xs : Terms) (p : ℕ) (bs : Scope) (cs : Bounds) → AllLaid P.nodes p xs → HaveTypes D bs p xs → Bound bs cs → Shows R p (all_node_ranges D cs p xs) → first_refused (all_judged D.ceiling R p xs) ≡ None → AllInFragment A D.ceiling p xs
+    all_in_fragment : (xs : Terms) (p : ℕ) (bs : Scope) (cs : Bounds) → AllLaid P.nodes p xs → HaveTypes D bs p xs → Bound bs cs → Shows R p (all_node_ranges D cs p xs) → first_refused (all_judged D.ceiling R p xs) ≡ None → TermsInFragment A D.ceiling p xs
     all_in_fragment NoMore p bs cs la ty b sh h = tt
     all_in_fragment (More x xs) p bs cs la ty b sh h =
         let k = none_both (judged D.ceiling R p x) (all_judged D.ceiling R (p + size x) xs) h in (
@@ -154,7 +154,7 @@ module _ (shapes : PatternsHaveShapes) (P : Program) (n : ℕ) (program : IsProg
       ends = λ p. subst (λ k. greatest_integer (R p) ≤ k.ceiling) (sym same)
           (greatest_within D.ceiling (R p) (get_within D.ceiling (ranges_of U) p (nodes_within D program.lawful (term_at P.nodes 0) 0 [] [] program.typed tt)));
     };
-    fragment = subst (λ k. InFragment A k.ceiling 0 (term_at P.nodes 0)) (sym same)
+    fragment = subst (λ k. TermInFragment A k.ceiling 0 (term_at P.nodes 0)) (sym same)
         (in_fragment (term_at P.nodes 0) 0 [] [] program.formed.laid program.typed tt (shows_itself (ranges_of U)) none);
   }
 

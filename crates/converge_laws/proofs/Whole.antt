@@ -14,7 +14,7 @@ use Rattle.topology.specs.Networks.{Network, IsNetwork, Lives, lives, numbers}
 use Rattle.firing_core.specs.Entries.{EntryValue}
 use Rattle.firing_core.specs.Cores.{Core, Run, IsGood}
 use Rattle.firing_core.specs.Rounds.{HasRounds}
-use Rattle.interval_facts.specs.Solutions.{Devices, Map, Maps, bind, around, local_map, evolved, Solves}
+use Rattle.interval_facts.specs.Solutions.{Devices, ValueMap, ValueMaps, bind, around, local_map, evolved, Solves}
 use Rattle.fc_nodes.specs.Variables.{is_own, occurs, occurs_in}
 use Rattle.fragment_check.specs.Levels.{Lvs, level_of, level_all}
 use Rattle.growth_facts.specs.Leads.{Close}
@@ -41,7 +41,7 @@ use Rattle.growth_facts.proofs.Grow.{both_fit}
 use Rattle.fragment_check.specs.declared.kinds.Pattern.{Pattern}
 use Rattle.fragment_check.specs.Shapes.{HasPattern, constant, acyclic, minimising, rising}
 use Rattle.fragment_check.specs.Verdicts.{stage_rounds, added_levels}
-use Rattle.converge_laws.specs.Fragment.{Analysis, IsFor, InFragment}
+use Rattle.converge_laws.specs.Fragment.{Analysis, IsFor, TermInFragment}
 use Rattle.converge_laws.specs.Stages.{lag_of}
 use Rattle.converge_laws.proofs.Acyclic.{acyclic_raised}
 use Rattle.converge_laws.proofs.Exact.{hood_types, head_of, last_stage}
@@ -77,7 +77,7 @@ module _ (A : Analysis) (N : Network) (net : IsNetwork N) (for : IsFor A N) (d j
   M = N.declared.ceiling
 
   -- a body by its pattern
-  by_pattern : (t : ValueType) (e : Evolution) (a u : Term) (p b : ℕ) (st : Stage) (lv : Lvs) (D : Devices) (V : Maps) (F : Map) (s : Solves N p (Evolve t e a u) D V F) (vars : Vars) (env : Env) (v : AnyValue) (tree : Tree)
+  by_pattern : (t : ValueType) (e : Evolution) (a u : Term) (p b : ℕ) (st : Stage) (lv : Lvs) (D : Devices) (V : ValueMaps) (F : ValueMap) (s : Solves N p (Evolve t e a u) D V F) (vars : Vars) (env : Env) (v : AnyValue) (tree : Tree)
       (cl : occurs st.var (Evolve t e a u) ≡ false) (g : Given A N d j p b st lv (Evolve t e a u) D V F s vars env) (r : Evolves N d p e a u vars env v tree) → ((y : Term) → size y ≤ size u → StepOf A N d j y)
       → (pt : Pattern) → A.pattern p ≡ pt → A.stages p ≡ added_levels A.devices A.bounds e pt → HasPattern M A.ranges e p (suc p + size a) (inner t) u pt → BodyRaised A N d j t e a u p b st lv D V F s vars env v tree cl g r
   by_pattern t e a u p b st lv D V F s vars env v tree cl g r P pt is stages (constant u' o) =
@@ -87,7 +87,7 @@ module _ (A : Analysis) (N : Network) (net : IsNetwork N) (for : IsFor A N) (d j
   by_pattern t e a u p b st lv D V F s vars env v tree cl g r P pt is stages (minimising t' h l c o n sh gr pos pair) =
       let U : Term = Apply t' op.MinHoodLoc (More h (More l NoMore)) in
       let at : ℕ = suc p + size a in
-      let W : Maps = bind p (evolved e N D s.1) V in
+      let W : ValueMaps = bind p (evolved e N D s.1) V in
       let top : ℕ = greatest_integer (A.ranges (suc at + size h)) in
       let types = hood_types (type_of h ∷ type_of l ∷ []) t' sh.0 in
       let two = head_of (type_of h) (type_of l) (TypeField types.of) (TypeLocal types.of) [] [] types.arguments in
@@ -159,7 +159,7 @@ module _ (A : Analysis) (N : Network) (net : IsNetwork N) (for : IsFor A N) (d j
 
 -- from every good core, after as many rounds as the level of `main`, each export has the value of a solution in its ranges
 pub converges : (keeps : StepsKeepGood) (fit : CopiesFit) (cuts : RunsCut) (p : Program) (A : Analysis) (N : Network) (program : IsProgram p) (net : IsNetwork N) (for : IsFor A N) (same : N.declared ≡ p.declared) (F : ℕ → LocalValue) (s : SolvesMain N (unfolding_of p).main F)
-    → InFragment A N.declared.ceiling 0 (unfolding_of p).main → InRanges A.ranges N 0 (unfolding_of p).main (lives N) no_binders (local_map F) s
+    → TermInFragment A N.declared.ceiling 0 (unfolding_of p).main → InRanges A.ranges N 0 (unfolding_of p).main (lives N) no_binders (local_map F) s
     → (start core : Core) (log : List EntryValue) → IsGood (unfolding_of p) start → start.net ≡ N → Run (unfolding_of p) start log core
     → HasRounds (numbers N.devices) log (level_of A.stages 0 1 (size (unfolding_of p).main) (λ q. 0) (unfolding_of p).main)
     → (d : ℕ) → Lives N d → (e : TreeExport) × (core.exports d ≡ Some e) × (e.value ≡ F d)

@@ -30,16 +30,16 @@ LeafInFragment A p _ = Unit {0}
 
 -- each `rep` and `share` outside the first values has its pattern
 abbrev mutual
-  pub InFragment : Analysis → ℕ → ℕ → Term → Type 0
-  InFragment A m p (Plain t l) = LeafInFragment A p l
-  InFragment A m p (Apply t o xs) = AllInFragment A m (suc p) xs
-  InFragment A m p (Nbr t a) = InFragment A m (suc p) a
-  InFragment A m p (Evolve t e a u) = HasPattern m A.ranges e p (suc p + size a) (inner t) u (A.pattern p)
-      × (A.stages p ≡ added_levels A.devices A.bounds e (A.pattern p)) × InFragment A m (suc p + size a) u
-  InFragment A m p (If t c u w) =
-      InFragment A m (suc p) c × InFragment A m (suc p + size c) u × InFragment A m (suc p + size c + size u) w
-  InFragment A m p (Let t a u) = InFragment A m (suc p) a × InFragment A m (suc p + size a) u
+  pub TermInFragment : Analysis → ℕ → ℕ → Term → Type 0
+  TermInFragment A m p (Plain t l) = LeafInFragment A p l
+  TermInFragment A m p (Apply t o xs) = TermsInFragment A m (suc p) xs
+  TermInFragment A m p (Nbr t a) = TermInFragment A m (suc p) a
+  TermInFragment A m p (Evolve t e a u) = HasPattern m A.ranges e p (suc p + size a) (inner t) u (A.pattern p)
+      × (A.stages p ≡ added_levels A.devices A.bounds e (A.pattern p)) × TermInFragment A m (suc p + size a) u
+  TermInFragment A m p (If t c u w) =
+      TermInFragment A m (suc p) c × TermInFragment A m (suc p + size c) u × TermInFragment A m (suc p + size c + size u) w
+  TermInFragment A m p (Let t a u) = TermInFragment A m (suc p) a × TermInFragment A m (suc p + size a) u
 
-  pub AllInFragment : Analysis → ℕ → ℕ → Terms → Type 0
-  AllInFragment A m p NoMore = Unit {0}
-  AllInFragment A m p (More t ts) = InFragment A m p t × AllInFragment A m (p + size t) ts
+  pub TermsInFragment : Analysis → ℕ → ℕ → Terms → Type 0
+  TermsInFragment A m p NoMore = Unit {0}
+  TermsInFragment A m p (More t ts) = TermInFragment A m p t × TermsInFragment A m (p + size t) ts

@@ -6,7 +6,7 @@ use Rattle.fc_nodes.specs.Terms.{Evolution, Term, Terms, Plain, Apply, Nbr, Evol
 use Rattle.fc_nodes.specs.Program.{Unfolding}
 use Rattle.fc_nodes.specs.Flat.{IsWellTyped}
 use Rattle.topology.specs.Networks.{Network, lives}
-use Rattle.interval_facts.specs.Solutions.{Devices, Map, Maps, bind, local_map, evolved, where_is, Solves, SolveAll, no_binders, SolvesMain}
+use Rattle.interval_facts.specs.Solutions.{Devices, ValueMap, ValueMaps, bind, local_map, evolved, where_is, Solves, SolveAll, no_binders, SolvesMain}
 use Rattle.fc_nodes.specs.Variables.{is_own}
 use Rattle.fragment_check.specs.Levels.{Lvs, bind_level, level_of}
 use Rattle.converge_laws.specs.Fragment.{Analysis}
@@ -14,7 +14,7 @@ use Rattle.converge_laws.specs.Stages.{Stage, rank_by, lag_of, KeptAt, HeardAt}
 use Rattle.fragment_check.specs.declared.kinds.Pattern.TheVariants as pattern
 
 -- the stages of a `rep` or `share`
-abbrev pub stage_of : Analysis → Network → ℕ → ℕ → Lvs → Evolution → Term → Term → Devices → Maps → Stage
+abbrev pub stage_of : Analysis → Network → ℕ → ℕ → Lvs → Evolution → Term → Term → Devices → ValueMaps → Stage
 stage_of A N p b lv e a u D V = record {
   var = p;
   base = level_of A.stages (suc p + size a) b p lv u;
@@ -27,7 +27,7 @@ stage_of A N p b lv e a u D V = record {
 -- `share` around, lv the levels of the binders.
 abbrev mutual
   pub Holds : (A : Analysis) (N : Network) (j p b : ℕ) (st : Stage) (lv : Lvs) (t : Term) (D : Devices)
-      (V : Maps) (F : Map)
+      (V : ValueMaps) (F : ValueMap)
       → Solves N p t D V F → ℕ → Tree → Type 0
   Holds A N j p b st lv (Plain t l) D V F s n T = Unit {0}
   Holds A N j p b st lv (Apply t o xs) D V F s n T = HoldAll A N j (suc p) 0 b st lv xs D V s.1 s.2 n T
@@ -57,8 +57,8 @@ abbrev mutual
       (bind p s.1 V) F s.3 n
       (child 1 T)
 
-  pub HoldAll : (A : Analysis) (N : Network) (j p i b : ℕ) (st : Stage) (lv : Lvs) (xs : Terms) (D : Devices) (V : Maps)
-      (Gs : List Map) → SolveAll N p xs D V Gs → ℕ → Tree → Type 0
+  pub HoldAll : (A : Analysis) (N : Network) (j p i b : ℕ) (st : Stage) (lv : Lvs) (xs : Terms) (D : Devices) (V : ValueMaps)
+      (Gs : List ValueMap) → SolveAll N p xs D V Gs → ℕ → Tree → Type 0
   HoldAll A N j p i b st lv NoMore D V Gs s n T = Unit {0}
   HoldAll A N j p i b st lv (More x xs) D V [] s n T = ⊥
   HoldAll A N j p i b st lv (More x xs) D V (G ∷ Gs) s n T =

@@ -5,11 +5,11 @@ use Rattle.fc_nodes.specs.Terms.{Term, size}
 use Rattle.fc_nodes.specs.Program.{Program, Unfolding, unfolding_of, IsProgram}
 use Rattle.topology.specs.Networks.{Network, IsNetwork}
 use Rattle.interval_facts.specs.Ranges.{range_of}
-use Rattle.interval_facts.specs.Solutions.{Devices, In, Map, Maps, Solves, SolvesMain}
+use Rattle.interval_facts.specs.Solutions.{Devices, In, ValueMap, ValueMaps, Solves, SolvesMain}
 use Rattle.interval_facts.specs.Claims.{InRanges}
 use Rattle.fragment_check.specs.Levels.{level_of}
 use Rattle.converge_laws.specs.CoreLevels.{Raises}
-use Rattle.converge_laws.specs.Fragment.{Analysis, IsFor, InFragment}
+use Rattle.converge_laws.specs.Fragment.{Analysis, IsFor, TermInFragment}
 use Rattle.converge_laws.specs.Invariant.{ExportAt}
 use Rattle.converge_laws.specs.Stabilising.{Stabilises}
 
@@ -17,7 +17,7 @@ use Rattle.converge_laws.specs.Stabilising.{Stabilises}
 pub record IsAnalysis (U : Unfolding) (A : Analysis) (N : Network) : Type 0 where
   pub ranges : A.ranges ≡ range_of U
   pub for : IsFor A N
-  pub fragment : InFragment A N.declared.ceiling 0 U.main
+  pub fragment : TermInFragment A N.declared.ceiling 0 U.main
 
 -- the level of `main`, which no `rep` or `share` is around
 abbrev pub root_level : Unfolding → Analysis → ℕ
@@ -44,5 +44,5 @@ AnalysedStabilise =
 -- binders' maps lie in the ranges of their variables; without this it would be false.
 abbrev pub SolutionsAreOne : Type 0
 SolutionsAreOne = (A : Analysis) (N : Network) → IsNetwork N → IsFor A N
-    → (t : Term) (p : ℕ) (D : Devices) (V : Maps) (F G : Map) → InFragment A N.declared.ceiling p t
+    → (t : Term) (p : ℕ) (D : Devices) (V : ValueMaps) (F G : ValueMap) → TermInFragment A N.declared.ceiling p t
     → Solves N p t D V F → (s : Solves N p t D V G) → InRanges A.ranges N p t D V G s → (d : ℕ) → In D d → F d ≡ G d

@@ -4,7 +4,7 @@ use Rattle.fc_values.specs.Values.{LocalValue}
 use Rattle.fc_values.specs.Fields.{AnyValue, ValueLocal, ValueField}
 use Rattle.fc_nodes.specs.Terms.{Evolution, ByRep, ByShare}
 use Rattle.topology.specs.Networks.{Network}
-use Rattle.interval_facts.specs.Solutions.{Devices, Maps}
+use Rattle.interval_facts.specs.Solutions.{Devices, ValueMaps}
 use Rattle.growth_facts.specs.Leads.{lead, Close}
 use Rattle.growth_facts.specs.Turns.{turns_of}
 use Rattle.fragment_check.specs.declared.kinds.Pattern.{Pattern}
@@ -23,7 +23,7 @@ integer_of (ValueLocal v) = lead v
 integer_of (ValueField es) = 0
 
 -- the rank of each device, where the pattern has a potential
-abbrev pub rank_by : Pattern → Network → Devices → Maps → ℕ → ℕ
+abbrev pub rank_by : Pattern → Network → Devices → ValueMaps → ℕ → ℕ
 rank_by (pattern.Acyclic q) N D V = rank_of N D (λ n. integer_of (V q n))
 rank_by _ N D V = λ n. 0
 

@@ -6,14 +6,13 @@ ghost use Rattle.fc_values.specs.Fields.{value_of, ValueLocal, restricted};
 ghost use Rattle.fc_nodes.specs.Terms.{OfApply, OfNbr, OfEvolve, ByRep, ByShare, OfIf, OfLet};
 ghost use Rattle.alignment.specs.Environments.{near_numbers};
 ghost use Rattle.device_eval.specs.Evaluation.{variable_at, pick};
-ghost use Rattle.fc_nodes.specs.Layouts.{number_in};
 ghost use Rattle.alignment.specs.References.{flat_of};
 ghost use Rattle.device_eval.specs.Contexts.{vars_of, ReadyIn, ReadyFor, Evaluated, ReadyKids, EvaluatedKids};
 ghost use Rattle.device_eval.specs.Walks.{IsLocal, IsTruth};
 
 use crate::links::links;
 use alignment::{Env, heard, heard_with, own_or, restrict, same_branch};
-use fc_nodes::{Node, Op, Unfolded};
+use fc_nodes::{Node, Op, Unfolded, ceiling_of, least_weight, slot_of};
 use fc_values::{Builtin, Local, Memory, Value, apply, copy};
 use flat_exports::{Draft, Layout};
 use std::alloc::Global;
@@ -282,31 +281,6 @@ fn uid(device: u32, program: &Unfolded) -> u32
     ensures { result ≡ min device program.now.declared.ceiling }
 {
     device.min(ceiling_of(program))
-}
-
-// The slot of a kept place.
-fn slot_of(layout: &Layout, place: u32) -> u32
-    requires { IsSome (number_in layout.now place) }
-    ensures { number_in layout.now place ≡ Some result }
-{
-    match layout.slot(place) {
-        Some(slot) => slot,
-        None => unreachable!(),
-    }
-}
-
-// The greatest integer of a program.
-fn ceiling_of(program: &Unfolded) -> u32
-    ensures { result ≡ program.now.declared.ceiling }
-{
-    program.declared().ceiling
-}
-
-// The least weight of a link.
-fn least_weight(program: &Unfolded) -> u32
-    ensures { result ≡ program.now.declared.least }
-{
-    program.declared().metric.0
 }
 
 /// A local value out of a value.

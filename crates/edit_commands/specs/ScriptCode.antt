@@ -5,7 +5,7 @@ use Rattle.fc_nodes.specs.Program.{Unfolding, unfolding_of}
 use Rattle.firing_core.specs.Cores.{Core}
 use Rattle.firing_core.specs.CoreViews.{core_of}
 use Rattle.edit_commands.specs.declared.scripts.Progress.{Progress as ProgressCode}
-use Rattle.edit_commands.specs.declared.scripts.Sight.{Sight}
+use Rattle.edit_commands.specs.declared.scripts.LineContext.{LineContext}
 use Rattle.edit_commands.specs.declared.scripts.TheConstants.{MOST_SCRAMBLES, MOST_FIRINGS}
 use Rattle.edit_commands.specs.declared.types.Command.{Command}
 use Rattle.edit_commands.specs.declared.types.Fault.{Fault}
@@ -28,23 +28,23 @@ pub record IsWithin (p : Progress) : Type 0 where
   pub firings : p.firings ≤ MOST_FIRINGS
 
 -- what a line is judged by: the program, and the core at the start
-abbrev pub program_in : Sight → Unfolding
+abbrev pub program_in : LineContext → Unfolding
 program_in s = unfolding_of s.program.now
 
-abbrev pub start_in : Sight → Core
+abbrev pub start_in : LineContext → Core
 start_in s = core_of s.core.now
 
 -- the network has the program's declarations, and no limit is passed
-pub record IsReady (s : Sight) (p : ProgressCode) : Type 0 where
+pub record IsReady (s : LineContext) (p : ProgressCode) : Type 0 where
   pub declared : p.net.declared ≡ s.program.now.declared
   pub within : IsWithin (progress_of p)
 
 -- a line, judged
-abbrev pub seen : Sight → ProgressCode → Option ScriptLine → Judgement LineFault ScriptLine
+abbrev pub seen : LineContext → ProgressCode → Option ScriptLine → Judgement LineFault ScriptLine
 seen s p line = line_judged (program_in s) (start_in s) (progress_of p) line
 
 -- the command of a line that has no fault, with what it leaves
-pub record Leaves (s : Sight) (p after : ProgressCode) (line : Option ScriptLine) (c : Command) : Type 0 where
+pub record Leaves (s : LineContext) (p after : ProgressCode) (line : Option ScriptLine) (c : Command) : Type 0 where
   pub does :
       WhereAccepted (DoesCommand (program_in s) (progress_of p) (progress_of after) (command_of c)) (seen s p line)
   pub within : IsWithin (progress_of after)
@@ -66,7 +66,7 @@ abbrev pub text_in : ProgressCode → List ℕ → Option ScriptLine
 text_in p text = script_line p.net.declared.inputs (words_of text)
 
 -- the fault of an edit
-abbrev pub fault_in : Sight → ProgressCode → EditLine → Option Fault
+abbrev pub fault_in : LineContext → ProgressCode → EditLine → Option Fault
 fault_in s p line = edit_fault (program_in s) p.net (flies (start_in s) p.quiet) line
 
 -- a fault in code is that of a judged line of a number. Want of memory is always allowed
@@ -77,7 +77,7 @@ HasLineFaultAt number judged (script.Scrambles count) = judged ≡ Refused (OfSc
 HasLineFaultAt number judged (script.Firings count) = judged ≡ Refused (OfFirings count)
 HasLineFaultAt number judged script.Memory = Unit {0}
 
-abbrev pub IsAtFault : Sight → ProgressCode → Option ScriptLine → ScriptFault → Type 0
+abbrev pub IsAtFault : LineContext → ProgressCode → Option ScriptLine → ScriptFault → Type 0
 IsAtFault s p line f = HasLineFaultAt s.number (seen s p line) f
 
 -- a fault in code is that of an edit on the line of a number. Want of memory is always allowed

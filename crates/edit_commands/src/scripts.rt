@@ -83,18 +83,18 @@ pub(crate) struct Progress {
 
 /// What a line is judged by: the program, the core at the start, and the number of the line.
 #[derive(Drop)]
-pub(crate) struct Sight<'a> {
+pub(crate) struct LineContext<'a> {
     program: &'a Unfolded,
     core: &'a Core,
     number: u32,
 }
 
 // The fault of a line that isn't one of a script's.
-fn form(sight: &Sight) -> ScriptFault
-    ensures { result ≡ ScriptFault.At sight.now.number Fault.Form }
+fn form(context: &LineContext) -> ScriptFault
+    ensures { result ≡ ScriptFault.At context.now.number Fault.Form }
 {
     ScriptFault::At {
-        line: sight.number,
+        line: context.number,
         fault: Fault::Form,
     }
 }
@@ -119,16 +119,16 @@ fn add_firings(progress: &mut Progress, rounds: u64) -> Result<(), u64>
 }
 
 // The rounds that words say.
-fn run(sight: &Sight, progress: &mut Progress, words: &[&[u8]]) -> Result<Command, ScriptFault>
-    requires { IsReady sight.now progress.old }
-    ensures ok { IfOk result (Leaves sight.now progress.old progress.new (run_line (texts words.now))) }
-    ensures refused { IfErr result (IsAtFault sight.now progress.old (run_line (texts words.now))) }
+fn run(context: &LineContext, progress: &mut Progress, words: &[&[u8]]) -> Result<Command, ScriptFault>
+    requires { IsReady context.now progress.old }
+    ensures ok { IfOk result (Leaves context.now progress.old progress.new (run_line (texts words.now))) }
+    ensures refused { IfErr result (IsAtFault context.now progress.old (run_line (texts words.now))) }
 {
     let [word] = words else {
-        return Err(form(sight));
+        return Err(form(context));
     };
     let Some(rounds) = rounds(word) else {
-        return Err(form(sight));
+        return Err(form(context));
     };
     match add_firings(progress, u64::from(rounds)) {
         Ok(()) => Ok(Command::Run(rounds)),
@@ -137,16 +137,16 @@ fn run(sight: &Sight, progress: &mut Progress, words: &[&[u8]]) -> Result<Comman
 }
 
 // The rubbish that words say.
-fn scramble(sight: &Sight, progress: &mut Progress, words: &[&[u8]]) -> Result<Command, ScriptFault>
-    requires { IsReady sight.now progress.old }
-    ensures ok { IfOk result (Leaves sight.now progress.old progress.new (scramble_line (texts words.now))) }
-    ensures refused { IfErr result (IsAtFault sight.now progress.old (scramble_line (texts words.now))) }
+fn scramble(context: &LineContext, progress: &mut Progress, words: &[&[u8]]) -> Result<Command, ScriptFault>
+    requires { IsReady context.now progress.old }
+    ensures ok { IfOk result (Leaves context.now progress.old progress.new (scramble_line (texts words.now))) }
+    ensures refused { IfErr result (IsAtFault context.now progress.old (scramble_line (texts words.now))) }
 {
     let [word] = words else {
-        return Err(form(sight));
+        return Err(form(context));
     };
     let Some(seed) = number(word) else {
-        return Err(form(sight));
+        return Err(form(context));
     };
     if progress.scrambles >= MOST_SCRAMBLES {
         return Err(ScriptFault::Scrambles(progress.scrambles + 1));
@@ -156,14 +156,14 @@ fn scramble(sight: &Sight, progress: &mut Progress, words: &[&[u8]]) -> Result<C
 }
 
 // The values, which no words follow.
-fn show(sight: &Sight, words: &[&[u8]]) -> Result<Command, ScriptFault>
+fn show(context: &LineContext, words: &[&[u8]]) -> Result<Command, ScriptFault>
     ensures ok { IfOk result (λ c. (show_line (texts words.now) ≡ Some ShowLine) × (command_of c ≡ ShowCommand)) }
     ensures none { OnErr result (show_line (texts words.now) ≡ None) }
-    ensures form { IfErr result (λ f. f ≡ ScriptFault.At sight.now.number Fault.Form) }
+    ensures form { IfErr result (λ f. f ≡ ScriptFault.At context.now.number Fault.Form) }
 {
     match words {
         [] => Ok(Command::Show),
-        _ => Err(form(sight)),
+        _ => Err(form(context)),
     }
 }
 
@@ -177,22 +177,22 @@ fn known(core: &Core, quiet: bool) -> Option<&Core>
 // The edit that a line says, which is done to the network.
 fn do_line(
     alloc: Global,
-    sight: &Sight,
+    context: &LineContext,
     progress: &mut Progress,
     line: EditLine,
 ) -> Result<Edit, ScriptFault>
     requires { LineFits (line_of line) }
-    ensures says { IfOk result (λ e. IsEdit (program_in sight.now) (line_of line) (edit_of e)) }
-    ensures fits { IfOk result (λ e. EditFits (program_in sight.now) (edit_of e)) }
-    ensures allowed { OnOk result (fault_in sight.now progress.old (line_of line) ≡ None) }
+    ensures says { IfOk result (λ e. IsEdit (program_in context.now) (line_of line) (edit_of e)) }
+    ensures fits { IfOk result (λ e. EditFits (program_in context.now) (edit_of e)) }
+    ensures allowed { OnOk result (fault_in context.now progress.old (line_of line) ≡ None) }
     ensures after { OnOk result (progress_of progress.new ≡ with_edit (progress_of progress.old) (line_of line)) }
-    ensures refused { IfErr result (IsFaultAt sight.now.number (fault_in sight.now progress.old (line_of line))) }
+    ensures refused { IfErr result (IsFaultAt context.now.number (fault_in context.now progress.old (line_of line))) }
 {
-    let start = known(sight.core, progress.quiet);
-    match judge(alloc, sight.program, &mut progress.net, start, line) {
+    let start = known(context.core, progress.quiet);
+    match judge(alloc, context.program, &mut progress.net, start, line) {
         Ok(edit) => Ok(edit),
         Err(LineFault::Bad(fault)) => Err(ScriptFault::At {
-            line: sight.number,
+            line: context.number,
             fault,
         }),
         Err(LineFault::Memory) => Err(ScriptFault::Memory),
@@ -232,19 +232,19 @@ fn mixed_line(
 // The edit that the words of a line say, as a command.
 fn edit_command(
     alloc: Global,
-    sight: &Sight,
+    context: &LineContext,
     progress: &mut Progress,
     words: &[&[u8]],
 ) -> Result<Command, ScriptFault>
-    requires { IsReady sight.now progress.old }
-    ensures ok { IfOk result (Leaves sight.now progress.old progress.new (edit_in progress.old words.now)) }
-    ensures refused { IfErr result (IsAtFault sight.now progress.old (edit_in progress.old words.now)) }
+    requires { IsReady context.now progress.old }
+    ensures ok { IfOk result (Leaves context.now progress.old progress.new (edit_in progress.old words.now)) }
+    ensures refused { IfErr result (IsAtFault context.now progress.old (edit_in progress.old words.now)) }
 {
-    let inputs = &sight.program.declared().inputs;
+    let inputs = &context.program.declared().inputs;
     let Some(line) = edit_line(alloc, inputs, words)? else {
-        return Err(form(sight));
+        return Err(form(context));
     };
-    match do_line(alloc, sight, progress, line) {
+    match do_line(alloc, context, progress, line) {
         Ok(edit) => Ok(Command::Edit(edit)),
         Err(fault) => Err(fault),
     }
@@ -253,23 +253,23 @@ fn edit_command(
 // So many rounds after an edit among firings.
 fn mix_line(
     alloc: Global,
-    sight: &Sight,
+    context: &LineContext,
     progress: &mut Progress,
     rounds: u32,
     words: &[&[u8]],
 ) -> Result<Command, ScriptFault>
-    requires { IsReady sight.now progress.old }
-    ensures ok { IfOk result (Leaves sight.now progress.old progress.new (mixed_in progress.old rounds words.now)) }
-    ensures refused { IfErr result (IsAtFault sight.now progress.old (mixed_in progress.old rounds words.now)) }
+    requires { IsReady context.now progress.old }
+    ensures ok { IfOk result (Leaves context.now progress.old progress.new (mixed_in progress.old rounds words.now)) }
+    ensures refused { IfErr result (IsAtFault context.now progress.old (mixed_in progress.old rounds words.now)) }
 {
-    let inputs = &sight.program.declared().inputs;
+    let inputs = &context.program.declared().inputs;
     let Some(line) = mixed_line(alloc, inputs, words)? else {
-        return Err(form(sight));
+        return Err(form(context));
     };
     if let Err(count) = add_firings(progress, u64::from(rounds) + 1) {
         return Err(ScriptFault::Firings(count));
     }
-    match do_line(alloc, sight, progress, line) {
+    match do_line(alloc, context, progress, line) {
         Ok(edit) => Ok(Command::Mix(rounds, edit)),
         Err(fault) => Err(fault),
     }
@@ -278,60 +278,60 @@ fn mix_line(
 // The edit among firings and the rounds that words say.
 fn mix(
     alloc: Global,
-    sight: &Sight,
+    context: &LineContext,
     progress: &mut Progress,
     words: &[&[u8]],
 ) -> Result<Command, ScriptFault>
-    requires { IsReady sight.now progress.old }
-    ensures ok { IfOk result (Leaves sight.now progress.old progress.new (mix_in progress.old words.now)) }
-    ensures refused { IfErr result (IsAtFault sight.now progress.old (mix_in progress.old words.now)) }
+    requires { IsReady context.now progress.old }
+    ensures ok { IfOk result (Leaves context.now progress.old progress.new (mix_in progress.old words.now)) }
+    ensures refused { IfErr result (IsAtFault context.now progress.old (mix_in progress.old words.now)) }
 {
     let [word, rest @ ..] = words else {
-        return Err(form(sight));
+        return Err(form(context));
     };
     let Some(rounds) = rounds(word) else {
-        return Err(form(sight));
+        return Err(form(context));
     };
-    mix_line(alloc, sight, progress, rounds, rest)
+    mix_line(alloc, context, progress, rounds, rest)
 }
 
 // The command that the text of a line says.
 fn read_command(
     alloc: Global,
-    sight: &Sight,
+    context: &LineContext,
     progress: &mut Progress,
     text: &[u8],
 ) -> Result<Command, ScriptFault>
-    requires { IsReady sight.now progress.old }
-    ensures ok { IfOk result (Leaves sight.now progress.old progress.new (text_in progress.old text.now)) }
-    ensures refused { IfErr result (IsAtFault sight.now progress.old (text_in progress.old text.now)) }
+    requires { IsReady context.now progress.old }
+    ensures ok { IfOk result (Leaves context.now progress.old progress.new (text_in progress.old text.now)) }
+    ensures refused { IfErr result (IsAtFault context.now progress.old (text_in progress.old text.now)) }
 {
     let words = words(alloc, text)?;
-    read_words(alloc, sight, progress, &words)
+    read_words(alloc, context, progress, &words)
 }
 
 // The command that the words of a line say.
 fn read_words(
     alloc: Global,
-    sight: &Sight,
+    context: &LineContext,
     progress: &mut Progress,
     words: &[&[u8]],
 ) -> Result<Command, ScriptFault>
-    requires { IsReady sight.now progress.old }
-    ensures ok { IfOk result (Leaves sight.now progress.old progress.new (line_in progress.old words.now)) }
-    ensures refused { IfErr result (IsAtFault sight.now progress.old (line_in progress.old words.now)) }
+    requires { IsReady context.now progress.old }
+    ensures ok { IfOk result (Leaves context.now progress.old progress.new (line_in progress.old words.now)) }
+    ensures refused { IfErr result (IsAtFault context.now progress.old (line_in progress.old words.now)) }
 {
     let [word, rest @ ..] = words else {
-        return Err(form(sight));
+        return Err(form(context));
     };
     let Some(word) = script_word(word) else {
-        return edit_command(alloc, sight, progress, words);
+        return edit_command(alloc, context, progress, words);
     };
     match word {
-        ScriptWord::Run => run(sight, progress, rest),
-        ScriptWord::Mix => mix(alloc, sight, progress, rest),
-        ScriptWord::Scramble => scramble(sight, progress, rest),
-        ScriptWord::Show => show(sight, rest),
+        ScriptWord::Run => run(context, progress, rest),
+        ScriptWord::Mix => mix(alloc, context, progress, rest),
+        ScriptWord::Scramble => scramble(context, progress, rest),
+        ScriptWord::Show => show(context, rest),
     }
 }
 
@@ -358,12 +358,12 @@ fn read_lines(
         let line = line_text(front);
         number += 1;
         if !line.is_empty() {
-            let sight = Sight {
+            let context = LineContext {
                 program,
                 core,
                 number,
             };
-            let command = match read_command(alloc, &sight, &mut progress, line) {
+            let command = match read_command(alloc, &context, &mut progress, line) {
                 Ok(command) => command,
                 Err(fault) => return Err(fault),
             };

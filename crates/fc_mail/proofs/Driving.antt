@@ -13,7 +13,7 @@ use Rattle.message_links.specs.declared.entries.MailFault.{MailFault}
 use Rattle.mail_laws.specs.Laws.{MailStabilises}
 use Rattle.message_links.proofs.MailRuns.{run_net}
 use Rattle.scramble.specs.Words.{words_of}
-use Rattle.session.specs.Promises.{Holds, field_on}
+use Rattle.session.specs.Promises.{HoldsField, field_on}
 use Rattle.session.proofs.ShownFields.{values_held}
 use Rattle.mail_drive.specs.Drives.{driven}
 use Rattle.mail_drive.specs.Laws.{nothing, IsStill, DrivenLeads}
@@ -36,7 +36,7 @@ use Rattle.fc_mail.specs.Drives.{Settles, driven_log, WritesDriven}
 
 module _ (U : Unfolding) (N : Network) (k : ℕ) (m : MailStabilises U N k) (start last : MailCore) (log : List MailEntryValue) (s : IsMailStart U start) (net : start.core.net ≡ N)
     (run : MailRun U 0 start log last) (rounds : HasMailRounds N 0 (posts_of start) log k) where
-  pub held : Holds last.core m.one.field
+  pub held : HoldsField last.core m.one.field
   held d l = m.reached start last log s net run rounds d (subst (λ (n : Network). Lives n d) (run_net U 0 start last log run ∙ net) l)
 
   pub field_values : values_text last.core ≡ field_text (field_on N m.one.field)

@@ -11,7 +11,7 @@ use Rattle.mail_lines.specs.MailLines.{mail_log}
 use Rattle.edit_commands.specs.LineByLine.{AllLines}
 use Rattle.mail_book.specs.MailViews.{quiet}
 use Rattle.mail_count.specs.Laws.{IsGreatestMail}
-use Rattle.session.specs.Promises.{Holds, field_on}
+use Rattle.session.specs.Promises.{HoldsField, field_on}
 use Rattle.net_json.specs.Scenes.{SceneValue}
 use Rattle.report.specs.Texts.{field_text, values_text}
 use Rattle.report.specs.Verdicts.{rounds_text, verdict_text}
@@ -59,7 +59,7 @@ pub record MailKeepsYes (program network log text : List ℕ) : Type 0 where
   pub stabilises : (k : ℕ) → verdict_of unfolded (length scene.net.devices) ≡ verdict.Yes k
       → MailStabilises unfolded scene.net k
   pub holds : (k : ℕ) (judged : verdict_of unfolded (length scene.net.devices) ≡ verdict.Yes k) → k ≤ rounds
-      → Holds last.core (stabilises k judged).one.field
+      → HoldsField last.core (stabilises k judged).one.field
   pub shows : (k : ℕ) (judged : verdict_of unfolded (length scene.net.devices) ≡ verdict.Yes k) → k ≤ rounds
       → text ≡ field_text (field_on scene.net (stabilises k judged).one.field) ++ rounds_text rounds
 
@@ -84,7 +84,7 @@ pub record DrivenMailKeepsYes (number : ℕ) (program network text : List ℕ) :
   pub no_more : 1 ≤ length scene.net.links → count ≡ rounds
   pub writes : text ≡ verdict_text (verdict.Yes rounds) ++ values_text last.core ++ rounds_text count
   pub stabilises : MailStabilises unfolded scene.net rounds
-  pub holds : Holds last.core stabilises.one.field
+  pub holds : HoldsField last.core stabilises.one.field
   pub shows : text ≡ verdict_text (verdict.Yes rounds)
       ++ field_text (field_on scene.net stabilises.one.field) ++ rounds_text count
 

@@ -3,7 +3,7 @@ use Rattle.std.specs.Prelude.{ℕ, List, [], ◌∷◌, ◌≡◌, ◌<◌, ◌�
 use Rattle.fc_values.specs.declared.limits.TheConstants.{GREATEST, MOST_NODES}
 use Rattle.fc_values.specs.declared.types.InputTy.{InputTy}
 use Rattle.fc_values.specs.declared.types.InputTy.TheVariants as input
-use Rattle.fc_values.specs.Types.{LocalType, TypeLocal, Declarations, Input}
+use Rattle.fc_values.specs.Types.{LocalType, TypeLocal, Declarations, Input, IsRange}
 use Rattle.fc_nodes.specs.declared.nodes.Node.{Node}
 use Rattle.fc_nodes.specs.Terms.{Term, type_of, term_at, WellFormed}
 use Rattle.fc_nodes.specs.Typing.{HasType}
@@ -20,10 +20,6 @@ pub record Unfolding : Type 0 where
 
 abbrev pub unfolding_of : Program → Unfolding
 unfolding_of p = record { declared = p.declared; main = term_at p.nodes 0 }
-
--- a range lies within the integers of a program
-abbrev pub IsRange : ℕ → ℕ → ℕ → Type 0
-IsRange ceiling least greatest = (least ≤ greatest) × (greatest ≤ ceiling)
 
 abbrev pub InputIsLawful : ℕ → InputTy → Type 0
 InputIsLawful ceiling input.Truth = Unit {0}

@@ -1,6 +1,6 @@
 //! Which slot each kept place of a program has.
 
-ghost use Rattle.std.specs.Prelude.{◌≡◌, ◌<◌, ◌≤◌, ◌^◌, [], ◌∷◌, ◌++◌, IfOk, OnOk, length, option_map, option_to_list, Some};
+ghost use Rattle.std.specs.Prelude.{◌≡◌, ◌<◌, ◌≤◌, ◌^◌, [], ◌∷◌, ◌++◌, IfOk, IsSome, OnOk, length, option_map, option_to_list, Some};
 ghost use Rattle.fc_values.specs.Values.{local_of, form_of};
 ghost use Rattle.fc_values.specs.declared.limits.TheConstants.{MOST_NODES};
 ghost use Rattle.fc_nodes.specs.Terms.{node_keeps, view_at, view_of, WellFormed};
@@ -112,5 +112,16 @@ fn blank(alloc: Global, node: &Node) -> Result<Option<Local>, Memory>
         Op::Nbr | Op::Rep | Op::Share => Ok(Some(blank_of(alloc, inner(&node.ty))?)),
         Op::If => Ok(Some(Local::Bool(false))),
         _ => Ok(None),
+    }
+}
+
+/// The slot of a kept place.
+pub fn slot_of(layout: &Layout, place: u32) -> u32
+    requires { IsSome (number_in layout.now place) }
+    ensures { number_in layout.now place ≡ Some result }
+{
+    match layout.slot(place) {
+        Some(slot) => slot,
+        None => unreachable!(),
     }
 }

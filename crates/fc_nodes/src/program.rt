@@ -118,3 +118,17 @@ impl Unfolded {
         is_own(self.node(place), binder)
     }
 }
+
+/// The greatest integer of a program.
+pub fn ceiling_of(program: &Unfolded) -> u32
+    ensures { result ≡ program.now.declared.ceiling }
+{
+    program.declared.ceiling
+}
+
+/// The least weight of a link.
+pub fn least_weight(program: &Unfolded) -> u32
+    ensures { result ≡ program.now.declared.least }
+{
+    program.declared.metric.0
+}

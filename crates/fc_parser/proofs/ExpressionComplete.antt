@@ -11,7 +11,8 @@ use Rattle.fc_values.specs.declared.names.Word.TheVariants as word
 use Rattle.fc_lexer.specs.Kinds.{TokenKind, NumberOf, WordOf, NameOf, MarkOf}
 use Rattle.fc_syntax.specs.Terms.{Term, IntTerm, VarTerm, SenseTerm, ApplyTerm, NbrTerm, ShareTerm, IfTerm, LetTerm, CallTerm, Terms, NoTerms, MoreTerms}
 use Rattle.fc_syntax.specs.Text.{builtin_strength, left_asks}
-use Rattle.fc_syntax.specs.Printable.{arity, count, IsOfLanguage, IsNumber}
+use Rattle.fc_values.specs.BuiltinTypes.{arity}
+use Rattle.fc_syntax.specs.Printable.{count, IsOfLanguage, IsNumber}
 use Rattle.fc_parser.specs.Grammar.{operator, named, one, two, Expression, binding, operation, Operation, between, negation, stronger, atom, Atom, number, yes, no, uid, nbr_link, variable, sense, call, builtin, nbr, rep, share, choice, bracket, pair, Arguments, none, some, MoreArguments, no_more, more}
 use Rattle.fc_parser.specs.Reading.{Read, Got, Not, ◌>>=◌, Reader}
 use Rattle.fc_parser.specs.Expressions.{if_got, place_of, mark_read, let_read, in_read, name_read, of_strength, operator_read, binder_read, enclosed_with, more_with, arguments_with, named_with, has_builtin, applied, builtin_with, fold_term, fold_with, choice_with, bracketed_with, word_with, atom_with, count_nots, after_nots, negated, unary_with, chain_with, turns, level_with, operations_left, operations_with, binding_with, expression_with, expression_at, IsBelow, StopsKind, StopsBelow, Stops}

@@ -15,7 +15,8 @@ use Rattle.fc_syntax.specs.declared.tree.Expr.{Expr, fold-roll-Expr}
 use Rattle.fc_syntax.specs.declared.tree.Expr.TheOpen.{Expr-F}
 use Rattle.fc_syntax.specs.declared.tree.Expr.TheVariants.{rolls-Apply, rolls-Let}
 use Rattle.fc_syntax.specs.declared.tree.Expr.TheViews.{Apply, Let}
-use Rattle.fc_syntax.specs.Printable.{arity, count}
+use Rattle.fc_values.specs.BuiltinTypes.{arity}
+use Rattle.fc_syntax.specs.Printable.{count}
 use Rattle.fc_syntax.specs.Terms.{Term, ApplyTerm, LetTerm, Terms, NoTerms, MoreTerms, term_of, term_step, terms}
 use Rattle.fc_parser.specs.Grammar.{two}
 use Rattle.fc_parser.specs.Reading.{Read, Got, Not, ◌>>=◌, Reader}

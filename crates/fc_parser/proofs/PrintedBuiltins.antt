@@ -9,7 +9,8 @@ use Rattle.fc_values.specs.declared.names.Word.TheVariants as word
 use Rattle.fc_lexer.specs.Kinds.{TokenKind, MarkOf, WordOf}
 use Rattle.fc_syntax.specs.Terms.{Term, ApplyTerm, Terms, NoTerms, MoreTerms}
 use Rattle.fc_syntax.specs.Text.{text, written, all_written, placed, builtin_strength, builtin_word, left_asks, apply_text, call_text, between_text, with_commas}
-use Rattle.fc_syntax.specs.Printable.{IsOfLanguage, arity, count}
+use Rattle.fc_values.specs.BuiltinTypes.{arity}
+use Rattle.fc_syntax.specs.Printable.{IsOfLanguage, count}
 use Rattle.fc_parser.specs.Grammar.{Operation, atom, between, negation, builtin, pair, operator, named, two}
 use Rattle.fc_parser.proofs.PrintedRuns.{InWord, InSpace, Meets, Inner, join, as_is, loose, meets_more}
 use Rattle.fc_parser.proofs.PrintedSeams.{seam_four, seam_between}

@@ -7,7 +7,8 @@ use Rattle.fc_values.specs.declared.names.Word.TheVariants as word
 use Rattle.fc_lexer.specs.Kinds.{TokenKind, WordOf, MarkOf, TokenView}
 use Rattle.fc_lexer.specs.Lexes.{Lexes}
 use Rattle.fc_syntax.specs.Terms.{Term, Terms, Parameter, Declaration, LanguageIs, CeilingIs, InputIs, MetricIs, DefIs, MainIs}
-use Rattle.fc_syntax.specs.Printable.{IsNumber, IsOfLanguage, arity, IsExpression, AreExpressions, HaveNames, IsInner, EndWithMain, BeginWithCeiling, IsPrintable}
+use Rattle.fc_values.specs.BuiltinTypes.{arity}
+use Rattle.fc_syntax.specs.Printable.{IsNumber, IsOfLanguage, IsExpression, AreExpressions, HaveNames, IsInner, EndWithMain, BeginWithCeiling, IsPrintable}
 use Rattle.fc_parser.specs.Grammar.{Expression, Operation, Atom, Arguments, MoreArguments, ParameterIs, MoreParametersAre, ParametersAre, DeclarationIs, operator}
 use Rattle.fc_parser.specs.Programs.{kinds, is_semi, onto_piece, pieces, Place, First, AfterLanguage, Within, AfterMain, is_second, next, Follow, Derives}
 use Rattle.fc_parser.proofs.PrintedLexed.{IsNamed, AreNamed, names_lexed}

@@ -19,7 +19,8 @@ use Rattle.fc_syntax.specs.Terms.{Term, IntTerm, TruthTerm, VarTerm, UidTerm, Nb
 use Rattle.fc_syntax.specs.Terms.{SenseTerm, ApplyTerm, NbrTerm, RepTerm, ShareTerm, IfTerm}
 use Rattle.fc_syntax.specs.Terms.{LetTerm, CallTerm, Terms, NoTerms, MoreTerms, term_of, terms}
 use Rattle.fc_syntax.specs.Text.{builtin_strength}
-use Rattle.fc_syntax.specs.Printable.{arity, count}
+use Rattle.fc_values.specs.BuiltinTypes.{arity}
+use Rattle.fc_syntax.specs.Printable.{count}
 use Rattle.fc_values.specs.declared.limits.TheConstants.{GREATEST}
 use Rattle.fc_parser.specs.Grammar.{operator, named, one, two}
 use Rattle.fc_parser.specs.Programs.{kinds}

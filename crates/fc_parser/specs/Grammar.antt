@@ -24,7 +24,8 @@ use Rattle.fc_syntax.specs.Terms.{Term, IntTerm, TruthTerm, VarTerm, UidTerm, Nb
 use Rattle.fc_syntax.specs.Terms.{NbrTerm, RepTerm, ShareTerm, IfTerm, LetTerm, CallTerm, Terms, NoTerms, MoreTerms}
 use Rattle.fc_syntax.specs.Terms.{Parameter, Declaration, LanguageIs, CeilingIs, InputIs, MetricIs, DefIs, MainIs}
 use Rattle.fc_syntax.specs.Text.{builtin_strength, left_asks}
-use Rattle.fc_syntax.specs.Printable.{IsNumber, IsOfLanguage, arity, count}
+use Rattle.fc_values.specs.BuiltinTypes.{arity}
+use Rattle.fc_syntax.specs.Printable.{IsNumber, IsOfLanguage, count}
 
 -- the builtin that stands between two operands
 abbrev pub operator : TokenKind → Option Builtin

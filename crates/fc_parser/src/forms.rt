@@ -2,7 +2,7 @@
 
 ghost use Rattle.std.specs.Prelude.{◌≡◌, IfOk, true, ◌+◌, ◌≤◌, length};
 ghost use Rattle.fc_lexer.specs.Kinds.{kind_view};
-ghost use Rattle.fc_syntax.specs.Printable.{arity as arity_of};
+ghost use Rattle.fc_values.specs.BuiltinTypes.{arity as arity_of};
 ghost use Rattle.fc_syntax.specs.Terms.{ApplyTerm, term_of};
 ghost use Rattle.fc_parser.specs.Expressions.{GivesAfter, GivesName, GivesOperator, GivesRest, after_nots};
 ghost use Rattle.fc_parser.specs.Expressions.{binder_read, count_nots, has_builtin as has, in_read, kinds_of};

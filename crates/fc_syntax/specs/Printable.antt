@@ -4,6 +4,7 @@ use Rattle.fc_values.specs.Names.{IsName}
 use Rattle.fc_values.specs.declared.limits.TheConstants.{GREATEST}
 use Rattle.fc_values.specs.declared.builtins.Builtin.{Builtin}
 use Rattle.fc_values.specs.declared.builtins.Builtin.TheVariants as b
+use Rattle.fc_values.specs.BuiltinTypes.{arity}
 use Rattle.fc_values.specs.declared.types.InputTy.{InputTy}
 use Rattle.fc_values.specs.declared.types.InputTy.TheVariants as input
 use Rattle.fc_syntax.specs.Terms.{Term, IntTerm, TruthTerm, VarTerm, UidTerm, NbrLinkTerm, SenseTerm, ApplyTerm}
@@ -13,18 +14,6 @@ use Rattle.fc_syntax.specs.Terms.{Parameter, Declaration, LanguageIs, CeilingIs,
 -- a number that a program may have
 abbrev pub IsNumber : ℕ → Type 0
 IsNumber n = n ≤ GREATEST
-
--- how many arguments the grammar gives a builtin
-abbrev pub arity : Builtin → ℕ
-arity b.Not = 1
-arity b.Fst = 1
-arity b.Snd = 1
-arity b.SumHood = 1
-arity b.AnyHood = 1
-arity b.AllHood = 1
-arity b.Mux = 3
-arity b.Rise = 3
-arity _ = 2
 
 abbrev pub count : Terms → ℕ
 count NoTerms = 0

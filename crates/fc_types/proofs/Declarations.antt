@@ -3,7 +3,7 @@ use Rattle.std.proofs.Common.{◌≡◌, ◌⊎◌, inl, inr, refl, ℕ, suc, na
 use Rattle.std.proofs.lemmas.Bool.{ltb-true, ltb-false, lt-ltb, le-ltb, eqb-true, eqb-false, ne_eqb}
 use Rattle.fc_values.specs.declared.types.InputTy.{InputTy}
 use Rattle.fc_values.specs.declared.types.InputTy.TheVariants as input
-use Rattle.fc_values.specs.Types.{ValueType, TypeLocal, TypeField, Input, leaves}
+use Rattle.fc_values.specs.Types.{ValueType, TypeLocal, TypeField, Input, IsRange, leaves}
 use Rattle.fc_values.specs.BuiltinTypes.{inner}
 use Rattle.fc_syntax.specs.Terms.{Term, Parameter, Declaration, LanguageIs, CeilingIs, InputIs, MetricIs, DefIs, MainIs}
 use Rattle.fc_types.specs.declared.faults.TypeFault.{TypeFault}
@@ -11,12 +11,12 @@ use Rattle.fc_types.specs.declared.faults.TypeFault.TheVariants as fault
 use Rattle.fc_types.specs.declared.faults.TypeKind.{TypeKind}
 use Rattle.fc_types.specs.declared.faults.TypeKind.TheVariants as kind
 use Rattle.fc_types.specs.Before.{Function, Before, nothing, and_then, input_named, function_named, Scope, type_in}
-use Rattle.fc_types.specs.Typing.{IsFree, IsNarrow, HasType, IsRange, IsInputRange, AreParameters, IsTypedDeclaration, AreTyped}
+use Rattle.fc_types.specs.Typing.{IsFree, IsNarrow, HasType, IsInputRange, AreParameters, IsTypedDeclaration, AreTyped}
 use Rattle.fc_types.specs.Faults.{IsBound, IsWide, IsNew, ParameterFault, parameter_twice, parameter_wide, parameter_later, IsNoRange, DeclarationFault, ceiling_range, input_twice, input_range, metric_twice, metric_range, def_twice, def_parameter, def_wide, def_body, def_result, main_expression, main_not_local, FirstFaultFrom, here, later, FirstFault}
 use Rattle.fc_types.specs.Views.{IfFault, IsMemory, IsFaultOrMemory}
 use Rattle.fc_types.specs.Judging.{Judgement, TypeIs, FaultIs, judge, fault_where, fault_unless, fault_if, or_fault, range_fault, input_fault, width_fault, parameter_fault, body_fault, main_fault, same_type, declaration_fault}
 use Rattle.fc_types.proofs.Same.{same_type_refl, same_type_is, types_differ}
-use Rattle.fc_types.proofs.Judged.{Holds, judged, type_judged, fault_judged}
+use Rattle.fc_types.proofs.Judged.{JudgementHolds, judged, type_judged, fault_judged}
 
 -- a fault, or none
 abbrev pub FaultOr : Type 0 → (TypeKind → Type 0) → Option TypeKind → Type 0
@@ -88,7 +88,7 @@ module _ (B : Before) (f : List ℕ) (ps : List Parameter) (r : ValueType) (e : 
   body_same t new params narrow h true q = let q' : t ≡ r = same_type_is t r q in let h' = rw q' at h in (new, params, narrow, h')
   body_same t new params narrow h false q = def_result new params narrow h (types_differ t r q)
 
-  body_holds : IsNew f B → AreParameters [] ps → IsNarrow r → (j : Judgement) → Holds B ps e j → IsJudged B (DefIs f ps r e) (body_fault r j)
+  body_holds : IsNew f B → AreParameters [] ps → IsNarrow r → (j : Judgement) → JudgementHolds B ps e j → IsJudged B (DefIs f ps r e) (body_fault r j)
   body_holds new params narrow (TypeIs t) h = body_same t new params narrow h (same_type t r) refl
   body_holds new params narrow (FaultIs k) h = def_body new params narrow h
 
@@ -106,7 +106,7 @@ module _ (B : Before) (f : List ℕ) (ps : List Parameter) (r : ValueType) (e : 
   def_holds (Some g) q = def_twice (g, q)
   def_holds None q = def_params q (parameter_fault [] ps) (parameters_hold [] ps)
 
-main_holds : (B : Before) (e : Term) (j : Judgement) → Holds B [] e j → IsJudged B (MainIs e) (main_fault j)
+main_holds : (B : Before) (e : Term) (j : Judgement) → JudgementHolds B [] e j → IsJudged B (MainIs e) (main_fault j)
 main_holds B e (TypeIs (TypeLocal t)) h = (t, h)
 main_holds B e (TypeIs (TypeField t)) h = main_not_local h
 main_holds B e (FaultIs k) h = main_expression h

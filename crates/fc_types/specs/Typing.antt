@@ -4,7 +4,7 @@ use Rattle.fc_values.specs.declared.builtins.Builtin.{Builtin}
 use Rattle.fc_values.specs.declared.types.InputTy.{InputTy}
 use Rattle.fc_values.specs.declared.types.InputTy.TheVariants as input
 use Rattle.fc_values.specs.Types.{LocalType, IntType, BoolType, ValueType, TypeLocal, TypeField, Input, input_type}
-use Rattle.fc_values.specs.Types.{leaves}
+use Rattle.fc_values.specs.Types.{leaves, IsRange}
 use Rattle.fc_values.specs.BuiltinTypes.{HasRule, inner}
 use Rattle.fc_syntax.specs.Terms.{Term, IntTerm, TruthTerm, VarTerm, UidTerm, NbrLinkTerm, SenseTerm, ApplyTerm}
 use Rattle.fc_syntax.specs.Terms.{NbrTerm, RepTerm, ShareTerm, IfTerm, LetTerm, CallTerm, Terms, NoTerms, MoreTerms}
@@ -58,10 +58,6 @@ mutual
 -- a type with at most 8 leaves
 abbrev pub IsNarrow : ValueType → Type 0
 IsNarrow t = leaves (inner t) ≤ 8
-
--- a range of integers, within those of the program
-abbrev pub IsRange : ℕ → ℕ → ℕ → Type 0
-IsRange ceiling least greatest = (least ≤ greatest) × (greatest ≤ ceiling)
 
 abbrev pub IsInputRange : ℕ → InputTy → Type 0
 IsInputRange ceiling input.Truth = Unit {0}

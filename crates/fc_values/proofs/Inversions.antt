@@ -43,38 +43,38 @@ is_choice (BoolValue c ∷ a ∷ b ∷ []) h = tt
 is_choice xs h = absurd cc
 
 -- an operator has one to three arguments
-abbrev Few : ℕ → Type 0
-Few n = (1 ≤ n) × (n ≤ 3)
+abbrev OneToThree : ℕ → Type 0
+OneToThree n = (1 ≤ n) × (n ≤ 3)
 
-two_few : (xs : List LocalValue) → AreTwo xs → Few (length xs)
+two_few : (xs : List LocalValue) → AreTwo xs → OneToThree (length xs)
 two_few (a ∷ b ∷ []) h = (omega arith, omega arith)
 two_few xs h = absurd h
 
-two_integers_few : (xs : List LocalValue) → AreTwoIntegers xs → Few (length xs)
+two_integers_few : (xs : List LocalValue) → AreTwoIntegers xs → OneToThree (length xs)
 two_integers_few (a ∷ b ∷ []) h = (omega arith, omega arith)
 two_integers_few xs h = absurd h
 
-three_integers_few : (xs : List LocalValue) → AreThreeIntegers xs → Few (length xs)
+three_integers_few : (xs : List LocalValue) → AreThreeIntegers xs → OneToThree (length xs)
 three_integers_few (a ∷ b ∷ c ∷ []) h = (omega arith, omega arith)
 three_integers_few xs h = absurd h
 
-truth_few : (xs : List LocalValue) → IsTruth xs → Few (length xs)
+truth_few : (xs : List LocalValue) → IsTruth xs → OneToThree (length xs)
 truth_few (a ∷ []) h = (omega arith, omega arith)
 truth_few xs h = absurd h
 
-two_truths_few : (xs : List LocalValue) → AreTwoTruths xs → Few (length xs)
+two_truths_few : (xs : List LocalValue) → AreTwoTruths xs → OneToThree (length xs)
 two_truths_few (a ∷ b ∷ []) h = (omega arith, omega arith)
 two_truths_few xs h = absurd h
 
-pair_few : (xs : List LocalValue) → IsPair xs → Few (length xs)
+pair_few : (xs : List LocalValue) → IsPair xs → OneToThree (length xs)
 pair_few (a ∷ []) h = (omega arith, omega arith)
 pair_few xs h = absurd h
 
-choice_few : (xs : List LocalValue) → IsChoice xs → Few (length xs)
+choice_few : (xs : List LocalValue) → IsChoice xs → OneToThree (length xs)
 choice_few (a ∷ b ∷ c ∷ []) h = (omega arith, omega arith)
 choice_few xs h = absurd h
 
-few : (builtin : Builtin) (ceiling : ℕ) (xs : List LocalValue) → IsSome (local_value builtin ceiling xs) → Few (length xs)
+few : (builtin : Builtin) (ceiling : ℕ) (xs : List LocalValue) → IsSome (local_value builtin ceiling xs) → OneToThree (length xs)
 few op.Add ceiling xs h = two_integers_few xs (are_two_integers _ xs h)
 few op.Sub ceiling xs h = two_integers_few xs (are_two_integers _ xs h)
 few op.Mul ceiling xs h = two_integers_few xs (are_two_integers _ xs h)

@@ -1,9 +1,21 @@
 -- The typing rules of the builtins.
-use Rattle.std.specs.Prelude.{Bool, true, false, ◌≡◌, ◌≤◌, ◌+◌, ◌||◌, List, [], ◌∷◌}
+use Rattle.std.specs.Prelude.{ℕ, Bool, true, false, ◌≡◌, ◌≤◌, ◌+◌, ◌||◌, List, [], ◌∷◌}
 use Rattle.fc_values.specs.declared.builtins.Builtin.{Builtin}
 use Rattle.fc_values.specs.declared.builtins.Builtin.TheVariants as op
 use Rattle.fc_values.specs.Types.{LocalType, IntType, BoolType, PairType, ValueType, TypeLocal, TypeField, leaves}
 use Rattle.fc_values.specs.Builtins.{is_hood}
+
+-- how many arguments a builtin has
+abbrev pub arity : Builtin → ℕ
+arity op.Not = 1
+arity op.Fst = 1
+arity op.Snd = 1
+arity op.SumHood = 1
+arity op.AnyHood = 1
+arity op.AllHood = 1
+arity op.Mux = 3
+arity op.Rise = 3
+arity _ = 2
 
 -- the local types of an operator's arguments, and that of its value
 pub data Takes : Builtin → List LocalType → LocalType → Type 0 where

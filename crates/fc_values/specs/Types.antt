@@ -1,5 +1,5 @@
 -- Types, and the declarations of a program.
-use Rattle.std.specs.Prelude.{ℕ, ◌+◌, List, map}
+use Rattle.std.specs.Prelude.{ℕ, ◌+◌, ◌≤◌, List, map}
 use Rattle.fc_values.specs.declared.types.LocalTy.{LocalTy}
 use Rattle.fc_values.specs.declared.types.LocalTy.TheVariants as ty
 use Rattle.fc_values.specs.declared.types.Ty.{Ty}
@@ -47,6 +47,10 @@ input_of i = record { name = i.name.text.items; type = i.ty }
 abbrev pub input_type : InputTy → LocalType
 input_type input.Truth = BoolType
 input_type (input.Whole least greatest) = IntType
+
+-- a range of integers, within those of a program
+abbrev pub IsRange : ℕ → ℕ → ℕ → Type 0
+IsRange ceiling least greatest = (least ≤ greatest) × (greatest ≤ ceiling)
 
 -- what a program declares: the greatest integer, the inputs in order, and the least and greatest weight of a link
 pub record Declarations : Type 0 where

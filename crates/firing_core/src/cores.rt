@@ -2,16 +2,14 @@
 
 use crate::entries::{Edit, EditFault, StepFault};
 use crate::filling::{export_slots, flight_slots, open_slot};
-use crate::snaps::{
-    copy_device, copy_flights, copy_plain, published_copy, share_exports, share_own,
-};
+use crate::snaps::{copy_flights, copy_plain, published_copy, share_exports, share_own};
 use device_eval::Fired;
 use fc_nodes::Unfolded;
 use fc_values::{Export, Local, Memory, copy_locals};
 use std::alloc::Global;
 use std::marker::Model;
 use std::sync::Arc;
-use topology::{Device, JoinFault, NetFault, Network};
+use topology::{Device, JoinFault, NetFault, Network, copy_device};
 use value_trees::{Near, Published, Snap};
 
 mod applied;

@@ -7,13 +7,11 @@ ghost use Rattle.fc_nodes.specs.Program.{unfolding_of};
 ghost use Rattle.fc_values.specs.Exports.{export_of};
 ghost use Rattle.value_trees.specs.Snaps.{snap_copy, IsSnap};
 ghost use Rattle.value_trees.specs.Copies.{WhereSome};
-ghost use Rattle.topology.specs.Networks.{device_of};
 ghost use Rattle.firing_core.specs.CoreViews.{near_view, AllSnaps, SameFlight, SameFlights};
 
 use fc_nodes::Unfolded;
 use fc_values::{Export, Local, Memory, copy_export, copy_locals};
 use std::alloc::Global;
-use topology::Device;
 use value_trees::{Near, Published, Snap};
 
 /// A copy of a value that is no pair. It takes no memory.
@@ -26,17 +24,6 @@ pub(crate) fn copy_plain(value: &Local) -> Option<Local>
         Local::Bool(b) => Some(Local::Bool(*b)),
         Local::Pair(_, _) => None,
     }
-}
-
-/// A copy of a device.
-pub(crate) fn copy_device(alloc: Global, device: &Device) -> Result<Device, Memory>
-    ensures { IfOk result (λ d. device_of d ≡ device_of device.now) }
-{
-    let inputs = copy_locals(alloc, &device.inputs)?;
-    Ok(Device {
-        id: device.id,
-        inputs,
-    })
 }
 
 /// A copy of an export, to be shared.

@@ -8,7 +8,7 @@ use Rattle.fc_nodes.specs.Places.{StandsAt}
 use Rattle.fc_nodes.specs.Program.{Program, unfolding_of}
 use Rattle.fc_nodes.proofs.Places.{formed_above, in_range, laid_within}
 use Rattle.fc_nodes.proofs.Kids.{TwoKids, evolve_laid}
-use Rattle.fc_nodes.proofs.Parts.{part_is}
+use Rattle.fc_nodes.proofs.Subterms.{subterm_is}
 use Rattle.interval_facts.specs.Ranges.{range_of}
 use Rattle.growth_facts.specs.Facts.{IsEvolving, IsEvolveView, evolution_at, evolution_in}
 use Rattle.fc_nodes.proofs.Standing.{each_stands}
@@ -74,4 +74,4 @@ module _ (P : Program) (formed : WellFormed P.nodes) (p : ℕ) (s : Sort) (t : V
   pattern_is q e b z =
       ap (λ v. body_pattern P.declared.ceiling (range_of (unfolding_of P)) v p q (term_at P.nodes q)) (evolution_shared P.nodes formed p s t ks h evolving b z)
       ∙ ap (λ i. body_pattern P.declared.ceiling (range_of (unfolding_of P)) (evolution_sort s) p i (term_at P.nodes q)) (body_is P.nodes formed p s t ks h evolving q e)
-      ∙ sym (ap (pattern_of P.declared.ceiling (range_of (unfolding_of P)) p) (part_is P.nodes formed p ∙ term_is P.nodes formed p s t ks h evolving q e))
+      ∙ sym (ap (pattern_of P.declared.ceiling (range_of (unfolding_of P)) p) (subterm_is P.nodes formed p ∙ term_is P.nodes formed p s t ks h evolving q e))

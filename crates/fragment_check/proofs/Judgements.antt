@@ -12,58 +12,58 @@ use Rattle.fc_nodes.specs.Program.{Program, unfolding_of}
 use Rattle.fc_nodes.specs.Places.{StandsAt}
 use Rattle.fc_nodes.proofs.Places.{AllAbove, formed_above, laid_within}
 use Rattle.fc_nodes.proofs.Kids.{laid_term, kids_of, kids_are}
-use Rattle.fc_nodes.proofs.Parts.{part_is}
+use Rattle.fc_nodes.proofs.Subterms.{subterm_is}
 use Rattle.interval_facts.specs.Ranges.{range_of, RangeValue}
 use Rattle.growth_facts.specs.Facts.{IsEvolving, IsEvolveView}
 use Rattle.fragment_check.specs.declared.kinds.Pattern.{Pattern}
 use Rattle.fragment_check.specs.declared.faults.PatternFault.{PatternFault}
 use Rattle.fragment_check.specs.declared.faults.PatternFault.TheVariants as fault
-use Rattle.fragment_check.specs.Patterns.{Judged, pattern_of, judged, all_judged, refusal_first, first_refused, patterns_in}
+use Rattle.fragment_check.specs.Patterns.{JudgedPlace, pattern_of, judged, all_judged, refusal_first, first_refused, patterns_in}
 use Rattle.fragment_check.specs.Verdicts.{pattern_at}
 use Rattle.fragment_check.specs.Listing.{judged_at, judged_at_all, Finds, Refuses}
 use Rattle.fragment_check.proofs.Evolving.{two_kids, body_is, term_is}
 
 -- ---- lists one after the other
 
-first_none : (js ks : List Judged) → first_refused js ≡ None → first_refused (js ++ ks) ≡ first_refused ks
+first_none : (js ks : List JudgedPlace) → first_refused js ≡ None → first_refused (js ++ ks) ≡ first_refused ks
 first_none [] ks e = refl
 first_none ((p, Ok a) ∷ js) ks e = first_none js ks e
 first_none ((p, Err r) ∷ js) ks e = absurd cc
 
-first_some : (js ks : List Judged) (f : ℕ × Reason) → first_refused js ≡ Some f → first_refused (js ++ ks) ≡ Some f
+first_some : (js ks : List JudgedPlace) (f : ℕ × Reason) → first_refused js ≡ Some f → first_refused (js ++ ks) ≡ Some f
 first_some [] ks f e = absurd cc
 first_some ((p, Ok a) ∷ js) ks f e = first_some js ks f e
 first_some ((p, Err r) ∷ js) ks f e = e
 
-patterns_both : (js ks : List Judged) → patterns_in (js ++ ks) ≡ patterns_in js ++ patterns_in ks
+patterns_both : (js ks : List JudgedPlace) → patterns_in (js ++ ks) ≡ patterns_in js ++ patterns_in ks
 patterns_both [] ks = refl
 patterns_both ((p, Ok a) ∷ js) ks = ap (λ (l : List (ℕ × Pattern)). (p, a) ∷ l) (patterns_both js ks)
 patterns_both ((p, Err r) ∷ js) ks = patterns_both js ks
 
-finds_both : (js ks : List Judged) (old mid new : List (ℕ × Pattern)) → Finds js old mid → Finds ks mid new → Finds (js ++ ks) old new
+finds_both : (js ks : List JudgedPlace) (old mid new : List (ℕ × Pattern)) → Finds js old mid → Finds ks mid new → Finds (js ++ ks) old new
 finds_both js ks old mid new f g =
     (first_none js ks f.0 ∙ g.0, g.1 ∙ ap (λ l. l ++ patterns_in ks) f.1 ∙ append_assoc old (patterns_in js) (patterns_in ks) ∙ ap (λ l. old ++ l) (sym (patterns_both js ks)))
 
-pub found_both : {A : Type 0} (r : Result A PatternFault) (js ks : List Judged) (old mid new : List (ℕ × Pattern)) → Finds js old mid → OnOk r (Finds ks mid new) → OnOk r (Finds (js ++ ks) old new)
+pub found_both : {A : Type 0} (r : Result A PatternFault) (js ks : List JudgedPlace) (old mid new : List (ℕ × Pattern)) → Finds js old mid → OnOk r (Finds ks mid new) → OnOk r (Finds (js ++ ks) old new)
 found_both (Ok a) js ks old mid new f g = finds_both js ks old mid new f g
 found_both (Err e) js ks old mid new f g = tt
 
-pub refuses_first : (f : PatternFault) (js ks : List Judged) → Refuses js f → Refuses (js ++ ks) f
+pub refuses_first : (f : PatternFault) (js ks : List JudgedPlace) → Refuses js f → Refuses (js ++ ks) f
 refuses_first (fault.Refused p why) js ks h = first_some js ks (p, why) h
 refuses_first fault.Memory js ks h = tt
 
-refuses_second : (f : PatternFault) (js ks : List Judged) → first_refused js ≡ None → Refuses ks f → Refuses (js ++ ks) f
+refuses_second : (f : PatternFault) (js ks : List JudgedPlace) → first_refused js ≡ None → Refuses ks f → Refuses (js ++ ks) f
 refuses_second (fault.Refused p why) js ks n h = first_none js ks n ∙ h
 refuses_second fault.Memory js ks n h = tt
 
-pub refused_second : {A : Type 0} (r : Result A PatternFault) (js ks : List Judged) → first_refused js ≡ None → IfErr r (Refuses ks) → IfErr r (Refuses (js ++ ks))
+pub refused_second : {A : Type 0} (r : Result A PatternFault) (js ks : List JudgedPlace) → first_refused js ≡ None → IfErr r (Refuses ks) → IfErr r (Refuses (js ++ ks))
 refused_second (Ok a) js ks n h = tt
 refused_second (Err f) js ks n h = refuses_second f js ks n h
 
-pub refused_same : {A : Type 0} (r : Result A PatternFault) (js ks : List Judged) → js ≡ ks → IfErr r (Refuses js) → IfErr r (Refuses ks)
+pub refused_same : {A : Type 0} (r : Result A PatternFault) (js ks : List JudgedPlace) → js ≡ ks → IfErr r (Refuses js) → IfErr r (Refuses ks)
 refused_same r js ks e h = subst (λ l. IfErr r (Refuses l)) e h
 
-pub found_same : {A : Type 0} (r : Result A PatternFault) (js ks : List Judged) (old new : List (ℕ × Pattern)) → js ≡ ks → OnOk r (Finds js old new) → OnOk r (Finds ks old new)
+pub found_same : {A : Type 0} (r : Result A PatternFault) (js ks : List JudgedPlace) (old new : List (ℕ × Pattern)) → js ≡ ks → OnOk r (Finds js old new) → OnOk r (Finds ks old new)
 found_same r js ks old new e h = subst (λ l. OnOk r (Finds l old new)) e h
 
 -- one more
@@ -115,13 +115,13 @@ module _ (P : Program) (formed : WellFormed P.nodes) (p : ℕ) (st : StandsAt P.
       let b = body_is P.nodes formed p s t ks h (evolving_here z) q e in
       let k = term_is P.nodes formed p s t ks h (evolving_here z) q e in
       ap (λ i. (p, pattern_at (unfolding_of P) p) ∷ judged P.declared.ceiling (range_of (unfolding_of P)) i (term_at P.nodes q)) b
-      ∙ ap (λ u. (p, u) ∷ judged P.declared.ceiling (range_of (unfolding_of P)) (suc p + size (term_at P.nodes (get_or ks 0 0))) (term_at P.nodes q)) (ap (pattern_of P.declared.ceiling (range_of (unfolding_of P)) p) (part_is P.nodes formed p ∙ k))
+      ∙ ap (λ u. (p, u) ∷ judged P.declared.ceiling (range_of (unfolding_of P)) (suc p + size (term_at P.nodes (get_or ks 0 0))) (term_at P.nodes q)) (ap (pattern_of P.declared.ceiling (range_of (unfolding_of P)) p) (subterm_is P.nodes formed p ∙ k))
       ∙ sym (ap (judged P.declared.ceiling (range_of (unfolding_of P)) p) k)
 
   pub evolving_refused : is_evolve_sort s ≡ true → (why : Reason) → pattern_at (unfolding_of P) p ≡ Err why → first_refused (judged_at P p) ≡ Some (p, why)
   evolving_refused z why e =
       let k = (two_kids P.nodes formed p s t ks h (evolving_here z)).term in
-      let here = sym (ap (pattern_of P.declared.ceiling (range_of (unfolding_of P)) p) (part_is P.nodes formed p ∙ k)) ∙ e in
+      let here = sym (ap (pattern_of P.declared.ceiling (range_of (unfolding_of P)) p) (subterm_is P.nodes formed p ∙ k)) ∙ e in
       ap (λ u. first_refused (judged P.declared.ceiling (range_of (unfolding_of P)) p u)) k
       ∙ ap (λ r. refusal_first p r (first_refused (judged P.declared.ceiling (range_of (unfolding_of P)) (suc p + size (term_at P.nodes (get_or ks 0 0))) (term_at P.nodes (get_or ks 1 0))))) here
 

@@ -13,7 +13,7 @@ use Rattle.fc_nodes.proofs.Places.{AllAbove, formed_above, term_is, laid_within}
 use Rattle.fc_nodes.proofs.Kids.{laid_term, OneKid, nbr_laid, kids_of, KidsAre, kids_are, size_some}
 use Rattle.fc_nodes.specs.Variables.{is_variable, occurs, is_heard}
 use Rattle.fragment_check.specs.declared.facts.Own.{Own}
-use Rattle.fragment_check.specs.declared.facts.Facts.{Facts}
+use Rattle.fragment_check.specs.declared.facts.Gathered.{Gathered}
 use Rattle.fragment_check.specs.declared.facts.Guarding.{Guarding}
 use Rattle.fragment_check.specs.declared.facts.Guarding.TheVariants as guarding
 use Rattle.fragment_check.specs.Patterns.{comparison, compared, guard, guard_by, three_of, guarding_or, guarding_in, together, guarding_of, is_bare}
@@ -126,7 +126,7 @@ unheard true b e = refl
 unheard false true e = absurd cc
 unheard false false e = refl
 
-pub facts_same : (a b : Facts) → a.uses ≡ b.uses → a.nested ≡ b.nested → a.bare ≡ b.bare → a.guarding ≡ b.guarding → a ≡ b
+pub facts_same : (a b : Gathered) → a.uses ≡ b.uses → a.nested ≡ b.nested → a.bare ≡ b.bare → a.guarding ≡ b.guarding → a ≡ b
 facts_same a b e f g k =
     ap (λ u. record { uses = u; nested = a.nested; bare = a.bare; guarding = a.guarding }) e
     ∙ ap (λ n. record { uses = b.uses; nested = n; bare = a.bare; guarding = a.guarding }) f

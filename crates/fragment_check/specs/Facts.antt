@@ -8,7 +8,7 @@ use Rattle.fc_nodes.specs.Terms.{Variable, Evolution, Term, Terms, Sort, OfLeaf,
 use Rattle.fc_nodes.specs.Places.{StandsAt}
 use Rattle.fc_nodes.specs.Variables.{occurs, occurs_in}
 use Rattle.fc_nodes.specs.Sorts.{evolution_by}
-use Rattle.fragment_check.specs.declared.facts.Facts.{Facts}
+use Rattle.fragment_check.specs.declared.facts.Gathered.{Gathered}
 use Rattle.fragment_check.specs.declared.facts.Own.{Own}
 use Rattle.fragment_check.specs.declared.facts.Guarding.{Guarding}
 use Rattle.fragment_check.specs.declared.facts.Guarding.TheVariants as guarding
@@ -24,7 +24,7 @@ abbrev pub evolution_of : Own → Evolution
 evolution_of own = evolution_by own.is_share
 
 -- the facts of a term
-abbrev pub facts_of : Own → Term → Facts
+abbrev pub facts_of : Own → Term → Gathered
 facts_of own t = record {
   uses = occurs own.place t;
   nested = is_nested (evolution_of own) own.place t;
@@ -33,7 +33,7 @@ facts_of own t = record {
 }
 
 -- those of terms, taken together
-abbrev pub facts_of_all : Own → Terms → Facts
+abbrev pub facts_of_all : Own → Terms → Gathered
 facts_of_all own ts = record {
   uses = occurs_in own.place ts;
   nested = is_nested_in (evolution_of own) own.place ts;
@@ -41,10 +41,10 @@ facts_of_all own ts = record {
   guarding = guarding_in (evolution_of own) own.place ts;
 }
 
-abbrev pub no_facts : Facts
+abbrev pub no_facts : Gathered
 no_facts = record { uses = false; nested = false; bare = false; guarding = guarding.Unused }
 
-abbrev pub joined : Facts → Facts → Facts
+abbrev pub joined : Gathered → Gathered → Gathered
 joined a b = record {
   uses = a.uses || b.uses;
   nested = a.nested || b.nested;
@@ -53,7 +53,7 @@ joined a b = record {
 }
 
 -- the facts of a builtin of these arguments
-abbrev pub facts_of_apply : Own → Builtin → Terms → Facts
+abbrev pub facts_of_apply : Own → Builtin → Terms → Gathered
 facts_of_apply own o ts = record {
   uses = occurs_in own.place ts;
   nested = is_nested_in (evolution_of own) own.place ts;
@@ -62,15 +62,15 @@ facts_of_apply own o ts = record {
 }
 
 -- the facts of what stands under `nbr`, and of what stands under `let`, `if`, `rep` or `share`
-abbrev pub under_nbr : Bool → Facts → Facts
+abbrev pub under_nbr : Bool → Gathered → Gathered
 under_nbr heard f =
     record { uses = f.uses; nested = not heard && f.uses; bare = not heard && f.bare; guarding = f.guarding }
 
-abbrev pub beneath : Facts → Facts
+abbrev pub beneath : Gathered → Gathered
 beneath f = record { uses = f.uses; nested = f.uses; bare = f.bare; guarding = f.guarding }
 
 -- the facts of a variable
-abbrev pub variable_facts : Own → ℕ → Facts
+abbrev pub variable_facts : Own → ℕ → Gathered
 variable_facts own q = record {
   uses = nat_eq q own.place;
   nested = false;
@@ -87,7 +87,7 @@ abbrev pub is_less_sort : Sort → Bool
 is_less_sort (OfApply op.Less) = true
 is_less_sort _ = false
 
-abbrev pub leaf_facts_by : Own → Sort → Facts
+abbrev pub leaf_facts_by : Own → Sort → Gathered
 leaf_facts_by own (OfLeaf (Variable q)) = variable_facts own q
 leaf_facts_by own _ = no_facts
 
@@ -99,6 +99,6 @@ abbrev pub builtin_by : Sort → Option Builtin
 builtin_by (OfApply o) = Some o
 builtin_by _ = None
 
-abbrev pub guarded_facts : Facts → Option Guarding → Facts
+abbrev pub guarded_facts : Gathered → Option Guarding → Gathered
 guarded_facts f (Some g) = record { uses = f.uses; nested = f.nested; bare = f.bare; guarding = g }
 guarded_facts f None = f

@@ -233,12 +233,12 @@ pattern_of m R p _ = Err reason.Converging
 -- ---- the fragment
 
 -- what is said of a `rep` or `share`, with its place
-abbrev pub Judged : Type 0
-Judged = ℕ × Result Pattern Reason
+abbrev pub JudgedPlace : Type 0
+JudgedPlace = ℕ × Result Pattern Reason
 
 -- each `rep` and `share` outside the first values, in preorder
 abbrev mutual
-  pub judged : ℕ → (ℕ → RangeValue) → ℕ → Term → List Judged
+  pub judged : ℕ → (ℕ → RangeValue) → ℕ → Term → List JudgedPlace
   judged m R p (Plain t l) = []
   judged m R p (Apply t o xs) = all_judged m R (suc p) xs
   judged m R p (Nbr t a) = judged m R (suc p) a
@@ -247,7 +247,7 @@ abbrev mutual
       judged m R (suc p) c ++ (judged m R (suc p + size c) a ++ judged m R (suc p + size c + size a) b)
   judged m R p (Let t a b) = judged m R (suc p) a ++ judged m R (suc p + size a) b
 
-  pub all_judged : ℕ → (ℕ → RangeValue) → ℕ → Terms → List Judged
+  pub all_judged : ℕ → (ℕ → RangeValue) → ℕ → Terms → List JudgedPlace
   all_judged m R p NoMore = []
   all_judged m R p (More x xs) = judged m R p x ++ all_judged m R (p + size x) xs
 
@@ -256,7 +256,7 @@ abbrev pub refusal_first : ℕ → Result Pattern Reason → Option (ℕ × Reas
 refusal_first p (Ok a) rest = rest
 refusal_first p (Err r) rest = Some (p, r)
 
-abbrev pub first_refused : List Judged → Option (ℕ × Reason)
+abbrev pub first_refused : List JudgedPlace → Option (ℕ × Reason)
 first_refused [] = None
 first_refused (j ∷ js) = refusal_first j.0 j.1 (first_refused js)
 
@@ -265,6 +265,6 @@ abbrev pub pattern_first : ℕ → Result Pattern Reason → List (ℕ × Patter
 pattern_first p (Ok a) rest = (p, a) ∷ rest
 pattern_first p (Err r) rest = rest
 
-abbrev pub patterns_in : List Judged → List (ℕ × Pattern)
+abbrev pub patterns_in : List JudgedPlace → List (ℕ × Pattern)
 patterns_in [] = []
 patterns_in (j ∷ js) = pattern_first j.0 j.1 (patterns_in js)

@@ -4,7 +4,7 @@ use Rattle.std.specs.declared.result.Result.{Result}
 use Rattle.std.specs.declared.result.Result.TheVariants.{Ok, Err}
 use Rattle.fc_values.specs.BuiltinTypes.{inner}
 use Rattle.fc_nodes.specs.Terms.{Evolution, ByRep, ByShare, Term, Evolve, Let, size}
-use Rattle.fc_nodes.specs.Parts.{part_at}
+use Rattle.fc_nodes.specs.Subterms.{subterm_at}
 use Rattle.fc_nodes.specs.Program.{Unfolding}
 use Rattle.fc_nodes.specs.declared.verdicts.Reason.{Reason}
 use Rattle.fc_nodes.specs.declared.verdicts.Verdict.{Verdict}
@@ -12,7 +12,7 @@ use Rattle.fc_nodes.specs.declared.verdicts.Verdict.TheVariants as verdict
 use Rattle.interval_facts.specs.Ranges.{RangeValue, IntRange, full, range_of}
 use Rattle.fragment_check.specs.declared.kinds.Pattern.{Pattern}
 use Rattle.fragment_check.specs.declared.kinds.Pattern.TheVariants as pattern
-use Rattle.fragment_check.specs.Patterns.{Judged, pattern_of, judged, first_refused, patterns_in}
+use Rattle.fragment_check.specs.Patterns.{JudgedPlace, pattern_of, judged, first_refused, patterns_in}
 use Rattle.growth_facts.specs.Turns.{steps_of, rounds_of}
 use Rattle.growth_facts.specs.Leads.{least_integer, greatest_integer}
 use Rattle.fragment_check.specs.Levels.{Stages, level_of, node_levels}
@@ -49,7 +49,7 @@ bound_range m R q (Evolve t e a b) = full m (inner t)
 bound_range m R q _ = IntRange 0 m
 
 abbrev pub variable_range : Unfolding → ℕ → RangeValue
-variable_range U q = bound_range U.declared.ceiling (range_of U) q (part_at q U.main)
+variable_range U q = bound_range U.declared.ceiling (range_of U) q (subterm_at q U.main)
 
 abbrev pub added_at : ℕ → (ℕ → RangeValue) → (ℕ → RangeValue) → ℕ → ℕ → Term → ℕ
 added_at m R W n p (Evolve t e a b) = added_by n W e (pattern_of m R p (Evolve t e a b))
@@ -57,16 +57,16 @@ added_at m R W n p _ = 0
 
 -- what the `rep` or `share` at each place of a program adds to the level of its body, for n devices
 abbrev pub stages_of : Unfolding → ℕ → Stages
-stages_of U n p = added_at U.declared.ceiling (range_of U) (variable_range U) n p (part_at p U.main)
+stages_of U n p = added_at U.declared.ceiling (range_of U) (variable_range U) n p (subterm_at p U.main)
 
 -- ---- the fragment and the verdict
 
 -- what is said of the `rep` or `share` at a place of a program
 abbrev pub pattern_at : Unfolding → ℕ → Result Pattern Reason
-pattern_at U p = pattern_of U.declared.ceiling (range_of U) p (part_at p U.main)
+pattern_at U p = pattern_of U.declared.ceiling (range_of U) p (subterm_at p U.main)
 
 -- what is said of each `rep` and `share` of a program outside the first values, in preorder
-abbrev pub judged_of : Unfolding → List Judged
+abbrev pub judged_of : Unfolding → List JudgedPlace
 judged_of U = judged U.declared.ceiling (range_of U) 0 U.main
 
 -- each of them has a pattern

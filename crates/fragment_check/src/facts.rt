@@ -32,14 +32,14 @@ pub struct Own {
 /// What is gathered of a term: whether the variable occurs, whether some occurrence is nested, whether some occurrence
 /// is not that of what is heard, and how the occurrences are guarded.
 #[derive(Clone, Copy, Debug, PartialEq, Eq)]
-pub struct Facts {
+pub struct Gathered {
     pub uses: bool,
     pub nested: bool,
     pub bare: bool,
     pub guarding: Guarding,
 }
 
-const NO_FACTS: Facts = Facts {
+const NO_FACTS: Gathered = Gathered {
     uses: false,
     nested: false,
     bare: false,
@@ -48,7 +48,7 @@ const NO_FACTS: Facts = Facts {
 
 /// The facts of the term at a place. It doesn't walk into a `let`, `if`, `rep` or `share` without the variable.
 #[cycle(gather)]
-pub fn gather(program: &Unfolded, own: Own, place: u32) -> Facts
+pub fn gather(program: &Unfolded, own: Own, place: u32) -> Gathered
     requires { StandsAt program.now.nodes place }
     ensures { result ≡ facts_of own (term_at program.now.nodes place) }
 {
@@ -72,7 +72,7 @@ pub fn gather(program: &Unfolded, own: Own, place: u32) -> Facts
 
 // The facts of terms one after another, taken together.
 #[cycle(gather)]
-fn gather_all(program: &Unfolded, own: Own, kids: &[u32], place: u32) -> Facts
+fn gather_all(program: &Unfolded, own: Own, kids: &[u32], place: u32) -> Gathered
     requires { InRow program.now.nodes place kids.now }
     ensures { result ≡ facts_of_all own (terms_by (term_at program.now.nodes) kids.now) }
 {
@@ -87,7 +87,7 @@ fn gather_all(program: &Unfolded, own: Own, kids: &[u32], place: u32) -> Facts
 
 // The facts of a builtin of these arguments.
 #[cycle(gather)]
-fn apply_facts(program: &Unfolded, own: Own, builtin: Builtin, kids: &[u32], place: u32) -> Facts
+fn apply_facts(program: &Unfolded, own: Own, builtin: Builtin, kids: &[u32], place: u32) -> Gathered
     requires within { place < length program.now.nodes }
     requires row { InRow program.now.nodes place kids.now }
     ensures { result ≡ facts_of_apply own builtin (terms_by (term_at program.now.nodes) kids.now) }
@@ -117,7 +117,7 @@ fn mux_facts(
     condition: u32,
     heard: u32,
     other: u32,
-) -> Facts
+) -> Gathered
     requires { InRow program.now.nodes place (condition ∷ heard ∷ other ∷ []) }
     ensures { result ≡ facts_of_apply own op.Mux (terms_by (term_at program.now.nodes)
         (condition ∷ heard ∷ other ∷ [])) }
@@ -134,11 +134,11 @@ fn mux_facts(
 }
 
 // The facts with what a comparison guards by, if there is one.
-fn guarded(facts: Facts, comparison: Option<Guarding>) -> Facts
+fn guarded(facts: Gathered, comparison: Option<Guarding>) -> Gathered
     ensures { result ≡ guarded_facts facts comparison }
 {
     match comparison {
-        Some(guarding) => Facts {
+        Some(guarding) => Gathered {
             uses: facts.uses,
             nested: facts.nested,
             bare: facts.bare,
@@ -148,10 +148,10 @@ fn guarded(facts: Facts, comparison: Option<Guarding>) -> Facts
     }
 }
 
-fn joined(a: Facts, b: Facts) -> Facts
+fn joined(a: Gathered, b: Gathered) -> Gathered
     ensures { result ≡ joined_of a b }
 {
-    Facts {
+    Gathered {
         uses: a.uses || b.uses,
         nested: a.nested || b.nested,
         bare: a.bare || b.bare,
@@ -172,7 +172,7 @@ fn together(a: Guarding, b: Guarding) -> Guarding
 }
 
 // The facts of a node without kids.
-fn leaf_facts(node: &Node, own: Own) -> Facts
+fn leaf_facts(node: &Node, own: Own) -> Gathered
     ensures { result ≡ leaf_facts_by own (sort_of node.now.op) }
 {
     match &node.op {
@@ -181,11 +181,11 @@ fn leaf_facts(node: &Node, own: Own) -> Facts
     }
 }
 
-fn variable_facts(own: Own, binder: u32) -> Facts
+fn variable_facts(own: Own, binder: u32) -> Gathered
     ensures { result ≡ variable_facts own binder }
 {
     let uses = binder == own.place;
-    Facts {
+    Gathered {
         uses,
         nested: false,
         bare: !own.is_share && uses,
@@ -198,10 +198,10 @@ fn variable_facts(own: Own, binder: u32) -> Facts
 }
 
 // The facts of what stands under `nbr`.
-fn under_nbr(heard: bool, inside: Facts) -> Facts
+fn under_nbr(heard: bool, inside: Gathered) -> Gathered
     ensures { result ≡ under_nbr heard inside }
 {
-    Facts {
+    Gathered {
         uses: inside.uses,
         nested: !heard && inside.uses,
         bare: !heard && inside.bare,
@@ -210,10 +210,10 @@ fn under_nbr(heard: bool, inside: Facts) -> Facts
 }
 
 // The facts of what stands under `let`, `if`, `rep` or `share`.
-fn beneath(inside: Facts) -> Facts
+fn beneath(inside: Gathered) -> Gathered
     ensures { result ≡ beneath inside }
 {
-    Facts {
+    Gathered {
         uses: inside.uses,
         nested: inside.uses,
         bare: inside.bare,

@@ -17,7 +17,7 @@ use Rattle.topology.specs.Networks.{Network, IsNetwork, inputs_in}
 use Rattle.topology.specs.Nearby.{near_numbers}
 use Rattle.topology.proofs.Lemmas.{inputs_fit}
 use Rattle.interval_facts.specs.Ranges.{RangeValue, IntRange, InRange, AllInRange, LiesIn, full, hull, builtin_range, Bounds, bound_at, literal_range, leaf_range, term_range, term_ranges, node_ranges, all_node_ranges}
-use Rattle.interval_facts.specs.Solutions.{Devices, In, Map, Maps, bind, near_among, around, FitsOn, local_map, evolved, where_is, at_device, LeafIs, Solves, SolveAll}
+use Rattle.interval_facts.specs.Solutions.{Devices, In, ValueMap, ValueMaps, bind, near_among, around, FitsOn, local_map, evolved, where_is, at_device, LeafIs, Solves, SolveAll}
 use Rattle.interval_facts.specs.Claims.{MapLiesIn, InRanges, AllInRanges}
 use Rattle.interval_facts.proofs.Orders.{in_full}
 use Rattle.interval_facts.proofs.Operators.{MaybeLies, operator_lies}
@@ -39,7 +39,7 @@ some_around d (n ∷ ns) = by_test (nat_lt d n)
     by_test false = omega arith
 
 -- one binder more
-pub bound_holds : (D : Devices) (p : ℕ) (r : RangeValue) (G : Map) (bs : Bounds) (V : Maps) → MapLiesIn D r G → BoundsHold D bs V → BoundsHold D ((p, r) ∷ bs) (bind p G V)
+pub bound_holds : (D : Devices) (p : ℕ) (r : RangeValue) (G : ValueMap) (bs : Bounds) (V : ValueMaps) → MapLiesIn D r G → BoundsHold D bs V → BoundsHold D ((p, r) ∷ bs) (bind p G V)
 bound_holds D p r G bs V g h n s e d i = by_test (nat_eq p n) e
   where
     by_test : (c : Bool) → (if c then Some r else found n bs) ≡ Some s → LiesIn s ((if c then G else V n) d)
@@ -73,7 +73,7 @@ literal_lies (BoolValue b) = tt
 literal_lies (PairValue a b) = (literal_lies a, literal_lies b)
 
 -- a solution fits its type
-pub fits_of : (N : Network) (t : Term) (p : ℕ) (D : Devices) (V : Maps) (F : Map) → Solves N p t D V F → FitsOn N D (type_of t) F
+pub fits_of : (N : Network) (t : Term) (p : ℕ) (D : Devices) (V : ValueMaps) (F : ValueMap) → Solves N p t D V F → FitsOn N D (type_of t) F
 fits_of N (Plain t l) p D V F s = s.0
 fits_of N (Apply t o xs) p D V F s = s.0
 fits_of N (Nbr t a) p D V F s = s.0
@@ -85,7 +85,7 @@ module _ (N : Network) (net : IsNetwork N) (metric : N.declared.least ≤ N.decl
   abbrev M : ℕ
   M = N.declared.ceiling
 
-  leaf_lies : (t : ValueType) (l : Leaf) (p : ℕ) (bs : Scope) (cs : Bounds) (D : Devices) (V : Maps) (F : Map) → Alive N D → LeafHasType N.declared bs t l → BoundsFit bs cs → BoundsHold D cs V →
+  leaf_lies : (t : ValueType) (l : Leaf) (p : ℕ) (bs : Scope) (cs : Bounds) (D : Devices) (V : ValueMaps) (F : ValueMap) → Alive N D → LeafHasType N.declared bs t l → BoundsFit bs cs → BoundsHold D cs V →
       (d : ℕ) → In D d → (v : AnyValue) → LeafIs N D l V d v → LiesIn (leaf_range N.declared cs t l) v
   leaf_lies t (Literal w) p bs cs D V F live ty fit h d i v e = lies_as _ e (literal_lies w)
   leaf_lies t (Variable n) p bs cs D V F live ty fit h d i v e =
@@ -155,25 +155,25 @@ module _ (N : Network) (net : IsNetwork N) (metric : N.declared.least ≤ N.decl
   hull_lies_second t r s (ValueLocal v) f g h = hull_has_second t r s v f g h
   hull_lies_second t r s (ValueField es) f g h = entries_hull_second t r s es f g h
 
-  all_fit : (xs : Terms) (p : ℕ) (D : Devices) (V : Maps) (Gs : List Map) → SolveAll N p xs D V Gs → (d : ℕ) → In D d → FitEachOver M (around N D d) (types_of xs) (at_device d Gs)
+  all_fit : (xs : Terms) (p : ℕ) (D : Devices) (V : ValueMaps) (Gs : List ValueMap) → SolveAll N p xs D V Gs → (d : ℕ) → In D d → FitEachOver M (around N D d) (types_of xs) (at_device d Gs)
   all_fit NoMore p D V [] s d i = tt
   all_fit NoMore p D V (G ∷ Gs) s d i = absurd s
   all_fit (More x xs) p D V [] s d i = absurd s
   all_fit (More x xs) p D V (G ∷ Gs) s d i = (fits_of N x p D V G s.0 d i, all_fit xs (p + size x) D V Gs s.1 d i)
 
-  abbrev MapsLie : Devices → List RangeValue → List Map → Type 0
+  abbrev MapsLie : Devices → List RangeValue → List ValueMap → Type 0
   MapsLie D [] [] = Unit {0}
   MapsLie D (r ∷ rs) (G ∷ Gs) = MapLiesIn D r G × MapsLie D rs Gs
   MapsLie D _ _ = ⊥
 
-  maps_at : (D : Devices) (rs : List RangeValue) (Gs : List Map) → MapsLie D rs Gs → (d : ℕ) → In D d → EachLiesIn rs (at_device d Gs)
+  maps_at : (D : Devices) (rs : List RangeValue) (Gs : List ValueMap) → MapsLie D rs Gs → (d : ℕ) → In D d → EachLiesIn rs (at_device d Gs)
   maps_at D [] [] h d i = tt
   maps_at D [] (G ∷ Gs) h d i = absurd h
   maps_at D (r ∷ rs) [] h d i = absurd h
   maps_at D (r ∷ rs) (G ∷ Gs) h d i = (h.0 d i, maps_at D rs Gs h.1 d i)
 
   -- what the variable of a `rep` or `share` is lies in the range of all values
-  pub evolved_lies : (e : Evolution) (t : ValueType) (D : Devices) (F : Map) (f : ℕ → LocalValue) → FitsOn N D t F → ((d : ℕ) → In D d → F d ≡ ValueLocal (f d)) → MapLiesIn D (full M (inner t)) (evolved e N D f)
+  pub evolved_lies : (e : Evolution) (t : ValueType) (D : Devices) (F : ValueMap) (f : ℕ → LocalValue) → FitsOn N D t F → ((d : ℕ) → In D d → F d ≡ ValueLocal (f d)) → MapLiesIn D (full M (inner t)) (evolved e N D f)
   evolved_lies e t D F f h g = by_kind e
     where
       each : (d : ℕ) → In D d → InRange (full M (inner t)) (f d)
@@ -191,11 +191,11 @@ module _ (N : Network) (net : IsNetwork N) (metric : N.declared.least ≤ N.decl
   branch_in true D k d i e = rw (i, e) refl
   branch_in false D k d i e = rw (i, e) refl
 
-  pub fewer_hold : (b : Bool) (D : Devices) (k : ℕ → Bool) (cs : Bounds) (V : Maps) → BoundsHold D cs V → BoundsHold (where_is b D k) cs V
+  pub fewer_hold : (b : Bool) (D : Devices) (k : ℕ → Bool) (cs : Bounds) (V : ValueMaps) → BoundsHold D cs V → BoundsHold (where_is b D k) cs V
   fewer_hold b D k cs V h n r e d i = h n r e d (fewer b D k d i)
 
   mutual
-    pub term_lies : (t : Term) (p : ℕ) (bs : Scope) (cs : Bounds) (D : Devices) (V : Maps) (F : Map) → Alive N D → HasType N.declared bs p t → BoundsFit bs cs → BoundsHold D cs V →
+    pub term_lies : (t : Term) (p : ℕ) (bs : Scope) (cs : Bounds) (D : Devices) (V : ValueMaps) (F : ValueMap) → Alive N D → HasType N.declared bs p t → BoundsFit bs cs → BoundsHold D cs V →
         Solves N p t D V F → MapLiesIn D (term_range N.declared cs p t) F
     term_lies (Plain t l) p bs cs D V F live ty fit h s = λ d i. leaf_lies t l p bs cs D V F live ty fit h d i (F d) (s.1 d i)
     term_lies (Apply t o xs) p bs cs D V F live ty fit h s = λ d i.
@@ -224,18 +224,18 @@ module _ (N : Network) (net : IsNetwork N) (metric : N.declared.least ≤ N.decl
         (refl, range_form N.declared a bs cs (suc p) ty.1 fit, fit)
         (bound_holds D p (term_range N.declared cs (suc p) a) s.1 cs V (term_lies a (suc p) bs cs D V s.1 live ty.1 fit h s.2) h) s.3
 
-    terms_lie : (xs : Terms) (p : ℕ) (bs : Scope) (cs : Bounds) (D : Devices) (V : Maps) (Gs : List Map) → Alive N D → HaveTypes N.declared bs p xs → BoundsFit bs cs → BoundsHold D cs V →
+    terms_lie : (xs : Terms) (p : ℕ) (bs : Scope) (cs : Bounds) (D : Devices) (V : ValueMaps) (Gs : List ValueMap) → Alive N D → HaveTypes N.declared bs p xs → BoundsFit bs cs → BoundsHold D cs V →
         SolveAll N p xs D V Gs → MapsLie D (term_ranges N.declared cs p xs) Gs
     terms_lie NoMore p bs cs D V [] live ty fit h s = tt
     terms_lie NoMore p bs cs D V (G ∷ Gs) live ty fit h s = absurd s
     terms_lie (More x xs) p bs cs D V [] live ty fit h s = absurd s
     terms_lie (More x xs) p bs cs D V (G ∷ Gs) live ty fit h s = (term_lies x p bs cs D V G live ty.0 fit h s.0, terms_lie xs (p + size x) bs cs D V Gs live ty.1 fit h s.1)
 
-  lies_shown : (r s : RangeValue) (D : Devices) (F : Map) → r ≡ s → MapLiesIn D s F → MapLiesIn D r F
+  lies_shown : (r s : RangeValue) (D : Devices) (F : ValueMap) → r ≡ s → MapLiesIn D s F → MapLiesIn D r F
   lies_shown r s D F e h = subst (λ z. MapLiesIn D z F) (sym e) h
 
   mutual
-    pub in_ranges : (rs : ℕ → RangeValue) (t : Term) (p : ℕ) (bs : Scope) (cs : Bounds) (D : Devices) (V : Maps) (F : Map) → Alive N D → HasType N.declared bs p t → BoundsFit bs cs → BoundsHold D cs V →
+    pub in_ranges : (rs : ℕ → RangeValue) (t : Term) (p : ℕ) (bs : Scope) (cs : Bounds) (D : Devices) (V : ValueMaps) (F : ValueMap) → Alive N D → HasType N.declared bs p t → BoundsFit bs cs → BoundsHold D cs V →
         (s : Solves N p t D V F) → Shows rs p (node_ranges N.declared cs p t) → InRanges rs N p t D V F s
     in_ranges rs (Plain t l) p bs cs D V F live ty fit h s k = lies_shown (rs p) _ D F k.0 (term_lies (Plain t l) p bs cs D V F live ty fit h s)
     in_ranges rs (Apply t o xs) p bs cs D V F live ty fit h s k =
@@ -268,7 +268,7 @@ module _ (N : Network) (net : IsNetwork N) (metric : N.declared.least ≤ N.decl
               (bound_holds D p (term_range N.declared cs (suc p) a) s.1 cs V (term_lies a (suc p) bs cs D V s.1 live ty.1 fit h s.2) h) s.3 second,
         )
 
-    pub all_in_ranges : (rs : ℕ → RangeValue) (xs : Terms) (p : ℕ) (bs : Scope) (cs : Bounds) (D : Devices) (V : Maps) (Gs : List Map) → Alive N D → HaveTypes N.declared bs p xs → BoundsFit bs cs → BoundsHold D cs V →
+    pub all_in_ranges : (rs : ℕ → RangeValue) (xs : Terms) (p : ℕ) (bs : Scope) (cs : Bounds) (D : Devices) (V : ValueMaps) (Gs : List ValueMap) → Alive N D → HaveTypes N.declared bs p xs → BoundsFit bs cs → BoundsHold D cs V →
         (s : SolveAll N p xs D V Gs) → Shows rs p (all_node_ranges N.declared cs p xs) → AllInRanges rs N p xs D V Gs s
     all_in_ranges rs NoMore p bs cs D V Gs live ty fit h s k = tt
     all_in_ranges rs (More x xs) p bs cs D V [] live ty fit h s k = s

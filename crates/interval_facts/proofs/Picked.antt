@@ -4,7 +4,8 @@ use Rattle.fc_values.specs.declared.builtins.Builtin.{Builtin}
 use Rattle.fc_values.specs.declared.builtins.Builtin.TheVariants as op
 use Rattle.interval_facts.specs.declared.intervals.Range.{Range}
 use Rattle.interval_facts.specs.Ranges.{RangeValue, BoolRange, range_value}
-use Rattle.interval_facts.specs.Picks.{ranges_in, picked, AreThere, arity, IsComponent, IsOfTwo, IsOfThree}
+use Rattle.fc_values.specs.BuiltinTypes.{arity}
+use Rattle.interval_facts.specs.Picks.{ranges_in, picked, AreThere, IsComponent, IsOfTwo, IsOfThree}
 
 pub there_nth : (n : ℕ) (ks : List ℕ) (i : ℕ) → AreThere n ks → i < length ks → get_or ks i 0 < n
 there_nth n [] i h l = absurd (omega (arith, l))

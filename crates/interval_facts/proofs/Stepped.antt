@@ -5,14 +5,14 @@ use Rattle.std.proofs.lemmas.Bool.Decides.{nat_tests}
 use Rattle.fc_values.specs.declared.builtins.Builtin.{Builtin}
 use Rattle.fc_values.specs.Types.{LocalType, ValueType, TypeLocal, TypeField}
 use Rattle.fc_values.specs.Builtins.{is_hood}
-use Rattle.fc_values.specs.BuiltinTypes.{inner, inners, Takes, takes_add, takes_sub, takes_mul, takes_rise, takes_min, takes_max, takes_less, takes_equal, takes_and, takes_or, takes_not, takes_mux, takes_pair, takes_fst, takes_snd, Folds, folds_min, folds_max, folds_sum, folds_any, folds_all, rule_by}
+use Rattle.fc_values.specs.BuiltinTypes.{inner, inners, Takes, takes_add, takes_sub, takes_mul, takes_rise, takes_min, takes_max, takes_less, takes_equal, takes_and, takes_or, takes_not, takes_mux, takes_pair, takes_fst, takes_snd, Folds, folds_min, folds_max, folds_sum, folds_any, folds_all, rule_by, arity}
 use Rattle.fc_nodes.specs.Terms.{Leaf, Literal, Variable, Sense, Uid, NbrLink, Evolution, ByRep, ByShare, Term, Terms, Plain, Apply, Nbr, Evolve, If, Let, NoMore, More, type_of, size, sizes, Sort, OfLeaf, OfApply, OfNbr, OfEvolve, OfIf, OfLet, Has, view_at, HasNode, Laid, AllLaid, places, term_at}
 use Rattle.fc_nodes.specs.Typing.{Scope, type_at, types_of, HasType, HaveTypes}
 use Rattle.fc_nodes.specs.Program.{Program, unfolding_of, IsProgram}
 use Rattle.fc_nodes.proofs.Places.{AllAbove, formed_above}
 use Rattle.fc_nodes.proofs.Kids.{laid_term}
 use Rattle.interval_facts.specs.Ranges.{RangeValue, full, hull, builtin_range, Bounds, bound_at, leaf_range, term_range, term_ranges, node_ranges, all_node_ranges, ranges_of}
-use Rattle.interval_facts.specs.Picks.{arity, ranges_at}
+use Rattle.interval_facts.specs.Picks.{ranges_at}
 use Rattle.interval_facts.specs.Steps.{range_in, variable_range, leaf_step, step_range, kids_taken, LeafIsBound, IsBound}
 use Rattle.interval_facts.proofs.Tables.{Shows, shows_first, shows_second, shows_itself, as_many}
 

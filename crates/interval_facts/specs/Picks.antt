@@ -29,29 +29,6 @@ abbrev pub AreThere : ℕ → List ℕ → Type 0
 AreThere n [] = Unit {0}
 AreThere n (k ∷ ks) = (k < n) × AreThere n ks
 
--- how many arguments a builtin takes
-abbrev pub arity : Builtin → ℕ
-arity op.Add = 2
-arity op.Sub = 2
-arity op.Mul = 2
-arity op.Rise = 3
-arity op.Min = 2
-arity op.Max = 2
-arity op.Less = 2
-arity op.Equal = 2
-arity op.And = 2
-arity op.Or = 2
-arity op.Not = 1
-arity op.Mux = 3
-arity op.Pair = 2
-arity op.Fst = 1
-arity op.Snd = 1
-arity op.MinHoodLoc = 2
-arity op.MaxHoodLoc = 2
-arity op.SumHood = 1
-arity op.AnyHood = 1
-arity op.AllHood = 1
-
 -- the builtins with one argument, with two and with three, whose value's range depends on those of the arguments
 abbrev pub IsComponent : Builtin → Type 0
 IsComponent op.Fst = Unit {0}

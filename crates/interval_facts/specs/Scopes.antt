@@ -5,7 +5,7 @@ use Rattle.fc_values.specs.BuiltinTypes.{inner}
 use Rattle.fc_nodes.specs.Typing.{Scope}
 use Rattle.topology.specs.Networks.{Network, Lives}
 use Rattle.interval_facts.specs.Ranges.{RangeValue, IntRange, BoolRange, PairRange, Bounds}
-use Rattle.interval_facts.specs.Solutions.{Devices, In, Maps}
+use Rattle.interval_facts.specs.Solutions.{Devices, In, ValueMaps}
 use Rattle.interval_facts.specs.Claims.{MapLiesIn}
 
 -- a range has the form of a type
@@ -32,7 +32,7 @@ found n [] = None
 found n (b ∷ bs) = if nat_eq b.0 n then Some b.1 else found n bs
 
 -- the binders in scope have their maps in their ranges
-abbrev pub BoundsHold : Devices → Bounds → Maps → Type 0
+abbrev pub BoundsHold : Devices → Bounds → ValueMaps → Type 0
 BoundsHold D bs V = (n : ℕ) (r : RangeValue) → found n bs ≡ Some r → MapLiesIn D r (V n)
 
 -- the devices of a set are there

@@ -17,14 +17,14 @@ abbrev pub In : Devices → ℕ → Type 0
 In D d = D d ≡ true
 
 -- a value for each device
-abbrev pub Map : Type 0
-Map = ℕ → AnyValue
+abbrev pub ValueMap : Type 0
+ValueMap = ℕ → AnyValue
 
 -- the map of each binder in scope, by its place
-abbrev pub Maps : Type 0
-Maps = ℕ → Map
+abbrev pub ValueMaps : Type 0
+ValueMaps = ℕ → ValueMap
 
-abbrev pub bind : ℕ → Map → Maps → Maps
+abbrev pub bind : ℕ → ValueMap → ValueMaps → ValueMaps
 bind p G V = λ q. if nat_eq p q then G else V q
 
 -- the neighbours of a device that are in a set, with the weights of the links
@@ -40,19 +40,19 @@ abbrev pub field_over : ℕ → LocalValue → List (ℕ × ℕ) → (ℕ × ℕ
 field_over d v ns f = ValueField (with_entry d v (map (λ (n : ℕ × ℕ). (n.0, f n)) ns))
 
 -- the field of what a map has at a device and its neighbours in a set
-abbrev pub field_of : Network → Devices → (ℕ → LocalValue) → Map
+abbrev pub field_of : Network → Devices → (ℕ → LocalValue) → ValueMap
 field_of N D f = λ d. field_over d (f d) (near_among N D d) (λ n. f n.0)
 
 -- a map with values of a type, its fields over each device and its neighbours in the set
-abbrev pub FitsOn : Network → Devices → ValueType → Map → Type 0
+abbrev pub FitsOn : Network → Devices → ValueType → ValueMap → Type 0
 FitsOn N D t F = (d : ℕ) → In D d → FitsOver N.declared.ceiling (around N D d) t (F d)
 
 -- local values as a map
-abbrev pub local_map : (ℕ → LocalValue) → Map
+abbrev pub local_map : (ℕ → LocalValue) → ValueMap
 local_map f = λ d. ValueLocal (f d)
 
 -- what the variable of a `rep` or `share` is where the values are these
-abbrev pub evolved : Evolution → Network → Devices → (ℕ → LocalValue) → Map
+abbrev pub evolved : Evolution → Network → Devices → (ℕ → LocalValue) → ValueMap
 evolved ByRep N D f = local_map f
 evolved ByShare N D f = field_of N D f
 
@@ -60,10 +60,10 @@ evolved ByShare N D f = field_of N D f
 abbrev pub where_is : Bool → Devices → (ℕ → Bool) → Devices
 where_is b D k = λ d. D d && same_truth b (k d)
 
-abbrev pub at_device : ℕ → List Map → List AnyValue
-at_device d Gs = map (λ (G : Map). G d) Gs
+abbrev pub at_device : ℕ → List ValueMap → List AnyValue
+at_device d Gs = map (λ (G : ValueMap). G d) Gs
 
-abbrev pub LeafIs : Network → Devices → Leaf → Maps → ℕ → AnyValue → Type 0
+abbrev pub LeafIs : Network → Devices → Leaf → ValueMaps → ℕ → AnyValue → Type 0
 LeafIs N D (Literal v) V d w = w ≡ ValueLocal v
 LeafIs N D (Variable q) V d w = w ≡ restricted d (near_numbers (near_among N D d)) (V q d)
 LeafIs N D (Sense i) V d w = (v : LocalValue) × (slice_get (inputs_in d N.devices) i ≡ Some v) × (w ≡ ValueLocal v)
@@ -73,9 +73,9 @@ LeafIs N D NbrLink V d w = w ≡ field_over d (IntValue N.declared.least) (near_
 -- `Solves N p t D V F`: over the devices D, where the binders have the maps V, the map F solves the term t at place p.
 -- Each map fits the type of its term. The first value of a `rep` or `share` isn't looked at.
 abbrev mutual
-  pub Solves : Network → ℕ → Term → Devices → Maps → Map → Type 0
+  pub Solves : Network → ℕ → Term → Devices → ValueMaps → ValueMap → Type 0
   Solves N p (Plain t l) D V F = FitsOn N D t F × ((d : ℕ) → In D d → LeafIs N D l V d (F d))
-  Solves N p (Apply t o xs) D V F = FitsOn N D t F × (Gs : List Map) × SolveAll N (suc p) xs D V Gs
+  Solves N p (Apply t o xs) D V F = FitsOn N D t F × (Gs : List ValueMap) × SolveAll N (suc p) xs D V Gs
       × ((d : ℕ) → In D d → builtin_value o N.declared.ceiling d (at_device d Gs) ≡ Some (F d))
   Solves N p (Nbr t a) D V F = FitsOn N D t F × (g : ℕ → LocalValue) × Solves N (suc p) a D V (local_map g)
       × ((d : ℕ) → In D d → F d ≡ field_of N D g d)
@@ -87,16 +87,16 @@ abbrev mutual
       × Solves N (suc p + size c) a (where_is true D k) V F
       × Solves N (suc p + size c + size a) b (where_is false D k) V F
   Solves N p (Let t a b) D V F =
-      FitsOn N D t F × (G : Map) × Solves N (suc p) a D V G × Solves N (suc p + size a) b D (bind p G V) F
+      FitsOn N D t F × (G : ValueMap) × Solves N (suc p) a D V G × Solves N (suc p + size a) b D (bind p G V) F
 
-  pub SolveAll : Network → ℕ → Terms → Devices → Maps → List Map → Type 0
+  pub SolveAll : Network → ℕ → Terms → Devices → ValueMaps → List ValueMap → Type 0
   SolveAll N p NoMore D V [] = Unit {0}
   SolveAll N p NoMore D V (G ∷ Gs) = ⊥
   SolveAll N p (More x xs) D V [] = ⊥
   SolveAll N p (More x xs) D V (G ∷ Gs) = Solves N p x D V G × SolveAll N (p + size x) xs D V Gs
 
 -- no binder is in scope: any maps
-abbrev pub no_binders : Maps
+abbrev pub no_binders : ValueMaps
 no_binders = λ q d. ValueLocal (IntValue 0)
 
 -- a field solves a program on a network: it solves `main` over all devices

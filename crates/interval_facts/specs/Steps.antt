@@ -1,12 +1,12 @@
 -- The range of a node, by a list that has the ranges of the nodes on which it rests at their places.
 use Rattle.std.specs.Prelude.{ℕ, suc, ◌≤◌, ◌+◌, List, Option, Some, None, slice_get, slice_index_or as get_or}
 use Rattle.fc_values.specs.Types.{ValueType, Declarations}
-use Rattle.fc_values.specs.BuiltinTypes.{inner}
+use Rattle.fc_values.specs.BuiltinTypes.{inner, arity}
 use Rattle.fc_nodes.specs.declared.nodes.Node.{Node}
 use Rattle.fc_nodes.specs.Terms.{Leaf, Literal, Variable, Sense, Uid, NbrLink, Sort, OfLeaf, OfApply, OfNbr, OfEvolve, OfIf, OfLet, View, Has, view_at, size, term_at}
 use Rattle.fc_nodes.specs.Program.{Program}
 use Rattle.interval_facts.specs.Ranges.{RangeValue, IntRange, BoolRange, full, hull, builtin_range, literal_range, sense_range}
-use Rattle.interval_facts.specs.Picks.{arity, ranges_at}
+use Rattle.interval_facts.specs.Picks.{ranges_at}
 
 abbrev pub range_in : List RangeValue → ℕ → RangeValue
 range_in rs p = get_or rs p BoolRange

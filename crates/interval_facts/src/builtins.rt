@@ -4,7 +4,8 @@ ghost use Rattle.std.specs.Prelude.{◌≡◌, ◌<◌, ◌∷◌, [], IfOk, len
 ghost use Rattle.fc_values.specs.declared.builtins.Builtin.TheVariants as op;
 ghost use Rattle.fc_values.specs.Types.{local_type_of};
 ghost use Rattle.interval_facts.specs.Ranges.{range_value, BoolRange, both_ends, difference as difference_of, full as full_of, sum_cut, product_cut, builtin_range as range_of_builtin};
-ghost use Rattle.interval_facts.specs.Picks.{picked, AreThere, arity, IsComponent, IsOfTwo, IsOfThree, other_of, value_range};
+ghost use Rattle.fc_values.specs.BuiltinTypes.{arity};
+ghost use Rattle.interval_facts.specs.Picks.{picked, AreThere, IsComponent, IsOfTwo, IsOfThree, other_of, value_range};
 
 use crate::intervals::{
     Range, copy_range, full, greatest, greatest_of_hood, hull, least, least_of_hood, pair,

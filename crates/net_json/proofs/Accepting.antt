@@ -8,34 +8,34 @@ use Rattle.topology.specs.declared.types.NetFault.{NetFault}
 use Rattle.fc_values.specs.Fields.{Rises, is_in}
 use Rattle.fc_values.specs.Lists.{insert_after}
 use Rattle.fc_values.proofs.Lists.{insert_map, insert_length}
-use Rattle.net_json.specs.Judging.{Judged, Accepted, Refused, Refusal, and_then, require, no_fault, in_turn, gathered, gather, at_index}
+use Rattle.net_json.specs.Judging.{JudgedScene, Accepted, Refused, Refusal, and_then, require, no_fault, in_turn, gathered, gather, at_index}
 use Rattle.net_json.specs.Reading.{count_items}
 use Rattle.net_json.proofs.Risings.{insert_rises}
 
 -- ---- one check
 
 -- both of two checks have accepted
-pub then_accepted : {A B R : Type 0} {next : A → Judged B} {b : B} (j : Judged A) → and_then j next ≡ Accepted b → ((a : A) → j ≡ Accepted a → next a ≡ Accepted b → R) → R
+pub then_accepted : {A B R : Type 0} {next : A → JudgedScene B} {b : B} (j : JudgedScene A) → and_then j next ≡ Accepted b → ((a : A) → j ≡ Accepted a → next a ≡ Accepted b → R) → R
 then_accepted (Accepted a) e h = h a refl e
 then_accepted (Refused r) e h = absurd cc
 
 -- the test held
-pub require_accepted : {A : Type 0} {test : Bool} {rest : Judged A} {a : A} (r : Refusal) → require test r rest ≡ Accepted a → (test ≡ true) × (rest ≡ Accepted a)
+pub require_accepted : {A : Type 0} {test : Bool} {rest : JudgedScene A} {a : A} (r : Refusal) → require test r rest ≡ Accepted a → (test ≡ true) × (rest ≡ Accepted a)
 require_accepted {test = true} r e = (refl, e)
 require_accepted {test = false} r e = absurd cc
 
 -- there was no fault
-pub no_fault_accepted : {A : Type 0} {f : Option NetFault} {rest : Judged A} {a : A} (path : List ℕ) → no_fault f path rest ≡ Accepted a → (f ≡ None) × (rest ≡ Accepted a)
+pub no_fault_accepted : {A : Type 0} {f : Option NetFault} {rest : JudgedScene A} {a : A} (path : List ℕ) → no_fault f path rest ≡ Accepted a → (f ≡ None) × (rest ≡ Accepted a)
 no_fault_accepted {f = None} path e = (refl, e)
 no_fault_accepted {f = Some x} path e = absurd cc
 
-pub same_accepted : {A : Type 0} {a b : A} → ◌≡◌ {A = Judged A} (Accepted a) (Accepted b) → a ≡ b
+pub same_accepted : {A : Type 0} {a b : A} → ◌≡◌ {A = JudgedScene A} (Accepted a) (Accepted b) → a ≡ b
 same_accepted e = cc
 
 -- ---- items in turn
 
 -- what each item keeps, all of them keep
-pub in_turn_keeps : {A : Type 0} (judge : A → List ℕ → Data → Judged A) (P : A → Type 0) → ((a b : A) (p : List ℕ) (d : Data) → P a → judge a p d ≡ Accepted b → P b)
+pub in_turn_keeps : {A : Type 0} (judge : A → List ℕ → Data → JudgedScene A) (P : A → Type 0) → ((a b : A) (p : List ℕ) (d : Data) → P a → judge a p d ≡ Accepted b → P b)
     → (path : List ℕ) (a b : A) (i : ℕ) (ds : Items) → P a → in_turn judge path a i ds ≡ Accepted b → P b
 in_turn_keeps judge P step path a b i no_items h e = subst P (same_accepted e) h
 in_turn_keeps judge P step path a b i (item d ds) h e =
@@ -61,7 +61,7 @@ pub record IsNew {X : Type 0} (number : X → ℕ) (P : X → Type 0) (before : 
   pub absent : is_in (number x) before ≡ false
   pub holds : P x
 
-module _ {X : Type 0} (number : X → ℕ) (judge : List ℕ → List ℕ → Data → Judged X) where
+module _ {X : Type 0} (number : X → ℕ) (judge : List ℕ → List ℕ → Data → JudgedScene X) where
   pub one_gathered : (P : X → Type 0) → ((before path : List ℕ) (d : Data) (x : X) → judge before path d ≡ Accepted x → IsNew number P before x)
       → (before after : List X) (path : List ℕ) (d : Data) → AreGathered number P before → gathered number judge before path d ≡ Accepted after → AreGathered number P after
   one_gathered P new before after path d g e = then_accepted (judge (map number before) path d) e (λ x f s.

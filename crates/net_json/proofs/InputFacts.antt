@@ -10,11 +10,11 @@ use Rattle.topology.specs.declared.types.NetFault.{NetFault}
 use Rattle.fc_values.specs.Inputs.{InputFits, InputsFit}
 use Rattle.topology.specs.Inputs.{input_fault}
 use Rattle.topology.proofs.Lemmas.{input_none}
-use Rattle.net_json.specs.Judging.{Judged, Accepted, Refused, Misshaped, and_then, given, no_fault, at_member}
+use Rattle.net_json.specs.Judging.{JudgedScene, Accepted, Refused, Misshaped, and_then, given, no_fault, at_member}
 use Rattle.net_json.specs.Reading.{value_of}
 use Rattle.net_json.specs.Inputs.{input_judged, values_judged}
 
-pub then_accepted : {A B R : Type 0} (j : Judged A) (next : A → Judged B) (b : B) → and_then j next ≡ Accepted b → ((a : A) → j ≡ Accepted a → next a ≡ Accepted b → R) → R
+pub then_accepted : {A B R : Type 0} (j : JudgedScene A) (next : A → JudgedScene B) (b : B) → and_then j next ≡ Accepted b → ((a : A) → j ≡ Accepted a → next a ≡ Accepted b → R) → R
 then_accepted (Accepted a) next b e h = h a refl e
 then_accepted (Refused r) next b e h = absurd cc
 

@@ -5,10 +5,10 @@ use Rattle.serde_json.specs.View.{view, items_of}
 use Rattle.serde_json.specs.declared.value.Value.{Value}
 use Rattle.net_json.specs.declared.types.JsonFault.{JsonFault}
 use Rattle.net_json.specs.declared.types.JsonFault.TheVariants as fault
-use Rattle.net_json.specs.Judging.{Judged, Accepted, and_then, in_turn, at_index, RefusedWith}
+use Rattle.net_json.specs.Judging.{JudgedScene, Accepted, and_then, in_turn, at_index, RefusedWith}
 
 -- what refuses the first check refuses the whole
-pub refused_next : {A B : Type 0} (first : Judged A) (next : A → Judged B) (f : JsonFault) → RefusedWith first f → RefusedWith (and_then first next) f
+pub refused_next : {A B : Type 0} (first : JudgedScene A) (next : A → JudgedScene B) (f : JsonFault) → RefusedWith first f → RefusedWith (and_then first next) f
 refused_next first next fault.Json h = ap (λ j. and_then j next) h
 refused_next first next (fault.Shape p) h = ap (λ j. and_then j next) h
 refused_next first next (fault.Net p f) h = ap (λ j. and_then j next) h
@@ -17,12 +17,12 @@ refused_next first next (fault.Devices count) h = ap (λ j. and_then j next) h
 refused_next first next fault.Memory h = tt
 
 -- what refuses the rest, behind a check that accepts
-pub refused_later : {A B : Type 0} (first : Judged A) (next : A → Judged B) (x : A) (f : JsonFault) → first ≡ Accepted x → RefusedWith (next x) f → RefusedWith (and_then first next) f
+pub refused_later : {A B : Type 0} (first : JudgedScene A) (next : A → JudgedScene B) (x : A) (f : JsonFault) → first ≡ Accepted x → RefusedWith (next x) f → RefusedWith (and_then first next) f
 refused_later first next x f e h = subst (λ j. RefusedWith (and_then j next) f) (sym e) h
 
 -- ---- items in turn
 
-module _ {A : Type 0} (judge : A → List ℕ → Data → Judged A) (path : List ℕ) where
+module _ {A : Type 0} (judge : A → List ℕ → Data → JudgedScene A) (path : List ℕ) where
   -- the next item of a list of values
   pub turn : (before : A) (vs : List Value) (i : ℕ) (v : Value) → i < length vs
       → in_turn judge path before i (items_of (map view (drop i vs)))

@@ -13,7 +13,7 @@ use Rattle.topology.specs.declared.types.NetFault.TheVariants as fault
 use Rattle.topology.specs.Networks.{Network}
 use Rattle.fc_values.specs.Fields.{is_in}
 use Rattle.topology.specs.Changes.{in_metric}
-use Rattle.net_json.specs.Judging.{Judged, Accepted, Misshaped, BadNetwork, and_then, given, require, gather, at_member}
+use Rattle.net_json.specs.Judging.{JudgedScene, Accepted, Misshaped, BadNetwork, and_then, given, require, gather, at_member}
 use Rattle.net_json.specs.Reading.{whole, value_of, two_members, four_members, size_of, count_items}
 use Rattle.net_json.specs.Inputs.{inputs_judged}
 use Rattle.net_json.specs.Devices.{live_number}
@@ -23,18 +23,18 @@ use Rattle.net_json.specs.Exports.{export_judged}
 -- ---- the own export
 
 -- the export of an object with exactly a value and a kept list, in format 1
-abbrev pub own_export : Unfolding → List ℕ → Data → Judged TreeExport
+abbrev pub own_export : Unfolding → List ℕ → Data → JudgedScene TreeExport
 own_export U path d =
     and_then (given (Misshaped path) (two_members (codes "value") (codes "kept") d)) (λ m.
     and_then (given (Misshaped (at_member path (codes "value"))) (value_of m.0)) (λ v.
     and_then (given (Misshaped (at_member path (codes "kept"))) (as_array m.1)) (λ ds.
     export_judged U item_of_values path v ds)))
 
-abbrev pub some_export : Judged TreeExport → Judged (Option TreeExport)
+abbrev pub some_export : JudgedScene TreeExport → JudgedScene (Option TreeExport)
 some_export e = and_then e (λ x. Accepted (Some x))
 
 -- null, or an export
-abbrev pub own_judged : Unfolding → List ℕ → Data → Judged (Option TreeExport)
+abbrev pub own_judged : Unfolding → List ℕ → Data → JudgedScene (Option TreeExport)
 own_judged U path d = if is_some (as_null d) then Accepted None else some_export (own_export U path d)
 
 abbrev pub is_null_or_object : Data → Bool
@@ -54,7 +54,7 @@ pub record NearForm : Type 0 where
   pub value : LocalValue
   pub kept : Items
 
-abbrev pub near_form : List ℕ → Data → Judged NearForm
+abbrev pub near_form : List ℕ → Data → JudgedScene NearForm
 near_form path d =
     and_then
     (given (Misshaped path) (four_members (codes "id") (codes "weight") (codes "value") (codes "kept") d)) (λ m.
@@ -65,17 +65,17 @@ near_form path d =
     Accepted (record { id = id; weight = w; value = v; kept = ds }))))))
 
 -- The number of a neighbour is one that devices may have, that of another device, and of none before.
-abbrev pub other_number : ℕ → List ℕ → List ℕ → ℕ → Judged ℕ
+abbrev pub other_number : ℕ → List ℕ → List ℕ → ℕ → JudgedScene ℕ
 other_number device before path id =
     require (nat_le id GREATEST_NUMBER && not (nat_eq id device) && not (is_in id before)) (Misshaped path)
     (Accepted id)
 
 -- the weight of a neighbour is in the range of the metric
-abbrev pub weight_judged : Declarations → List ℕ → ℕ → Judged ℕ
+abbrev pub weight_judged : Declarations → List ℕ → ℕ → JudgedScene ℕ
 weight_judged D path w = require (in_metric D w) (BadNetwork path fault.Weight) (Accepted w)
 
 -- a neighbour beside the numbers of those before: its form, its number, its weight, its export
-abbrev pub near_judged : Unfolding → ℕ → List ℕ → List ℕ → Data → Judged NearCopy
+abbrev pub near_judged : Unfolding → ℕ → List ℕ → List ℕ → Data → JudgedScene NearCopy
 near_judged U device before path d =
     and_then (near_form path d) (λ form.
     and_then (other_number device before (at_member path (codes "id")) form.id) (λ id.
@@ -87,7 +87,7 @@ abbrev pub near_number : NearCopy → ℕ
 near_number n = n.device
 
 -- no more neighbours than a device has, each judged in turn
-abbrev pub nears_judged : Unfolding → ℕ → List ℕ → Items → Judged (List NearCopy)
+abbrev pub nears_judged : Unfolding → ℕ → List ℕ → Items → JudgedScene (List NearCopy)
 nears_judged U device path ds =
     require (nat_le (count_items ds) MOST_LINKS) (Misshaped path) (gather near_number (near_judged U device) path ds)
 
@@ -100,7 +100,7 @@ pub record CopyForm : Type 0 where
   pub own : Data
   pub near : Items
 
-abbrev pub copy_form : List ℕ → Data → Judged CopyForm
+abbrev pub copy_form : List ℕ → Data → JudgedScene CopyForm
 copy_form path d =
     and_then (given (Misshaped path) (four_members (codes "id") (codes "inputs") (codes "own") (codes "near") d)) (λ m.
     and_then (given (Misshaped (at_member path (codes "id"))) (whole m.0.0)) (λ id.
@@ -113,7 +113,7 @@ abbrev pub copy_number : Copy → ℕ
 copy_number c = c.device
 
 -- the copy of a device: its inputs, its own export, its neighbours
-abbrev pub parts_judged : Unfolding → List ℕ → ℕ → CopyForm → Judged Copy
+abbrev pub parts_judged : Unfolding → List ℕ → ℕ → CopyForm → JudgedScene Copy
 parts_judged U path device form =
     and_then (inputs_judged U.declared.inputs (at_member path (codes "inputs")) form.inputs) (λ vs.
     and_then (own_judged U (at_member path (codes "own")) form.own) (λ own.
@@ -121,10 +121,10 @@ parts_judged U path device form =
     Accepted (record { device = device; inputs = vs; own = own; near = ns }))))
 
 -- a copy beside the numbers of those before: its form, its number as that of a row, its parts
-abbrev pub copy_judged : Unfolding → Network → List ℕ → List ℕ → Data → Judged Copy
+abbrev pub copy_judged : Unfolding → Network → List ℕ → List ℕ → Data → JudgedScene Copy
 copy_judged U n before path d =
     and_then (copy_form path d) (λ form.
     and_then (live_number n before (at_member path (codes "id")) form.id) (λ id. parts_judged U path id form))
 
-abbrev pub copies_judged : Unfolding → Network → List ℕ → Items → Judged (List Copy)
+abbrev pub copies_judged : Unfolding → Network → List ℕ → Items → JudgedScene (List Copy)
 copies_judged U n path ds = gather copy_number (copy_judged U n) path ds

@@ -18,25 +18,25 @@ pub data Refusal : Type 0 where
   BadKept : List ℕ → ℕ → Refusal
   TooManyDevices : ℕ → Refusal
 
-abbrev pub Judged : Type 0 → Type 0
-Judged A = Judgement Refusal A
+abbrev pub JudgedScene : Type 0 → Type 0
+JudgedScene A = Judgement Refusal A
 
 -- one check after another: the first refusal counts
-abbrev pub and_then : {A B : Type 0} → Judged A → (A → Judged B) → Judged B
+abbrev pub and_then : {A B : Type 0} → JudgedScene A → (A → JudgedScene B) → JudgedScene B
 and_then (Accepted x) next = next x
 and_then (Refused r) next = Refused r
 
 -- what is there, else a refusal
-abbrev pub given : {A : Type 0} → Refusal → Option A → Judged A
+abbrev pub given : {A : Type 0} → Refusal → Option A → JudgedScene A
 given r None = Refused r
 given r (Some x) = Accepted x
 
 -- the rest where a test holds, else a refusal
-abbrev pub require : {A : Type 0} → Bool → Refusal → Judged A → Judged A
+abbrev pub require : {A : Type 0} → Bool → Refusal → JudgedScene A → JudgedScene A
 require test r rest = if test then rest else Refused r
 
 -- the rest where networks have no fault to name, else that fault at a path
-abbrev pub no_fault : {A : Type 0} → Option NetFault → List ℕ → Judged A → Judged A
+abbrev pub no_fault : {A : Type 0} → Option NetFault → List ℕ → JudgedScene A → JudgedScene A
 no_fault None path rest = rest
 no_fault (Some f) path rest = Refused (BadNetwork path f)
 
@@ -48,25 +48,25 @@ abbrev pub at_index : List ℕ → ℕ → List ℕ
 at_index path i = path ++ 47 ∷ decimal i
 
 -- items one after another, with their paths, each beside what those before have given
-abbrev pub in_turn : {A : Type 0} → (A → List ℕ → Data → Judged A) → List ℕ → A → ℕ → Items → Judged A
+abbrev pub in_turn : {A : Type 0} → (A → List ℕ → Data → JudgedScene A) → List ℕ → A → ℕ → Items → JudgedScene A
 in_turn judge path before i no_items = Accepted before
 in_turn judge path before i (item d ds) =
     and_then (judge before (at_index path i) d) (λ next. in_turn judge path next (i + 1) ds)
 
 -- one thing more beside those before, all by rising numbers. It is judged beside the numbers of those before
-abbrev pub gathered : {X : Type 0} → (X → ℕ) → (List ℕ → List ℕ → Data → Judged X)
-    → List X → List ℕ → Data → Judged (List X)
+abbrev pub gathered : {X : Type 0} → (X → ℕ) → (List ℕ → List ℕ → Data → JudgedScene X)
+    → List X → List ℕ → Data → JudgedScene (List X)
 gathered number judge before path d =
     and_then (judge (map number before) path d) (λ x.
     Accepted (insert_after (λ y. nat_lt (number y) (number x)) x before))
 
 -- the things that items give, by rising numbers
-abbrev pub gather : {X : Type 0} → (X → ℕ) → (List ℕ → List ℕ → Data → Judged X)
-    → List ℕ → Items → Judged (List X)
+abbrev pub gather : {X : Type 0} → (X → ℕ) → (List ℕ → List ℕ → Data → JudgedScene X)
+    → List ℕ → Items → JudgedScene (List X)
 gather number judge path ds = in_turn (gathered number judge) path [] 0 ds
 
 -- a fault in code is the refusal of a judgement. Want of memory is always allowed
-abbrev pub RefusedWith : {A : Type 0} → Judged A → JsonFault → Type 0
+abbrev pub RefusedWith : {A : Type 0} → JudgedScene A → JsonFault → Type 0
 RefusedWith judged fault.Json = judged ≡ Refused NotJson
 RefusedWith judged (fault.Shape p) = judged ≡ Refused (Misshaped p.text.items)
 RefusedWith judged (fault.Net p f) = judged ≡ Refused (BadNetwork p.text.items f)
@@ -75,9 +75,9 @@ RefusedWith judged (fault.Devices count) = judged ≡ Refused (TooManyDevices co
 RefusedWith judged fault.Memory = Unit {0}
 
 -- what code gives is what a judgement accepts, by what it stands for
-abbrev pub Accepts : {A B E : Type 0} → Result A E → (A → B) → Judged B → Type 0
+abbrev pub Accepts : {A B E : Type 0} → Result A E → (A → B) → JudgedScene B → Type 0
 Accepts result view judged = IfOk result (λ x. judged ≡ Accepted (view x))
 
 -- the fault that code gives is the refusal of a judgement
-abbrev pub Refuses : {A B : Type 0} → Result A JsonFault → Judged B → Type 0
+abbrev pub Refuses : {A B : Type 0} → Result A JsonFault → JudgedScene B → Type 0
 Refuses result judged = IfErr result (RefusedWith judged)

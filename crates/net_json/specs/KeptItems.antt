@@ -4,7 +4,7 @@ use Rattle.serde_json.specs.Data.{Data, Items, no_items, item}
 use Rattle.serde_json.specs.Find.{as_array}
 use Rattle.fc_values.specs.Values.{LocalValue}
 use Rattle.value_trees.specs.KeptItems.{KeptItem, plain_item}
-use Rattle.net_json.specs.Judging.{Judged, Accepted, Misshaped, and_then, given}
+use Rattle.net_json.specs.Judging.{JudgedScene, Accepted, Misshaped, and_then, given}
 use Rattle.net_json.specs.Reading.{whole, value_of, both}
 
 abbrev pub placed_item : ℕ × LocalValue → KeptItem
@@ -23,5 +23,5 @@ abbrev pub item_of_places : Data → Option KeptItem
 item_of_places d = option_map placed_item (option_and_then place_and_value (as_array d))
 
 -- the items of a list, behind those before; each is judged by its form alone
-abbrev pub kept_judged : (Data → Option KeptItem) → List KeptItem → List ℕ → Data → Judged (List KeptItem)
+abbrev pub kept_judged : (Data → Option KeptItem) → List KeptItem → List ℕ → Data → JudgedScene (List KeptItem)
 kept_judged read before path d = and_then (given (Misshaped path) (read d)) (λ x. Accepted (before ++ x ∷ []))

@@ -4,7 +4,7 @@ use Rattle.serde_json.specs.Data.{Data, Items, no_items, item}
 use Rattle.serde_json.specs.Find.{as_array}
 use Rattle.topology.specs.Networks.{Network}
 use Rattle.topology.specs.Changes.{are_linked, link_fault, linked}
-use Rattle.net_json.specs.Judging.{Judged, Accepted, Misshaped, and_then, given, require, no_fault, in_turn}
+use Rattle.net_json.specs.Judging.{JudgedScene, Accepted, Misshaped, and_then, given, require, no_fault, in_turn}
 use Rattle.net_json.specs.Reading.{small}
 
 -- two devices and a weight: an array of three whole numbers of at most 1,000,000
@@ -21,11 +21,11 @@ link_of d = option_and_then three_of (as_array d)
 
 -- A link beside those before, which are all links of the network so far: its form, then that its pair stood in none of
 -- them, in either order, then what networks ask of a link.
-abbrev pub link_judged : Network → List ℕ → Data → Judged Network
+abbrev pub link_judged : Network → List ℕ → Data → JudgedScene Network
 link_judged n path d =
     and_then (given (Misshaped path) (link_of d)) (λ l.
     require (not (are_linked n l.0 l.1)) (Misshaped path)
     (no_fault (link_fault n l.0 l.1 l.2) path (Accepted (linked n l.0 l.1 l.2))))
 
-abbrev pub links_judged : List ℕ → Network → Items → Judged Network
+abbrev pub links_judged : List ℕ → Network → Items → JudgedScene Network
 links_judged path n ds = in_turn link_judged path n 0 ds

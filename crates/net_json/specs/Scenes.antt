@@ -7,7 +7,7 @@ use Rattle.serde_json.specs.Read.{read}
 use Rattle.fc_values.specs.Trees.{Copy}
 use Rattle.fc_nodes.specs.Program.{Unfolding}
 use Rattle.topology.specs.Networks.{Network, network_of}
-use Rattle.net_json.specs.Judging.{Judged, Accepted, Refused, NotJson, Misshaped, and_then, given, require, at_member}
+use Rattle.net_json.specs.Judging.{JudgedScene, Accepted, Refused, NotJson, Misshaped, and_then, given, require, at_member}
 use Rattle.net_json.specs.Reading.{both, has_size}
 use Rattle.net_json.specs.Devices.{devices_judged}
 use Rattle.net_json.specs.Links.{links_judged}
@@ -54,7 +54,7 @@ pub record SceneForm : Type 0 where
   pub table : Data
   pub pending : Items
 
-abbrev pub scene_form : Data → Judged SceneForm
+abbrev pub scene_form : Data → JudgedScene SceneForm
 scene_form d =
     and_then (given (Misshaped []) (scene_members d)) (λ m.
     and_then (given (Misshaped (scene_path (codes "devices"))) (as_array m.0)) (λ devices.
@@ -70,13 +70,13 @@ scene_form d =
     }))))))
 
 -- the network of a scene: its devices, then its links
-abbrev pub network_judged : Unfolding → Items → Items → Judged Network
+abbrev pub network_judged : Unfolding → Items → Items → JudgedScene Network
 network_judged U devices links =
     and_then (devices_judged U.declared.inputs (scene_path (codes "devices")) devices) (λ ds.
     links_judged (scene_path (codes "links")) (network_of U.declared ds []) links)
 
 -- a scene: its form, then devices, links, rows and copies
-abbrev pub scene_judged : Unfolding → Data → Judged SceneValue
+abbrev pub scene_judged : Unfolding → Data → JudgedScene SceneValue
 scene_judged U d =
     and_then (scene_form d) (λ form.
     and_then (network_judged U form.devices form.links) (λ n.
@@ -88,10 +88,10 @@ scene_judged U d =
 abbrev pub json_of : List ℕ → Option Data
 json_of text = if is_utf8 text then read text else None
 
-abbrev pub of_reading : Unfolding → Option Data → Judged SceneValue
+abbrev pub of_reading : Unfolding → Option Data → JudgedScene SceneValue
 of_reading U None = Refused NotJson
 of_reading U (Some d) = scene_judged U d
 
 -- the scene of a text
-abbrev pub scene_of : Unfolding → List ℕ → Judged SceneValue
+abbrev pub scene_of : Unfolding → List ℕ → JudgedScene SceneValue
 scene_of U text = of_reading U (json_of text)

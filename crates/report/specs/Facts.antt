@@ -6,7 +6,7 @@ use Rattle.fc_values.specs.declared.builtins.Builtin.TheVariants as op
 use Rattle.fc_values.specs.Types.{ValueType}
 use Rattle.fc_syntax.specs.Text.{builtin_word, type_text}
 use Rattle.fc_nodes.specs.Terms.{Leaf, Literal, Variable, Sense, Uid, NbrLink, ByRep, ByShare, Term, Plain, Apply, Nbr, Evolve, If, Let, type_of, size, Sort, OfLeaf, OfApply, OfNbr, OfEvolve, OfIf, OfLet}
-use Rattle.fc_nodes.specs.Parts.{part_at}
+use Rattle.fc_nodes.specs.Subterms.{subterm_at}
 use Rattle.fc_nodes.specs.Program.{Unfolding}
 use Rattle.interval_facts.specs.Ranges.{RangeValue, IntRange, BoolRange, PairRange}
 use Rattle.report.specs.Texts.{value_text}
@@ -64,7 +64,7 @@ fact_line place u range level =
 
 abbrev pub fact_at : Unfolding → List RangeValue → List (Option ℕ) → ℕ → List ℕ
 fact_at U ranges levels place =
-    fact_line place (part_at place U.main) (get_or ranges place BoolRange) (get_or levels place None)
+    fact_line place (subterm_at place U.main) (get_or ranges place BoolRange) (get_or levels place None)
 
 -- the lines of the nodes before a place
 abbrev pub facts_before : Unfolding → List RangeValue → List (Option ℕ) → ℕ → List ℕ

@@ -2,7 +2,7 @@
 
 ghost use Rattle.std.specs.Prelude.{◌≡◌, ◌<◌, ◌++◌, IfOk, OnOk, OnErr, length};
 ghost use Rattle.fc_values.specs.Types.{type_of as type_of_value};
-ghost use Rattle.fc_nodes.specs.Parts.{part_at};
+ghost use Rattle.fc_nodes.specs.Subterms.{subterm_at};
 ghost use Rattle.fc_nodes.specs.Terms.{sort_of, type_of};
 ghost use Rattle.fc_nodes.specs.Program.{unfolding_of};
 ghost use Rattle.interval_facts.specs.Ranges.{AreRangesOf, range_value};
@@ -71,7 +71,7 @@ fn write_fact(
 ) -> Result<(), Memory>
     requires { place < length program.now.nodes }
     ensures { OnOk result (out.new.items ≡ out.old.items
-        ++ fact_line place (part_at place (unfolding_of program.now).main) (range_value range.now) level) }
+        ++ fact_line place (subterm_at place (unfolding_of program.now).main) (range_value range.now) level) }
 {
     write_node(alloc, out, place, node_at(program, place))?;
     out.push(b' ')?;
@@ -85,8 +85,8 @@ fn write_fact(
 // The node at a place: the root of the part there.
 fn node_at(program: &Unfolded, place: u32) -> &Node
     requires { place < length program.now.nodes }
-    ensures sort { sort_of result.now.op ≡ root_sort (part_at place (unfolding_of program.now).main) }
-    ensures ty { type_of_value result.now.ty ≡ type_of (part_at place (unfolding_of program.now).main) }
+    ensures sort { sort_of result.now.op ≡ root_sort (subterm_at place (unfolding_of program.now).main) }
+    ensures ty { type_of_value result.now.ty ≡ type_of (subterm_at place (unfolding_of program.now).main) }
 {
     program.node(place)
 }

@@ -6,7 +6,7 @@ use Rattle.fc_values.specs.Values.{LocalValue, IntValue, BoolValue, PairValue, F
 use Rattle.fc_values.specs.BuiltinTypes.{Takes, takes_rise, inner, inners, is_field, has_field, lifted, HasRule}
 use Rattle.fc_nodes.specs.Terms.{type_of, size}
 use Rattle.interval_facts.specs.Ranges.{InRange, full, term_range}
-use Rattle.interval_facts.specs.Solutions.{Map, FitsOn, local_map, Solves}
+use Rattle.interval_facts.specs.Solutions.{ValueMap, FitsOn, local_map, Solves}
 use Rattle.interval_facts.specs.Claims.{MapLiesIn}
 use Rattle.interval_facts.proofs.Claims.{fits_of, bound_holds, term_lies}
 use Rattle.rise.specs.Laws.{rising_body, in_body, SolvesWithoutRiseInScope}
@@ -57,11 +57,11 @@ without_rise_in_scope N D bs cs V f x p t s net metric live fit hold typed some 
     own : Solves N (suc p) t D (in_body x f V) (local_map f) → FitsOn N D (TypeLocal IntType) (local_map f)
     own h = let i = integers in subst (λ y. FitsOn N D y (local_map f)) i.first (fits_of N t (suc p) D (in_body x f V) (local_map f) h)
 
-    lies : FitsOn N D (TypeLocal IntType) (local_map f) → (G : Map) → Solves N (suc p + size t + 1) s D (in_body x f V) G → MapLiesIn D (term_range N.declared ((x, full N.declared.ceiling IntType) ∷ cs) (suc p + size t + 1) s) G
+    lies : FitsOn N D (TypeLocal IntType) (local_map f) → (G : ValueMap) → Solves N (suc p + size t + 1) s D (in_body x f V) G → MapLiesIn D (term_range N.declared ((x, full N.declared.ceiling IntType) ∷ cs) (suc p + size t + 1) s) G
     lies fits G h =
         term_lies N net metric s (suc p + size t + 1) ((x, TypeLocal IntType) ∷ bs) ((x, full N.declared.ceiling IntType) ∷ cs) D (in_body x f V) G live typed.1.1.1.0 (refl, tt, fit)
         (bound_holds D x (full N.declared.ceiling IntType) (local_map f) cs V (λ d i. fits_full N.declared.ceiling (f d) (fits d i)) hold) h
 
     all : FitsOn N D (TypeLocal IntType) (local_map f) → Solves N p (rising_body x t s) D (in_body x f V) (local_map f)
-        ↔ (Solves N (suc p) t D (in_body x f V) (local_map f) × ((G : Map) × Solves N (suc p + size t + 1) s D (in_body x f V) G))
+        ↔ (Solves N (suc p) t D (in_body x f V) (local_map f) × ((G : ValueMap) × Solves N (suc p + size t + 1) s D (in_body x f V) G))
     all fits = let i = integers in without_rise N D V f x p t s (term_range N.declared ((x, full N.declared.ceiling IntType) ∷ cs) (suc p + size t + 1) s) i.first i.second some (lies fits)

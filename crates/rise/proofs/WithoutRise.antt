@@ -11,7 +11,7 @@ use Rattle.fc_nodes.specs.Terms.{Variable, Term, Plain, Apply, Nbr, Evolve, If, 
 use Rattle.topology.specs.Networks.{Network}
 use Rattle.topology.specs.Nearby.{near_numbers}
 use Rattle.interval_facts.specs.Ranges.{RangeValue, IntRange, BoolRange, PairRange, LiesIn}
-use Rattle.interval_facts.specs.Solutions.{Devices, In, Map, Maps, bind, near_among, around, FitsOn, local_map, where_is, LeafIs, Solves, SolveAll}
+use Rattle.interval_facts.specs.Solutions.{Devices, In, ValueMap, ValueMaps, bind, near_among, around, FitsOn, local_map, where_is, LeafIs, Solves, SolveAll}
 use Rattle.interval_facts.specs.Claims.{MapLiesIn}
 use Rattle.interval_facts.proofs.Claims.{fits_of, fewer}
 use Rattle.growth_facts.specs.Leads.{least_integer}
@@ -21,11 +21,11 @@ module _ (N : Network) where
   abbrev M : ℕ
   M = N.declared.ceiling
 
-  fits_as : (D : Devices) (t : ValueType) (F G : Map) → ((d : ℕ) → In D d → F d ≡ G d) → FitsOn N D t F → FitsOn N D t G
+  fits_as : (D : Devices) (t : ValueType) (F G : ValueMap) → ((d : ℕ) → In D d → F d ≡ G d) → FitsOn N D t F → FitsOn N D t G
   fits_as D t F G e h = λ d i. subst (λ v. FitsOver M (around N D d) t v) (e d i) (h d i)
 
   -- what agrees with a solution over the devices is one
-  pub solves_agree : (t : Term) (p : ℕ) (D : Devices) (V : Maps) (F G : Map) → ((d : ℕ) → In D d → F d ≡ G d) → Solves N p t D V F → Solves N p t D V G
+  pub solves_agree : (t : Term) (p : ℕ) (D : Devices) (V : ValueMaps) (F G : ValueMap) → ((d : ℕ) → In D d → F d ≡ G d) → Solves N p t D V F → Solves N p t D V G
   solves_agree (Plain t l) p D V F G e s = (fits_as D t F G e s.0, (λ d i. subst (λ v. LeafIs N D l V d v) (e d i) (s.1 d i)))
   solves_agree (Apply t o xs) p D V F G e s = (fits_as D t F G e s.0, s.1, s.2, (λ d i. s.3 d i ∙ ap Some (e d i)))
   solves_agree (Nbr t a) p D V F G e s = (fits_as D t F G e s.0, s.1, s.2, (λ d i. sym (e d i) ∙ s.3 d i))
@@ -55,7 +55,7 @@ module _ (N : Network) where
   some_number BoolRange n l h = absurd h
   some_number (PairRange q s) n l h = absurd h
 
-  self_bound : (x d : ℕ) (f : ℕ → LocalValue) (V : Maps) → in_body x f V x d ≡ ValueLocal (f d)
+  self_bound : (x d : ℕ) (f : ℕ → LocalValue) (V : ValueMaps) → in_body x f V x d ≡ ValueLocal (f d)
   self_bound x d f V = let e : nat_eq x x ≡ true = grind (arith, nat_tests) in rw e refl
 
   -- the value of `rise` at one device, and its own last value
@@ -69,17 +69,17 @@ module _ (N : Network) where
   to_target : (d a c : ℕ) → builtin_value op.Rise M d (ValueLocal (IntValue a) ∷ ValueLocal (IntValue a) ∷ ValueLocal (IntValue c) ∷ []) ≡ Some (ValueLocal (IntValue a))
   to_target d a c = let e : min a (a + c) ≡ a = omega arith in rw e refl
 
-  module _ (D : Devices) (V : Maps) (f : ℕ → LocalValue) (x p : ℕ) (t s : Term) (r : RangeValue) (tt' : type_of t ≡ TypeLocal IntType) (ts : type_of s ≡ TypeLocal IntType) (some : 1 ≤ least_integer r)
-      (lies : (G : Map) → Solves N (suc p + size t + 1) s D (in_body x f V) G → MapLiesIn D r G) where
-    W : Maps
+  module _ (D : Devices) (V : ValueMaps) (f : ℕ → LocalValue) (x p : ℕ) (t s : Term) (r : RangeValue) (tt' : type_of t ≡ TypeLocal IntType) (ts : type_of s ≡ TypeLocal IntType) (some : 1 ≤ least_integer r)
+      (lies : (G : ValueMap) → Solves N (suc p + size t + 1) s D (in_body x f V) G → MapLiesIn D r G) where
+    W : ValueMaps
     W = in_body x f V
 
-    targets : Solves N p (rising_body x t s) D (in_body x f V) (local_map f) → Solves N (suc p) t D (in_body x f V) (local_map f) × ((G : Map) × Solves N (suc p + size t + 1) s D (in_body x f V) G)
+    targets : Solves N p (rising_body x t s) D (in_body x f V) (local_map f) → Solves N (suc p) t D (in_body x f V) (local_map f) × ((G : ValueMap) × Solves N (suc p + size t + 1) s D (in_body x f V) G)
     targets h = parts h.0 h.1 h.2 h.3
       where
-        parts : FitsOn N D (TypeLocal IntType) (local_map f) → (Gs : List Map) → SolveAll N (suc p) (More t (More (Plain (TypeLocal IntType) (Variable x)) (More s NoMore))) D (in_body x f V) Gs
-            → ((d : ℕ) → In D d → builtin_value op.Rise M d (map (λ (G : Map). G d) Gs) ≡ Some (ValueLocal (f d)))
-            → Solves N (suc p) t D (in_body x f V) (local_map f) × ((G : Map) × Solves N (suc p + size t + 1) s D (in_body x f V) G)
+        parts : FitsOn N D (TypeLocal IntType) (local_map f) → (Gs : List ValueMap) → SolveAll N (suc p) (More t (More (Plain (TypeLocal IntType) (Variable x)) (More s NoMore))) D (in_body x f V) Gs
+            → ((d : ℕ) → In D d → builtin_value op.Rise M d (map (λ (G : ValueMap). G d) Gs) ≡ Some (ValueLocal (f d)))
+            → Solves N (suc p) t D (in_body x f V) (local_map f) × ((G : ValueMap) × Solves N (suc p + size t + 1) s D (in_body x f V) G)
         parts fits (T ∷ X ∷ S ∷ []) all e = (solves_agree t (suc p) D (in_body x f V) T (local_map f) same all.0, (S, all.1.1.0))
           where
             same : (d : ℕ) → In D d → T d ≡ ValueLocal (f d)
@@ -101,7 +101,7 @@ module _ (N : Network) where
         parts fits (T ∷ X ∷ []) all e = absurd all.1.1
         parts fits (T ∷ X ∷ S ∷ Y ∷ Gs) all e = absurd all.1.1.1
 
-    bodies : Solves N (suc p) t D (in_body x f V) (local_map f) × ((G : Map) × Solves N (suc p + size t + 1) s D (in_body x f V) G) → Solves N p (rising_body x t s) D (in_body x f V) (local_map f)
+    bodies : Solves N (suc p) t D (in_body x f V) (local_map f) × ((G : ValueMap) × Solves N (suc p + size t + 1) s D (in_body x f V) G) → Solves N p (rising_body x t s) D (in_body x f V) (local_map f)
     bodies h = (fits, local_map f ∷ local_map f ∷ h.1.0 ∷ [], (h.0, ((fits, own), (h.1.1, tt))), value)
       where
         fits : FitsOn N D (TypeLocal IntType) (local_map f)

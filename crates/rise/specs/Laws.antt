@@ -7,7 +7,7 @@ use Rattle.fc_nodes.specs.Terms.{Variable, Term, Plain, Apply, NoMore, More, typ
 use Rattle.fc_nodes.specs.Typing.{Scope, HasType}
 use Rattle.topology.specs.Networks.{Network, IsNetwork}
 use Rattle.interval_facts.specs.Ranges.{RangeValue, full, Bounds, term_range}
-use Rattle.interval_facts.specs.Solutions.{Devices, Map, Maps, bind, local_map, Solves}
+use Rattle.interval_facts.specs.Solutions.{Devices, ValueMap, ValueMaps, bind, local_map, Solves}
 use Rattle.interval_facts.specs.Claims.{MapLiesIn}
 use Rattle.interval_facts.specs.Scopes.{BoundsFit, BoundsHold, Alive}
 use Rattle.growth_facts.specs.Leads.{least_integer}
@@ -22,31 +22,31 @@ rising_body x t s =
     Apply (TypeLocal IntType) op.Rise (More t (More (Plain (TypeLocal IntType) (Variable x)) (More s NoMore)))
 
 -- the maps in scope in the body, where f are the values of the `rep`
-abbrev pub in_body : ℕ → (ℕ → LocalValue) → Maps → Maps
+abbrev pub in_body : ℕ → (ℕ → LocalValue) → ValueMaps → ValueMaps
 in_body x f V = bind x (local_map f) V
 
 -- The body stands at place p, and t and s where they stand in it. Where each solution of s lies in a range whose least
 -- is at least 1, as the claim on ranges says of the range of s, the values f solve the body exactly where they solve t
 -- and s has a solution.
 abbrev pub SolvesWithoutRise : Type 0
-SolvesWithoutRise = (N : Network) (D : Devices) (V : Maps) (f : ℕ → LocalValue) (x p : ℕ) (t s : Term) (r : RangeValue)
+SolvesWithoutRise = (N : Network) (D : Devices) (V : ValueMaps) (f : ℕ → LocalValue) (x p : ℕ) (t s : Term) (r : RangeValue)
     → type_of t ≡ TypeLocal IntType → type_of s ≡ TypeLocal IntType → 1 ≤ least_integer r
-    → ((G : Map) → Solves N (suc p + size t + 1) s D (in_body x f V) G → MapLiesIn D r G)
+    → ((G : ValueMap) → Solves N (suc p + size t + 1) s D (in_body x f V) G → MapLiesIn D r G)
     → Solves N p (rising_body x t s) D (in_body x f V) (local_map f)
     ↔ (Solves N (suc p) t D (in_body x f V) (local_map f)
-    × ((G : Map) × Solves N (suc p + size t + 1) s D (in_body x f V) G))
+    × ((G : ValueMap) × Solves N (suc p + size t + 1) s D (in_body x f V) G))
 
 -- This holds where the devices are there, the binders in scope have their maps in the ranges of their variables, the
 -- body is typed, and the range of s has a least that is at least 1.
 abbrev pub SolvesWithoutRiseInScope : Type 0
 SolvesWithoutRiseInScope =
-    (N : Network) (D : Devices) (bs : Scope) (cs : Bounds) (V : Maps) (f : ℕ → LocalValue) (x p : ℕ) (t s : Term)
+    (N : Network) (D : Devices) (bs : Scope) (cs : Bounds) (V : ValueMaps) (f : ℕ → LocalValue) (x p : ℕ) (t s : Term)
     → IsNetwork N → N.declared.least ≤ N.declared.greatest → Alive N D → BoundsFit bs cs → BoundsHold D cs V
     → HasType N.declared ((x, TypeLocal IntType) ∷ bs) p (rising_body x t s)
     → 1 ≤ least_integer (term_range N.declared ((x, full N.declared.ceiling IntType) ∷ cs) (suc p + size t + 1) s)
     → Solves N p (rising_body x t s) D (in_body x f V) (local_map f)
     ↔ (Solves N (suc p) t D (in_body x f V) (local_map f)
-    × ((G : Map) × Solves N (suc p + size t + 1) s D (in_body x f V) G))
+    × ((G : ValueMap) × Solves N (suc p + size t + 1) s D (in_body x f V) G))
 
 -- ---- stages
 

@@ -13,26 +13,26 @@ use Rattle.fc_nodes.specs.Typing.{Scope, HasType, HaveTypes, LeafHasType, evolvi
 use Rattle.fc_nodes.specs.Program.{Program, IsProgram, IsLawful, InputsAreLawful, InputIsLawful, unfolding_of}
 use Rattle.interval_facts.specs.Ranges.{RangeValue, IntRange, BoolRange, PairRange, full, hull, least_range, greatest_range, least_hood, greatest_hood, both_ends, difference, first_range, second_range, of_one, of_two, of_three, sum_cut, product_cut, builtin_range, Bounds, bound_at, input_range, sense_range, leaf_range, term_range, term_ranges, node_ranges, all_node_ranges, ranges_of, range_of}
 
-abbrev pub Few : ℕ → RangeValue → Type 0
-Few m (IntRange a b) = (a ≤ m) × (b ≤ m)
-Few m BoolRange = Unit {0}
-Few m (PairRange r s) = Few m r × Few m s
+abbrev pub EndsAtMost : ℕ → RangeValue → Type 0
+EndsAtMost m (IntRange a b) = (a ≤ m) × (b ≤ m)
+EndsAtMost m BoolRange = Unit {0}
+EndsAtMost m (PairRange r s) = EndsAtMost m r × EndsAtMost m s
 
-abbrev pub AllFew : ℕ → List RangeValue → Type 0
-AllFew m [] = Unit {0}
-AllFew m (r ∷ rs) = Few m r × AllFew m rs
+abbrev pub AllEndAtMost : ℕ → List RangeValue → Type 0
+AllEndAtMost m [] = Unit {0}
+AllEndAtMost m (r ∷ rs) = EndsAtMost m r × AllEndAtMost m rs
 
 abbrev BoundsFew : ℕ → Bounds → Type 0
 BoundsFew m [] = Unit {0}
-BoundsFew m (b ∷ bs) = Few m b.1 × BoundsFew m bs
+BoundsFew m (b ∷ bs) = EndsAtMost m b.1 × BoundsFew m bs
 
-pub full_few : (m : ℕ) (t : LocalType) → Few m (full m t)
+pub full_few : (m : ℕ) (t : LocalType) → EndsAtMost m (full m t)
 full_few m IntType = (omega arith, omega arith)
 full_few m BoolType = tt
 full_few m (PairType s t) = (full_few m s, full_few m t)
 
 module _ (m : ℕ) where
-  hull_few : (r s : RangeValue) → Few m r → Few m s → Few m (hull r s)
+  hull_few : (r s : RangeValue) → EndsAtMost m r → EndsAtMost m s → EndsAtMost m (hull r s)
   hull_few (IntRange a b) (IntRange c d) f g = let f0 = f.0 in let f1 = f.1 in let g0 = g.0 in let g1 = g.1 in (omega (arith, f0, g0), omega (arith, f1, g1))
   hull_few (IntRange a b) BoolRange f g = f
   hull_few (IntRange a b) (PairRange u v) f g = f
@@ -41,7 +41,7 @@ module _ (m : ℕ) where
   hull_few (PairRange r s) BoolRange f g = f
   hull_few (PairRange r s) (PairRange u v) f g = (hull_few r u f.0 g.0, hull_few s v f.1 g.1)
 
-  least_few : (r s : RangeValue) → Few m r → Few m s → Few m (least_range r s)
+  least_few : (r s : RangeValue) → EndsAtMost m r → EndsAtMost m s → EndsAtMost m (least_range r s)
   least_few (IntRange a b) (IntRange c d) f g = let f0 = f.0 in let f1 = f.1 in let g0 = g.0 in let g1 = g.1 in (omega (arith, f0, g0), omega (arith, f1, g1))
   least_few (IntRange a b) BoolRange f g = f
   least_few (IntRange a b) (PairRange u v) f g = f
@@ -50,7 +50,7 @@ module _ (m : ℕ) where
   least_few (PairRange r s) BoolRange f g = f
   least_few (PairRange r s) (PairRange u v) f g = (least_few r u f.0 g.0, hull_few s v f.1 g.1)
 
-  greatest_few : (r s : RangeValue) → Few m r → Few m s → Few m (greatest_range r s)
+  greatest_few : (r s : RangeValue) → EndsAtMost m r → EndsAtMost m s → EndsAtMost m (greatest_range r s)
   greatest_few (IntRange a b) (IntRange c d) f g = let f0 = f.0 in let f1 = f.1 in let g0 = g.0 in let g1 = g.1 in (omega (arith, f0, g0), omega (arith, f1, g1))
   greatest_few (IntRange a b) BoolRange f g = f
   greatest_few (IntRange a b) (PairRange u v) f g = f
@@ -59,7 +59,7 @@ module _ (m : ℕ) where
   greatest_few (PairRange r s) BoolRange f g = f
   greatest_few (PairRange r s) (PairRange u v) f g = (greatest_few r u f.0 g.0, hull_few s v f.1 g.1)
 
-  least_hood_few : (r s : RangeValue) → Few m r → Few m s → Few m (least_hood r s)
+  least_hood_few : (r s : RangeValue) → EndsAtMost m r → EndsAtMost m s → EndsAtMost m (least_hood r s)
   least_hood_few (IntRange a b) (IntRange c d) f g = let f0 = f.0 in let g0 = g.0 in (omega (arith, f0, g0), g.1)
   least_hood_few (IntRange a b) BoolRange f g = g
   least_hood_few (IntRange a b) (PairRange u v) f g = g
@@ -68,7 +68,7 @@ module _ (m : ℕ) where
   least_hood_few (PairRange r s) BoolRange f g = g
   least_hood_few (PairRange r s) (PairRange u v) f g = (least_hood_few r u f.0 g.0, hull_few s v f.1 g.1)
 
-  greatest_hood_few : (r s : RangeValue) → Few m r → Few m s → Few m (greatest_hood r s)
+  greatest_hood_few : (r s : RangeValue) → EndsAtMost m r → EndsAtMost m s → EndsAtMost m (greatest_hood r s)
   greatest_hood_few (IntRange a b) (IntRange c d) f g = let f1 = f.1 in let g1 = g.1 in (g.0, omega (arith, f1, g1))
   greatest_hood_few (IntRange a b) BoolRange f g = g
   greatest_hood_few (IntRange a b) (PairRange u v) f g = g
@@ -78,42 +78,42 @@ module _ (m : ℕ) where
   greatest_hood_few (PairRange r s) (PairRange u v) f g = (greatest_hood_few r u f.0 g.0, hull_few s v f.1 g.1)
 
   -- both ends by a function whose values are at most the ceiling, where its arguments are
-  ends_few : (h : ℕ → ℕ → ℕ) → ((a b : ℕ) → a ≤ m → b ≤ m → h a b ≤ m) → (other r s : RangeValue) → Few m other → Few m r → Few m s → Few m (both_ends h other r s)
+  ends_few : (h : ℕ → ℕ → ℕ) → ((a b : ℕ) → a ≤ m → b ≤ m → h a b ≤ m) → (other r s : RangeValue) → EndsAtMost m other → EndsAtMost m r → EndsAtMost m s → EndsAtMost m (both_ends h other r s)
   ends_few h k other (IntRange a b) (IntRange c d) o f g = (k a c f.0 g.0, k b d f.1 g.1)
   ends_few h k other (IntRange a b) BoolRange o f g = o
   ends_few h k other (IntRange a b) (PairRange u v) o f g = o
   ends_few h k other BoolRange s o f g = o
   ends_few h k other (PairRange r s) t o f g = o
 
-  difference_few : (other r s : RangeValue) → Few m other → Few m r → Few m s → Few m (difference other r s)
+  difference_few : (other r s : RangeValue) → EndsAtMost m other → EndsAtMost m r → EndsAtMost m s → EndsAtMost m (difference other r s)
   difference_few other (IntRange a b) (IntRange c d) o f g = let f0 = f.0 in let f1 = f.1 in (omega (arith, f0), omega (arith, f1))
   difference_few other (IntRange a b) BoolRange o f g = o
   difference_few other (IntRange a b) (PairRange u v) o f g = o
   difference_few other BoolRange s o f g = o
   difference_few other (PairRange r s) t o f g = o
 
-  first_few : (other r : RangeValue) → Few m other → Few m r → Few m (first_range other r)
+  first_few : (other r : RangeValue) → EndsAtMost m other → EndsAtMost m r → EndsAtMost m (first_range other r)
   first_few other (IntRange a b) o f = o
   first_few other BoolRange o f = o
   first_few other (PairRange r s) o f = f.0
 
-  second_few : (other r : RangeValue) → Few m other → Few m r → Few m (second_range other r)
+  second_few : (other r : RangeValue) → EndsAtMost m other → EndsAtMost m r → EndsAtMost m (second_range other r)
   second_few other (IntRange a b) o f = o
   second_few other BoolRange o f = o
   second_few other (PairRange r s) o f = f.1
 
-  one_few : (h : RangeValue → RangeValue) → ((r : RangeValue) → Few m r → Few m (h r)) → (other : RangeValue) (rs : List RangeValue) → Few m other → AllFew m rs → Few m (of_one h other rs)
+  one_few : (h : RangeValue → RangeValue) → ((r : RangeValue) → EndsAtMost m r → EndsAtMost m (h r)) → (other : RangeValue) (rs : List RangeValue) → EndsAtMost m other → AllEndAtMost m rs → EndsAtMost m (of_one h other rs)
   one_few h k other [] o f = o
   one_few h k other (r ∷ []) o f = k r f.0
   one_few h k other (r ∷ s ∷ rs) o f = o
 
-  two_few : (h : RangeValue → RangeValue → RangeValue) → ((r s : RangeValue) → Few m r → Few m s → Few m (h r s)) → (other : RangeValue) (rs : List RangeValue) → Few m other → AllFew m rs → Few m (of_two h other rs)
+  two_few : (h : RangeValue → RangeValue → RangeValue) → ((r s : RangeValue) → EndsAtMost m r → EndsAtMost m s → EndsAtMost m (h r s)) → (other : RangeValue) (rs : List RangeValue) → EndsAtMost m other → AllEndAtMost m rs → EndsAtMost m (of_two h other rs)
   two_few h k other [] o f = o
   two_few h k other (r ∷ []) o f = o
   two_few h k other (r ∷ s ∷ []) o f = k r s f.0 f.1.0
   two_few h k other (r ∷ s ∷ u ∷ rs) o f = o
 
-  three_few : (h : RangeValue → RangeValue → RangeValue → RangeValue) → ((r s u : RangeValue) → Few m r → Few m s → Few m u → Few m (h r s u)) → (other : RangeValue) (rs : List RangeValue) → Few m other → AllFew m rs → Few m (of_three h other rs)
+  three_few : (h : RangeValue → RangeValue → RangeValue → RangeValue) → ((r s u : RangeValue) → EndsAtMost m r → EndsAtMost m s → EndsAtMost m u → EndsAtMost m (h r s u)) → (other : RangeValue) (rs : List RangeValue) → EndsAtMost m other → AllEndAtMost m rs → EndsAtMost m (of_three h other rs)
   three_few h k other [] o f = o
   three_few h k other (r ∷ []) o f = o
   three_few h k other (r ∷ s ∷ []) o f = o
@@ -129,7 +129,7 @@ module _ (m : ℕ) where
   min_few : (a b : ℕ) → a ≤ m → b ≤ m → min a b ≤ m
   min_few a b f g = omega (arith, f)
 
-  builtin_few : (other : RangeValue) (o : Builtin) (rs : List RangeValue) → Few m other → AllFew m rs → Few m (builtin_range m other o rs)
+  builtin_few : (other : RangeValue) (o : Builtin) (rs : List RangeValue) → EndsAtMost m other → AllEndAtMost m rs → EndsAtMost m (builtin_range m other o rs)
   builtin_few other op.Add rs o f = two_few (both_ends (sum_cut m) other) (λ r s g h. ends_few (sum_cut m) sum_few other r s o g h) other rs o f
   builtin_few other op.Sub rs o f = two_few (difference other) (λ r s g h. difference_few other r s o g h) other rs o f
   builtin_few other op.Mul rs o f = two_few (both_ends (product_cut m) other) (λ r s g h. ends_few (product_cut m) product_few other r s o g h) other rs o f
@@ -152,25 +152,25 @@ module _ (m : ℕ) where
   builtin_few other op.AnyHood rs o f = tt
   builtin_few other op.AllHood rs o f = tt
 
-  bound_few : (other : RangeValue) (n : ℕ) (bs : Bounds) → Few m other → BoundsFew m bs → Few m (bound_at other n bs)
+  bound_few : (other : RangeValue) (n : ℕ) (bs : Bounds) → EndsAtMost m other → BoundsFew m bs → EndsAtMost m (bound_at other n bs)
   bound_few other n [] o f = o
   bound_few other n (b ∷ bs) o f = by_test (nat_eq b.0 n) (bound_few other n bs o f.1)
     where
-      by_test : (c : Bool) → Few m (bound_at other n bs) → Few m (if c then b.1 else bound_at other n bs)
+      by_test : (c : Bool) → EndsAtMost m (bound_at other n bs) → EndsAtMost m (if c then b.1 else bound_at other n bs)
       by_test true k = f.0
       by_test false k = k
 
-  input_few : (other : RangeValue) (is : List Input) (i : ℕ) → Few m other → InputsAreLawful m is → Few m (sense_range other (slice_get is i))
+  input_few : (other : RangeValue) (is : List Input) (i : ℕ) → EndsAtMost m other → InputsAreLawful m is → EndsAtMost m (sense_range other (slice_get is i))
   input_few other [] i o f = o
   input_few other (x ∷ is) zero o f = by_input x.type f.0
     where
-      by_input : (t : InputTy) → InputIsLawful m t → Few m (input_range t)
+      by_input : (t : InputTy) → InputIsLawful m t → EndsAtMost m (input_range t)
       by_input input.Truth l = tt
       by_input (input.Whole a b) l = let l0 = l.0 in let l1 = l.1 in (omega (arith, l0, l1), l.1)
   input_few other (x ∷ is) (suc i) o f = input_few other is i o f.2
 
 module _ (D : Declarations) (lawful : IsLawful D) where
-  leaf_few : (scope : Scope) (bs : Bounds) (t : ValueType) (l : Leaf) → LeafHasType D scope t l → BoundsFew D.ceiling bs → Few D.ceiling (leaf_range D bs t l)
+  leaf_few : (scope : Scope) (bs : Bounds) (t : ValueType) (l : Leaf) → LeafHasType D scope t l → BoundsFew D.ceiling bs → EndsAtMost D.ceiling (leaf_range D bs t l)
   leaf_few scope bs t (Literal (IntValue n)) h b = (h.1, h.1)
   leaf_few scope bs t (Literal (BoolValue n)) h b = tt
   leaf_few scope bs t (Literal (PairValue u v)) h b = absurd h
@@ -180,7 +180,7 @@ module _ (D : Declarations) (lawful : IsLawful D) where
   leaf_few scope bs t NbrLink h b = let l0 = lawful.metric.0 in let l1 = lawful.metric.1 in (omega (arith, l0, l1), l1)
 
   mutual
-    term_few : (scope : Scope) (bs : Bounds) (p : ℕ) (t : Term) → HasType D scope p t → BoundsFew D.ceiling bs → Few D.ceiling (term_range D bs p t)
+    term_few : (scope : Scope) (bs : Bounds) (p : ℕ) (t : Term) → HasType D scope p t → BoundsFew D.ceiling bs → EndsAtMost D.ceiling (term_range D bs p t)
     term_few scope bs p (Plain t l) h b = leaf_few scope bs t l h b
     term_few scope bs p (Apply t o xs) h b = builtin_few D.ceiling (full D.ceiling (inner t)) o (term_ranges D bs (suc p) xs) (full_few D.ceiling (inner t)) (terms_few scope bs (suc p) xs h.1 b)
     term_few scope bs p (Nbr t a) h b = term_few scope bs (suc p) a h.3 b
@@ -189,16 +189,16 @@ module _ (D : Declarations) (lawful : IsLawful D) where
         hull_few D.ceiling (term_range D bs (suc p + size c) u) (term_range D bs (suc p + size c + size u) v) (term_few scope bs (suc p + size c) u h.6 b) (term_few scope bs (suc p + size c + size u) v h.7 b)
     term_few scope bs p (Let t a u) h b = term_few ((p, type_of a) ∷ scope) ((p, term_range D bs (suc p) a) ∷ bs) (suc p + size a) u h.2 (term_few scope bs (suc p) a h.1 b, b)
 
-    terms_few : (scope : Scope) (bs : Bounds) (p : ℕ) (xs : Terms) → HaveTypes D scope p xs → BoundsFew D.ceiling bs → AllFew D.ceiling (term_ranges D bs p xs)
+    terms_few : (scope : Scope) (bs : Bounds) (p : ℕ) (xs : Terms) → HaveTypes D scope p xs → BoundsFew D.ceiling bs → AllEndAtMost D.ceiling (term_ranges D bs p xs)
     terms_few scope bs p NoMore h b = tt
     terms_few scope bs p (More x xs) h b = (term_few scope bs p x h.0 b, terms_few scope bs (p + size x) xs h.1 b)
 
-  both_few : (rs ss : List RangeValue) → AllFew D.ceiling rs → AllFew D.ceiling ss → AllFew D.ceiling (rs ++ ss)
+  both_few : (rs ss : List RangeValue) → AllEndAtMost D.ceiling rs → AllEndAtMost D.ceiling ss → AllEndAtMost D.ceiling (rs ++ ss)
   both_few [] ss f g = g
   both_few (r ∷ rs) ss f g = (f.0, both_few rs ss f.1 g)
 
   mutual
-    nodes_few : (scope : Scope) (bs : Bounds) (p : ℕ) (t : Term) → HasType D scope p t → BoundsFew D.ceiling bs → AllFew D.ceiling (node_ranges D bs p t)
+    nodes_few : (scope : Scope) (bs : Bounds) (p : ℕ) (t : Term) → HasType D scope p t → BoundsFew D.ceiling bs → AllEndAtMost D.ceiling (node_ranges D bs p t)
     nodes_few scope bs p (Plain t l) h b = (term_few scope bs p (Plain t l) h b, tt)
     nodes_few scope bs p (Apply t o xs) h b = (term_few scope bs p (Apply t o xs) h b, all_few scope bs (suc p) xs h.1 b)
     nodes_few scope bs p (Nbr t a) h b = (term_few scope bs p (Nbr t a) h b, nodes_few scope bs (suc p) a h.3 b)
@@ -218,14 +218,14 @@ module _ (D : Declarations) (lawful : IsLawful D) where
           (nodes_few ((p, type_of a) ∷ scope) ((p, term_range D bs (suc p) a) ∷ bs) (suc p + size a) u h.2 (term_few scope bs (suc p) a h.1 b, b)),
     )
 
-    all_few : (scope : Scope) (bs : Bounds) (p : ℕ) (xs : Terms) → HaveTypes D scope p xs → BoundsFew D.ceiling bs → AllFew D.ceiling (all_node_ranges D bs p xs)
+    all_few : (scope : Scope) (bs : Bounds) (p : ℕ) (xs : Terms) → HaveTypes D scope p xs → BoundsFew D.ceiling bs → AllEndAtMost D.ceiling (all_node_ranges D bs p xs)
     all_few scope bs p NoMore h b = tt
     all_few scope bs p (More x xs) h b = both_few (node_ranges D bs p x) _ (nodes_few scope bs p x h.0 b) (all_few scope bs (p + size x) xs h.1 b)
 
-nth_few : (m : ℕ) (rs : List RangeValue) (i : ℕ) → AllFew m rs → Few m (get_or rs i BoolRange)
+nth_few : (m : ℕ) (rs : List RangeValue) (i : ℕ) → AllEndAtMost m rs → EndsAtMost m (get_or rs i BoolRange)
 nth_few m [] i f = tt
 nth_few m (r ∷ rs) zero f = f.0
 nth_few m (r ∷ rs) (suc i) f = nth_few m rs i f.1
 
-pub range_few : (P : Program) → IsProgram P → (q : ℕ) → Few P.declared.ceiling (range_of (unfolding_of P) q)
+pub range_few : (P : Program) → IsProgram P → (q : ℕ) → EndsAtMost P.declared.ceiling (range_of (unfolding_of P) q)
 range_few P h q = nth_few P.declared.ceiling (ranges_of (unfolding_of P)) q (nodes_few P.declared h.lawful [] [] 0 (unfolding_of P).main h.typed tt)

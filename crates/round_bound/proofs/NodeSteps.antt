@@ -19,7 +19,7 @@ use Rattle.fc_nodes.specs.Variables.{occurs, occurs_in, is_own}
 use Rattle.fragment_check.specs.Levels.{Lvs, bind_level, level_unless, level_of, level_all, node_levels, all_node_levels}
 use Rattle.fragment_check.proofs.Steps.{nbr_sort, kids_row}
 use Rattle.round_bound.specs.declared.scopes.Context.{Context}
-use Rattle.round_bound.specs.declared.scopes.Sight.{Sight}
+use Rattle.round_bound.specs.declared.scopes.Position.{Position}
 use Rattle.round_bound.specs.declared.scopes.Found.{Found}
 use Rattle.round_bound.specs.Walks.{FoundAll, FoundBelow, most_added, level_before, levels_in, Ready, stages_in, level_at, greatest_at, node_levels_at, levels_at, behind, leaf_level_by, is_apply_sort}
 use Rattle.round_bound.proofs.Small.{stages_few}
@@ -56,7 +56,7 @@ again [] i l = absurd (omega (arith, l))
 again (k ∷ ks) zero l = refl
 again (k ∷ ks) (suc i) l = again ks i (omega (arith, l))
 
-pub later_ready : (c : Context) (p q : ℕ) (s : Sight) → p ≤ q → Ready c p s → Ready c q s
+pub later_ready : (c : Context) (p q : ℕ) (s : Position) → p ≤ q → Ready c p s → Ready c q s
 later_ready c p q s l r = record {
   ranges = r.ranges;
   devices = r.devices;
@@ -65,7 +65,7 @@ later_ready c p q s l r = record {
 }
 
 -- with another branch level and another variable
-pub other_ready : (c : Context) (p q b o : ℕ) (s : Sight) → p ≤ q → b ≤ level_before q → Ready c p s → Ready c q (record { branch = b; own = o; scope = s.scope })
+pub other_ready : (c : Context) (p q b o : ℕ) (s : Position) → p ≤ q → b ≤ level_before q → Ready c p s → Ready c q (record { branch = b; own = o; scope = s.scope })
 other_ready c p q b o s l f r = record {
   ranges = r.ranges;
   devices = r.devices;
@@ -153,7 +153,7 @@ if_suc true m n = refl
 if_suc false m n = refl
 
 -- what is found below a builtin
-pub all_below : {E : Type 0} (c : Context) (p : ℕ) (s : Sight) (ks ls : List ℕ) (r : Result Found E) (old new : List (Option ℕ)) → ks ≡ ls → greatest_at c ls s ≡ level_at c p s
+pub all_below : {E : Type 0} (c : Context) (p : ℕ) (s : Position) (ks ls : List ℕ) (r : Result Found E) (old new : List (Option ℕ)) → ks ≡ ls → greatest_at c ls s ≡ level_at c p s
     → occurs_in s.own (terms_by (term_at c.program.now.nodes) ls) ≡ occurs s.own (term_at c.program.now.nodes p) → levels_at c ls s ≡ behind (node_levels_at c p s)
     → IfOk r (λ f. FoundAll c ks s f old new) → IfOk r (λ f. FoundBelow c p s f old new)
 all_below c p s ks ls (Err x) old new k e f g h = tt
@@ -161,7 +161,7 @@ all_below c p s ks ls (Ok x) old new k e f g h = let i = subst (λ l. FoundAll c
 
 -- ---- at a place
 
-module _ (c : Context) (prog : IsProgram c.program.now) (p : ℕ) (sight : Sight) (ready : Ready c p sight) where
+module _ (c : Context) (prog : IsProgram c.program.now) (p : ℕ) (position : Position) (ready : Ready c p position) where
   few : (q : ℕ) → stages_in c q ≤ most_added
   few = stages_few c.program.now prog c.devices
 
@@ -171,31 +171,31 @@ module _ (c : Context) (prog : IsProgram c.program.now) (p : ℕ) (sight : Sight
       let r = level_few (stages_in c) few (level_before q) q b x lv (term_at c.program.now.nodes q) f g in
       omega (arith, r)
 
-  pub small : StandsAt c.program.now.nodes p → level_at c p sight ≤ 6144002049
+  pub small : StandsAt c.program.now.nodes p → level_at c p position ≤ 6144002049
   small st =
-      let r = ends_small p sight.branch sight.own (levels_in sight.scope.now) ready.branch ready.scope in
+      let r = ends_small p position.branch position.own (levels_in position.scope.now) ready.branch ready.scope in
       let e = laid_end c.program.now.nodes p (term_at c.program.now.nodes p) st.laid in
       let l = prog.short in
       omega (arith, r, e, l)
 
-  pub branch_small : StandsAt c.program.now.nodes p → sight.branch ≤ 6144002049
+  pub branch_small : StandsAt c.program.now.nodes p → position.branch ≤ 6144002049
   branch_small st = let r = ready.branch in let w = st.within in let l = prog.short in omega (arith, r, w, l)
 
-  in_row : (xs : Terms) (q : ℕ) → AllLaid c.program.now.nodes q xs → greatest_at c (places q xs) sight ≡ level_all (stages_in c) q sight.branch sight.own (levels_in sight.scope.now) xs
+  in_row : (xs : Terms) (q : ℕ) → AllLaid c.program.now.nodes q xs → greatest_at c (places q xs) position ≡ level_all (stages_in c) q position.branch position.own (levels_in position.scope.now) xs
   in_row NoMore q l = refl
   in_row (More x xs) q l =
       let e = laid_term c.program.now.nodes (formed_above c.program.now.nodes prog.formed) x q l.0 in
       let f = in_row xs (q + size x) l.1 in
-      ap (λ u. max (level_of (stages_in c) q sight.branch sight.own (levels_in sight.scope.now) u) (greatest_at c (places (q + size x) xs) sight)) e
-      ∙ ap (max (level_of (stages_in c) q sight.branch sight.own (levels_in sight.scope.now) x)) f
+      ap (λ u. max (level_of (stages_in c) q position.branch position.own (levels_in position.scope.now) u) (greatest_at c (places (q + size x) xs) position)) e
+      ∙ ap (max (level_of (stages_in c) q position.branch position.own (levels_in position.scope.now) x)) f
 
-  row_levels : (xs : Terms) (q : ℕ) → AllLaid c.program.now.nodes q xs → levels_at c (places q xs) sight ≡ all_node_levels (stages_in c) q sight.branch sight.own (levels_in sight.scope.now) xs
+  row_levels : (xs : Terms) (q : ℕ) → AllLaid c.program.now.nodes q xs → levels_at c (places q xs) position ≡ all_node_levels (stages_in c) q position.branch position.own (levels_in position.scope.now) xs
   row_levels NoMore q l = refl
   row_levels (More x xs) q l =
       let e = laid_term c.program.now.nodes (formed_above c.program.now.nodes prog.formed) x q l.0 in
       let f = row_levels xs (q + size x) l.1 in
-      ap (λ u. node_levels (stages_in c) q sight.branch sight.own (levels_in sight.scope.now) u ++ levels_at c (places (q + size x) xs) sight) e
-      ∙ ap (λ l. node_levels (stages_in c) q sight.branch sight.own (levels_in sight.scope.now) x ++ l) f
+      ap (λ u. node_levels (stages_in c) q position.branch position.own (levels_in position.scope.now) u ++ levels_at c (places (q + size x) xs) position) e
+      ∙ ap (λ l. node_levels (stages_in c) q position.branch position.own (levels_in position.scope.now) x ++ l) f
 
   module _ (st : StandsAt c.program.now.nodes p) (s : Sort) (t : ValueType) (ks : List ℕ) (h : HasNode c.program.now.nodes p s t ks) where
     above : AllAbove c.program.now.nodes
@@ -204,65 +204,65 @@ module _ (c : Context) (prog : IsProgram c.program.now) (p : ℕ) (sight : Sight
     pub row : InRow c.program.now.nodes p ks
     row = kids_row c.program.now.nodes prog.formed p st s t ks h
 
-    pub apply_level : is_apply_sort s ≡ true → greatest_at c ks sight ≡ level_at c p sight
+    pub apply_level : is_apply_sort s ≡ true → greatest_at c ks position ≡ level_at c p position
     apply_level z = by_sort s z h
       where
-        by_sort : (s : Sort) → is_apply_sort s ≡ true → HasNode c.program.now.nodes p s t ks → greatest_at c ks sight ≡ level_at c p sight
+        by_sort : (s : Sort) → is_apply_sort s ≡ true → HasNode c.program.now.nodes p s t ks → greatest_at c ks position ≡ level_at c p position
         by_sort (OfLeaf l) z h = absurd cc
         by_sort (OfApply o) z h =
             let k = apply_laid c.program.now.nodes above p o t ks h st.laid in
-            ap (λ l. greatest_at c l sight) k.stand_at ∙ in_row (terms_by (term_at c.program.now.nodes) ks) (suc p) k.kids
-            ∙ sym (ap (level_of (stages_in c) p sight.branch sight.own (levels_in sight.scope.now)) k.term)
+            ap (λ l. greatest_at c l position) k.stand_at ∙ in_row (terms_by (term_at c.program.now.nodes) ks) (suc p) k.kids
+            ∙ sym (ap (level_of (stages_in c) p position.branch position.own (levels_in position.scope.now)) k.term)
         by_sort OfNbr z h = absurd cc
         by_sort (OfEvolve v) z h = absurd cc
         by_sort OfIf z h = absurd cc
         by_sort OfLet z h = absurd cc
 
-    pub apply_levels : is_apply_sort s ≡ true → levels_at c ks sight ≡ behind (node_levels_at c p sight)
+    pub apply_levels : is_apply_sort s ≡ true → levels_at c ks position ≡ behind (node_levels_at c p position)
     apply_levels z = by_sort s z h
       where
-        by_sort : (s : Sort) → is_apply_sort s ≡ true → HasNode c.program.now.nodes p s t ks → levels_at c ks sight ≡ behind (node_levels_at c p sight)
+        by_sort : (s : Sort) → is_apply_sort s ≡ true → HasNode c.program.now.nodes p s t ks → levels_at c ks position ≡ behind (node_levels_at c p position)
         by_sort (OfLeaf l) z h = absurd cc
         by_sort (OfApply o) z h =
             let k = apply_laid c.program.now.nodes above p o t ks h st.laid in
-            ap (λ l. levels_at c l sight) k.stand_at ∙ row_levels (terms_by (term_at c.program.now.nodes) ks) (suc p) k.kids
-            ∙ sym (ap (λ u. behind (node_levels (stages_in c) p sight.branch sight.own (levels_in sight.scope.now) u)) k.term)
+            ap (λ l. levels_at c l position) k.stand_at ∙ row_levels (terms_by (term_at c.program.now.nodes) ks) (suc p) k.kids
+            ∙ sym (ap (λ u. behind (node_levels (stages_in c) p position.branch position.own (levels_in position.scope.now) u)) k.term)
         by_sort OfNbr z h = absurd cc
         by_sort (OfEvolve v) z h = absurd cc
         by_sort OfIf z h = absurd cc
         by_sort OfLet z h = absurd cc
 
-    pub apply_uses : is_apply_sort s ≡ true → occurs_in sight.own (terms_by (term_at c.program.now.nodes) ks) ≡ occurs sight.own (term_at c.program.now.nodes p)
+    pub apply_uses : is_apply_sort s ≡ true → occurs_in position.own (terms_by (term_at c.program.now.nodes) ks) ≡ occurs position.own (term_at c.program.now.nodes p)
     apply_uses z = by_sort s z h
       where
-        by_sort : (s : Sort) → is_apply_sort s ≡ true → HasNode c.program.now.nodes p s t ks → occurs_in sight.own (terms_by (term_at c.program.now.nodes) ks) ≡ occurs sight.own (term_at c.program.now.nodes p)
+        by_sort : (s : Sort) → is_apply_sort s ≡ true → HasNode c.program.now.nodes p s t ks → occurs_in position.own (terms_by (term_at c.program.now.nodes) ks) ≡ occurs position.own (term_at c.program.now.nodes p)
         by_sort (OfLeaf l) z h = absurd cc
-        by_sort (OfApply o) z h = sym (ap (occurs sight.own) (term_is c.program.now.nodes above p (OfApply o) t ks h))
+        by_sort (OfApply o) z h = sym (ap (occurs position.own) (term_is c.program.now.nodes above p (OfApply o) t ks h))
         by_sort OfNbr z h = absurd cc
         by_sort (OfEvolve v) z h = absurd cc
         by_sort OfIf z h = absurd cc
         by_sort OfLet z h = absurd cc
 
     pub leaf_levels : is_nbr_sort s ≡ false → is_branching s ≡ false → is_let_sort s ≡ false → is_evolve_sort s ≡ false → is_apply_sort s ≡ false
-        → ([] ≡ behind (node_levels_at c p sight)) × (is_own_sort sight.own s ≡ occurs sight.own (term_at c.program.now.nodes p))
+        → ([] ≡ behind (node_levels_at c p position)) × (is_own_sort position.own s ≡ occurs position.own (term_at c.program.now.nodes p))
     leaf_levels a b d e f = by_sort s a b d e f h
       where
         by_sort : (s : Sort) → is_nbr_sort s ≡ false → is_branching s ≡ false → is_let_sort s ≡ false → is_evolve_sort s ≡ false → is_apply_sort s ≡ false → HasNode c.program.now.nodes p s t ks
-            → ([] ≡ behind (node_levels_at c p sight)) × (is_own_sort sight.own s ≡ occurs sight.own (term_at c.program.now.nodes p))
+            → ([] ≡ behind (node_levels_at c p position)) × (is_own_sort position.own s ≡ occurs position.own (term_at c.program.now.nodes p))
         by_sort (OfLeaf l) a b d e f h =
             let k = term_is c.program.now.nodes above p (OfLeaf l) t ks h in
-            (sym (ap (λ u. behind (node_levels (stages_in c) p sight.branch sight.own (levels_in sight.scope.now) u)) k), sym (ap (occurs sight.own) k))
+            (sym (ap (λ u. behind (node_levels (stages_in c) p position.branch position.own (levels_in position.scope.now) u)) k), sym (ap (occurs position.own) k))
         by_sort (OfApply o) a b d e f h = absurd cc
         by_sort OfNbr a b d e f h = absurd cc
         by_sort (OfEvolve v) a b d e f h = absurd cc
         by_sort OfIf a b d e f h = absurd cc
         by_sort OfLet a b d e f h = absurd cc
 
-    pub leaf_level_is : is_nbr_sort s ≡ false → is_branching s ≡ false → is_let_sort s ≡ false → is_evolve_sort s ≡ false → is_apply_sort s ≡ false → leaf_level_by sight t s ≡ level_at c p sight
+    pub leaf_level_is : is_nbr_sort s ≡ false → is_branching s ≡ false → is_let_sort s ≡ false → is_evolve_sort s ≡ false → is_apply_sort s ≡ false → leaf_level_by position t s ≡ level_at c p position
     leaf_level_is a b d e f = by_sort s a b d e f h
       where
-        by_sort : (s : Sort) → is_nbr_sort s ≡ false → is_branching s ≡ false → is_let_sort s ≡ false → is_evolve_sort s ≡ false → is_apply_sort s ≡ false → HasNode c.program.now.nodes p s t ks → leaf_level_by sight t s ≡ level_at c p sight
-        by_sort (OfLeaf l) a b d e f h = sym (ap (level_of (stages_in c) p sight.branch sight.own (levels_in sight.scope.now)) (term_is c.program.now.nodes above p (OfLeaf l) t ks h))
+        by_sort : (s : Sort) → is_nbr_sort s ≡ false → is_branching s ≡ false → is_let_sort s ≡ false → is_evolve_sort s ≡ false → is_apply_sort s ≡ false → HasNode c.program.now.nodes p s t ks → leaf_level_by position t s ≡ level_at c p position
+        by_sort (OfLeaf l) a b d e f h = sym (ap (level_of (stages_in c) p position.branch position.own (levels_in position.scope.now)) (term_is c.program.now.nodes above p (OfLeaf l) t ks h))
         by_sort (OfApply o) a b d e f h = absurd cc
         by_sort OfNbr a b d e f h = absurd cc
         by_sort (OfEvolve v) a b d e f h = absurd cc
@@ -278,21 +278,21 @@ module _ (c : Context) (prog : IsProgram c.program.now) (p : ℕ) (sight : Sight
       pub nbr_some : 0 < length ks
       nbr_some = let k = one in let l = k.long in omega (arith, l)
 
-      pub nbr_level : (q : ℕ) → q ≡ get_or ks 0 q → level_at c p sight ≡ (if is_own sight.own (term_at c.program.now.nodes q) then suc sight.branch else suc (level_at c q sight))
+      pub nbr_level : (q : ℕ) → q ≡ get_or ks 0 q → level_at c p position ≡ (if is_own position.own (term_at c.program.now.nodes q) then suc position.branch else suc (level_at c q position))
       nbr_level q e =
           let k = one in
           let f = same_at ks 0 q nbr_some e in
-          ap (level_of (stages_in c) p sight.branch sight.own (levels_in sight.scope.now)) (k.term ∙ ap (λ i. Nbr t (term_at c.program.now.nodes i)) (sym f))
-          ∙ ap (λ i. if is_own sight.own (term_at c.program.now.nodes q) then suc sight.branch else suc (level_of (stages_in c) i sight.branch sight.own (levels_in sight.scope.now) (term_at c.program.now.nodes q))) (sym (f ∙ k.first_is))
+          ap (level_of (stages_in c) p position.branch position.own (levels_in position.scope.now)) (k.term ∙ ap (λ i. Nbr t (term_at c.program.now.nodes i)) (sym f))
+          ∙ ap (λ i. if is_own position.own (term_at c.program.now.nodes q) then suc position.branch else suc (level_of (stages_in c) i position.branch position.own (levels_in position.scope.now) (term_at c.program.now.nodes q))) (sym (f ∙ k.first_is))
 
-      pub nbr_rest : (q : ℕ) → q ≡ get_or ks 0 q → (behind (node_levels_at c p sight) ≡ node_levels_at c q sight) × (occurs sight.own (term_at c.program.now.nodes p) ≡ occurs sight.own (term_at c.program.now.nodes q))
+      pub nbr_rest : (q : ℕ) → q ≡ get_or ks 0 q → (behind (node_levels_at c p position) ≡ node_levels_at c q position) × (occurs position.own (term_at c.program.now.nodes p) ≡ occurs position.own (term_at c.program.now.nodes q))
       nbr_rest q e =
           let k = one in
           let f = same_at ks 0 q nbr_some e in
           let g = k.term ∙ ap (λ i. Nbr t (term_at c.program.now.nodes i)) (sym f) in (
-            ap (λ u. behind (node_levels (stages_in c) p sight.branch sight.own (levels_in sight.scope.now) u)) g
-                ∙ ap (λ i. node_levels (stages_in c) i sight.branch sight.own (levels_in sight.scope.now) (term_at c.program.now.nodes q)) (sym (f ∙ k.first_is)),
-            ap (occurs sight.own) g,
+            ap (λ u. behind (node_levels (stages_in c) p position.branch position.own (levels_in position.scope.now) u)) g
+                ∙ ap (λ i. node_levels (stages_in c) i position.branch position.own (levels_in position.scope.now) (term_at c.program.now.nodes q)) (sym (f ∙ k.first_is)),
+            ap (occurs position.own) g,
           )
 
     -- ---- `if`
@@ -336,38 +336,38 @@ module _ (c : Context) (prog : IsProgram c.program.now) (p : ℕ) (sight : Sight
             u_is ∙ k.third_is ∙ ap (λ i. suc p + size (term_at c.program.now.nodes i) + size (term_at c.program.now.nodes (get_or ks 1 0))) (sym q_is)
             ∙ ap (λ i. suc p + size (term_at c.program.now.nodes q) + size (term_at c.program.now.nodes i)) (sym r_is)
 
-        pub if_level : level_at c p sight ≡ max (level_at c q sight)
-            (max (level_of (stages_in c) r (level_at c q sight) sight.own (levels_in sight.scope.now) (term_at c.program.now.nodes r)) (level_of (stages_in c) u (level_at c q sight) sight.own (levels_in sight.scope.now) (term_at c.program.now.nodes u)))
+        pub if_level : level_at c p position ≡ max (level_at c q position)
+            (max (level_of (stages_in c) r (level_at c q position) position.own (levels_in position.scope.now) (term_at c.program.now.nodes r)) (level_of (stages_in c) u (level_at c q position) position.own (levels_in position.scope.now) (term_at c.program.now.nodes u)))
         if_level =
-            ap (level_of (stages_in c) p sight.branch sight.own (levels_in sight.scope.now)) if_term
-            ∙ if_places (stages_in c) p sight.branch sight.own (levels_in sight.scope.now) t (term_at c.program.now.nodes q) (term_at c.program.now.nodes r) (term_at c.program.now.nodes u) q r u first_place second_place third_place
+            ap (level_of (stages_in c) p position.branch position.own (levels_in position.scope.now)) if_term
+            ∙ if_places (stages_in c) p position.branch position.own (levels_in position.scope.now) t (term_at c.program.now.nodes q) (term_at c.program.now.nodes r) (term_at c.program.now.nodes u) q r u first_place second_place third_place
 
-        pub if_rest : (b : ℕ) → b ≡ level_at c q sight → (behind (node_levels_at c p sight)
-            ≡ node_levels_at c q sight ++ (node_levels (stages_in c) r b sight.own (levels_in sight.scope.now) (term_at c.program.now.nodes r) ++ node_levels (stages_in c) u b sight.own (levels_in sight.scope.now) (term_at c.program.now.nodes u)))
-            × (occurs sight.own (term_at c.program.now.nodes p) ≡ (occurs sight.own (term_at c.program.now.nodes q) || (occurs sight.own (term_at c.program.now.nodes r) || occurs sight.own (term_at c.program.now.nodes u))))
+        pub if_rest : (b : ℕ) → b ≡ level_at c q position → (behind (node_levels_at c p position)
+            ≡ node_levels_at c q position ++ (node_levels (stages_in c) r b position.own (levels_in position.scope.now) (term_at c.program.now.nodes r) ++ node_levels (stages_in c) u b position.own (levels_in position.scope.now) (term_at c.program.now.nodes u)))
+            × (occurs position.own (term_at c.program.now.nodes p) ≡ (occurs position.own (term_at c.program.now.nodes q) || (occurs position.own (term_at c.program.now.nodes r) || occurs position.own (term_at c.program.now.nodes u))))
         if_rest b i = (
-          ap (λ y. behind (node_levels (stages_in c) p sight.branch sight.own (levels_in sight.scope.now) y)) if_term
-              ∙ if_levels (stages_in c) p sight.branch sight.own (levels_in sight.scope.now) t (term_at c.program.now.nodes q) (term_at c.program.now.nodes r) (term_at c.program.now.nodes u) q r u first_place second_place third_place
-              ∙ ap (λ y. node_levels_at c q sight ++ (node_levels (stages_in c) r y sight.own (levels_in sight.scope.now) (term_at c.program.now.nodes r) ++ node_levels (stages_in c) u y sight.own (levels_in sight.scope.now) (term_at c.program.now.nodes u))) (sym i),
-          ap (occurs sight.own) if_term,
+          ap (λ y. behind (node_levels (stages_in c) p position.branch position.own (levels_in position.scope.now) y)) if_term
+              ∙ if_levels (stages_in c) p position.branch position.own (levels_in position.scope.now) t (term_at c.program.now.nodes q) (term_at c.program.now.nodes r) (term_at c.program.now.nodes u) q r u first_place second_place third_place
+              ∙ ap (λ y. node_levels_at c q position ++ (node_levels (stages_in c) r y position.own (levels_in position.scope.now) (term_at c.program.now.nodes r) ++ node_levels (stages_in c) u y position.own (levels_in position.scope.now) (term_at c.program.now.nodes u))) (sym i),
+          ap (occurs position.own) if_term,
         )
 
-        pub if_done : (b m n f g : ℕ) → n ≡ max b m → m ≡ max f g → b ≡ level_at c q sight
-            → f ≡ level_of (stages_in c) r b sight.own (levels_in sight.scope.now) (term_at c.program.now.nodes r)
-            → g ≡ level_of (stages_in c) u b sight.own (levels_in sight.scope.now) (term_at c.program.now.nodes u) → n ≡ level_at c p sight
+        pub if_done : (b m n f g : ℕ) → n ≡ max b m → m ≡ max f g → b ≡ level_at c q position
+            → f ≡ level_of (stages_in c) r b position.own (levels_in position.scope.now) (term_at c.program.now.nodes r)
+            → g ≡ level_of (stages_in c) u b position.own (levels_in position.scope.now) (term_at c.program.now.nodes u) → n ≡ level_at c p position
         if_done b m n f g i j k l o =
-            i ∙ ap (max b) j ∙ ap (λ y. max b (max y g)) l ∙ ap (λ y. max b (max (level_of (stages_in c) r b sight.own (levels_in sight.scope.now) (term_at c.program.now.nodes r)) y)) o
-            ∙ ap (λ y. max y (max (level_of (stages_in c) r y sight.own (levels_in sight.scope.now) (term_at c.program.now.nodes r)) (level_of (stages_in c) u y sight.own (levels_in sight.scope.now) (term_at c.program.now.nodes u)))) k
+            i ∙ ap (max b) j ∙ ap (λ y. max b (max y g)) l ∙ ap (λ y. max b (max (level_of (stages_in c) r b position.own (levels_in position.scope.now) (term_at c.program.now.nodes r)) y)) o
+            ∙ ap (λ y. max y (max (level_of (stages_in c) r y position.own (levels_in position.scope.now) (term_at c.program.now.nodes r)) (level_of (stages_in c) u y position.own (levels_in position.scope.now) (term_at c.program.now.nodes u)))) k
             ∙ sym if_level
 
         -- where its branches are ready
-        pub if_ready : (b : ℕ) → b ≡ level_at c q sight → Ready c r (record { branch = b; own = sight.own; scope = sight.scope }) × Ready c u (record { branch = b; own = sight.own; scope = sight.scope })
+        pub if_ready : (b : ℕ) → b ≡ level_at c q position → Ready c r (record { branch = b; own = position.own; scope = position.scope }) × Ready c u (record { branch = b; own = position.own; scope = position.scope })
         if_ready b e =
-            let l = ends_small q sight.branch sight.own (levels_in sight.scope.now) (let w = ready.branch in let a = first_place in omega (arith, w, a)) (λ i. let w = ready.scope i in let a = first_place in omega (arith, w, a)) in
+            let l = ends_small q position.branch position.own (levels_in position.scope.now) (let w = ready.branch in let a = first_place in omega (arith, w, a)) (λ i. let w = ready.scope i in let a = first_place in omega (arith, w, a)) in
             let a = first_place in
             let d = second_place in
             let k = third_place in
-            (other_ready c p r b sight.own sight (omega (arith, d)) (omega (arith, e, l, a, d)) ready, other_ready c p u b sight.own sight (omega (arith, k)) (omega (arith, e, l, a, k)) ready)
+            (other_ready c p r b position.own position (omega (arith, d)) (omega (arith, e, l, a, d)) ready, other_ready c p u b position.own position (omega (arith, k)) (omega (arith, e, l, a, k)) ready)
 
     -- ---- `let`
 
@@ -397,27 +397,27 @@ module _ (c : Context) (prog : IsProgram c.program.now) (p : ℕ) (sight : Sight
         let_second : r ≡ suc p + size (term_at c.program.now.nodes q)
         let_second = let k = let_two in let_r ∙ k.second_is ∙ ap (λ i. suc p + size (term_at c.program.now.nodes i)) (sym let_q)
 
-        pub let_level : level_at c p sight ≡ level_of (stages_in c) r sight.branch sight.own (bind_level p (level_at c q sight) (levels_in sight.scope.now)) (term_at c.program.now.nodes r)
+        pub let_level : level_at c p position ≡ level_of (stages_in c) r position.branch position.own (bind_level p (level_at c q position) (levels_in position.scope.now)) (term_at c.program.now.nodes r)
         let_level =
-            ap (level_of (stages_in c) p sight.branch sight.own (levels_in sight.scope.now)) let_term
-            ∙ let_places (stages_in c) p sight.branch sight.own (levels_in sight.scope.now) t (term_at c.program.now.nodes q) (term_at c.program.now.nodes r) q r let_first let_second
+            ap (level_of (stages_in c) p position.branch position.own (levels_in position.scope.now)) let_term
+            ∙ let_places (stages_in c) p position.branch position.own (levels_in position.scope.now) t (term_at c.program.now.nodes q) (term_at c.program.now.nodes r) q r let_first let_second
 
-        pub let_rest : (b : ℕ) → b ≡ level_at c q sight → (behind (node_levels_at c p sight)
-            ≡ node_levels_at c q sight ++ node_levels (stages_in c) r sight.branch sight.own (bind_level p b (levels_in sight.scope.now)) (term_at c.program.now.nodes r))
-            × (occurs sight.own (term_at c.program.now.nodes p) ≡ (occurs sight.own (term_at c.program.now.nodes q) || occurs sight.own (term_at c.program.now.nodes r)))
+        pub let_rest : (b : ℕ) → b ≡ level_at c q position → (behind (node_levels_at c p position)
+            ≡ node_levels_at c q position ++ node_levels (stages_in c) r position.branch position.own (bind_level p b (levels_in position.scope.now)) (term_at c.program.now.nodes r))
+            × (occurs position.own (term_at c.program.now.nodes p) ≡ (occurs position.own (term_at c.program.now.nodes q) || occurs position.own (term_at c.program.now.nodes r)))
         let_rest b i = (
-          ap (λ y. behind (node_levels (stages_in c) p sight.branch sight.own (levels_in sight.scope.now) y)) let_term
-              ∙ let_levels (stages_in c) p sight.branch sight.own (levels_in sight.scope.now) t (term_at c.program.now.nodes q) (term_at c.program.now.nodes r) q r let_first let_second
-              ∙ ap (λ y. node_levels_at c q sight ++ node_levels (stages_in c) r sight.branch sight.own (bind_level p y (levels_in sight.scope.now)) (term_at c.program.now.nodes r)) (sym i),
-          ap (occurs sight.own) let_term,
+          ap (λ y. behind (node_levels (stages_in c) p position.branch position.own (levels_in position.scope.now) y)) let_term
+              ∙ let_levels (stages_in c) p position.branch position.own (levels_in position.scope.now) t (term_at c.program.now.nodes q) (term_at c.program.now.nodes r) q r let_first let_second
+              ∙ ap (λ y. node_levels_at c q position ++ node_levels (stages_in c) r position.branch position.own (bind_level p y (levels_in position.scope.now)) (term_at c.program.now.nodes r)) (sym i),
+          ap (occurs position.own) let_term,
         )
 
-        pub let_bound : (b : ℕ) → b ≡ level_at c q sight → (i : ℕ) → bind_level p b (levels_in sight.scope.now) i ≤ level_before r
+        pub let_bound : (b : ℕ) → b ≡ level_at c q position → (i : ℕ) → bind_level p b (levels_in position.scope.now) i ≤ level_before r
         let_bound b e i =
-            let l = ends_small q sight.branch sight.own (levels_in sight.scope.now) (let w = ready.branch in let a = let_first in omega (arith, w, a)) (λ j. let w = ready.scope j in let a = let_first in omega (arith, w, a)) in
+            let l = ends_small q position.branch position.own (levels_in position.scope.now) (let w = ready.branch in let a = let_first in omega (arith, w, a)) (λ j. let w = ready.scope j in let a = let_first in omega (arith, w, a)) in
             let a = let_first in
             let d = let_second in
-            bind_before (level_before r) p b (levels_in sight.scope.now) (omega (arith, e, l, a, d)) (λ j. let w = ready.scope j in omega (arith, w, d)) i
+            bind_before (level_before r) p b (levels_in position.scope.now) (omega (arith, e, l, a, d)) (λ j. let w = ready.scope j in omega (arith, w, d)) i
 
         pub let_later : p ≤ r
         let_later = let d = let_second in omega (arith, d)
@@ -449,25 +449,25 @@ module _ (c : Context) (prog : IsProgram c.program.now) (p : ℕ) (sight : Sight
         evolve_second : r ≡ suc p + size (term_at c.program.now.nodes (get_or ks 0 0))
         evolve_second = let k = evolve_two in evolve_r ∙ k.second_is
 
-        pub evolve_level : level_at c p sight ≡ level_of (stages_in c) r sight.branch p (levels_in sight.scope.now) (term_at c.program.now.nodes r) + stages_in c p
+        pub evolve_level : level_at c p position ≡ level_of (stages_in c) r position.branch p (levels_in position.scope.now) (term_at c.program.now.nodes r) + stages_in c p
         evolve_level =
             let k = evolve_two in
-            ap (level_of (stages_in c) p sight.branch sight.own (levels_in sight.scope.now)) (k.term ∙ ap (λ i. Evolve t evolve_sort_is.0 (term_at c.program.now.nodes (get_or ks 0 0)) (term_at c.program.now.nodes i)) (sym evolve_r))
-            ∙ ap (λ i. level_of (stages_in c) i sight.branch p (levels_in sight.scope.now) (term_at c.program.now.nodes r) + stages_in c p) (sym evolve_second)
+            ap (level_of (stages_in c) p position.branch position.own (levels_in position.scope.now)) (k.term ∙ ap (λ i. Evolve t evolve_sort_is.0 (term_at c.program.now.nodes (get_or ks 0 0)) (term_at c.program.now.nodes i)) (sym evolve_r))
+            ∙ ap (λ i. level_of (stages_in c) i position.branch p (levels_in position.scope.now) (term_at c.program.now.nodes r) + stages_in c p) (sym evolve_second)
 
         pub evolve_later : p ≤ r
         evolve_later = let d = evolve_second in omega (arith, d)
 
-        pub evolve_rest : (q : ℕ) → q ≡ get_or ks 0 q → (behind (node_levels_at c p sight)
-            ≡ repeat (r - q) (None ∷ []) ++ node_levels (stages_in c) r sight.branch p (levels_in sight.scope.now) (term_at c.program.now.nodes r)) × (q ≤ r)
+        pub evolve_rest : (q : ℕ) → q ≡ get_or ks 0 q → (behind (node_levels_at c p position)
+            ≡ repeat (r - q) (None ∷ []) ++ node_levels (stages_in c) r position.branch p (levels_in position.scope.now) (term_at c.program.now.nodes r)) × (q ≤ r)
         evolve_rest q e =
             let k = evolve_two in
             let l = evolve_long in
             let z = same_at ks 0 q (omega (arith, l)) e ∙ k.first_is in
             let d = evolve_second in
             let n : size (term_at c.program.now.nodes (get_or ks 0 0)) ≡ r - q = omega (arith, z, d) in (
-              ap (λ y. behind (node_levels (stages_in c) p sight.branch sight.own (levels_in sight.scope.now) y)) (k.term ∙ ap (λ i. Evolve t evolve_sort_is.0 (term_at c.program.now.nodes (get_or ks 0 0)) (term_at c.program.now.nodes i)) (sym evolve_r))
-                  ∙ ap (λ i. repeat (size (term_at c.program.now.nodes (get_or ks 0 0))) (None ∷ []) ++ node_levels (stages_in c) i sight.branch p (levels_in sight.scope.now) (term_at c.program.now.nodes r)) (sym evolve_second)
-                  ∙ ap (λ i. repeat i (None ∷ []) ++ node_levels (stages_in c) r sight.branch p (levels_in sight.scope.now) (term_at c.program.now.nodes r)) n,
+              ap (λ y. behind (node_levels (stages_in c) p position.branch position.own (levels_in position.scope.now) y)) (k.term ∙ ap (λ i. Evolve t evolve_sort_is.0 (term_at c.program.now.nodes (get_or ks 0 0)) (term_at c.program.now.nodes i)) (sym evolve_r))
+                  ∙ ap (λ i. repeat (size (term_at c.program.now.nodes (get_or ks 0 0))) (None ∷ []) ++ node_levels (stages_in c) i position.branch p (levels_in position.scope.now) (term_at c.program.now.nodes r)) (sym evolve_second)
+                  ∙ ap (λ i. repeat i (None ∷ []) ++ node_levels (stages_in c) r position.branch p (levels_in position.scope.now) (term_at c.program.now.nodes r)) n,
               omega (arith, z, d),
             )

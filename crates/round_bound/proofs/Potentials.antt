@@ -6,10 +6,10 @@ use Rattle.fc_values.specs.BuiltinTypes.{inner}
 use Rattle.fc_nodes.specs.declared.nodes.Node.{Node}
 use Rattle.fc_nodes.specs.Sorts.{is_evolve_sort, is_let_sort}
 use Rattle.fc_nodes.specs.Terms.{Evolution, Uid, Term, Plain, Apply, Nbr, Evolve, If, Let, Sort, OfLeaf, OfApply, OfNbr, OfEvolve, OfIf, OfLet, View, view_at, term_to, term_at, HasNode, Laid, WellFormed}
-use Rattle.fc_nodes.specs.Parts.{part_at}
+use Rattle.fc_nodes.specs.Subterms.{subterm_at}
 use Rattle.fc_nodes.specs.Program.{Program, Unfolding, unfolding_of}
 use Rattle.fc_nodes.specs.Places.{StandsAt}
-use Rattle.fc_nodes.proofs.Parts.{part_is}
+use Rattle.fc_nodes.proofs.Subterms.{subterm_is}
 use Rattle.fc_nodes.proofs.Places.{laid_within}
 use Rattle.interval_facts.specs.Ranges.{RangeValue, IntRange, BoolRange, full, range_of, AreRangesOf}
 use Rattle.growth_facts.specs.Leads.{least_integer, greatest_integer}
@@ -24,7 +24,7 @@ unfolding term_at term_to
 past_term ns q l = let e : length ns - q ≡ 0 = omega (arith, l) in rw e refl
 
 range_is : (P : Program) → WellFormed P.nodes → (q : ℕ) → variable_range (unfolding_of P) q ≡ bound_range P.declared.ceiling (range_of (unfolding_of P)) q (term_at P.nodes q)
-range_is P formed q = ap (bound_range P.declared.ceiling (range_of (unfolding_of P)) q) (part_is P.nodes formed q)
+range_is P formed q = ap (bound_range P.declared.ceiling (range_of (unfolding_of P)) q) (subterm_is P.nodes formed q)
 
 -- past the nodes
 pub past_range : (P : Program) → WellFormed P.nodes → (q : ℕ) → length P.nodes ≤ q → variable_range (unfolding_of P) q ≡ IntRange 0 P.declared.ceiling
@@ -101,8 +101,8 @@ module _ (P : Program) (formed : WellFormed P.nodes) (n p : ℕ) (st : StandsAt 
       ∙ by_term (term_at P.nodes p) st.laid
       ∙ ap (λ u. added_by n (variable_range (unfolding_of P)) (evolution_at P.nodes p) (pattern_of P.declared.ceiling (range_of (unfolding_of P)) p u)) (sym here)
     where
-      here : part_at p (term_at P.nodes 0) ≡ term_at P.nodes p
-      here = part_is P.nodes formed p
+      here : subterm_at p (term_at P.nodes 0) ≡ term_at P.nodes p
+      here = subterm_is P.nodes formed p
 
       no_view : {A : Type 0} (v : View) → view_at P.nodes p ≡ Some v → (IsEvolveView (Some v) → ⊥) → A
       no_view v e f = absurd (f (subst IsEvolveView e evolving))

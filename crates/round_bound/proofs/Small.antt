@@ -11,7 +11,7 @@ use Rattle.fc_values.specs.BuiltinTypes.{inner}
 use Rattle.fc_nodes.specs.declared.verdicts.Reason.{Reason}
 use Rattle.fc_nodes.specs.declared.verdicts.Reason.TheVariants as reason
 use Rattle.fc_nodes.specs.Terms.{Evolution, ByRep, ByShare, Term, Terms, Plain, Apply, Nbr, Evolve, If, Let, NoMore, More, size, type_of, term_at}
-use Rattle.fc_nodes.specs.Parts.{part_at}
+use Rattle.fc_nodes.specs.Subterms.{subterm_at}
 use Rattle.fc_nodes.specs.Program.{Program, IsProgram, unfolding_of}
 use Rattle.interval_facts.specs.Ranges.{RangeValue, IntRange, BoolRange, PairRange, range_of}
 use Rattle.fc_nodes.specs.Variables.{occurs, is_heard}
@@ -25,7 +25,7 @@ use Rattle.fragment_check.specs.declared.facts.Guarding.TheVariants as guarding
 use Rattle.fragment_check.specs.Patterns.{is_nested, is_unguarded, guarding_of, form_of, Form, IsHood, IsRise, IsOther, is_pair, raising, minimising_by, rising_by, by_form, by_guarding, body_pattern, pattern_of}
 use Rattle.fragment_check.specs.Verdicts.{ranks, added_levels, added_by, added_at, bound_range, variable_range, stages_of, pattern_at}
 use Rattle.round_bound.specs.Walks.{most_added, PatternFew}
-use Rattle.round_bound.proofs.Bounded.{Few, full_few, range_few}
+use Rattle.round_bound.proofs.Bounded.{EndsAtMost, full_few, range_few}
 
 -- ---- growth
 
@@ -125,14 +125,14 @@ mutual
 
 -- ---- patterns
 
-greatest_few : (m : ℕ) (r : RangeValue) → Few m r → greatest_integer r ≤ m
+greatest_few : (m : ℕ) (r : RangeValue) → EndsAtMost m r → greatest_integer r ≤ m
 greatest_few m (IntRange a b) f = f.1
 greatest_few m BoolRange f = omega arith
 greatest_few m (PairRange (IntRange a b) s) f = f.0.1
 greatest_few m (PairRange BoolRange s) f = omega arith
 greatest_few m (PairRange (PairRange r u) s) f = omega arith
 
-least_few : (m : ℕ) (r : RangeValue) → Few m r → least_integer r ≤ m
+least_few : (m : ℕ) (r : RangeValue) → EndsAtMost m r → least_integer r ≤ m
 least_few m (IntRange a b) f = f.0
 least_few m BoolRange f = omega arith
 least_few m (PairRange (IntRange a b) s) f = f.0.0
@@ -163,11 +163,11 @@ module _ (m : ℕ) where
   if_few true r s f g = f
   if_few false r s f g = g
 
-  minimising_few : (l : RangeValue) (r : Result ℕ Reason) → Few m l → RaisedFew m r → ResultFew m (minimising_by m l r)
+  minimising_few : (l : RangeValue) (r : Result ℕ Reason) → EndsAtMost m l → RaisedFew m r → ResultFew m (minimising_by m l r)
   minimising_few l (Err r) f g = tt
   minimising_few l (Ok c) f g = if_few (is_pair l && nat_eq (greatest_integer l) m) _ (Ok (pattern.Minimising (greatest_integer l) c)) tt (greatest_few m l f, g.0, g.1)
 
-  rising_few : (l s : RangeValue) (r : Result ℕ Reason) → Few m l → Few m s → RaisedFew m r → ResultFew m (rising_by l s r)
+  rising_few : (l s : RangeValue) (r : Result ℕ Reason) → EndsAtMost m l → EndsAtMost m s → RaisedFew m r → ResultFew m (rising_by l s r)
   rising_few l s (Err r) f k g = tt
   rising_few l s (Ok c) f k g = by_test (nat_eq (least_integer s) 0) refl
     where
@@ -175,7 +175,7 @@ module _ (m : ℕ) where
       by_test true e = tt
       by_test false e = (greatest_few m l f, g.0, g.1, positive (least_integer s) e, least_few m s k)
 
-  module _ (R : ℕ → RangeValue) (few : (q : ℕ) → Few m (R q)) (e : Evolution) (x p : ℕ) where
+  module _ (R : ℕ → RangeValue) (few : (q : ℕ) → EndsAtMost m (R q)) (e : Evolution) (x p : ℕ) where
     form_few : (g : Guarding) (f : Form) → ResultFew m (by_form m R e x p g f)
     form_few g (IsHood h l) = minimising_few (R (suc p + size h)) (raising (growth_of m R e x (suc p) h)) (few (suc p + size h)) (raising_few (growth_of m R e x (suc p) h) (growth_few m R e x (suc p) h))
     form_few g (IsRise h l s) =
@@ -196,7 +196,7 @@ module _ (m : ℕ) where
         (if_few (is_unguarded e x u) _ _ tt
         (guarding_few (guarding_of e x u) _ (form_few (guarding_of e x u) (form_of e x u)))))
 
-  pub pattern_few : (R : ℕ → RangeValue) → ((q : ℕ) → Few m (R q)) → (p : ℕ) (t : Term) → ResultFew m (pattern_of m R p t)
+  pub pattern_few : (R : ℕ → RangeValue) → ((q : ℕ) → EndsAtMost m (R q)) → (p : ℕ) (t : Term) → ResultFew m (pattern_of m R p t)
   pattern_few R few p (Plain t l) = tt
   pattern_few R few p (Apply t o xs) = tt
   pattern_few R few p (Nbr t a) = tt
@@ -239,10 +239,10 @@ few_rounds greatest c r some one few most =
     let same : (steps_of greatest c - 1) * (turns_of c r + 1) ≡ greatest / c * (turns_of c r + 1) = ap (λ q. q * (turns_of c r + 1)) (omega arith) in
     omega (arith, fewer, all, whole, less, apart, same, few, most, one)
 
-pub few_ranks : (n m : ℕ) (r : RangeValue) → Few m r → m ≤ 1000000 → ranks n r ≤ 1000000
+pub few_ranks : (n m : ℕ) (r : RangeValue) → EndsAtMost m r → m ≤ 1000000 → ranks n r ≤ 1000000
 few_ranks n m r f l = let g = greatest_few m r f in omega (arith, g, l)
 
-module _ (m : ℕ) (most : m ≤ 1000000) (n : ℕ) (W : ℕ → RangeValue) (few : (q : ℕ) → Few m (W q)) where
+module _ (m : ℕ) (most : m ≤ 1000000) (n : ℕ) (W : ℕ → RangeValue) (few : (q : ℕ) → EndsAtMost m (W q)) where
   levels_few : (e : Evolution) (a : Pattern) → PatternFew m a → added_levels n W e a ≤ most_added
   levels_few e pattern.Constant f = omega arith
   levels_few ByRep (pattern.Acyclic q) f = let r = few_ranks n m (W q) (few q) most in omega (arith, r)
@@ -256,7 +256,7 @@ module _ (m : ℕ) (most : m ≤ 1000000) (n : ℕ) (W : ℕ → RangeValue) (fe
   by_levels_few e (Ok a) f = levels_few e a f
   by_levels_few e (Err r) f = omega arith
 
-  pub added_few : (R : ℕ → RangeValue) → ((q : ℕ) → Few m (R q)) → (p : ℕ) (t : Term) → added_at m R W n p t ≤ most_added
+  pub added_few : (R : ℕ → RangeValue) → ((q : ℕ) → EndsAtMost m (R q)) → (p : ℕ) (t : Term) → added_at m R W n p t ≤ most_added
   added_few R rs p (Plain t l) = omega arith
   added_few R rs p (Apply t o xs) = omega arith
   added_few R rs p (Nbr t a) = omega arith
@@ -264,7 +264,7 @@ module _ (m : ℕ) (most : m ≤ 1000000) (n : ℕ) (W : ℕ → RangeValue) (fe
   added_few R rs p (If t c a b) = omega arith
   added_few R rs p (Let t a b) = omega arith
 
-bound_few : (m : ℕ) (R : ℕ → RangeValue) → ((q : ℕ) → Few m (R q)) → (q : ℕ) (t : Term) → Few m (bound_range m R q t)
+bound_few : (m : ℕ) (R : ℕ → RangeValue) → ((q : ℕ) → EndsAtMost m (R q)) → (q : ℕ) (t : Term) → EndsAtMost m (bound_range m R q t)
 bound_few m R few q (Plain t l) = (omega arith, omega arith)
 bound_few m R few q (Apply t o xs) = (omega arith, omega arith)
 bound_few m R few q (Nbr t a) = (omega arith, omega arith)
@@ -272,11 +272,11 @@ bound_few m R few q (Evolve t e a b) = full_few m (inner t)
 bound_few m R few q (If t c a b) = (omega arith, omega arith)
 bound_few m R few q (Let t a b) = few (suc q)
 
-pub variable_few : (P : Program) → IsProgram P → (q : ℕ) → Few P.declared.ceiling (variable_range (unfolding_of P) q)
-variable_few P h q = bound_few P.declared.ceiling (range_of (unfolding_of P)) (range_few P h) q (part_at q (term_at P.nodes 0))
+pub variable_few : (P : Program) → IsProgram P → (q : ℕ) → EndsAtMost P.declared.ceiling (variable_range (unfolding_of P) q)
+variable_few P h q = bound_few P.declared.ceiling (range_of (unfolding_of P)) (range_few P h) q (subterm_at q (term_at P.nodes 0))
 
 pub stages_few : (P : Program) → IsProgram P → (n p : ℕ) → stages_of (unfolding_of P) n p ≤ most_added
-stages_few P h n p = added_few P.declared.ceiling h.lawful.most n (variable_range (unfolding_of P)) (variable_few P h) (range_of (unfolding_of P)) (range_few P h) p (part_at p (term_at P.nodes 0))
+stages_few P h n p = added_few P.declared.ceiling h.lawful.most n (variable_range (unfolding_of P)) (variable_few P h) (range_of (unfolding_of P)) (range_few P h) p (subterm_at p (term_at P.nodes 0))
 
 pub pattern_at_few : (P : Program) → IsProgram P → (p : ℕ) → ResultFew P.declared.ceiling (pattern_at (unfolding_of P) p)
-pattern_at_few P h p = pattern_few P.declared.ceiling (range_of (unfolding_of P)) (range_few P h) p (part_at p (term_at P.nodes 0))
+pattern_at_few P h p = pattern_few P.declared.ceiling (range_of (unfolding_of P)) (range_few P h) p (subterm_at p (term_at P.nodes 0))

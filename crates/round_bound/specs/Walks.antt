@@ -12,7 +12,7 @@ use Rattle.fragment_check.specs.declared.kinds.Pattern.{Pattern}
 use Rattle.fragment_check.specs.declared.kinds.Pattern.TheVariants as pattern
 use Rattle.round_bound.specs.declared.scopes.Scope.{Scope}
 use Rattle.round_bound.specs.declared.scopes.Scope.TheVariants as scope
-use Rattle.round_bound.specs.declared.scopes.Sight.{Sight}
+use Rattle.round_bound.specs.declared.scopes.Position.{Position}
 use Rattle.round_bound.specs.declared.scopes.Context.{Context}
 use Rattle.round_bound.specs.declared.scopes.Found.{Found}
 
@@ -30,7 +30,7 @@ abbrev pub level_before : ℕ → ℕ
 level_before p = 1 + suc most_added * p
 
 -- levels are asked for there: all levels so far are small
-pub record Ready (c : Context) (p : ℕ) (s : Sight) : Type 0 where
+pub record Ready (c : Context) (p : ℕ) (s : Position) : Type 0 where
   pub ranges : AreRangesOf (unfolding_of c.program.now) c.ranges.now
   pub devices : 1 ≤ c.devices
   pub branch : s.branch ≤ level_before p
@@ -40,16 +40,16 @@ abbrev pub stages_in : Context → Stages
 stages_in c = stages_of (unfolding_of c.program.now) c.devices
 
 -- the level of the term at a place
-abbrev pub level_at : Context → ℕ → Sight → ℕ
+abbrev pub level_at : Context → ℕ → Position → ℕ
 level_at c p s = level_of (stages_in c) p s.branch s.own (levels_in s.scope.now) (term_at c.program.now.nodes p)
 
 -- the levels of all nodes of the term at a place
-abbrev pub node_levels_at : Context → ℕ → Sight → List (Option ℕ)
+abbrev pub node_levels_at : Context → ℕ → Position → List (Option ℕ)
 node_levels_at c p s =
     node_levels (stages_in c) p s.branch s.own (levels_in s.scope.now) (term_at c.program.now.nodes p)
 
 -- what is found there: the level, whether the variable around occurs, and the levels that are put behind others
-pub record FoundAt (c : Context) (p : ℕ) (s : Sight) (f : Found) (old new : List (Option ℕ)) : Type 0 where
+pub record FoundAt (c : Context) (p : ℕ) (s : Position) (f : Found) (old new : List (Option ℕ)) : Type 0 where
   pub level : f.level ≡ level_at c p s
   pub uses : f.uses ≡ occurs s.own (term_at c.program.now.nodes p)
   pub levels : new ≡ old ++ node_levels_at c p s
@@ -60,27 +60,27 @@ behind [] = []
 behind (o ∷ os) = os
 
 -- the same of the nodes below a node
-pub record FoundBelow (c : Context) (p : ℕ) (s : Sight) (f : Found) (old new : List (Option ℕ)) : Type 0 where
+pub record FoundBelow (c : Context) (p : ℕ) (s : Position) (f : Found) (old new : List (Option ℕ)) : Type 0 where
   pub level : f.level ≡ level_at c p s
   pub uses : f.uses ≡ occurs s.own (term_at c.program.now.nodes p)
   pub levels : new ≡ old ++ behind (node_levels_at c p s)
 
 -- of the kids of a node
-abbrev pub greatest_at : Context → List ℕ → Sight → ℕ
+abbrev pub greatest_at : Context → List ℕ → Position → ℕ
 greatest_at c [] s = s.branch
 greatest_at c (k ∷ ks) s = max (level_at c k s) (greatest_at c ks s)
 
-abbrev pub levels_at : Context → List ℕ → Sight → List (Option ℕ)
+abbrev pub levels_at : Context → List ℕ → Position → List (Option ℕ)
 levels_at c [] s = []
 levels_at c (k ∷ ks) s = node_levels_at c k s ++ levels_at c ks s
 
-pub record FoundAll (c : Context) (ks : List ℕ) (s : Sight) (f : Found) (old new : List (Option ℕ)) : Type 0 where
+pub record FoundAll (c : Context) (ks : List ℕ) (s : Position) (f : Found) (old new : List (Option ℕ)) : Type 0 where
   pub level : f.level ≡ greatest_at c ks s
   pub uses : f.uses ≡ occurs_in s.own (terms_by (term_at c.program.now.nodes) ks)
   pub levels : new ≡ old ++ levels_at c ks s
 
 -- the level of a node without kids
-abbrev pub leaf_level_by : Sight → ValueType → Sort → ℕ
+abbrev pub leaf_level_by : Position → ValueType → Sort → ℕ
 leaf_level_by s t (OfLeaf l) = leaf_level s.branch s.own (levels_in s.scope.now) t l
 leaf_level_by s t _ = s.branch
 

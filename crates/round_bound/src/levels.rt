@@ -5,7 +5,7 @@ ghost use Rattle.fc_nodes.specs.Program.{unfolding_of};
 ghost use Rattle.interval_facts.specs.Ranges.{AreRangesOf};
 ghost use Rattle.fragment_check.specs.Verdicts.{levels_of, main_level};
 
-use crate::scopes::{Context, Scope, Sight};
+use crate::scopes::{Context, Position, Scope};
 use crate::walk::walk;
 use fc_nodes::Unfolded;
 use fc_values::Memory;
@@ -32,12 +32,12 @@ pub(crate) fn main_levels(
         devices,
     };
     let nowhere = Scope::Empty;
-    let sight = Sight {
+    let position = Position {
         branch: 1,
         own: program.size(),
         scope: &nowhere,
     };
     let mut levels = Vec::with_capacity(alloc, program.size() as usize)?;
-    let found = walk(&context, 0, &sight, &mut levels)?;
+    let found = walk(&context, 0, &position, &mut levels)?;
     Ok((levels, found.level))
 }

@@ -24,7 +24,7 @@ pub enum Scope<'a> {
 /// Where a term stands: the level of its branch, the place of the nearest `rep` or `share` in whose body it is, and the
 /// `let`s in scope.
 #[derive(Clone, Copy)]
-pub struct Sight<'a> {
+pub struct Position<'a> {
     pub branch: u64,
     pub own: u32,
     pub scope: &'a Scope<'a>,

@@ -13,7 +13,7 @@ ghost use Rattle.fc_nodes.specs.Program.{IsProgram};
 ghost use Rattle.round_bound.specs.Walks.{Ready, FoundAt, FoundAll, FoundBelow, leaf_level_by, is_apply_sort};
 
 use crate::added::added;
-use crate::scopes::{Context, Found, Scope, Sight, bound_level};
+use crate::scopes::{Context, Found, Position, Scope, bound_level};
 use fc_nodes::{Node, Op, is_evolving, is_if, is_let, is_nbr, is_own, is_share};
 use fc_values::{Memory, Ty};
 
@@ -22,17 +22,17 @@ use fc_values::{Memory, Ty};
 pub fn walk(
     context: &Context<'_>,
     place: u32,
-    sight: &Sight<'_>,
+    position: &Position<'_>,
     levels: &mut Vec<Option<u64>>,
 ) -> Result<Found, Memory>
-    requires ready { Ready context.now place sight.now }
+    requires ready { Ready context.now place position.now }
     requires stands { StandsAt context.now.program.now.nodes place }
-    ensures { IfOk result (λ f. FoundAt context.now place sight.now f levels.old.items levels.new.items) }
+    ensures { IfOk result (λ f. FoundAt context.now place position.now f levels.old.items levels.new.items) }
 {
     let node = context.program.node(place);
     let at = levels.len();
     levels.push(None)?;
-    let found = below(context, place, node, sight, levels)?;
+    let found = below(context, place, node, position, levels)?;
     if !found.uses {
         levels[at] = Some(found.level);
     }
@@ -45,31 +45,31 @@ fn below(
     context: &Context<'_>,
     place: u32,
     node: &Node,
-    sight: &Sight<'_>,
+    position: &Position<'_>,
     levels: &mut Vec<Option<u64>>,
 ) -> Result<Found, Memory>
-    requires ready { Ready context.now place sight.now }
+    requires ready { Ready context.now place position.now }
     requires stands { StandsAt context.now.program.now.nodes place }
     requires node { view_at context.now.program.now.nodes place ≡ Some (view_of node.now) }
     requires program { IsProgram context.now.program.now }
-    ensures { IfOk result (λ f. FoundBelow context.now place sight.now f levels.old.items levels.new.items) }
+    ensures { IfOk result (λ f. FoundBelow context.now place position.now f levels.old.items levels.new.items) }
 {
     if is_nbr(node) {
-        return below_nbr(context, place, node, sight, levels);
+        return below_nbr(context, place, node, position, levels);
     }
     if is_if(node) {
-        return below_if(context, place, node, sight, levels);
+        return below_if(context, place, node, position, levels);
     }
     if is_let(node) {
-        return below_let(context, place, node, sight, levels);
+        return below_let(context, place, node, position, levels);
     }
     if is_evolving(node) {
-        return below_evolving(context, place, node, sight, levels);
+        return below_evolving(context, place, node, position, levels);
     }
     if is_apply(node) {
-        return walk_all(context, node.kids.as_slice(), place, sight, levels);
+        return walk_all(context, node.kids.as_slice(), place, position, levels);
     }
-    Ok(leaf(node, sight))
+    Ok(leaf(node, position))
 }
 
 // Puts the levels of terms one after another behind others, and finds the greatest, which is at least that of the
@@ -79,21 +79,21 @@ fn walk_all(
     context: &Context<'_>,
     kids: &[u32],
     place: u32,
-    sight: &Sight<'_>,
+    position: &Position<'_>,
     levels: &mut Vec<Option<u64>>,
 ) -> Result<Found, Memory>
-    requires ready { Ready context.now place sight.now }
+    requires ready { Ready context.now place position.now }
     requires row { InRow context.now.program.now.nodes place kids.now }
-    ensures { IfOk result (λ f. FoundAll context.now kids.now sight.now f levels.old.items levels.new.items) }
+    ensures { IfOk result (λ f. FoundAll context.now kids.now position.now f levels.old.items levels.new.items) }
 {
     let Some((first, rest)) = kids.split_first() else {
         return Ok(Found {
-            level: sight.branch,
+            level: position.branch,
             uses: false,
         });
     };
-    let here = walk(context, *first, sight, levels)?;
-    let others = walk_all(context, rest, *first, sight, levels)?;
+    let here = walk(context, *first, position, levels)?;
+    let others = walk_all(context, rest, *first, position, levels)?;
     Ok(Found {
         level: here.level.max(others.level),
         uses: here.uses | others.uses,
@@ -105,21 +105,21 @@ fn below_nbr(
     context: &Context<'_>,
     place: u32,
     node: &Node,
-    sight: &Sight<'_>,
+    position: &Position<'_>,
     levels: &mut Vec<Option<u64>>,
 ) -> Result<Found, Memory>
-    requires ready { Ready context.now place sight.now }
+    requires ready { Ready context.now place position.now }
     requires stands { StandsAt context.now.program.now.nodes place }
     requires node { view_at context.now.program.now.nodes place ≡ Some (view_of node.now) }
     requires program { IsProgram context.now.program.now }
     requires nbr { is_nbr_sort (sort_of node.now.op) ≡ true }
-    ensures { IfOk result (λ f. FoundBelow context.now place sight.now f levels.old.items levels.new.items) }
+    ensures { IfOk result (λ f. FoundBelow context.now place position.now f levels.old.items levels.new.items) }
 {
     let inside = node.kids[0];
-    let found = walk(context, inside, sight, levels)?;
-    let own = context.program.is_own(sight.own, inside);
+    let found = walk(context, inside, position, levels)?;
+    let own = context.program.is_own(position.own, inside);
     Ok(Found {
-        level: chosen(own, sight.branch, found.level) + 1,
+        level: chosen(own, position.branch, found.level) + 1,
         uses: found.uses,
     })
 }
@@ -129,21 +129,21 @@ fn below_if(
     context: &Context<'_>,
     place: u32,
     node: &Node,
-    sight: &Sight<'_>,
+    position: &Position<'_>,
     levels: &mut Vec<Option<u64>>,
 ) -> Result<Found, Memory>
-    requires ready { Ready context.now place sight.now }
+    requires ready { Ready context.now place position.now }
     requires stands { StandsAt context.now.program.now.nodes place }
     requires node { view_at context.now.program.now.nodes place ≡ Some (view_of node.now) }
     requires program { IsProgram context.now.program.now }
     requires branching { is_branching (sort_of node.now.op) ≡ true }
-    ensures { IfOk result (λ f. FoundBelow context.now place sight.now f levels.old.items levels.new.items) }
+    ensures { IfOk result (λ f. FoundBelow context.now place position.now f levels.old.items levels.new.items) }
 {
-    let condition = walk(context, node.kids[0], sight, levels)?;
-    let taken = Sight {
+    let condition = walk(context, node.kids[0], position, levels)?;
+    let taken = Position {
         branch: condition.level,
-        own: sight.own,
-        scope: sight.scope,
+        own: position.own,
+        scope: position.scope,
     };
     let first = walk(context, node.kids[1], &taken, levels)?;
     let second = walk(context, node.kids[2], &taken, levels)?;
@@ -158,21 +158,21 @@ fn below_let(
     context: &Context<'_>,
     place: u32,
     node: &Node,
-    sight: &Sight<'_>,
+    position: &Position<'_>,
     levels: &mut Vec<Option<u64>>,
 ) -> Result<Found, Memory>
-    requires ready { Ready context.now place sight.now }
+    requires ready { Ready context.now place position.now }
     requires stands { StandsAt context.now.program.now.nodes place }
     requires node { view_at context.now.program.now.nodes place ≡ Some (view_of node.now) }
     requires program { IsProgram context.now.program.now }
     requires binding { is_let_sort (sort_of node.now.op) ≡ true }
-    ensures { IfOk result (λ f. FoundBelow context.now place sight.now f levels.old.items levels.new.items) }
+    ensures { IfOk result (λ f. FoundBelow context.now place position.now f levels.old.items levels.new.items) }
 {
-    let bound = walk(context, node.kids[0], sight, levels)?;
-    let scope = Scope::Bind(place, bound.level, sight.scope);
-    let inner = Sight {
-        branch: sight.branch,
-        own: sight.own,
+    let bound = walk(context, node.kids[0], position, levels)?;
+    let scope = Scope::Bind(place, bound.level, position.scope);
+    let inner = Position {
+        branch: position.branch,
+        own: position.own,
         scope: &scope,
     };
     let body = walk(context, node.kids[1], &inner, levels)?;
@@ -187,27 +187,27 @@ fn below_evolving(
     context: &Context<'_>,
     place: u32,
     node: &Node,
-    sight: &Sight<'_>,
+    position: &Position<'_>,
     levels: &mut Vec<Option<u64>>,
 ) -> Result<Found, Memory>
-    requires ready { Ready context.now place sight.now }
+    requires ready { Ready context.now place position.now }
     requires stands { StandsAt context.now.program.now.nodes place }
     requires node { view_at context.now.program.now.nodes place ≡ Some (view_of node.now) }
     requires program { IsProgram context.now.program.now }
     requires evolving { is_evolve_sort (sort_of node.now.op) ≡ true }
-    ensures { IfOk result (λ f. FoundBelow context.now place sight.now f levels.old.items levels.new.items) }
+    ensures { IfOk result (λ f. FoundBelow context.now place position.now f levels.old.items levels.new.items) }
 {
     let body = node.kids[1];
-    let inner = Sight {
-        branch: sight.branch,
+    let inner = Position {
+        branch: position.branch,
         own: place,
-        scope: sight.scope,
+        scope: position.scope,
     };
     none_for(body - node.kids[0], levels)?;
     let found = walk(context, body, &inner, levels)?;
     Ok(Found {
         level: found.level + added(context, place, is_share(node)),
-        uses: context.program.occurs(sight.own, place),
+        uses: context.program.occurs(position.own, place),
     })
 }
 
@@ -231,37 +231,37 @@ fn chosen(own: bool, branch: u64, inside: u64) -> u64
 }
 
 // What is found of a node without kids.
-fn leaf(node: &Node, sight: &Sight<'_>) -> Found
-    requires { sight.now.branch < 2 ^ 63 }
-    ensures level { result.level ≡ leaf_level_by sight.now (type_of node.now.ty) (sort_of node.now.op) }
-    ensures uses { result.uses ≡ is_own_sort sight.now.own (sort_of node.now.op) }
+fn leaf(node: &Node, position: &Position<'_>) -> Found
+    requires { position.now.branch < 2 ^ 63 }
+    ensures level { result.level ≡ leaf_level_by position.now (type_of node.now.ty) (sort_of node.now.op) }
+    ensures uses { result.uses ≡ is_own_sort position.now.own (sort_of node.now.op) }
 {
     Found {
-        level: leaf_level(node, sight),
-        uses: is_own(node, sight.own),
+        level: leaf_level(node, position),
+        uses: is_own(node, position.own),
     }
 }
 
 // The level of a node without kids.
-fn leaf_level(node: &Node, sight: &Sight<'_>) -> u64
-    requires { sight.now.branch < 2 ^ 63 }
-    ensures { result ≡ leaf_level_by sight.now (type_of node.now.ty) (sort_of node.now.op) }
+fn leaf_level(node: &Node, position: &Position<'_>) -> u64
+    requires { position.now.branch < 2 ^ 63 }
+    ensures { result ≡ leaf_level_by position.now (type_of node.now.ty) (sort_of node.now.op) }
 {
     match &node.op {
-        Op::NbrLink => sight.branch + 1,
+        Op::NbrLink => position.branch + 1,
         Op::Var(binder) => {
-            if *binder == sight.own {
-                sight.branch + 1
+            if *binder == position.own {
+                position.branch + 1
             } else {
                 let read = if is_field(&node.ty) {
-                    sight.branch + 1
+                    position.branch + 1
                 } else {
-                    sight.branch
+                    position.branch
                 };
-                read.max(bound_level(sight.scope, *binder))
+                read.max(bound_level(position.scope, *binder))
             }
         }
-        _ => sight.branch,
+        _ => position.branch,
     }
 }
 

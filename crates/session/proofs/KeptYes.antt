@@ -20,7 +20,7 @@ use Rattle.session.specs.Laws.{LinesCut, InTwo}
 use Rattle.session.specs.ScriptRuns.{Added, both, nothing, DoesLines, ScriptRun}
 use Rattle.session.specs.Shown.{ShowsValues, shown_text, all_shown, script_text, verdict_in}
 use Rattle.session.specs.Since.{rounds_since}
-use Rattle.session.specs.Promises.{Holds, shows_field, KeepsYes}
+use Rattle.session.specs.Promises.{HoldsField, shows_field, KeepsYes}
 use Rattle.session.proofs.EditsInLogs.{fewer}
 use Rattle.session.proofs.Following.{Follows, follows_none, all_lines}
 use Rattle.session.proofs.ShownFields.{values_held}
@@ -62,7 +62,7 @@ module _ (lines_cut : LinesCut) (runs : RunsKeepGood) (plain_net : PlainRunsKeep
   stable : (k : ℕ) → verdict_in (unfolding_of P) core ≡ verdict.Yes k → Stabilises (unfolding_of P) core.net k
   stable k judged = stabilise P core.net k program there.net there.declared judged
 
-  held : (k : ℕ) (judged : verdict_in (unfolding_of P) core ≡ verdict.Yes k) → k ≤ rounds_since before → Holds core (stable k judged).one.field
+  held : (k : ℕ) (judged : verdict_in (unfolding_of P) core ≡ verdict.Yes k) → k ≤ rounds_since before → HoldsField core (stable k judged).one.field
   held k judged enough =
       let at = cut_at_edit (unfolding_of P) c core before.stretch known.run in
       let start = runs P c at.middle at.front program good at.first in

@@ -9,7 +9,7 @@ use Rattle.fc_values.specs.Values.{LocalValue}
 use Rattle.topology.specs.Networks.{NetDevice, numbers}
 use Rattle.firing_core.specs.Cores.{Core}
 use Rattle.report.specs.Texts.{device_line, export_value, values_text, field_text}
-use Rattle.session.specs.Promises.{Holds, field_on}
+use Rattle.session.specs.Promises.{HoldsField, field_on}
 
 lines_of : (exports : ℕ → Option TreeExport) (field : ℕ → LocalValue) (ds : List NetDevice)
     → ((d : ℕ) → is_in d (numbers ds) ≡ true → (e : TreeExport) × (exports d ≡ Some e) × (e.value ≡ field d))
@@ -21,5 +21,5 @@ lines_of exports field (n ∷ ns) h =
     let rest = lines_of exports field ns (λ d i. h d (or_true (nat_eq d n.id) (is_in d (numbers ns)) i)) in
     (λ i. device_line n.id (one i) ++ rest i)
 
-pub values_held : (c : Core) (field : ℕ → LocalValue) → Holds c field → values_text c ≡ field_text (field_on c.net field)
+pub values_held : (c : Core) (field : ℕ → LocalValue) → HoldsField c field → values_text c ≡ field_text (field_on c.net field)
 values_held c field h = lines_of c.exports field c.net.devices h

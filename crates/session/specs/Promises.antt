@@ -22,8 +22,8 @@ abbrev pub field_on : Network → (ℕ → LocalValue) → Entries
 field_on N field = map (λ (d : ℕ). (d, field d)) (numbers N.devices)
 
 -- each device's exported value is that of a field
-abbrev pub Holds : Core → (ℕ → LocalValue) → Type 0
-Holds c field = (d : ℕ) → Lives c.net d → (e : TreeExport) × (c.exports d ≡ Some e) × (e.value ≡ field d)
+abbrev pub HoldsField : Core → (ℕ → LocalValue) → Type 0
+HoldsField c field = (d : ℕ) → Lives c.net d → (e : TreeExport) × (c.exports d ≡ Some e) × (e.value ≡ field d)
 
 -- what a line `show` writes where devices hold a field
 abbrev pub shows_field : ℕ → Network → (ℕ → LocalValue) → List ℕ
@@ -46,7 +46,7 @@ pub record KeepsYes (U : Unfolding) (c : Core) (front rest : List (ℕ × Comman
   pub verdict_is : verdict_in U core ≡ last_verdict (verdict_in U c) before.shown
   pub stabilises : (k : ℕ) → verdict_in U core ≡ verdict.Yes k → Stabilises U core.net k
   pub holds : (k : ℕ) (judged : verdict_in U core ≡ verdict.Yes k) → k ≤ rounds_since before
-      → Holds core (stabilises k judged).one.field
+      → HoldsField core (stabilises k judged).one.field
   pub shows : (k line : ℕ) (more : List (ℕ × CommandValue)) (judged : verdict_in U core ≡ verdict.Yes k)
       → k ≤ rounds_since before → rest ≡ (line, ShowCommand) ∷ more
       → (later : List ℕ)

@@ -6,7 +6,7 @@ use Rattle.fc_values.specs.Trees.{Tree, child, nth_tree}
 use Rattle.fc_nodes.specs.Terms.{Term, Terms, Plain, Apply, Nbr, Evolve, If, Let, NoMore, More, size, kept}
 use Rattle.fc_nodes.specs.Flat.{tree_at, trees_at, by_truth}
 use Rattle.topology.specs.Networks.{Network}
-use Rattle.interval_facts.specs.Solutions.{Devices, Map, Maps, bind, local_map, evolved, where_is, Solves, SolveAll}
+use Rattle.interval_facts.specs.Solutions.{Devices, ValueMap, ValueMaps, bind, local_map, evolved, where_is, Solves, SolveAll}
 use Rattle.fragment_check.specs.Levels.{Lvs, bind_level, level_of}
 use Rattle.converge_laws.specs.Fragment.{Analysis}
 use Rattle.converge_laws.specs.Stages.{Stage, HeardAt, KeptAt}
@@ -22,7 +22,7 @@ module _ (A : Analysis) (N : Network) (j n : ℕ) (xs ys : List SlotValue) where
 
   mutual
     -- a tree whose slots outside first values are those of another holds where that does
-    pub holds_same : (t : Term) (k p b : ℕ) (st : Stage) (lv : Lvs) (D : Devices) (V : Maps) (F : Map) (s : Solves N p t D V F) → SameOutside t k xs ys
+    pub holds_same : (t : Term) (k p b : ℕ) (st : Stage) (lv : Lvs) (D : Devices) (V : ValueMaps) (F : ValueMap) (s : Solves N p t D V F) → SameOutside t k xs ys
         → Holds A N j p b st lv t D V F s n (tree_at t k ys) → Holds A N j p b st lv t D V F s n (tree_at t k xs)
     holds_same (Plain t l) k p b st lv D V F s o h = tt
     holds_same (Apply t op ts) k p b st lv D V F s o h =
@@ -70,7 +70,7 @@ module _ (A : Analysis) (N : Network) (j n : ℕ) (xs ys : List SlotValue) where
       holds_same u (k + kept a) (suc p + size a) b st (bind_level p (level_of A.stages (suc p) b st.var lv a) lv) D (bind p s.1 V) F s.3 o.1 h.1,
     )
 
-    all_same : (ts : Terms) (k p i b : ℕ) (st : Stage) (lv : Lvs) (D : Devices) (V : Maps) (Gs : List Map) (s : SolveAll N p ts D V Gs) (T T' : Tree)
+    all_same : (ts : Terms) (k p i b : ℕ) (st : Stage) (lv : Lvs) (D : Devices) (V : ValueMaps) (Gs : List ValueMap) (s : SolveAll N p ts D V Gs) (T T' : Tree)
         → ((m : ℕ) → child (i + m) T ≡ nth_tree m (trees_at ts k xs)) → ((m : ℕ) → child (i + m) T' ≡ nth_tree m (trees_at ts k ys))
         → AllSameOutside ts k xs ys → HoldAll A N j p i b st lv ts D V Gs s n T' → HoldAll A N j p i b st lv ts D V Gs s n T
     all_same NoMore k p i b st lv D V Gs s T T' f f' o h = tt

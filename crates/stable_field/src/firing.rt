@@ -16,14 +16,14 @@ use topology::Network;
 use value_trees::{Near, Published, Snap};
 
 /// A table of exports: a slot for each device, in the order of the network.
-pub type Slots = Vec<Option<Published>>;
+pub type ExportTable = Vec<Option<Published>>;
 
 /// The export of the device at a place that fires and sees a table.
 pub fn fired(
     alloc: Global,
     program: &Unfolded,
     net: &Network,
-    table: &Slots,
+    table: &ExportTable,
     place: usize,
 ) -> Result<Published, Memory>
     requires declared { net.now.declared ≡ program.now.declared }
@@ -62,7 +62,7 @@ fn heard(
     alloc: Global,
     net: &Network,
     neighbours: &[(u32, u32)],
-    table: &Slots,
+    table: &ExportTable,
 ) -> Result<Vec<Near>, Memory>
     requires { length table.now.items ≡ length net.now.devices }
     ensures { IfOk result (λ v. v.items ≡ heard_from (numbers net.now.devices) table.now.items neighbours.now) }
@@ -82,7 +82,7 @@ fn heard(
 }
 
 // The export of a device in a table, if it has one.
-fn held<'t>(net: &Network, table: &'t Slots, device: u32) -> Option<&'t Published>
+fn held<'t>(net: &Network, table: &'t ExportTable, device: u32) -> Option<&'t Published>
     requires { length table.now.items ≡ length net.now.devices }
     ensures { option_copied result ≡ slot_at (numbers net.now.devices) table.now.items device }
 {

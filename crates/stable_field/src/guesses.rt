@@ -6,7 +6,7 @@ ghost use Rattle.value_trees.specs.Copies.{WhereSome};
 ghost use Rattle.value_trees.specs.Snaps.{IsExportOf};
 ghost use Rattle.stable_field.specs.Tables.{IsTable};
 
-use crate::firing::Slots;
+use crate::firing::ExportTable;
 use candidate_field::candidate;
 use fc_nodes::Unfolded;
 use fc_values::{Export, Memory};
@@ -22,7 +22,7 @@ pub fn guessed(
     program: &Unfolded,
     net: &Network,
     analysis: &Analysis<'_>,
-) -> Result<Slots, Memory>
+) -> Result<ExportTable, Memory>
     ensures { IfOk result (λ v. IsTable (unfolding_of program.now) net.now v.items) }
 {
     let potentials = potentials(alloc, analysis)?;

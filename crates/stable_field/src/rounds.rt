@@ -7,7 +7,7 @@ ghost use Rattle.converge_laws.specs.Laws.{IsAnalysis, root_level};
 ghost use Rattle.converge_laws.specs.Verdicts.{analysis_of};
 ghost use Rattle.stable_field.specs.Tables.{IsTable, AreFirings, HaveSolution};
 
-use crate::firing::{Slots, fired};
+use crate::firing::{ExportTable, fired};
 use crate::outside::slots_outside;
 use crate::sameness::same_exports;
 use converge_laws::solutions_raise_levels;
@@ -22,9 +22,9 @@ pub fn settled(
     alloc: Global,
     program: &Unfolded,
     net: &Network,
-    start: Slots,
+    start: ExportTable,
     rounds: u64,
-) -> Result<Slots, Memory>
+) -> Result<ExportTable, Memory>
     requires declared { net.now.declared ≡ program.now.declared }
     requires table { IsTable (unfolding_of program.now) net.now start.items }
     requires analysis { IsAnalysis (unfolding_of program.now)
@@ -50,7 +50,7 @@ pub fn settled(
 }
 
 // The exports of all devices, which fire once and see a table.
-fn round(alloc: Global, program: &Unfolded, net: &Network, table: &Slots) -> Result<Slots, Memory>
+fn round(alloc: Global, program: &Unfolded, net: &Network, table: &ExportTable) -> Result<ExportTable, Memory>
     requires declared { net.now.declared ≡ program.now.declared }
     requires table { IsTable (unfolding_of program.now) net.now table.now.items }
     ensures { IfOk result (λ v. AreFirings (unfolding_of program.now) net.now table.now.items

@@ -11,7 +11,7 @@ ghost use Rattle.stable_field.specs.Stable.{IsStableField, IsFaultOf};
 
 use crate::faults::StableFault;
 use crate::guesses::guessed;
-use crate::terms::{Column, join_at, term_column};
+use crate::terms::{DeviceValues, join_at, term_column};
 use crate::whole::{judged, solved};
 use converge_laws::yes_stabilises;
 use fc_nodes::Unfolded;
@@ -46,7 +46,7 @@ fn field(
     net: &Network,
     analysis: &Analysis<'_>,
     rounds: u64,
-) -> Result<Column, Memory>
+) -> Result<DeviceValues, Memory>
     requires declared { net.now.declared ≡ program.now.declared }
     requires yes { verdict_of (unfolding_of program.now) (length net.now.devices) ≡ verdict.Yes rounds }
     ensures field { IfOk result (λ v. IsStableField (unfolding_of program.now) net.now (map entry_of v.items)) }
@@ -63,7 +63,7 @@ fn field(
 }
 
 // The values of `main` from those of its terms, where it is a builtin of two.
-fn by_terms(alloc: Global, program: &Unfolded, net: &Network) -> Result<Option<Column>, Memory>
+fn by_terms(alloc: Global, program: &Unfolded, net: &Network) -> Result<Option<DeviceValues>, Memory>
     requires { net.now.declared ≡ program.now.declared }
     ensures { IfOk result (WhereSome (λ v. IsColumn net.now 0 (unfolding_of program.now).main (map entry_of v.items))) }
 {

@@ -18,13 +18,13 @@ use std::alloc::Global;
 use topology::Network;
 
 /// Values by rising devices.
-pub type Column = Vec<(u32, Local)>;
+pub type DeviceValues = Vec<(u32, Local)>;
 
 /// A closed term as a program, with its values.
 #[derive(Drop)]
 pub struct Known {
     pub program: Unfolded,
-    pub values: Column,
+    pub values: DeviceValues,
 }
 
 /// A builtin of two terms of local type, by their places.
@@ -43,7 +43,7 @@ pub fn term_column(
     place: u32,
     end: u32,
     known: &mut Vec<Known>,
-) -> Result<Option<Column>, Memory>
+) -> Result<Option<DeviceValues>, Memory>
     requires declared { net.now.declared ≡ program.now.declared }
     requires term { IsClosedTerm program.now place end }
     requires known { AllKnown program.now.declared net.now known.old.items }
@@ -107,7 +107,7 @@ fn closed_column(
     place: u32,
     end: u32,
     known: &mut Vec<Known>,
-) -> Result<Option<Column>, Memory>
+) -> Result<Option<DeviceValues>, Memory>
     requires declared { net.now.declared ≡ program.now.declared }
     requires term { IsClosedTerm program.now place end }
     requires known { AllKnown program.now.declared net.now known.old.items }
@@ -153,7 +153,7 @@ fn find<'a>(
 }
 
 // A copy of values.
-fn copied(alloc: Global, values: &[(u32, Local)]) -> Result<Column, Memory>
+fn copied(alloc: Global, values: &[(u32, Local)]) -> Result<DeviceValues, Memory>
     ensures { IfOk result (λ v. map entry_of v.items ≡ map entry_of values.now) }
 {
     let mut list = Vec::with_capacity(alloc, values.len())?;

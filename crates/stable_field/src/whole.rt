@@ -12,10 +12,10 @@ ghost use Rattle.stable_field.specs.Tables.{IsTable};
 
 use crate::faults::StableFault;
 use crate::fields::values;
-use crate::firing::Slots;
+use crate::firing::ExportTable;
 use crate::guesses::guessed;
 use crate::rounds::settled;
-use crate::terms::Column;
+use crate::terms::DeviceValues;
 use converge_laws::{yes_analyses, yes_stabilises};
 use fc_nodes::{Unfolded, Verdict};
 use fc_values::Memory;
@@ -36,7 +36,7 @@ pub fn judged(alloc: Global, analysis: &Analysis<'_>, net: &Network) -> Result<u
 }
 
 /// The values of a program's `main`, where the program is recognised.
-pub fn whole(alloc: Global, program: &Unfolded, net: &Network) -> Result<Option<Column>, Memory>
+pub fn whole(alloc: Global, program: &Unfolded, net: &Network) -> Result<Option<DeviceValues>, Memory>
     requires { net.now.declared ≡ program.now.declared }
     ensures { IfOk result (WhereSome (λ v. IsColumn net.now 0 (unfolding_of program.now).main (map entry_of v.items))) }
 {
@@ -56,9 +56,9 @@ pub fn solved(
     alloc: Global,
     program: &Unfolded,
     net: &Network,
-    start: Slots,
+    start: ExportTable,
     rounds: u64,
-) -> Result<Column, Memory>
+) -> Result<DeviceValues, Memory>
     requires declared { net.now.declared ≡ program.now.declared }
     requires table { IsTable (unfolding_of program.now) net.now start.items }
     requires yes { verdict_of (unfolding_of program.now) (length net.now.devices) ≡ verdict.Yes rounds }

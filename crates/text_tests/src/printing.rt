@@ -3,7 +3,8 @@
 ghost use Rattle.std.specs.Prelude.{◌≡◌, IfOk, false, true};
 ghost use Rattle.fc_syntax.specs.Terms.{declaration_of, term_of};
 ghost use Rattle.fc_values.specs.Names.{IsName};
-ghost use Rattle.fc_syntax.specs.Printable.{IsExpression, IsInner, IsNumber, IsOfLanguage, arity};
+ghost use Rattle.fc_values.specs.BuiltinTypes.{arity};
+ghost use Rattle.fc_syntax.specs.Printable.{IsExpression, IsInner, IsNumber, IsOfLanguage};
 
 use fc_syntax::{Decl, Expr, Param, Program, print};
 use fc_values::{Builtin, InputTy, LocalTy, Memory, Name, Ty};

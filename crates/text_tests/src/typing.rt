@@ -2,7 +2,8 @@
 
 ghost use Rattle.std.specs.Prelude.{◌≡◌, IfOk, false};
 ghost use Rattle.fc_values.specs.Names.{IsName};
-ghost use Rattle.fc_syntax.specs.Printable.{IsExpression, IsNumber, IsOfLanguage, arity};
+ghost use Rattle.fc_values.specs.BuiltinTypes.{arity};
+ghost use Rattle.fc_syntax.specs.Printable.{IsExpression, IsNumber, IsOfLanguage};
 ghost use Rattle.fc_syntax.specs.Terms.{term_of};
 
 use fc_syntax::{Decl, Expr, Program};

@@ -6,11 +6,11 @@ use Rattle.std.proofs.lemmas.List.{length-append}
 use Rattle.std.proofs.lemmas.Slice.Eq.{bytes_eq-Decides}
 use Rattle.fc_values.specs.declared.types.InputTy.{InputTy}
 use Rattle.fc_values.specs.declared.types.InputTy.TheVariants as input
-use Rattle.fc_values.specs.Types.{LocalType, TypeLocal, Input, Declarations}
+use Rattle.fc_values.specs.Types.{LocalType, TypeLocal, Input, IsRange, Declarations}
 use Rattle.fc_syntax.specs.Terms.{Term as Expression, Declaration, LanguageIs, CeilingIs, InputIs, MetricIs, DefIs, MainIs}
 use Rattle.fc_syntax.specs.Printable.{IsPrintable, BeginWithCeiling, EndWithMain, IsInner, IsMain}
 use Rattle.fc_types.specs.Before.{Function, Before, nothing, and_then, and_all, input_named, declared_before, declared_by, least_of, greatest_of}
-use Rattle.fc_types.specs.Typing.{IsTyped, AreTyped, IsTypedDeclaration, IsInputRange, IsRange}
+use Rattle.fc_types.specs.Typing.{IsTyped, AreTyped, IsTypedDeclaration, IsInputRange}
 use Rattle.fc_nodes.specs.Program.{IsLawful, InputsAreLawful, InputIsLawful, NoneNamed}
 use Rattle.unfold.specs.Unfolding.{Meaning, input_number, unfolded, meaning, meanings, main_expression, main_term}
 use Rattle.unfold.proofs.Typed.{Typed, IsGood, AreGood, Holds, typed}

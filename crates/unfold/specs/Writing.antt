@@ -15,7 +15,7 @@ use Rattle.unfold.specs.declared.faults.UnfoldFault.TheVariants as fault
 use Rattle.unfold.specs.declared.scopes.Argument.{Argument}
 use Rattle.unfold.specs.declared.scopes.Scope.{Scope as AScope}
 use Rattle.unfold.specs.declared.scopes.Scope.TheVariants as scope
-use Rattle.unfold.specs.declared.scopes.Sight.{Sight as ASight}
+use Rattle.unfold.specs.declared.scopes.Surroundings.{Surroundings as LentSurroundings}
 use Rattle.fc_values.specs.declared.limits.TheConstants.{MOST_NODES}
 use Rattle.unfold.specs.Counting.{count, count_all, count_arguments, size_of}
 use Rattle.unfold.specs.Found.{FirstAt}
@@ -69,33 +69,33 @@ call_in B n scope f given p es =
     (body_of (meaning_of f (first_meanings B n))) given p es
 
 -- what an expression is read in: what the program declares, how many of its functions are seen, and the names in scope
-pub record Sight : Type 0 where
+pub record Surroundings : Type 0 where
   pub known : Before
   pub visible : ℕ
   pub scope : Scope
 
-abbrev pub sight_of : ASight → Sight
-sight_of s = record { known = known_of s.known.now; visible = s.visible; scope = scope_of s.scope.now }
+abbrev pub surroundings_of : LentSurroundings → Surroundings
+surroundings_of s = record { known = known_of s.known.now; visible = s.visible; scope = scope_of s.scope.now }
 
 -- how many nodes an expression has, and expressions in a row, and a call
-abbrev pub nodes_in : Sight → Expression → ℕ
+abbrev pub nodes_in : Surroundings → Expression → ℕ
 nodes_in s e = count (counted s.known s.visible) e
 
-abbrev pub all_nodes_in : Sight → Expressions → ℕ
+abbrev pub all_nodes_in : Surroundings → Expressions → ℕ
 all_nodes_in s es = count_all (counted s.known s.visible) es
 
-abbrev pub call_nodes_in : Sight → List ℕ → Expressions → ℕ
+abbrev pub call_nodes_in : Surroundings → List ℕ → Expressions → ℕ
 call_nodes_in s f es = count_arguments (counted s.known s.visible) es + size_of f (counted s.known s.visible)
 
 -- what they are at a place
-abbrev pub unfolded_by : Sight → ℕ → Expression → Term
+abbrev pub unfolded_by : Surroundings → ℕ → Expression → Term
 unfolded_by s p e = unfolded_in s.known s.visible s.scope p e
 
-abbrev pub all_unfolded_by : Sight → ℕ → Expressions → Terms
+abbrev pub all_unfolded_by : Surroundings → ℕ → Expressions → Terms
 all_unfolded_by s p es = all_unfolded_in s.known s.visible s.scope p es
 
-abbrev pub call_by_sight : Sight → List ℕ → List (ℕ × ValueType) → ℕ → Expressions → Term
-call_by_sight s f given p es = call_in s.known s.visible s.scope f given p es
+abbrev pub call_within : Surroundings → List ℕ → List (ℕ × ValueType) → ℕ → Expressions → Term
+call_within s f given p es = call_in s.known s.visible s.scope f given p es
 
 -- so many more nodes are within the limit
 abbrev pub HasRoom : List Node → ℕ → Type 0

@@ -27,7 +27,7 @@ pub enum Scope<'a> {
 /// What an expression is read in: what the program declares, how many of its functions are seen, and the names in
 /// scope.
 #[derive(Clone, Copy)]
-pub struct Sight<'a, 'k> {
+pub struct Surroundings<'a, 'k> {
     pub known: &'a Known<'k>,
     pub visible: usize,
     pub scope: &'a Scope<'a>,

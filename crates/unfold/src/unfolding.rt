@@ -15,7 +15,7 @@ ghost use Rattle.unfold.specs.declared.count.TheConstants.{MOST_COUNTED};
 
 use crate::counting::{count_nodes, main_of, table};
 use crate::faults::UnfoldFault;
-use crate::scopes::{Scope, Sight};
+use crate::scopes::{Scope, Surroundings};
 use crate::writing::write;
 use fc_nodes::{Node, Unfolded};
 use fc_syntax::Program;
@@ -60,11 +60,11 @@ fn nodes_of(alloc: Global, known: &Known<'_>, program: &Program) -> Result<Vec<N
 {
     let mut nodes = Vec::new(alloc);
     let functions = known.functions.len();
-    let sight = Sight {
+    let around = Surroundings {
         known: &*known,
         visible: functions,
         scope: &Scope::Arguments(&[], &[]),
     };
-    write(alloc, &sight, main_of(program), &mut nodes)?;
+    write(alloc, &around, main_of(program), &mut nodes)?;
     Ok(nodes)
 }

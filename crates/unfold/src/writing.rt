@@ -9,13 +9,13 @@ ghost use Rattle.fc_types.specs.Views.{known_of};
 ghost use Rattle.unfold.specs.Counting.{size_of};
 ghost use Rattle.unfold.specs.Nodes.{all_listed};
 ghost use Rattle.unfold.specs.Views.{counted};
-ghost use Rattle.unfold.specs.Writing.{HasRoom, IsLonger, IsWritten, all_nodes_in, all_unfolded_by, argument_of, call_by_sight, call_in, call_nodes_in, nodes_in, sight_of, unfolded_by};
+ghost use Rattle.unfold.specs.Writing.{HasRoom, IsLonger, IsWritten, all_nodes_in, all_unfolded_by, argument_of, call_within, call_in, call_nodes_in, nodes_in, surroundings_of, unfolded_by};
 
 use crate::names::{find, last_call};
 use crate::putting::{
     begin_node, end_node, field_type, given_type, put_input, put_leaf, put_untyped, put_variable,
 };
-use crate::scopes::{Argument, Scope, Sight};
+use crate::scopes::{Argument, Scope, Surroundings};
 use fc_nodes::{Node, Op};
 use fc_syntax::Expr;
 use fc_types::{Known, copy_type, shared_type};
@@ -27,16 +27,16 @@ use std::alloc::Global;
 #[cycle(write)]
 pub fn write(
     alloc: Global,
-    sight: &Sight<'_, '_>,
+    around: &Surroundings<'_, '_>,
     expr: &Expr,
     nodes: &mut Vec<Node>,
 ) -> Result<Ty, Memory>
-    requires inputs { length (known_of sight.now.known.now).inputs < 2 ^ 32 }
-    requires room { HasRoom nodes.old.items (nodes_in (sight_of sight.now) (term_of expr.now)) }
+    requires inputs { length (known_of around.now.known.now).inputs < 2 ^ 32 }
+    requires room { HasRoom nodes.old.items (nodes_in (surroundings_of around.now) (term_of expr.now)) }
     ensures long { IfOk result (λ _. IsLonger nodes.old.items nodes.new.items
-        (nodes_in (sight_of sight.now) (term_of expr.now))) }
+        (nodes_in (surroundings_of around.now) (term_of expr.now))) }
     ensures written { IfOk result (λ ty. IsWritten nodes.old.items nodes.new.items ty
-        (unfolded_by (sight_of sight.now) (length nodes.old.items) (term_of expr.now))) }
+        (unfolded_by (surroundings_of around.now) (length nodes.old.items) (term_of expr.now))) }
 {
     match expr {
         Expr::Int(n) => put_leaf(
@@ -51,22 +51,22 @@ pub fn write(
             Op::Lit(Local::Bool(*b)),
             Ty::Local(LocalTy::Bool),
         ),
-        Expr::Var(name) => put_variable(alloc, sight.scope, name, nodes),
+        Expr::Var(name) => put_variable(alloc, around.scope, name, nodes),
         Expr::Uid => put_leaf(alloc, nodes, Op::Uid, Ty::Local(LocalTy::Int)),
         Expr::NbrLink => put_leaf(alloc, nodes, Op::NbrLink, Ty::Field(LocalTy::Int)),
-        Expr::Sense(name) => put_input(alloc, sight.known, name, nodes),
-        Expr::Apply(builtin, args) => write_apply(alloc, sight, *builtin, args, nodes),
-        Expr::Nbr(inner) => write_nbr(alloc, sight, inner, nodes),
-        Expr::Rep(first, name, body) => write_rep(alloc, sight, first, name, body, nodes),
-        Expr::Share(first, name, body) => write_share(alloc, sight, first, name, body, nodes),
-        Expr::If(condition, then, other) => write_if(alloc, sight, condition, then, other, nodes),
-        Expr::Let(name, bound, body) => write_let(alloc, sight, name, bound, body, nodes),
+        Expr::Sense(name) => put_input(alloc, around.known, name, nodes),
+        Expr::Apply(builtin, args) => write_apply(alloc, around, *builtin, args, nodes),
+        Expr::Nbr(inner) => write_nbr(alloc, around, inner, nodes),
+        Expr::Rep(first, name, body) => write_rep(alloc, around, first, name, body, nodes),
+        Expr::Share(first, name, body) => write_share(alloc, around, first, name, body, nodes),
+        Expr::If(condition, then, other) => write_if(alloc, around, condition, then, other, nodes),
+        Expr::Let(name, bound, body) => write_let(alloc, around, name, bound, body, nodes),
         Expr::Call(name, args) if args.is_empty() => {
-            write_bare_call(alloc, sight.known, sight.visible, name, nodes)
+            write_bare_call(alloc, around.known, around.visible, name, nodes)
         }
         Expr::Call(name, args) => {
             let given = Vec::new(alloc);
-            write_call(alloc, sight, name, given, args, nodes)
+            write_call(alloc, around, name, given, args, nodes)
         }
     }
 }
@@ -76,24 +76,24 @@ pub fn write(
 #[inline(never)]
 fn write_apply(
     alloc: Global,
-    sight: &Sight<'_, '_>,
+    around: &Surroundings<'_, '_>,
     builtin: Builtin,
     args: &[Expr],
     nodes: &mut Vec<Node>,
 ) -> Result<Ty, Memory>
-    requires inputs { length (known_of sight.now.known.now).inputs < 2 ^ 32 }
+    requires inputs { length (known_of around.now.known.now).inputs < 2 ^ 32 }
     requires room { HasRoom nodes.old.items
-        (nodes_in (sight_of sight.now) (ApplyTerm builtin (terms (map term_of args.now)))) }
+        (nodes_in (surroundings_of around.now) (ApplyTerm builtin (terms (map term_of args.now)))) }
     ensures long { IfOk result (λ _. IsLonger nodes.old.items nodes.new.items
-        (nodes_in (sight_of sight.now) (ApplyTerm builtin (terms (map term_of args.now))))) }
+        (nodes_in (surroundings_of around.now) (ApplyTerm builtin (terms (map term_of args.now))))) }
     ensures written { IfOk result (λ ty. IsWritten nodes.old.items nodes.new.items ty
-        (unfolded_by (sight_of sight.now) (length nodes.old.items)
+        (unfolded_by (surroundings_of around.now) (length nodes.old.items)
         (ApplyTerm builtin (terms (map term_of args.now))))) }
 {
     let place = begin_node(alloc, nodes)?;
     let mut places = Vec::with_capacity(alloc, args.len())?;
     let mut types = Vec::with_capacity(alloc, args.len())?;
-    write_all(alloc, sight, args, nodes, &mut places, &mut types)?;
+    write_all(alloc, around, args, nodes, &mut places, &mut types)?;
     let ty = given_type(alloc, builtin, &types)?;
     end_node(
         nodes,
@@ -110,31 +110,31 @@ fn write_apply(
 #[inline(never)]
 fn write_all(
     alloc: Global,
-    sight: &Sight<'_, '_>,
+    around: &Surroundings<'_, '_>,
     args: &[Expr],
     nodes: &mut Vec<Node>,
     places: &mut Vec<u32>,
     types: &mut Vec<Ty>,
 ) -> Result<(), Memory>
-    requires inputs { length (known_of sight.now.known.now).inputs < 2 ^ 32 }
-    requires room { HasRoom nodes.old.items (all_nodes_in (sight_of sight.now) (terms (map term_of args.now))) }
+    requires inputs { length (known_of around.now.known.now).inputs < 2 ^ 32 }
+    requires room { HasRoom nodes.old.items (all_nodes_in (surroundings_of around.now) (terms (map term_of args.now))) }
     ensures long { IfOk result (λ _. IsLonger nodes.old.items nodes.new.items
-        (all_nodes_in (sight_of sight.now) (terms (map term_of args.now)))) }
+        (all_nodes_in (surroundings_of around.now) (terms (map term_of args.now)))) }
     ensures nodes { IfOk result (λ _. map view_of nodes.new.items ≡ map view_of nodes.old.items
         ++ all_listed (length nodes.old.items)
-        (all_unfolded_by (sight_of sight.now) (length nodes.old.items) (terms (map term_of args.now)))) }
+        (all_unfolded_by (surroundings_of around.now) (length nodes.old.items) (terms (map term_of args.now)))) }
     ensures places { IfOk result (λ _. places.new.items ≡ places.old.items
         ++ places_of (length nodes.old.items)
-        (all_unfolded_by (sight_of sight.now) (length nodes.old.items) (terms (map term_of args.now)))) }
+        (all_unfolded_by (surroundings_of around.now) (length nodes.old.items) (terms (map term_of args.now)))) }
     ensures types { IfOk result (λ _. map type_of types.new.items ≡ map type_of types.old.items
-        ++ types_of (all_unfolded_by (sight_of sight.now) (length nodes.old.items) (terms (map term_of args.now)))) }
+        ++ types_of (all_unfolded_by (surroundings_of around.now) (length nodes.old.items) (terms (map term_of args.now)))) }
 {
     let [arg, rest @ ..] = args else {
         return Ok(());
     };
     places.push(nodes.len() as u32)?;
-    types.push(write(alloc, sight, arg, nodes)?)?;
-    write_all(alloc, sight, rest, nodes, places, types)?;
+    types.push(write(alloc, around, arg, nodes)?)?;
+    write_all(alloc, around, rest, nodes, places, types)?;
     Ok(())
 }
 
@@ -143,19 +143,19 @@ fn write_all(
 #[inline(never)]
 fn write_nbr(
     alloc: Global,
-    sight: &Sight<'_, '_>,
+    around: &Surroundings<'_, '_>,
     inner: &Expr,
     nodes: &mut Vec<Node>,
 ) -> Result<Ty, Memory>
-    requires inputs { length (known_of sight.now.known.now).inputs < 2 ^ 32 }
-    requires room { HasRoom nodes.old.items (nodes_in (sight_of sight.now) (NbrTerm (term_of inner.now))) }
+    requires inputs { length (known_of around.now.known.now).inputs < 2 ^ 32 }
+    requires room { HasRoom nodes.old.items (nodes_in (surroundings_of around.now) (NbrTerm (term_of inner.now))) }
     ensures long { IfOk result (λ _. IsLonger nodes.old.items nodes.new.items
-        (nodes_in (sight_of sight.now) (NbrTerm (term_of inner.now)))) }
+        (nodes_in (surroundings_of around.now) (NbrTerm (term_of inner.now)))) }
     ensures written { IfOk result (λ ty. IsWritten nodes.old.items nodes.new.items ty
-        (unfolded_by (sight_of sight.now) (length nodes.old.items) (NbrTerm (term_of inner.now)))) }
+        (unfolded_by (surroundings_of around.now) (length nodes.old.items) (NbrTerm (term_of inner.now)))) }
 {
     let place = begin_node(alloc, nodes)?;
-    let ty = field_type(write(alloc, sight, inner, nodes)?);
+    let ty = field_type(write(alloc, around, inner, nodes)?);
     let kids = vec![in alloc; place + 1]?;
     end_node(nodes, place, Op::Nbr, copy_type(alloc, &ty)?, kids);
     Ok(ty)
@@ -166,28 +166,28 @@ fn write_nbr(
 #[inline(never)]
 fn write_rep(
     alloc: Global,
-    sight: &Sight<'_, '_>,
+    around: &Surroundings<'_, '_>,
     first: &Expr,
     name: &Name,
     body: &Expr,
     nodes: &mut Vec<Node>,
 ) -> Result<Ty, Memory>
-    requires inputs { length (known_of sight.now.known.now).inputs < 2 ^ 32 }
+    requires inputs { length (known_of around.now.known.now).inputs < 2 ^ 32 }
     requires room { HasRoom nodes.old.items
-        (nodes_in (sight_of sight.now) (RepTerm (term_of first.now) name.now.text.items (term_of body.now))) }
+        (nodes_in (surroundings_of around.now) (RepTerm (term_of first.now) name.now.text.items (term_of body.now))) }
     ensures long { IfOk result (λ _. IsLonger nodes.old.items nodes.new.items
-        (nodes_in (sight_of sight.now) (RepTerm (term_of first.now) name.now.text.items (term_of body.now)))) }
+        (nodes_in (surroundings_of around.now) (RepTerm (term_of first.now) name.now.text.items (term_of body.now)))) }
     ensures written { IfOk result (λ ty. IsWritten nodes.old.items nodes.new.items ty
-        (unfolded_by (sight_of sight.now) (length nodes.old.items)
+        (unfolded_by (surroundings_of around.now) (length nodes.old.items)
         (RepTerm (term_of first.now) name.now.text.items (term_of body.now)))) }
 {
     let place = begin_node(alloc, nodes)?;
-    let ty = write(alloc, sight, first, nodes)?;
+    let ty = write(alloc, around, first, nodes)?;
     let second = nodes.len() as u32;
-    let scope = Scope::Bind(&*name, place, &ty, &*sight.scope);
-    let inner = Sight {
-        known: &*sight.known,
-        visible: sight.visible,
+    let scope = Scope::Bind(&*name, place, &ty, &*around.scope);
+    let inner = Surroundings {
+        known: &*around.known,
+        visible: around.visible,
         scope: &scope,
     };
     write(alloc, &inner, body, nodes)?;
@@ -201,29 +201,29 @@ fn write_rep(
 #[inline(never)]
 fn write_share(
     alloc: Global,
-    sight: &Sight<'_, '_>,
+    around: &Surroundings<'_, '_>,
     first: &Expr,
     name: &Name,
     body: &Expr,
     nodes: &mut Vec<Node>,
 ) -> Result<Ty, Memory>
-    requires inputs { length (known_of sight.now.known.now).inputs < 2 ^ 32 }
+    requires inputs { length (known_of around.now.known.now).inputs < 2 ^ 32 }
     requires room { HasRoom nodes.old.items
-        (nodes_in (sight_of sight.now) (ShareTerm (term_of first.now) name.now.text.items (term_of body.now))) }
+        (nodes_in (surroundings_of around.now) (ShareTerm (term_of first.now) name.now.text.items (term_of body.now))) }
     ensures long { IfOk result (λ _. IsLonger nodes.old.items nodes.new.items
-        (nodes_in (sight_of sight.now) (ShareTerm (term_of first.now) name.now.text.items (term_of body.now)))) }
+        (nodes_in (surroundings_of around.now) (ShareTerm (term_of first.now) name.now.text.items (term_of body.now)))) }
     ensures written { IfOk result (λ ty. IsWritten nodes.old.items nodes.new.items ty
-        (unfolded_by (sight_of sight.now) (length nodes.old.items)
+        (unfolded_by (surroundings_of around.now) (length nodes.old.items)
         (ShareTerm (term_of first.now) name.now.text.items (term_of body.now)))) }
 {
     let place = begin_node(alloc, nodes)?;
-    let ty = write(alloc, sight, first, nodes)?;
+    let ty = write(alloc, around, first, nodes)?;
     let shared = shared_type(alloc, &ty)?;
     let second = nodes.len() as u32;
-    let scope = Scope::Bind(&*name, place, &shared, &*sight.scope);
-    let inner = Sight {
-        known: &*sight.known,
-        visible: sight.visible,
+    let scope = Scope::Bind(&*name, place, &shared, &*around.scope);
+    let inner = Surroundings {
+        known: &*around.known,
+        visible: around.visible,
         scope: &scope,
     };
     write(alloc, &inner, body, nodes)?;
@@ -237,27 +237,27 @@ fn write_share(
 #[inline(never)]
 fn write_if(
     alloc: Global,
-    sight: &Sight<'_, '_>,
+    around: &Surroundings<'_, '_>,
     condition: &Expr,
     then: &Expr,
     other: &Expr,
     nodes: &mut Vec<Node>,
 ) -> Result<Ty, Memory>
-    requires inputs { length (known_of sight.now.known.now).inputs < 2 ^ 32 }
+    requires inputs { length (known_of around.now.known.now).inputs < 2 ^ 32 }
     requires room { HasRoom nodes.old.items
-        (nodes_in (sight_of sight.now) (IfTerm (term_of condition.now) (term_of then.now) (term_of other.now))) }
+        (nodes_in (surroundings_of around.now) (IfTerm (term_of condition.now) (term_of then.now) (term_of other.now))) }
     ensures long { IfOk result (λ _. IsLonger nodes.old.items nodes.new.items
-        (nodes_in (sight_of sight.now) (IfTerm (term_of condition.now) (term_of then.now) (term_of other.now)))) }
+        (nodes_in (surroundings_of around.now) (IfTerm (term_of condition.now) (term_of then.now) (term_of other.now)))) }
     ensures written { IfOk result (λ ty. IsWritten nodes.old.items nodes.new.items ty
-        (unfolded_by (sight_of sight.now) (length nodes.old.items)
+        (unfolded_by (surroundings_of around.now) (length nodes.old.items)
         (IfTerm (term_of condition.now) (term_of then.now) (term_of other.now)))) }
 {
     let place = begin_node(alloc, nodes)?;
-    write(alloc, sight, condition, nodes)?;
+    write(alloc, around, condition, nodes)?;
     let second = nodes.len() as u32;
-    let ty = write(alloc, sight, then, nodes)?;
+    let ty = write(alloc, around, then, nodes)?;
     let third = nodes.len() as u32;
-    write(alloc, sight, other, nodes)?;
+    write(alloc, around, other, nodes)?;
     let kids = vec![in alloc; place + 1, second, third]?;
     end_node(nodes, place, Op::If, copy_type(alloc, &ty)?, kids);
     Ok(ty)
@@ -268,28 +268,28 @@ fn write_if(
 #[inline(never)]
 fn write_let(
     alloc: Global,
-    sight: &Sight<'_, '_>,
+    around: &Surroundings<'_, '_>,
     name: &Name,
     bound: &Expr,
     body: &Expr,
     nodes: &mut Vec<Node>,
 ) -> Result<Ty, Memory>
-    requires inputs { length (known_of sight.now.known.now).inputs < 2 ^ 32 }
+    requires inputs { length (known_of around.now.known.now).inputs < 2 ^ 32 }
     requires room { HasRoom nodes.old.items
-        (nodes_in (sight_of sight.now) (LetTerm name.now.text.items (term_of bound.now) (term_of body.now))) }
+        (nodes_in (surroundings_of around.now) (LetTerm name.now.text.items (term_of bound.now) (term_of body.now))) }
     ensures long { IfOk result (λ _. IsLonger nodes.old.items nodes.new.items
-        (nodes_in (sight_of sight.now) (LetTerm name.now.text.items (term_of bound.now) (term_of body.now)))) }
+        (nodes_in (surroundings_of around.now) (LetTerm name.now.text.items (term_of bound.now) (term_of body.now)))) }
     ensures written { IfOk result (λ ty. IsWritten nodes.old.items nodes.new.items ty
-        (unfolded_by (sight_of sight.now) (length nodes.old.items)
+        (unfolded_by (surroundings_of around.now) (length nodes.old.items)
         (LetTerm name.now.text.items (term_of bound.now) (term_of body.now)))) }
 {
     let place = begin_node(alloc, nodes)?;
-    let bound = write(alloc, sight, bound, nodes)?;
+    let bound = write(alloc, around, bound, nodes)?;
     let second = nodes.len() as u32;
-    let scope = Scope::Bind(&*name, place, &bound, &*sight.scope);
-    let inner = Sight {
-        known: &*sight.known,
-        visible: sight.visible,
+    let scope = Scope::Bind(&*name, place, &bound, &*around.scope);
+    let inner = Surroundings {
+        known: &*around.known,
+        visible: around.visible,
         scope: &scope,
     };
     let ty = write(alloc, &inner, body, nodes)?;
@@ -303,30 +303,30 @@ fn write_let(
 #[inline(never)]
 fn write_call(
     alloc: Global,
-    sight: &Sight<'_, '_>,
+    around: &Surroundings<'_, '_>,
     name: &Name,
     given: Vec<Argument>,
     args: &[Expr],
     nodes: &mut Vec<Node>,
 ) -> Result<Ty, Memory>
-    requires inputs { length (known_of sight.now.known.now).inputs < 2 ^ 32 }
+    requires inputs { length (known_of around.now.known.now).inputs < 2 ^ 32 }
     requires room { HasRoom nodes.old.items
-        (call_nodes_in (sight_of sight.now) name.now.text.items (terms (map term_of args.now))) }
+        (call_nodes_in (surroundings_of around.now) name.now.text.items (terms (map term_of args.now))) }
     ensures long { IfOk result (λ _. IsLonger nodes.old.items nodes.new.items
-        (call_nodes_in (sight_of sight.now) name.now.text.items (terms (map term_of args.now)))) }
+        (call_nodes_in (surroundings_of around.now) name.now.text.items (terms (map term_of args.now)))) }
     ensures written { IfOk result (λ ty. IsWritten nodes.old.items nodes.new.items ty
-        (call_by_sight (sight_of sight.now) name.now.text.items (map argument_of given.items) (length nodes.old.items)
+        (call_within (surroundings_of around.now) name.now.text.items (map argument_of given.items) (length nodes.old.items)
         (terms (map term_of args.now)))) }
 {
     let [arg, rest @ ..] = args else {
-        return write_body(alloc, sight.known, sight.visible, name, &given, nodes);
+        return write_body(alloc, around.known, around.visible, name, &given, nodes);
     };
     let place = begin_node(alloc, nodes)?;
-    let ty = write(alloc, sight, arg, nodes)?;
+    let ty = write(alloc, around, arg, nodes)?;
     let second = nodes.len() as u32;
     let mut given = given;
     given.push(Argument { place, ty })?;
-    let ty = write_call(alloc, sight, name, given, rest, nodes)?;
+    let ty = write_call(alloc, around, name, given, rest, nodes)?;
     let kids = vec![in alloc; place + 1, second]?;
     end_node(nodes, place, Op::Let, copy_type(alloc, &ty)?, kids);
     Ok(ty)
@@ -353,12 +353,12 @@ fn write_body(
 {
     match find(known, visible, name) {
         Some((number, function)) => {
-            let sight = Sight {
+            let around = Surroundings {
                 known: &*known,
                 visible: number,
                 scope: &Scope::Arguments(function.params, given),
             };
-            let ty = write(alloc, &sight, function.body, nodes)?;
+            let ty = write(alloc, &around, function.body, nodes)?;
             Ok(ty)
         }
         None => {

@@ -14,7 +14,7 @@ ghost use Rattle.value_trees.specs.declared.reading.KeptFault.TheVariants as kep
 
 use crate::items::{Item, names, plain_items};
 use crate::walks::{both, truth_at};
-use fc_nodes::{Node, Op, Unfolded, is_if};
+use fc_nodes::{Node, Op, Unfolded, ceiling_of, is_if};
 use fc_values::{Export, Local, LocalTy, Memory, Slot, Slots, blank_of, copy, fits, inner};
 use std::alloc::{AllocError, AllocFailed, Global};
 
@@ -249,11 +249,4 @@ fn may_stand(place: u32, ceiling: u32, ty: &LocalTy, item: &Item) -> bool
     ensures { IsTrue result ↔ MayStand place ceiling (local_type_of ty.now) (kept_of item.now) }
 {
     names(place, item.place) && fits(ty, &item.value, ceiling)
-}
-
-// The greatest integer of a program.
-fn ceiling_of(program: &Unfolded) -> u32
-    ensures { result ≡ program.now.declared.ceiling }
-{
-    program.declared().ceiling
 }

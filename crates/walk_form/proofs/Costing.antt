@@ -14,7 +14,7 @@ use Rattle.fc_nodes.specs.Program.{Program, Unfolding, unfolding_of, IsProgram}
 use Rattle.topology.specs.Networks.{Network, IsNetwork, Lives, lives, near, numbers}
 use Rattle.topology.proofs.Lemmas.{in_at}
 use Rattle.interval_facts.specs.Ranges.{RangeValue, IntRange, LiesIn, full, range_of, node_ranges}
-use Rattle.interval_facts.specs.Solutions.{Devices, Map, Maps, bind, around, at_device, local_map, no_binders, Solves, SolveAll, SolvesMain}
+use Rattle.interval_facts.specs.Solutions.{Devices, ValueMap, ValueMaps, bind, around, at_device, local_map, no_binders, Solves, SolveAll, SolvesMain}
 use Rattle.interval_facts.specs.Claims.{MapLiesIn, InRanges}
 use Rattle.interval_facts.proofs.Tables.{Shows}
 use Rattle.growth_facts.specs.Leads.{least_integer}
@@ -51,7 +51,7 @@ pub record Neighbours (N : Network) : Type 0 where
   pub most : (d e w : ℕ) → Contains (near N d) (e, w) → w ≤ N.declared.greatest
 
 -- a solution that lies in its ranges lies in the first one
-top_range : (rs : ℕ → RangeValue) (N : Network) (t : Term) (p : ℕ) (D : Devices) (V : Maps) (F : Map) (s : Solves N p t D V F) → InRanges rs N p t D V F s → MapLiesIn D (rs p) F
+top_range : (rs : ℕ → RangeValue) (N : Network) (t : Term) (p : ℕ) (D : Devices) (V : ValueMaps) (F : ValueMap) (s : Solves N p t D V F) → InRanges rs N p t D V F s → MapLiesIn D (rs p) F
 top_range rs N (Plain t l) p D V F s r = r
 top_range rs N (Apply t o xs) p D V F s r = r.0
 top_range rs N (Nbr t a) p D V F s r = r.0
@@ -59,19 +59,19 @@ top_range rs N (Evolve t e a b) p D V F s r = r.0
 top_range rs N (If t c a b) p D V F s r = r.0
 top_range rs N (Let t a b) p D V F s r = r.0
 
-no_rest : (N : Network) (p : ℕ) (D : Devices) (V : Maps) (Gs : List Map) → SolveAll N p NoMore D V Gs → Gs ≡ []
+no_rest : (N : Network) (p : ℕ) (D : Devices) (V : ValueMaps) (Gs : List ValueMap) → SolveAll N p NoMore D V Gs → Gs ≡ []
 no_rest N p D V [] s = refl
 no_rest N p D V (G ∷ Gs) s = absurd s
 
 -- two arguments of a builtin
-pub record TwoMaps (N : Network) (p : ℕ) (x y : Term) (D : Devices) (V : Maps) (Gs : List Map) : Type 0 where
-  pub first : Map
-  pub second : Map
+pub record TwoMaps (N : Network) (p : ℕ) (x y : Term) (D : Devices) (V : ValueMaps) (Gs : List ValueMap) : Type 0 where
+  pub first : ValueMap
+  pub second : ValueMap
   pub solves_first : Solves N p x D V first
   pub solves_second : Solves N (p + size x) y D V second
   pub at : (d : ℕ) → at_device d Gs ≡ first d ∷ second d ∷ []
 
-two_maps : (N : Network) (p : ℕ) (x y : Term) (D : Devices) (V : Maps) (Gs : List Map) → SolveAll N p (More x (More y NoMore)) D V Gs → TwoMaps N p x y D V Gs
+two_maps : (N : Network) (p : ℕ) (x y : Term) (D : Devices) (V : ValueMaps) (Gs : List ValueMap) → SolveAll N p (More x (More y NoMore)) D V Gs → TwoMaps N p x y D V Gs
 two_maps N p x y D V Gs s =
     let r = rests_first N p x (More y NoMore) D V Gs s in
     let z = rests_first N (p + size x) y NoMore D V r.1 r.4 in
@@ -209,7 +209,7 @@ module _ (analyses : YesAnalyses) (one_law : SolutionsAreOne) (P : Program) (N :
     abbrev f : ℕ → LocalValue
     f = s.1
 
-    abbrev V : Maps
+    abbrev V : ValueMaps
     V = bind 0 (local_map f) no_binders
 
     abbrev value : ℕ → ℕ
@@ -246,7 +246,7 @@ module _ (analyses : YesAnalyses) (one_law : SolutionsAreOne) (P : Program) (N :
     abbrev cost : ℕ → ℕ × ℕ → ℕ
     cost d m = added ad (d, m.1)
 
-    value_gives : (q : ℕ) (t : Term) (xs : List (ℕ × ℕ)) (S : Map) → w.step ≡ StepValue q t → IsFieldAt N q t xs → Solves N q t D V S → (d : ℕ) → Lives N d → Gives N net d (S d) (λ m. has xs d)
+    value_gives : (q : ℕ) (t : Term) (xs : List (ℕ × ℕ)) (S : ValueMap) → w.step ≡ StepValue q t → IsFieldAt N q t xs → Solves N q t D V S → (d : ℕ) → Lives N d → Gives N net d (S d) (λ m. has xs d)
     value_gives q t xs S e k z d i n v c o =
         let r = rests_on one_law P N is net same A analysis.for analysis.ranges q t (spart q t e) (stype q t e) k.one f S z d i in
         let m = has_member k.one.field xs (numbers N.devices) k.values d i in
@@ -254,7 +254,7 @@ module _ (analyses : YesAnalyses) (one_law : SolutionsAreOne) (P : Program) (N :
         let is_has : has xs d ≡ m.0 = has_here xs d m.0 m.1.0 rising m.1.1 m.1.2 in
         ap (argument_at n) (r ∙ ap ValueLocal (m.2 ∙ ap IntValue (sym is_has)))
 
-    added_gives : (q : ℕ) (b : Term) (st : StepTerm) (S : Map) → IsAdded q b st → w.step ≡ st → AddsAre N st ad → Solves N q b D V S → (d : ℕ) → Lives N d → Gives N net d (S d) (cost d)
+    added_gives : (q : ℕ) (b : Term) (st : StepTerm) (S : ValueMap) → IsAdded q b st → w.step ≡ st → AddsAre N st ad → Solves N q b D V S → (d : ℕ) → Lives N d → Gives N net d (S d) (cost d)
     added_gives q b st S (inverted.links t z) e k sv d i = by_adds ad k (subst (λ y. Solves N q y D V S) z sv)
       where
         by_adds : (y : Added) → AddsAre N StepWeight y → Solves N q (Plain t NbrLink) D V S → Gives N net d (S d) (λ m. added y (d, m.1))
@@ -270,7 +270,7 @@ module _ (analyses : YesAnalyses) (one_law : SolutionsAreOne) (P : Program) (N :
     abbrev made : ℕ → ℕ × ℕ → ℕ
     made d m = min M (value m.0 + cost d m)
 
-    sum_gives : (p : ℕ) (u : Term) (st : StepTerm) → IsSum 0 p u st → w.step ≡ st → AddsAre N st ad → type_of u ≡ TypeField IntType → (H : Map) → Solves N p u D V H → (d : ℕ) → Lives N d → Hood N net d (H d) (made d)
+    sum_gives : (p : ℕ) (u : Term) (st : StepTerm) → IsSum 0 p u st → w.step ≡ st → AddsAre N st ad → type_of u ≡ TypeField IntType → (H : ValueMap) → Solves N p u D V H → (d : ℕ) → Lives N d → Hood N net d (H d) (made d)
     sum_gives p u st (inverted.first t a b st' hd z) e k ty H sv d i =
         let m = two_maps N (suc p) a b D V sv.1 sv.2 in
         let x = heard_gives N net f value integer there no_binders (suc p) a m.first hd m.solves_first d i in

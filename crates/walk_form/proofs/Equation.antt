@@ -18,7 +18,7 @@ use Rattle.fc_nodes.specs.Variables.{is_heard}
 use Rattle.topology.specs.Networks.{Network, IsNetwork, Lives, lives, near, numbers}
 use Rattle.topology.specs.Nearby.{near_numbers}
 use Rattle.topology.proofs.Lemmas.{AllNear, near_fits, near_rises}
-use Rattle.interval_facts.specs.Solutions.{Devices, Map, Maps, bind, near_among, around, field_over, field_of, local_map, Solves}
+use Rattle.interval_facts.specs.Solutions.{Devices, ValueMap, ValueMaps, bind, near_among, around, field_over, field_of, local_map, Solves}
 use Rattle.growth_facts.specs.Leads.{lead}
 use Rattle.growth_facts.proofs.Closeness.{lesser_lead}
 use Rattle.converge_laws.proofs.Agreement.{field_same}
@@ -242,7 +242,7 @@ module _ (N : Network) (net : IsNetwork N) where
 
   -- ---- what is heard of the variable
 
-  heard_solved : (f : ℕ → LocalValue) (W : Maps) (p : ℕ) (a : Term) (K : Map) → is_heard ByRep 0 a ≡ true → Solves N p a D (bind 0 (local_map f) W) K → (d : ℕ) → Lives N d → K d ≡ field_of N D f d
+  heard_solved : (f : ℕ → LocalValue) (W : ValueMaps) (p : ℕ) (a : Term) (K : ValueMap) → is_heard ByRep 0 a ≡ true → Solves N p a D (bind 0 (local_map f) W) K → (d : ℕ) → Lives N d → K d ≡ field_of N D f d
   heard_solved f W p (Nbr t (Plain u (Variable k))) K e s d i =
       let z : k ≡ 0 = eqb-true k 0 e in
       s.3 d i ∙ field_same N D s.1 f (λ n j. one (s.1 n) (f n) (s.2.1 n j ∙ ap (λ y. restricted n (near_numbers (near_among N D n)) (bind 0 (local_map f) W y n)) z)) d i
@@ -274,7 +274,7 @@ module _ (N : Network) (net : IsNetwork N) where
       ap (argument_at n) (e ∙ ap (λ ms. field_over d v ms f) (near_all d)) ∙ over_at d v (near N d) f n w (near_up d) o c ∙ ap (λ y. Some y) (h n w c)
 
   pub heard_gives : (f : ℕ → LocalValue) (g : ℕ → ℕ) → ((n : ℕ) → Lives N n → f n ≡ IntValue (g n)) → ((d n w : ℕ) → Contains (near N d) (n, w) → Lives N n)
-      → (W : Maps) (p : ℕ) (a : Term) (K : Map) → is_heard ByRep 0 a ≡ true → Solves N p a D (bind 0 (local_map f) W) K → (d : ℕ) → Lives N d → Gives d (K d) (λ m. g m.0)
+      → (W : ValueMaps) (p : ℕ) (a : Term) (K : ValueMap) → is_heard ByRep 0 a ≡ true → Solves N p a D (bind 0 (local_map f) W) K → (d : ℕ) → Lives N d → Gives d (K d) (λ m. g m.0)
   heard_gives f g ints there W p a K e s d i = over_gives d (f d) (λ m. f m.0) (λ m. g m.0) (λ n w c. ints n (there d n w c)) (K d) (heard_solved f W p a K e s d i)
 
   -- ---- a sum and the least of it

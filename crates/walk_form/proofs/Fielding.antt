@@ -12,7 +12,7 @@ use Rattle.fc_nodes.specs.Variables.{occurs}
 use Rattle.fc_nodes.specs.Program.{Program, Unfolding, unfolding_of, IsProgram}
 use Rattle.topology.specs.Networks.{Network, IsNetwork, Lives, lives, numbers}
 use Rattle.interval_facts.specs.Ranges.{IntRange, Bounds, full, LiesIn, range_of, node_ranges}
-use Rattle.interval_facts.specs.Solutions.{Devices, Map, Maps, bind, around, local_map, no_binders, Solves}
+use Rattle.interval_facts.specs.Solutions.{Devices, ValueMap, ValueMaps, bind, around, local_map, no_binders, Solves}
 use Rattle.interval_facts.specs.Claims.{InRanges}
 use Rattle.interval_facts.specs.Scopes.{BoundsHold}
 use Rattle.interval_facts.proofs.Claims.{fits_of, in_ranges}
@@ -35,7 +35,7 @@ use Rattle.walk_form.proofs.Under.{shows_under, solves_under, typed_under}
 
 -- ---- a variable that doesn't occur
 
-pub free_agree : (D : Devices) (t : Term) (x : ℕ) (G : Map) (V : Maps) → occurs x t ≡ false → AgreeFor D t (bind x G V) V
+pub free_agree : (D : Devices) (t : Term) (x : ℕ) (G : ValueMap) (V : ValueMaps) → occurs x t ≡ false → AgreeFor D t (bind x G V) V
 free_agree D t x G V free q o d i = by_test (nat_eq x q) refl
   where
     by_test : (c : Bool) → nat_eq x q ≡ c → (if c then G else V q) d ≡ V q d
@@ -103,7 +103,7 @@ module _ (one_law : SolutionsAreOne) (P : Program) (N : Network) (is : IsProgram
 
   module _ (q : ℕ) (t : Term) (part : Part P A M q t) where
     -- each solution lies in its ranges
-    pub lies : (F : Map) (s : Solves N q t (lives N) no_binders F) → InRanges A.ranges N q t (lives N) no_binders F s
+    pub lies : (F : ValueMap) (s : Solves N q t (lives N) no_binders F) → InRanges A.ranges N q t (lives N) no_binders F s
     lies F s =
         let metric = is.lawful.metric.0 in
         let shows = shows_under P.declared ((0, full P.declared.ceiling IntType) ∷ []) (range_of U) (suc 0 + size part.start) part.body q t part.stands (body_shows U part.start part.body part.main) in
@@ -136,7 +136,7 @@ module _ (one_law : SolutionsAreOne) (P : Program) (N : Network) (is : IsProgram
       one_field one = let f = some_field one in record { field = f.0; solves = f.1; only = λ G s d i. only_one G f.0 s f.1 d i }
 
       -- a solution that the program rests on is this field
-      pub rests_on : (one : HasOneField N q t) (f : ℕ → LocalValue) (G : Map) → Solves N q t (lives N) (bind 0 (local_map f) no_binders) G → (d : ℕ) → Lives N d → G d ≡ ValueLocal (one.field d)
+      pub rests_on : (one : HasOneField N q t) (f : ℕ → LocalValue) (G : ValueMap) → Solves N q t (lives N) (bind 0 (local_map f) no_binders) G → (d : ℕ) → Lives N d → G d ≡ ValueLocal (one.field d)
       rests_on one f G s d i =
           let moved = solves_vars N net t q (lives N) (bind 0 (local_map f) no_binders) no_binders G (free_agree (lives N) t 0 (local_map f) no_binders part.free) s in
           let fit = fits_of N t q (lives N) no_binders G moved in

@@ -16,7 +16,7 @@ use Rattle.fragment_check.specs.declared.kinds.Pattern.{Pattern}
 use Rattle.fragment_check.specs.declared.kinds.Pattern.TheVariants as pattern
 use Rattle.fragment_check.specs.Shapes.{HasPattern, constant, acyclic, minimising, rising}
 use Rattle.fragment_check.specs.Verdicts.{verdict_of}
-use Rattle.converge_laws.specs.Fragment.{Analysis, InFragment}
+use Rattle.converge_laws.specs.Fragment.{Analysis, TermInFragment}
 use Rattle.converge_laws.specs.Verdicts.{analysis_of, pattern_or, YesAnalyses}
 use Rattle.walk_form.specs.Forms.{StepTerm, WalkTerms, walk_terms}
 use Rattle.walk_form.proofs.Inverted.{IsAdded, IsSum, gradient}
@@ -157,7 +157,7 @@ pub record Gradient (P : Program) (A : Analysis) (m : ℕ) (w : WalkTerms) : Typ
   pub is_sum : IsSum 0 (suc (suc 0 + size start)) sum w.step
   pub free : occurs 0 w.local ≡ false
   pub added : Summand m A.ranges 0 (suc (suc 0 + size start)) sum w.step
-  pub fragment : InFragment A m (suc 0 + size start) (Apply type op.MinHoodLoc (More sum (More w.local NoMore)))
+  pub fragment : TermInFragment A m (suc 0 + size start) (Apply type op.MinHoodLoc (More sum (More w.local NoMore)))
 
 sums_same : (t u : ValueType) (a b c d : Term) → Apply t op.MinHoodLoc (More a (More b NoMore)) ≡ Apply u op.MinHoodLoc (More c (More d NoMore)) → (a ≡ c) × (b ≡ d)
 sums_same t u a b c d e = (cc, cc)
@@ -179,7 +179,7 @@ module _ (analyses : YesAnalyses) (P : Program) (N : Network) (k : ℕ) (is : Is
       let r = g.root in
       let b = r.form in
       let analysis = (analyses P N k is net same agreed).analysis in
-      let parts : InFragment A M 0 (Evolve (TypeLocal IntType) ByRep r.start r.body) = subst (InFragment A M 0) r.is analysis.fragment in
+      let parts : TermInFragment A M 0 (Evolve (TypeLocal IntType) ByRep r.start r.body) = subst (TermInFragment A M 0) r.is analysis.fragment in
       let least = least_facts M A.ranges ByRep 0 (suc 0 + size r.start) IntType r.body (A.pattern 0) g.least.greatest g.least.growth parts.0 (ap pattern_or g.least.is) in
       let alike = sums_same b.type least.type b.sum w.local least.sum least.local (sym b.is ∙ least.is) in
       record {
@@ -192,5 +192,5 @@ module _ (analyses : YesAnalyses) (P : Program) (N : Network) (k : ℕ) (is : Is
         free = subst (λ l. occurs 0 l ≡ false) (sym alike.1) least.free;
         added = summand M A.ranges 0 (suc (suc 0 + size r.start)) b.sum w.step least.growth b.step
             (subst (λ h. growth_of M A.ranges ByRep 0 (suc (suc 0 + size r.start)) h ≡ Grows least.growth) (sym alike.0) least.grows) least.some;
-        fragment = subst (InFragment A M (suc 0 + size r.start)) b.is parts.2;
+        fragment = subst (TermInFragment A M (suc 0 + size r.start)) b.is parts.2;
       }

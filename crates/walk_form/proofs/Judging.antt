@@ -18,7 +18,7 @@ use Rattle.fc_nodes.specs.declared.verdicts.Reason.TheVariants as reason
 use Rattle.fragment_check.specs.declared.kinds.Pattern.{Pattern}
 use Rattle.fragment_check.specs.declared.kinds.Pattern.TheVariants as pattern
 use Rattle.fragment_check.specs.declared.facts.Guarding.{Guarding}
-use Rattle.fragment_check.specs.Patterns.{two_of, three_of, settled_hood, hood_of, rise_of, risen_hood, risen_form, Form, IsHood, IsRise, IsOther, form_by, form_of, by_form, by_guarding, guarding_of, minimising, rising, body_pattern, pattern_of, Judged, judged, all_judged, first_refused, refusal_first, is_nested, is_unguarded}
+use Rattle.fragment_check.specs.Patterns.{two_of, three_of, settled_hood, hood_of, rise_of, risen_hood, risen_form, Form, IsHood, IsRise, IsOther, form_by, form_of, by_form, by_guarding, guarding_of, minimising, rising, body_pattern, pattern_of, JudgedPlace, judged, all_judged, first_refused, refusal_first, is_nested, is_unguarded}
 use Rattle.fragment_check.specs.Verdicts.{verdict_of, verdict_by, judged_of, main_level}
 use Rattle.walk_form.specs.Alone.{filler, alone_term}
 use Rattle.walk_form.proofs.Laying.{filled}
@@ -220,24 +220,24 @@ module _ (m : ℕ) (R S : ℕ → RangeValue) where
     judged_same (Apply t o xs) p h = all_same xs (suc p) (narrow p (suc (sizes xs)) (suc p) (sizes xs) (omega arith) (omega arith) h)
     judged_same (Nbr t a) p h = judged_same a (suc p) (narrow p (suc (size a)) (suc p) (size a) (omega arith) (omega arith) h)
     judged_same (Evolve t e a b) p h =
-        ap₂ {A = Judged} {B = List Judged} (λ j js. j ∷ js)
+        ap₂ {A = JudgedPlace} {B = List JudgedPlace} (λ j js. j ∷ js)
         (ap (λ r. (p, r)) (body_same e p (suc p + size a) b (narrow p (suc (size a + size b)) (suc p + size a) (size b) (omega arith) (omega arith) h)))
         (judged_same b (suc p + size a) (narrow p (suc (size a + size b)) (suc p + size a) (size b) (omega arith) (omega arith) h))
     judged_same (If t c a b) p h =
-        ap₂ {A = List Judged} {B = List Judged} (λ x y. x ++ y)
+        ap₂ {A = List JudgedPlace} {B = List JudgedPlace} (λ x y. x ++ y)
         (judged_same c (suc p) (narrow p (suc (size c + size a + size b)) (suc p) (size c) (omega arith) (omega arith) h))
-        (ap₂ {A = List Judged} {B = List Judged} (λ x y. x ++ y)
+        (ap₂ {A = List JudgedPlace} {B = List JudgedPlace} (λ x y. x ++ y)
         (judged_same a (suc p + size c) (narrow p (suc (size c + size a + size b)) (suc p + size c) (size a) (omega arith) (omega arith) h))
         (judged_same b (suc p + size c + size a) (narrow p (suc (size c + size a + size b)) (suc p + size c + size a) (size b) (omega arith) (omega arith) h)))
     judged_same (Let t a b) p h =
-        ap₂ {A = List Judged} {B = List Judged} (λ x y. x ++ y)
+        ap₂ {A = List JudgedPlace} {B = List JudgedPlace} (λ x y. x ++ y)
         (judged_same a (suc p) (narrow p (suc (size a + size b)) (suc p) (size a) (omega arith) (omega arith) h))
         (judged_same b (suc p + size a) (narrow p (suc (size a + size b)) (suc p + size a) (size b) (omega arith) (omega arith) h))
 
     all_same : (xs : Terms) (p : ℕ) → SameOn p (sizes xs) → all_judged m R p xs ≡ all_judged m S p xs
     all_same NoMore p h = refl
     all_same (More t ts) p h =
-        ap₂ {A = List Judged} {B = List Judged} (λ x y. x ++ y)
+        ap₂ {A = List JudgedPlace} {B = List JudgedPlace} (λ x y. x ++ y)
         (judged_same t p (narrow p (size t + sizes ts) p (size t) (omega arith) (omega arith) h))
         (all_same ts (p + size t) (narrow p (size t + sizes ts) (p + size t) (sizes ts) (omega arith) (omega arith) h))
 

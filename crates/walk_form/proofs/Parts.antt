@@ -12,7 +12,7 @@ use Rattle.fc_nodes.proofs.Kids.{size_some}
 use Rattle.topology.specs.Networks.{Network, IsNetwork}
 use Rattle.growth_facts.specs.Leads.{least_integer}
 use Rattle.fragment_check.specs.Verdicts.{verdict_of}
-use Rattle.converge_laws.specs.Fragment.{Analysis, InFragment}
+use Rattle.converge_laws.specs.Fragment.{Analysis, TermInFragment}
 use Rattle.converge_laws.specs.Verdicts.{analysis_of, YesAnalyses}
 use Rattle.walk_form.specs.declared.forms.Span.{Span}
 use Rattle.walk_form.specs.Forms.{StepTerm, StepValue, WalkTerms, walk_terms}
@@ -187,7 +187,7 @@ pub record Part (P : Program) (A : Analysis) (m q : ℕ) (t : Term) : Type 0 whe
   pub main : (unfolding_of P).main ≡ Evolve (TypeLocal IntType) ByRep start body
   pub stands : Under (suc 0 + size start) body q t
   pub free : occurs 0 t ≡ false
-  pub fragment : InFragment A m q t
+  pub fragment : TermInFragment A m q t
 
 module _ (analyses : YesAnalyses) (P : Program) (N : Network) (k : ℕ) (is : IsProgram P) (net : IsNetwork N) (same : N.declared ≡ P.declared)
     (agreed : verdict_of (unfolding_of P) (length N.devices) ≡ verdict.Yes k) (w : WalkTerms) (form : walk_terms (unfolding_of P) ≡ Some w) where

@@ -10,11 +10,11 @@ use Rattle.fc_nodes.specs.Terms.{Term, Terms, Apply, More, size, Laid}
 use Rattle.fc_nodes.specs.Typing.{Scope, HasType}
 use Rattle.topology.specs.Networks.{Network}
 use Rattle.interval_facts.specs.Ranges.{RangeValue, Bounds, node_ranges, all_node_ranges}
-use Rattle.interval_facts.specs.Solutions.{Devices, Map, Maps, Solves, SolveAll}
+use Rattle.interval_facts.specs.Solutions.{Devices, ValueMap, ValueMaps, Solves, SolveAll}
 use Rattle.interval_facts.proofs.Tables.{Shows, shows_first, shows_second, as_many}
 use Rattle.fragment_check.specs.declared.kinds.Pattern.{Pattern}
-use Rattle.fragment_check.specs.Patterns.{Judged, judged, all_judged, first_refused, refusal_first}
-use Rattle.converge_laws.specs.Fragment.{Analysis, InFragment}
+use Rattle.fragment_check.specs.Patterns.{JudgedPlace, judged, all_judged, first_refused, refusal_first}
+use Rattle.converge_laws.specs.Fragment.{Analysis, TermInFragment}
 
 pub data Under : ℕ → Term → ℕ → Term → Type 0 where
   here : (p : ℕ) (t : Term) → Under p t p t
@@ -34,7 +34,7 @@ laid_under ns p T q u (first p' t o x xs q' u' k) h = laid_under ns (suc p') x q
 laid_under ns p T q u (second p' t o x y ys q' u' k) h = laid_under ns (suc p' + size x) y q' u' k h.1.1.0
 
 -- none of a list is refused where none of two parts is
-none_first : (xs ys : List Judged) → first_refused (xs ++ ys) ≡ None → (first_refused xs ≡ None) × (first_refused ys ≡ None)
+none_first : (xs ys : List JudgedPlace) → first_refused (xs ++ ys) ≡ None → (first_refused xs ≡ None) × (first_refused ys ≡ None)
 none_first [] ys e = (refl, e)
 none_first (j ∷ xs) ys e = by_result j.1 e (none_first xs ys)
   where
@@ -65,22 +65,22 @@ shows_under D cs R p T q u (second p' t o x y ys q' u' k) h =
     shows_under D cs R (suc p' + size x) y q' u' k
     (shows_first R (suc p' + size x) (size y) (node_ranges D cs (suc p' + size x) y) (all_node_ranges D cs (suc p' + size x + size y) ys) (as_many D y cs (suc p' + size x)) rest)
 
-pub fragment_under : (A : Analysis) (m p : ℕ) (T : Term) (q : ℕ) (u : Term) → Under p T q u → InFragment A m p T → InFragment A m q u
+pub fragment_under : (A : Analysis) (m p : ℕ) (T : Term) (q : ℕ) (u : Term) → Under p T q u → TermInFragment A m p T → TermInFragment A m q u
 fragment_under A m p T q u (here p' t') h = h
 fragment_under A m p T q u (first p' t o x xs q' u' k) h = fragment_under A m (suc p') x q' u' k h.0
 fragment_under A m p T q u (second p' t o x y ys q' u' k) h = fragment_under A m (suc p' + size x) y q' u' k h.1.0
 
 -- a solution rests on one
-pub record Rests (N : Network) (q : ℕ) (u : Term) (D : Devices) (V : Maps) : Type 0 where
-  pub map : Map
+pub record Rests (N : Network) (q : ℕ) (u : Term) (D : Devices) (V : ValueMaps) : Type 0 where
+  pub map : ValueMap
   pub solves : Solves N q u D V map
 
-pub rests_first : (N : Network) (p : ℕ) (x : Term) (xs : Terms) (D : Devices) (V : Maps) (Gs : List Map) → SolveAll N p (More x xs) D V Gs
-    → (G : Map) × (Hs : List Map) × (Gs ≡ G ∷ Hs) × Solves N p x D V G × SolveAll N (p + size x) xs D V Hs
+pub rests_first : (N : Network) (p : ℕ) (x : Term) (xs : Terms) (D : Devices) (V : ValueMaps) (Gs : List ValueMap) → SolveAll N p (More x xs) D V Gs
+    → (G : ValueMap) × (Hs : List ValueMap) × (Gs ≡ G ∷ Hs) × Solves N p x D V G × SolveAll N (p + size x) xs D V Hs
 rests_first N p x xs D V [] s = absurd s
 rests_first N p x xs D V (G ∷ Gs) s = (G, Gs, refl, s.0, s.1)
 
-pub solves_under : (N : Network) (p : ℕ) (T : Term) (q : ℕ) (u : Term) (D : Devices) (V : Maps) → Under p T q u → (F : Map) → Solves N p T D V F → Rests N q u D V
+pub solves_under : (N : Network) (p : ℕ) (T : Term) (q : ℕ) (u : Term) (D : Devices) (V : ValueMaps) → Under p T q u → (F : ValueMap) → Solves N p T D V F → Rests N q u D V
 solves_under N p T q u D V (here p' t') F s = record { map = F; solves = s }
 solves_under N p T q u D V (first p' t o x xs q' u' k) F s =
     let r = rests_first N (suc p') x xs D V s.1 s.2 in

@@ -6,7 +6,7 @@ use Rattle.fc_values.specs.Types.{Input, Declarations, declarations_of, input_of
 use Rattle.fc_nodes.specs.Program.{Unfolding, unfolding_of}
 use Rattle.topology.specs.Networks.{NetDevice, Network, device_of, network_of}
 use Rattle.serde_json.specs.Data.{Items}
-use Rattle.net_json.specs.Judging.{Judged, Accepted, and_then, RefusedWith}
+use Rattle.net_json.specs.Judging.{JudgedScene, Accepted, and_then, RefusedWith}
 use Rattle.net_json.specs.Devices.{devices_judged}
 use Rattle.net_json.specs.Links.{links_judged}
 use Rattle.net_json.specs.Scenes.{scene_path, network_judged}
@@ -23,7 +23,7 @@ links_are : (U : Unfolding) (is : List Input) (D : Declarations) (ds ls : Items)
     → is ≡ U.declared.inputs → D ≡ U.declared → devices_judged is (scene_path (codes "devices")) ds ≡ Accepted ns → n ≡ network_of D ns []
     → network_judged U ds ls ≡ links_judged (scene_path (codes "links")) n ls
 links_are U is D ds ls ns n inputs declared e h =
-    ap (λ (j : Judged (List NetDevice)). and_then j (λ ms. links_judged (scene_path (codes "links")) (network_of U.declared ms []) ls))
+    ap (λ (j : JudgedScene (List NetDevice)). and_then j (λ ms. links_judged (scene_path (codes "links")) (network_of U.declared ms []) ls))
     (devices_are is U.declared.inputs ds inputs ∙ e)
     ∙ ap (λ (m : Network). links_judged (scene_path (codes "links")) m ls) (sym (h ∙ ap (λ (d : Declarations). network_of d ns []) declared))
 
@@ -44,12 +44,12 @@ returns-in_err-devices-clause-refused c =
     let inputs = ap (map input_of) c.deref.ensures.value ∙ ap (λ (d : Declarations). d.inputs) (c.in_ok-declared.ensures ∙ c.declared.ensures.value) in
     let same = devices_are (map input_of c.deref.result.now) U.declared.inputs ds inputs in
     rw (p.1, p.2) (refused_next (devices_judged U.declared.inputs (scene_path (codes "devices")) ds) (λ ms. links_judged (scene_path (codes "links")) (network_of U.declared ms []) ls) f
-    (subst (λ (j : Judged (List NetDevice)). RefusedWith j f) (sym same) c.in_err-devices.ensures.refused))
+    (subst (λ (j : JudgedScene (List NetDevice)). RefusedWith j f) (sym same) c.in_err-devices.ensures.refused))
 
 pub returns-clause-ok : goal.returns-clause-ok
 returns-clause-ok c =
     let declared = c.in_ok-declared.ensures ∙ c.declared.ensures.value in
-    subst (λ (j : Judged Network). IfOk c.read_links.result (λ n. j ≡ Accepted n))
+    subst (λ (j : JudgedScene Network). IfOk c.read_links.result (λ n. j ≡ Accepted n))
     (sym (links_are (unfolding_of c.args.program.now) (map input_of c.deref.result.now) (declarations_of c.in_ok-declared.declared) (items_view c.args.devices.now) (items_view c.args.links.now)
     (map device_of c.in_ok-devices.devices.items) c.in_ok-draft.draft
     (ap (map input_of) c.deref.ensures.value ∙ ap (λ (d : Declarations). d.inputs) declared) declared c.in_ok-devices.ensures.ok c.in_ok-draft.ensures))
@@ -58,7 +58,7 @@ returns-clause-ok c =
 pub returns-clause-refused : goal.returns-clause-refused
 returns-clause-refused c =
     let declared = c.in_ok-declared.ensures ∙ c.declared.ensures.value in
-    subst (λ (j : Judged Network). IfErr c.read_links.result (RefusedWith j))
+    subst (λ (j : JudgedScene Network). IfErr c.read_links.result (RefusedWith j))
     (sym (links_are (unfolding_of c.args.program.now) (map input_of c.deref.result.now) (declarations_of c.in_ok-declared.declared) (items_view c.args.devices.now) (items_view c.args.links.now)
     (map device_of c.in_ok-devices.devices.items) c.in_ok-draft.draft
     (ap (map input_of) c.deref.ensures.value ∙ ap (λ (d : Declarations). d.inputs) declared) declared c.in_ok-devices.ensures.ok c.in_ok-draft.ensures))

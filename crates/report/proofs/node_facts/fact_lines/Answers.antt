@@ -1,5 +1,5 @@
 use Rattle.std.proofs.Common.{◌≡◌, ◌+◌, ◌++◌, ◌<◌, suc, None, get_or, ap, ap₂, subst, arith, ◌∙◌}
-use Rattle.fc_nodes.specs.Parts.{part_at}
+use Rattle.fc_nodes.specs.Subterms.{subterm_at}
 use Rattle.fc_nodes.specs.Program.{unfolding_of}
 use Rattle.interval_facts.proofs.Lengths.{place_there}
 use Rattle.report.specs.Facts.{fact_line, facts_before}
@@ -16,6 +16,6 @@ loop-place-preserved c =
     let place = c.loop-place.place in
     let next : suc place ≡ place + 1 = omega arith in
     c.in_ok-write_fact.ensures
-    ∙ ap₂ (λ lines range. lines ++ fact_line place (part_at place U.main) range (get_or c.args.levels.now place None))
+    ∙ ap₂ (λ lines range. lines ++ fact_line place (subterm_at place U.main) range (get_or c.args.levels.now place None))
     c.loop-place.invariant c.at.ensures
     ∙ ap (facts_before U c.args.ranges.now c.args.levels.now) next

@@ -15,26 +15,26 @@ use Rattle.unfold.proofs.writing.+write.Goals as goal
 pub write_all-returns-clause-nodes : goal.write_all-returns-clause-nodes
 write_all-returns-clause-nodes t c =
     let s = first_and_rest c.args.args.now c.arg-item.result c.in-len1-up.len_at_least c.arg-item.is in
-    rw s (row_nodes (known_of c.args.sight.now.known.now) c.args.sight.now.visible (scope_of c.args.sight.now.scope.now) (term_of c.arg-item.result) (terms (map term_of (take (length c.args.args.now - 1) (drop 1 c.args.args.now)))) c.args.nodes.now.items c.write.new.nodes.items c.in_ok-write.field-0 c.in_ok-write.ensures.long c.in_ok-write.ensures.written
+    rw s (row_nodes (known_of c.args.around.now.known.now) c.args.around.now.visible (scope_of c.args.around.now.scope.now) (term_of c.arg-item.result) (terms (map term_of (take (length c.args.args.now - 1) (drop 1 c.args.args.now)))) c.args.nodes.now.items c.write.new.nodes.items c.in_ok-write.field-0 c.in_ok-write.ensures.long c.in_ok-write.ensures.written
     c.write_all.new.nodes.items c.in_ok-write_all.ensures.nodes)
 
 pub write_all-returns-clause-places : goal.write_all-returns-clause-places
 write_all-returns-clause-places t c =
     let s = first_and_rest c.args.args.now c.arg-item.result c.in-len1-up.len_at_least c.arg-item.is in
-    rw s (row_places (known_of c.args.sight.now.known.now) c.args.sight.now.visible (scope_of c.args.sight.now.scope.now) (term_of c.arg-item.result) (terms (map term_of (take (length c.args.args.now - 1) (drop 1 c.args.args.now)))) c.args.nodes.now.items c.write.new.nodes.items c.in_ok-write.field-0 c.in_ok-write.ensures.long c.in_ok-write.ensures.written
+    rw s (row_places (known_of c.args.around.now.known.now) c.args.around.now.visible (scope_of c.args.around.now.scope.now) (term_of c.arg-item.result) (terms (map term_of (take (length c.args.args.now - 1) (drop 1 c.args.args.now)))) c.args.nodes.now.items c.write.new.nodes.items c.in_ok-write.field-0 c.in_ok-write.ensures.long c.in_ok-write.ensures.written
     c.args.places.now.items c.push.new.self.items c.write_all.new.places.items c.len.result (c.len.ensures ∙ c.args.nodes.now.ok.0) c.in_ok-push.ensures.items c.in_ok-write_all.ensures.places)
 
 pub write_all-returns-clause-types : goal.write_all-returns-clause-types
 write_all-returns-clause-types t c =
     let s = first_and_rest c.args.args.now c.arg-item.result c.in-len1-up.len_at_least c.arg-item.is in
-    rw s (row_types (known_of c.args.sight.now.known.now) c.args.sight.now.visible (scope_of c.args.sight.now.scope.now) (term_of c.arg-item.result) (terms (map term_of (take (length c.args.args.now - 1) (drop 1 c.args.args.now)))) c.args.nodes.now.items c.write.new.nodes.items c.in_ok-write.field-0 c.in_ok-write.ensures.long c.in_ok-write.ensures.written
+    rw s (row_types (known_of c.args.around.now.known.now) c.args.around.now.visible (scope_of c.args.around.now.scope.now) (term_of c.arg-item.result) (terms (map term_of (take (length c.args.args.now - 1) (drop 1 c.args.args.now)))) c.args.nodes.now.items c.write.new.nodes.items c.in_ok-write.field-0 c.in_ok-write.ensures.long c.in_ok-write.ensures.written
     (map type_of c.args.types.now.items) (map type_of c.push-2.new.self.items) (map type_of c.write_all.new.types.items) (type_of c.in_ok-write.field-0) refl (ap (map type_of) c.in_ok-push-2.ensures.items ∙ map-append type_of c.args.types.now.items (c.in_ok-write.field-0 ∷ [])) c.in_ok-write_all.ensures.types)
 
 pub write_apply-returns-clause-written : goal.write_apply-returns-clause-written
 write_apply-returns-clause-written t c =
     let no_places = c.in_ok-places.ensures.items in
     let no_types = c.in_ok-types.ensures.items in
-    apply_written (known_of c.args.sight.now.known.now) c.args.sight.now.visible (scope_of c.args.sight.now.scope.now) c.args.nodes.now.items c.begin_node.new.nodes.items _ c.in_ok-place.place c.in_ok-place.ensures.place c.in_ok-place.ensures.long c.in_ok-place.ensures.behind
+    apply_written (known_of c.args.around.now.known.now) c.args.around.now.visible (scope_of c.args.around.now.scope.now) c.args.nodes.now.items c.begin_node.new.nodes.items _ c.in_ok-place.place c.in_ok-place.ensures.place c.in_ok-place.ensures.long c.in_ok-place.ensures.behind
     c.args.builtin (terms (map term_of c.args.args.now)) c.write_all.new.nodes.items c.end_node.new.nodes.items c.in_ok-ty.ty c.in_ok-copy_type.field-0 (map type_of c.write_all.new.types.items) c.write_all.new.places.items
     c.in_ok-write_all.ensures.nodes (rw no_places at c.in_ok-write_all.ensures.places) (rw no_types at c.in_ok-write_all.ensures.types) (c.in_ok-ty.ensures ∙ ap (λ ts. type_given (judge_builtin c.args.builtin (map type_of ts))) c.deref.ensures.value) c.in_ok-copy_type.ensures c.end_node.ensures.set
 
@@ -73,37 +73,37 @@ write_body-returns-in_ok-ty-in-None-clause-written t c =
 pub write_call-returns-clause-written : goal.write_call-returns-clause-written
 write_call-returns-clause-written t c =
     let s = first_and_rest c.args.args.now c.arg-item.result c.in-len1-up.len_at_least c.arg-item.is in
-    rw s (call_written (known_of c.args.sight.now.known.now) c.args.sight.now.visible (scope_of c.args.sight.now.scope.now) c.args.name.now.text.items (term_of c.arg-item.result) (terms (map term_of (take (length c.args.args.now - 1) (drop 1 c.args.args.now))))
+    rw s (call_written (known_of c.args.around.now.known.now) c.args.around.now.visible (scope_of c.args.around.now.scope.now) c.args.name.now.text.items (term_of c.arg-item.result) (terms (map term_of (take (length c.args.args.now - 1) (drop 1 c.args.args.now))))
     c.args.nodes.now.items c.begin_node.new.nodes.items c.write.new.nodes.items c.write_call.new.nodes.items c.end_node.new.nodes.items _ c.in_ok-place.place (map argument_of c.args.given.items) (map argument_of c.push.new.self.items) c.in_ok-ty.ty c.in_ok-ty-2.ty c.in_ok-copy_type.field-0 c.len-second.result c.in_ok-kids.kids.items
     c.in_ok-place.ensures.place c.in_ok-place.ensures.long c.in_ok-place.ensures.behind c.in_ok-ty.ensures.long c.in_ok-ty.ensures.written (ap (map argument_of) c.in_ok-push.ensures.items ∙ map-append argument_of c.args.given.items _) c.in_ok-ty-2.ensures.written (c.len-second.ensures ∙ c.write.new.nodes.ok.0) c.in_ok-copy_type.ensures c.in_ok-kids.ensures.items c.end_node.ensures.set)
 
 pub write_if-returns-clause-written : goal.write_if-returns-clause-written
 write_if-returns-clause-written t c =
-    if_written (known_of c.args.sight.now.known.now) c.args.sight.now.visible (scope_of c.args.sight.now.scope.now) c.args.nodes.now.items c.begin_node.new.nodes.items _ c.in_ok-place.place c.in_ok-place.ensures.place c.in_ok-place.ensures.long c.in_ok-place.ensures.behind
+    if_written (known_of c.args.around.now.known.now) c.args.around.now.visible (scope_of c.args.around.now.scope.now) c.args.nodes.now.items c.begin_node.new.nodes.items _ c.in_ok-place.place c.in_ok-place.ensures.place c.in_ok-place.ensures.long c.in_ok-place.ensures.behind
     (term_of c.args.condition.now) (term_of c.args.then.now) (term_of c.args.other.now) c.write.new.nodes.items c.write-2.new.nodes.items c.write-3.new.nodes.items c.end_node.new.nodes.items c.in_ok-write.field-0 c.in_ok-ty.ty c.in_ok-write-2.field-0 c.in_ok-copy_type.field-0 c.len-second.result c.len-third.result c.in_ok-kids.kids.items
     c.in_ok-write.ensures.long c.in_ok-write.ensures.written c.in_ok-ty.ensures.long c.in_ok-ty.ensures.written c.in_ok-write-2.ensures.written (c.len-second.ensures ∙ c.write.new.nodes.ok.0) (c.len-third.ensures ∙ c.write-2.new.nodes.ok.0) c.in_ok-copy_type.ensures c.in_ok-kids.ensures.items c.end_node.ensures.set
 
 pub write_let-returns-clause-written : goal.write_let-returns-clause-written
 write_let-returns-clause-written t c =
-    let_written (known_of c.args.sight.now.known.now) c.args.sight.now.visible (scope_of c.args.sight.now.scope.now) c.args.nodes.now.items c.begin_node.new.nodes.items _ c.in_ok-place.place c.in_ok-place.ensures.place c.in_ok-place.ensures.long c.in_ok-place.ensures.behind
+    let_written (known_of c.args.around.now.known.now) c.args.around.now.visible (scope_of c.args.around.now.scope.now) c.args.nodes.now.items c.begin_node.new.nodes.items _ c.in_ok-place.place c.in_ok-place.ensures.place c.in_ok-place.ensures.long c.in_ok-place.ensures.behind
     c.args.name.now.text.items (term_of c.args.bound.now) (term_of c.args.body.now) c.write.new.nodes.items c.write-2.new.nodes.items c.end_node.new.nodes.items c.in_ok-bound.bound c.in_ok-ty.ty c.in_ok-copy_type.field-0 c.len-second.result c.in_ok-kids.kids.items
     c.in_ok-bound.ensures.long c.in_ok-bound.ensures.written c.in_ok-ty.ensures.written (c.len-second.ensures ∙ c.write.new.nodes.ok.0) c.in_ok-copy_type.ensures c.in_ok-kids.ensures.items c.end_node.ensures.set
 
 pub write_nbr-returns-clause-written : goal.write_nbr-returns-clause-written
 write_nbr-returns-clause-written t c =
-    nbr_written (known_of c.args.sight.now.known.now) c.args.sight.now.visible (scope_of c.args.sight.now.scope.now) c.args.nodes.now.items c.begin_node.new.nodes.items _ c.in_ok-place.place c.in_ok-place.ensures.place c.in_ok-place.ensures.long c.in_ok-place.ensures.behind
+    nbr_written (known_of c.args.around.now.known.now) c.args.around.now.visible (scope_of c.args.around.now.scope.now) c.args.nodes.now.items c.begin_node.new.nodes.items _ c.in_ok-place.place c.in_ok-place.ensures.place c.in_ok-place.ensures.long c.in_ok-place.ensures.behind
     (term_of c.args.inner.now) c.write.new.nodes.items c.end_node.new.nodes.items c.in_ok-write.field-0 c.field_type-ty.result c.in_ok-copy_type.field-0 c.in_ok-kids.kids.items
     c.in_ok-write.ensures.written c.field_type-ty.ensures c.in_ok-copy_type.ensures c.in_ok-kids.ensures.items c.end_node.ensures.set
 
 pub write_rep-returns-clause-written : goal.write_rep-returns-clause-written
 write_rep-returns-clause-written t c =
-    evolve_written (known_of c.args.sight.now.known.now) c.args.sight.now.visible (scope_of c.args.sight.now.scope.now) c.args.nodes.now.items c.begin_node.new.nodes.items _ c.in_ok-place.place c.in_ok-place.ensures.place c.in_ok-place.ensures.long c.in_ok-place.ensures.behind
+    evolve_written (known_of c.args.around.now.known.now) c.args.around.now.visible (scope_of c.args.around.now.scope.now) c.args.nodes.now.items c.begin_node.new.nodes.items _ c.in_ok-place.place c.in_ok-place.ensures.place c.in_ok-place.ensures.long c.in_ok-place.ensures.behind
     ByRep c.args.name.now.text.items (term_of c.args.first.now) (term_of c.args.body.now) c.write.new.nodes.items c.write-2.new.nodes.items c.end_node.new.nodes.items c.in_ok-ty.ty c.in_ok-write.field-0 c.in_ok-copy_type.field-0 (type_of c.in_ok-ty.ty) c.len-second.result c.in_ok-kids.kids.items
     c.in_ok-ty.ensures.long c.in_ok-ty.ensures.written refl c.in_ok-write.ensures.written (c.len-second.ensures ∙ c.write.new.nodes.ok.0) c.in_ok-copy_type.ensures c.in_ok-kids.ensures.items c.end_node.ensures.set
 
 pub write_share-returns-clause-written : goal.write_share-returns-clause-written
 write_share-returns-clause-written t c =
-    evolve_written (known_of c.args.sight.now.known.now) c.args.sight.now.visible (scope_of c.args.sight.now.scope.now) c.args.nodes.now.items c.begin_node.new.nodes.items _ c.in_ok-place.place c.in_ok-place.ensures.place c.in_ok-place.ensures.long c.in_ok-place.ensures.behind
+    evolve_written (known_of c.args.around.now.known.now) c.args.around.now.visible (scope_of c.args.around.now.scope.now) c.args.nodes.now.items c.begin_node.new.nodes.items _ c.in_ok-place.place c.in_ok-place.ensures.place c.in_ok-place.ensures.long c.in_ok-place.ensures.behind
     ByShare c.args.name.now.text.items (term_of c.args.first.now) (term_of c.args.body.now) c.write.new.nodes.items c.write-2.new.nodes.items c.end_node.new.nodes.items c.in_ok-ty.ty c.in_ok-write.field-0 c.in_ok-copy_type.field-0 (type_of c.in_ok-shared.shared) c.len-second.result c.in_ok-kids.kids.items
     c.in_ok-ty.ensures.long c.in_ok-ty.ensures.written c.in_ok-shared.ensures c.in_ok-write.ensures.written (c.len-second.ensures ∙ c.write.new.nodes.ok.0) c.in_ok-copy_type.ensures c.in_ok-kids.ensures.items c.end_node.ensures.set
 
