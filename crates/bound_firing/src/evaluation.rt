@@ -76,10 +76,10 @@ pub fn eval(
         }
         Op::Apply(builtin) => eval_apply(alloc, context, place, node, *builtin, sight, draft),
         Op::Nbr => eval_nbr(alloc, context, place, node, sight, draft),
-        Op::Rep => eval_evolve(alloc, context, place, node, Evolution::Rep, sight, draft),
-        Op::Share => eval_evolve(alloc, context, place, node, Evolution::Share, sight, draft),
         Op::If => eval_if(alloc, context, place, node, sight, draft),
         Op::Let => eval_let(alloc, context, place, node, sight, draft),
+        Op::Rep => eval_evolve(alloc, context, place, node, Evolution::Rep, sight, draft),
+        Op::Share => eval_evolve(alloc, context, place, node, Evolution::Share, sight, draft),
     }
 }
 

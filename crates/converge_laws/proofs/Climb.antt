@@ -44,14 +44,14 @@ as_climbs m pt c top base lag rank j n o w e h = subst (λ x. StageBy m x base l
 module _ (A : Analysis) (N : Network) (d j : ℕ) (t : ValueType) (e : Evolution) (a u : Term) (p b : ℕ) (st : Stage) (lv : Lvs) (D : Devices) (V : ValueMaps) (F : ValueMap) (s : Solves N p (Evolve t e a u) D V F) (vars : Vars) (env : Env) (v : AnyValue) (tree : Tree) (cl : occurs st.var (Evolve t e a u) ≡ false) (g : Given A N d j p b st lv (Evolve t e a u) D V F s vars env) (r : Evolves N d p e a u vars env v tree)
     (net : IsNetwork N) (c top : ℕ) (is : A.pattern p ≡ pattern.Minimising top c) (shallow : Shallow e p (inner t) u) (deep : suc b ≤ level_of A.stages (suc p + size a) b p lv u)
     (steps : (h : Term) → size h ≤ size u → StepOf A N d j h) where
+  abbrev at : ℕ
+  at = suc p + size a
+
   abbrev m : ℕ
   m = N.declared.ceiling
 
   abbrev ty : LocalType
   ty = inner t
-
-  abbrev at : ℕ
-  at = suc p + size a
 
   abbrev y : Stage
   y = stage_of A N p b lv e a u D V

@@ -160,12 +160,12 @@ impl Sink for CalmSink {
     ghost room = { λ s. Some s.room };
 
     fn write(&mut self, bytes: &[u8]) -> Result<usize, Failed>
+        ensures progress { 0 < length bytes.now → IfOk result (λ count. 0 < count) }
+        ensures cause { HasCause self.old.faults self.new.faults result }
         ensures bound { WritesAtMost result bytes.now }
         ensures bytes { WriteAppends (Some self.old.taken) (Some self.new.taken) result bytes.now }
         ensures room { Some self.new.room ≡ Some self.old.room }
         ensures within { length self.new.taken ≤ self.new.room }
-        ensures progress { 0 < length bytes.now → IfOk result (λ count. 0 < count) }
-        ensures cause { HasCause self.old.faults self.new.faults result }
         // As many as the bytes and the room left allow.
         ensures count { IfOk result (λ n. n ≡ min (length bytes.now) (self.old.room - length self.old.taken)) }
         // It fails exactly in a call with bytes that finds the room full.

@@ -1,7 +1,7 @@
 pub mod Places
 pub mod Kids
 pub mod Standing
-pub mod Parts
+pub mod Subterms
 pub mod Fresh
 mod Counted
 pub mod Kept

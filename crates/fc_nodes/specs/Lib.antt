@@ -5,6 +5,6 @@ pub mod Typing
 pub mod Program
 pub mod Flat
 pub mod Places
-pub mod Parts
+pub mod Subterms
 pub mod Layouts
 pub mod Occurrences

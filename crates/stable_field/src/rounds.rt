@@ -50,7 +50,12 @@ pub fn settled(
 }
 
 // The exports of all devices, which fire once and see a table.
-fn round(alloc: Global, program: &Unfolded, net: &Network, table: &ExportTable) -> Result<ExportTable, Memory>
+fn round(
+    alloc: Global,
+    program: &Unfolded,
+    net: &Network,
+    table: &ExportTable,
+) -> Result<ExportTable, Memory>
     requires declared { net.now.declared ≡ program.now.declared }
     requires table { IsTable (unfolding_of program.now) net.now table.now.items }
     ensures { IfOk result (λ v. AreFirings (unfolding_of program.now) net.now table.now.items

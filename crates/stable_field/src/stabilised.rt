@@ -63,7 +63,11 @@ fn field(
 }
 
 // The values of `main` from those of its terms, where it is a builtin of two.
-fn by_terms(alloc: Global, program: &Unfolded, net: &Network) -> Result<Option<DeviceValues>, Memory>
+fn by_terms(
+    alloc: Global,
+    program: &Unfolded,
+    net: &Network,
+) -> Result<Option<DeviceValues>, Memory>
     requires { net.now.declared ≡ program.now.declared }
     ensures { IfOk result (WhereSome (λ v. IsColumn net.now 0 (unfolding_of program.now).main (map entry_of v.items))) }
 {

@@ -108,12 +108,12 @@ fn closed_column(
     end: u32,
     known: &mut Vec<Known>,
 ) -> Result<Option<DeviceValues>, Memory>
-    requires declared { net.now.declared ≡ program.now.declared }
     requires term { IsClosedTerm program.now place end }
+    requires declared { net.now.declared ≡ program.now.declared }
     requires known { AllKnown program.now.declared net.now known.old.items }
+    ensures known { OnOk result (AllKnown program.now.declared net.now known.new.items) }
     ensures column { IfOk result (WhereSome (λ v. IsColumn net.now place
         (term_at program.now.nodes place) (map entry_of v.items))) }
-    ensures known { OnOk result (AllKnown program.now.declared net.now known.new.items) }
 {
     parts_solve();
     if let Some(same) = find(program, net, place, end, known) {

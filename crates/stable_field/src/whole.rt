@@ -36,7 +36,11 @@ pub fn judged(alloc: Global, analysis: &Analysis<'_>, net: &Network) -> Result<u
 }
 
 /// The values of a program's `main`, where the program is recognised.
-pub fn whole(alloc: Global, program: &Unfolded, net: &Network) -> Result<Option<DeviceValues>, Memory>
+pub fn whole(
+    alloc: Global,
+    program: &Unfolded,
+    net: &Network,
+) -> Result<Option<DeviceValues>, Memory>
     requires { net.now.declared ≡ program.now.declared }
     ensures { IfOk result (WhereSome (λ v. IsColumn net.now 0 (unfolding_of program.now).main (map entry_of v.items))) }
 {

@@ -169,10 +169,10 @@ fn edit_beside<R: Threads + Wait + Sync, G: Gate + Sync>(
     rooms: &mut [Option<Room>],
     share: u64,
 ) -> Result<(), EditFault>
-    requires may { MayMix crew.now.shared pass.old mix }
     requires staffed { Staffed crew.now.shared other.old rooms.old share }
-    ensures mixed { MixedIn crew.now.shared pass.old pass.new mix result }
+    requires may { MayMix crew.now.shared pass.old mix }
     ensures worked { StaffWorked crew.now.shared other.old other.new rooms.old rooms.new }
+    ensures mixed { MixedIn crew.now.shared pass.old pass.new mix result }
 {
     let mut mix = Some(mix);
     let (mixed, _) = join_mut(

@@ -193,14 +193,14 @@ eval_if-returns t c =
     (rw c.into_local.ensures at c.put.ensures) c.index-2.ensures _ _ c.in_ok-first.ensures c.index-3.ensures _ _
     c.in_ok-second.ensures c.in_ok-bound.ensures
 
-pub eval_let-index-requires : goal.eval_let-index-requires
-eval_let-index-requires t c =
+pub eval_let-index-requires-2 : goal.eval_let-index-requires-2
+eval_let-index-requires-2 t c =
     let o = let_kids c.requires in
     let l = o.long in
     omega (arith, l)
 
-pub eval_let-index-requires-2 : goal.eval_let-index-requires-2
-eval_let-index-requires-2 t c =
+pub eval_let-index-requires : goal.eval_let-index-requires
+eval_let-index-requires t c =
     let o = let_kids c.requires in
     let l = o.long in
     omega (arith, l)

@@ -71,6 +71,14 @@ eval-eval_let-requires t c =
     let d = c.decreases in
     (omega (arith, d), ready_at c.requires (rw c.in-Let.is at c.node-node.ensures.node))
 
+pub eval_let-eval-requires : goal.eval_let-eval-requires
+eval_let-eval-requires t c =
+    let d = c.decreases in
+    let r = let_value c.requires c.index.ensures in
+    let m = r.0 in
+    let w = c.requires.ready.stands.within in
+    (omega (arith, d, m, w), r.2)
+
 pub eval_let-index-requires : goal.eval_let-index-requires
 eval_let-index-requires t c =
     let o = let_kids c.requires in
@@ -82,14 +90,6 @@ eval_let-index-requires-2 t c =
     let o = let_kids c.requires in
     let l = o.long in
     omega (arith, l)
-
-pub eval_let-eval-requires : goal.eval_let-eval-requires
-eval_let-eval-requires t c =
-    let d = c.decreases in
-    let r = let_value c.requires c.index.ensures in
-    let m = r.0 in
-    let w = c.requires.ready.stands.within in
-    (omega (arith, d, m, w), r.2)
 
 pub eval_let-eval-requires-2 : goal.eval_let-eval-requires-2
 eval_let-eval-requires-2 t c =

@@ -8,6 +8,9 @@ use Rattle.mail_book.proofs.MessageSteps.{delivers_letters}
 use Rattle.mail_book.proofs.PairWrites.{row_in, item_in, old_letters, keeps, delivers, empties}
 use Rattle.mail_book.proofs.mails.Mail.deliver.Goals as goal
 
+old : (c : goal.After-self-1) → AreLetters (program_of c.self.inside.core) c.index_mut-2.result.now
+old c = old_letters c.self.inside.core c.net.ensures.core.net c.self.inside.rows.items c.self.invariant c.net.result.now c.net.ensures.value c.args.from c.args.to c.in-Some.row c.in-Some.at c.in-Some.ensures.place c.index_mut.result.now c.index_mut.ensures.value c.index_mut-2.result.now c.index_mut-2.ensures.value
+
 pub index_mut-requires : goal.index_mut-requires
 index_mut-requires c =
     let w = row_in c.self.inside.core c.net.ensures.core.net c.self.inside.rows.items c.self.invariant c.net.result.now c.net.ensures.value c.args.from c.args.to c.in-Some.row c.in-Some.at c.in-Some.ensures.place in
@@ -17,9 +20,6 @@ pub index_mut-requires-2 : goal.index_mut-requires-2
 index_mut-requires-2 c =
     let w = item_in c.self.inside.core c.net.ensures.core.net c.self.inside.rows.items c.self.invariant c.net.result.now c.net.ensures.value c.args.from c.args.to c.in-Some.row c.in-Some.at c.in-Some.ensures.place c.index_mut.result.now c.index_mut.ensures.value in
     omega (arith, w, c.index_mut.result.now.ok.0)
-
-old : (c : goal.After-self-1) → AreLetters (program_of c.self.inside.core) c.index_mut-2.result.now
-old c = old_letters c.self.inside.core c.net.ensures.core.net c.self.inside.rows.items c.self.invariant c.net.result.now c.net.ensures.value c.args.from c.args.to c.in-Some.row c.in-Some.at c.in-Some.ensures.place c.index_mut.result.now c.index_mut.ensures.value c.index_mut-2.result.now c.index_mut-2.ensures.value
 
 pub invariant_of-self : goal.invariant_of-self
 invariant_of-self c =
