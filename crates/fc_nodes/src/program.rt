@@ -1,5 +1,7 @@
 //! Unfolded programs.
 
+ghost use Rattle.std.specs.Prelude.{◌≡◌};
+
 use crate::layouts::Layout;
 use crate::nodes::{Node, is_own};
 use crate::uses::{before, ends_of, uses_of};
