@@ -72,7 +72,7 @@ returns-clause-round c =
     let net = c.in_ok-fire_due.ensures.network in
     let f = c.in_ok-fire_due.ensures.fired in
     let old : (t : BoundTable) → Stand (U c) (N c) t c.args.table.now.bounds.items
-        → Stand (U c) (N c) t (T c).bounds.items =
+    → Stand (U c) (N c) t (T c).bounds.items =
     λ t s. subst (λ v. Stand (U c) (N c) t v.items) (sym c.in_ok-fire_due.ensures.bounds) s in
     let any = ap (list_any _) (sym c.deref-3.ensures.value) ∙ sym c.contains.ensures.value in
     record {
