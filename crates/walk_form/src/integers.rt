@@ -32,6 +32,7 @@ pub fn integers_at(
     requires part { IsWalkPart program.now term }
     ensures { IfOk result (λ v. IsFieldAt net.now term.from (term_at program.now.nodes term.from) v.items) }
 {
+    // Their clauses: the nodes are a program, and the network is lawful.
     let _program = program.declared();
     let _network = net.declared();
     yes_analyses();
