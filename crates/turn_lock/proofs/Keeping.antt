@@ -1,8 +1,8 @@
 -- Each step of a lock keeps its rule.
 use Rattle.std.proofs.Common.{◌≡◌, ℕ, ◌+◌, ◌%◌, ◌<◌, ◌≤◌, ◌≢◌, ⊎_elim, List, [], ◌∷◌, ◌++◌, length, get_or, set, sym, refl, ap, ◌∙◌, subst, inl, inr, arith, Option, Some, None, false, length-append}
 use Rattle.std.proofs.Math.Nat.{mod-eq_of_lt}
-use mathlib.LockFacts.Logic.{dite}
-use mathlib.LockFacts.Option.{none, some, some-injective, some-ne-none}
+use mathlib.Core.Logic.{dite}
+use mathlib.Core.Option.{none, some, some-injective, some-ne-none}
 use native.Mathlib.Decide.{ℕ_discrete}
 use lib.ListN.{get_elem?}
 use lib.Seq.{set-get_or}

@@ -2,8 +2,8 @@
 -- It speaks of one log, and has three parts: tickets, turns and the slot (`LockFacts`); names (`Names`); what passes have
 -- seen and written (`Own`).
 use Rattle.std.specs.Prelude.{ℕ, ◌≡◌, ◌⊎◌, ◌+◌, ◌<◌, ◌≤◌, true, false, List, [], ◌∷◌, ◌++◌, length, Option, Some}
-use mathlib.LockFacts.Option.{none, some}
-use mathlib.LockFacts.Option as maybe
+use mathlib.Core.Option.{none, some}
+use mathlib.Core.Option as maybe
 use lib.ListN.{get_elem?}
 use Rattle.atomic_table.specs.Table.{State}
 use Rattle.turn_lock.specs.declared.views.SeatView.{SeatView}
