@@ -176,15 +176,14 @@ found_none {c} {p} {s} {f} {old} {m} {n} below e u = record {
       (term_at c.program.now.nodes p) (sym below.uses ∙ used f.uses u)));
 }
 
--- ---- what is asked of the kids
+-- ---- a node where levels are asked for
 
--- a place after another one, where levels are asked for
+-- a later place where levels are asked for
 pub record Later (c : Context) (p q : ℕ) (s : Position) : Type 0 where
   pub after : p < q
   pub ready : Ready c q s
   pub stands : StandsAt c.program.now.nodes q
 
--- a node at a place where levels are asked for
 module _ {c : Context} {p : ℕ} {position : Position} {n : Node} (at : AtNode c p position n) where
   abbrev nodes : List Node
   nodes = c.program.now.nodes
@@ -204,15 +203,33 @@ module _ {c : Context} {p : ℕ} {position : Position} {n : Node} (at : AtNode c
   abbrev scope : Lvs
   scope = levels_in position.scope.now
 
-  -- the position with another level of the branch, and within another `rep` or `share`
-  abbrev branched : ℕ → Position
-  branched b = record { branch = b; own = position.own; scope = position.scope }
+  -- the position in a branch of another level, and in the body of the node, if it is a `rep` or `share`
+  abbrev in_branch : ℕ → Position
+  in_branch b = record { branch = b; own = position.own; scope = position.scope }
 
-  abbrev within : ℕ → Position
-  within q = record { branch = position.branch; own = q; scope = position.scope }
+  abbrev in_body : Position
+  in_body = record { branch = position.branch; own = p; scope = position.scope }
+
+  -- the level that a term at a place would have at the position, and the levels of its nodes
+  abbrev level_as : ℕ → Term → ℕ
+  level_as q u = level_of (stages_in c) q position.branch position.own scope u
+
+  abbrev levels_as : ℕ → Term → List (Option ℕ)
+  levels_as q u = node_levels (stages_in c) q position.branch position.own scope u
+
+  -- the same of the term at a place, where the node is a `let` that binds a value of level b
+  abbrev level_bound : ℕ → ℕ → ℕ
+  level_bound b q = level_of (stages_in c) q position.branch position.own (bind_level p b scope) (term q)
+
+  abbrev levels_bound : ℕ → ℕ → List (Option ℕ)
+  levels_bound b q = node_levels (stages_in c) q position.branch position.own (bind_level p b scope) (term q)
 
   above : AllAbove nodes
   above = formed_above nodes at.program.formed
+
+  -- what is known of the node, once its sort is
+  node_as : {s : Sort} → sort ≡ s → HasNode nodes p s type kids
+  node_as e = subst (λ s. HasNode nodes p s type kids) e at.node
 
   few : (q : ℕ) → stages_in c q ≤ most_added
   few = stages_few c.program.now at.program c.devices
@@ -224,6 +241,7 @@ module _ {c : Context} {p : ℕ} {position : Position} {n : Node} (at : AtNode c
       let r = level_few (stages_in c) few (level_before q) q b x lv (term q) f g in
       omega (arith, r)
 
+  -- its level is small
   pub small : level_at c p position ≤ 6144002049
   small =
       let r = ends_small p position.branch position.own scope at.ready.branch at.ready.scope in
@@ -236,10 +254,11 @@ module _ {c : Context} {p : ℕ} {position : Position} {n : Node} (at : AtNode c
   pub row : InRow nodes p kids
   row = kids_row nodes at.program.formed p at.stands sort type kids at.node
 
-  -- the kid with a number stands after it, at the same position
+  -- the kid with a number is later
   kid_later : {q : ℕ} (i : ℕ) → i < length kids → q ≡ get_or kids i q → (p < q) × StandsAt nodes q
   kid_later {q} i l e = row_at nodes p kids i q row l e
 
+  -- and levels are asked for there, at the same position
   kid_same : {q : ℕ} (i : ℕ) → i < length kids → q ≡ get_or kids i q → Later c p q position
   kid_same {q} i l e =
       let k = kid_later i l e in
@@ -267,10 +286,10 @@ module _ {c : Context} {p : ℕ} {position : Position} {n : Node} (at : AtNode c
       by_sort (OfLeaf l) a b d e g level uses h =
           let k = term_is nodes above p (OfLeaf l) type kids h in
           record {
-            level = level ∙ sym (ap (level_of (stages_in c) p position.branch position.own scope) k);
+            level = level ∙ sym (ap (level_as p) k);
             uses = uses ∙ sym (ap (occurs position.own) k);
             levels = sym (append-nil old)
-                ∙ ap (λ r. old ++ r) (sym (ap (λ u. behind (node_levels (stages_in c) p position.branch position.own scope u)) k));
+                ∙ ap (λ r. old ++ r) (sym (ap (λ u. behind (levels_as p u)) k));
           }
       by_sort (OfApply o) a b d e g level uses h = absurd cc
       by_sort OfNbr a b d e g level uses h = absurd cc
@@ -286,8 +305,8 @@ module _ {c : Context} {p : ℕ} {position : Position} {n : Node} (at : AtNode c
   row_level (More x xs) q l =
       let e = laid_term nodes above x q l.0 in
       let f = row_level xs (q + size x) l.1 in
-      ap (λ u. max (level_of (stages_in c) q position.branch position.own scope u) (greatest_at c (places (q + size x) xs) position)) e
-      ∙ ap (max (level_of (stages_in c) q position.branch position.own scope x)) f
+      ap (λ u. max (level_as q u) (greatest_at c (places (q + size x) xs) position)) e
+      ∙ ap (max (level_as q x)) f
 
   row_levels : (xs : Terms) (q : ℕ) → AllLaid nodes q xs
       → levels_at c (places q xs) position ≡ all_node_levels (stages_in c) q position.branch position.own scope xs
@@ -295,8 +314,8 @@ module _ {c : Context} {p : ℕ} {position : Position} {n : Node} (at : AtNode c
   row_levels (More x xs) q l =
       let e = laid_term nodes above x q l.0 in
       let f = row_levels xs (q + size x) l.1 in
-      ap (λ u. node_levels (stages_in c) q position.branch position.own scope u ++ levels_at c (places (q + size x) xs) position) e
-      ∙ ap (λ l. node_levels (stages_in c) q position.branch position.own scope x ++ l) f
+      ap (λ u. levels_as q u ++ levels_at c (places (q + size x) xs) position) e
+      ∙ ap (λ l. levels_as q x ++ l) f
 
   module _ (z : is_apply_sort sort ≡ true) where
     apply_kids : (o : Builtin) × SomeKids nodes p (Apply type o) kids
@@ -316,14 +335,14 @@ module _ {c : Context} {p : ℕ} {position : Position} {n : Node} (at : AtNode c
         let o = apply_kids in
         let k = o.1 in
         ap (λ l. greatest_at c l position) k.stand_at ∙ row_level (terms_by (term_at nodes) kids) (suc p) k.kids
-        ∙ sym (ap (level_of (stages_in c) p position.branch position.own scope) k.term)
+        ∙ sym (ap (level_as p) k.term)
 
     apply_levels : levels_at c kids position ≡ behind (node_levels_at c p position)
     apply_levels =
         let o = apply_kids in
         let k = o.1 in
         ap (λ l. levels_at c l position) k.stand_at ∙ row_levels (terms_by (term_at nodes) kids) (suc p) k.kids
-        ∙ sym (ap (λ u. behind (node_levels (stages_in c) p position.branch position.own scope u)) k.term)
+        ∙ sym (ap (λ u. behind (levels_as p u)) k.term)
 
     apply_uses : occurs_in position.own (terms_by (term_at nodes) kids) ≡ occurs position.own (term p)
     apply_uses =
@@ -350,7 +369,7 @@ module _ {c : Context} {p : ℕ} {position : Position} {n : Node} (at : AtNode c
 
   module _ (z : is_nbr_sort sort ≡ true) where
     nbr_one : OneKid nodes p (Nbr type) kids
-    nbr_one = nbr_laid nodes above p type kids (subst (λ s. HasNode nodes p s type kids) (nbr_sort sort z) at.node) at.stands.laid
+    nbr_one = nbr_laid nodes above p type kids (node_as (nbr_sort sort z)) at.stands.laid
 
     pub nbr_long : length kids ≡ 1
     nbr_long = let k = nbr_one in k.long
@@ -363,7 +382,7 @@ module _ {c : Context} {p : ℕ} {position : Position} {n : Node} (at : AtNode c
       nbr_first = let k = nbr_one in nbr_q ∙ k.first_is
 
       nbr_term : term p ≡ Nbr type (term q)
-      nbr_term = let k = nbr_one in k.term ∙ ap (λ i. Nbr type (term_at nodes i)) (sym nbr_q)
+      nbr_term = let k = nbr_one in k.term ∙ ap (λ i. Nbr type (term i)) (sym nbr_q)
 
       pub nbr_inside : Later c p q position
       nbr_inside = let l = nbr_long in kid_same 0 (omega (arith, l)) e
@@ -379,35 +398,34 @@ module _ {c : Context} {p : ℕ} {position : Position} {n : Node} (at : AtNode c
           ∙ ap (λ k. if is_own position.own (term q) then position.branch else k) g)
           ∙ sym (if_suc (is_own position.own (term q)) position.branch (level_at c q position))
           ∙ sym (nbr_place (stages_in c) p position.branch position.own scope type (term q) q nbr_first)
-          ∙ sym (ap (level_of (stages_in c) p position.branch position.own scope) nbr_term)
+          ∙ sym (ap (level_as p) nbr_term)
+
+      nbr_levels : behind (node_levels_at c p position) ≡ node_levels_at c q position
+      nbr_levels = ap (λ u. behind (levels_as p u)) nbr_term ∙ ap (λ i. levels_as i (term q)) (sym nbr_first)
 
       pub nbr_below : {found : Found} {own : Bool} {chosen : ℕ} {old new : List (Option ℕ)}
           → own ≡ is_own position.own (term q) → chosen ≡ (if own then position.branch else found.level)
           → FoundAt c q position found old new
           → FoundBelow c p position (record { level = chosen + 1; uses = found.uses }) old new
-      nbr_below {found} {own} {chosen} {old} {new} f h found_at =
-          let levels : behind (node_levels_at c p position) ≡ node_levels_at c q position =
-          ap (λ u. behind (node_levels (stages_in c) p position.branch position.own scope u)) nbr_term
-          ∙ ap (λ i. node_levels (stages_in c) i position.branch position.own scope (term q)) (sym nbr_first) in
-          record {
-            level = nbr_level f found_at.level h;
-            uses = found_at.uses ∙ sym (ap (occurs position.own) nbr_term);
-            levels = found_at.levels ∙ ap (λ l. old ++ l) (sym levels);
-          }
+      nbr_below {found} {own} {chosen} {old} {new} f h found_at = record {
+        level = nbr_level f found_at.level h;
+        uses = found_at.uses ∙ sym (ap (occurs position.own) nbr_term);
+        levels = found_at.levels ∙ ap (λ l. old ++ l) (sym nbr_levels);
+      }
 
   -- ---- `if`
 
   module _ (z : is_branching sort ≡ true) where
     if_three : ThreeKids nodes p (If type) kids
-    if_three = if_laid nodes above p type kids (subst (λ s. HasNode nodes p s type kids) (if_sort sort z) at.node) at.stands.laid
+    if_three = if_laid nodes above p type kids (node_as (if_sort sort z)) at.stands.laid
 
     pub if_long : length kids ≡ 3
     if_long = let k = if_three in k.long
 
     -- a branch after the condition, whose level it has
-    in_branch : {q r b : ℕ} (i : ℕ) → i < 3 → r ≡ get_or kids i r → q ≡ suc p → q + size (term q) ≤ r
-        → b ≡ level_at c q position → Later c p r (branched b)
-    in_branch {q} {r} {b} i l f a d e =
+    branch_later : {q r b : ℕ} (i : ℕ) → i < 3 → r ≡ get_or kids i r → q ≡ suc p → q + size (term q) ≤ r
+        → b ≡ level_at c q position → Later c p r (in_branch b)
+    branch_later {q} {r} {b} i l f a d e =
         let long = if_long in
         let k = kid_later i (omega (arith, l, long)) f in
         let w = kid_small a in
@@ -432,10 +450,13 @@ module _ {c : Context} {p : ℕ} {position : Position} {n : Node} (at : AtNode c
         if_r = let l = if_long in same_at kids 1 r (omega (arith, l)) f
 
         second_place : r ≡ suc p + size (term q)
-        second_place = let k = if_three in if_r ∙ k.second_is ∙ ap (λ i. suc p + size (term_at nodes i)) (sym if_q)
+        second_place = let k = if_three in if_r ∙ k.second_is ∙ ap (λ i. suc p + size (term i)) (sym if_q)
 
-        pub if_first : {b : ℕ} → b ≡ level_at c q position → Later c p r (branched b)
-        if_first h = let a = first_place in let d = second_place in in_branch 1 (omega arith) f a (omega (arith, a, d)) h
+        pub if_first : {b : ℕ} → b ≡ level_at c q position → Later c p r (in_branch b)
+        if_first h =
+            let a = first_place in
+            let d = second_place in
+            branch_later 1 (omega arith) f a (omega (arith, a, d)) h
 
         module _ {u : ℕ} (g : u ≡ get_or kids 2 u) where
           if_u : u ≡ get_or kids 2 0
@@ -444,51 +465,60 @@ module _ {c : Context} {p : ℕ} {position : Position} {n : Node} (at : AtNode c
           third_place : u ≡ suc p + size (term q) + size (term r)
           third_place =
               let k = if_three in
-              if_u ∙ k.third_is ∙ ap (λ i. suc p + size (term_at nodes i) + size (term_at nodes (get_or kids 1 0))) (sym if_q)
-              ∙ ap (λ i. suc p + size (term q) + size (term_at nodes i)) (sym if_r)
+              if_u ∙ k.third_is
+              ∙ ap (λ i. suc p + size (term i) + size (term (get_or kids 1 0))) (sym if_q)
+              ∙ ap (λ i. suc p + size (term q) + size (term i)) (sym if_r)
 
           if_term : term p ≡ If type (term q) (term r) (term u)
           if_term =
               let k = if_three in
-              k.term ∙ ap (λ i. If type (term_at nodes i) (term_at nodes (get_or kids 1 0)) (term_at nodes (get_or kids 2 0))) (sym if_q)
-              ∙ ap (λ i. If type (term q) (term_at nodes i) (term_at nodes (get_or kids 2 0))) (sym if_r)
-              ∙ ap (λ i. If type (term q) (term r) (term_at nodes i)) (sym if_u)
+              k.term ∙ ap (λ i. If type (term i) (term (get_or kids 1 0)) (term (get_or kids 2 0))) (sym if_q)
+              ∙ ap (λ i. If type (term q) (term i) (term (get_or kids 2 0))) (sym if_r)
+              ∙ ap (λ i. If type (term q) (term r) (term i)) (sym if_u)
 
-          pub if_second : {b : ℕ} → b ≡ level_at c q position → Later c p u (branched b)
-          if_second h = let a = first_place in let d = third_place in in_branch 2 (omega arith) g a (omega (arith, a, d)) h
+          pub if_second : {b : ℕ} → b ≡ level_at c q position → Later c p u (in_branch b)
+          if_second h =
+              let a = first_place in
+              let d = third_place in
+              branch_later 2 (omega arith) g a (omega (arith, a, d)) h
 
           -- the level is the greatest of the three
-          if_level : {b m k i j : ℕ} → b ≡ level_at c q position → i ≡ level_at c r (branched b)
-              → j ≡ level_at c u (branched b) → m ≡ max i j → k ≡ max b m → k ≡ level_at c p position
+          if_level : {b m k i j : ℕ} → b ≡ level_at c q position → i ≡ level_at c r (in_branch b)
+              → j ≡ level_at c u (in_branch b) → m ≡ max i j → k ≡ max b m → k ≡ level_at c p position
           if_level {b} {m} {k} {i} {j} hb hi hj hm hk =
-              hk ∙ ap (max b) hm ∙ ap (λ y. max b (max y j)) hi ∙ ap (λ y. max b (max (level_at c r (branched b)) y)) hj
-              ∙ ap (λ y. max y (max (level_at c r (branched y)) (level_at c u (branched y)))) hb
-              ∙ sym (ap (level_of (stages_in c) p position.branch position.own scope) if_term
-              ∙ if_places (stages_in c) p position.branch position.own scope type (term q) (term r) (term u) q r u first_place second_place third_place)
+              hk ∙ ap (max b) hm ∙ ap (λ y. max b (max y j)) hi
+              ∙ ap (λ y. max b (max (level_at c r (in_branch b)) y)) hj
+              ∙ ap (λ y. max y (max (level_at c r (in_branch y)) (level_at c u (in_branch y)))) hb
+              ∙ sym (ap (level_as p) if_term
+              ∙ if_places (stages_in c) p position.branch position.own scope type (term q) (term r) (term u) q r u
+              first_place second_place third_place)
 
           if_levels_are : {b : ℕ} → b ≡ level_at c q position → behind (node_levels_at c p position)
-              ≡ node_levels_at c q position ++ (node_levels_at c r (branched b) ++ node_levels_at c u (branched b))
+              ≡ node_levels_at c q position ++ (node_levels_at c r (in_branch b) ++ node_levels_at c u (in_branch b))
           if_levels_are h =
-              ap (λ y. behind (node_levels (stages_in c) p position.branch position.own scope y)) if_term
-              ∙ if_levels (stages_in c) p position.branch position.own scope type (term q) (term r) (term u) q r u first_place second_place third_place
-              ∙ ap (λ y. node_levels_at c q position ++ (node_levels_at c r (branched y) ++ node_levels_at c u (branched y))) (sym h)
+              ap (λ y. behind (levels_as p y)) if_term
+              ∙ if_levels (stages_in c) p position.branch position.own scope type (term q) (term r) (term u) q r u
+              first_place second_place third_place
+              ∙ ap (λ y. node_levels_at c q position
+              ++ (node_levels_at c r (in_branch y) ++ node_levels_at c u (in_branch y))) (sym h)
 
           pub if_below : {condition first second : Found} {m k : ℕ} {old l l' new : List (Option ℕ)}
-              → FoundAt c q position condition old l → FoundAt c r (branched condition.level) first l l'
-              → FoundAt c u (branched condition.level) second l' new → m ≡ max first.level second.level
-              → k ≡ max condition.level m
-              → FoundBelow c p position (record { level = k; uses = condition.uses || (first.uses || second.uses) }) old new
+              → FoundAt c q position condition old l → FoundAt c r (in_branch condition.level) first l l'
+              → FoundAt c u (in_branch condition.level) second l' new → m ≡ max first.level second.level
+              → k ≡ max condition.level m → FoundBelow c p position
+              (record { level = k; uses = condition.uses || (first.uses || second.uses) }) old new
           if_below {condition} {first} {second} {m} {k} {old} {l} {l'} {new} a b d hm hk = record {
             level = if_level a.level b.level d.level hm hk;
             uses = rw (a.uses, b.uses, d.uses) (sym (ap (occurs position.own) if_term));
-            levels = three_behind _ _ _ _ _ _ _ a.levels b.levels d.levels ∙ ap (λ l. old ++ l) (sym (if_levels_are a.level));
+            levels = three_behind _ _ _ _ _ _ _ a.levels b.levels d.levels
+                ∙ ap (λ l. old ++ l) (sym (if_levels_are a.level));
           }
 
   -- ---- `let`
 
   module _ (z : is_let_sort sort ≡ true) where
     let_two : TwoKids nodes p (Let type) kids
-    let_two = let_laid nodes above p type kids (subst (λ s. HasNode nodes p s type kids) (let_sort sort z) at.node) at.stands.laid
+    let_two = let_laid nodes above p type kids (node_as (let_sort sort z)) at.stands.laid
 
     pub let_long : length kids ≡ 2
     let_long = let k = let_two in k.long
@@ -508,13 +538,13 @@ module _ {c : Context} {p : ℕ} {position : Position} {n : Node} (at : AtNode c
         let_r = let l = let_long in same_at kids 1 r (omega (arith, l)) f
 
         let_second : r ≡ suc p + size (term q)
-        let_second = let k = let_two in let_r ∙ k.second_is ∙ ap (λ i. suc p + size (term_at nodes i)) (sym let_q)
+        let_second = let k = let_two in let_r ∙ k.second_is ∙ ap (λ i. suc p + size (term i)) (sym let_q)
 
         let_term : term p ≡ Let type (term q) (term r)
         let_term =
             let k = let_two in
-            k.term ∙ ap (λ i. Let type (term_at nodes i) (term_at nodes (get_or kids 1 0))) (sym let_q)
-            ∙ ap (λ i. Let type (term q) (term_at nodes i)) (sym let_r)
+            k.term ∙ ap (λ i. Let type (term i) (term (get_or kids 1 0))) (sym let_q)
+            ∙ ap (λ i. Let type (term q) (term i)) (sym let_r)
 
         -- at the position with the binder in scope
         pub let_body : {b : ℕ} {s : Position} → b ≡ level_at c q position → s.branch ≡ position.branch
@@ -525,38 +555,44 @@ module _ {c : Context} {p : ℕ} {position : Position} {n : Node} (at : AtNode c
             let a = let_first in
             let d = let_second in
             let w = kid_small a in
-            let branch = at.ready.branch in
-            let all = bind_before (level_before r) p b scope (omega (arith, h, w, a, d)) (λ j. let v = at.ready.scope j in omega (arith, v, d)) in
+            let v = at.ready.branch in
+            let all = bind_before (level_before r) p b scope (omega (arith, h, w, a, d))
+            (λ j. let v = at.ready.scope j in omega (arith, v, d)) in
             record {
               after = k.0;
               ready = record {
                 ranges = at.ready.ranges;
                 devices = at.ready.devices;
-                branch = omega (arith, same, branch, d);
+                branch = omega (arith, same, v, d);
                 scope = subst (λ (lv : Lvs). (j : ℕ) → lv j ≤ level_before r) (sym bound) all;
               };
               stands = k.1;
             }
 
+        let_level : {b : ℕ} → b ≡ level_at c q position → level_bound b r ≡ level_at c p position
+        let_level h =
+            ap (λ k. level_bound k r) h
+            ∙ sym (ap (level_as p) let_term
+            ∙ let_places (stages_in c) p position.branch position.own scope type (term q) (term r) q r let_first
+            let_second)
+
+        let_levels_are : {b : ℕ} → b ≡ level_at c q position
+            → behind (node_levels_at c p position) ≡ node_levels_at c q position ++ levels_bound b r
+        let_levels_are h =
+            ap (λ y. behind (levels_as p y)) let_term
+            ∙ let_levels (stages_in c) p position.branch position.own scope type (term q) (term r) q r let_first
+            let_second
+            ∙ ap (λ y. node_levels_at c q position ++ levels_bound y r) (sym h)
+
         pub let_below : {bound body : Found} {old l new : List (Option ℕ)} → FoundAt c q position bound old l
-            → body.level ≡ level_of (stages_in c) r position.branch position.own (bind_level p bound.level scope) (term r)
-            → body.uses ≡ occurs position.own (term r)
-            → new ≡ l ++ node_levels (stages_in c) r position.branch position.own (bind_level p bound.level scope) (term r)
+            → body.level ≡ level_bound bound.level r → body.uses ≡ occurs position.own (term r)
+            → new ≡ l ++ levels_bound bound.level r
             → FoundBelow c p position (record { level = body.level; uses = bound.uses || body.uses }) old new
-        let_below {bound} {body} {old} {l} {new} a level uses levels =
-            let all : behind (node_levels_at c p position)
-            ≡ node_levels_at c q position ++ node_levels (stages_in c) r position.branch position.own (bind_level p bound.level scope) (term r) =
-            ap (λ y. behind (node_levels (stages_in c) p position.branch position.own scope y)) let_term
-            ∙ let_levels (stages_in c) p position.branch position.own scope type (term q) (term r) q r let_first let_second
-            ∙ ap (λ y. node_levels_at c q position ++ node_levels (stages_in c) r position.branch position.own (bind_level p y scope) (term r)) (sym a.level) in
-            record {
-              level = level
-                  ∙ ap (λ k. level_of (stages_in c) r position.branch position.own (bind_level p k scope) (term r)) a.level
-                  ∙ sym (ap (level_of (stages_in c) p position.branch position.own scope) let_term
-                  ∙ let_places (stages_in c) p position.branch position.own scope type (term q) (term r) q r let_first let_second);
-              uses = rw (a.uses, uses) (sym (ap (occurs position.own) let_term));
-              levels = two_behind _ _ _ _ _ a.levels levels ∙ ap (λ l. old ++ l) (sym all);
-            }
+        let_below {bound} {body} {old} {l} {new} a level uses levels = record {
+          level = level ∙ let_level a.level;
+          uses = rw (a.uses, uses) (sym (ap (occurs position.own) let_term));
+          levels = two_behind _ _ _ _ _ a.levels levels ∙ ap (λ l. old ++ l) (sym (let_levels_are a.level));
+        }
 
   -- ---- `rep` and `share`
 
@@ -575,7 +611,7 @@ module _ {c : Context} {p : ℕ} {position : Position} {n : Node} (at : AtNode c
     evolve_two : TwoKids nodes p (Evolve type evolve_sort_is.0) kids
     evolve_two =
         let v = evolve_sort_is in
-        evolve_laid nodes above p v.0 type kids (subst (λ s. HasNode nodes p s type kids) v.1 at.node) at.stands.laid
+        evolve_laid nodes above p v.0 type kids (node_as v.1) at.stands.laid
 
     pub evolve_long : length kids ≡ 2
     evolve_long = let k = evolve_two in k.long
@@ -590,9 +626,9 @@ module _ {c : Context} {p : ℕ} {position : Position} {n : Node} (at : AtNode c
       evolve_term : term p ≡ Evolve type evolve_sort_is.0 (term (get_or kids 0 0)) (term r)
       evolve_term =
           let k = evolve_two in
-          k.term ∙ ap (λ i. Evolve type evolve_sort_is.0 (term (get_or kids 0 0)) (term_at nodes i)) (sym evolve_r)
+          k.term ∙ ap (λ i. Evolve type evolve_sort_is.0 (term (get_or kids 0 0)) (term i)) (sym evolve_r)
 
-      pub evolve_body : Later c p r (within p)
+      pub evolve_body : Later c p r in_body
       evolve_body =
           let l = evolve_long in
           let k = kid_later 1 (omega (arith, l)) f in
@@ -605,10 +641,10 @@ module _ {c : Context} {p : ℕ} {position : Position} {n : Node} (at : AtNode c
           }
 
       -- what is added to the level of the body
-      pub evolve_level : {l a : ℕ} → l ≡ level_at c r (within p) → a ≡ stages_in c p → l + a ≡ level_at c p position
+      pub evolve_level : {l a : ℕ} → l ≡ level_at c r in_body → a ≡ stages_in c p → l + a ≡ level_at c p position
       evolve_level {l} {a} h i =
-          ap (λ k. k + a) h ∙ ap (λ k. level_at c r (within p) + k) i
-          ∙ sym (ap (level_of (stages_in c) p position.branch position.own scope) evolve_term
+          ap (λ k. k + a) h ∙ ap (λ k. level_at c r in_body + k) i
+          ∙ sym (ap (level_as p) evolve_term
           ∙ ap (λ i. level_of (stages_in c) i position.branch p scope (term r) + stages_in c p) (sym evolve_second))
 
       module _ {q : ℕ} (e : q ≡ get_or kids 0 q) where
@@ -618,20 +654,23 @@ module _ {c : Context} {p : ℕ} {position : Position} {n : Node} (at : AtNode c
         pub evolve_order : q ≤ r
         evolve_order = let a = evolve_first in let d = evolve_second in omega (arith, a, d)
 
+        evolve_levels : behind (node_levels_at c p position)
+            ≡ repeat (r - q) (None ∷ []) ++ node_levels_at c r in_body
+        evolve_levels =
+            let a = evolve_first in
+            let d = evolve_second in
+            let n : size (term (get_or kids 0 0)) ≡ r - q = omega (arith, a, d) in
+            ap (λ y. behind (levels_as p y)) evolve_term
+            ∙ ap (λ i. repeat (size (term (get_or kids 0 0))) (None ∷ [])
+            ++ node_levels (stages_in c) i position.branch p scope (term r)) (sym d)
+            ∙ ap (λ i. repeat i (None ∷ []) ++ node_levels_at c r in_body) n
+
         pub evolve_below : {found : Found} {a : ℕ} {uses : Bool} {old l new : List (Option ℕ)}
-            → l ≡ old ++ repeat (r - q) (None ∷ []) → FoundAt c r (within p) found l new → a ≡ stages_in c p
+            → l ≡ old ++ repeat (r - q) (None ∷ []) → FoundAt c r in_body found l new → a ≡ stages_in c p
             → uses ≡ occurs position.own (term p)
             → FoundBelow c p position (record { level = found.level + a; uses = uses }) old new
-        evolve_below {found} {a} {uses} {old} {l} {new} before b i u =
-            let first = evolve_first in
-            let second = evolve_second in
-            let n : size (term (get_or kids 0 0)) ≡ r - q = omega (arith, first, second) in
-            let all : behind (node_levels_at c p position) ≡ repeat (r - q) (None ∷ []) ++ node_levels_at c r (within p) =
-            ap (λ y. behind (node_levels (stages_in c) p position.branch position.own scope y)) evolve_term
-            ∙ ap (λ i. repeat (size (term (get_or kids 0 0))) (None ∷ []) ++ node_levels (stages_in c) i position.branch p scope (term r)) (sym second)
-            ∙ ap (λ i. repeat i (None ∷ []) ++ node_levels_at c r (within p)) n in
-            record {
-              level = evolve_level b.level i;
-              uses = u;
-              levels = two_behind _ _ _ _ _ before b.levels ∙ ap (λ l. old ++ l) (sym all);
-            }
+        evolve_below {found} {a} {uses} {old} {l} {new} before b added occurring = record {
+          level = evolve_level b.level added;
+          uses = occurring;
+          levels = two_behind _ _ _ _ _ before b.levels ∙ ap (λ l. old ++ l) (sym evolve_levels);
+        }

@@ -5,7 +5,11 @@ use Rattle.fragment_check.proofs.Steps.{first_later}
 use Rattle.round_bound.specs.declared.scopes.Context.{Context}
 use Rattle.round_bound.specs.declared.scopes.Position.{Position}
 use Rattle.round_bound.specs.Walks.{Ready}
-use Rattle.round_bound.proofs.NodeSteps.{Later, found_level, found_none, row, small, leaf_below, apply_below, nbr_long, nbr_inside, nbr_level, nbr_below, if_long, if_condition, if_first, if_second, if_below, let_long, let_bound, let_body, let_below, evolve_long, evolve_body, evolve_level, evolve_order, evolve_below}
+use Rattle.round_bound.proofs.NodeSteps.{Later, found_level, found_none, row, small, leaf_below, apply_below}
+use Rattle.round_bound.proofs.NodeSteps.{nbr_long, nbr_inside, nbr_level, nbr_below}
+use Rattle.round_bound.proofs.NodeSteps.{if_long, if_condition, if_first, if_second, if_below}
+use Rattle.round_bound.proofs.NodeSteps.{let_long, let_bound, let_body, let_below}
+use Rattle.round_bound.proofs.NodeSteps.{evolve_long, evolve_body, evolve_level, evolve_order, evolve_below}
 use Rattle.round_bound.proofs.walk.+walk.Goals as goal
 
 -- from a node the walk goes on to a later place: the measure falls, and levels are asked for there
@@ -29,7 +33,8 @@ pub below-walk_all-requires : goal.below-walk_all-requires
 below-walk_all-requires t c =
     let d = c.decreases in
     let w = c.requires.at.stands.within in
-    let r = subst (InRow c.args.context.now.program.now.nodes c.args.place) (sym c.as_slice.ensures.value) (row c.requires.at) in
+    let r = subst (InRow c.args.context.now.program.now.nodes c.args.place) (sym c.as_slice.ensures.value)
+    (row c.requires.at) in
     let f = first_later c.args.context.now.program.now.nodes c.args.place c.as_slice.result.now w r in
     (omega (arith, d, w, f), (c.requires.at.ready, r))
 
@@ -58,13 +63,15 @@ below_nbr-is_own-own-requires t c =
 
 pub below_nbr-overflow_add-result : goal.below_nbr-overflow_add-result
 below_nbr-overflow_add-result t c =
-    let e = nbr_level c.requires.at c.requires.nbr c.index-inside.ensures c.is_own-own.ensures c.in_ok-found.ensures.level c.chosen.ensures in
+    let e = nbr_level c.requires.at c.requires.nbr c.index-inside.ensures c.is_own-own.ensures
+    c.in_ok-found.ensures.level c.chosen.ensures in
     let k = small c.requires.at in
     omega (arith, e, k)
 
 pub below_nbr-returns : goal.below_nbr-returns
 below_nbr-returns t c =
-    nbr_below c.requires.at c.requires.nbr c.index-inside.ensures c.is_own-own.ensures c.chosen.ensures c.in_ok-found.ensures
+    nbr_below c.requires.at c.requires.nbr c.index-inside.ensures c.is_own-own.ensures c.chosen.ensures
+    c.in_ok-found.ensures
 
 pub below_if-index-requires : goal.below_if-index-requires
 below_if-index-requires t c = let l = if_long c.requires.at c.requires.branching in omega (arith, l)
@@ -81,11 +88,13 @@ below_if-walk-requires t c =
 
 pub below_if-walk-requires-2 : goal.below_if-walk-requires-2
 below_if-walk-requires-2 t c =
-    goes_on c.decreases (if_first c.requires.at c.requires.branching c.index.ensures c.index-2.ensures c.in_ok-condition.ensures.level)
+    goes_on c.decreases (if_first c.requires.at c.requires.branching c.index.ensures c.index-2.ensures
+    c.in_ok-condition.ensures.level)
 
 pub below_if-walk-requires-3 : goal.below_if-walk-requires-3
 below_if-walk-requires-3 t c =
-    goes_on c.decreases (if_second c.requires.at c.requires.branching c.index.ensures c.index-2.ensures c.index-3.ensures c.in_ok-condition.ensures.level)
+    goes_on c.decreases (if_second c.requires.at c.requires.branching c.index.ensures c.index-2.ensures
+    c.index-3.ensures c.in_ok-condition.ensures.level)
 
 pub below_if-returns : goal.below_if-returns
 below_if-returns t c =
@@ -104,7 +113,8 @@ below_let-walk-requires t c =
 
 pub below_let-walk-requires-2 : goal.below_let-walk-requires-2
 below_let-walk-requires-2 t c =
-    goes_on c.decreases (let_body c.requires.at c.requires.binding c.index.ensures c.index-2.ensures c.in_ok-bound.ensures.level refl refl)
+    goes_on c.decreases (let_body c.requires.at c.requires.binding c.index.ensures c.index-2.ensures
+    c.in_ok-bound.ensures.level refl refl)
 
 pub below_let-returns : goal.below_let-returns
 below_let-returns t c =
@@ -128,7 +138,8 @@ below_evolving-walk-requires t c =
 
 pub below_evolving-overflow_add-result : goal.below_evolving-overflow_add-result
 below_evolving-overflow_add-result t c =
-    let e = evolve_level c.requires.at c.requires.evolving c.index-body.ensures c.in_ok-found.ensures.level c.added.ensures in
+    let e = evolve_level c.requires.at c.requires.evolving c.index-body.ensures c.in_ok-found.ensures.level
+    c.added.ensures in
     let k = small c.requires.at in
     omega (arith, e, k)
 
