@@ -13,7 +13,7 @@ use Rattle.bound_rounds.proofs.Rounding.{of_marked, none_true, some_true}
 use Rattle.bound_rounds.proofs.rounds.round.Goals as goal
 
 -- the table after the firings, and the bounds that are then put into it
-module _ (c : goal.After-mark_due) where
+module _ (c : goal.After-contains) where
   abbrev U : Unfolding
   U = unfolding_of c.args.program.now
 
