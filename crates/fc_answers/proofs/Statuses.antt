@@ -152,7 +152,7 @@ program_causes text (Accepted U) h = tt
 program_causes text (Refused (Plainly r)) h = program_judges text r h
 program_causes text (Refused (InScene r)) h = scene_judges r
 
-with_scene_causes : (U : Unfolding) (s : scene.Judged SceneValue) → IfRefused CauseJudges (with_scene U s)
+with_scene_causes : (U : Unfolding) (s : scene.JudgedScene SceneValue) → IfRefused CauseJudges (with_scene U s)
 with_scene_causes U (scene.Accepted s) = tt
 with_scene_causes U (scene.Refused r) = scene_judges r
 

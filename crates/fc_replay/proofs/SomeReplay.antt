@@ -205,7 +205,7 @@ is_input : (program network : List ℕ) (i : InputOf) → ReadsInput program net
     → IsInput program network i.0 i.1
 is_input program network i h = by_program h.judged h.reads h.scene
   where
-    by_scene : (U : Unfolding) (k : scene.Judged SceneValue) → IsProgramText program U → scene_of U network ≡ k
+    by_scene : (U : Unfolding) (k : scene.JudgedScene SceneValue) → IsProgramText program U → scene_of U network ≡ k
         → Accepted i ≡ with_scene U k → IsInput program network i.0 i.1
     by_scene U (scene.Refused r) text at e = absurd cc
     by_scene U (scene.Accepted s) text at e =

@@ -12,7 +12,7 @@ pub scene_fits : AcceptedScenesFit → (program network : List ℕ) (i : InputOf
     → SceneFits i.0 i.1
 scene_fits fit program network i h = by_program h.judged h.scene
   where
-    by_scene : (U : Unfolding) (k : scene.Judged SceneValue) → scene_of U network ≡ k → Accepted i ≡ with_scene U k
+    by_scene : (U : Unfolding) (k : scene.JudgedScene SceneValue) → scene_of U network ≡ k → Accepted i ≡ with_scene U k
         → SceneFits i.0 i.1
     by_scene U (scene.Refused r) read e = absurd cc
     by_scene U (scene.Accepted s) read e =
