@@ -55,12 +55,12 @@ pub record IsClosedTerm (P : Program) (p end : ℕ) : Type 0 where
   pub within : end ≤ length P.nodes
 
 -- a program is the closed term at a place of another one
-pub record IsPart (P : Program) (p : ℕ) (Q : Program) : Type 0 where
+pub record IsClosedPart (P : Program) (p : ℕ) (Q : Program) : Type 0 where
   pub declared : Q.declared ≡ P.declared
   pub main : term_at Q.nodes 0 ≡ lowered p (term_at P.nodes p)
 
 -- what solves the part solves the term at its place, whatever the binders around it and those of the part are
 abbrev pub PartsSolve : Type 0
 PartsSolve = (P Q : Program) (p : ℕ) (N : Network) (D : Devices) (V W : ValueMaps) (F : ValueMap)
-    → HasType P.declared [] p (term_at P.nodes p) → IsPart P p Q
+    → HasType P.declared [] p (term_at P.nodes p) → IsClosedPart P p Q
     → Solves N 0 (term_at Q.nodes 0) D W F → Solves N p (term_at P.nodes p) D V F

@@ -4,7 +4,7 @@ ghost use Rattle.std.specs.Prelude.{◌≡◌, ◌-◌, IsTrue, map};
 ghost use Rattle.fc_values.specs.Types.{local_type_of, type_of};
 ghost use Rattle.fc_values.specs.Values.{local_of};
 ghost use Rattle.fc_nodes.specs.Terms.{sort_of, view_of};
-ghost use Rattle.closed_terms.specs.Parts.{lowered_sort, lowered_view, IsClosedTerm, IsPart};
+ghost use Rattle.closed_terms.specs.Parts.{lowered_sort, lowered_view, IsClosedTerm, IsClosedPart};
 
 use fc_nodes::{Node, Op, Unfolded};
 use fc_values::{Local, LocalTy, Ty};
@@ -13,7 +13,7 @@ use fc_values::{Local, LocalTy, Ty};
 pub fn is_part(program: &Unfolded, place: u32, end: u32, part: &Unfolded) -> bool
     requires term { IsClosedTerm program.now place end }
     requires declared { part.now.declared ≡ program.now.declared }
-    ensures { IsTrue result → IsPart program.now place part.now }
+    ensures { IsTrue result → IsClosedPart program.now place part.now }
 {
     let _program = program.declared();
     let size = part.size();

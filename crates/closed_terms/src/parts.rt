@@ -1,7 +1,7 @@
 //! Closed terms as programs.
 
 ghost use Rattle.std.specs.Prelude.{◌≡◌, ◌≤◌, ◌-◌, IfOk, length};
-ghost use Rattle.closed_terms.specs.Parts.{IsClosedTerm, IsLowered, IsPart};
+ghost use Rattle.closed_terms.specs.Parts.{IsClosedTerm, IsLowered, IsClosedPart};
 
 use crate::lowering::lowered;
 use fc_nodes::{Node, Unfolded};
@@ -11,7 +11,7 @@ use std::alloc::Global;
 /// The closed term at a place, which ends before another place, as a program.
 pub fn part(alloc: Global, program: &Unfolded, place: u32, end: u32) -> Result<Unfolded, Memory>
     requires { IsClosedTerm program.now place end }
-    ensures { IfOk result (IsPart program.now place) }
+    ensures { IfOk result (IsClosedPart program.now place) }
 {
     let nodes = nodes(alloc, program, place, end)?;
     let declared = copy_declared(alloc, program.declared())?;

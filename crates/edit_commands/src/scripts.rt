@@ -119,7 +119,11 @@ fn add_firings(progress: &mut Progress, rounds: u64) -> Result<(), u64>
 }
 
 // The rounds that words say.
-fn run(context: &LineContext, progress: &mut Progress, words: &[&[u8]]) -> Result<Command, ScriptFault>
+fn run(
+    context: &LineContext,
+    progress: &mut Progress,
+    words: &[&[u8]],
+) -> Result<Command, ScriptFault>
     requires { IsReady context.now progress.old }
     ensures ok { IfOk result (Leaves context.now progress.old progress.new (run_line (texts words.now))) }
     ensures refused { IfErr result (IsAtFault context.now progress.old (run_line (texts words.now))) }
@@ -137,7 +141,11 @@ fn run(context: &LineContext, progress: &mut Progress, words: &[&[u8]]) -> Resul
 }
 
 // The rubbish that words say.
-fn scramble(context: &LineContext, progress: &mut Progress, words: &[&[u8]]) -> Result<Command, ScriptFault>
+fn scramble(
+    context: &LineContext,
+    progress: &mut Progress,
+    words: &[&[u8]],
+) -> Result<Command, ScriptFault>
     requires { IsReady context.now progress.old }
     ensures ok { IfOk result (Leaves context.now progress.old progress.new (scramble_line (texts words.now))) }
     ensures refused { IfErr result (IsAtFault context.now progress.old (scramble_line (texts words.now))) }

@@ -13,7 +13,7 @@ use Rattle.export_table.specs.Holding.{HeldValue, list_of, log_in, core_in}
 use Rattle.export_table.specs.declared.firing.Pause.{Pause}
 use Rattle.export_table.specs.Firings.{FiringValue}
 use Rattle.export_table.specs.Passing.{TableValue, IsPassOf, on_log}
-use Rattle.export_table.specs.Turns.{Begins, Pauses, Edits, RefusesIn, Began, Paused, Edited, Refused, KeepsFirings}
+use Rattle.export_table.specs.Turns.{Begins, Pauses, EditsIn, RefusesIn, Began, Paused, Edited, Refused, KeepsFirings}
 use Rattle.export_table.proofs.Flying.{begin_not_end, idle_not_end, edit_not_end}
 use Rattle.export_table.proofs.OwnFirings.{firing_stays}
 use Rattle.export_table.proofs.Turning as turning
@@ -45,7 +45,7 @@ module _ (x y : HeldValue) where
     next_paused (Err p) err = turning.paused t v x k a y w item left view p err
 
 module _ (x y : HeldValue) (e : Edit) where
-  pub edit_adds : (mine : List (ℕ × ItemValue)) (r : Result (Unit {0}) EditFault) → OnOk r (Edits x y e) → IfErr r (RefusesIn x y (edit_of e)) → Adds x y mine
+  pub edit_adds : (mine : List (ℕ × ItemValue)) (r : Result (Unit {0}) EditFault) → OnOk r (EditsIn x y e) → IfErr r (RefusesIn x y (edit_of e)) → Adds x y mine
   edit_adds mine (Ok u) ok err = turning.adds_plain x y (entry.Edit e) mine ok.turned refl
   edit_adds mine (Err f) ok err = turning.adds_plain x y entry.Idle mine err.turned refl
 
@@ -53,15 +53,15 @@ module _ (x y : HeldValue) (e : Edit) where
   edit_takes r err is none = let h = subst (λ q. IfErr q (RefusesIn x y (edit_of e))) is err in h.refused none
 
   module _ (t : TableValue) (v w : PassView ItemValue) (k : IsPassOf t v) (a : Agrees list_of answers v x) (item : ItemValue) (left : list_of y ≡ w.seen) (view : w ≡ wrote v (list_of x) item) where
-    pub edit_pass : (r : Result (Unit {0}) EditFault) → OnOk r (Edits x y e) → IfErr r (RefusesIn x y (edit_of e)) → IsPassOf t w
+    pub edit_pass : (r : Result (Unit {0}) EditFault) → OnOk r (EditsIn x y e) → IfErr r (RefusesIn x y (edit_of e)) → IsPassOf t w
     edit_pass (Ok u) ok err = turning.still_pass t v x k a y w item left view (entry.Edit e) ok.turned
     edit_pass (Err f) ok err = turning.still_pass t v x k a y w item left view entry.Idle err.turned
 
-    pub edit_keeps : (r : Result (Unit {0}) EditFault) → OnOk r (Edits x y e) → IfErr r (RefusesIn x y (edit_of e)) → KeepsFirings t.opening (on_log v) (on_log w)
+    pub edit_keeps : (r : Result (Unit {0}) EditFault) → OnOk r (EditsIn x y e) → IfErr r (RefusesIn x y (edit_of e)) → KeepsFirings t.opening (on_log v) (on_log w)
     edit_keeps (Ok u) ok err place g own = firing_stays t.opening (on_log v) (on_log w) (log_in x) (core_in x) (EditEntry (edit_of e)) place g (turning.took_turn t v x k a y w item left view (entry.Edit e) ok.turned) (edit_not_end (edit_of e) g.snap.device) own
     edit_keeps (Err f) ok err place g own = firing_stays t.opening (on_log v) (on_log w) (log_in x) (core_in x) IdleEntry place g (turning.took_turn t v x k a y w item left view entry.Idle err.turned) (idle_not_end g.snap.device) own
 
-    pub edit_edited : (r : Result (Unit {0}) EditFault) → OnOk r (Edits x y e) → OnOk r (Edited t.opening (on_log v) (on_log w) (edit_of e))
+    pub edit_edited : (r : Result (Unit {0}) EditFault) → OnOk r (EditsIn x y e) → OnOk r (Edited t.opening (on_log v) (on_log w) (edit_of e))
     edit_edited (Ok u) ok = turning.edited t v x k a y w item left view e ok
     edit_edited (Err f) ok = tt
 

@@ -22,7 +22,7 @@ use Rattle.export_table.specs.Answers.{after_item, begun_from, last_begin, item_
 use Rattle.export_table.specs.Holding.{HeldValue, IsOpenAt, IsTakenAt, opening_in, log_in, core_in, list_of}
 use Rattle.export_table.specs.Firings.{FiringValue}
 use Rattle.export_table.specs.Passing.{TableValue, IsPassOf, on_log, written}
-use Rattle.export_table.specs.Turns.{MayEnd, Ends, Began, IsOwnFiring, CanEnd, KeepsFirings, FiringsStay, Ended}
+use Rattle.export_table.specs.Turns.{MayEnd, EndsIn, Began, IsOwnFiring, CanEnd, KeepsFirings, FiringsStay, Ended}
 use Rattle.export_table.proofs.Flying.{begin_not_end, cut_at, take_all, answers_here, open_last}
 use Rattle.turn_lock.proofs.Lists.{in_snoc, in_left, in_last, at_below}
 use Rattle.export_table.proofs.Passing.{own_items, from_items}
@@ -128,7 +128,7 @@ module _ (t : TableValue) (v : PassView ItemValue) (place : ℕ) (f : FiredValue
   }
 
   -- the end answers the begin
-  pub adds_end : FlightsStay → RunsCut → (y : HeldValue) → Ends x y f → (i : ItemValue) × (list_of y ≡ list_of x ++ i ∷ []) × MayAnswer answers (list_of x) v.mine i
+  pub adds_end : FlightsStay → RunsCut → (y : HeldValue) → EndsIn x y f → (i : ItemValue) × (list_of y ≡ list_of x ++ i ∷ []) × MayAnswer answers (list_of x) v.mine i
   adds_end flights cuts y ends =
       let turned = ends.turned in let book = turned.legal in let copy = taken_at in let opened = open_at in
       let d = f.snap.device in
@@ -145,7 +145,7 @@ module _ (t : TableValue) (v : PassView ItemValue) (place : ℕ) (f : FiredValue
         inr (suc place, WrittenItem (BeginEntry d), answers_here (list_of x) (WrittenItem (EndEntry d)) [] ∙ (ap (λ l. last_begin d (items_of (opening_in x) l)) c.2 ∙ (last ∙ ap (λ n. Some (suc n)) c.3)), own_item, still_open),
       )
 
-  pub ended : RunsCut → (y : HeldValue) (w : PassView ItemValue) (item : ItemValue) → list_of y ≡ w.seen → w ≡ wrote v (list_of x) item → Ends x y f → Ended t.opening (on_log v) (on_log w) f
+  pub ended : RunsCut → (y : HeldValue) (w : PassView ItemValue) (item : ItemValue) → list_of y ≡ w.seen → w ≡ wrote v (list_of x) item → EndsIn x y f → Ended t.opening (on_log v) (on_log w) f
   ended cuts y w item left view ends = let turned = ends.turned in let book = turned.book in let legal = turned.legal in let turn = took_turn t v x k a y w item left view (entry.End f.snap.device) turned in record {
     before = log_in x;
     core = core_in x;

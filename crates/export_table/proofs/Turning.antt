@@ -21,7 +21,7 @@ use Rattle.export_table.specs.Firings.{FiringValue}
 use Rattle.export_table.specs.Passing.{TableValue, IsPassOf, on_log, on_items, item_at_next}
 use Rattle.export_table.specs.declared.firing.Pause.{Pause}
 use Rattle.export_table.specs.declared.firing.Pause.TheVariants as pause
-use Rattle.export_table.specs.Turns.{Begins, Rests, Pauses, Edits, RefusesIn, TookTurn, Began, Rested, Idled, Paused, Edited, Refused, Closes, IsAfterTurn}
+use Rattle.export_table.specs.Turns.{Begins, Rests, Pauses, EditsIn, RefusesIn, TookTurn, Began, Rested, Idled, Paused, Edited, Refused, Closes, IsAfterTurn}
 use Rattle.export_table.proofs.Keeping.{entries_length, entries_snoc}
 use Rattle.export_table.proofs.Flying.{answers_here}
 use Rattle.export_table.proofs.Passing.{begins_items, items_length, pass_of, placed_items, pass_wrote, rises_items, whole_items, mine_length}
@@ -127,7 +127,7 @@ module _ (t : TableValue) (v : PassView ItemValue) (x : HeldValue) (k : IsPassOf
     paused (pause.Rests r) why = rested r.is_over why
     paused pause.Starved why = idled why
 
-    pub edited : (e : Edit) → Edits x y e → Edited t.opening (on_log v) (on_log w) (edit_of e)
+    pub edited : (e : Edit) → EditsIn x y e → Edited t.opening (on_log v) (on_log w) (edit_of e)
     edited e d = record {
       before = log_in x;
       core = core_in x;

@@ -56,12 +56,12 @@ pub record MayEnd (h : HeldValue) (place : ℕ) (f : FiredValue) : Type 0 where
   pub copy : IsTakenAt (opening_in h) (log_in h) place (snap_copy (unfolding_of h.book.program) f.snap)
 
 -- it ends this firing
-pub record Ends (old new : HeldValue) (f : FiredValue) : Type 0 where
+pub record EndsIn (old new : HeldValue) (f : FiredValue) : Type 0 where
   pub turned : Turned old new (entry.End f.snap.device)
   pub publishes : (core_in new).exports f.snap.device ≡ Some (tree_of (unfolding_of old.book.program) f.export)
 
 -- it edits the book
-pub record Edits (old new : HeldValue) (e : Edit) : Type 0 where
+pub record EditsIn (old new : HeldValue) (e : Edit) : Type 0 where
   pub turned : Turned old new (entry.Edit e)
   pub allowed : edit_fault (core_in old) (edit_of e) ≡ None
 

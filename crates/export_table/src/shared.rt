@@ -15,7 +15,7 @@ ghost use Rattle.turn_lock.specs.Passes.{IsBelow, opened, kept_part, new_part, j
 ghost use Rattle.export_table.specs.Holding.{HasTurn, core_in, opening_of, BeginsWithin, EachIsNext};
 ghost use Rattle.export_table.specs.Firings.{AreCopies};
 ghost use Rattle.export_table.specs.Passing.{IsPassOf, on_log};
-ghost use Rattle.export_table.specs.Turns.{Begins, Pauses, GivesBack, MayEnd, Ends, Edits, RefusesIn};
+ghost use Rattle.export_table.specs.Turns.{Begins, Pauses, GivesBack, MayEnd, EndsIn, EditsIn, RefusesIn};
 ghost use Rattle.export_table.specs.Turns.{Began, Paused, IsOwnFiring, CanEnd, Ended, Edited, Refused};
 ghost use Rattle.export_table.specs.Turns.{Closes, IsAfterTurn, KeepsFirings};
 
@@ -136,7 +136,7 @@ impl Shared {
         )
     }
 
-    /// Ends a firing that the pass began, and so publishes its export. The copy that flew and the one that was evaluated
+    /// EndsIn a firing that the pass began, and so publishes its export. The copy that flew and the one that was evaluated
     /// come back, and it takes no memory. A round waits for this turn.
     pub fn end<W: Wait>(
         &self,
@@ -161,13 +161,13 @@ impl Shared {
             Urgency::High,
             |held: &mut Held| -> (Snap, Snap)
                 requires { MayEnd held.old place fired }
-                ensures ends { Ends held.old held.new fired }
+                ensures ends { EndsIn held.old held.new fired }
                 ensures copies { AreCopies (unfolding_of held.old.book.program) result }
             { held.end(place, fired) },
         )
     }
 
-    /// Edits the book, where its core allows it. Nobody waits for this turn.
+    /// EditsIn the book, where its core allows it. Nobody waits for this turn.
     pub fn edit<W: Wait>(
         &self,
         rt: &W,
@@ -192,7 +192,7 @@ impl Shared {
             |held: &mut Held| -> Result<(), EditFault>
                 requires turn { HasTurn held.old }
                 requires fits { EditFits (unfolding_of held.old.book.program) (edit_of edit) }
-                ensures edits { OnOk result (Edits held.old held.new edit) }
+                ensures edits { OnOk result (EditsIn held.old held.new edit) }
                 ensures refuses { IfErr result (RefusesIn held.old held.new (edit_of edit)) }
             { held.edit(alloc, edit) },
         )

@@ -37,7 +37,7 @@ use Rattle.firing_core.specs.Rounds.{HasRounds, after_edit}
 use Rattle.converge_laws.specs.Verdicts.{IsSettled}
 use Rattle.session.proofs.EditsInLogs.{fewer}
 use Rattle.fc_replay.specs.Laws.{InputsStart, ReplaysLead}
-use Rattle.fc_replay.specs.Replays.{Replays, Shown, start_of}
+use Rattle.fc_replay.specs.Replays.{Replays, ReplayShown, start_of}
 use Rattle.fc_replay.specs.Stopping.{entries_in}
 use Rattle.interval_facts.specs.Ranges.{ranges_of}
 use Rattle.interval_facts.specs.Solutions.{SolvesMain}
@@ -49,7 +49,7 @@ use Rattle.fc_mail.specs.Drives.{DrivesMail}
 use Rattle.fc_mail.specs.Laws.{DrivenMailKeepsYes, DrivenMailsKeepYes, MailKeepsYes, MailsKeepYes}
 use Rattle.fc_mail.specs.Mails.{Mails}
 use Rattle.fc_answers.specs.Stabilised.{Stabilised, StabilisedBy, StabilisesScene}
-use Rattle.fc_gen.specs.Laws.{Agrees, AllAgree}
+use Rattle.fc_gen.specs.Laws.{ScenarioAgrees, AllAgree}
 use Rattle.fc_run.specs.Laws.{RunsKeepYes}
 use Rattle.fc_run.specs.Runs.{RanValue, Runs}
 use Rattle.fc_answers.specs.Asked.{limit_refusal}
@@ -375,7 +375,7 @@ module _ (law : YesStabilises) (unfolds : TextsUnfold) (start : InputsStart) (go
       → ReplaysKept options program network log (answer_of j)
   replay_keeps program network log j h zero = by_judged h.judged h.replays h.shows
     where
-      by_judged : (k : Judged Shown) → Replays options program network log k → j ≡ judged_map showing k
+      by_judged : (k : Judged ReplayShown) → Replays options program network log k → j ≡ judged_map showing k
           → ReplaysKept options program network log (answer_of j)
       by_judged (Accepted shown) replays e =
           let led = show options program network log shown replays in
@@ -419,7 +419,7 @@ module _ (run : RunsKeepYes) (agree : AllAgree) where
   work_keeps (Run o) input j h zero =
       three_input (ShowsRun o) (RunsKept o) (shows_keep run o) input j h zero
   work_keeps (Gen o) input j h zero =
-      subst (λ x. Agrees o.number o.devices (answer_of x).text) (sym h.shows)
+      subst (λ x. ScenarioAgrees o.number o.devices (answer_of x).text) (sym h.shows)
       (agree o.number o.devices h.least h.most h.gen h.gens)
 
   pub works_keep : (work : Work) (input : List ℕ) (answer : AnswerValue) → Works work input answer

@@ -23,7 +23,7 @@ use Rattle.fc_settle.specs.Laws.{OneSettle}
 use Rattle.fc_mail.specs.Drives.{DrivesMail}
 use Rattle.fc_mail.specs.Mails.{Mails}
 use Rattle.fc_mail.specs.Laws.{OneMail, OneDrivenMail}
-use Rattle.fc_replay.specs.Replays.{Shown}
+use Rattle.fc_replay.specs.Replays.{ReplayShown}
 use Rattle.fc_replay.specs.Laws.{Alike, OneReplay}
 use Rattle.fc_trace.specs.Traces.{Traces}
 use Rattle.fc_gen.specs.Laws.{OneGen}
@@ -52,7 +52,7 @@ equal b i j k e f = record {
   text = by_threads b (answer_of j) (answer_of k) (ap (λ x. (answer_of x).text) (e ∙ sym f));
 }
 
-alike : (a b : Judged Shown) (j k : Judged AnswerValue) → Alike a b → j ≡ judged_map showing a
+alike : (a b : Judged ReplayShown) (j k : Judged AnswerValue) → Alike a b → j ≡ judged_map showing a
     → k ≡ judged_map showing b → Same false j k
 alike (Accepted a) (Accepted b) j k h e f = record {
   status = ap (λ x. (answer_of x).status) e ∙ sym (ap (λ x. (answer_of x).status) f);

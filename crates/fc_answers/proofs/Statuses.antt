@@ -48,7 +48,7 @@ use Rattle.fc_inputs.specs.Sections.{sections_of, WithOne, WithTwo, WithThree, o
 use Rattle.fc_inputs.specs.Sources.{IsNoSource, lexical, tokens, depth, syntax, IsNoProgram, no_source, ill_typed, too_large, ReadsSource, ReadsProgram}
 use Rattle.fc_inputs.specs.Inputs.{InputOf, with_scene, ReadsInput}
 use Rattle.fc_replay.specs.Stopping.{fault_in, first_stop}
-use Rattle.fc_replay.specs.Replays.{start_of, Shown, ReplaysEntries, ReplaysLog, Replays}
+use Rattle.fc_replay.specs.Replays.{start_of, ReplayShown, ReplaysEntries, ReplaysLog, Replays}
 use Rattle.fc_values.specs.declared.limits.TheConstants.{MOST_BYTES}
 use Rattle.fc_answers.specs.Asked.{limit_refusal}
 use Rattle.fc_run.specs.Runs.{RanValue, Runs, RunsScript, line_refusal}
@@ -152,7 +152,7 @@ program_causes text (Accepted U) h = tt
 program_causes text (Refused (Plainly r)) h = program_judges text r h
 program_causes text (Refused (InScene r)) h = scene_judges r
 
-with_scene_causes : (U : Unfolding) (s : scene.Judged SceneValue) → IfRefused CauseJudges (with_scene U s)
+with_scene_causes : (U : Unfolding) (s : scene.JudgedScene SceneValue) → IfRefused CauseJudges (with_scene U s)
 with_scene_causes U (scene.Accepted s) = tt
 with_scene_causes U (scene.Refused r) = scene_judges r
 
@@ -164,7 +164,7 @@ input_causes program network j h = by_program h.judged (program_causes program h
     by_program (Accepted U) c e = subst (IfRefused CauseJudges) (sym e) (with_scene_causes U (scene_of U network))
     by_program (Refused cause) c e = subst (IfRefused CauseJudges) (sym e) c
 
-log_causes : (o : ReplayOptions) (U : Unfolding) (start : Core) (lines : Lines Fault LogLine) (j : Judged Shown)
+log_causes : (o : ReplayOptions) (U : Unfolding) (start : Core) (lines : Lines Fault LogLine) (j : Judged ReplayShown)
     → ReplaysLog o U start lines j → IfRefused CauseJudges j
 log_causes o U start (StopsAt at fault) j e = subst (IfRefused CauseJudges) (sym e) (log_judges at _)
 log_causes o U start (AllLines lines) j h = by_stop (first_stop U start h.log) h.ends
@@ -173,7 +173,7 @@ log_causes o U start (AllLines lines) j h = by_stop (first_stop U start h.log) h
     by_stop (Some stop) e = subst (IfRefused CauseJudges) (sym e) (log_judges stop.0 stop.1)
     by_stop None b = subst (IfRefused CauseJudges) (sym b.is) tt
 
-pub replay_causes : (o : ReplayOptions) (program network log : List ℕ) (j : Judged Shown) → Replays o program network log j
+pub replay_causes : (o : ReplayOptions) (program network log : List ℕ) (j : Judged ReplayShown) → Replays o program network log j
     → IfRefused CauseJudges j
 replay_causes o program network log j h = by_input h.judged (input_causes program network h.judged h.reads) h.ends
   where

@@ -1,5 +1,5 @@
 -- The value of each line of `trace` is that of the field.
-use Rattle.std.proofs.Common.{ℕ, zero, suc, ◌≡◌, ◌<◌, List, [], ◌∷◌, length, get_or, map, refl, ap, ◌∙◌, subst, arith, true}
+use Rattle.std.proofs.Common.{ℕ, zero, suc, ◌≡◌, ◌<◌, List, [], ◌∷◌, length, get_or, map, ap, ◌∙◌, subst, arith, true}
 use Rattle.std.specs.List.{All}
 use Rattle.fc_values.specs.Fields.{is_in}
 use Rattle.fc_values.specs.Values.{LocalValue, IntValue}
@@ -11,28 +11,16 @@ use Rattle.topology.specs.Networks.{Network, Lives, numbers}
 use Rattle.walks.specs.Laws.{OneLeastCost}
 use Rattle.walks.specs.Walks.{CostsValue, EvidenceValue, AreTraced, IsLeastCost}
 use Rattle.walk_form.specs.Costs.{AreCostsFor}
-use Rattle.walk_form.specs.Fields.{as_integer}
 use Rattle.walk_form.specs.Forms.{WalkTerms}
 use Rattle.walk_form.specs.Laws.{IsLeastAt}
-
-firsts : (f : ℕ → LocalValue) (xs : List (ℕ × ℕ)) (ns : List ℕ)
-    → map as_integer xs ≡ map (λ (n : ℕ). (n, f n)) ns → map (λ (x : ℕ × ℕ). x.0) xs ≡ ns
-firsts f [] [] e = refl
-firsts f [] (n ∷ ns) e = absurd cc
-firsts f (x ∷ xs) [] e = absurd cc
-firsts f (x ∷ xs) (n ∷ ns) e =
-    let head : as_integer x ≡ (n, f n) = cc in
-    let tail : map as_integer xs ≡ map (λ (m : ℕ). (m, f m)) ns = cc in
-    let first : x.0 ≡ n = ap (λ (p : ℕ × LocalValue). p.0) head in
-    let rest = firsts f xs ns tail in
-    cc
+use Rattle.walk_form.proofs.Fielding.{firsts_are}
 
 -- the costs of a network have its devices
 devices_of : (U : Unfolding) (N : Network) (w : WalkTerms) (C : CostsValue) → AreCostsFor U N w C
     → map (λ (d : ℕ × ℕ). d.0) C.start ≡ numbers N.devices
 devices_of U N w C are =
     ap (λ (c : CostsValue). map (λ (d : ℕ × ℕ). d.0) c.start) are.is
-    ∙ firsts are.starts.one.field are.start (numbers N.devices) are.starts.values
+    ∙ firsts_are are.starts.one.field are.start (numbers N.devices) are.starts.values
 
 module _ (one : OneLeastCost) (N : Network) (C : CostsValue) (F : ℕ → LocalValue)
     (least : (d : ℕ) → Lives N d → IsLeastAt C d (F d)) where

@@ -24,7 +24,7 @@ use Rattle.fc_check.specs.Checks.{Checks}
 use Rattle.fc_mail.specs.Drives.{DrivesMail}
 use Rattle.fc_mail.specs.Mails.{Mails}
 use Rattle.fc_replay.specs.Ledgers.{Ledger}
-use Rattle.fc_replay.specs.Replays.{Shown, Replays}
+use Rattle.fc_replay.specs.Replays.{ReplayShown, Replays}
 use Rattle.fc_gen.specs.Gens.{GenValue, Gens}
 use Rattle.fc_run.specs.Runs.{RanValue, Runs}
 use Rattle.fc_values.specs.declared.limits.TheConstants.{MOST_BYTES, MOST_SCENARIO_DEVICES}
@@ -43,7 +43,7 @@ pub record AnswerValue : Type 0 where
 abbrev pub written : List ℕ → AnswerValue
 written text = record { status = 0; text = text; book = None; parts = [] }
 
-abbrev pub showing : Shown → AnswerValue
+abbrev pub showing : ReplayShown → AnswerValue
 showing s = record { status = 0; text = s.text; book = Some s.book; parts = [] }
 
 -- the answer of a refusal
@@ -64,7 +64,7 @@ pub record Formats (program : List ℕ) (j : Judged AnswerValue) : Type 0 where
 
 -- `replay` shows the book of a program, a scene and a log
 pub record ShowsReplay (options : ReplayOptions) (program network log : List ℕ) (j : Judged AnswerValue) : Type 0 where
-  pub judged : Judged Shown
+  pub judged : Judged ReplayShown
   pub replays : Replays options program network log judged
   pub shows : j ≡ judged_map showing judged
 

@@ -40,10 +40,10 @@ use Rattle.fc_settle.specs.Settles.{settle_status, settled_devices, time_of}
 use Rattle.fc_trace.specs.Texts.{walks_text}
 use Rattle.fc_inputs.specs.Inputs.{ReadsInput}
 use Rattle.fc_inputs.specs.Sections.{sections_of}
-use Rattle.fc_gen.specs.Laws.{Agrees}
+use Rattle.fc_gen.specs.Laws.{ScenarioAgrees}
 use Rattle.fc_mail.specs.Laws.{DrivenMailKeepsYes, MailKeepsYes}
 use Rattle.fc_replay.specs.Laws.{LogLeads}
-use Rattle.fc_replay.specs.Replays.{Shown, start_of}
+use Rattle.fc_replay.specs.Replays.{ReplayShown, start_of}
 use Rattle.fc_replay.specs.Stopping.{entries_in}
 use Rattle.fc_run.specs.Laws.{RunKeepsYes}
 use Rattle.fc_run.specs.Runs.{RanValue}
@@ -124,7 +124,7 @@ pub record TracesYes (program network text : List ℕ) : Type 0 where
 -- rounds than the log has behind its last edit, which `--rounds` writes, each device holds its value of the one field
 -- that solves the program there
 pub record ReplaysKept (options : ReplayOptions) (program network log : List ℕ) (answer : AnswerValue) : Type 0 where
-  pub shown : Shown
+  pub shown : ReplayShown
   pub shows : answer ≡ showing shown
   pub led : LogLeads options program network log shown
   pub holds : (k rounds : ℕ) → verdict_of led.unfolded (length led.last.net.devices) ≡ verdict.Yes k
@@ -192,7 +192,7 @@ Promises (Mail options) sections answer = MailPromises options.number sections a
 abbrev pub WorkPromises : Work → List (List ℕ) → AnswerValue → Type 0
 WorkPromises (Run options) sections answer =
     OfThree (λ program network script. RunsKept options program network script answer) sections
-WorkPromises (Gen options) sections answer = Agrees options.number options.devices answer.text
+WorkPromises (Gen options) sections answer = ScenarioAgrees options.number options.devices answer.text
 
 -- what work promises is kept
 abbrev pub WorkIsKept : Work → List ℕ → AnswerValue → Type 0

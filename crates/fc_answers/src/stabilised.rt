@@ -1,20 +1,18 @@
 //! What `stable` makes of a program and a scene.
 ghost use Rattle.std.specs.Prelude.{◌≡◌, ◌≤◌, IfErr, IfOk, length, map};
 ghost use Rattle.fc_values.specs.Fields.{Rises, devices, entry_of};
-ghost use Rattle.fc_nodes.specs.Program.{IsProgram, unfolding_of};
-ghost use Rattle.fc_nodes.specs.declared.verdicts.Verdict.TheVariants as verdict;
+ghost use Rattle.fc_nodes.specs.Program.{unfolding_of};
 ghost use Rattle.fragment_check.specs.Verdicts.{verdict_of};
 ghost use Rattle.report.specs.Texts.{field_text};
-ghost use Rattle.report.specs.Verdicts.{verdict_text};
 ghost use Rattle.fc_inputs.specs.Causes.{Accepted, Refused};
 ghost use Rattle.fc_inputs.specs.Stops.{StopsFor};
 ghost use Rattle.fc_values.specs.declared.limits.TheConstants.{MOST_BYTES};
 ghost use Rattle.fc_answers.specs.Stabilised.{Stabilised, StabilisedBy};
 
 use fc_inputs::{Reply, Stop, read_input};
-use fc_nodes::{Reason, Unfolded, Verdict};
+use fc_nodes::{Unfolded, Verdict};
 use fc_values::{Local, Memory};
-use report::{field as write_field, verdict as write_verdict};
+use report::{field as write_field, verdict_line};
 use stable_field::{StableFault, stable};
 use std::alloc::Global;
 use topology::Network;
@@ -29,25 +27,18 @@ fn field_reply(alloc: Global, field: &[(u32, Local)]) -> Result<Reply, Memory>
     Ok(Reply::new(0, text))
 }
 
-// The line of a no.
-fn no_reply(alloc: Global, place: u32, reason: Reason) -> Result<Reply, Memory>
-    ensures { IfOk result (λ r. r ≡ record { status = 1; text = verdict_text (verdict.No place reason) }) }
-{
-    let mut text = Vec::new(alloc);
-    write_verdict(alloc, &mut text, &Verdict::No { place, reason })?;
-    Ok(Reply::new(1, text))
-}
-
 // The field that solves a program on a network, or the verdict's no.
 fn of_network(alloc: Global, program: &Unfolded, net: &Network) -> Result<Reply, Memory>
-    requires program { IsProgram program.now }
-    requires declared { net.now.declared ≡ program.now.declared }
+    requires { net.now.declared ≡ program.now.declared }
     ensures { IfOk result (StabilisedBy (verdict_of (unfolding_of program.now) (length net.now.devices))
         (unfolding_of program.now) net.now) }
 {
     match stable(alloc, program, net) {
         Ok(field) => field_reply(alloc, &field),
-        Err(StableFault::Unrecognised { place, reason }) => no_reply(alloc, place, reason),
+        Err(StableFault::Unrecognised { place, reason }) => {
+            let line = verdict_line(alloc, &Verdict::No { place, reason })?;
+            Ok(Reply::new(1, line))
+        }
         Err(StableFault::Memory) => Err(Memory),
     }
 }
@@ -59,7 +50,5 @@ pub fn stabilised(alloc: Global, program: &[u8], network: &[u8]) -> Result<Reply
     ensures refused { IfErr result (StopsFor (λ cause. Stabilised program.now network.now (Refused cause))) }
 {
     let (program, scene) = read_input(alloc, program, network)?;
-    // Its clause: the nodes are a program.
-    let _size = program.size();
     Ok(of_network(alloc, &program, &scene.net)?)
 }

@@ -1,6 +1,6 @@
 //! What `check` makes of a program and a scene.
 ghost use Rattle.std.specs.Prelude.{◌≡◌, ◌≤◌, IfErr, IfOk, length};
-ghost use Rattle.fc_nodes.specs.Program.{IsProgram, unfolding_of};
+ghost use Rattle.fc_nodes.specs.Program.{unfolding_of};
 ghost use Rattle.fragment_check.specs.Verdicts.{verdict_of};
 ghost use Rattle.fc_inputs.specs.Causes.{Accepted, Refused};
 ghost use Rattle.fc_inputs.specs.Stops.{StopsFor};
@@ -10,7 +10,7 @@ ghost use Rattle.fc_check.specs.Checks.{Checks, checked_of};
 use fc_inputs::{Reply, Stop, read_input};
 use fc_nodes::{Unfolded, Verdict};
 use fc_values::Memory;
-use report::{facts as write_facts, verdict as write_verdict};
+use report::{facts as write_facts, verdict_line};
 use round_bound::Analysis;
 use std::alloc::Global;
 
@@ -22,15 +22,15 @@ pub fn verdict_text(
     program: &Unfolded,
     devices: u32,
 ) -> Result<(Verdict, Vec<u8>), Memory>
-    requires program { IsProgram program.now }
-    requires devices { 1 ≤ devices }
+    requires { 1 ≤ devices }
     ensures verdict { IfOk result (λ r. r.0 ≡ verdict_of (unfolding_of program.now) devices) }
     ensures text { IfOk result (λ r. r.1.items ≡ (checked_of facts (unfolding_of program.now) devices).text) }
 {
     let analysis = Analysis::new(alloc, program)?;
     let (verdict, levels) = analysis.verdict_with_levels(alloc, devices)?;
-    let mut text = Vec::new(alloc);
-    write_verdict(alloc, &mut text, &verdict)?;
+    let mut text = verdict_line(alloc, &verdict)?;
+    // Its clause: the nodes are a program, and so each has a level.
+    let _size = program.size();
     match verdict {
         Verdict::Yes(_) if facts => {
             write_facts(alloc, &mut text, program, analysis.ranges(), &levels)?
@@ -47,8 +47,7 @@ pub fn checked(
     program: &Unfolded,
     devices: u32,
 ) -> Result<Reply, Memory>
-    requires program { IsProgram program.now }
-    requires devices { 1 ≤ devices }
+    requires { 1 ≤ devices }
     ensures { IfOk result (λ r. r ≡ checked_of facts (unfolding_of program.now) devices) }
 {
     let (verdict, text) = verdict_text(alloc, facts, program, devices)?;
@@ -65,8 +64,7 @@ pub fn check(alloc: Global, facts: bool, program: &[u8], network: &[u8]) -> Resu
     ensures refused { IfErr result (StopsFor (λ cause. Checks facts program.now network.now (Refused cause))) }
 {
     let (program, scene) = read_input(alloc, program, network)?;
-    // Its clauses: the nodes are a program, and the network has devices.
-    let _size = program.size();
+    // Its clause: the network has devices.
     let devices = scene.net.devices().len() as u32;
     Ok(checked(alloc, facts, &program, devices)?)
 }

@@ -30,7 +30,7 @@ field_sum F devices = sum_by (λ (d : NetDevice). integer_of (F d.id)) devices
 
 -- Exactly one field solves the program of a scenario, which stabilises within the rounds that are run. Each device ends
 -- a firing a round and agrees with that field, and the sum is that of its values
-pub record Agrees (number devices : ℕ) (text : List ℕ) : Type 0 where
+pub record ScenarioAgrees (number devices : ℕ) (text : List ℕ) : Type 0 where
   pub stabilises : Stabilises (scenario_program devices) (ring number devices) (2 + 2 * devices)
   pub writes : text ≡ summary_text number devices (2 + 2 * devices) ((2 + 2 * devices) * devices) devices
       (field_sum stabilises.one.field (ring number devices).devices)
@@ -38,4 +38,4 @@ pub record Agrees (number devices : ℕ) (text : List ℕ) : Type 0 where
 abbrev pub AllAgree : Type 0
 AllAgree =
     (number devices : ℕ) → 3 ≤ devices → devices ≤ 512 → (g : GenValue) → Gens number devices g
-    → Agrees number devices g.text
+    → ScenarioAgrees number devices g.text

@@ -24,7 +24,7 @@ few_tokens text least (t ∷ ts) h =
 is_text : (program network : List ℕ) (i : InputOf) → ReadsInput program network (Accepted i) → IsProgramText program i.0
 is_text program network i r = by_program r.judged r.reads r.scene
   where
-    by_scene : (U : Unfolding) (k : scene.Judged SceneValue) → IsProgramText program U → Accepted i ≡ with_scene U k → IsProgramText program i.0
+    by_scene : (U : Unfolding) (k : scene.JudgedScene SceneValue) → IsProgramText program U → Accepted i ≡ with_scene U k → IsProgramText program i.0
     by_scene U (scene.Refused refusal) text e = absurd cc
     by_scene U (scene.Accepted s) text e =
         let same : (U, s) ≡ i = cc in

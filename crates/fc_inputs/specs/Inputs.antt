@@ -16,7 +16,7 @@ abbrev pub InputOf : Type 0
 InputOf = Unfolding × SceneValue
 
 -- a judged scene, beside its program
-abbrev pub with_scene : Unfolding → scene.Judged SceneValue → Judged InputOf
+abbrev pub with_scene : Unfolding → scene.JudgedScene SceneValue → Judged InputOf
 with_scene U (scene.Accepted s) = Accepted (U, s)
 with_scene U (scene.Refused refusal) = Refused (InScene refusal)
 

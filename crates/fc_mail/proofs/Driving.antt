@@ -70,11 +70,11 @@ module _ (leads : DrivenLeads) (either : MailLogsLeadOrFail) (number rounds : �
       either P start l.0 log i why is begins (subst (λ es. MailRun (unfolding_of P) 0 start es l.0) (sym made) l.1) fails
 
 module _ (number rounds : ℕ) (U : Unfolding) (s : SceneValue) (last : MailCore) (old new : List ℕ) (r : Reply) where
-  abbrev Shown : MailCore → List MailEntryValue → Type 0
-  Shown start log = MailRun U 0 start log last → log ≡ driven start.core.net rounds (words_of number) → ShowsBehind start.core.net (posts_of start) log last.core old new
+  abbrev StepsShown : MailCore → List MailEntryValue → Type 0
+  StepsShown start log = MailRun U 0 start log last → log ≡ driven start.core.net rounds (words_of number) → ShowsBehind start.core.net (posts_of start) log last.core old new
       → old ≡ verdict_text (verdict.Yes rounds) → r ≡ record { status = 0; text = new } → WritesDriven number U s rounds (Accepted r)
 
-  from_quiet : (core : Core) → Settles U s core → (log : List MailEntryValue) → Shown (quiet core) log
+  from_quiet : (core : Core) → Settles U s core → (log : List MailEntryValue) → StepsShown (quiet core) log
   from_quiet core settles log run made shows line is =
       let net : core.net ≡ s.net = settled_net U s core settles in
       let same : log ≡ driven_log number s.net rounds = made ∙ ap (λ (n : Network). driven n rounds (words_of number)) net in
@@ -89,8 +89,8 @@ module _ (number rounds : ℕ) (U : Unfolding) (s : SceneValue) (last : MailCore
             (shows.is ∙ ap (λ l. (l ++ values_text last.core) ++ rounds_text shows.rounds) line));
       }
 
-  pub drives : (start : MailCore) → IsSettledOf U s start → (log : List MailEntryValue) → Shown start log
-  drives start q log = subst (λ m. Shown m log) (sym q.is) (from_quiet q.core q.settles log)
+  pub drives : (start : MailCore) → IsSettledOf U s start → (log : List MailEntryValue) → StepsShown start log
+  drives start q log = subst (λ m. StepsShown m log) (sym q.is) (from_quiet q.core q.settles log)
 
 -- ---- the parts that the code has
 

@@ -1,7 +1,7 @@
 //! What `mail --number` makes of a program and a scene.
 
 ghost use Rattle.std.specs.Prelude.{◌≡◌, ◌<◌, ◌≤◌, ◌++◌, ◌^◌, ℕ, IfErr, IfOk, length};
-ghost use Rattle.fc_nodes.specs.Program.{IsProgram, unfolding_of};
+ghost use Rattle.fc_nodes.specs.Program.{unfolding_of};
 ghost use Rattle.fc_nodes.specs.declared.verdicts.Verdict.TheVariants as verdict;
 ghost use Rattle.topology.specs.Networks.{IsNetwork};
 ghost use Rattle.fragment_check.specs.Verdicts.{verdict_of};
@@ -11,7 +11,6 @@ ghost use Rattle.message_links.specs.declared.entries.MailFault.{MailFault};
 ghost use Rattle.net_json.specs.SceneCode.{AreCopies, AreRows, value_of_scene};
 ghost use Rattle.mail_book.specs.MailReplays.{FailsMailAt};
 ghost use Rattle.mail_book.specs.MailViews.{mail_of, unfolded_of};
-ghost use Rattle.report.specs.Verdicts.{verdict_text};
 ghost use Rattle.fc_inputs.specs.Causes.{Accepted, Refused};
 ghost use Rattle.fc_inputs.specs.Stops.{StopsFor};
 ghost use Rattle.fc_values.specs.declared.limits.TheConstants.{MOST_BYTES};
@@ -28,7 +27,7 @@ use mail_book::{Mail, MailBook, mail_logs_end, replay_mail};
 use mail_drive::{drive, driven_logs_lead};
 use message_links::{MailEntry, MailReplay};
 use net_json::Scene;
-use report::verdict as write_verdict;
+use report::verdict_line;
 use round_bound::Analysis;
 use std::alloc::Global;
 use std::sync::Arc;
@@ -99,7 +98,6 @@ fn driven(
     program: Unfolded,
     scene: Scene,
 ) -> Result<Reply, Memory>
-    requires program { IsProgram program }
     requires declared { scene.net.declared ≡ program.declared }
     requires rows { AreRows (unfolding_of program) scene.net scene.table.items }
     requires copies { AreCopies (unfolding_of program) scene.net scene.pending.items }
@@ -108,11 +106,12 @@ fn driven(
 {
     driven_logs_lead();
     mail_logs_end();
+    // Its clause: the nodes are a program.
+    let _size = program.size();
     let program = Arc::new(alloc, program)?;
     let start = settled(alloc, &program, scene)?;
     let log = drive(alloc, start.core().net(), rounds, number)?;
-    let mut text = Vec::new(alloc);
-    write_verdict(alloc, &mut text, &Verdict::Yes(u64::from(rounds)))?;
+    let mut text = verdict_line(alloc, &Verdict::Yes(u64::from(rounds)))?;
     let book = replayed(alloc, start, log)?;
     show(alloc, &mut text, &book)?;
     Ok(Reply::new(0, text))
@@ -120,7 +119,6 @@ fn driven(
 
 // What is written of a program and a scene.
 fn of_scene(alloc: Global, number: u32, program: Unfolded, scene: Scene) -> Result<Reply, Stop>
-    requires program { IsProgram program }
     requires declared { scene.net.declared ≡ program.declared }
     requires rows { AreRows (unfolding_of program) scene.net scene.table.items }
     requires copies { AreCopies (unfolding_of program) scene.net scene.pending.items }
@@ -133,8 +131,7 @@ fn of_scene(alloc: Global, number: u32, program: Unfolded, scene: Scene) -> Resu
     let devices = scene.net.devices().len() as u32;
     let verdict = verdict(alloc, &program, devices)?;
     let Verdict::Yes(rounds) = verdict else {
-        let mut text = Vec::new(alloc);
-        write_verdict(alloc, &mut text, &verdict)?;
+        let text = verdict_line(alloc, &verdict)?;
         return Ok(Reply::new(1, text));
     };
     let messages = messages(&scene.net, rounds);
@@ -156,7 +153,5 @@ pub fn mail_number(
     ensures refused { IfErr result (StopsFor (λ cause. DrivesMail number program.now network.now (Refused cause))) }
 {
     let (program, scene) = read_input(alloc, program, network)?;
-    // Its clause: the nodes are a program.
-    let _size = program.size();
     of_scene(alloc, number, program, scene)
 }

@@ -81,7 +81,7 @@ pub record IsUnread (src src' : SourceAt) (out out' : SinkAt) : Type 0 where
   pub keeps : Keeps out.taken out'.taken
 
 -- how a call for what the words ask ends: the source and the sink before it and after it, and its outcome
-pub record Ends (asked : Option Command) (src src' : SourceAt) (out out' : SinkAt) (o : Outcome) : Type 0 where
+pub record CallEnds (asked : Option Command) (src src' : SourceAt) (out out' : SinkAt) (o : Outcome) : Type 0 where
   -- A status from 0 to 4: an answer to the words and to what the source had left was written, and nothing else.
   pub exact : o.status ≤ 4 → IsExact asked src.left out.taken out'.taken o
   -- What reads the source reads it to its end.

@@ -1,7 +1,7 @@
 //! All that is done for what the words ask for, and how it ends.
 ghost use Rattle.std.specs.Prelude.{◌≡◌, false};
 ghost use Rattle.fc_answers.specs.Asked.{reads_source, MayAsk};
-ghost use Rattle.fc_program.specs.Top.{Ends, TellsNothing, sink_at, source_at};
+ghost use Rattle.fc_program.specs.Top.{CallEnds, TellsNothing, sink_at, source_at};
 
 use crate::judging::{Failure, answered};
 use command_words::Command;
@@ -45,7 +45,7 @@ pub fn ended<W: Threads + Wait + Sync, S: Source, K: Sink, G: Gate + Sync>(
     gate: &G,
 ) -> Outcome
     requires { MayAsk asked }
-    ensures ends { Ends asked
+    ensures ends { CallEnds asked
         (source_at (S.left src.old) (S.faults src.old)) (source_at (S.left src.new) (S.faults src.new))
         (sink_at (K.taken out.old) (K.faults out.old) (K.room out.old))
         (sink_at (K.taken out.new) (K.faults out.new) (K.room out.new)) result }

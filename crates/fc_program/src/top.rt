@@ -3,7 +3,7 @@ ghost use Rattle.std.specs.Prelude.{◌≡◌, ◌≢◌, ◌<◌, [], length, m
 ghost use Rattle.command_words.specs.Words.{command_of};
 ghost use Rattle.fc_answers.specs.Asked.{reads_source};
 ghost use Rattle.fc_answers.specs.Answers.{AnswerValue, Answers};
-ghost use Rattle.fc_program.specs.Top.{Ends, IsExact, sink_at, source_at};
+ghost use Rattle.fc_program.specs.Top.{CallEnds, IsExact, sink_at, source_at};
 
 use crate::ending::{Outcome, ended, without_book};
 use command_words::{command, words_ask_for_commands};
@@ -23,8 +23,8 @@ pub fn fc<W: Threads + Wait + Sync, S: Source, K: Sink, G: Gate + Sync>(
     out: &mut K,
     gate: &G,
 ) -> Outcome
-    // The text that is written, the bytes that are read, the cause of each status, and the book: each field of `Ends`.
-    ensures ends { Ends (command_of (map string_bytes words.now))
+    // The text that is written, the bytes that are read, the cause of each status, and the book: each field of `CallEnds`.
+    ensures ends { CallEnds (command_of (map string_bytes words.now))
         (source_at (S.left src.old) (S.faults src.old)) (source_at (S.left src.new) (S.faults src.new))
         (sink_at (K.taken out.old) (K.faults out.old) (K.room out.old))
         (sink_at (K.taken out.new) (K.faults out.new) (K.room out.new)) result }

@@ -15,7 +15,7 @@ use Rattle.fc_inputs.specs.Causes.{Judged, Accepted, Refused, AndThen}
 use Rattle.fc_inputs.specs.Inputs.{InputOf, ReadsInput}
 use Rattle.command_words.specs.declared.commands.ReplayOptions.{ReplayOptions}
 use Rattle.fc_replay.specs.Laws.{InputsStart, ReplaysLead, LogLeads}
-use Rattle.fc_replay.specs.Replays.{Replays, ReplaysEntries, ReplaysLog, Shown, ShowsBook, start_of}
+use Rattle.fc_replay.specs.Replays.{Replays, ReplaysEntries, ReplaysLog, ReplayShown, ShowsBook, start_of}
 use Rattle.fc_replay.specs.Stopping.{Logged, entries_in, first_stop}
 
 -- ---- an entry fits where the same one does
@@ -48,11 +48,11 @@ same_log_fits U (e ∷ es) [] s h = absurd s
 same_log_fits U (e ∷ es) (f ∷ fs) s h = (same_entry_fits U e f s.0 h.0, same_log_fits U es fs s.1 h.1)
 
 -- ---- a replay that is shown
-one_shown : (a b : Shown) (j : Judged Shown) → j ≡ Accepted a → j ≡ Accepted b → a ≡ b
+one_shown : (a b : ReplayShown) (j : Judged ReplayShown) → j ≡ Accepted a → j ≡ Accepted b → a ≡ b
 one_shown a b j e f = cc
 
 module _ (start : InputsStart) (readings : ReadingsAgree) (have : LogsHaveEntries) (agree : RunsAgree)
-    (options : ReplayOptions) (program network log : List ℕ) (shown : Shown) where
+    (options : ReplayOptions) (program network log : List ℕ) (shown : ReplayShown) where
   by_book : (i : InputOf) → ReadsInput program network (Accepted i) → (ls : List (ℕ × LogLine))
       → log_of i.0 i.1.net log ≡ AllLines ls → (es : List Logged)
       → AreSaid (IsEntry i.0) ls es → ShowsBook options i.0 (start_of i.1) (entries_in es) (Accepted shown)
@@ -71,7 +71,7 @@ module _ (start : InputsStart) (readings : ReadingsAgree) (have : LogsHaveEntrie
         said = said_here;
         last = h.core;
         leads = (agree i.0 (start_of i.1) h.core (entries_in es) (start program network i reads).good fits).1 h.leads;
-        is = ap (λ (s : Shown). s.book) is;
+        is = ap (λ (s : ReplayShown). s.book) is;
         says = rw is h.says;
       }
 

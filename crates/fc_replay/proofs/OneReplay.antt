@@ -17,7 +17,7 @@ use Rattle.fc_inputs.specs.Causes.{Cause, Judged, Accepted, Refused, AndThen}
 use Rattle.fc_inputs.specs.Inputs.{InputOf, OneInput}
 use Rattle.command_words.specs.declared.commands.ReplayOptions.{ReplayOptions}
 use Rattle.fc_replay.specs.Stopping.{Logged, entries_in, first_stop}
-use Rattle.fc_replay.specs.Replays.{start_of, RoundsAsked, table_line, where_asked, Shown, book_of, ShowsBook, ReplaysEntries, ReplaysLog, Replays}
+use Rattle.fc_replay.specs.Replays.{start_of, RoundsAsked, table_line, where_asked, ReplayShown, book_of, ShowsBook, ReplaysEntries, ReplaysLog, Replays}
 use Rattle.fc_replay.specs.Laws.{Alike}
 use Rattle.fc_replay.proofs.Stops.{same_stop}
 
@@ -37,7 +37,7 @@ one_count false live live' es es' t u e f g h = g ∙ sym h
 one_count true live live' es es' t u e f g h = g.2
     ∙ ap rounds_text (one_greatest live live' es es' g.0 h.0 e f g.1 h.1) ∙ sym h.2
 
-both_refused : (j k : Judged Shown) (cause : Cause) → j ≡ Refused cause → k ≡ Refused cause → Alike j k
+both_refused : (j k : Judged ReplayShown) (cause : Cause) → j ≡ Refused cause → k ≡ Refused cause → Alike j k
 both_refused j k cause h g = subst (λ x. Alike x k) (sym h) (subst (Alike (Refused cause)) (sym g) refl)
 
 one_core : (a b : Core) → Some a ≡ Some b → a ≡ b
@@ -45,7 +45,7 @@ one_core a b e = cc
 
 module _ (readings : ReadingsAgree) (steps : StepsAgree) (replays : ReplaysAgree) (parts : PartsAgree)
     (input : OneInput) (options : ReplayOptions) where
-  one_book : (U : Unfolding) (start : Core) (es fs : List EntryValue) (j k : Judged Shown) → SameEntries U es fs
+  one_book : (U : Unfolding) (start : Core) (es fs : List EntryValue) (j k : Judged ReplayShown) → SameEntries U es fs
       → ShowsBook options U start es j → ShowsBook options U start fs k → Alike j k
   one_book U start es fs j k same h g =
       let one : h.core ≡ g.core = one_core h.core g.core (sym h.leads ∙ replays U es fs same start ∙ g.leads) in
@@ -62,13 +62,13 @@ module _ (readings : ReadingsAgree) (steps : StepsAgree) (replays : ReplaysAgree
       (subst (Alike (Accepted (record { text = h.text; book = book_of U start es h.core }))) (sym g.is)
       (record { text = text; program = refl; start = refl; log = same; core = one }))
 
-  one_ending : (U : Unfolding) (start : Core) (a b : List Logged) (o : Option (ℕ × LineFault)) (j k : Judged Shown)
+  one_ending : (U : Unfolding) (start : Core) (a b : List Logged) (o : Option (ℕ × LineFault)) (j k : Judged ReplayShown)
       → SameEntries U (entries_in a) (entries_in b) → ReplaysEntries options U start a o j
       → ReplaysEntries options U start b o k → Alike j k
   one_ending U start a b (Some stop) j k same h g = both_refused j k _ h g
   one_ending U start a b None j k same h g = one_book U start (entries_in a) (entries_in b) j k same h g
 
-  one_log : (i : InputOf) (log : List ℕ) (lines : Lines Fault LogLine) (j k : Judged Shown)
+  one_log : (i : InputOf) (log : List ℕ) (lines : Lines Fault LogLine) (j k : Judged ReplayShown)
       → lines ≡ log_of i.0 i.1.net log → ReplaysLog options i.0 (start_of i.1) lines j
       → ReplaysLog options i.0 (start_of i.1) lines k → Alike j k
   one_log i log (StopsAt at fault) j k is h g = both_refused j k _ h g
@@ -79,13 +79,13 @@ module _ (readings : ReadingsAgree) (steps : StepsAgree) (replays : ReplaysAgree
       (subst (λ o. ReplaysEntries options i.0 (start_of i.1) h.log o j)
       (same_stop steps i.0 (start_of i.1) h.log g.log both.0 both.1) h.ends) g.ends
 
-  one_end : (log : List ℕ) (i : Judged InputOf) (j k : Judged Shown)
+  one_end : (log : List ℕ) (i : Judged InputOf) (j k : Judged ReplayShown)
       → AndThen i (λ i k. ReplaysLog options i.0 (start_of i.1) (log_of i.0 i.1.net log) k) j
       → AndThen i (λ i k. ReplaysLog options i.0 (start_of i.1) (log_of i.0 i.1.net log) k) k → Alike j k
   one_end log (Accepted i) j k h g = one_log i log (log_of i.0 i.1.net log) j k refl h g
   one_end log (Refused cause) j k h g = both_refused j k cause h g
 
-  pub one_replay : (program network log : List ℕ) (j k : Judged Shown) → Replays options program network log j
+  pub one_replay : (program network log : List ℕ) (j k : Judged ReplayShown) → Replays options program network log j
       → Replays options program network log k → Alike j k
   one_replay program network log j k h g =
       let one = input program network h.reads.short in

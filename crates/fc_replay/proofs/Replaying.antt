@@ -25,7 +25,7 @@ use Rattle.fc_inputs.specs.Stops.{StopsFor}
 use Rattle.command_words.specs.declared.commands.ReplayOptions.{ReplayOptions}
 use Rattle.fc_replay.specs.Ledgers.{Ledger, ledger_of}
 use Rattle.fc_replay.specs.Stopping.{Logged, entries_in, fault_in, step_fault, first_stop}
-use Rattle.fc_replay.specs.Replays.{start_of, RoundsAsked, IsText, table_line, where_asked, Shown, book_of, ShowsBook, ReplaysEntries, ReplaysLog, Replays}
+use Rattle.fc_replay.specs.Replays.{start_of, RoundsAsked, IsText, table_line, where_asked, ReplayShown, book_of, ShowsBook, ReplaysEntries, ReplaysLog, Replays}
 use Rattle.fc_replay.specs.Code.{stop_at, stop_of, IsFaultOfLog, fault_stop, IsFaulty, IsStopped, IsReplayed, shown_of}
 use Rattle.fc_replay.proofs.Entries.{HasRead}
 use Rattle.fc_replay.proofs.Stops.{RunsAreReplays, step_stops, edit_stops, never_stops}
@@ -106,7 +106,7 @@ is_faulty U n text script.Memory h = tt
 -- ---- the texts
 module _ (options : ReplayOptions) (program network log : List ℕ) (U : Unfolding) (s : SceneValue)
     (reads : ReadsInput program network (Accepted (U, s))) where
-  ended : (j : Judged Shown) → ReplaysLog options U (start_of s) (log_of U s.net log) j
+  ended : (j : Judged ReplayShown) → ReplaysLog options U (start_of s) (log_of U s.net log) j
       → Replays options program network log j
   ended j h = record { judged = Accepted (U, s); reads = reads; ends = h }
 
@@ -137,7 +137,7 @@ module _ (options : ReplayOptions) (program network log : List ℕ) (U : Unfoldi
       → ReplaysLog options U (start_of s) ls (Accepted (record { text = text; book = book }))
   shows es text book (StopsAt at fault) are h says = absurd are
   shows es text book (AllLines lines) are h says =
-      let j : Judged Shown = Accepted (record { text = text; book = book }) in
+      let j : Judged ReplayShown = Accepted (record { text = text; book = book }) in
       let there : ShowsBook options U (start_of s) (entries_in es) j = record {
         core = book.core;
         leads = h.leads;
@@ -152,7 +152,7 @@ module _ (options : ReplayOptions) (program network log : List ℕ) (U : Unfoldi
             (sym (never_stops U (start_of s) book.core es h.leads)) there;
       }
     where
-      shown : List ℕ → Ledger → Shown
+      shown : List ℕ → Ledger → ReplayShown
       shown t b = record { text = t; book = b }
 
   pub replay_shown : (es : List Logged) (text : List ℕ) (book : BookValue)

@@ -12,7 +12,7 @@ use Rattle.fc_inputs.specs.Causes.{Judged, Accepted, AndThen}
 use Rattle.fc_inputs.specs.Inputs.{OneInput, TextsNameInputs, TextsUnfold}
 use Rattle.command_words.specs.declared.commands.ReplayOptions.{ReplayOptions}
 use Rattle.fc_replay.specs.Laws.{InputsStart}
-use Rattle.fc_replay.specs.Replays.{Shown, ShowsBook, ReplaysEntries, ReplaysLog, start_of}
+use Rattle.fc_replay.specs.Replays.{ReplayShown, ShowsBook, ReplaysEntries, ReplaysLog, start_of}
 use Rattle.fc_replay.specs.Stopping.{Logged, entries_in, first_stop}
 use Rattle.fc_replay.specs.WrittenLogs.{ShowsLog, WrittenLogsReplay}
 use Rattle.fc_replay.proofs.Stops.{never_stops}
@@ -20,7 +20,7 @@ use Rattle.fc_replay.proofs.Stops.{never_stops}
 one_core : (a b : Core) → Some a ≡ Some b → a ≡ b
 one_core a b e = cc
 
-module _ (options : ReplayOptions) (U : Unfolding) (start last : Core) (log : List EntryValue) (j : Judged Shown) where
+module _ (options : ReplayOptions) (U : Unfolding) (start last : Core) (log : List EntryValue) (j : Judged ReplayShown) where
   abbrev Shows : Type 0
   Shows = WhereAccepted (ShowsLog options U start log last) j
 

@@ -37,7 +37,7 @@ use Rattle.fc_inputs.specs.Inputs.{InputOf, OneInput, ReadsInput, TextsUnfold, w
 use Rattle.command_words.specs.declared.commands.ReplayOptions.{ReplayOptions}
 use Rattle.fc_replay.specs.Laws.{InputsStart, SomeReplay}
 use Rattle.fc_replay.specs.Ledgers.{Ledger}
-use Rattle.fc_replay.specs.Replays.{Replays, ReplaysEntries, ReplaysLog, RoundsAsked, IsText, Shown, book_of, start_of, table_line, where_asked}
+use Rattle.fc_replay.specs.Replays.{Replays, ReplaysEntries, ReplaysLog, RoundsAsked, IsText, ReplayShown, book_of, start_of, table_line, where_asked}
 use Rattle.fc_replay.specs.Stopping.{Logged, entries_in, fault_in, first_stop, no_step, step_fault, stop_here, stop_later}
 use Rattle.fc_replay.proofs.Stops.{has_step, later_stop}
 
@@ -171,7 +171,7 @@ module _ (faultless : FaultlessStep) (agree : StepsAgree) (keep : StepsKeepGood)
     (good : IsGood (unfolding_of P) start) where
   entries_end : (log : List Logged) → LogFits (unfolding_of P) (entries_in log) → (o : Option (ℕ × LineFault))
       → first_stop (unfolding_of P) start log ≡ o
-      → (j : Judged Shown) × ReplaysEntries options (unfolding_of P) start log o j
+      → (j : Judged ReplayShown) × ReplaysEntries options (unfolding_of P) start log o j
   entries_end log fits (Some stop) at = (Refused (Plainly (log_refusal stop.0 stop.1)), refl)
   entries_end log fits None at =
       let l = goes_on faultless agree keep P is start log good fits at in
@@ -188,7 +188,7 @@ module _ (faultless : FaultlessStep) (agree : StepsAgree) (keep : StepsKeepGood)
       )
 
   log_ends : (text : List ℕ) (lines : Lines Fault LogLine) → log_of (unfolding_of P) start.net text ≡ lines
-      → (j : Judged Shown) × ReplaysLog options (unfolding_of P) start lines j
+      → (j : Judged ReplayShown) × ReplaysLog options (unfolding_of P) start lines j
   log_ends text (StopsAt at fault) e = (Refused (Plainly (log_refusal at (fault_in fault))), refl)
   log_ends text (AllLines ls) e =
       let h = entries (unfolding_of P) start.net text ls e in
@@ -205,7 +205,7 @@ is_input : (program network : List ℕ) (i : InputOf) → ReadsInput program net
     → IsInput program network i.0 i.1
 is_input program network i h = by_program h.judged h.reads h.scene
   where
-    by_scene : (U : Unfolding) (k : scene.Judged SceneValue) → IsProgramText program U → scene_of U network ≡ k
+    by_scene : (U : Unfolding) (k : scene.JudgedScene SceneValue) → IsProgramText program U → scene_of U network ≡ k
         → Accepted i ≡ with_scene U k → IsInput program network i.0 i.1
     by_scene U (scene.Refused r) text at e = absurd cc
     by_scene U (scene.Accepted s) text at e =
@@ -232,7 +232,7 @@ some_replay input unfolds scenes faultless agree keep some entries options progr
     -- under a program and a scene of it
     AtScene : Unfolding → Type 0
     AtScene U = (s : SceneValue) → scene_of U network ≡ scene.Accepted s
-        → (j : Judged Shown) × ReplaysLog options U (start_of s) (log_of U s.net log) j
+        → (j : Judged ReplayShown) × ReplaysLog options U (start_of s) (log_of U s.net log) j
 
     at_scene : (P : Program) → IsProgram P → AtScene (unfolding_of P)
     at_scene P is s e =
@@ -241,7 +241,7 @@ some_replay input unfolds scenes faultless agree keep some entries options progr
         refl
 
     by_input : (i : Judged InputOf) → ReadsInput program network i
-        → (j : Judged Shown) × Replays options program network log j
+        → (j : Judged ReplayShown) × Replays options program network log j
     by_input (Refused cause) h = (Refused cause, record { judged = Refused cause; reads = h; ends = refl })
     by_input (Accepted i) h =
         let there = is_input program network i h in

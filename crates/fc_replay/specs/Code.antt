@@ -19,7 +19,7 @@ use Rattle.fc_inputs.specs.Causes.{Cause, Plainly}
 use Rattle.fc_inputs.specs.Refusals.{log_refusal}
 use Rattle.fc_replay.specs.Ledgers.{Ledger, ledger_of}
 use Rattle.fc_replay.specs.Stopping.{Logged, entries_in, fault_in, step_fault, first_stop}
-use Rattle.fc_replay.specs.Replays.{Shown, book_of}
+use Rattle.fc_replay.specs.Replays.{ReplayShown, book_of}
 
 -- the stop at a line, for want of memory where there is no reason
 abbrev pub stop_at : ℕ → Option LineFault → Stop
@@ -71,5 +71,5 @@ pub record IsReplayed (U : Unfolding) (start : Core) (log : List Logged) (book :
   pub is : book ≡ book_of U start (entries_in log) book.core
 
 -- what a replay gives in code
-abbrev pub shown_of : List ℕ → BookValue → Shown
+abbrev pub shown_of : List ℕ → BookValue → ReplayShown
 shown_of text book = record { text = text; book = ledger_of book }

@@ -66,7 +66,7 @@ pub record IsText (options : ReplayOptions) (book : Ledger) (text : List ℕ) : 
 -- ---- the replay
 
 -- what a replay gives: the text, and the book that it shows
-pub record Shown : Type 0 where
+pub record ReplayShown : Type 0 where
   pub text : List ℕ
   pub book : Ledger
 
@@ -74,7 +74,7 @@ pub record Shown : Type 0 where
 abbrev pub book_of : Unfolding → Core → List EntryValue → Core → Ledger
 book_of U start log core = record { program = U; start = start; log = log; core = core }
 
-pub record ShowsBook (options : ReplayOptions) (U : Unfolding) (start : Core) (log : List EntryValue) (j : Judged Shown)
+pub record ShowsBook (options : ReplayOptions) (U : Unfolding) (start : Core) (log : List EntryValue) (j : Judged ReplayShown)
     : Type 0 where
   pub core : Core
   pub leads : replay U start log ≡ Some core
@@ -83,25 +83,25 @@ pub record ShowsBook (options : ReplayOptions) (U : Unfolding) (start : Core) (l
   pub is : j ≡ Accepted (record { text = text; book = book_of U start log core })
 
 -- entries from a start: they are refused at the first line whose entry has no step, if there is one
-abbrev pub ReplaysEntries : ReplayOptions → Unfolding → Core → List Logged → Option (ℕ × LineFault) → Judged Shown
+abbrev pub ReplaysEntries : ReplayOptions → Unfolding → Core → List Logged → Option (ℕ × LineFault) → Judged ReplayShown
     → Type 0
 ReplaysEntries options U start log (Some stop) j = j ≡ Refused (Plainly (log_refusal stop.0 stop.1))
 ReplaysEntries options U start log None j = ShowsBook options U start (entries_in log) j
 
 -- the entries that the lines of a log say
 pub record ReplaysLines (options : ReplayOptions) (U : Unfolding) (start : Core) (lines : List (ℕ × LogLine))
-    (j : Judged Shown) : Type 0 where
+    (j : Judged ReplayShown) : Type 0 where
   pub log : List Logged
   pub are : AreSaid (IsEntry U) lines log
   pub ends : ReplaysEntries options U start log (first_stop U start log) j
 
 -- the lines of a log, of which the first faulty one is refused
-abbrev pub ReplaysLog : ReplayOptions → Unfolding → Core → Lines Fault LogLine → Judged Shown → Type 0
+abbrev pub ReplaysLog : ReplayOptions → Unfolding → Core → Lines Fault LogLine → Judged ReplayShown → Type 0
 ReplaysLog options U start (StopsAt at fault) j = j ≡ Refused (Plainly (log_refusal at (fault_in fault)))
 ReplaysLog options U start (AllLines lines) j = ReplaysLines options U start lines j
 
 -- the texts of a program, a scene and a log
-pub record Replays (options : ReplayOptions) (program network log : List ℕ) (j : Judged Shown) : Type 0 where
+pub record Replays (options : ReplayOptions) (program network log : List ℕ) (j : Judged ReplayShown) : Type 0 where
   pub judged : Judged InputOf
   pub reads : ReadsInput program network judged
   pub ends : AndThen judged (λ i k. ReplaysLog options i.0 (start_of i.1) (log_of i.0 i.1.net log) k) j

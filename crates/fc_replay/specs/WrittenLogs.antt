@@ -9,12 +9,12 @@ use Rattle.log_texts.specs.ReadingBack.{log_lines}
 use Rattle.fc_inputs.specs.Causes.{Judged, Accepted}
 use Rattle.fc_inputs.specs.Inputs.{InputOf, ReadsInput}
 use Rattle.command_words.specs.declared.commands.ReplayOptions.{ReplayOptions}
-use Rattle.fc_replay.specs.Replays.{Shown, IsText, Replays, start_of}
+use Rattle.fc_replay.specs.Replays.{ReplayShown, IsText, Replays, start_of}
 
 -- A replay shows a log that leads from a start to a core: it has the same entries, but for what a poked export holds at
 -- the places of a branch that isn't taken, the same core, and the text of the core's values with what is asked for.
 pub record ShowsLog (options : ReplayOptions) (U : Unfolding) (start : Core) (log : List EntryValue) (last : Core)
-    (s : Shown) : Type 0 where
+    (s : ReplayShown) : Type 0 where
   pub program : s.book.program ≡ U
   pub begins : s.book.start ≡ start
   pub same : SameEntries U log s.book.log
@@ -26,6 +26,6 @@ pub record ShowsLog (options : ReplayOptions) (U : Unfolding) (start : Core) (lo
 abbrev pub WrittenLogsReplay : Type 0
 WrittenLogsReplay =
     (options : ReplayOptions) (program network : List ℕ) (i : InputOf) (log : List EntryValue) (last : Core)
-    (j : Judged Shown) → ReadsInput program network (Accepted i)
+    (j : Judged ReplayShown) → ReadsInput program network (Accepted i)
     → Run i.0 (start_of i.1) log last → Replays options program network (log_lines i.0.declared.inputs log) j
     → WhereAccepted (ShowsLog options i.0 (start_of i.1) log last) j

@@ -4,7 +4,7 @@ use Rattle.edit_commands.specs.LineByLine.{WhereAccepted}
 use Rattle.log_texts.specs.ReadingBack.{log_lines}
 use Rattle.fc_inputs.specs.Causes.{Judged, Accepted}
 use Rattle.command_words.specs.declared.commands.ReplayOptions.{ReplayOptions}
-use Rattle.fc_replay.specs.Replays.{Shown, Replays, table_line, where_asked}
+use Rattle.fc_replay.specs.Replays.{ReplayShown, Replays, table_line, where_asked}
 use Rattle.fc_replay.specs.WrittenLogs.{ShowsLog}
 use Rattle.command_words.specs.declared.commands.RunOptions.{RunOptions}
 use Rattle.fc_run.specs.Runs.{RanValue, Runs}
@@ -18,7 +18,7 @@ pub record LogReplays (options : RunOptions) (program network : List ℕ) (r : R
   pub lines_are : lines ≡ log_lines r.book.program.declared.inputs r.book.log
   pub text : r.text ≡ shown ++ where_asked options.log (codes "log\n" ++ lines)
       ++ where_asked options.table (table_line r.book.program r.book.core)
-  pub replays : (asked : ReplayOptions) (j : Judged Shown) → Replays asked program network lines j
+  pub replays : (asked : ReplayOptions) (j : Judged ReplayShown) → Replays asked program network lines j
       → WhereAccepted (ShowsLog asked r.book.program r.book.start r.book.log r.book.core) j
 
 abbrev pub RunsReplay : Type 0

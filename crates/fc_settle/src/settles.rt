@@ -2,7 +2,7 @@
 
 ghost use Rattle.std.specs.Prelude.{◌≡◌, ◌≤◌, ◌++◌, IfErr, IfOk, OnOk, flat_map, length, map, option_map, zip};
 ghost use Rattle.fc_values.specs.Values.{local_of};
-ghost use Rattle.fc_nodes.specs.Program.{IsProgram, unfolding_of};
+ghost use Rattle.fc_nodes.specs.Program.{unfolding_of};
 ghost use Rattle.fc_inputs.specs.Causes.{Accepted, Refused};
 ghost use Rattle.fc_inputs.specs.Stops.{StopsFor};
 ghost use Rattle.fc_values.specs.declared.limits.TheConstants.{MOST_BYTES};
@@ -89,8 +89,7 @@ fn settle_any(
     program: &Unfolded,
     net: &Network,
 ) -> Result<Reply, Memory>
-    requires program { IsProgram program.now }
-    requires declared { net.now.declared ≡ program.now.declared }
+    requires { net.now.declared ≡ program.now.declared }
     ensures { IfOk result (λ r. r ≡ settling_of facts (unfolding_of program.now) net.now
         (any_table (unfolding_of program.now))) }
 {
@@ -107,7 +106,6 @@ fn settle_scene(
     program: Unfolded,
     scene: Scene,
 ) -> Result<Reply, Memory>
-    requires program { IsProgram program }
     requires declared { scene.net.declared ≡ program.declared }
     requires rows { AreRows (unfolding_of program) scene.net scene.table.items }
     requires copies { AreCopies (unfolding_of program) scene.net scene.pending.items }
@@ -137,8 +135,6 @@ pub fn settled(
         Settles facts from program.now network.now (Refused cause))) }
 {
     let (program, scene) = read_input(alloc, program, network)?;
-    // Its clause: the nodes are a program.
-    let _size = program.size();
     match from {
         Start::Any => Ok(settle_any(alloc, facts, &program, &scene.net)?),
         Start::Table => Ok(settle_scene(alloc, facts, program, scene)?),

@@ -14,12 +14,12 @@ use Rattle.net_json.specs.FittingScenes.{AcceptedScenesFit, SceneFits}
 use Rattle.net_json.specs.Scenes.{SceneValue}
 use Rattle.report.specs.Verdicts.{verdict_text}
 use Rattle.fc_inputs.specs.Refusals.{Reply}
-use Rattle.fc_inputs.specs.Causes.{Cause, Judged, Accepted, Refused, AndThen}
-use Rattle.fc_inputs.specs.Inputs.{InputOf, OneInput, ReadsInput, TextsUnfold}
+use Rattle.fc_inputs.specs.Causes.{Cause, Judged, Accepted, Refused}
+use Rattle.fc_inputs.specs.Inputs.{OneInput, ReadsInput, TextsUnfold}
 use Rattle.fc_trace.specs.Laws.{OneTraced, SomeTraced}
 use Rattle.fc_trace.specs.Texts.{walks_text}
 use Rattle.fc_trace.specs.Traces.{WritesWalks, TracedBy, TracesScene, Traces}
-use Rattle.fc_trace.proofs.Scenes.{scene_fits}
+use Rattle.fc_trace.proofs.Scenes.{one_end, some_end}
 
 abbrev reply : ℕ → List ℕ → Reply
 reply status text = record { status = status; text = text }
@@ -47,14 +47,7 @@ one_scene costs trace U s j k h g =
 
 pub one_traced : OneInput → OneCosts → OneTrace → OneTraced
 one_traced input costs trace program network j k h g =
-    let one = input program network h.reads.short in
-    let same : h.judged ≡ g.judged = one.2 h.judged h.reads ∙ sym (one.2 g.judged g.reads) in
-    by_input g.judged (subst (λ i. AndThen i (λ i k. TracesScene i.0 i.1 k) j) same h.ends) g.ends
-  where
-    by_input : (i : Judged InputOf) → AndThen i (λ i k. TracesScene i.0 i.1 k) j
-        → AndThen i (λ i k. TracesScene i.0 i.1 k) k → j ≡ k
-    by_input (Refused cause) e f = e ∙ sym f
-    by_input (Accepted i) e f = one_scene costs trace i.0 i.1 j k e f
+    one_end TracesScene (one_scene costs trace) input program network h.judged g.judged h.reads g.reads j k h.ends g.ends
 
 -- ---- something
 
@@ -71,30 +64,23 @@ module _ (forms : FormsHaveCosts) (trace : SomeTrace) (P : Program) (is : IsProg
         record { costs = c.0; are = c.1; lawful = c.2; claim = t.0; traced = t.1; is = refl },
       )
 
-  some_reply : (v : Verdict) → verdict_of (unfolding_of P) (length N.devices) ≡ v
+  some_by : (v : Verdict) → verdict_of (unfolding_of P) (length N.devices) ≡ v
       → (r : Reply) × TracedBy v (walk_terms (unfolding_of P)) (unfolding_of P) N r
-  some_reply (verdict.Yes k) e = some_walks k e (walk_terms (unfolding_of P)) refl
-  some_reply (verdict.No place why) e = (reply 1 (verdict_text (verdict.No place why)), refl)
+  some_by (verdict.Yes k) e = some_walks k e (walk_terms (unfolding_of P)) refl
+  some_by (verdict.No place why) e = (reply 1 (verdict_text (verdict.No place why)), refl)
+
+some_scene : FormsHaveCosts → SomeTrace → (P : Program) → IsProgram P → (s : SceneValue)
+    → SceneFits (unfolding_of P) s → (j : Judged Reply) × TracesScene (unfolding_of P) s j
+some_scene forms trace P is s fits =
+    let v = verdict_of (unfolding_of P) (length s.net.devices) in
+    let r = some_by forms trace P is s.net fits.net fits.declared v refl in
+    (Accepted r.0, record { reply = r.0; writes = r.1; is = refl })
 
 pub some_traced : FormsHaveCosts → SomeTrace → AcceptedScenesFit → TextsUnfold → OneInput → SomeTraced
 some_traced forms trace fit unfolds input program network short =
     let one = input program network short in
-    by_input one.0 one.1
-  where
-    HasReply : SceneValue → Unfolding → Type 0
-    HasReply s U =
-        SceneFits U s → (r : Reply) × TracedBy (verdict_of U (length s.net.devices)) (walk_terms U) U s.net r
-
-    by_input : (i : Judged InputOf) → ReadsInput program network i → (j : Judged Reply) × Traces program network j
-    by_input (Refused cause) r = (Refused cause, record { judged = Refused cause; reads = r; ends = refl })
-    by_input (Accepted i) r =
-        let p = unfolds program network i r in
-        let has : HasReply i.1 (unfolding_of p.0) =
-        λ fits. some_reply forms trace p.0 p.1 i.1.net fits.net fits.declared _ refl in
-        let made = subst (HasReply i.1) p.2 has (scene_fits fit program network i r) in (
-          Accepted made.0,
-          record { judged = Accepted i; reads = r; ends = record { reply = made.0; writes = made.1; is = refl } },
-        )
+    let end = some_end TracesScene (some_scene forms trace) fit unfolds program network one.0 one.1 in
+    (end.0, record { judged = one.0; reads = one.1; ends = end.1 })
 
 -- ---- what the code does
 pub unread_traced : (program network : List ℕ) (cause : Cause) → ReadsInput program network (Refused cause)

@@ -3,7 +3,6 @@
 ghost use Rattle.std.specs.Prelude.{◌≡◌, ◌≤◌, ◌++◌, IfErr, IfOk, codes, length};
 ghost use Rattle.fc_nodes.specs.Program.{unfolding_of};
 ghost use Rattle.fragment_check.specs.Verdicts.{verdict_of};
-ghost use Rattle.report.specs.Verdicts.{verdict_text};
 ghost use Rattle.walks.specs.Walks.{AreTraced, IsCosts, claim_of, costs_of};
 ghost use Rattle.walk_form.specs.Forms.{walk_terms};
 ghost use Rattle.fc_inputs.specs.Causes.{Accepted, Refused};
@@ -16,21 +15,12 @@ use crate::writing::write_walks;
 use fc_inputs::{Reply, Stop, read_input};
 use fc_nodes::{Unfolded, Verdict};
 use fc_values::Memory;
-use report::verdict as write_verdict;
+use report::verdict_line;
 use round_bound::Analysis;
 use std::alloc::Global;
 use topology::Network;
 use walk_form::{CostFault, costs};
 use walks::{Costs, Evidence, check_walks, trace, traced_claims_hold};
-
-// The line of a verdict.
-fn verdict_line(alloc: Global, verdict: Verdict) -> Result<Vec<u8>, Memory>
-    ensures { IfOk result (λ v. v.items ≡ verdict_text verdict) }
-{
-    let mut text = Vec::new(alloc);
-    write_verdict(alloc, &mut text, &verdict)?;
-    Ok(text)
-}
 
 // For each device its least cost and its best walk, which are then checked on their own.
 fn checked_walks(alloc: Global, costs: &Costs) -> Result<Vec<Evidence>, Memory>
@@ -69,15 +59,15 @@ fn of_network(alloc: Global, program: &Unfolded, net: &Network) -> Result<Reply,
     let analysis = Analysis::new(alloc, program)?;
     match costs(alloc, &analysis, net) {
         Ok((rounds, costs)) => {
-            let line = verdict_line(alloc, Verdict::Yes(rounds))?;
+            let line = verdict_line(alloc, &Verdict::Yes(rounds))?;
             let claim = checked_walks(alloc, &costs)?;
             walks_reply(alloc, line, &claim)
         }
         Err(CostFault::Unrecognised { place, reason }) => {
-            let line = verdict_line(alloc, Verdict::No { place, reason })?;
+            let line = verdict_line(alloc, &Verdict::No { place, reason })?;
             Ok(Reply::new(1, line))
         }
-        Err(CostFault::NotWalks(rounds)) => no_walks(verdict_line(alloc, Verdict::Yes(rounds))?),
+        Err(CostFault::NotWalks(rounds)) => no_walks(verdict_line(alloc, &Verdict::Yes(rounds))?),
         Err(CostFault::Memory) => Err(Memory),
     }
 }

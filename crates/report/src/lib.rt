@@ -12,4 +12,4 @@ pub use lines::{field, values};
 pub use logs::entries;
 pub use node_facts::facts;
 pub use settling::{settle_line, settled_device};
-pub use verdicts::{rounds_line, verdict};
+pub use verdicts::{rounds_line, verdict, verdict_line};

@@ -23,8 +23,8 @@ fn reason_word(reason: Reason) -> &'static str
     }
 }
 
-// The line of a verdict.
-fn verdict_line(alloc: Global, v: &Verdict) -> Result<Vec<u8>, Memory>
+/// The line of a verdict.
+pub fn verdict_line(alloc: Global, v: &Verdict) -> Result<Vec<u8>, Memory>
     ensures { IfOk result (λ line. line.items ≡ verdict_text v.now) }
 {
     let mut line = Vec::new(alloc);

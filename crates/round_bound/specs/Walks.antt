@@ -1,9 +1,11 @@
 -- Levels by the places of a program.
-use Rattle.std.specs.Prelude.{ℕ, suc, Bool, true, false, ◌≡◌, ◌≤◌, ◌+◌, ◌*◌, List, [], ◌∷◌, ◌++◌, max, Option}
+use Rattle.std.specs.Prelude.{ℕ, suc, Bool, true, false, ◌≡◌, ◌≤◌, ◌+◌, ◌*◌, List, [], ◌∷◌, ◌++◌, max, Option, Some}
 use Rattle.fc_values.specs.Types.{LocalType, IntType, PairType, ValueType}
 use Rattle.fc_values.specs.declared.limits.TheConstants.{GREATEST}
-use Rattle.fc_nodes.specs.Terms.{Sort, OfLeaf, OfApply, term_at, terms_by}
-use Rattle.fc_nodes.specs.Program.{unfolding_of}
+use Rattle.fc_nodes.specs.declared.nodes.Node.{Node}
+use Rattle.fc_nodes.specs.Terms.{Sort, OfLeaf, OfApply, term_at, terms_by, view_at, view_of}
+use Rattle.fc_nodes.specs.Places.{StandsAt}
+use Rattle.fc_nodes.specs.Program.{unfolding_of, IsProgram}
 use Rattle.interval_facts.specs.Ranges.{AreRangesOf}
 use Rattle.fc_nodes.specs.Variables.{occurs, occurs_in}
 use Rattle.fragment_check.specs.Levels.{Stages, Lvs, bind_level, leaf_level, level_of, node_levels}
@@ -35,6 +37,13 @@ pub record Ready (c : Context) (p : ℕ) (s : Position) : Type 0 where
   pub devices : 1 ≤ c.devices
   pub branch : s.branch ≤ level_before p
   pub scope : (q : ℕ) → levels_in s.scope.now q ≤ level_before p
+
+-- a node at a place where levels are asked for
+pub record AtNode (c : Context) (p : ℕ) (s : Position) (n : Node) : Type 0 where
+  pub ready : Ready c p s
+  pub stands : StandsAt c.program.now.nodes p
+  pub node : view_at c.program.now.nodes p ≡ Some (view_of n)
+  pub program : IsProgram c.program.now
 
 abbrev pub stages_in : Context → Stages
 stages_in c = stages_of (unfolding_of c.program.now) c.devices

@@ -1,16 +1,15 @@
 //! The walk over a program's nodes.
 
-ghost use Rattle.std.specs.Prelude.{◌≡◌, ◌<◌, ◌^◌, ◌++◌, ◌-◌, if◌then◌else◌, IfOk, OnOk, None, Some, true};
+ghost use Rattle.std.specs.Prelude.{◌≡◌, ◌<◌, ◌^◌, ◌++◌, ◌-◌, if◌then◌else◌, IfOk, OnOk, None, true};
 ghost use Rattle.std.specs.List.{repeat};
 ghost use Rattle.std.specs.Prelude.{[], ◌∷◌};
 ghost use Rattle.fc_values.specs.Types.{type_of};
 ghost use Rattle.fc_values.specs.BuiltinTypes.{is_field};
-ghost use Rattle.fc_nodes.specs.Terms.{sort_of, view_at, view_of, is_branching};
+ghost use Rattle.fc_nodes.specs.Terms.{sort_of, is_branching};
 ghost use Rattle.fc_nodes.specs.Sorts.{is_nbr_sort, is_evolve_sort, is_own_sort, is_let_sort};
 ghost use Rattle.fc_nodes.specs.Places.{StandsAt};
 ghost use Rattle.fragment_check.specs.Facts.{InRow};
-ghost use Rattle.fc_nodes.specs.Program.{IsProgram};
-ghost use Rattle.round_bound.specs.Walks.{Ready, FoundAt, FoundAll, FoundBelow, leaf_level_by, is_apply_sort};
+ghost use Rattle.round_bound.specs.Walks.{Ready, AtNode, FoundAt, FoundAll, FoundBelow, leaf_level_by, is_apply_sort};
 
 use crate::added::added;
 use crate::scopes::{Context, Found, Position, Scope, bound_level};
@@ -48,10 +47,7 @@ fn below(
     position: &Position<'_>,
     levels: &mut Vec<Option<u64>>,
 ) -> Result<Found, Memory>
-    requires ready { Ready context.now place position.now }
-    requires stands { StandsAt context.now.program.now.nodes place }
-    requires node { view_at context.now.program.now.nodes place ≡ Some (view_of node.now) }
-    requires program { IsProgram context.now.program.now }
+    requires at { AtNode context.now place position.now node.now }
     ensures { IfOk result (λ f. FoundBelow context.now place position.now f levels.old.items levels.new.items) }
 {
     if is_nbr(node) {
@@ -108,10 +104,7 @@ fn below_nbr(
     position: &Position<'_>,
     levels: &mut Vec<Option<u64>>,
 ) -> Result<Found, Memory>
-    requires ready { Ready context.now place position.now }
-    requires stands { StandsAt context.now.program.now.nodes place }
-    requires node { view_at context.now.program.now.nodes place ≡ Some (view_of node.now) }
-    requires program { IsProgram context.now.program.now }
+    requires at { AtNode context.now place position.now node.now }
     requires nbr { is_nbr_sort (sort_of node.now.op) ≡ true }
     ensures { IfOk result (λ f. FoundBelow context.now place position.now f levels.old.items levels.new.items) }
 {
@@ -132,10 +125,7 @@ fn below_if(
     position: &Position<'_>,
     levels: &mut Vec<Option<u64>>,
 ) -> Result<Found, Memory>
-    requires ready { Ready context.now place position.now }
-    requires stands { StandsAt context.now.program.now.nodes place }
-    requires node { view_at context.now.program.now.nodes place ≡ Some (view_of node.now) }
-    requires program { IsProgram context.now.program.now }
+    requires at { AtNode context.now place position.now node.now }
     requires branching { is_branching (sort_of node.now.op) ≡ true }
     ensures { IfOk result (λ f. FoundBelow context.now place position.now f levels.old.items levels.new.items) }
 {
@@ -161,10 +151,7 @@ fn below_let(
     position: &Position<'_>,
     levels: &mut Vec<Option<u64>>,
 ) -> Result<Found, Memory>
-    requires ready { Ready context.now place position.now }
-    requires stands { StandsAt context.now.program.now.nodes place }
-    requires node { view_at context.now.program.now.nodes place ≡ Some (view_of node.now) }
-    requires program { IsProgram context.now.program.now }
+    requires at { AtNode context.now place position.now node.now }
     requires binding { is_let_sort (sort_of node.now.op) ≡ true }
     ensures { IfOk result (λ f. FoundBelow context.now place position.now f levels.old.items levels.new.items) }
 {
@@ -190,10 +177,7 @@ fn below_evolving(
     position: &Position<'_>,
     levels: &mut Vec<Option<u64>>,
 ) -> Result<Found, Memory>
-    requires ready { Ready context.now place position.now }
-    requires stands { StandsAt context.now.program.now.nodes place }
-    requires node { view_at context.now.program.now.nodes place ≡ Some (view_of node.now) }
-    requires program { IsProgram context.now.program.now }
+    requires at { AtNode context.now place position.now node.now }
     requires evolving { is_evolve_sort (sort_of node.now.op) ≡ true }
     ensures { IfOk result (λ f. FoundBelow context.now place position.now f levels.old.items levels.new.items) }
 {

@@ -197,9 +197,7 @@ settle_times_hold reach mail are leaves steady mail_steady P N program net same 
     record {
       rounds = rounds;
       mail_rounds = mail_rounds;
-      solves = λ K y.
-          let s = leaves P N K program net same y in
-          values_solve are U N net (any_table U) (record { one = s.one; left = s.left });
+      solves = λ K y. values_solve are U N net (any_table U) (leaves P N K program net same y);
       time = time_leads are U N net (any_table U) (ReachedAt U N) rounds (λ K y.
           let s = steady P N K program net same y in
           (s.one, λ d l start last log good is run has. s.reached start last log good is run has d l));

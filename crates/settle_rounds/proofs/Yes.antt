@@ -132,6 +132,5 @@ yes_leaves from P N K program net same v =
       exports = λ d e q. absurd cc;
       flying = λ d s q. absurd cc;
     } in
-    let l = from P N K program net same v (any_table U) (any_closed U N) (empty_core N) good refl
-    (any_holds U N (empty_core N) good) in
-    record { one = l.one; left = l.left }
+    from P N K program net same v (any_table U) (any_closed U N) (empty_core N) good refl
+    (any_holds U N (empty_core N) good)

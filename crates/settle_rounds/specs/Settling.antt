@@ -4,13 +4,12 @@ use Rattle.fc_nodes.specs.declared.verdicts.Verdict.TheVariants as verdict
 use Rattle.fc_nodes.specs.Program.{Program, Unfolding, unfolding_of, IsProgram}
 use Rattle.topology.specs.Networks.{Network, IsNetwork, Lives}
 use Rattle.fragment_check.specs.Verdicts.{verdict_of}
-use Rattle.converge_laws.specs.Stabilising.{HasOneSolution}
-use Rattle.value_bounds.specs.BoundValues.{value_left}
 use Rattle.bound_firing.specs.Exports.{ExportBound}
 use Rattle.bound_rounds.specs.declared.rounds.RoundKind.TheVariants as kind
 use Rattle.bound_rounds.specs.declared.rounds.RoundKind.{RoundKind}
 use Rattle.bound_rounds.specs.Rounds.{BoundTable, table_after, rounds_from, IsFixed}
-use Rattle.settle_rounds.specs.Rounds.{bounds_after, is_reached}
+use Rattle.settle_rounds.specs.Rounds.{any_table, is_reached}
+use Rattle.settle_rounds.specs.Starts.{LeftIsSolvedFrom}
 
 -- the round after the first j ones changes no bound of a device that is there
 abbrev pub IsStill : RoundKind → Unfolding → Network → BoundTable → ℕ → Type 0
@@ -21,15 +20,11 @@ abbrev pub StillStays : Type 0
 StillStays = (k : RoundKind) (U : Unfolding) (N : Network) → IsNetwork N → (start : BoundTable) (j i : ℕ)
     → IsStill k U N start j → j ≤ i → (d : ℕ) → Lives N d → table_after k U N start i d ≡ table_after k U N start j d
 
--- where the verdict is a yes, the value that is left is that of the one field
-pub record LeftIsSolved (U : Unfolding) (N : Network) : Type 0 where
-  pub one : HasOneSolution U N
-  pub left : (k d : ℕ) → Lives N d → is_reached (bounds_after U N k d) ≡ true
-      → value_left (bounds_after U N k d).value ≡ one.field d
-
+-- where the verdict is a yes, the value that is left from any exports is that of the one field
 abbrev pub YesLeaves : Type 0
 YesLeaves = (P : Program) (N : Network) (K : ℕ) → IsProgram P → IsNetwork N → N.declared ≡ P.declared
-    → verdict_of (unfolding_of P) (length N.devices) ≡ verdict.Yes K → LeftIsSolved (unfolding_of P) N
+    → verdict_of (unfolding_of P) (length N.devices) ≡ verdict.Yes K
+    → LeftIsSolvedFrom (unfolding_of P) N (any_table (unfolding_of P))
 
 -- the first of n rounds from j on after which a device is reached, and its settle round: the first up to the cap
 abbrev pub first_reached : (ℕ → ExportBound) → ℕ → ℕ → Option ℕ

@@ -13,7 +13,7 @@ use Rattle.topology.specs.Networks.{NetDevice, Network, device_of, numbers, Live
 use Rattle.firing_core.specs.Cores.{Core, near_copies, copy_of, IsGood}
 use Rattle.firing_core.specs.CoreViews.{slot_at}
 use Rattle.firing_core.specs.Laws.{CopiesFit}
-use Rattle.stable_field.specs.Tables.{IsTable, table_of, heard_from}
+use Rattle.stable_field.specs.Tables.{AreExportSlots, table_of, heard_from}
 use Rattle.firing_core.proofs.Slots.{Distinct, rises_distinct, slot_map}
 use Rattle.firing_core.proofs.Taken.{inputs_at, in_at}
 use Rattle.stable_field.proofs.Slots.{slot_read}
@@ -37,7 +37,7 @@ module _ (N : Network) (ds : List Device) (k : ℕ) (x : Device) (all : map devi
       let at : get_or (numbers (map device_of ds)) k 0 ≡ x.id = subst (λ (ns : List NetDevice). get_or (numbers ns) k 0 ≡ x.id) (sym all) (number_at h q) in
       inputs_at ds k x.id x n (omega (arith, h, l, ap length all)) q at ∙ ap (inputs_in x.id) all
 
-module _ (U : Unfolding) (N : Network) (xs : List (Option Export)) (t : IsTable U N xs) (net : IsNetwork N) (same : N.declared ≡ U.declared) (k d : ℕ) (h : k < length N.devices) (at : get_or (numbers N.devices) k 0 ≡ d)
+module _ (U : Unfolding) (N : Network) (xs : List (Option Export)) (t : AreExportSlots U N xs) (net : IsNetwork N) (same : N.declared ≡ U.declared) (k d : ℕ) (h : k < length N.devices) (at : get_or (numbers N.devices) k 0 ≡ d)
     (s : Snap) (device : s.device ≡ d) (inputs : map local_of s.inputs.items ≡ inputs_in d N.devices) (own : s.own ≡ get_or xs k None) (heard : s.near.items ≡ heard_from (numbers N.devices) xs (near N d)) where
   own_is : slot_at (numbers N.devices) xs d ≡ s.own
   own_is = slot_read N net xs k d s.own t.many h at own

@@ -19,7 +19,7 @@ use Rattle.converge_laws.specs.CoreLevels.{ExportLevel, MaybeAt, TableAt, GoodTa
 use Rattle.converge_laws.specs.Invariant.{ExportAt, no_stage}
 use Rattle.converge_laws.specs.Laws.{SolutionsRaiseLevels, IsAnalysis, root_level}
 use Rattle.converge_laws.specs.Verdicts.{analysis_of}
-use Rattle.stable_field.specs.Tables.{table_of, IsTable, IsFiring, AreFirings, AllHave, HaveSolution}
+use Rattle.stable_field.specs.Tables.{table_of, AreExportSlots, IsFiring, AreFirings, AllHave, HaveSolution}
 use Rattle.stable_field.specs.Outside.{AreOutside, SameExport, SameExports}
 use Rattle.stable_field.specs.Levels.{IsAtLevel}
 use Rattle.stable_field.proofs.SameLevels.{holds_same}
@@ -51,7 +51,7 @@ good_slots U N (i ∷ is) (x ∷ xs) live a d e q =
         by_slot (Some y) w q = let s : tree_of U y ≡ e = cc in subst (GoodExport U N d) s (record { there = here; typed = w.typed })
     by_test false t q ih = ih q
 
-pub good_table : (U : Unfolding) (N : Network) (xs : List (Option Export)) → IsTable U N xs → GoodTable U N (table_of U N xs)
+pub good_table : (U : Unfolding) (N : Network) (xs : List (Option Export)) → AreExportSlots U N xs → GoodTable U N (table_of U N xs)
 good_table U N xs t = good_slots U N (numbers N.devices) xs (λ d h. h) t.exports
 
 -- exports of firings are a table
@@ -64,14 +64,14 @@ firings_table U N xs (d ∷ ds) (Some e ∷ ys) f = let r = firings_table U N xs
 
 module _ (U : Unfolding) (N : Network) (P : ExportLevel) (raises : Raises P U N) where
   -- a table of well-typed exports is at level 0
-  pub begins : (xs : List (Option Export)) → IsTable U N xs → TableAt P N 0 (table_of U N xs)
+  pub begins : (xs : List (Option Export)) → AreExportSlots U N xs → TableAt P N 0 (table_of U N xs)
   begins xs t d l = by_slot (table_of U N xs d) (good_table U N xs t d)
     where
       by_slot : (o : Option TreeExport) → ((e : TreeExport) → o ≡ Some e → GoodExport U N d e) → MaybeAt P 0 d o
       by_slot None g = tt
       by_slot (Some e) g = raises.first d e l (g e refl).typed
 
-  module _ (xs : List (Option Export)) (t : IsTable U N xs) (j : ℕ) (at : TableAt P N j (table_of U N xs)) where
+  module _ (xs : List (Option Export)) (t : AreExportSlots U N xs) (j : ℕ) (at : TableAt P N j (table_of U N xs)) where
     fires : (d : ℕ) (e : Export) → Lives N d → IsFiring U N xs d e → P (suc j) d (tree_of U e)
     fires d e l f = raises.fires j (table_of U N xs) (good_table U N xs t) at d l (tree_of U e) f.evaluates
 
@@ -108,10 +108,10 @@ module _ (laws : SolutionsRaiseLevels) (P : Program) (N : Network) (program : Is
   up : (F : ℕ → LocalValue) (s : SolvesMain N U.main F) → Raises (At F s) U N
   up F s = laws P (analysis_of U (length N.devices)) N program net same an F s
 
-  pub starts : (xs : List (Option Export)) → IsTable U N xs → IsAtLevel U N 0 xs
+  pub starts : (xs : List (Option Export)) → AreExportSlots U N xs → IsAtLevel U N 0 xs
   starts xs t F s = begins U N (At F s) (up F s) xs t
 
-  pub rises : (xs ys : List (Option Export)) (j : ℕ) → IsTable U N xs → AreFirings U N xs (numbers N.devices) ys → IsAtLevel U N j xs → IsAtLevel U N (suc j) ys
+  pub rises : (xs ys : List (Option Export)) (j : ℕ) → AreExportSlots U N xs → AreFirings U N xs (numbers N.devices) ys → IsAtLevel U N j xs → IsAtLevel U N (suc j) ys
   rises xs ys j t f at F s = next_level U N (At F s) (up F s) xs t j (at F s) ys f
 
   module _ (is : List ℕ) (all : AreOutside U.main is) where
@@ -145,14 +145,14 @@ module _ (laws : SolutionsRaiseLevels) (P : Program) (N : Network) (program : Is
         by_test false h ih = ih h
 
     -- a table that a round doesn't change outside first values is at each level
-    stays_at : (xs ys : List (Option Export)) → IsTable U N xs → AreFirings U N xs (numbers N.devices) ys → SameExports is xs ys → (j : ℕ) → IsAtLevel U N j xs
+    stays_at : (xs ys : List (Option Export)) → AreExportSlots U N xs → AreFirings U N xs (numbers N.devices) ys → SameExports is xs ys → (j : ℕ) → IsAtLevel U N j xs
     stays_at xs ys t f q zero = starts xs t
     stays_at xs ys t f q (suc j) =
         let r = rises xs ys j t f (stays_at xs ys t f q j) in
         λ F s d l. moved F s (suc j) d (numbers N.devices) xs ys q t.exports (r F s d l)
 
   -- firings that see a table at the level of `main` have the values of the solution
-  pub have_solution : (xs ys : List (Option Export)) (j : ℕ) → IsTable U N xs → AreFirings U N xs (numbers N.devices) ys → IsAtLevel U N j xs
+  pub have_solution : (xs ys : List (Option Export)) (j : ℕ) → AreExportSlots U N xs → AreFirings U N xs (numbers N.devices) ys → IsAtLevel U N j xs
       → root_level U (analysis_of U (length N.devices)) ≤ j → HaveSolution U N ys
   have_solution xs ys j t f at h F s = values (numbers N.devices) ys f (λ d i. i)
     where
@@ -170,6 +170,6 @@ module _ (laws : SolutionsRaiseLevels) (P : Program) (N : Network) (program : Is
           or_true n true i = refl
           or_true n false i = i
 
-  pub stays_solution : (is : List ℕ) → AreOutside U.main is → (xs ys : List (Option Export)) → IsTable U N xs → AreFirings U N xs (numbers N.devices) ys → SameExports is xs ys → HaveSolution U N ys
+  pub stays_solution : (is : List ℕ) → AreOutside U.main is → (xs ys : List (Option Export)) → AreExportSlots U N xs → AreFirings U N xs (numbers N.devices) ys → SameExports is xs ys → HaveSolution U N ys
   stays_solution is all xs ys t f q =
       have_solution xs ys (root_level U (analysis_of U (length N.devices))) t f (stays_at is all xs ys t f q (root_level U (analysis_of U (length N.devices)))) (omega arith)

@@ -17,7 +17,7 @@ abbrev pub table_of : Unfolding → Network → List (Option Export) → Table T
 table_of U N xs = slot_at (numbers N.devices) (map (option_map (tree_of U)) xs)
 
 -- a slot for each device, with exports of the program
-pub record IsTable (U : Unfolding) (N : Network) (xs : List (Option Export)) : Type 0 where
+pub record AreExportSlots (U : Unfolding) (N : Network) (xs : List (Option Export)) : Type 0 where
   pub many : length xs ≡ length N.devices
   pub exports : AllExports U xs
 

@@ -5,7 +5,7 @@ ghost use Rattle.std.specs.Option.{option_copied};
 ghost use Rattle.fc_nodes.specs.Program.{unfolding_of};
 ghost use Rattle.topology.specs.Networks.{numbers};
 ghost use Rattle.firing_core.specs.CoreViews.{slot_at};
-ghost use Rattle.stable_field.specs.Tables.{IsTable, IsFiring, heard_from};
+ghost use Rattle.stable_field.specs.Tables.{AreExportSlots, IsFiring, heard_from};
 
 use device_eval::publish;
 use fc_nodes::Unfolded;
@@ -27,7 +27,7 @@ pub fn fired(
     place: usize,
 ) -> Result<Published, Memory>
     requires declared { net.now.declared ≡ program.now.declared }
-    requires table { IsTable (unfolding_of program.now) net.now table.now.items }
+    requires table { AreExportSlots (unfolding_of program.now) net.now table.now.items }
     requires within { place < length net.now.devices }
     ensures { IfOk result (IsFiring (unfolding_of program.now) net.now table.now.items
         (slice_index (numbers net.now.devices) place)) }

@@ -4,7 +4,7 @@ ghost use Rattle.std.specs.Prelude.{◌≡◌, IfOk};
 ghost use Rattle.fc_nodes.specs.Program.{unfolding_of};
 ghost use Rattle.value_trees.specs.Copies.{WhereSome};
 ghost use Rattle.value_trees.specs.Snaps.{IsExportOf};
-ghost use Rattle.stable_field.specs.Tables.{IsTable};
+ghost use Rattle.stable_field.specs.Tables.{AreExportSlots};
 
 use crate::firing::ExportTable;
 use candidate_field::candidate;
@@ -23,7 +23,7 @@ pub fn guessed(
     net: &Network,
     analysis: &Analysis<'_>,
 ) -> Result<ExportTable, Memory>
-    ensures { IfOk result (λ v. IsTable (unfolding_of program.now) net.now v.items) }
+    ensures { IfOk result (λ v. AreExportSlots (unfolding_of program.now) net.now v.items) }
 {
     let potentials = potentials(alloc, analysis)?;
     let mut guess = candidate(alloc, program, net, &potentials)?;

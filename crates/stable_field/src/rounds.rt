@@ -5,7 +5,7 @@ ghost use Rattle.fc_nodes.specs.Program.{unfolding_of};
 ghost use Rattle.topology.specs.Networks.{numbers};
 ghost use Rattle.converge_laws.specs.Laws.{IsAnalysis, root_level};
 ghost use Rattle.converge_laws.specs.Verdicts.{analysis_of};
-ghost use Rattle.stable_field.specs.Tables.{IsTable, AreFirings, HaveSolution};
+ghost use Rattle.stable_field.specs.Tables.{AreExportSlots, AreFirings, HaveSolution};
 
 use crate::firing::{ExportTable, fired};
 use crate::outside::slots_outside;
@@ -26,7 +26,7 @@ pub fn settled(
     rounds: u64,
 ) -> Result<ExportTable, Memory>
     requires declared { net.now.declared ≡ program.now.declared }
-    requires table { IsTable (unfolding_of program.now) net.now start.items }
+    requires table { AreExportSlots (unfolding_of program.now) net.now start.items }
     requires analysis { IsAnalysis (unfolding_of program.now)
         (analysis_of (unfolding_of program.now) (length net.now.devices)) net.now }
     requires level { root_level (unfolding_of program.now)
@@ -57,7 +57,7 @@ fn round(
     table: &ExportTable,
 ) -> Result<ExportTable, Memory>
     requires declared { net.now.declared ≡ program.now.declared }
-    requires table { IsTable (unfolding_of program.now) net.now table.now.items }
+    requires table { AreExportSlots (unfolding_of program.now) net.now table.now.items }
     ensures { IfOk result (λ v. AreFirings (unfolding_of program.now) net.now table.now.items
         (numbers net.now.devices) v.items) }
 {

@@ -6,7 +6,7 @@ ghost use Rattle.fc_values.specs.Fields.{entry_of};
 ghost use Rattle.fc_nodes.specs.Terms.{term_at, type_of};
 ghost use Rattle.fc_nodes.specs.Places.{StandsAt};
 ghost use Rattle.value_trees.specs.Copies.{WhereSome};
-ghost use Rattle.closed_terms.specs.Parts.{IsClosedTerm, IsPart};
+ghost use Rattle.closed_terms.specs.Parts.{IsClosedTerm, IsClosedPart};
 ghost use Rattle.stable_field.specs.Columns.{AllKnown, IsColumn, IsJoin, IsKnown};
 
 use crate::joining::joined;
@@ -141,7 +141,7 @@ fn find<'a>(
 ) -> Option<&'a Known>
     requires term { IsClosedTerm program.now place end }
     requires known { AllKnown program.now.declared net.now known.now }
-    ensures part { IfSome result (λ k. IsPart program.now place k.now.program) }
+    ensures part { IfSome result (λ k. IsClosedPart program.now place k.now.program) }
     ensures known { IfSome result (λ k. IsKnown program.now.declared net.now k.now) }
 {
     let (first, rest) = known.split_first()?;

@@ -8,7 +8,7 @@ ghost use Rattle.fragment_check.specs.Verdicts.{verdict_of};
 ghost use Rattle.value_trees.specs.Copies.{WhereSome};
 ghost use Rattle.stable_field.specs.Columns.{IsColumn};
 ghost use Rattle.stable_field.specs.Stable.{IsStableField, IsFaultOf};
-ghost use Rattle.stable_field.specs.Tables.{IsTable};
+ghost use Rattle.stable_field.specs.Tables.{AreExportSlots};
 
 use crate::faults::StableFault;
 use crate::fields::values;
@@ -64,7 +64,7 @@ pub fn solved(
     rounds: u64,
 ) -> Result<DeviceValues, Memory>
     requires declared { net.now.declared ≡ program.now.declared }
-    requires table { IsTable (unfolding_of program.now) net.now start.items }
+    requires table { AreExportSlots (unfolding_of program.now) net.now start.items }
     requires yes { verdict_of (unfolding_of program.now) (length net.now.devices) ≡ verdict.Yes rounds }
     ensures field { IfOk result (λ v. IsStableField (unfolding_of program.now) net.now (map entry_of v.items)) }
     ensures rises { IfOk result (λ v. Rises (devices (map entry_of v.items))) }

@@ -16,7 +16,7 @@ use Rattle.turn_lock.specs.declared.views.Stage.TheVariants.{Idle, Waits, Has}
 use Rattle.turn_lock.specs.Logs.{StartsWith, In, IsOpen}
 use Rattle.turn_lock.specs.Passes.{Turned, MayAnswer}
 use Rattle.turn_lock.specs.Seats.{pass_view, opened_seat, staged, served, wrote_seat}
-use Rattle.turn_lock.specs.Rule.{total, At, Homes, Slot, tickets_at, tickets_of, left_of, entries_of, Stands, Core, Names, Own, Kept}
+use Rattle.turn_lock.specs.Rule.{total, At, Homes, Slot, tickets_at, tickets_of, left_of, entries_of, Stands, LockFacts, Names, Own, Kept}
 use Rattle.turn_lock.specs.Steps.{SeatAgrees, Entered, draws, looks, serves}
 use denote.Param.Members.{Once}
 use Rattle.std.specs.Borrow.{MutBor}
@@ -65,11 +65,11 @@ module _ {T E : Type 0} (list : T → List E) (answers : List E → ℕ → Opti
   idle_has st a b = let x : tickets_at Idle ≡ tickets_at Has = sym (ap tickets_at a) ∙ ap tickets_at b in absurd (omega (arith, x))
 
   -- the seats change, and the words, the log and the slot stay
-  pub core_with : (log : List E) (s : S) (views : List V) (r : Core list log s) → total tickets_of views ≡ total tickets_of s.views → total left_of views ≡ total left_of s.views → total entries_of views ≡ total entries_of s.views
+  pub core_with : (log : List E) (s : S) (views : List V) (r : LockFacts list log s) → total tickets_of views ≡ total tickets_of s.views → total left_of views ≡ total left_of s.views → total entries_of views ≡ total entries_of s.views
       → ((id : ℕ) (v : V) → At views id v → v.spent ≡ false → (v.turns ≡ r.turns) × (v.start ≡ r.start))
       → ((id : ℕ) (v : V) → At views id v → (p : ℕ) (e : E) → In (p, e) v.mine → r.start ≤ p)
       → ((id : ℕ) (v : V) → At views id v → Stands r.serving r.ticket r.seat log s.homes id v v.stage)
-      → Slot list log s.homes views → Core list log record { words = s.words; homes = s.homes; views = views }
+      → Slot list log s.homes views → LockFacts list log record { words = s.words; homes = s.homes; views = views }
   core_with log s views r tickets lefts entries made past stands slot = let d = r.drawn in let sh = r.shared in let cnt = r.counted in record {
     ticket = r.ticket;
     serving = r.serving;
@@ -155,7 +155,7 @@ module _ {T E : Type 0} (list : T → List E) (answers : List E → ℕ → Opti
   unchanged s i id cs v at k = subst (λ (z : List ℕ × List V). Kept list answers record { words = z.0; homes = s.homes; views = z.1 }) (λ j. (sym (set-get_or s.words i 0) j, sym (set_again s.views id v at) j)) k
 
   module _ (slots id : ℕ) (me : M) (t : ℕ) (waits : me.0.stage ≡ Waits t) (empty : me.1 ≡ []) (live : me.0.spent ≡ false) where
-    takes_it : (s : S) (log : List E) (r : Core list log s) → Names s.views → Own answers log s.views → get_elem? s.views id ≡ some me.0 → get_or s.words 1 0 ≡ t → Slot list log s.homes s.views
+    takes_it : (s : S) (log : List E) (r : LockFacts list log s) → Names s.views → Own answers log s.views → get_elem? s.views id ≡ some me.0 → get_or s.words 1 0 ≡ t → Slot list log s.homes s.views
         → (w : V) × (a : Act (Option T)) × Valid s.homes me.1 a × Kept list answers (stepped s 1 (get_or s.words 1 0) id me.1 w a) × looks list answers (step slots 1 0 0 none) me (get_or s.words 1 0) (w, carried_after me.1 a)
     takes_it s log r ns os at is (inl h) =
         let y = h.0 in

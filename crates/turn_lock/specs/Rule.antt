@@ -1,5 +1,5 @@
 -- The rule: what is always true of the table of a lock.
--- It speaks of one log, and has three parts: tickets, turns and the slot (`Core`); names (`Names`); what passes have
+-- It speaks of one log, and has three parts: tickets, turns and the slot (`LockFacts`); names (`Names`); what passes have
 -- seen and written (`Own`).
 use Rattle.std.specs.Prelude.{ℕ, ◌≡◌, ◌⊎◌, ◌+◌, ◌<◌, ◌≤◌, true, false, List, [], ◌∷◌, ◌++◌, length, Option, Some}
 use mathlib.Core.Option.{none, some}
@@ -57,7 +57,7 @@ Slot {T} {E} list log homes views =
     ⊎ ((id : ℕ) × (v : SeatView E) × At views id v × (v.stage ≡ Has))
 
 -- The tickets, the turns and the slot.
-pub record Core {T E : Type 0} (list : T → List E) (log : List E) (s : State (Option T) (SeatView E)) : Type 0 where
+pub record LockFacts {T E : Type 0} (list : T → List E) (log : List E) (s : State (Option T) (SeatView E)) : Type 0 where
   -- the next ticket, and the one that is served
   pub ticket : ℕ
   pub serving : ℕ
@@ -112,4 +112,4 @@ pub record Own {E : Type 0} (answers : List E → ℕ → Option ℕ) (log : Lis
 
 -- the rule
 abbrev pub Kept : {T E : Type 0} → (T → List E) → (List E → ℕ → Option ℕ) → State (Option T) (SeatView E) → Type 0
-Kept {T} {E} list answers s = (log : List E) × Core list log s × Names s.views × Own answers log s.views
+Kept {T} {E} list answers s = (log : List E) × LockFacts list log s × Names s.views × Own answers log s.views

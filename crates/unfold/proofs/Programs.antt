@@ -13,7 +13,7 @@ use Rattle.fc_types.specs.Before.{Function, Before, nothing, and_then, and_all, 
 use Rattle.fc_types.specs.Typing.{IsTyped, AreTyped, IsTypedDeclaration, IsInputRange}
 use Rattle.fc_nodes.specs.Program.{IsLawful, InputsAreLawful, InputIsLawful, NoneNamed}
 use Rattle.unfold.specs.Unfolding.{Meaning, input_number, unfolded, meaning, meanings, main_expression, main_term}
-use Rattle.unfold.proofs.Typed.{Typed, IsGood, AreGood, Holds, typed}
+use Rattle.unfold.proofs.Typed.{Typed, IsGood, AreGood, MeaningsHold, typed}
 
 -- an input keeps its number where more are declared
 number_stays : (x : List ℕ) (is more : List Input) (i : Input) → input_named x is ≡ Some i → (n : ℕ) × (input_number x (is ++ more) ≡ Some n) × (slice_get (is ++ more) n ≡ Some i)
@@ -70,7 +70,7 @@ good_more D (f' ∷ fs) [] f m h g = absurd h
 
 module _ (D : Declarations) where
   held : (B : Before) (second : Bool) (ds : List Declaration) → EndWithMain second ds → declared_before (and_all B ds) ≡ D → AreGood D B.functions (meanings D.inputs [] B.functions) →
-      Holds D (meanings D.inputs [] B.functions) B
+      MeaningsHold D (meanings D.inputs [] B.functions) B
   held B second ds end e good =
       let b = inputs_behind ds B in
       let same : (and_all B ds).inputs ≡ D.inputs = ap (λ (E : Declarations). E.inputs) e in
@@ -82,7 +82,7 @@ module _ (D : Declarations) where
       }
 
   -- the expression of `main`, and a definition more
-  main_typed : (B : Before) (e : Expression) → Holds D (meanings D.inputs [] B.functions) B → IsTypedDeclaration B (MainIs e) →
+  main_typed : (B : Before) (e : Expression) → MeaningsHold D (meanings D.inputs [] B.functions) B → IsTypedDeclaration B (MainIs e) →
       (s : LocalType) × Typed D [] 0 (unfolded D.inputs (meanings D.inputs [] B.functions) [] 0 e) (TypeLocal s)
   main_typed B e k h = (h.0, typed D (meanings D.inputs [] B.functions) h.1 k [] [] 0 refl tt)
 

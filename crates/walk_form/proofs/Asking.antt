@@ -10,7 +10,7 @@ use Rattle.fragment_check.specs.Verdicts.{verdict_of}
 use Rattle.converge_laws.specs.Laws.{SolutionsAreOne}
 use Rattle.converge_laws.specs.Verdicts.{YesAnalyses}
 use Rattle.walks.specs.Walks.{CostsValue}
-use Rattle.walks.specs.Gathering.{Added, AreOf, AddFits, gathered}
+use Rattle.walks.specs.Gathering.{AddValue, AreOf, AddFits, gathered}
 use Rattle.walk_form.specs.declared.forms.WalkForm.{WalkForm}
 use Rattle.walk_form.specs.Costs.{AddsAre, AreCostsOf}
 use Rattle.walk_form.specs.Fields.{IsFieldAt}
@@ -26,12 +26,12 @@ module _ (analyses : YesAnalyses) (one_law : SolutionsAreOne) (P : Program) (N :
       subst (λ m. AreOf N start × All (λ (d : ℕ × ℕ). d.1 ≤ m) start) (ap (λ d. d.ceiling) same)
       (starts_fit analyses one_law P N k is net same agreed (terms_of P.nodes f) form.terms f.local.from (term_at P.nodes f.local.from) start (local_placed P is (terms_of P.nodes f) form.terms).type h)
 
-  pub adds_asked : Neighbours N → (a : Added) → AddsAre N (step_of P.nodes f.adds) a → AddFits P.declared.ceiling N a
+  pub adds_asked : Neighbours N → (a : AddValue) → AddsAre N (step_of P.nodes f.adds) a → AddFits P.declared.ceiling N a
   adds_asked near_law a h =
       subst (λ m. AddFits m N a) (ap (λ d. d.ceiling) same)
       (adds_fit analyses one_law P N k is net same agreed (terms_of P.nodes f) form.terms near_law (step_of P.nodes f.adds) a refl h)
 
-  pub costs_made : (start : List (ℕ × ℕ)) (a : Added) (C : CostsValue) → IsFieldAt N f.local.from (term_at P.nodes f.local.from) start → AddsAre N (step_of P.nodes f.adds) a
+  pub costs_made : (start : List (ℕ × ℕ)) (a : AddValue) (C : CostsValue) → IsFieldAt N f.local.from (term_at P.nodes f.local.from) start → AddsAre N (step_of P.nodes f.adds) a
       → C ≡ gathered P.declared.ceiling N start a → AreCostsOf (unfolding_of P) N C
   costs_made start a C h g e = record {
     terms = terms_of P.nodes f;

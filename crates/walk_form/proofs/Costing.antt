@@ -25,7 +25,7 @@ use Rattle.converge_laws.specs.Laws.{SolutionsAreOne, IsAnalysis}
 use Rattle.converge_laws.specs.Stabilising.{HasOneSolution}
 use Rattle.converge_laws.specs.Verdicts.{analysis_of, YesAnalyses}
 use Rattle.walks.specs.Walks.{CostsValue, IsCosts, has}
-use Rattle.walks.specs.Gathering.{Added, AddEach, AddWeights, added, gathered, AreOf, AddFits}
+use Rattle.walks.specs.Gathering.{AddValue, AddEach, AddWeights, added, gathered, AreOf, AddFits}
 use Rattle.walks.specs.Laws.{IsFixed, FixedValuesAreLeast}
 use Rattle.walks.proofs.Fixed.{has_here}
 use Rattle.walks.proofs.Gathered.{AreMutual, gathered_costs, in_steps, to_steps}
@@ -157,7 +157,7 @@ module _ (analyses : YesAnalyses) (one_law : SolutionsAreOne) (P : Program) (N :
           let here : N.declared.least ≡ P.declared.least = ap (λ d. d.least) same in
           omega (arith, some, least, here)
 
-  pub adds_fit : Neighbours N → (s : StepTerm) (a : Added) → w.step ≡ s → AddsAre N s a → AddFits M N a
+  pub adds_fit : Neighbours N → (s : StepTerm) (a : AddValue) → w.step ≡ s → AddsAre N s a → AddFits M N a
   adds_fit near_law (StepValue q t) (AddEach xs) e h = values_fit q t xs e h
   adds_fit near_law (StepValue q t) AddWeights e h = absurd h
   adds_fit near_law StepWeight (AddEach xs) e h = absurd h
@@ -166,7 +166,7 @@ module _ (analyses : YesAnalyses) (one_law : SolutionsAreOne) (P : Program) (N :
       let m : N.declared.greatest ≤ M = subst (λ d. d.greatest ≤ d.ceiling) (sym same) is.lawful.metric.1 in
       λ d f v c. let a = near_law.least d f v c in let b = near_law.most d f v c in (omega (arith, l, a), omega (arith, m, b))
 
-  pub lawful : Neighbours N → (start : List (ℕ × ℕ)) (a : Added) → IsFieldAt N w.place w.local start → AddsAre N w.step a → IsCosts (gathered M N start a)
+  pub lawful : Neighbours N → (start : List (ℕ × ℕ)) (a : AddValue) → IsFieldAt N w.place w.local start → AddsAre N w.step a → IsCosts (gathered M N start a)
   lawful near_law start a h g =
       let f = starts_fit w.place w.local start ltype h in
       gathered_costs M N start a net near_law.linked f.0 f.1 (adds_fit near_law w.step a refl g)
@@ -176,7 +176,7 @@ module _ (analyses : YesAnalyses) (one_law : SolutionsAreOne) (P : Program) (N :
   pub one_at : HasOneSolution U N → (q : ℕ) (t : Term) → Part P A M q t → type_of t ≡ TypeLocal IntType → HasOneField N q t
   one_at one q t part ty = one_field one_law P N is net same A analysis.for analysis.ranges q t part ty one
 
-  some_adds : HasOneSolution U N → (s : StepTerm) → w.step ≡ s → (a : Added) × AddsAre N s a
+  some_adds : HasOneSolution U N → (s : StepTerm) → w.step ≡ s → (a : AddValue) × AddsAre N s a
   some_adds one StepWeight e = (AddWeights, tt)
   some_adds one (StepValue q t) e =
       let f = one_at one q t (spart q t e) (stype q t e) in
@@ -195,7 +195,7 @@ module _ (analyses : YesAnalyses) (one_law : SolutionsAreOne) (P : Program) (N :
 
   -- ---- the solution
 
-  module _ (pointwise : ReadsPointwise) (near_law : Neighbours N) (F : ℕ → LocalValue) (solves : SolvesMain N U.main F) (start : List (ℕ × ℕ)) (ad : Added)
+  module _ (pointwise : ReadsPointwise) (near_law : Neighbours N) (F : ℕ → LocalValue) (solves : SolvesMain N U.main F) (start : List (ℕ × ℕ)) (ad : AddValue)
       (h : IsFieldAt N w.place w.local start) (g : AddsAre N w.step ad) where
     abbrev at : ℕ
     at = suc 0 + size G.start
@@ -257,12 +257,12 @@ module _ (analyses : YesAnalyses) (one_law : SolutionsAreOne) (P : Program) (N :
     added_gives : (q : ℕ) (b : Term) (st : StepTerm) (S : ValueMap) → IsAdded q b st → w.step ≡ st → AddsAre N st ad → Solves N q b D V S → (d : ℕ) → Lives N d → Gives N net d (S d) (cost d)
     added_gives q b st S (inverted.links t z) e k sv d i = by_adds ad k (subst (λ y. Solves N q y D V S) z sv)
       where
-        by_adds : (y : Added) → AddsAre N StepWeight y → Solves N q (Plain t NbrLink) D V S → Gives N net d (S d) (λ m. added y (d, m.1))
+        by_adds : (y : AddValue) → AddsAre N StepWeight y → Solves N q (Plain t NbrLink) D V S → Gives N net d (S d) (λ m. added y (d, m.1))
         by_adds (AddEach xs) j x = absurd j
         by_adds AddWeights j x = over_gives N net d (IntValue N.declared.least) (λ n. IntValue n.1) (λ m. m.1) (λ n v c. refl) (S d) (x.1 d i)
     added_gives q b st S (inverted.local l z) e k sv d i = by_adds ad k
       where
-        by_adds : (y : Added) → AddsAre N (StepValue q b) y → Gives N net d (S d) (λ m. added y (d, m.1))
+        by_adds : (y : AddValue) → AddsAre N (StepValue q b) y → Gives N net d (S d) (λ m. added y (d, m.1))
         by_adds (AddEach xs) j = value_gives q b xs S e j sv d i
         by_adds AddWeights j = absurd j
 
@@ -361,7 +361,7 @@ integers_one N q t xs ys h g =
     let alike : entries h.one.field (numbers N.devices) ≡ entries g.one.field (numbers N.devices) = same_entries h.one.field g.one.field (numbers N.devices) (λ d i. g.one.only h.one.field h.one.solves d i) in
     same_map xs ys (h.values ∙ alike ∙ sym g.values)
 
-added_one : (N : Network) (s : StepTerm) (a b : Added) → AddsAre N s a → AddsAre N s b → a ≡ b
+added_one : (N : Network) (s : StepTerm) (a b : AddValue) → AddsAre N s a → AddsAre N s b → a ≡ b
 added_one N (StepValue q t) (AddEach xs) (AddEach ys) h g = ap AddEach (integers_one N q t xs ys h g)
 added_one N (StepValue q t) (AddEach xs) AddWeights h g = absurd g
 added_one N (StepValue q t) AddWeights b h g = absurd h

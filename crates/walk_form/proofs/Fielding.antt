@@ -1,4 +1,4 @@
--- The one field of a term of the walk form, and its integers.
+-- Crates above cite this module: the one field of a term of the walk form, and its integers.
 use Rattle.std.proofs.Common.{◌≡◌, inl, inr, ℕ, suc, ◌≤◌, ◌+◌, List, [], ◌∷◌, map, refl, sym, ◌∙◌, ap, ap₂, subst, arith, Bool, true, false, ◌||◌, Some, None, nat_eq}
 use Rattle.std.specs.Prelude.{if◌then◌else◌}
 use Rattle.std.specs.List.{Contains}

@@ -17,7 +17,7 @@ use Rattle.converge_laws.specs.Verdicts.{analysis_of, YesAnalyses}
 use Rattle.walk_form.specs.declared.forms.Span.{Span}
 use Rattle.walk_form.specs.Forms.{StepTerm, StepValue, WalkTerms, walk_terms}
 use Rattle.walk_form.specs.Spans.{IsSpan, AddsSpan, step_of, terms_of}
-use Rattle.walk_form.specs.Parts.{IsPart, IsPartOf}
+use Rattle.walk_form.specs.Parts.{IsWalkPart, IsPartOf}
 use Rattle.walk_form.proofs.Inverted.{IsAdded, IsSum, IsRoot, gradient}
 use Rattle.walk_form.proofs.Inverted as inverted
 use Rattle.walk_form.proofs.Under.{Under, fragment_under}
@@ -156,7 +156,7 @@ module _ (P : Program) (is : IsProgram P) (w : WalkTerms) (form : walk_terms (un
       inside : Under (suc place) root.form.sum q t → suc (suc place) ≤ q
       inside u = by_sum root.form.step e
 
-part_terms : (P : Program) (s : Span) (h : IsPart P s) → (w : WalkTerms) × (walk_terms (unfolding_of P) ≡ Some w)
+part_terms : (P : Program) (s : Span) (h : IsWalkPart P s) → (w : WalkTerms) × (walk_terms (unfolding_of P) ≡ Some w)
     × (((w.place ≡ s.from) × (w.local ≡ term_at P.nodes s.from)) ⊎ (w.step ≡ StepValue s.from (term_at P.nodes s.from)))
 part_terms P s h = (terms_of P.nodes h.form, h.is.terms, by_part h.part)
   where
@@ -164,7 +164,7 @@ part_terms P s h = (terms_of P.nodes h.form, h.is.terms, by_part h.part)
     by_part (inl e) = inl (ap (λ (x : Span). x.from) e, ap (λ (x : Span). term_at P.nodes x.from) e)
     by_part (inr e) = inr (ap (step_of P.nodes) e)
 
-pub part_placed : (P : Program) (s : Span) → IsProgram P → IsPart P s → Placed P s.from (term_at P.nodes s.from)
+pub part_placed : (P : Program) (s : Span) → IsProgram P → IsWalkPart P s → Placed P s.from (term_at P.nodes s.from)
 part_placed P s is h = let r = part_terms P s h in by_part r.0 r.1 r.2
   where
     by_part : (w : WalkTerms) → walk_terms (unfolding_of P) ≡ Some w → (((w.place ≡ s.from) × (w.local ≡ term_at P.nodes s.from)) ⊎ (w.step ≡ StepValue s.from (term_at P.nodes s.from)))
@@ -172,7 +172,7 @@ part_placed P s is h = let r = part_terms P s h in by_part r.0 r.1 r.2
     by_part w e (inl f) = subst (λ n. Placed P n (term_at P.nodes s.from)) f.0 (subst (λ z. Placed P w.place z) f.1 (local_placed P is w e))
     by_part w e (inr f) = step_placed P is w e s.from (term_at P.nodes s.from) f
 
-pub part_span : (P : Program) (s : Span) → IsPart P s → IsSpan P.nodes s
+pub part_span : (P : Program) (s : Span) → IsWalkPart P s → IsSpan P.nodes s
 part_span P s h = by_part h.part
   where
     by_part : IsPartOf h.form s → IsSpan P.nodes s
@@ -234,7 +234,7 @@ module _ (analyses : YesAnalyses) (P : Program) (N : Network) (k : ℕ) (is : Is
       subst (λ n. StepPart n t) v.0 (subst (λ z. StepPart G.added.place z) v.1 (record { part = summand_part; some = G.added.some }))
 
 pub part_part : YesAnalyses → (P : Program) (N : Network) (k : ℕ) (s : Span) → IsProgram P → IsNetwork N → N.declared ≡ P.declared → verdict_of (unfolding_of P) (length N.devices) ≡ verdict.Yes k
-    → IsPart P s → Part P (analysis_of (unfolding_of P) (length N.devices)) N.declared.ceiling s.from (term_at P.nodes s.from)
+    → IsWalkPart P s → Part P (analysis_of (unfolding_of P) (length N.devices)) N.declared.ceiling s.from (term_at P.nodes s.from)
 part_part analyses P N k s is net same agreed h = let r = part_terms P s h in by_part r.0 r.1 r.2
   where
     by_part : (w : WalkTerms) → walk_terms (unfolding_of P) ≡ Some w → (((w.place ≡ s.from) × (w.local ≡ term_at P.nodes s.from)) ⊎ (w.step ≡ StepValue s.from (term_at P.nodes s.from)))

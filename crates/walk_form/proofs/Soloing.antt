@@ -14,7 +14,7 @@ use Rattle.stable_field.specs.Stable.{IsStableField}
 use Rattle.walk_form.specs.declared.forms.Span.{Span}
 use Rattle.walk_form.specs.Alone.{alone_term}
 use Rattle.walk_form.specs.Fields.{IsFieldAt, integers_in}
-use Rattle.walk_form.specs.Parts.{IsPart}
+use Rattle.walk_form.specs.Parts.{IsWalkPart}
 use Rattle.walk_form.proofs.Parts.{Part, Placed, part_part, part_placed}
 use Rattle.walk_form.proofs.Judging.{alone_yes}
 use Rattle.walk_form.proofs.Fielding.{one_field, alone_field}
@@ -23,7 +23,7 @@ yes_or_no : (k place : ℕ) (why : Reason) → verdict.Yes k ≡ verdict.No plac
 yes_or_no k place why e = absurd cc
 
 module _ (analyses : YesAnalyses) (P Q : Program) (N : Network) (k : ℕ) (s : Span) (is : IsProgram P) (net : IsNetwork N) (same : N.declared ≡ P.declared)
-    (agreed : verdict_of (unfolding_of P) (length N.devices) ≡ verdict.Yes k) (part : IsPart P s) (declared : Q.declared ≡ P.declared)
+    (agreed : verdict_of (unfolding_of P) (length N.devices) ≡ verdict.Yes k) (part : IsWalkPart P s) (declared : Q.declared ≡ P.declared)
     (main : term_at Q.nodes 0 ≡ alone_term s.from (term_at P.nodes s.from)) where
   abbrev t : Term
   t = term_at P.nodes s.from

@@ -5,14 +5,14 @@ use Rattle.fc_nodes.specs.Program.{Unfolding}
 use Rattle.topology.specs.Networks.{Network}
 use Rattle.fragment_check.specs.Verdicts.{verdict_of}
 use Rattle.walks.specs.Walks.{CostsValue}
-use Rattle.walks.specs.Gathering.{Added, AddEach, AddWeights, gathered}
+use Rattle.walks.specs.Gathering.{AddValue, AddEach, AddWeights, gathered}
 use Rattle.walk_form.specs.declared.faults.CostFault.{CostFault}
 use Rattle.walk_form.specs.declared.faults.CostFault.TheVariants as fault
 use Rattle.walk_form.specs.Fields.{IsFieldAt}
 use Rattle.walk_form.specs.Forms.{StepTerm, StepValue, StepWeight, WalkTerms, walk_terms}
 
 -- what steps add on a network: what the one field of a term has, or the weights of the links
-abbrev pub AddsAre : Network → StepTerm → Added → Type 0
+abbrev pub AddsAre : Network → StepTerm → AddValue → Type 0
 AddsAre N (StepValue p s) (AddEach xs) = IsFieldAt N p s xs
 AddsAre N StepWeight AddWeights = Unit {0}
 AddsAre N _ _ = ⊥
@@ -20,7 +20,7 @@ AddsAre N _ _ = ⊥
 -- walks start with what the local argument has, and steps cost what is added; they are stopped at the ceiling
 pub record AreCostsFor (U : Unfolding) (N : Network) (w : WalkTerms) (C : CostsValue) : Type 0 where
   pub start : List (ℕ × ℕ)
-  pub added : Added
+  pub added : AddValue
   pub starts : IsFieldAt N w.place w.local start
   pub adds : AddsAre N w.step added
   pub is : C ≡ gathered U.declared.ceiling N start added

@@ -9,7 +9,7 @@ use Rattle.walk_form.specs.Spans.{IsWalkForm}
 abbrev pub IsPartOf : WalkForm → Span → Type 0
 IsPartOf f s = (f.local ≡ s) ⊎ (f.adds ≡ adds.Values s)
 
-pub record IsPart (P : Program) (s : Span) : Type 0 where
+pub record IsWalkPart (P : Program) (s : Span) : Type 0 where
   pub form : WalkForm
   pub is : IsWalkForm P form
   pub part : IsPartOf form s

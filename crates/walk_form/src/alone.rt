@@ -5,7 +5,7 @@ ghost use Rattle.fc_values.specs.Types.{IntType, BoolType, TypeLocal, type_of};
 ghost use Rattle.fc_nodes.specs.Program.{unfolding_of};
 ghost use Rattle.fc_nodes.specs.Terms.{Has, sort_of, term_at, view_of};
 ghost use Rattle.walk_form.specs.Alone.{AreAlone, alone_term, alone_view, front_view};
-ghost use Rattle.walk_form.specs.Parts.{IsPart};
+ghost use Rattle.walk_form.specs.Parts.{IsWalkPart};
 ghost use Rattle.std.specs.Prelude.{Some};
 ghost use Rattle.fc_values.specs.declared.limits.TheConstants.{MOST_NODES};
 
@@ -17,7 +17,7 @@ use std::alloc::Global;
 
 /// The program that has a term for its body, at the term's place.
 pub fn alone(alloc: Global, program: &Unfolded, term: Span) -> Result<Unfolded, Memory>
-    requires { IsPart program.now term }
+    requires { IsWalkPart program.now term }
     ensures declared { IfOk result (λ u. u.declared ≡ program.now.declared) }
     ensures main { IfOk result (λ u. term_at u.nodes 0 ≡ alone_term term.from (term_at program.now.nodes term.from)) }
 {

@@ -59,6 +59,7 @@ fn form_costs(
     ensures are { IfOk result (λ c. IsCosts (costs_of c)) }
 {
     let ceiling = program.declared().ceiling;
+    // Its clause: the network is lawful.
     let _network = net.declared();
     yes_analyses();
     solutions_are_one();

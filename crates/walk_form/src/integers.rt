@@ -8,7 +8,7 @@ ghost use Rattle.fc_nodes.specs.Program.{unfolding_of};
 ghost use Rattle.fc_nodes.specs.Terms.{term_at};
 ghost use Rattle.fragment_check.specs.Verdicts.{verdict_of};
 ghost use Rattle.walk_form.specs.Fields.{IsFieldAt, integer_in, integers_in};
-ghost use Rattle.walk_form.specs.Parts.{IsPart};
+ghost use Rattle.walk_form.specs.Parts.{IsWalkPart};
 
 use crate::alone::alone;
 use crate::forms::Span;
@@ -29,9 +29,10 @@ pub fn integers_at(
 ) -> Result<Vec<(u32, u32)>, Memory>
     requires declared { net.now.declared ≡ program.now.declared }
     requires yes { (k : ℕ) × (verdict_of (unfolding_of program.now) (length net.now.devices) ≡ verdict.Yes k) }
-    requires part { IsPart program.now term }
+    requires part { IsWalkPart program.now term }
     ensures { IfOk result (λ v. IsFieldAt net.now term.from (term_at program.now.nodes term.from) v.items) }
 {
+    // Their clauses: the nodes are a program, and the network is lawful.
     let _program = program.declared();
     let _network = net.declared();
     yes_analyses();

@@ -11,7 +11,7 @@ use Rattle.topology.specs.Networks.{Network, IsNetwork, Lives, device_of, near, 
 use Rattle.topology.specs.Nearby.{near_numbers}
 use Rattle.walks.specs.declared.types.Step.{Step}
 use Rattle.walks.specs.Walks.{IsDevice, IsBefore, IsCosts}
-use Rattle.walks.specs.Gathering.{Added, AddEach, AddWeights, added, step_to, steps_from, gathered, AreOf, AddFits, EachRises}
+use Rattle.walks.specs.Gathering.{AddValue, AddEach, AddWeights, added, step_to, steps_from, gathered, AreOf, AddFits, EachRises}
 use Rattle.walks.proofs.Fixed.{has_here}
 use Rattle.walks.proofs.Settling.{contains_first, contains_later, contains_here}
 
@@ -45,7 +45,7 @@ of_pairs xs d h =
     let r = in_map (λ (x : ℕ × ℕ). x.0) xs d h in
     (r.0.1, subst (λ e. Contains xs (e, r.0.1)) r.2 r.1)
 
-module _ (N : Network) (A : Added) where
+module _ (N : Network) (A : AddValue) where
   pub in_steps : (ds : List ℕ) (s : Step) → Contains (steps_from N A ds) s
       → (w : ℕ) × Contains ds s.from × Contains (near N s.from) (s.to, w) × (added A (s.to, w) ≡ s.cost)
   in_steps [] s h = let l = h.1 in absurd (omega arith)
@@ -96,7 +96,7 @@ pairs_append (x ∷ xs) ys a b h =
       | inr k ↦ h x y (contains_here x xs) k
     ]) (pairs_append xs ys (pairs_tail x xs a) b (λ u v g k. h u v (contains_later x xs u g) k))
 
-near_order : (A : Added) (d : ℕ) (ns : List (ℕ × ℕ)) → Rises (near_numbers ns) → AllPairs IsBefore (map (step_to A d) ns)
+near_order : (A : AddValue) (d : ℕ) (ns : List (ℕ × ℕ)) → Rises (near_numbers ns) → AllPairs IsBefore (map (step_to A d) ns)
 near_order A d ns r i j s l m =
     let n = length-map ns (step_to A d) in
     let k = length-map ns (λ (x : ℕ × ℕ). x.0) in
@@ -108,7 +108,7 @@ near_order A d ns r i j s l m =
     let v = get_or-map (λ (x : ℕ × ℕ). x.0) ns j (0, 0) 0 inside in
     subst (λ x. IsBefore x (get_or (map (step_to A d) ns) j s)) (sym e) (subst (λ y. IsBefore (step_to A d (get_or ns i (0, 0))) y) (sym f) (inr (refl, omega arith)))
 
-steps_order : (N : Network) (A : Added) → ((d : ℕ) → Rises (near_numbers (near N d))) → (ds : List ℕ) → Rises ds → AllPairs IsBefore (steps_from N A ds)
+steps_order : (N : Network) (A : AddValue) → ((d : ℕ) → Rises (near_numbers (near N d))) → (ds : List ℕ) → Rises ds → AllPairs IsBefore (steps_from N A ds)
 steps_order N A near_rises [] r = λ i j d l m. absurd (omega arith)
 steps_order N A near_rises (d ∷ ds) r =
     pairs_append (map (step_to A d) (near N d)) (steps_from N A ds) (near_order A d (near N d) (near_rises d)) (steps_order N A near_rises ds (rises_tail d ds r)) (λ x y g h.
@@ -132,7 +132,7 @@ pub record AreMutual (N : Network) : Type 0 where
   pub there : (d e w : ℕ) → Contains (near N d) (e, w) → Lives N e
   pub both : (d e w : ℕ) → Contains (near N d) (e, w) → Contains (near N e) (d, w)
 
-added_fits : (ceiling : ℕ) (N : Network) (A : Added) → Rises (numbers N.devices) → AddFits ceiling N A → (d e w : ℕ) → Contains (near N d) (e, w) → Contains (numbers N.devices) e
+added_fits : (ceiling : ℕ) (N : Network) (A : AddValue) → Rises (numbers N.devices) → AddFits ceiling N A → (d e w : ℕ) → Contains (near N d) (e, w) → Contains (numbers N.devices) e
     → (1 ≤ added A (e, w)) × (added A (e, w) ≤ ceiling)
 added_fits ceiling N (AddEach xs) r f d e w h there =
     let p = of_pairs xs e (subst (λ ds. Contains ds e) (sym f.0) there) in
@@ -141,7 +141,7 @@ added_fits ceiling N (AddEach xs) r f d e w h there =
     (subst (λ x. 1 ≤ x) (sym q) b.0, subst (λ x. x ≤ ceiling) (sym q) b.1)
 added_fits ceiling N AddWeights r f d e w h there = f d e w h
 
-pub gathered_costs : (ceiling : ℕ) (N : Network) (start : List (ℕ × ℕ)) (A : Added) → IsNetwork N → AreMutual N → AreOf N start → All (λ (d : ℕ × ℕ). d.1 ≤ ceiling) start
+pub gathered_costs : (ceiling : ℕ) (N : Network) (start : List (ℕ × ℕ)) (A : AddValue) → IsNetwork N → AreMutual N → AreOf N start → All (λ (d : ℕ × ℕ). d.1 ≤ ceiling) start
     → AddFits ceiling N A → IsCosts (gathered ceiling N start A)
 gathered_costs ceiling N start A net m of starts f = record {
   rising = subst Rises (sym of) net.rising;
@@ -167,13 +167,13 @@ gathered_costs ceiling N start A net m of starts f = record {
     device : (d : ℕ) → Contains (numbers N.devices) d → IsDevice (gathered ceiling N start A) d
     device d h = of_pairs start d (subst (λ ds. Contains ds d) (sym of) h)
 
-pub each_rises : (ceiling : ℕ) (N : Network) (A : Added) → Rises (numbers N.devices) → AddFits ceiling N A → EachRises A
+pub each_rises : (ceiling : ℕ) (N : Network) (A : AddValue) → Rises (numbers N.devices) → AddFits ceiling N A → EachRises A
 each_rises ceiling N (AddEach xs) r f = subst Rises (sym f.0) r
 each_rises ceiling N AddWeights r f = tt
 
 -- ---- device by device
 
-pub more_steps : (N : Network) (A : Added) (ds : List Device) (i : ℕ) (x : Device) (all old new : List Step) → i < length ds → x ≡ get_or ds i x
+pub more_steps : (N : Network) (A : AddValue) (ds : List Device) (i : ℕ) (x : Device) (all old new : List Step) → i < length ds → x ≡ get_or ds i x
     → all ≡ old ++ steps_from N A (numbers (map device_of (drop i ds))) → new ≡ old ++ map (step_to A x.id) (near N x.id)
     → all ≡ new ++ steps_from N A (numbers (map device_of (drop (i + 1) ds)))
 more_steps N A ds i x all old new l e q p =
@@ -192,6 +192,6 @@ nothing_behind : (xs : List Step) → xs ++ [] ≡ xs
 nothing_behind [] = refl
 nothing_behind (x ∷ xs) = ap (λ ys. x ∷ ys) (nothing_behind xs)
 
-pub all_steps : (N : Network) (A : Added) (ds : List Device) (i : ℕ) (all old : List Step) → length ds ≤ i
+pub all_steps : (N : Network) (A : AddValue) (ds : List Device) (i : ℕ) (all old : List Step) → length ds ≤ i
     → all ≡ old ++ steps_from N A (numbers (map device_of (drop i ds))) → old ≡ all
 all_steps N A ds i all old l q = sym (q ∙ ap (λ ys. old ++ steps_from N A (numbers (map device_of ys))) (none_left i ds l) ∙ nothing_behind old)

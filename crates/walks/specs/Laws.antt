@@ -1,13 +1,13 @@
 -- What the laws say.
 use Rattle.std.specs.Prelude.{ℕ, ◌≡◌, ◌≤◌, ◌+◌, ◌⊎◌, min, List}
 use Rattle.walks.specs.Walks.{CostsValue, EvidenceValue, StartsAt, IsDevice, StepsAt, WalkCosts}
-use Rattle.walks.specs.Walks.{IsLeastCost, IsBestWalk, IsCosts, Holds, AreLeastCosts, AreTraced}
+use Rattle.walks.specs.Walks.{IsLeastCost, IsBestWalk, IsCosts, ClaimsHold, AreLeastCosts, AreTraced}
 
 abbrev pub ClaimsAreLeast : Type 0
-ClaimsAreLeast = (C : CostsValue) (es : List EvidenceValue) → IsCosts C → Holds C es → AreLeastCosts C es
+ClaimsAreLeast = (C : CostsValue) (es : List EvidenceValue) → IsCosts C → ClaimsHold C es → AreLeastCosts C es
 
 abbrev pub TracedClaimsHold : Type 0
-TracedClaimsHold = (C : CostsValue) (es : List EvidenceValue) → IsCosts C → AreTraced C es → Holds C es
+TracedClaimsHold = (C : CostsValue) (es : List EvidenceValue) → IsCosts C → AreTraced C es → ClaimsHold C es
 
 abbrev pub OneLeastCost : Type 0
 OneLeastCost = (C : CostsValue) (d u v : ℕ) → IsLeastCost C d u → IsLeastCost C d v → u ≡ v

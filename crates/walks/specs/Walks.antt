@@ -135,7 +135,7 @@ abbrev pub AreSettled : CostsValue → List EvidenceValue → Type 0
 AreSettled C es = All (λ (s : Step). value_in es s.to ≤ min (value_in es s.from + s.cost) C.ceiling) C.steps
 
 -- a claim that can be checked step by step
-pub record Holds (C : CostsValue) (es : List EvidenceValue) : Type 0 where
+pub record ClaimsHold (C : CostsValue) (es : List EvidenceValue) : Type 0 where
   pub devices : HasDevices C es
   pub walks : HaveWalks C es
   pub starts : AreBelowStarts C es

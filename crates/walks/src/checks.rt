@@ -2,7 +2,7 @@
 
 ghost use Rattle.std.specs.Prelude.{◌≡◌, ℕ, true, false, IfSome, IfNone};
 ghost use Rattle.walks.specs.Walks.{costs_of, claim_of, IsCosts, WalkCosts, HasWalk, HasDevices};
-ghost use Rattle.walks.specs.Walks.{HaveWalks, AreBelowStarts, AreSettled, AreLeastCosts, Holds, value_in};
+ghost use Rattle.walks.specs.Walks.{HaveWalks, AreBelowStarts, AreSettled, AreLeastCosts, ClaimsHold, value_in};
 
 use crate::laws::claims_are_least;
 use crate::lookups::{place, step_cost};
@@ -13,8 +13,8 @@ use crate::types::{Costs, Evidence};
 /// start nor above what a step adds to the value of a neighbour. It takes no memory.
 pub fn check_walks(costs: &Costs, claim: &[Evidence]) -> bool
     requires { IsCosts (costs_of costs.now) }
-    ensures holds { result ≡ true → Holds (costs_of costs.now) (claim_of claim.now) }
-    ensures fails { result ≡ false → Holds (costs_of costs.now) (claim_of claim.now) → ⊥ }
+    ensures holds { result ≡ true → ClaimsHold (costs_of costs.now) (claim_of claim.now) }
+    ensures fails { result ≡ false → ClaimsHold (costs_of costs.now) (claim_of claim.now) → ⊥ }
     ensures least { result ≡ true → AreLeastCosts (costs_of costs.now) (claim_of claim.now) }
 {
     claims_are_least();
@@ -24,8 +24,8 @@ pub fn check_walks(costs: &Costs, claim: &[Evidence]) -> bool
 // Whether a claim holds.
 fn holds(costs: &Costs, claim: &[Evidence]) -> bool
     requires { IsCosts (costs_of costs.now) }
-    ensures holds { result ≡ true → Holds (costs_of costs.now) (claim_of claim.now) }
-    ensures fails { result ≡ false → Holds (costs_of costs.now) (claim_of claim.now) → ⊥ }
+    ensures holds { result ≡ true → ClaimsHold (costs_of costs.now) (claim_of claim.now) }
+    ensures fails { result ≡ false → ClaimsHold (costs_of costs.now) (claim_of claim.now) → ⊥ }
 {
     has_devices(costs, claim)
         && have_walks(costs, claim)

@@ -193,26 +193,26 @@ module _ (front rounds : ℕ) (old now new : BookValue) (place : ℕ) (net : IsN
   fires less r = (r.0, r.1, takes less, (r.2.0, r.2.1, tt, r.2.2))
 
   -- with the part that was added
-  abbrev Added : List EntryValue → Type 0
-  Added part = (begins d (drop front (entries_of now.log)) + begins d part ≡ rounds) × ((e : ℕ) → (d ≡ e → ⊥) → begins e part ≡ 0)
+  abbrev EntriesAdded : List EntryValue → Type 0
+  EntriesAdded part = (begins d (drop front (entries_of now.log)) + begins d part ≡ rounds) × ((e : ℕ) → (d ≡ e → ⊥) → begins e part ≡ 0)
       × InTurn (unfolding_of old.program) ids (before ++ s.part) (core_of now.core) part (core_of new.core)
 
-  added_none : rounds ≤ begins d (drop front (entries_of now.log)) → Run (unfolding_of old.program) (core_of now.core) [] (core_of new.core) → Added []
+  added_none : rounds ≤ begins d (drop front (entries_of now.log)) → Run (unfolding_of old.program) (core_of now.core) [] (core_of new.core) → EntriesAdded []
   added_none l r = (let b = begun_before in let m = greatest.most d here in omega (arith, l, b, m), λ e n. refl, r)
 
-  added_alone : begins d (drop front (entries_of now.log)) < rounds → Run (unfolding_of old.program) (core_of now.core) alone (core_of new.core) → Added alone
+  added_alone : begins d (drop front (entries_of now.log)) < rounds → Run (unfolding_of old.program) (core_of now.core) alone (core_of new.core) → EntriesAdded alone
   added_alone l r = (
     let b = begun_before in let n = nearly old.core.net before rounds ordered greatest d here in let o : begins d alone ≡ 1 = begins_this d in omega (arith, l, b, n, o),
     others,
     fires l r,
   )
 
-  added : Added f.part
+  added : EntriesAdded f.part
   added = ⊎_elim
-      (λ k. subst Added (sym k.1) (added_none (subst (λ x. rounds ≤ begins x (drop front (entries_of now.log))) same k.0)
+      (λ k. subst EntriesAdded (sym k.1) (added_none (subst (λ x. rounds ≤ begins x (drop front (entries_of now.log))) same k.0)
       (subst (λ (l : List EntryValue). Run (unfolding_of old.program) (core_of now.core) l (core_of new.core)) k.1 leads)))
       (λ k. let is : f.part ≡ alone = k.1 ∙ ap (λ x. BeginEntry x ∷ EndEntry x ∷ []) same in
-      subst Added (sym is) (added_alone (subst (λ x. begins x (drop front (entries_of now.log)) < rounds) same k.0)
+      subst EntriesAdded (sym is) (added_alone (subst (λ x. begins x (drop front (entries_of now.log)) < rounds) same k.0)
       (subst (λ (l : List EntryValue). Run (unfolding_of old.program) (core_of now.core) l (core_of new.core)) is leads)))
       f.fired
 

@@ -8,7 +8,7 @@ use crate::shorts::device_count;
 use firing_core::Book;
 
 // For how many firings a table is opened, if one round has no more.
-const FIRINGS_AT_ONCE: usize = 16_384;
+const FIRINGS_AT_ONCE: usize = 32_768;
 
 /// The number of workers, at most one a device; the rounds of one table; and for each worker turns for all firings of
 /// these rounds, with one a round and two more for turns that begin nothing.

@@ -1,75 +1,86 @@
-use Rattle.std.proofs.Common.{◌≡◌, ◌∙◌, length, refl, sym, ap, subst, arith}
+use Rattle.std.proofs.Common.{◌≡◌, ◌∙◌, List, length, refl, sym, ap, subst, arith}
 use Rattle.std.specs.List.{list_any}
+use Rattle.std.specs.Vec.{with_items}
 use Rattle.std.proofs.lemmas.List.{with_items_is}
-use Rattle.fc_nodes.specs.Program.{unfolding_of}
+use Rattle.fc_nodes.specs.Program.{Unfolding, unfolding_of}
+use Rattle.topology.specs.Networks.{Network}
+use Rattle.bound_firing.specs.declared.firing.ExportBound.{ExportBound as FlatBound}
+use Rattle.bound_rounds.specs.declared.rounds.Table.{Table}
 use Rattle.bound_rounds.specs.Rounds.{BoundTable, next_table}
-use Rattle.bound_rounds.specs.Tables.{Stand, FitTable, AreDue}
+use Rattle.bound_rounds.specs.Tables.{Stand, FitTable, AreDue, AreSwapped}
 use Rattle.bound_rounds.proofs.Rounding.{fixed, moves, next_stands, next_fits, drafts_fit, all_due, of_swapped}
 use Rattle.bound_rounds.proofs.Rounding.{of_marked, none_true, some_true}
 use Rattle.bound_rounds.proofs.rounds.round.Goals as goal
 
+-- the table after the firings, and the bounds that are then put into it
+module _ (c : goal.After-contains) where
+  abbrev U : Unfolding
+  U = unfolding_of c.args.program.now
+
+  abbrev N : Network
+  N = c.args.network.now
+
+  abbrev T : Table
+  T = c.fire_due.new.table
+
+  abbrev zs : List FlatBound
+  zs = c.take_drafts.new.bounds
+
+  swapped : AreSwapped T.changed.items (length T.changed.items) T.bounds.items T.drafts.items zs
+  swapped = of_swapped c.deref.result.now T.changed.items c.deref_mut.result.now T.bounds.items
+      c.deref_mut-2.result.now T.drafts.items zs c.deref.ensures.value c.deref_mut.ensures.value
+      c.deref_mut-2.ensures.value c.take_drafts.ensures.bounds
+
+  long : length zs ≡ length N.devices
+  long = c.take_drafts.auto.bounds ∙ ap length c.deref_mut.ensures.value ∙ c.in_ok-fire_due.ensures.fired.fits.many
+
+  put : (with_items T.bounds zs).items ≡ zs
+  put = with_items_is T.bounds zs (c.take_drafts.auto.bounds ∙ c.deref_mut.ensures.len)
+
 pub returns-clause-ready : goal.returns-clause-ready
 returns-clause-ready c =
-    let k = c.args.kind in
-    let U = unfolding_of c.args.program.now in
-    let N = c.args.network.now in
     let net = c.in_ok-fire_due.ensures.network in
-    let T = c.fire_due.new.table in
     let f = c.in_ok-fire_due.ensures.fired in
-    let d = c.deref_mut.ensures.value in
-    let d' = c.deref_mut-2.ensures.value in
-    let swapped = of_swapped c.deref.result.now T.changed.items c.deref_mut.result.now T.bounds.items
-    c.deref_mut-2.result.now T.drafts.items c.take_drafts.new.bounds c.deref.ensures.value d d'
-    c.take_drafts.ensures.bounds in
-    let drafts = of_swapped c.deref.result.now T.changed.items c.deref_mut-2.result.now T.drafts.items
-    c.deref_mut.result.now T.bounds.items c.take_drafts.new.drafts c.deref.ensures.value d' d
+    let d = c.deref_mut-2.ensures.value in
+    let drafts = of_swapped c.deref.result.now (T c).changed.items c.deref_mut-2.result.now (T c).drafts.items
+    c.deref_mut.result.now (T c).bounds.items c.take_drafts.new.drafts c.deref.ensures.value d c.deref_mut.ensures.value
     c.take_drafts.ensures.drafts in
-    let long : length c.take_drafts.new.bounds ≡ length N.devices = c.take_drafts.auto.bounds ∙ ap length d
-    ∙ f.fits.many in
-    let long' : length c.take_drafts.new.drafts ≡ length N.devices = c.take_drafts.auto.drafts ∙ ap length d'
+    let many : length c.take_drafts.new.drafts ≡ length (N c).devices = c.take_drafts.auto.drafts ∙ ap length d
     ∙ f.drafts.many in
-    let marks : length c.mark_due.new.due ≡ length N.devices = c.mark_due.auto.due
+    let marks : length c.mark_due.new.due ≡ length (N c).devices = c.mark_due.auto.due
     ∙ ap length c.deref_mut-3.ensures.value ∙ f.due in
-    let e = with_items_is T.bounds c.take_drafts.new.bounds (c.take_drafts.auto.bounds ∙ c.deref_mut.ensures.len) in
-    let e' = with_items_is T.drafts c.take_drafts.new.drafts (c.take_drafts.auto.drafts ∙ c.deref_mut-2.ensures.len) in
-    let e'' = with_items_is T.due c.mark_due.new.due (c.mark_due.auto.due ∙ c.deref_mut-3.ensures.len) in
-    let marked = of_marked N c.deref-2.result.now T.changed.items c.mark_due.new.due c.deref-2.ensures.value
+    let e = with_items_is (T c).drafts c.take_drafts.new.drafts
+    (c.take_drafts.auto.drafts ∙ c.deref_mut-2.ensures.len) in
+    let e' = with_items_is (T c).due c.mark_due.new.due (c.mark_due.auto.due ∙ c.deref_mut-3.ensures.len) in
+    let marked = of_marked (N c) c.deref-2.result.now (T c).changed.items c.mark_due.new.due c.deref-2.ensures.value
     c.mark_due.ensures in
     record {
-      fits = subst (FitTable U N) (sym e) (next_fits k U N net T f c.take_drafts.new.bounds long swapped);
-      drafts = subst (FitTable U N) (sym e') (drafts_fit k U N net T f c.take_drafts.new.drafts long' drafts);
+      fits = subst (FitTable (U c) (N c)) (sym (put c))
+          (next_fits c.args.kind (U c) (N c) net (T c) f (zs c) (long c) (swapped c));
+      drafts = subst (FitTable (U c) (N c)) (sym e)
+          (drafts_fit c.args.kind (U c) (N c) net (T c) f c.take_drafts.new.drafts many drafts);
       changed = f.changed;
-      many = ap length e'' ∙ marks;
-      due = λ t s. subst (AreDue k U N t) (sym e'') (all_due k U N net T f c.take_drafts.new.bounds long swapped
-          c.mark_due.new.due marks marked t (subst (Stand U N t) e s));
+      many = ap length e' ∙ marks;
+      due = λ t s. subst (AreDue c.args.kind (U c) (N c) t) (sym e')
+          (all_due c.args.kind (U c) (N c) net (T c) f (zs c) (long c) (swapped c) c.mark_due.new.due marks marked t
+          (subst (Stand (U c) (N c) t) (put c) s));
     }
 
 pub returns-clause-round : goal.returns-clause-round
 returns-clause-round c =
     let k = c.args.kind in
-    let U = unfolding_of c.args.program.now in
-    let N = c.args.network.now in
     let net = c.in_ok-fire_due.ensures.network in
-    let T = c.fire_due.new.table in
     let f = c.in_ok-fire_due.ensures.fired in
-    let d = c.deref_mut.ensures.value in
-    let d' = c.deref_mut-2.ensures.value in
-    let swapped = of_swapped c.deref.result.now T.changed.items c.deref_mut.result.now T.bounds.items
-    c.deref_mut-2.result.now T.drafts.items c.take_drafts.new.bounds c.deref.ensures.value d d'
-    c.take_drafts.ensures.bounds in
-    let long : length c.take_drafts.new.bounds ≡ length N.devices = c.take_drafts.auto.bounds ∙ ap length d
-    ∙ f.fits.many in
-    let e = with_items_is T.bounds c.take_drafts.new.bounds (c.take_drafts.auto.bounds ∙ c.deref_mut.ensures.len) in
-    let same = c.in_ok-fire_due.ensures.bounds in
-    let old : (t : BoundTable) → Stand U N t c.args.table.now.bounds.items → Stand U N t T.bounds.items =
-    λ t s. subst (λ v. Stand U N t v.items) (sym same) s in
+    let old : (t : BoundTable) → Stand (U c) (N c) t c.args.table.now.bounds.items
+    → Stand (U c) (N c) t (T c).bounds.items =
+    λ t s. subst (λ v. Stand (U c) (N c) t v.items) (sym c.in_ok-fire_due.ensures.bounds) s in
     let any = ap (list_any _) (sym c.deref-3.ensures.value) ∙ sym c.contains.ensures.value in
     record {
-      next = λ t s. subst (Stand U N (next_table k U N t)) (sym e)
-          (next_stands k U N net T f t (old t s) c.take_drafts.new.bounds long swapped);
-      fixed = λ q t s. fixed k U N net T f t (old t s) (λ i h. none_true _ refl T.changed.items (any ∙ q) i
-          (omega (arith, h, f.changed)));
+      next = λ t s. subst (Stand (U c) (N c) (next_table k (U c) (N c) t)) (sym (put c))
+          (next_stands k (U c) (N c) net (T c) f t (old t s) (zs c) (long c) (swapped c));
+      fixed = λ q t s. fixed k (U c) (N c) net (T c) f t (old t s)
+          (λ i h. none_true _ refl (T c).changed.items (any ∙ q) i (omega (arith, h, f.changed)));
       moves = λ q t s.
-          let p = some_true _ refl T.changed.items (any ∙ q) in
-          moves k U N net T f t (old t s) p.place (omega (arith, p.within, f.changed)) p.is_true;
+          let p = some_true _ refl (T c).changed.items (any ∙ q) in
+          moves k (U c) (N c) net (T c) f t (old t s) p.place (omega (arith, p.within, f.changed)) p.is_true;
     }

@@ -1,4 +1,4 @@
-use Rattle.std.proofs.Common.{◌≡◌, ◌++◌, ℕ, List, ◌∙◌, ap, ap₂, subst, sym}
+use Rattle.std.proofs.Common.{◌≡◌, ◌∙◌, ap, subst, sym}
 use Rattle.fc_nodes.specs.Program.{Program, Unfolding, unfolding_of, IsProgram}
 use Rattle.fc_nodes.specs.declared.verdicts.Verdict.TheVariants as verdict
 use Rattle.topology.specs.Networks.{Network}
@@ -17,7 +17,7 @@ pub replayed-requires-clause-steps : goal.replayed-requires-clause-steps
 replayed-requires-clause-steps c =
     let P : Program = c.in_ok-program.program.value in
     let net : c.net.result.now ≡ c.in_ok-start.start.core.net = c.net.ensures.value ∙ ap (λ (x : CoreValue). x.net) c.core.ensures.value in
-    let is : IsProgram P = subst IsProgram (sym c.in_ok-program.ensures.ok) c.requires.program in
+    let is : IsProgram P = subst IsProgram (sym c.in_ok-program.ensures.ok) c.size-_size.ensures.program in
     let U : unfolded_of c.in_ok-start.start ≡ unfolding_of P = ap unfolding_of c.in_ok-start.ensures.program in
     λ i why fails. no_stop c.driven_logs_lead.ensures c.mail_logs_end.ensures.either c.args.number c.args.rounds P is (value_of_scene (unfolding_of P) c.args.scene) (mail_of c.in_ok-start.start)
     c.in_ok-start.ensures.settled c.in_ok-start.ensures.start (mail_entries c.in_ok-log.log.items)
@@ -28,9 +28,9 @@ pub returns : goal.returns
 returns c =
     let P : Program = c.in_ok-program.program.value in
     let net : c.net.result.now ≡ c.in_ok-start.start.core.net = c.net.ensures.value ∙ ap (λ (x : CoreValue). x.net) c.core.ensures.value in
-    let line : c.verdict.new.out.items ≡ verdict_text (verdict.Yes c.args.rounds) = c.in_ok-verdict.ensures.ok ∙ ap₂ (λ (xs : List ℕ) (w : ℕ). xs ++ verdict_text (verdict.Yes w)) c.new-text.ensures.items c.from.ensures in
+    let line : c.in_ok-text.text.items ≡ verdict_text (verdict.Yes c.args.rounds) = c.in_ok-text.ensures ∙ ap (λ w. verdict_text (verdict.Yes w)) c.from.ensures in
     written c.args.number c.args.rounds P c.args.program c.args.scene (mail_of c.in_ok-start.start) (mail_of c.in_ok-book.book.start) (mail_of c.in_ok-book.book.mail) (unfolded_of c.in_ok-start.start)
-    (mail_entries c.in_ok-log.log.items) (mail_entries c.in_ok-book.book.log) c.verdict.new.out.items c.show.new.text.items c.new-2.result
+    (mail_entries c.in_ok-log.log.items) (mail_entries c.in_ok-book.book.log) c.in_ok-text.text.items c.show.new.text.items c.new-2.result
     c.in_ok-program.ensures.ok c.in_ok-start.ensures.settled (ap unfolding_of c.in_ok-start.ensures.program) c.in_ok-book.ensures.start
     (c.in_ok-log.ensures ∙ ap (λ (n : Network). driven n c.args.rounds (words_of c.args.number)) net)
     (ap mail_entries c.in_ok-book.ensures.log) c.in_ok-book.ensures.run c.in_ok-show.ensures line c.new-2.ensures

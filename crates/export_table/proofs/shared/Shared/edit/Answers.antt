@@ -4,7 +4,7 @@ use Rattle.firing_core.specs.Entries.{edit_of}
 use Rattle.firing_core.specs.Cores.{EditFits}
 use Rattle.export_table.specs.Items.{Opening}
 use Rattle.export_table.specs.Holding.{HeldValue, HasTurn, list_of}
-use Rattle.export_table.specs.Turns.{Edits, RefusesIn}
+use Rattle.export_table.specs.Turns.{EditsIn, RefusesIn}
 use Rattle.export_table.proofs.Turning.{same_opening, has_turn, after_turn}
 use Rattle.export_table.proofs.Calls.{edit_adds, edit_pass, edit_edited, edit_refused, edit_takes, edit_keeps}
 use Rattle.export_table.proofs.shared.Shared.edit.Goals as goal
@@ -17,13 +17,13 @@ turn-requires-clause-may g c = λ x a p is. subst (λ (h : HeldValue). HasTurn h
 
 pub turn-requires-clause-appends : goal.turn-requires-clause-appends
 turn-requires-clause-appends g c = λ x y r a call. edit_adds x y c.args.edit c.args.pass.now.mine r
-    (subst (λ (z : HeldValue × HeldValue). OnOk r (Edits z.0 z.1 c.args.edit)) (λ i. (call.shows i, call.leaves i)) call.met.0)
+    (subst (λ (z : HeldValue × HeldValue). OnOk r (EditsIn z.0 z.1 c.args.edit)) (λ i. (call.shows i, call.leaves i)) call.met.0)
     (subst (λ (z : HeldValue × HeldValue). IfErr r (RefusesIn z.0 z.1 (edit_of c.args.edit))) (λ i. (call.shows i, call.leaves i)) call.met.1)
 
 pub returns-clause-edited : goal.returns-clause-edited
 returns-clause-edited g c = let t = c.turn.ensures.turned in
     edit_edited t.before t.after c.args.edit c.args.self.now c.args.pass.now c.turn.new.pass c.requires.own t.agrees t.entry t.left t.view c.turn.result
-    (subst (λ (z : HeldValue × HeldValue). OnOk c.turn.result (Edits z.0 z.1 c.args.edit)) (λ i. (t.call.shows i, t.call.leaves i)) t.call.met.0)
+    (subst (λ (z : HeldValue × HeldValue). OnOk c.turn.result (EditsIn z.0 z.1 c.args.edit)) (λ i. (t.call.shows i, t.call.leaves i)) t.call.met.0)
 
 pub returns-clause-refused : goal.returns-clause-refused
 returns-clause-refused g c = let t = c.turn.ensures.turned in
@@ -38,13 +38,13 @@ returns-clause-memory g c = let t = c.turn.ensures.turned in
 pub returns-clause-own : goal.returns-clause-own
 returns-clause-own g c = let t = c.turn.ensures.turned in
     edit_pass t.before t.after c.args.edit c.args.self.now c.args.pass.now c.turn.new.pass c.requires.own t.agrees t.entry t.left t.view c.turn.result
-    (subst (λ (z : HeldValue × HeldValue). OnOk c.turn.result (Edits z.0 z.1 c.args.edit)) (λ i. (t.call.shows i, t.call.leaves i)) t.call.met.0)
+    (subst (λ (z : HeldValue × HeldValue). OnOk c.turn.result (EditsIn z.0 z.1 c.args.edit)) (λ i. (t.call.shows i, t.call.leaves i)) t.call.met.0)
     (subst (λ (z : HeldValue × HeldValue). IfErr c.turn.result (RefusesIn z.0 z.1 (edit_of c.args.edit))) (λ i. (t.call.shows i, t.call.leaves i)) t.call.met.1)
 
 pub returns-clause-keeps : goal.returns-clause-keeps
 returns-clause-keeps g c = let t = c.turn.ensures.turned in
     edit_keeps t.before t.after c.args.edit c.args.self.now c.args.pass.now c.turn.new.pass c.requires.own t.agrees t.entry t.left t.view c.turn.result
-    (subst (λ (z : HeldValue × HeldValue). OnOk c.turn.result (Edits z.0 z.1 c.args.edit)) (λ i. (t.call.shows i, t.call.leaves i)) t.call.met.0)
+    (subst (λ (z : HeldValue × HeldValue). OnOk c.turn.result (EditsIn z.0 z.1 c.args.edit)) (λ i. (t.call.shows i, t.call.leaves i)) t.call.met.0)
     (subst (λ (z : HeldValue × HeldValue). IfErr c.turn.result (RefusesIn z.0 z.1 (edit_of c.args.edit))) (λ i. (t.call.shows i, t.call.leaves i)) t.call.met.1)
 
 pub returns-clause-after : goal.returns-clause-after
