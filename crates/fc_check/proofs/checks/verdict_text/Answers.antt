@@ -8,4 +8,4 @@ pub facts-requires-clause-levels : goal.facts-requires-clause-levels
 facts-requires-clause-levels c =
     ap length (c.deref.ensures.value ∙ c.in_ok-verdict.ensures.levels c.in-Yes.field-0 c.in-Yes.is)
     ∙ ap (λ (P : Program). length (levels_of (unfolding_of P) c.args.devices)) c.in_ok-analysis.ensures
-    ∙ all_levels c.args.program.now c.args.devices c.size-_size.ensures.program
+    ∙ all_levels c.args.program.now c.args.devices c.size-size.ensures.program

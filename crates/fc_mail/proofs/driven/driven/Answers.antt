@@ -17,7 +17,7 @@ pub replayed-requires-clause-steps : goal.replayed-requires-clause-steps
 replayed-requires-clause-steps c =
     let P : Program = c.in_ok-program.program.value in
     let net : c.net.result.now ≡ c.in_ok-start.start.core.net = c.net.ensures.value ∙ ap (λ (x : CoreValue). x.net) c.core.ensures.value in
-    let is : IsProgram P = subst IsProgram (sym c.in_ok-program.ensures.ok) c.size-_size.ensures.program in
+    let is : IsProgram P = subst IsProgram (sym c.in_ok-program.ensures.ok) c.size-size.ensures.program in
     let U : unfolded_of c.in_ok-start.start ≡ unfolding_of P = ap unfolding_of c.in_ok-start.ensures.program in
     λ i why fails. no_stop c.driven_logs_lead.ensures c.mail_logs_end.ensures.either c.args.number c.args.rounds P is (value_of_scene (unfolding_of P) c.args.scene) (mail_of c.in_ok-start.start)
     c.in_ok-start.ensures.settled c.in_ok-start.ensures.start (mail_entries c.in_ok-log.log.items)
