@@ -136,7 +136,7 @@ impl Shared {
         )
     }
 
-    /// EndsIn a firing that the pass began, and so publishes its export. The copy that flew and the one that was evaluated
+    /// Ends a firing that the pass began, and so publishes its export. The copy that flew and the one that was evaluated
     /// come back, and it takes no memory. A round waits for this turn.
     pub fn end<W: Wait>(
         &self,
@@ -167,7 +167,7 @@ impl Shared {
         )
     }
 
-    /// EditsIn the book, where its core allows it. Nobody waits for this turn.
+    /// Edits the book, where its core allows it. Nobody waits for this turn.
     pub fn edit<W: Wait>(
         &self,
         rt: &W,

@@ -23,7 +23,8 @@ pub fn fc<W: Threads + Wait + Sync, S: Source, K: Sink, G: Gate + Sync>(
     out: &mut K,
     gate: &G,
 ) -> Outcome
-    // The text that is written, the bytes that are read, the cause of each status, and the book: each field of `CallEnds`.
+    // The text that is written, the bytes that are read, the cause of each status, and the book: each field of
+    // `CallEnds`.
     ensures ends { CallEnds (command_of (map string_bytes words.now))
         (source_at (S.left src.old) (S.faults src.old)) (source_at (S.left src.new) (S.faults src.new))
         (sink_at (K.taken out.old) (K.faults out.old) (K.room out.old))
