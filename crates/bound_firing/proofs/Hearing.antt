@@ -15,7 +15,7 @@ use Rattle.bound_firing.specs.BoundTrees.{BoundTree, held, KeptLies}
 use Rattle.bound_firing.specs.Seats.{NearSeat, Fitting, OwnSeen, SeenNear, no_seat, takes, free, maybe_of, maybes}
 use Rattle.bound_firing.specs.Seats.{seat_held, seat_weight, seat_entries, seat_field}
 use Rattle.bound_firing.specs.Firing.{own_bound}
-use Rattle.value_bounds.proofs.Values.{either_left, either_right, nat_same, itself, flips}
+use Rattle.value_bounds.proofs.Values.{either_left, either_right, itself, flips}
 
 -- entries of some of the seats in order, among them all sure ones
 data Entered (f : NearSeat → BoundValue) : List NearSeat → Entries → Type 0 where

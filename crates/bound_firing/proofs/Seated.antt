@@ -1,5 +1,5 @@
 -- Seats over flat slots are those of kids and branches, and hold what slots hold.
-use Rattle.std.proofs.Common.{◌≡◌, ℕ, zero, suc, ◌+◌, ◌<◌, List, [], ◌∷◌, map, refl, arith, Bool, true, false, ◌&&◌}
+use Rattle.std.proofs.Common.{◌≡◌, ℕ, zero, suc, ◌+◌, List, [], ◌∷◌, map, refl, Bool, true, false, ◌&&◌}
 use Rattle.std.proofs.Common.{Option, Some, None, option_map, if◌then◌else◌}
 use Rattle.fc_values.specs.Types.{ValueType}
 use Rattle.fc_values.specs.declared.builtins.Builtin.{Builtin}

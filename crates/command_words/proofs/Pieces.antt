@@ -1,5 +1,5 @@
 -- The words that set something, piece by piece: a flag, an option with its number in one word or two, or a number.
-use Rattle.std.proofs.Common.{ℕ, ◌≡◌, ◌+◌, ◌<◌, ◌≤◌, Bool, true, false, ◌&&◌, if◌then◌else◌, is_some}
+use Rattle.std.proofs.Common.{ℕ, ◌≡◌, ◌+◌, ◌<◌, ◌≤◌, Bool, true, false, if◌then◌else◌, is_some}
 use Rattle.std.proofs.Common.{List, [], ◌∷◌, ◌++◌, map, length, get_or, codes, nat_lt}
 use Rattle.std.proofs.Common.{refl, sym, ap, ap₂, ◌∙◌, arith, Option, Some, None, option_map}
 use Rattle.std.specs.List.{before_first, after_first, position_or_len}
@@ -101,10 +101,6 @@ record IsWritten (word : List ℕ) (s : Setting) : Type 0 where
   pub setting_is : s ≡ setting_by piece its
 
 -- ---- numbers
-first_of_two : (a b : Bool) → (a && b) ≡ true → a ≡ true
-first_of_two true b e = refl
-first_of_two false b e = cc
-
 -- a word that writes a number
 record IsDigits (word : List ℕ) (n : ℕ) : Type 0 where
   pub its : Digits

@@ -8,7 +8,7 @@ use Rattle.value_trees.specs.Copies.{FitsCopy}
 use Rattle.device_eval.specs.Copies.{EvaluatesCopy}
 use Rattle.topology.specs.Networks.{Network, Lives, IsNetwork, numbers}
 use Rattle.firing_core.specs.Entries.{EntryValue, BeginEntry, EndEntry, IdleEntry, EditEntry}
-use Rattle.firing_core.specs.Cores.{Map as Table, Core, copy_of, Step, StepSeeing, Run, IsGood}
+use Rattle.firing_core.specs.Cores.{Map, Core, copy_of, Step, StepSeeing, Run, IsGood}
 use Rattle.firing_core.specs.Rounds.{is_edit, has_edit, HasEnd, HasFiring, Covers, HasRounds}
 use Rattle.firing_core.specs.Laws.{StepsKeepGood, CopiesFit, RunsCut}
 use Rattle.firing_core.proofs.Maps.{put_case, put_same}
@@ -29,7 +29,7 @@ module _ (keeps : StepsKeepGood) (fit : CopiesFit) (cuts : RunsCut) (L : MaybeLe
   abbrev U : Unfolding
   U = unfolding_of p
 
-  fits_of : (f : Table TreeExport) (d : ℕ) → Lives N d → GoodTable U N f → FitsCopy U (copy_of N f d)
+  fits_of : (f : Map TreeExport) (d : ℕ) → Lives N d → GoodTable U N f → FitsCopy U (copy_of N f d)
   fits_of f d l t = fit U (record { net = N; exports = f; flying = λ e. None }) d
       (record { net = net; declared = same; exports = t; flying = λ e s q. absurd cc }) l
 
@@ -45,7 +45,7 @@ module _ (keeps : StepsKeepGood) (fit : CopiesFit) (cuts : RunsCut) (L : MaybeLe
   copy_ends zero d s e l h v = h.1 e v
   copy_ends (suc j) d s e l h v = r.fires j h.0 h.1 h.2 d l e (subst (λ c. EvaluatesCopy U c e) h.3 v)
 
-  taken : (j : ℕ) (t : ℕ → Table TreeExport) (c : Core) → FromLevel L U N j c → SeenFrom L U N j t → (d e : ℕ) → e ≡ d
+  taken : (j : ℕ) (t : ℕ → Map TreeExport) (c : Core) → FromLevel L U N j c → SeenFrom L U N j t → (d e : ℕ) → e ≡ d
       → (s : Copy) → Some (copy_of c.net (t d) d) ≡ Some s → CopyFrom L U N (suc j) e s
   taken j t c a v d e q s h =
       let h' : copy_of c.net (t d) d ≡ s = cc in
@@ -56,7 +56,7 @@ module _ (keeps : StepsKeepGood) (fit : CopiesFit) (cuts : RunsCut) (L : MaybeLe
   Flight j d o = (s : Copy) → o ≡ Some s → CopyFrom L U N j d s
 
   -- the level is kept by a step
-  pub kept : (j : ℕ) (t : ℕ → Table TreeExport) (c next : Core) (e : EntryValue) → is_edit e ≡ false
+  pub kept : (j : ℕ) (t : ℕ → Map TreeExport) (c next : Core) (e : EntryValue) → is_edit e ≡ false
       → FromLevel L U N j c → SeenFrom L U N j t → IsGood U next → StepSeeing U t c e next → FromLevel L U N j next
   kept j t c next (BeginEntry d) n a v good s = record {
     same = ap (λ (x : Core). x.net) s.2 ∙ a.same;
@@ -79,7 +79,7 @@ module _ (keeps : StepsKeepGood) (fit : CopiesFit) (cuts : RunsCut) (L : MaybeLe
   kept j t c next IdleEntry n a v good s = subst (FromLevel L U N j) (sym s) a
   kept j t c next (EditEntry x) n a v good s = absurd cc
 
-  pub fresh : (j d : ℕ) (t : ℕ → Table TreeExport) (c next : Core) (e : EntryValue) → is_edit e ≡ false
+  pub fresh : (j d : ℕ) (t : ℕ → Map TreeExport) (c next : Core) (e : EntryValue) → is_edit e ≡ false
       → FromLevel L U N j c → SeenFrom L U N j t → StepSeeing U t c e next → FreshFrom L U N j d c
       → FreshFrom L U N j d next
   fresh j d t c next (BeginEntry b) n a v s w = subst (FreshFrom L U N j d) (sym s.2)
@@ -89,12 +89,12 @@ module _ (keeps : StepsKeepGood) (fit : CopiesFit) (cuts : RunsCut) (L : MaybeLe
   fresh j d t c next IdleEntry n a v s w = subst (FreshFrom L U N j d) (sym s) w
   fresh j d t c next (EditEntry x) n a v s w = absurd cc
 
-  pub begins : (j d : ℕ) (t : ℕ → Table TreeExport) (c next : Core) → FromLevel L U N j c → SeenFrom L U N j t
+  pub begins : (j d : ℕ) (t : ℕ → Map TreeExport) (c next : Core) → FromLevel L U N j c → SeenFrom L U N j t
       → StepSeeing U t c (BeginEntry d) next → FreshFrom L U N j d next
   begins j d t c next a v s = subst (FreshFrom L U N j d) (sym s.2) (λ u h.
       taken j t c a v d d refl u (sym (put_same c.flying d (Some (copy_of c.net (t d) d))) ∙ h))
 
-  pub finished : (j d : ℕ) (t : ℕ → Table TreeExport) (c next : Core) (e : EntryValue) → is_edit e ≡ false → Lives N d
+  pub finished : (j d : ℕ) (t : ℕ → Map TreeExport) (c next : Core) (e : EntryValue) → is_edit e ≡ false → Lives N d
       → FromLevel L U N j c → SeenFrom L U N j t → StepSeeing U t c e next → FiredFrom L U N j d c
       → FiredFrom L U N j d next
   finished j d t c next e n l a v s w = (exports_keep e n s, fresh j d t c next e n a v s w.1)
@@ -107,7 +107,7 @@ module _ (keeps : StepsKeepGood) (fit : CopiesFit) (cuts : RunsCut) (L : MaybeLe
       exports_keep IdleEntry n s = subst (λ (x : Core). L (suc j) d (x.exports d)) (sym s) w.0
       exports_keep (EditEntry x) n s = absurd cc
 
-  pub ends : (j d : ℕ) (t : ℕ → Table TreeExport) (c next : Core) → Lives N d → FromLevel L U N j c
+  pub ends : (j d : ℕ) (t : ℕ → Map TreeExport) (c next : Core) → Lives N d → FromLevel L U N j c
       → SeenFrom L U N j t → StepSeeing U t c (EndEntry d) next → FreshFrom L U N j d c → FiredFrom L U N j d next
   ends j d t c next l a v s w = (
     subst (λ (x : Core). L (suc j) d (x.exports d)) (sym s.after)

@@ -13,7 +13,7 @@ use Rattle.device_eval.specs.Copies.{near_tree, env_of, situation_of, HasOneExpo
 use Rattle.device_eval.proofs.OneExport.{program_export}
 use Rattle.topology.specs.Networks.{Network, numbers, lives, Lives, near, IsNetwork}
 use Rattle.firing_core.specs.Entries.{EntryValue}
-use Rattle.firing_core.specs.Cores.{Map as Table, Core, near_with, near_copies, copy_of, Run, IsGood}
+use Rattle.firing_core.specs.Cores.{Map, Core, near_with, near_copies, copy_of, Run, IsGood}
 use Rattle.firing_core.specs.Rounds.{HasRounds}
 use Rattle.firing_core.specs.Laws.{StepsKeepGood, CopiesFit, RunsCut}
 use Rattle.interval_facts.specs.Solutions.{near_among, local_map, no_binders, SolvesMain}
@@ -60,7 +60,7 @@ module _ (keeps : StepsKeepGood) (fit : CopiesFit) (cuts : RunsCut) (p : Program
   typed_here : (e : TreeExport) → IsWellTyped U e → FitsTree N.declared.ceiling U.main e.tree
   typed_here e h = subst (λ (D : Declarations). FitsTree D.ceiling U.main e.tree) (sym same) h.tree
 
-  near_at : (j d : ℕ) (f : Table TreeExport) → TableAt At N (suc j) f → (ns : List (ℕ × ℕ)) → AllNear N.declared (numbers N.devices) d ns → NearAre (Tree_at (suc j)) ns (map near_tree (near_copies f ns))
+  near_at : (j d : ℕ) (f : Map TreeExport) → TableAt At N (suc j) f → (ns : List (ℕ × ℕ)) → AllNear N.declared (numbers N.devices) d ns → NearAre (Tree_at (suc j)) ns (map near_tree (near_copies f ns))
   near_at j d f h [] a = tt
   near_at j d f h (n ∷ ns) a = one (f n.0) (h n.0 a.0.there) (near_at j d f h ns a.1)
     where
@@ -72,10 +72,10 @@ module _ (keeps : StepsKeepGood) (fit : CopiesFit) (cuts : RunsCut) (p : Program
   own_at j d None h = absurd h
   own_at j d (Some e) h = (typed_here e h.typed, h.holds)
 
-  abbrev copy : Table TreeExport → ℕ → Copy
+  abbrev copy : Map TreeExport → ℕ → Copy
   copy f d = copy_of N f d
 
-  main_given : (j : ℕ) (f : Table TreeExport) → TableAt At N j f → (d : ℕ) → Lives N d → Given A N d j 0 1 (no_stage U.main) lv U.main (lives N) no_binders (local_map F) s [] (env_of (copy f d))
+  main_given : (j : ℕ) (f : Map TreeExport) → TableAt At N j f → (d : ℕ) → Lives N d → Given A N d j 0 1 (no_stage U.main) lv U.main (lives N) no_binders (local_map F) s [] (env_of (copy f d))
   main_given j f h d l = record {
     frag = frag;
     ranges = ranges;

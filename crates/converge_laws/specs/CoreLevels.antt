@@ -8,7 +8,7 @@ use Rattle.value_trees.specs.Copies.{FitsCopy}
 use Rattle.device_eval.specs.Copies.{EvaluatesCopy}
 use Rattle.topology.specs.Networks.{Network, Lives, numbers}
 use Rattle.firing_core.specs.Entries.{EntryValue, BeginEntry, EndEntry}
-use Rattle.firing_core.specs.Cores.{Map as Table, Core, copy_of, StepSeeing, Run, GoodExport, IsGood}
+use Rattle.firing_core.specs.Cores.{Map, Core, copy_of, StepSeeing, Run, GoodExport, IsGood}
 use Rattle.firing_core.specs.Rounds.{is_edit, HasRounds}
 
 -- levels of exports: whether an export of a device is at a level
@@ -22,11 +22,11 @@ MaybeAt P zero d None = Unit {0}
 MaybeAt P (suc j) d None = ⊥
 
 -- a table is at a level where each device's export is
-abbrev pub TableAt : ExportLevel → Network → ℕ → Table TreeExport → Type 0
+abbrev pub TableAt : ExportLevel → Network → ℕ → Map TreeExport → Type 0
 TableAt P N j table = (d : ℕ) → Lives N d → MaybeAt P j d (table d)
 
 -- the exports of a table are well-typed ones of devices of the network
-abbrev pub GoodTable : Unfolding → Network → Table TreeExport → Type 0
+abbrev pub GoodTable : Unfolding → Network → Map TreeExport → Type 0
 GoodTable U N table = (d : ℕ) (e : TreeExport) → table d ≡ Some e → GoodExport U N d e
 
 -- Copies are counted from 0. At 0 a copy fits the program and says nothing more: it may hold inputs, weights and
@@ -34,7 +34,7 @@ GoodTable U N table = (d : ℕ) (e : TreeExport) → table d ≡ Some e → Good
 abbrev pub CopyAt : ExportLevel → Unfolding → Network → ℕ → ℕ → Copy → Type 0
 CopyAt P U N zero d s = FitsCopy U s
 CopyAt P U N (suc j) d s =
-    (table : Table TreeExport) × GoodTable U N table × TableAt P N j table × (s ≡ copy_of N table d)
+    (table : Map TreeExport) × GoodTable U N table × TableAt P N j table × (s ≡ copy_of N table d)
 
 -- a good core on a network is at a level where its exports are, and its copies in flight with the same count
 pub record AtLevel (P : ExportLevel) (U : Unfolding) (N : Network) (j : ℕ) (c : Core) : Type 0 where
@@ -48,13 +48,13 @@ pub record AtLevel (P : ExportLevel) (U : Unfolding) (N : Network) (j : ℕ) (c 
 pub record Raises (P : ExportLevel) (U : Unfolding) (N : Network) : Type 0 where
   pub down : (j d : ℕ) (e : TreeExport) → Lives N d → P (suc j) d e → P j d e
   pub first : (d : ℕ) (e : TreeExport) → Lives N d → IsWellTyped U e → P 0 d e
-  pub fires : (j : ℕ) (table : Table TreeExport) → GoodTable U N table → TableAt P N j table → (d : ℕ) → Lives N d
+  pub fires : (j : ℕ) (table : Map TreeExport) → GoodTable U N table → TableAt P N j table → (d : ℕ) → Lives N d
       → (e : TreeExport) → EvaluatesCopy U (copy_of N table d) e → P (suc j) d e
 
 -- ---- what rounds do
 
 -- the tables that the devices see are good, and at a level
-abbrev pub SeenAt : ExportLevel → Unfolding → Network → ℕ → (ℕ → Table TreeExport) → Type 0
+abbrev pub SeenAt : ExportLevel → Unfolding → Network → ℕ → (ℕ → Map TreeExport) → Type 0
 SeenAt P U N j sees = (d : ℕ) → GoodTable U N (sees d) × TableAt P N j (sees d)
 
 -- a copy of a device in flight, if there is one, is one level up
@@ -67,7 +67,7 @@ HasFired P U N j d c = MaybeAt P (suc j) d (c.exports d) × IsFresh P U N j d c
 
 -- Each step without an edit, where a begin takes its copy from any table at the level, keeps the level. It keeps a
 -- device fresh, and fired; a begin makes its device fresh, and an end of a fresh device makes it fired.
-pub record StepsRaise (P : ExportLevel) (U : Unfolding) (N : Network) (j : ℕ) (sees : ℕ → Table TreeExport)
+pub record StepsRaise (P : ExportLevel) (U : Unfolding) (N : Network) (j : ℕ) (sees : ℕ → Map TreeExport)
     (c next : Core)
     : Type 0 where
   pub level : (e : EntryValue) → is_edit e ≡ false → IsGood U next → StepSeeing U sees c e next → AtLevel P U N j next
@@ -80,7 +80,7 @@ pub record StepsRaise (P : ExportLevel) (U : Unfolding) (N : Network) (j : ℕ) 
   pub ends : (d : ℕ) → Lives N d → StepSeeing U sees c (EndEntry d) next → IsFresh P U N j d c → HasFired P U N j d next
 
 abbrev pub LevelsOfSteps : ExportLevel → Unfolding → Network → Type 0
-LevelsOfSteps P U N = (j : ℕ) (sees : ℕ → Table TreeExport) (c next : Core) → AtLevel P U N j c → SeenAt P U N j sees
+LevelsOfSteps P U N = (j : ℕ) (sees : ℕ → Map TreeExport) (c next : Core) → AtLevel P U N j c → SeenAt P U N j sees
     → StepsRaise P U N j sees c next
 
 -- a good core on the network is at level 0

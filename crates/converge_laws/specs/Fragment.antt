@@ -37,7 +37,8 @@ abbrev mutual
   TermInFragment A m p (Evolve t e a u) = HasPattern m A.ranges e p (suc p + size a) (inner t) u (A.pattern p)
       × (A.stages p ≡ added_levels A.devices A.bounds e (A.pattern p)) × TermInFragment A m (suc p + size a) u
   TermInFragment A m p (If t c u w) =
-      TermInFragment A m (suc p) c × TermInFragment A m (suc p + size c) u × TermInFragment A m (suc p + size c + size u) w
+      TermInFragment A m (suc p) c × TermInFragment A m (suc p + size c) u
+      × TermInFragment A m (suc p + size c + size u) w
   TermInFragment A m p (Let t a u) = TermInFragment A m (suc p) a × TermInFragment A m (suc p + size a) u
 
   pub TermsInFragment : Analysis → ℕ → ℕ → Terms → Type 0

@@ -57,8 +57,8 @@ abbrev mutual
       (bind p s.1 V) F s.3 n
       (child 1 T)
 
-  pub HoldAll : (A : Analysis) (N : Network) (j p i b : ℕ) (st : Stage) (lv : Lvs) (xs : Terms) (D : Devices) (V : ValueMaps)
-      (Gs : List ValueMap) → SolveAll N p xs D V Gs → ℕ → Tree → Type 0
+  pub HoldAll : (A : Analysis) (N : Network) (j p i b : ℕ) (st : Stage) (lv : Lvs) (xs : Terms) (D : Devices)
+      (V : ValueMaps) (Gs : List ValueMap) → SolveAll N p xs D V Gs → ℕ → Tree → Type 0
   HoldAll A N j p i b st lv NoMore D V Gs s n T = Unit {0}
   HoldAll A N j p i b st lv (More x xs) D V [] s n T = ⊥
   HoldAll A N j p i b st lv (More x xs) D V (G ∷ Gs) s n T =

@@ -7,7 +7,7 @@ use Rattle.value_trees.specs.Copies.{FitsCopy}
 use Rattle.device_eval.specs.Copies.{EvaluatesCopy}
 use Rattle.topology.specs.Networks.{Network, Lives, numbers}
 use Rattle.firing_core.specs.Entries.{EntryValue}
-use Rattle.firing_core.specs.Cores.{Map as Table, Core, copy_of, Run, IsGood}
+use Rattle.firing_core.specs.Cores.{Map, Core, copy_of, Run, IsGood}
 use Rattle.firing_core.specs.Rounds.{HasRounds}
 use Rattle.converge_laws.specs.CoreLevels.{GoodTable}
 
@@ -16,7 +16,7 @@ abbrev pub MaybeLevel : Type 1
 MaybeLevel = ℕ → ℕ → Option TreeExport → Type 0
 
 -- a table is at a level where what each device has is
-abbrev pub TableFrom : MaybeLevel → Network → ℕ → Table TreeExport → Type 0
+abbrev pub TableFrom : MaybeLevel → Network → ℕ → Map TreeExport → Type 0
 TableFrom L N j table = (d : ℕ) → Lives N d → L j d (table d)
 
 -- each export that a copy evaluates to is at level 0
@@ -28,7 +28,7 @@ LandsAt L U d s = (e : TreeExport) → EvaluatesCopy U s e → L 0 d (Some e)
 abbrev pub CopyFrom : MaybeLevel → Unfolding → Network → ℕ → ℕ → Copy → Type 0
 CopyFrom L U N zero d s = FitsCopy U s × LandsAt L U d s
 CopyFrom L U N (suc j) d s =
-    (table : Table TreeExport) × GoodTable U N table × TableFrom L N j table × (s ≡ copy_of N table d)
+    (table : Map TreeExport) × GoodTable U N table × TableFrom L N j table × (s ≡ copy_of N table d)
 
 -- a good core on a network is at a level where its exports are, and its copies in flight with the same count
 pub record FromLevel (L : MaybeLevel) (U : Unfolding) (N : Network) (j : ℕ) (c : Core) : Type 0 where
@@ -41,11 +41,11 @@ pub record FromLevel (L : MaybeLevel) (U : Unfolding) (N : Network) (j : ℕ) (c
 -- level up
 pub record Lifts (L : MaybeLevel) (U : Unfolding) (N : Network) : Type 0 where
   pub down : (j d : ℕ) (o : Option TreeExport) → Lives N d → L (suc j) d o → L j d o
-  pub fires : (j : ℕ) (table : Table TreeExport) → GoodTable U N table → TableFrom L N j table → (d : ℕ) → Lives N d
+  pub fires : (j : ℕ) (table : Map TreeExport) → GoodTable U N table → TableFrom L N j table → (d : ℕ) → Lives N d
       → (e : TreeExport) → EvaluatesCopy U (copy_of N table d) e → L (suc j) d (Some e)
 
 -- the tables that the devices see are good, and at a level
-abbrev pub SeenFrom : MaybeLevel → Unfolding → Network → ℕ → (ℕ → Table TreeExport) → Type 0
+abbrev pub SeenFrom : MaybeLevel → Unfolding → Network → ℕ → (ℕ → Map TreeExport) → Type 0
 SeenFrom L U N j sees = (d : ℕ) → GoodTable U N (sees d) × TableFrom L N j (sees d)
 
 -- a copy of a device in flight, if there is one, is one level up

@@ -1,9 +1,8 @@
 -- Readings of one script agree.
-use Rattle.std.proofs.Common.{ℕ, ◌≡◌, List, [], ◌∷◌, refl, sym, subst, ◌∙◌}
+use Rattle.std.proofs.Common.{◌≡◌, [], ◌∷◌, refl, sym, subst, ◌∙◌}
 use Rattle.fc_nodes.specs.Program.{Unfolding}
-use Rattle.edit_commands.specs.LineByLine.{AreSaid}
 use Rattle.edit_commands.specs.Scripts.{ScriptLine, RunLine, DoLine, ScrambleLine, ShowLine, MixLine, CommandValue, RunCommand, EditCommand, ScrambleCommand, ShowCommand, MixCommand, IsCommand}
-use Rattle.edit_commands.specs.Agreement.{SameCommand, SameCommands, CommandsAgree}
+use Rattle.edit_commands.specs.Agreement.{SameCommand, CommandsAgree}
 use Rattle.edit_commands.proofs.Agreeing.{same_edits}
 
 along : (U : Unfolding) (a b k : CommandValue) → SameCommand U k k → a ≡ k → b ≡ k → SameCommand U a b

@@ -13,11 +13,11 @@ use Rattle.edit_commands.specs.declared.scripts.ScriptWord.TheVariants as first
 use Rattle.edit_commands.specs.Lines.{words_of}
 use Rattle.edit_commands.specs.EditLines.{EditLine, LinkLine, UnlinkLine, SetLine, PokeLine, JoinLine, LeaveLine, with_two, edit_line}
 use Rattle.edit_commands.specs.Code.{LineFits}
-use Rattle.edit_commands.specs.LineByLine.{unless, Lines, AllLines, StopsAt, onto, and_lines, lines_from, AreSaid}
+use Rattle.edit_commands.specs.LineByLine.{unless, Lines, AllLines, StopsAt, onto, and_lines, lines_from}
 use Rattle.edit_commands.specs.Judging.{edit_fault}
-use Rattle.edit_commands.specs.Scripts.{ScriptLine, RunLine, DoLine, ScrambleLine, ShowLine, MixLine, Progress, at_start, flies, LineFault, OfLine, firings_fault, line_fault, after_line, line_judged, text_judged, rounds_of, if_mixed, mixed_edit, script_word, line_by, script_line, lines_in, CommandValue, RunCommand, EditCommand, ScrambleCommand, ShowCommand, MixCommand, IsCommand, CommandFits, AllCommandsFit}
+use Rattle.edit_commands.specs.Scripts.{ScriptLine, RunLine, DoLine, ScrambleLine, ShowLine, MixLine, Progress, at_start, flies, LineFault, OfLine, firings_fault, line_fault, after_line, line_judged, text_judged, rounds_of, if_mixed, mixed_edit, script_word, line_by, script_line, lines_in, CommandValue, RunCommand, EditCommand, ScrambleCommand, ShowCommand, MixCommand, IsCommand, CommandFits}
 use Rattle.edit_commands.specs.ScriptCommands.{HasCommands, ScriptsHaveCommands}
-use Rattle.edit_commands.proofs.EntriesOfLogs.{edit_fits, AnEdit, an_edit}
+use Rattle.edit_commands.proofs.EntriesOfLogs.{edit_fits, an_edit}
 
 abbrev MayBe : ScriptLine → Type 0
 MayBe (RunLine r) = Unit {0}

@@ -1,19 +1,27 @@
 -- Crates above cite this module: the first line of a text, and its size.
-use Rattle.std.proofs.Common.{ℕ, suc, ◌≡◌, ◌+◌, ◌<◌, Bool, true, false, cond, List, [], ◌∷◌, length, take, drop, get_or, refl, ap, ◌∙◌, sym, arith, add-one, nat_eq}
+use Rattle.std.proofs.Common.{ℕ, zero, suc, ◌≡◌, ◌+◌, ◌<◌, Bool, true, false, cond, List, [], ◌∷◌, length, take, drop, refl, ap, ◌∙◌, sym, arith, add-one, nat_eq}
 use Rattle.std.specs.Prelude.{◌==◌}
 use Rattle.std.specs.List.{onto_first}
-use Rattle.std.proofs.Math.Seq.{drop-cons}
+use Rattle.std.proofs.lemmas.Bool.{false_from_ne_true}
+use Rattle.memchr.specs.Find.{Nowhere, Passes, is_byte}
 use Rattle.fc_io.specs.Lines.{lines_of, line_size}
 
--- one more byte that is no line feed
-pub size_more : (xs : List ℕ) (i : ℕ) → i < length xs → nat_eq (get_or xs i 0) 10 ≡ false → line_size (drop i xs) ≡ line_size (drop (i + 1) xs) + 1
-size_more xs i h e =
-    ap line_size (drop-cons xs i 0 h)
-    ∙ ap (λ t. cond t 1 (line_size (drop (suc i) xs) + 1)) e
-    ∙ ap (λ k. line_size (drop k xs) + 1) (sym (add-one i))
+-- the place of a line feed is the first
+pub size_at : (text : List ℕ) (k : ℕ) → k < length text → Passes (is_byte 10) text k
+    → Nowhere (Passes (is_byte 10) text) 0 k → line_size text ≡ k + 1
+size_at [] k within is none = absurd (omega (arith, within))
+size_at (b ∷ bs) zero within is none = ap (λ t. cond t 1 (line_size bs + 1)) is
+size_at (b ∷ bs) (suc k) within is none =
+    ap (λ t. cond t 1 (line_size bs + 1)) (false_from_ne_true (nat_eq b 10) (none 0 (omega arith) (omega arith)))
+    ∙ ap (λ n. n + 1) (size_at bs k (omega (arith, within)) is (λ i low high. none (suc i) (omega arith) (omega (arith, high))) ∙ add-one k)
 
-pub size_here : (xs : List ℕ) (i : ℕ) → i < length xs → nat_eq (get_or xs i 0) 10 ≡ true → line_size (drop i xs) ≡ 1
-size_here xs i h e = rw (drop-cons xs i 0) (ap (λ t. cond t 1 (line_size (drop (suc i) xs) + 1)) e)
+-- without a line feed a text is one line
+pub size_all : (text : List ℕ) → Nowhere (Passes (is_byte 10) text) 0 (length text) → line_size text ≡ length text
+size_all [] none = refl
+size_all (b ∷ bs) none =
+    ap (λ t. cond t 1 (line_size bs + 1)) (false_from_ne_true (nat_eq b 10) (none 0 (omega arith) (omega arith)))
+    ∙ ap (λ n. n + 1) (size_all bs (λ i low high. none (suc i) (omega arith) (omega (arith, high))))
+    ∙ add-one (length bs)
 
 -- the first line, and the lines after it
 cut_first_line : (b : ℕ) (bs : List ℕ) → lines_of (b ∷ bs) ≡ take (line_size (b ∷ bs)) (b ∷ bs) ∷ lines_of (drop (line_size (b ∷ bs)) (b ∷ bs))

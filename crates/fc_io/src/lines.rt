@@ -3,19 +3,18 @@ ghost use Rattle.std.specs.Prelude.{◌≡◌, ◌<◌, ◌≤◌, length};
 ghost use Rattle.std.specs.Io.BufRead.{strip_last};
 ghost use Rattle.fc_io.specs.Lines.{line_size, line_text};
 
+use memchr::memchr;
+
 /// How many bytes the first line of a text has, with its line feed.
-#[tactic(auto, using(crate::proofs::FirstLine::size_more, crate::proofs::FirstLine::size_here))]
 pub fn first_line(text: &[u8]) -> usize
     ensures size { result ≡ line_size text.now }
     ensures within { result ≤ length text.now }
     ensures some { 0 < length text.now → 0 < result }
 {
-    for (i, b) in text.iter().enumerate() {
-        if *b == b'\n' {
-            return i + 1;
-        }
+    match memchr(b'\n', text) {
+        Some(at) => at + 1,
+        None => text.len(),
     }
-    text.len()
 }
 
 // A text without its last byte, where that is this one.

@@ -8,7 +8,7 @@ use Rattle.fc_values.proofs.Rising.{rises_apart, rises_tail}
 use Rattle.fc_nodes.specs.Program.{IsProgram, Program, unfolding_of}
 use Rattle.topology.specs.Networks.{lives, numbers}
 use Rattle.firing_core.specs.Entries.{EndEntry, entries_of}
-use Rattle.firing_core.specs.Cores.{Map as Table, Core, put, Step, Run, IsGood}
+use Rattle.firing_core.specs.Cores.{Map, Core, put, Step, Run, IsGood}
 use Rattle.firing_core.specs.Books.{fliers, in_flight, ends_of}
 use Rattle.firing_core.specs.Replays.{fault_of, end_fault}
 use Rattle.firing_core.specs.Laws.{StepsKeepGood, FaultlessStep}
@@ -16,7 +16,7 @@ use Rattle.firing_core.proofs.Maps.{put_same}
 
 module _ (free : FaultlessStep) (keeps : StepsKeepGood) (P : Program) (is : IsProgram P) where
   -- the flights of these devices are ended, and others stay
-  record Down (f : Table Copy) (c : Core) (ds : List ℕ) : Type 0 where
+  record Down (f : Map Copy) (c : Core) (ds : List ℕ) : Type 0 where
     last : Core
     run : Run (unfolding_of P) c (entries_of (ends_of (fliers f ds))) last
     good : IsGood (unfolding_of P) last
@@ -24,10 +24,10 @@ module _ (free : FaultlessStep) (keeps : StepsKeepGood) (P : Program) (is : IsPr
     none : (d : ℕ) → is_in d ds ≡ true → last.flying d ≡ None
     out : (d : ℕ) → is_in d ds ≡ false → last.flying d ≡ c.flying d
 
-  abbrev Same : Table Copy → Core → List ℕ → Type 0
+  abbrev Same : Map Copy → Core → List ℕ → Type 0
   Same f c ds = (d : ℕ) → is_in d ds ≡ true → c.flying d ≡ f d
 
-  one_down : (f : Table Copy) (c : Core) (d : ℕ) (ds : List ℕ) → Rises (d ∷ ds) → IsGood (unfolding_of P) c → Same f c (d ∷ ds)
+  one_down : (f : Map Copy) (c : Core) (d : ℕ) (ds : List ℕ) → Rises (d ∷ ds) → IsGood (unfolding_of P) c → Same f c (d ∷ ds)
       → ((k : Core) → IsGood (unfolding_of P) k → Same f k ds → Down f k ds) → Down f c (d ∷ ds)
   one_down f c d ds r g same more = by_flight (f d) refl
     where
@@ -115,7 +115,7 @@ module _ (free : FaultlessStep) (keeps : StepsKeepGood) (P : Program) (is : IsPr
       by_flight None q = stays q (more c g (λ e i. same e (later e (nat_eq e d) i)))
       by_flight (Some x) q = ends x q
 
-  all_down : (f : Table Copy) (c : Core) (ds : List ℕ) → Rises ds → IsGood (unfolding_of P) c → Same f c ds → Down f c ds
+  all_down : (f : Map Copy) (c : Core) (ds : List ℕ) → Rises ds → IsGood (unfolding_of P) c → Same f c ds → Down f c ds
   all_down f c [] r g same = record { last = c; run = refl; good = g; net = refl; none = λ d h. absurd cc; out = λ d h. refl }
   all_down f c (d ∷ ds) r g same = one_down f c d ds r g same (λ k good h. all_down f k ds (rises_tail d ds r) good h)
 

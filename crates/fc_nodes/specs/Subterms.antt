@@ -1,4 +1,4 @@
--- The part of a term at a place of its preorder.
+-- The subterm of a term at a place of its preorder.
 use Rattle.std.specs.Prelude.{ℕ, zero, suc, ◌-◌, nat_lt, if◌then◌else◌}
 use Rattle.fc_values.specs.Types.{IntType, TypeLocal}
 use Rattle.fc_nodes.specs.Terms.{Term, Terms, Uid, Plain, Apply, Nbr, Evolve, If, Let, NoMore, More, size}

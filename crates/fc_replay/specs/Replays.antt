@@ -74,8 +74,8 @@ pub record ReplayShown : Type 0 where
 abbrev pub book_of : Unfolding → Core → List EntryValue → Core → Ledger
 book_of U start log core = record { program = U; start = start; log = log; core = core }
 
-pub record ShowsBook (options : ReplayOptions) (U : Unfolding) (start : Core) (log : List EntryValue) (j : Judged ReplayShown)
-    : Type 0 where
+pub record ShowsBook (options : ReplayOptions) (U : Unfolding) (start : Core) (log : List EntryValue)
+    (j : Judged ReplayShown) : Type 0 where
   pub core : Core
   pub leads : replay U start log ≡ Some core
   pub text : List ℕ

@@ -1,10 +1,9 @@
 -- Fields, read at a device.
 use Rattle.std.proofs.Common.{◌≡◌, ℕ, List, [], ◌∷◌, filter, refl, sym, ◌∙◌, ap, subst, Bool, true, false, nat_eq, nat_lt, ◌||◌, ◌&&◌, if◌then◌else◌, Option, Some, None, option_map, option_and_then}
 use Rattle.std.proofs.lemmas.Bool.{eqb-true, eq-eqb, ltb-true}
-use Rattle.fc_values.specs.declared.builtins.Builtin.{Builtin}
 use Rattle.fc_values.specs.Values.{LocalValue}
-use Rattle.fc_values.specs.Fields.{Entries, AnyValue, ValueLocal, ValueField, Rises, devices, is_in, restricted, rises, value_at, with_entry}
-use Rattle.fc_values.specs.Builtins.{are_over, argument_at, arguments_at, builtin_value, field_devices, field_over, is_hood, local_value, pointwise_over, put_before}
+use Rattle.fc_values.specs.Fields.{Entries, AnyValue, ValueLocal, ValueField, Rises, devices, is_in, rises, value_at, with_entry}
+use Rattle.fc_values.specs.Builtins.{are_over, arguments_at, field_devices, field_over, local_value, pointwise_over, put_before}
 use Rattle.fc_values.specs.Positions.{value_over}
 use Rattle.fc_values.specs.Laws.{IsPointwise, ReadsLocal, ReadsPointwise, ReadsRestricted, ReadsWithEntry}
 use Rattle.fc_values.proofs.Booleans.{or_no}

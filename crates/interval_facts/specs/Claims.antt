@@ -27,8 +27,8 @@ abbrev mutual
   InRanges rs N p (Let t a b) D V F s = MapLiesIn D (rs p) F × InRanges rs N (suc p) a D V s.1 s.2
       × InRanges rs N (suc p + size a) b D (bind p s.1 V) F s.3
 
-  pub AllInRanges : (rs : ℕ → RangeValue) (N : Network) (p : ℕ) (xs : Terms) (D : Devices) (V : ValueMaps) (Gs : List ValueMap)
-      → SolveAll N p xs D V Gs → Type 0
+  pub AllInRanges : (rs : ℕ → RangeValue) (N : Network) (p : ℕ) (xs : Terms) (D : Devices) (V : ValueMaps)
+      (Gs : List ValueMap) → SolveAll N p xs D V Gs → Type 0
   AllInRanges rs N p NoMore D V Gs s = Unit {0}
   AllInRanges rs N p (More x xs) D V [] s = ⊥
   AllInRanges rs N p (More x xs) D V (G ∷ Gs) s =

@@ -14,7 +14,7 @@ use Rattle.value_trees.specs.Snaps.{tree_of, snap_copy, IsExportOf}
 use Rattle.topology.specs.Networks.{Network, NetDevice, Lives, numbers, near}
 use Rattle.topology.specs.Nearby.{near_numbers, AtPlace}
 use Rattle.topology.proofs.Lemmas.{AllNear, near_fits}
-use Rattle.firing_core.specs.Cores.{Map as Table, put, Core, near_with, near_copies, copy_of, GoodExport, IsGood}
+use Rattle.firing_core.specs.Cores.{Map, put, Core, near_with, near_copies, copy_of, GoodExport, IsGood}
 use Rattle.firing_core.specs.CoreViews.{CoreValue, core_of, program_of}
 use Rattle.firing_core.specs.TakeOffs.{TakesOff}
 use Rattle.firing_core.specs.Laws.{CopiesFit}
@@ -41,7 +41,7 @@ far m (j ∷ is) i apart = here (nat_eq m j) refl i (λ r. far m is r (λ k h. a
 
 module _ (U : Unfolding) where
   -- the copies of the neighbours with what a table has are those of a row that the table reads
-  pub row_copies : (table : Table TreeExport) (ns : List (ℕ × ℕ)) (ls : List Letters) → Distinct (near_numbers ns) → length ls ≡ length ns
+  pub row_copies : (table : Map TreeExport) (ns : List (ℕ × ℕ)) (ls : List Letters) → Distinct (near_numbers ns) → length ls ≡ length ns
       → ((n : ℕ) → is_in n (near_numbers ns) ≡ true → table n ≡ item_at None (near_numbers ns) (map (heard_of U) ls) n) → near_copies table ns ≡ heard_copies U ns ls
   row_copies table [] ls n h t = refl
   row_copies table (x ∷ ns) [] n h t = absurd (omega arith)
@@ -114,7 +114,7 @@ module _ (c : CoreValue) (good : IsGood (program_of c) (core_of c)) (rows : List
   N : Network
   N = c.net
 
-  abbrev pub seen : Table TreeExport
+  abbrev pub seen : Map TreeExport
   seen = sees (mail_of (mail_with c rows)) d
 
   fits : AllNear c.net.declared (numbers c.net.devices) d (near c.net d)

@@ -5,11 +5,10 @@ use Rattle.std.proofs.lemmas.Bool.{eqb-true, eq-eqb}
 use Rattle.fc_values.specs.Fields.{Rises, is_in}
 use Rattle.fc_values.proofs.Rising.{rises_apart, rises_tail}
 use Rattle.fc_values.specs.Trees.{Copy}
-use Rattle.fc_nodes.specs.Program.{Program, Unfolding, unfolding_of, IsProgram}
+use Rattle.fc_nodes.specs.Program.{Program, unfolding_of, IsProgram}
 use Rattle.topology.specs.Networks.{Network, IsNetwork, Lives, lives, numbers, near}
 use Rattle.topology.specs.Nearby.{near_numbers}
 use Rattle.topology.proofs.Lemmas.{near_rises}
-use Rattle.firing_core.specs.declared.entries.StepFault.{StepFault}
 use Rattle.firing_core.specs.Entries.{EndEntry}
 use Rattle.firing_core.specs.Cores.{Core, Step, begun, copy_of}
 use Rattle.firing_core.specs.Replays.{fault_of, end_fault}
@@ -17,12 +16,12 @@ use Rattle.firing_core.specs.Laws.{StepsKeepGood, CopiesFit, FaultlessStep}
 use Rattle.firing_core.proofs.Maps.{put_same}
 use Rattle.scramble.specs.Words.{Words, next}
 use Rattle.message_links.specs.MailCores.{Reaches, reaches, Message, Pairs, put_pair, MailCore, MailEntryValue, MailBegin, MailEnd, MailDeliver, MailAgain, MailLose, posted, sees, with_core, without, MailEnds, Hears, Loses, MailStep, MailRun}
-use Rattle.message_links.specs.MailRounds.{Posts, posts_of, posts_along}
+use Rattle.message_links.specs.MailRounds.{posts_of}
 use Rattle.message_links.proofs.GoodMails.{IsMailGood, start_good, step_good}
 use Rattle.message_links.proofs.Posts.{SamePosts, run_posts, run_more}
 use Rattle.message_links.proofs.Reaching.{near_both}
 use Rattle.mail_drive.specs.Drives.{twice, firings, brought, brings_from, brings, round, driven}
-use Rattle.mail_drive.specs.Laws.{nothing, IsStill, DrivenLeads}
+use Rattle.mail_drive.specs.Laws.{nothing, DrivenLeads}
 use Rattle.mail_drive.proofs.Covering.{AllOther, stays, and_last, other_bring, from_other, near_lives, sent, empties}
 
 -- ---- lists of messages

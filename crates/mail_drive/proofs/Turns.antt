@@ -1,15 +1,15 @@
 -- Why a driven log has no more rounds than were driven, where the network has a link. Each covering part has an end of the
 -- one of its devices, and later a delivery to the other; and in each driven round all ends come before all deliveries.
-use Rattle.std.proofs.Common.{◌≡◌, ◌⊎◌, ◌≤◌, ◌<◌, ℕ, zero, suc, ◌+◌, ◌%◌, ◌==◌, List, [], ◌∷◌, ◌++◌, length, refl, sym, ◌∙◌, ap, subst, arith, append_assoc, Bool, true, false, ◌&&◌, ◌||◌, nat_eq, if◌then◌else◌, inl, inr}
+use Rattle.std.proofs.Common.{◌≡◌, ◌⊎◌, ◌≤◌, ℕ, zero, suc, ◌+◌, ◌%◌, ◌==◌, List, [], ◌∷◌, ◌++◌, length, refl, sym, ◌∙◌, ap, subst, arith, append_assoc, Bool, true, false, ◌&&◌, nat_eq, if◌then◌else◌, inl, inr}
 use Rattle.std.proofs.lemmas.Bool.{eq-eqb, ne_eqb}
 use Rattle.fc_values.specs.Types.{Declarations}
 use Rattle.fc_values.specs.Fields.{is_in}
-use Rattle.topology.specs.Networks.{Network, IsNetwork, Edge, LinksFit, Lives, numbers, near, near_in}
+use Rattle.topology.specs.Networks.{Network, Edge, LinksFit, Lives, numbers, near, near_in}
 use Rattle.topology.specs.Nearby.{near_numbers}
 use Rattle.scramble.specs.Words.{Words, next}
-use Rattle.message_links.specs.MailCores.{Reaches, reaches, MailEntryValue, MailBegin, MailEnd, MailIdle, MailDeliver, MailAgain, MailLose}
-use Rattle.message_links.specs.MailRounds.{Posts, posts_along, HasMailEnd, HasMailFiring, Brings, CoversMail, HasMailRounds}
-use Rattle.mail_drive.specs.Drives.{twice, firings, brought, brings_from, brings, round, driven}
+use Rattle.message_links.specs.MailCores.{Reaches, MailEntryValue, MailBegin, MailEnd, MailIdle, MailDeliver, MailAgain, MailLose}
+use Rattle.message_links.specs.MailRounds.{Posts, posts_along, HasMailEnd, HasMailFiring, HasMailRounds}
+use Rattle.mail_drive.specs.Drives.{firings, brought, brings_from, brings, round, driven}
 use Rattle.mail_drive.specs.Laws.{nothing, NoMoreRounds}
 use Rattle.mail_drive.proofs.Covering.{near_lives}
 

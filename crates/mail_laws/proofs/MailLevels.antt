@@ -13,7 +13,7 @@ use Rattle.fc_nodes.specs.Program.{Program, Unfolding, unfolding_of, IsProgram}
 use Rattle.topology.specs.Networks.{Network, IsNetwork, Lives, near}
 use Rattle.topology.specs.Nearby.{near_numbers}
 use Rattle.firing_core.specs.Entries.{BeginEntry, EndEntry}
-use Rattle.firing_core.specs.Cores.{Map as Table, Core, put, near_copies, copy_of, begun, StepSeeing, Ends, GoodExport, GoodFlight, IsGood}
+use Rattle.firing_core.specs.Cores.{Map, Core, put, near_copies, copy_of, begun, StepSeeing, Ends, GoodExport, GoodFlight, IsGood}
 use Rattle.firing_core.specs.Laws.{StepsKeepGood, CopiesFit}
 use Rattle.firing_core.proofs.Maps.{put_case, put_same}
 use Rattle.converge_laws.specs.CoreLevels.{ExportLevel, MaybeAt, AtLevel, Raises, SeenAt, IsFresh, HasFired, StepsRaise, LevelsOfSteps, LevelsBegin}
@@ -24,7 +24,7 @@ use Rattle.message_links.proofs.Posts.{pair_case}
 use Rattle.message_links.proofs.Reaching.{sender}
 use Rattle.message_links.proofs.Firings.{flies_after, flies_along, fired_after, fired_along, flies_more, fired_more}
 
-near_same : (f g : Table TreeExport) (ns : List (ℕ × ℕ)) → ((n : ℕ) → is_in n (near_numbers ns) ≡ true → f n ≡ g n) → near_copies f ns ≡ near_copies g ns
+near_same : (f g : Map TreeExport) (ns : List (ℕ × ℕ)) → ((n : ℕ) → is_in n (near_numbers ns) ≡ true → f n ≡ g n) → near_copies f ns ≡ near_copies g ns
 near_same f g [] h = refl
 near_same f g (n ∷ ns) h =
     let k : nat_eq n.0 n.0 ≡ true = eq-eqb n.0 n.0 refl in
@@ -129,7 +129,7 @@ module _ (keeps : StepsKeepGood) (fit : CopiesFit) (P : ExportLevel) (p : Progra
   -- ---- one step of the core
 
   -- the tables that devices see, at each device of the network
-  seen : MailCore → ℕ → Table TreeExport
+  seen : MailCore → ℕ → Map TreeExport
   seen c d n = if nat_eq n d then c.core.exports n else (if reaches N n d then c.heard n d else c.core.exports n)
 
   seen_case : (Q : Option TreeExport → Type 0) (c : MailCore) (d n : ℕ) → Q (c.core.exports n) → (Reaches N n d → Q (c.heard n d)) → Q (seen c d n)

@@ -9,7 +9,7 @@ use Rattle.topology.specs.Networks.{Network, near}
 use Rattle.topology.specs.Nearby.{near_numbers}
 use Rattle.message_links.specs.declared.entries.TheConstants.{MOST_IN_TRANSIT}
 use Rattle.firing_core.specs.Entries.{BeginEntry}
-use Rattle.firing_core.specs.Cores.{Map as Table, Core, StepSeeing, Ends, GoodExport, IsGood}
+use Rattle.firing_core.specs.Cores.{Map, Core, StepSeeing, Ends, GoodExport, IsGood}
 
 -- whether messages go from one device to another: the sender is a neighbour of the receiver
 abbrev pub reaches : Network → ℕ → ℕ → Bool
@@ -65,7 +65,7 @@ abbrev pub posted : {X : Type 0} → Network → Pairs (List X) → ℕ → X �
 posted N transit d x a b = if nat_eq a d && reaches N a b then pushed (transit a b) x else transit a b
 
 -- the exports that a device sees: its own, and of another device what was heard of it
-abbrev pub sees : MailCore → ℕ → Table TreeExport
+abbrev pub sees : MailCore → ℕ → Map TreeExport
 sees c d n = if nat_eq n d then c.core.exports n else c.heard n d
 
 abbrev pub with_core : MailCore → Core → MailCore

@@ -1,5 +1,5 @@
 -- Inputs that are accepted fit the declared ones.
-use Rattle.std.proofs.Common.{◌≡◌, ℕ, List, [], ◌∷◌, ◌++◌, refl, sym, ◌∙◌, subst, Option, Some, None, append_assoc, append-nil}
+use Rattle.std.proofs.Common.{◌≡◌, ℕ, List, [], ◌∷◌, ◌++◌, refl, sym, ◌∙◌, subst, length, Option, Some, None, is_some, true, Result, Ok, Err, append_assoc, append-nil}
 use Rattle.std.specs.Prelude.{option_and_then}
 use Rattle.serde_json.specs.Data.{Data}
 use Rattle.serde_json.specs.Find.{get}
@@ -10,9 +10,10 @@ use Rattle.topology.specs.declared.types.NetFault.{NetFault}
 use Rattle.fc_values.specs.Inputs.{InputFits, InputsFit}
 use Rattle.topology.specs.Inputs.{input_fault}
 use Rattle.topology.proofs.Lemmas.{input_none}
-use Rattle.net_json.specs.Judging.{JudgedScene, Accepted, Refused, Misshaped, and_then, given, no_fault, at_member}
-use Rattle.net_json.specs.Reading.{value_of}
-use Rattle.net_json.specs.Inputs.{input_judged, values_judged}
+use Rattle.net_json.specs.Judging.{JudgedScene, Accepts, Accepted, Refused, Misshaped, and_then, given, no_fault, at_member}
+use Rattle.net_json.specs.Reading.{value_of, has_size}
+use Rattle.net_json.specs.declared.types.JsonFault.{JsonFault}
+use Rattle.net_json.specs.Inputs.{has_names, input_judged, values_judged, inputs_judged}
 
 pub then_accepted : {A B R : Type 0} (j : JudgedScene A) (next : A → JudgedScene B) (b : B) → and_then j next ≡ Accepted b → ((a : A) → j ≡ Accepted a → next a ≡ Accepted b → R) → R
 then_accepted (Accepted a) next b e h = h a refl e
@@ -40,3 +41,22 @@ values_accepted path d before (i ∷ is) vs e = then_accepted (input_judged i.ty
 
 pub values_fit : (path : List ℕ) (d : Data) (is : List Input) (vs : List LocalValue) → values_judged path d [] is ≡ Accepted vs → InputsFit is vs
 values_fit path d is vs e = let f = values_accepted path d [] is vs e in subst (InputsFit is) (sym f.whole) f.fit
+
+-- ---- names
+
+-- where a value was read its name was found
+name_found : (ty : InputTy) (path : List ℕ) (o : Option Data) (v : LocalValue) → input_judged ty path o ≡ Accepted v → is_some o ≡ true
+name_found ty path None v e = absurd cc
+name_found ty path (Some d) v e = refl
+
+-- where all values were read all names were found
+pub names_found : (path : List ℕ) (d : Data) (before : List LocalValue) (is : List Input) (vs : List LocalValue) → values_judged path d before is ≡ Accepted vs → has_names is d ≡ true
+names_found path d before [] vs e = refl
+names_found path d before (i ∷ is) vs e = then_accepted (input_judged i.type (at_member path i.name) (get i.name d)) (λ v. values_judged path d (before ++ v ∷ []) is) vs e (λ v f g.
+    rw (name_found i.type (at_member path i.name) (get i.name d) v f) (names_found path d (before ++ v ∷ []) is vs g))
+
+-- what accepts the values of an object of the right size accepts the inputs
+pub inputs_accepted : {A : Type 0} (path : List ℕ) (d : Data) (is : List Input) (r : Result A JsonFault) (value : A → List LocalValue)
+    → has_size (length is) d ≡ true → Accepts r value (values_judged path d [] is) → Accepts r value (inputs_judged is path d)
+inputs_accepted path d is (Ok x) value sized e = rw sized (rw (names_found path d [] is (value x) e) e)
+inputs_accepted path d is (Err f) value sized e = tt

@@ -81,10 +81,15 @@ pub(crate) fn read_inputs(
     ensures fit { IfOk result (λ vs. InputsFit (map input_of inputs.now) (map local_of vs.items)) }
     ensures refused { Refuses result (inputs_judged (map input_of inputs.now) (path_of here.now) (view value.now)) }
 {
-    if !has_size(value, inputs.len()) || !has_names(inputs, value) {
+    if !has_size(value, inputs.len()) {
         return Err(JsonFault::Shape(here.path(alloc)?));
     }
-    read_values(alloc, inputs, here, value)
+    let values = read_values(alloc, inputs, here, value);
+    // where all values were read, all names were found
+    if values.is_err() && !has_names(inputs, value) {
+        return Err(JsonFault::Shape(here.path(alloc)?));
+    }
+    values
 }
 
 fn read_values(

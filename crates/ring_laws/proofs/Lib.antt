@@ -1,3 +1,4 @@
 mod Typing
+mod Neighbours
 mod Networks
 mod Verdicts

@@ -1,12 +1,12 @@
 -- What is said of each ring, for every number of devices from 3 to 512.
-use Rattle.std.specs.Prelude.{ℕ, ◌≡◌, ◌≤◌, ◌+◌, ◌*◌, length}
+use Rattle.std.specs.Prelude.{ℕ, ◌≡◌, ◌<◌, ◌≤◌, ◌+◌, ◌-◌, ◌*◌, [], ◌∷◌, length}
 use Rattle.fc_syntax.specs.Printable.{IsPrintable}
 use Rattle.fc_types.specs.Before.{declared_by}
 use Rattle.fc_types.specs.Typing.{IsTyped}
 use Rattle.fc_values.specs.declared.limits.TheConstants.{MOST_NODES, MOST_SCENARIO_DEVICES}
 use Rattle.unfold.specs.Nodes.{Nodes}
 use Rattle.unfold.specs.Unfolding.{main_term}
-use Rattle.topology.specs.Networks.{IsNetwork}
+use Rattle.topology.specs.Networks.{IsNetwork, near}
 use Rattle.fc_nodes.specs.declared.verdicts.Verdict.TheVariants as verdict
 use Rattle.fragment_check.specs.Verdicts.{verdict_of}
 use Rattle.scramble.specs.Rings.{ring, ring_declared, ring_program}
@@ -23,11 +23,15 @@ pub record IsRingProgram (count : ℕ) : Type 0 where
 abbrev pub RingsAreTyped : Type 0
 RingsAreTyped = (count : ℕ) → 3 ≤ count → count ≤ MOST_SCENARIO_DEVICES → IsRingProgram count
 
--- a ring is a network of so many devices, with the declarations of its program
+-- A ring is a network of so many devices, with the declarations of its program. The neighbours of a device are the one
+-- before it and the one behind it, where the first comes behind the last
 pub record IsRingNetwork (number count : ℕ) : Type 0 where
   pub network : IsNetwork (ring number count)
   pub devices : length (ring number count).devices ≡ count
   pub declared : (ring number count).declared ≡ (ring_unfolding count).declared
+  pub first : near (ring number count) 0 ≡ (1, 1) ∷ (count - 1, 1) ∷ []
+  pub inner : (d : ℕ) → 0 < d → d + 1 < count → near (ring number count) d ≡ (d - 1, 1) ∷ (d + 1, 1) ∷ []
+  pub last : near (ring number count) (count - 1) ≡ (0, 1) ∷ (count - 2, 1) ∷ []
 
 abbrev pub RingsAreNetworks : Type 0
 RingsAreNetworks = (number count : ℕ) → 3 ≤ count → count ≤ MOST_SCENARIO_DEVICES → IsRingNetwork number count

@@ -29,8 +29,8 @@ in_body x f V = bind x (local_map f) V
 -- is at least 1, as the claim on ranges says of the range of s, the values f solve the body exactly where they solve t
 -- and s has a solution.
 abbrev pub SolvesWithoutRise : Type 0
-SolvesWithoutRise = (N : Network) (D : Devices) (V : ValueMaps) (f : ℕ → LocalValue) (x p : ℕ) (t s : Term) (r : RangeValue)
-    → type_of t ≡ TypeLocal IntType → type_of s ≡ TypeLocal IntType → 1 ≤ least_integer r
+SolvesWithoutRise = (N : Network) (D : Devices) (V : ValueMaps) (f : ℕ → LocalValue) (x p : ℕ) (t s : Term)
+    (r : RangeValue) → type_of t ≡ TypeLocal IntType → type_of s ≡ TypeLocal IntType → 1 ≤ least_integer r
     → ((G : ValueMap) → Solves N (suc p + size t + 1) s D (in_body x f V) G → MapLiesIn D r G)
     → Solves N p (rising_body x t s) D (in_body x f V) (local_map f)
     ↔ (Solves N (suc p) t D (in_body x f V) (local_map f)

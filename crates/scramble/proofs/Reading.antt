@@ -6,8 +6,7 @@ use Rattle.fc_values.specs.Exports.{FlatExport, export_of}
 use Rattle.fc_values.specs.Types.{LocalType, IntType, BoolType, PairType, ValueType}
 use Rattle.fc_values.specs.Values.{LocalValue, Fits, local_of}
 use Rattle.fc_values.specs.BuiltinTypes.{inner}
-use Rattle.fc_nodes.specs.Terms.{Term, Terms, Plain, Apply, Nbr, Evolve, If, Let, NoMore, More, size, Sort, type_of, term_at, HasNode, Laid}
-use Rattle.fc_nodes.specs.declared.nodes.Node.{Node}
+use Rattle.fc_nodes.specs.Terms.{Term, Terms, Plain, Apply, Nbr, Evolve, If, Let, NoMore, More, size, Sort, type_of, term_at, HasNode}
 use Rattle.fc_nodes.specs.Program.{Program, Unfolding, unfolding_of, IsProgram}
 use Rattle.value_trees.specs.KeptExports.{ListsHaveExports}
 use Rattle.value_trees.specs.KeptReads.{Rest, left_by, left_by_all, misfit_of}

@@ -14,7 +14,7 @@ use Rattle.device_eval.proofs.OneExport.{program_export}
 use Rattle.topology.specs.Networks.{Network, numbers, Lives, near, IsNetwork}
 use Rattle.topology.specs.Nearby.{near_numbers}
 use Rattle.topology.proofs.Lemmas.{AllNear, near_fits, near_rises}
-use Rattle.firing_core.specs.Cores.{Map as Table, near_with, near_copies, copy_of}
+use Rattle.firing_core.specs.Cores.{Map, near_with, near_copies, copy_of}
 use Rattle.firing_core.specs.Laws.{CopiesFit}
 use Rattle.converge_laws.specs.CoreLevels.{MaybeAt, GoodTable, Raises}
 use Rattle.converge_laws.specs.StartLevels.{MaybeLevel, TableFrom, Lifts}
@@ -76,7 +76,7 @@ has_value U b None r h =
 
 -- ---- the exports of a table are seen by the seats of a table of bounds
 
-module _ (U : Unfolding) (f : Table TreeExport) where
+module _ (U : Unfolding) (f : Map TreeExport) where
   module _ (table : BoundTable) (D : Declarations) (ds : List ℕ) (within : (d : ℕ) → is_in d ds ≡ true
       → MaybeLies U (table d) (f d)) where
     pub near_seen : (d : ℕ) (ns : List (ℕ × ℕ)) → AllNear D ds d ns → SeenNear (TreeLies U.main)
@@ -121,17 +121,17 @@ module _ (fit : CopiesFit) (P : Program) (N : Network) (program : IsProgram P) (
   U = unfolding_of P
 
   -- the one export of a copy that a begin takes from a good table
-  pub one_of : (f : Table TreeExport) → GoodTable U N f → (d : ℕ) → Lives N d → HasOneExport U (copy_of N f d)
+  pub one_of : (f : Map TreeExport) → GoodTable U N f → (d : ℕ) → Lives N d → HasOneExport U (copy_of N f d)
   one_of f t d l = program_export P (copy_of N f d) program
       (fit U (record { net = N; exports = f; flying = λ e. None }) d
       (record { net = net; declared = same; exports = t; flying = λ e x q. absurd cc }) l)
 
-  typed_of : (f : Table TreeExport) → GoodTable U N f → (d : ℕ) → Lives N d → (e : TreeExport)
+  typed_of : (f : Map TreeExport) → GoodTable U N f → (d : ℕ) → Lives N d → (e : TreeExport)
       → EvaluatesCopy U (copy_of N f d) e → IsWellTyped U e
   typed_of f t d l e v = let one = one_of f t d l in subst (IsWellTyped U) (sym (one.only e v)) one.typed
 
   -- what exports in bounds fire to lies in the bounds that these fire to
-  fires_in : (table : BoundTable) (f : Table TreeExport) → ((n : ℕ) → Lives N n → MaybeLies U (table n) (f n)) → (d : ℕ)
+  fires_in : (table : BoundTable) (f : Map TreeExport) → ((n : ℕ) → Lives N n → MaybeLies U (table n) (f n)) → (d : ℕ)
       → Lives N d → (e : TreeExport) → EvaluatesCopy U (copy_of N f d) e → ExportLies U (fired U N table d) e
   fires_in table f at d l e v =
       let seen : Sees (TreeLies U.main) d (seats_in table N d) (env_of (copy_of N f d)) = record {
@@ -156,7 +156,7 @@ module _ (fit : CopiesFit) (P : Program) (N : Network) (program : IsProgram P) (
       fires = λ j f typed h d l e v i k. by_round j f typed h d l e v i k;
     }
       where
-        by_round : (j : ℕ) (f : Table TreeExport) → GoodTable U N f → TableFrom (WithinFrom U N table) N j f → (d : ℕ)
+        by_round : (j : ℕ) (f : Map TreeExport) → GoodTable U N f → TableFrom (WithinFrom U N table) N j f → (d : ℕ)
             → Lives N d → (e : TreeExport) → EvaluatesCopy U (copy_of N f d) e → (i : ℕ) → i ≤ suc j
             → ExportLies U (rounds_from U N table i d) e
         by_round j f typed h d l e v zero k =

@@ -7,7 +7,7 @@ use Rattle.fc_nodes.specs.Program.{Program, Unfolding, unfolding_of, IsProgram}
 use Rattle.fc_nodes.specs.Flat.{IsWellTyped}
 use Rattle.device_eval.specs.Copies.{HasOneExport}
 use Rattle.topology.specs.Networks.{Network, lives, Lives, IsNetwork}
-use Rattle.firing_core.specs.Cores.{Map as Table, Core, copy_of, GoodExport, IsGood}
+use Rattle.firing_core.specs.Cores.{Map, Core, copy_of, GoodExport, IsGood}
 use Rattle.firing_core.specs.Laws.{CopiesFit}
 use Rattle.converge_laws.specs.CoreLevels.{ExportLevel, MaybeAt, TableAt, GoodTable, Raises}
 use Rattle.converge_laws.specs.StartLevels.{TableFrom}
@@ -23,7 +23,7 @@ use Rattle.settle_rounds.proofs.ReachFrom.{held_start, any_holds}
 
 -- a table of exports within the bounds of a table, and at a level
 record Reaches (start : BoundTable) (R : ExportLevel) (U : Unfolding) (N : Network) (j : ℕ) : Type 0 where
-  pub table : Table TreeExport
+  pub table : Map TreeExport
   pub good : GoodTable U N table
   pub first : TableFrom (WithinFrom U N start) N j table
   pub second : TableAt R N j table

@@ -8,12 +8,12 @@ use Rattle.value_trees.specs.declared.copies.Near.{Near}
 use Rattle.value_trees.specs.Snaps.{tree_of, IsExportOf}
 use Rattle.device_eval.specs.Copies.{EvaluatesCopy}
 use Rattle.topology.specs.Networks.{Network, numbers}
-use Rattle.firing_core.specs.Cores.{Map as Table, copy_of}
+use Rattle.firing_core.specs.Cores.{Map, copy_of}
 use Rattle.firing_core.specs.CoreViews.{slot_at, AllExports}
 use Rattle.interval_facts.specs.Solutions.{SolvesMain}
 
 -- the table that slots stand for, one for each device in the order of the network
-abbrev pub table_of : Unfolding → Network → List (Option Export) → Table TreeExport
+abbrev pub table_of : Unfolding → Network → List (Option Export) → Map TreeExport
 table_of U N xs = slot_at (numbers N.devices) (map (option_map (tree_of U)) xs)
 
 -- a slot for each device, with exports of the program

@@ -207,8 +207,8 @@ impl Draft {
         requires fault { link_fault self.old a b weight ≡ None }
         ensures { self.new ≡ linked self.old a b weight }
     {
-        self.near[at.0] = put_near(&self.near[at.0], b, weight);
-        self.near[at.1] = put_near(&self.near[at.1], a, weight);
+        put_near(&mut self.near[at.0], b, weight);
+        put_near(&mut self.near[at.1], a, weight);
     }
 
     /// Removes the link of two devices. It takes no memory.
@@ -247,8 +247,8 @@ impl Draft {
         requires fault { unlink_fault self.old a b ≡ None }
         ensures { self.new ≡ unlinked self.old a b }
     {
-        self.near[at.0] = drop_near(&self.near[at.0], b);
-        self.near[at.1] = drop_near(&self.near[at.1], a);
+        drop_near(&mut self.near[at.0], b);
+        drop_near(&mut self.near[at.1], a);
     }
 
     /// Why a value can't be put in the place of a device's input.

@@ -67,7 +67,7 @@ pub(crate) fn drop_from_each(near: &mut Vec<Nearby>, device: u32)
     ensures { map items_of near.new.items ≡ map (λ ns. drop_near device ns) (map items_of near.old.items) }
 {
     for one in near.iter_mut() {
-        *one = drop_near(one, device);
+        drop_near(one, device);
     }
 }
 

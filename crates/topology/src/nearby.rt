@@ -34,28 +34,21 @@ pub(crate) fn is_near(near: &Nearby, device: u32) -> bool
     false
 }
 
-/// The neighbours without a device.
-pub(crate) fn drop_near(near: &Nearby, device: u32) -> Nearby
-    ensures { result.items ≡ drop_near device near.now.items }
+/// Removes a device from the neighbours, if it is one.
+pub(crate) fn drop_near(near: &mut Nearby, device: u32)
+    ensures { near.new.items ≡ drop_near device near.old.items }
 {
-    let mut kept = ArrayVec::new();
-    for one in near.as_slice() {
-        if one.0 != device {
-            kept.push(*one);
-        }
-    }
-    kept
+    near.retain(|one| one.0 != device);
 }
 
-/// The neighbours with this one, in place of that of its number or as one more.
-pub(crate) fn put_near(near: &Nearby, device: u32, weight: u32) -> Nearby
-    requires { length (drop_near device near.now.items) < MOST_LINKS }
-    ensures { result.items ≡ insert_near device weight (drop_near device near.now.items) }
+/// Puts a neighbour in place of that of its number, or adds it.
+pub(crate) fn put_near(near: &mut Nearby, device: u32, weight: u32)
+    requires { length (drop_near device near.old.items) < MOST_LINKS }
+    ensures { near.new.items ≡ insert_near device weight (drop_near device near.old.items) }
 {
-    let mut kept = drop_near(near, device);
-    let at = place_near(kept.as_slice(), device);
-    kept.insert(at, (device, weight));
-    kept
+    drop_near(near, device);
+    let at = place_near(near.as_slice(), device);
+    near.insert(at, (device, weight));
 }
 
 // How many neighbours come before a number.

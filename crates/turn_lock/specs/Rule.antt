@@ -1,6 +1,6 @@
 -- The rule: what is always true of the table of a lock.
--- It speaks of one log, and has three parts: tickets, turns and the slot (`LockFacts`); names (`Names`); what passes have
--- seen and written (`Own`).
+-- It speaks of one log, and has three parts: tickets, turns and the slot (`LockFacts`); names (`Names`); what passes
+-- have seen and written (`Own`).
 use Rattle.std.specs.Prelude.{ℕ, ◌≡◌, ◌⊎◌, ◌+◌, ◌<◌, ◌≤◌, true, false, List, [], ◌∷◌, ◌++◌, length, Option, Some}
 use mathlib.Core.Option.{none, some}
 use mathlib.Core.Option as maybe
@@ -57,7 +57,8 @@ Slot {T} {E} list log homes views =
     ⊎ ((id : ℕ) × (v : SeatView E) × At views id v × (v.stage ≡ Has))
 
 -- The tickets, the turns and the slot.
-pub record LockFacts {T E : Type 0} (list : T → List E) (log : List E) (s : State (Option T) (SeatView E)) : Type 0 where
+pub record LockFacts {T E : Type 0} (list : T → List E) (log : List E) (s : State (Option T) (SeatView E))
+    : Type 0 where
   -- the next ticket, and the one that is served
   pub ticket : ℕ
   pub serving : ℕ

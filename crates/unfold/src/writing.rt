@@ -127,7 +127,8 @@ fn write_all(
         ++ places_of (length nodes.old.items)
         (all_unfolded_by (surroundings_of around.now) (length nodes.old.items) (terms (map term_of args.now)))) }
     ensures types { IfOk result (λ _. map type_of types.new.items ≡ map type_of types.old.items
-        ++ types_of (all_unfolded_by (surroundings_of around.now) (length nodes.old.items) (terms (map term_of args.now)))) }
+        ++ types_of
+        (all_unfolded_by (surroundings_of around.now) (length nodes.old.items) (terms (map term_of args.now)))) }
 {
     let [arg, rest @ ..] = args else {
         return Ok(());
@@ -211,7 +212,8 @@ fn write_share(
     requires room { HasRoom nodes.old.items
         (nodes_in (surroundings_of around.now) (ShareTerm (term_of first.now) name.now.text.items (term_of body.now))) }
     ensures long { IfOk result (λ _. IsLonger nodes.old.items nodes.new.items
-        (nodes_in (surroundings_of around.now) (ShareTerm (term_of first.now) name.now.text.items (term_of body.now)))) }
+        (nodes_in (surroundings_of around.now)
+        (ShareTerm (term_of first.now) name.now.text.items (term_of body.now)))) }
     ensures written { IfOk result (λ ty. IsWritten nodes.old.items nodes.new.items ty
         (unfolded_by (surroundings_of around.now) (length nodes.old.items)
         (ShareTerm (term_of first.now) name.now.text.items (term_of body.now)))) }
@@ -245,9 +247,11 @@ fn write_if(
 ) -> Result<Ty, Memory>
     requires inputs { length (known_of around.now.known.now).inputs < 2 ^ 32 }
     requires room { HasRoom nodes.old.items
-        (nodes_in (surroundings_of around.now) (IfTerm (term_of condition.now) (term_of then.now) (term_of other.now))) }
+        (nodes_in (surroundings_of around.now)
+        (IfTerm (term_of condition.now) (term_of then.now) (term_of other.now))) }
     ensures long { IfOk result (λ _. IsLonger nodes.old.items nodes.new.items
-        (nodes_in (surroundings_of around.now) (IfTerm (term_of condition.now) (term_of then.now) (term_of other.now)))) }
+        (nodes_in (surroundings_of around.now)
+        (IfTerm (term_of condition.now) (term_of then.now) (term_of other.now)))) }
     ensures written { IfOk result (λ ty. IsWritten nodes.old.items nodes.new.items ty
         (unfolded_by (surroundings_of around.now) (length nodes.old.items)
         (IfTerm (term_of condition.now) (term_of then.now) (term_of other.now)))) }
@@ -315,8 +319,8 @@ fn write_call(
     ensures long { IfOk result (λ _. IsLonger nodes.old.items nodes.new.items
         (call_nodes_in (surroundings_of around.now) name.now.text.items (terms (map term_of args.now)))) }
     ensures written { IfOk result (λ ty. IsWritten nodes.old.items nodes.new.items ty
-        (call_within (surroundings_of around.now) name.now.text.items (map argument_of given.items) (length nodes.old.items)
-        (terms (map term_of args.now)))) }
+        (call_within (surroundings_of around.now) name.now.text.items (map argument_of given.items)
+        (length nodes.old.items) (terms (map term_of args.now)))) }
 {
     let [arg, rest @ ..] = args else {
         return write_body(alloc, around.known, around.visible, name, &given, nodes);

@@ -1,6 +1,6 @@
-use Rattle.std.proofs.Common.{refl, ap, subst, sym, ◌∙◌}
+use Rattle.std.proofs.Common.{refl, ap, ◌∙◌}
 use Rattle.fc_nodes.specs.Program.{Program, unfolding_of}
-use Rattle.value_trees.specs.Snaps.{snap_copy, IsSnap}
+use Rattle.value_trees.specs.Snaps.{snap_copy}
 use Rattle.firing_core.specs.CoreViews.{core_of}
 use Rattle.answer_tests.proofs.Rooms.{copy_in_flight}
 use Rattle.answer_tests.proofs.books.fire_in.Goals as goal

@@ -1,5 +1,4 @@
 use Rattle.std.proofs.Common.{rules, arith}
-use Rattle.fc_values.specs.Fields.{values_of}
 use Rattle.fc_values.proofs.Inversions.{few_arguments}
 use Rattle.fc_values.proofs.fields.apply_at.Goals as goal
 use Rattle.fc_values.proofs.fields.apply_at.Goals.{in_default-via-then-args-lt1, in_default-via-else-args-lt1+else-args-lt2+else-args-lt3+else-args-lt4}

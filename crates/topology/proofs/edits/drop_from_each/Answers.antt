@@ -7,7 +7,7 @@ use Rattle.topology.proofs.edits.drop_from_each.Goals as goal
 
 pub loop-one-preserved : goal.loop-one-preserved
 loop-one-preserved c =
-    map-set items_of c.loop-one.one-items c.loop-one.one-index c.drop_near.result
+    map-set items_of c.loop-one.one-items c.loop-one.one-index c.drop_near.new.near
     ∙ ap (set (map items_of c.loop-one.one-items) c.loop-one.one-index) (c.drop_near.ensures ∙ ap (λ (v : ArrayVec (ℕ × ℕ)). drop_near c.args.device v.items) (sym c.one-item.is))
     ∙ map_over_more (λ ns. drop_near c.args.device ns) (map items_of c.deref_mut-one-items.result.now) (map items_of c.loop-one.one-items) c.loop-one.one-index c.one-item.result.items
     (omega (arith, length-map c.deref_mut-one-items.result.now items_of, c.loop-one-test.true)) c.loop-one.invariant
