@@ -6,7 +6,8 @@ import os
 import shutil
 import subprocess
 import sys
-from collections.abc import Callable, Sequence
+from collections.abc import Callable, Iterator, Sequence
+from contextlib import contextmanager
 from dataclasses import dataclass
 from pathlib import Path
 
@@ -82,24 +83,40 @@ def joined(sections: Sequence[Section]) -> bytes:
     return bytes_of("%%\n".join([*ended, *(s.text for s in sections[-1:])]))
 
 
+@contextmanager
+def memory(content: bytes = b"") -> Iterator[int]:
+    """A file in memory that has this content and is read from its front, by its descriptor.
+
+    `fc` is given its input as one: it reads all of it however late it starts, and nobody has to write meanwhile.
+    """
+    place = os.memfd_create("fieldc")
+    try:
+        left = memoryview(content)
+        while left:
+            left = left[os.write(place, left) :]
+        os.lseek(place, 0, os.SEEK_SET)
+        yield place
+    finally:
+        os.close(place)
+
+
 def ask(call: Call, waiting: Callable[[], None] | None = None) -> Reply:
     """Runs `fc` on a call to its end, whatever its status.
 
     `waiting` is called about five times a second as long as it runs. What `fc` writes on standard error goes there.
     Raises Fault where `fc` can't be started.
     """
-    content: bytes | None = joined(call.sections)
-    try:
-        process = subprocess.Popen([find(), *call.words], stdin=subprocess.PIPE, stdout=subprocess.PIPE)
-    except OSError as error:
-        raise Fault(f"{find()} can't be run: {error.strerror}") from None
+    with memory(joined(call.sections)) as given:
+        try:
+            process = subprocess.Popen([find(), *call.words], stdin=given, stdout=subprocess.PIPE)
+        except OSError as error:
+            raise Fault(f"{find()} can't be run: {error.strerror}") from None
     try:
         while True:
             try:
-                output, _ = process.communicate(content, timeout=TICK)
+                output, _ = process.communicate(timeout=TICK)
                 return Reply(process.returncode, output)
             except subprocess.TimeoutExpired:
-                content = None
                 if waiting is not None:
                     waiting()
     except BaseException:

@@ -64,14 +64,15 @@ class Done:
     errors: str
 
 
-def fieldc(*words: object, text: str = "", folder: Path | None = None, **variables: str) -> Done:
-    """Runs the command in a process of its own."""
+def fieldc(*words: object, text: str = "", folder: Path | None = None, seconds: float | None = None, **variables: str) -> Done:
+    """Runs the command in a process of its own, for at most so many seconds."""
     environment = dict(os.environ, PYTHONPATH=str(TOP / "python"), **variables)
     if "FC" not in environment and BUILT.exists():
         environment["FC"] = str(BUILT)
     done = subprocess.run(
         [sys.executable, "-B", "-m", "fieldc", *map(str, words)],
         input=text.encode("utf-8", "surrogateescape"), capture_output=True, cwd=folder, env=environment, check=False,
+        timeout=seconds,
     )  # fmt: skip
     errors = done.stderr.decode("utf-8", "replace")
     return Done(done.returncode, done.stdout.decode("utf-8", "surrogateescape"), errors)

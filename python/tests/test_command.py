@@ -205,6 +205,22 @@ class LongWork(InFolder):
         done = fieldc("check", program, scene, FC=self.slow(2))
         self.assertEqual((done.output, done.errors), ("yes 22\n", ""))
 
+    @needs_fc
+    def test_an_fc_that_starts_late_gets_all_of_a_long_input(self) -> None:
+        late = Path(self.file(f"#!/bin/sh\nsleep 0.5\nexec {os.environ['FC']} \"$@\"\n", "fc"))
+        late.chmod(0o755)
+        scene, wanted = self.file(LINE, "line.json"), "0 0\n1 1\n2 2\n"
+        for size in (100 * 1024, 1024 * 1024):
+            front = "//" + "-" * (size - len(f"//\n{HOPS}%%\n{LINE}")) + "\n"
+            program = self.file(front + HOPS, "hops.fc")
+            done = fieldc("stable", program, scene, seconds=60, FC=str(late))
+            self.assertEqual((done.status, done.output, done.errors), (0, wanted, ""), size)
+            asked = "import fieldc, sys; print(*fieldc.stable(*(open(name).read() for name in sys.argv[1:])).values.values())"
+            environment = dict(os.environ, PYTHONPATH=str(TOP / "python"), FC=str(late))
+            words = [sys.executable, "-B", "-c", asked, program, scene]
+            done = subprocess.run(words, capture_output=True, text=True, env=environment, timeout=60, check=True)
+            self.assertEqual(done.stdout, "0 1 2\n", size)
+
     def test_another_program_than_fc(self) -> None:
         done = fieldc("gen", 3, FC=self.slow(0))
         self.assertEqual((done.status, done.output), (2, ""))

@@ -5,8 +5,7 @@ from __future__ import annotations
 import hashlib
 import os
 import time
-from collections.abc import Iterator, Sequence
-from contextlib import contextmanager
+from collections.abc import Sequence
 from dataclasses import dataclass
 from functools import lru_cache
 from pathlib import Path
@@ -106,9 +105,7 @@ def asked(question: Question, seed: int, spent: list[float]) -> Row:
 
 def answer(call: Call, spent: list[float]) -> str:
     """What `fc` writes. Raises Refusal where its status is above 1, and Fault where it can't be run."""
-    with memory() as given, memory() as written:
-        os.write(given, fc.joined(call.sections))
-        os.lseek(given, 0, os.SEEK_SET)
+    with fc.memory(fc.joined(call.sections)) as given, fc.memory() as written:
         ends = [(os.POSIX_SPAWN_DUP2, given, 0), (os.POSIX_SPAWN_DUP2, written, 1)]
         try:
             process = os.posix_spawn(executable(), ["fc", *call.words], environment(), file_actions=ends)
@@ -123,12 +120,3 @@ def answer(call: Call, spent: list[float]) -> str:
         raise Refusal(code, line.split(" ")[0].rstrip(":"), line, call)
     return text
 
-
-@contextmanager
-def memory() -> Iterator[int]:
-    """A file in memory, by its descriptor."""
-    place = os.memfd_create("fieldc")
-    try:
-        yield place
-    finally:
-        os.close(place)
