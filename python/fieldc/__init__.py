@@ -8,8 +8,8 @@
     fieldc.stable(hops, graph).values           # {0: 0, 1: 1, 2: 2}
 
 Each call takes a program's text and a network: a networkx graph with inputs as node attributes and weights as edge
-attributes, a `Network`, or a scene, as a mapping or as JSON. Verdicts, values, rounds and logs come from `fc` alone. What
-`fc` refuses is raised as a `Refusal`, whose `explanation` has the place, and what is no network as a `Fault`.
+attributes, a `Network`, or a scene, as a mapping or as JSON. Verdicts, values, rounds and logs come from `fc` alone.
+What `fc` refuses is raised as a `Refusal`, whose `explanation` has the place, and what is no network as a `Fault`.
 """
 
 from __future__ import annotations

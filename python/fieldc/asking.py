@@ -35,7 +35,9 @@ def add_answers(parser: argparse.ArgumentParser, names: bool = True) -> None:
     """How the answer is written."""
     parser.add_argument("--json", action="store_true", help="writes the answer, and a refusal, as JSON")
     if names:
-        parser.add_argument("--names", metavar="FILE", help="a file of lines id,name: devices are called by these names")
+        parser.add_argument(
+            "--names", metavar="FILE", help="a file of lines id,name: devices are called by these names"
+        )
 
 
 def ask(
@@ -65,9 +67,7 @@ def ask(
     return call, result, reply.status
 
 
-def understood(
-    reader: Callable[[str, Call], results.Result | str], text: str, call: Call
-) -> results.Result | str:
+def understood(reader: Callable[[str, Call], results.Result | str], text: str, call: Call) -> results.Result | str:
     """What `fc` wrote, as a result. Raises Fault where it is no answer of its."""
     try:
         return reader(text, call)

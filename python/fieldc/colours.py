@@ -18,8 +18,9 @@ MAP = "viridis_r"
 class Meaning:
     """What the numbers of a picture are.
 
-    `scale` names the scale, `none` what a device without a value is, which has the colour `bare`; with `resting` a 0 has
-    the colour grey and this meaning. `ceiling` is that of the program, where it is known: it has a colour of its own.
+    `scale` names the scale, `none` what a device without a value is, which has the colour `bare`; with `resting` a 0
+    has the colour grey and this meaning. `ceiling` is that of the program, where it is known: it has a colour of its
+    own.
     """
 
     scale: str = "value"

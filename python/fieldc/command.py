@@ -85,7 +85,8 @@ def released() -> str:
 
 
 def take_rest(options: argparse.Namespace, rest: Sequence[str]) -> None:
-    """Takes files that stand behind an option. Raises Fault where there is another word that the command doesn't know."""
+    """Takes files that stand behind an option. Raises Fault where there is another word that the command doesn't
+    know."""
     wrong = [word for word in rest if not hasattr(options, "files") or (word.startswith("-") and word != "-")]
     if wrong:
         raise Fault(f"{wrong[0]} is no option of it, nor a word that it takes: fieldc {options.command} --help")

@@ -237,7 +237,8 @@ def judged(made: Composition, network: str) -> Refusal | None:
 
 
 def wanting(made: Composition, no: Refusal, name: str) -> str | None:
-    """That a block gets a no with these arguments, and what it needs; nothing where the no isn't known to be a block's."""
+    """That a block gets a no with these arguments, and what it needs; nothing where the no isn't known to be a
+    block's."""
     line = explained(no.call, no).line
     own, block = (0, None) if line is None else made.origin(line)
     if block is None:

@@ -68,7 +68,9 @@ def _links(axes: Any, picture: Picture, frame: Frame) -> None:
     on_walk = [(min(a, b), max(a, b)) in thick for a, b, _ in frame.network.links]
     rows = [(at[a], at[b]) for a, b, _ in frame.network.links]
     colours = [WALK if one else LINK for one in on_walk]
-    axes.add_collection(LineCollection(rows, colors=colours, linewidths=[3 if one else 0.8 for one in on_walk], zorder=1))
+    axes.add_collection(
+        LineCollection(rows, colors=colours, linewidths=[3 if one else 0.8 for one in on_walk], zorder=1)
+    )
 
 
 def area(count: int) -> float:
@@ -107,7 +109,8 @@ def sector(place: int, count: int) -> list[tuple[float, float]]:
 
 
 def _labels(axes: Any, picture: Picture, frame: Frame, scales: Sequence[Scale]) -> None:
-    """The value in each circle, whole, where there are few devices; and the numbers or names beside, where asked for."""
+    """The value in each circle, whole, where there are few devices; and the numbers or names beside, where asked
+    for."""
     from matplotlib.patheffects import withStroke
 
     devices = frame.network.devices
@@ -153,7 +156,9 @@ def _legend(axes: Any, picture: Picture, frame: Frame, scales: Sequence[Scale]) 
     if frame.walks:
         handles.append(Line2D([], [], color=WALK, lw=3, label="least walks"))
     if handles:
-        axes.legend(handles=handles, loc="upper left", bbox_to_anchor=(0, -0.01), ncols=min(len(handles), 4), frameon=False)
+        axes.legend(
+            handles=handles, loc="upper left", bbox_to_anchor=(0, -0.01), ncols=min(len(handles), 4), frameon=False
+        )
 
 
 def _bars(figure: Any, axes: Any, scales: Sequence[Scale]) -> None:

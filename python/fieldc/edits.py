@@ -18,8 +18,9 @@ EDITS = ("link", "unlink", "set", "poke", "join", "leave", "scramble")
 class Moment:
     """The network at a `show` line of a script, or at the end of a log.
 
-    `line` is the number of the `show` line, and nothing at the end of a log. `rounds` is how many rounds the script asked
-    for since its last edit, or since its start where there was none before, which `edited` tells; nothing for a log.
+    `line` is the number of the `show` line, and nothing at the end of a log. `rounds` is how many rounds the script
+    asked for since its last edit, or since its start where there was none before, which `edited` tells; nothing for a
+    log.
     """
 
     line: int | None
@@ -103,8 +104,8 @@ def value(word: str) -> Input:
 def moments(network: Network, text: str, declared: tuple[str, ...]) -> tuple[Moment, ...]:
     """The network at each show of a script, or, where there is none, at the end of the lines as of a log.
 
-    `declared` are the program's inputs in their order, which a `join` line has in that order. Raises Fault, of status 3,
-    where a line can't be taken: `fc` says why.
+    `declared` are the program's inputs in their order, which a `join` line has in that order. Raises Fault, of status
+    3, where a line can't be taken: `fc` says why.
     """
     changing, found = _Changing(network, declared), []
     rounds, edited = 0, False

@@ -1,8 +1,8 @@
-"""Explains what `fc` refuses, and why its verdict is a no: in plain words, with the place, the name that is meant and what
-to try.
+"""Explains what `fc` refuses, and why its verdict is a no: in plain words, with the place, the name that is meant and
+what to try.
 
-An explanation is made by reading the input once more. Where that finds another place or word than `fc`, the explanation is
-what `fc` said, and nothing more.
+An explanation is made by reading the input once more. Where that finds another place or word than `fc`, the explanation
+is what `fc` said, and nothing more.
 """
 
 from __future__ import annotations
@@ -136,7 +136,9 @@ def _script_limit(call: Call, name: str, count: int) -> tuple[Section | None, Sa
         return None, None
     if name == "firings":
         return section, explain_script.limit_firings(section, count, scene)
-    return section, explain_script.limit_lines(section, count) if name == "lines" else explain_script.limit_scrambles(section)
+    return section, explain_script.limit_lines(section, count) if name == "lines" else explain_script.limit_scrambles(
+        section
+    )
 
 
 def _network_limit(call: Call, name: str, count: int) -> tuple[Section | None, Said | None]:
@@ -155,13 +157,21 @@ def _network_limit(call: Call, name: str, count: int) -> tuple[Section | None, S
 
 def _other_limit(call: Call, name: str, count: int) -> Said | None:
     words = {
-        "workers": (f"{count} workers are asked for, and at most 16 may work.", "Write `--workers 16`.", COMMANDS + "#run"),
+        "workers": (
+            f"{count} workers are asked for, and at most 16 may work.",
+            "Write `--workers 16`.",
+            COMMANDS + "#run",
+        ),
         "devices": (
             f"{count} devices are asked for, and a scenario has at most 512.",
             "Write `--devices 512`.",
             COMMANDS + "#gen",
         ),
-        "bytes": ("The input has more than 1,048,576 bytes.", "Take a smaller network, or a shorter log.", FORMATS + "#limits"),
+        "bytes": (
+            "The input has more than 1,048,576 bytes.",
+            "Take a smaller network, or a shorter log.",
+            FORMATS + "#limits",
+        ),
         "mail": (
             f"It would take {count:,} steps, the rounds of the verdict times the sum of the devices and twice the links"
             ", and at most 1,000,000 are made.",

@@ -51,7 +51,9 @@ def shown(found: Json, text: str) -> str:
 
 def not_json(fault: JsonFault) -> Said:
     """What is wrong with a text that is no JSON."""
-    return Said(f"The network isn't JSON: {fault.what[0].lower() + fault.what[1:]}", fault.at, fault.name, fault.hint, SCENE)
+    return Said(
+        f"The network isn't JSON: {fault.what[0].lower() + fault.what[1:]}", fault.at, fault.name, fault.hint, SCENE
+    )
 
 
 def shape(text: str, scene: Json, path: str, program: Unfolded) -> Said | None:
@@ -123,7 +125,9 @@ def _link(text: str, scene: Json, path: str, found: Json, _program: Unfolded) ->
     hint = "Write `[0, 1, 1]`: two devices and the weight of their link."
     if found.kind != "array" or len(found.items) != 3:
         count = f"has {counted(len(found.items), 'item')}" if found.kind == "array" else "is none"
-        return Said(f"A link is an array of three numbers, and {shown(found, text)} {count}.", found.at, None, hint, SCENE)
+        return Said(
+            f"A link is an array of three numbers, and {shown(found, text)} {count}.", found.at, None, hint, SCENE
+        )
     for item in found.items:
         if item.whole is None or item.whole > 1_000_000:
             what = f"A link has whole numbers of at most 1,000,000, and {shown(item, text)} is none of them."
@@ -165,7 +169,8 @@ def _declared(program: Unfolded) -> str:
 def _value(text: str, _scene: Json, path: str, found: Json, _program: Unfolded) -> Said | None:
     if is_value(found):
         return None
-    what = f"A value is a whole number, a truth value or an array of two values, and {shown(found, text)} is none of these."
+    none = f"and {shown(found, text)} is none of these"
+    what = f"A value is a whole number, a truth value or an array of two values, {none}."
     hint = "There are no negative numbers and no fractions." if found.kind == "number" else None
     if found.kind == "string":
         hint = "Values stand without quotes: `true`, `12`."
@@ -195,7 +200,9 @@ def _id(text: str, scene: Json, path: str, found: Json) -> Said | None:
     before = _before(scene, owner, number)
     if before is not None:
         kind = "neighbour" if "/near/" in path else "pending firing" if path.startswith("/pending") else "row"
-        return Said(f"Device {number} has a {kind} already, on line {before.line}.", found.at, str(number), None, NETWORK)
+        return Said(
+            f"Device {number} has a {kind} already, on line {before.line}.", found.at, str(number), None, NETWORK
+        )
     if "/near/" in path:
         return Said(f"Device {number} is no neighbour of itself.", found.at, str(number), None, NETWORK)
     return Said(f"There is no device {number} in this network.", found.at, str(number), "Take it away.", NETWORK)
@@ -242,7 +249,9 @@ def network(text: str, scene: Json, path: str, word: str, program: Unfolded) -> 
         devices = device_numbers(scene)
         missing = next((item for item in found.items[:2] if item.whole not in devices), None)
         if missing is not None:
-            return Said(f"There is no device {missing.whole} in this network.", missing.at, str(missing.whole), None, NETWORK)
+            return Said(
+                f"There is no device {missing.whole} in this network.", missing.at, str(missing.whole), None, NETWORK
+            )
     return None
 
 
@@ -290,7 +299,9 @@ def degree(scene: Json) -> Said | None:
             count[item.whole] = count.get(item.whole, 0) + 1
             if count[item.whole] > MOST_LINKS:
                 total = sum(item.whole in (end.whole for end in other.items[:2]) for other in links.items)
-                what = f"Device {item.whole} has {total} links, and a device has at most {MOST_LINKS}; this is its 33rd."
+                what = (
+                    f"Device {item.whole} has {total} links, and a device has at most {MOST_LINKS}; this is its 33rd."
+                )
                 return Said(what, link.at, str(item.whole), "Keep the 32 nearest neighbours of each device.", NETWORK)
     return None
 

@@ -77,7 +77,9 @@ def _weight(line: Line, kind: str, _net: Net, program: Unfolded) -> Said:
     low, high = program.metric
     if (low, high) == (1, 1):
         hint = "Write 1, or declare a metric in the program, as `metric 1..9;`."
-        return Said(f"Each link weighs 1 in this program, and here it is {word.text}.", word.at, word.text, hint, PAGES[kind])
+        return Said(
+            f"Each link weighs 1 in this program, and here it is {word.text}.", word.at, word.text, hint, PAGES[kind]
+        )
     what = f"The metric of the program is {low} to {high}, and {word.text} is outside."
     return Said(what, word.at, word.text, "Change the weight, or the metric in the program.", PAGES[kind])
 
@@ -128,7 +130,9 @@ def _input_range(line: Line, kind: str, _net: Net, program: Unfolded) -> Said | 
 
 def _twice(line: Line, kind: str, _net: Net, _program: Unfolded) -> Said:
     device, word = devices_of(line)[0]
-    return Said(f"Device {device} is in the network already.", word.at, str(device), "Take another number.", PAGES[kind])
+    return Said(
+        f"Device {device} is in the network already.", word.at, str(device), "Take another number.", PAGES[kind]
+    )
 
 
 def _last(line: Line, kind: str, _net: Net, _program: Unfolded) -> Said:
@@ -260,7 +264,8 @@ def limit_degree(section: Section, kind: str, scene: Json) -> Said | None:
             if not net.linked(ends[0][0], ends[1][0]):
                 for device, word in ends:
                     if len(net.near.get(device, ())) >= MOST_LINKS:
-                        what = f"Device {device} has {MOST_LINKS} links at this line, and a device has at most {MOST_LINKS}."
+                        most = f"and a device has at most {MOST_LINKS}"
+                        what = f"Device {device} has {MOST_LINKS} links at this line, {most}."
                         return Said(what, word.at, str(device), "Take another of its links away before.", PAGES[kind])
         net.step(line)
     return None

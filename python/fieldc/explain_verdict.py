@@ -1,4 +1,5 @@
-"""Explains a `no PLACE REASON`: which `rep` or `share` it is, how `main` comes to it, and which part of it is to blame."""
+"""Explains a `no PLACE REASON`: which `rep` or `share` it is, how `main` comes to it, and which part of it is to
+blame."""
 
 from __future__ import annotations
 
@@ -93,16 +94,24 @@ class Verdict:
         heard, name = self.heard(blame), self.nodes[blame.place].name
         part = self.part(blame.part)
         if blame.case == "-":
-            hint = f"Add to what is heard, as `{heard} + 1`, and subtract outside of the `{self.nodes[blame.place].form}`."
+            hint = (
+                f"Add to what is heard, as `{heard} + 1`, and subtract outside of the `{self.nodes[blame.place].form}`."
+            )
             return f"what it hears may shrink from neighbour to neighbour, by {part}", hint
         if blame.case == "without":
             hint = "Move it into the second argument of `minHoodLoc`."
             return f"{part}, stands beside what it hears, and doesn't grow from neighbour to neighbour", hint
         if blame.case == "no-integer":
             hint = "Keep a pair whose first part is an integer that grows, as a hop count."
-            return f"what it hears, {part}, is of type `{self.nodes[blame.part].type.local}`, and only an integer grows", hint
+            return (
+                f"what it hears, {part}, is of type `{self.nodes[blame.part].type.local}`, and only an integer grows",
+                hint,
+            )
         if blame.case == "times-zero":
-            return f"what it hears may be multiplied by 0, in {part}", "Multiply by what is at least 1, such as `max(1, ..)`."
+            return (
+                f"what it hears may be multiplied by 0, in {part}",
+                "Multiply by what is at least 1, such as `max(1, ..)`.",
+            )
         if blame.case == "twice":
             hint = f"Write `{heard}` once: in place of a sum of two, `2 * {heard}`."
             return f"what it hears stands on both sides of {part}", hint
@@ -120,7 +129,10 @@ class Verdict:
         if blame.case == "weights":
             low = self.program.metric[0]
             if low == 0:
-                return f"{why}, as links may weigh 0", "Declare a metric from 1 on, as `metric 1..9;`, or add 1 besides."
+                return (
+                    f"{why}, as links may weigh 0",
+                    "Declare a metric from 1 on, as `metric 1..9;`, or add 1 besides.",
+                )
         if blame.case == "plain":
             return why, f"Add 1: `{self.heard(blame)} + 1`."
         return why, "Add what is at least 1: a number, or `nbrLink` with a metric from 1 on."
@@ -178,7 +190,8 @@ class Verdict:
         return {
             "maxHoodLoc": (
                 f"{part}, takes a greatest value, which may be handed round for ever",
-                f"Take a least value that grows: `minHoodLoc({heard} + 1, ..)`; or collect along a potential, behind guards.",
+                f"Take a least value that grows: `minHoodLoc({heard} + 1, ..)`; "
+                "or collect along a potential, behind guards.",
             ),
             "minHoodLoc": (
                 f"{part}, isn't the whole body, and what is done with it is of no known form",

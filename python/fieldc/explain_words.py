@@ -104,7 +104,9 @@ def _no_number(word: str, value: str) -> Said | None:
 
 
 def _strange_word(command: str, word: str) -> Said:
-    hint = "fc reads its input from standard input; `fieldc` takes files by name." if not NUMBER.fullmatch(word) else None
+    hint = (
+        "fc reads its input from standard input; `fieldc` takes files by name." if not NUMBER.fullmatch(word) else None
+    )
     return Said(f"`{command}` takes no word `{word}`.", None, word, hint, CALLS)
 
 
@@ -117,6 +119,7 @@ def wrong_sections(words: tuple[str, ...], count: int) -> Said | None:
     if wanted is None:
         return None
     names = " and ".join(", ".join(wanted).rsplit(", ", 1))
-    what = f"`{command}` takes {counted(len(wanted), 'section')}, {names}, and {count} {'is' if count == 1 else 'are'} given."
+    given = f"{count} {'is' if count == 1 else 'are'} given"
+    what = f"`{command}` takes {counted(len(wanted), 'section')}, {names}, and {given}."
     hint = "Two sections are parted by a line that is exactly `%%`."
     return Said(what, None, command, hint, FORMATS + "#the-input")

@@ -1,4 +1,5 @@
-"""Networks from real files: positions as separated values, GraphML, GML, lists of links; and the files beside a scene."""
+"""Networks from real files: positions as separated values, GraphML, GML, lists of links; and the files beside a
+scene."""
 
 from __future__ import annotations
 
@@ -44,7 +45,8 @@ def text_of_file(name: str) -> str:
 
 
 def points(name: str, program: str | None = None, inputs: Sequence[str] | None = None) -> Points:
-    """The positions of a file of rows `id x y` and further columns, parted by commas, semicolons, tabs, bars, colons or spaces.
+    """The positions of a file of rows `id x y` and further columns, parted by commas, semicolons, tabs, bars, colons or
+    spaces.
 
     A row of names may stand first; with it the columns may stand in any order, and further ones are inputs: those that
     `program` declares or `inputs` names, else all. Raises Fault, of status 3, with the line that is at fault.
@@ -62,9 +64,7 @@ def points(name: str, program: str | None = None, inputs: Sequence[str] | None =
     for line, row in body:
         device, where = number[row[at]], f"{name} line {line}"
         positions[device] = (finite(row[x], f"{where}: x"), finite(row[y], f"{where}: y"))
-        found[device] = {
-            word: _input(row[header.index(word)], f"{where}: {word}", wanted, word) for word in taken
-        }
+        found[device] = {word: _input(row[header.index(word)], f"{where}: {word}", wanted, word) for word in taken}
     return Points(dict(sorted(positions.items())), names, dict(sorted(found.items())), left_out)
 
 
@@ -203,7 +203,8 @@ def beside(name: str, part: str) -> str:
 
 
 def graph(name: str) -> Any:
-    """The networkx graph of a file in GraphML or GML, or of a list of links. Raises Fault, of status 3, for any other."""
+    """The networkx graph of a file in GraphML or GML, or of a list of links. Raises Fault, of status 3, for any
+    other."""
     text = text_of_file(name)
     try:
         import networkx
@@ -225,8 +226,8 @@ def graph(name: str) -> Any:
 def listed(name: str, text: str) -> Any:
     """The graph of a list of links: lines `a b`, `a b weight` or `a b {'weight': 2}`, as networkx writes them.
 
-    Words may be parted by spaces, tabs, commas or semicolons. Lines that begin with `#`, and a first line of names such as
-    `source,target,weight`, are skipped. Raises Fault, of status 3, with the line that is at fault.
+    Words may be parted by spaces, tabs, commas or semicolons. Lines that begin with `#`, and a first line of names such
+    as `source,target,weight`, are skipped. Raises Fault, of status 3, with the line that is at fault.
     """
     import networkx
 
@@ -275,8 +276,8 @@ def network(
     rounds: bool = False,
     undirected: bool = False,
 ) -> Network:
-    """The network of a graph's file: node attributes are inputs, those that `inputs` names or `program` declares, else all
-    but positions and names. In GML, which has no truth values, 0 and 1 stand for those that `program` declares.
+    """The network of a graph's file: node attributes are inputs, those that `inputs` names or `program` declares, else
+    all but positions and names. In GML, which has no truth values, 0 and 1 stand for those that `program` declares.
 
     Raises Fault, of status 3, with what is wrong.
     """

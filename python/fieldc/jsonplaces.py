@@ -15,7 +15,14 @@ WORD = re.compile(r"[A-Za-z_][A-Za-z0-9_]*|[^\s,\[\]{}:\"]+|.", re.DOTALL)
 LETTERS = re.compile(r"[-+.0-9A-Za-z_]*")
 NAME = re.compile(r"[^\s:,{}]*")
 LITERALS = {"true": True, "false": False, "null": None}
-STRANGE = {"True": "true", "False": "false", "None": "null", "NaN": "a number", "Infinity": "a number", "nan": "a number"}
+STRANGE = {
+    "True": "true",
+    "False": "false",
+    "None": "null",
+    "NaN": "a number",
+    "Infinity": "a number",
+    "nan": "a number",
+}
 ESCAPES = {'"': '"', "\\": "\\", "/": "/", "b": "\b", "f": "\f", "n": "\n", "r": "\r", "t": "\t"}
 DEEPEST = 127
 
@@ -25,8 +32,8 @@ class Json:
     """A value with its place.
 
     `kind` is object, array, number, string, truth or null. `value` is that of a number (whole or not), string or truth
-    value. `members` are those of an object by name, `items` those of an array, `keys` the places of the names. `start` and
-    `end` are offsets in the text.
+    value. `members` are those of an object by name, `items` those of an array, `keys` the places of the names. `start`
+    and `end` are offsets in the text.
     """
 
     kind: str
@@ -72,7 +79,9 @@ class _Reader:
             self.place += 1
         return self.text[self.place : self.place + 1]
 
-    def fault(self, what: str, name: str | None = None, hint: str | None = None, offset: int | None = None) -> JsonFault:
+    def fault(
+        self, what: str, name: str | None = None, hint: str | None = None, offset: int | None = None
+    ) -> JsonFault:
         return JsonFault(what, self.at(self.place if offset is None else offset), name, hint)
 
     def ended(self, kind: str, start: int) -> JsonFault:
@@ -109,13 +118,17 @@ class _Reader:
         if word in STRANGE:
             raise self.fault(f"`{word}` isn't a word of JSON.", word, f"Write {_code(STRANGE[word])}.")
         if word[0] == "'":
-            raise self.fault("A text of JSON stands in double quotes, and this one in single ones.", None, 'Write `"src"`.')
+            raise self.fault(
+                "A text of JSON stands in double quotes, and this one in single ones.", None, 'Write `"src"`.'
+            )
         if word.startswith(("//", "/*", "#")):
             raise self.fault("JSON has no comments.", None, "Take it away.")
         if word[0] in "+." or word[0].isdigit():
             raise self.fault(f"`{word}` isn't a number of JSON.", word, "Numbers are written as `12`.")
         if word[0] in "]},:":
-            raise self.fault(f"A value is expected here, and there is `{word[0]}`.", None, _comma_hint(self.text, start))
+            raise self.fault(
+                f"A value is expected here, and there is `{word[0]}`.", None, _comma_hint(self.text, start)
+            )
         if word[0] == "\ufeff":
             raise self.fault("The text begins with a byte order mark.", None, "Save it as UTF-8 without one.")
         raise self.fault(f"`{_shown(word)}` isn't a value of JSON.", word, "A name or a text stands in double quotes.")
@@ -147,8 +160,12 @@ class _Reader:
                 return "".join(found)
             if sign < " ":
                 place = self.at(start)
-                what = f"The text that begins on line {place.line}, column {place.column}, goes over the end of its line."
-                raise self.fault(what, None, 'Close it by `"`.') if sign in "\r\n" else self.fault("A text of JSON has no such character.")
+                what = (
+                    f"The text that begins on line {place.line}, column {place.column}, goes over the end of its line."
+                )
+                raise self.fault(what, None, 'Close it by `"`.') if sign in "\r\n" else self.fault(
+                    "A text of JSON has no such character."
+                )
             if "\udc80" <= sign <= "\udcff":
                 raise self.fault("This isn't UTF-8.", None, "Save the file as UTF-8.")
             found.append(self.escape() if sign == "\\" else sign)
@@ -237,7 +254,9 @@ def _shown(word: str) -> str:
 
 
 def _comma_hint(text: str, offset: int) -> str | None:
-    return "Take one of the commas away." if text[:offset].rstrip(SPACES).endswith(",") and text[offset] == "," else None
+    return (
+        "Take one of the commas away." if text[:offset].rstrip(SPACES).endswith(",") and text[offset] == "," else None
+    )
 
 
 def read(text: str, first_line: int = 1) -> Json:
@@ -248,7 +267,9 @@ def read(text: str, first_line: int = 1) -> Json:
     found = reader.value(0)
     sign = reader.spaces()
     if sign in ("}", "]"):
-        raise reader.fault(f"This `{sign}` closes nothing.", sign, "Take it away, or look for one that stands too early.")
+        raise reader.fault(
+            f"This `{sign}` closes nothing.", sign, "Take it away, or look for one that stands too early."
+        )
     if sign != "":
         raise reader.fault("More text stands behind the end of the value.", None, "A line `%%` parts two sections.")
     return found

@@ -78,7 +78,9 @@ def kept_fault(text: str, found: Json, place: int, pairs: bool, program: Unfolde
 def part(node: Node, program: Unfolded) -> str:
     """A kept place in words: its number, its text and where that stands."""
     at = node.expr.at
-    return f"place {node.place}, {quoted(program.text, node.expr)} on line {at.line}, column {at.column}, of the program"
+    return (
+        f"place {node.place}, {quoted(program.text, node.expr)} on line {at.line}, column {at.column}, of the program"
+    )
 
 
 def too_many(count: int) -> str:

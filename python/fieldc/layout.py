@@ -1,7 +1,8 @@
 """Places for the devices of a network that has no positions, so that hops are about as long as they are many.
 
 Each part of the network is laid out by stress majorization over the hops between its devices: it begins with the two
-directions in which the hops differ most, and moves all devices until distances fit the hops. Parts are put side by side.
+directions in which the hops differ most, and moves all devices until distances fit the hops. Parts are put side by
+side.
 """
 
 from __future__ import annotations

@@ -89,8 +89,8 @@ def run(
 ) -> results.Ran:
     """Runs a script, given as a text or as lines: rounds on so many threads, edits, rubbish, and what is shown.
 
-    Each show has the rounds that the script asked for since its last edit. With `log` the steps that were taken come too,
-    and with `table` what the devices have published. Raises Refusal.
+    Each show has the rounds that the script asked for since its last edit. With `log` the steps that were taken come
+    too, and with `table` what the devices have published. Raises Refusal.
     """
     words = ["run", "--workers", str(workers), *flags(log=log, table=table)]
     text = text_of(script)
@@ -116,9 +116,7 @@ def replay(
     return results.replayed(_answer(words, program=program, network=scene_of(network, program), log=text_of(log)))
 
 
-def mail(
-    program: str, network: Networks, log: Lines | None = None, *, number: int | None = None
-) -> results.Mailed:
+def mail(program: str, network: Networks, log: Lines | None = None, *, number: int | None = None) -> results.Mailed:
     """What each device holds after a mail log, or, where the verdict is a yes, after one that is made from a number.
 
     Raises Refusal, and ValueError where not one of `log` and `number` is given.

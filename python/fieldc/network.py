@@ -1,4 +1,5 @@
-"""Networks: devices with inputs, weighted links, positions and names; made by a rule, from a graph, or read from a scene."""
+"""Networks: devices with inputs, weighted links, positions and names; made by a rule, from a graph, or read from a
+scene."""
 
 from __future__ import annotations
 
@@ -29,8 +30,8 @@ Pair = tuple[int, int]
 class Declared:
     """What a program declares of its network.
 
-    `inputs` has for each input its least and greatest value, or nothing for a truth value; `metric` the least and greatest
-    weight of a link. It is read from the words of the declarations alone; `fc` judges the program.
+    `inputs` has for each input its least and greatest value, or nothing for a truth value; `metric` the least and
+    greatest weight of a link. It is read from the words of the declarations alone; `fc` judges the program.
     """
 
     inputs: Mapping[str, Pair | None]
@@ -42,9 +43,9 @@ class Declared:
 class Network:
     """A network.
 
-    `inputs` has each device, rising, with its inputs; `links` each link once as `(a, b, weight)`. `positions` are there for
-    all devices or for none; `names` are what the devices were called in the file or graph, where these were no numbers.
-    `state` may have the `table` and the `pending` firings of a scene, as they stand in its JSON.
+    `inputs` has each device, rising, with its inputs; `links` each link once as `(a, b, weight)`. `positions` are there
+    for all devices or for none; `names` are what the devices were called in the file or graph, where these were no
+    numbers. `state` may have the `table` and the `pending` firings of a scene, as they stand in its JSON.
     """
 
     inputs: Mapping[int, Mapping[str, Input]]
@@ -67,7 +68,8 @@ class Network:
         return {self.called(device): value for device, value in values.items()}
 
     def scene(self) -> str:
-        """The scene in JSON, with a line for each device and link, and one for its table and for its pending firings."""
+        """The scene in JSON, with a line for each device and link, and one for its table and for its pending
+        firings."""
         short = lambda part: json.dumps(part, separators=(",", ":"))  # noqa: E731
         in_lines = lambda items: "[\n  " + ",\n  ".join(items) + "]" if items else "[]"  # noqa: E731
         devices = in_lines([json.dumps({"id": device, "inputs": dict(own)}) for device, own in self.inputs.items()])
@@ -144,7 +146,9 @@ def input_of(value: Any, where: str) -> Input:
     """A value of an input of which nothing is declared. Raises Fault, which names `where`, if it can't be one."""
     found = plain(value)
     if not isinstance(found, int) or not 0 <= found <= GREATEST_NUMBER:
-        raise Fault(f"{where} is {value!r}, and an input is true, false or a whole number from 0 to {GREATEST_NUMBER:,}", 3)
+        raise Fault(
+            f"{where} is {value!r}, and an input is true, false or a whole number from 0 to {GREATEST_NUMBER:,}", 3
+        )
     return found
 
 
@@ -162,7 +166,9 @@ def weight_of(value: Any, where: str, rounds: bool = False, span: Pair = (0, GRE
     if isinstance(found, bool) or not isinstance(found, numbers.Real) or not math.isfinite(found):
         raise Fault(f"{where} weighs {value!r}, which is no number", 3)
     if found != int(found) and not rounds:
-        raise Fault(f"{where} weighs {value!r}, and a weight is a whole number: round it (--round), or scale the weights", 3)
+        raise Fault(
+            f"{where} weighs {value!r}, and a weight is a whole number: round it (--round), or scale the weights", 3
+        )
     if not span[0] <= round(found) <= span[1]:
         raise Fault(f"{where} weighs {value!r}, and a weight is from {span[0]:,} to {span[1]:,}", 3)
     return round(found)
@@ -186,11 +192,11 @@ def from_graph(
 
     Nodes are devices, by their own numbers or numbered in their order. Node attributes are inputs: those that `program`
     declares, or, without a program, all but positions (`x` and `y`, or `pos`) and names. The edge attribute `weight` is
-    the weight of a link, 1 where no edge has it; `rounds` rounds weights. With `undirected` the edges of a directed graph
-    are links both ways.
+    the weight of a link, 1 where no edge has it; `rounds` rounds weights. With `undirected` the edges of a directed
+    graph are links both ways.
 
-    Raises Fault, of status 3, where an input is missing or of another type, an edge leads from a node to itself, two edges
-    join the same nodes, or some edges have a weight and others none.
+    Raises Fault, of status 3, where an input is missing or of another type, an edge leads from a node to itself, two
+    edges join the same nodes, or some edges have a weight and others none.
     """
     number, names = numbered(list(graph.nodes))
     wanted = declared(program) if program is not None else None
@@ -288,7 +294,9 @@ def judged(network: Network, program: str) -> Network:
         called = network.called(device)
         for name, span in wanted.inputs.items():
             if name not in own:
-                raise Fault(f"device {called} has no {name}, which the program declares as an input: --set {name}=VALUE", 3)
+                raise Fault(
+                    f"device {called} has no {name}, which the program declares as an input: --set {name}=VALUE", 3
+                )
             fitting(own[name], span, f"{name} of device {called}")
         for name in own:
             if name not in wanted.inputs:

@@ -1,9 +1,9 @@
 """Why a network stays open: looks for two starts from which the devices come to rest at different values.
 
-Everything is run by `fc`. A rest is a table of exports that a round in which all begin before one ends leaves as it is: then
-no firing changes anything, in whatever order. Two rests with different values are evidence that the program doesn't settle
-on this network, and so is a round that comes back after two to where it was with other values in between. Both are given
-to `fc` once more as they are written to files. That nothing is found says nothing.
+Everything is run by `fc`. A rest is a table of exports that a round in which all begin before one ends leaves as it is:
+then no firing changes anything, in whatever order. Two rests with different values are evidence that the program
+doesn't settle on this network, and so is a round that comes back after two to where it was with other values in
+between. Both are given to `fc` once more as they are written to files. That nothing is found says nothing.
 """
 
 from __future__ import annotations
@@ -30,7 +30,11 @@ MOST_BYTES = 1_000_000
 MOST_FIRINGS = 100_000
 NUMBERS = (1, 2, 3, 4)
 SHOWN = 8
-TOGETHER, IN_TURN, BACKWARDS = "all begin before one ends", "one after the other", "one after the other, from the last on"
+TOGETHER, IN_TURN, BACKWARDS = (
+    "all begin before one ends",
+    "one after the other",
+    "one after the other, from the last on",
+)
 ORDERS = (TOGETHER, IN_TURN, BACKWARDS)
 PAGE = "docs/settle.md"
 
@@ -39,9 +43,9 @@ PAGE = "docs/settle.md"
 class Rest:
     """Where the devices came to rest.
 
-    `start` says what they held at first, `order` in which order they fired, and `rounds` how many rounds it took at most.
-    `values` is what they hold, and `text` an input of `fc replay` that shows it: its log ends with a round that changes
-    nothing.
+    `start` says what they held at first, `order` in which order they fired, and `rounds` how many rounds it took at
+    most. `values` is what they hold, and `text` an input of `fc replay` that shows it: its log ends with a round that
+    changes nothing.
     """
 
     start: str
@@ -55,8 +59,8 @@ class Rest:
 class Swing:
     """A start from which the devices get to where two rounds lead back, with other values in between.
 
-    In these rounds all begin before one ends. `text` is an input of `fc replay` with one of them, after which the devices
-    hold `after`; a second one leads back to `before`.
+    In these rounds all begin before one ends. `text` is an input of `fc replay` with one of them, after which the
+    devices hold `after`; a second one leads back to `before`.
     """
 
     start: str
@@ -201,8 +205,8 @@ def look(
 ) -> Openness:
     """Looks for two rests with different values, from several tables and by several orders.
 
-    With `from_table` all starts are the table and the pending firings of the network, and only the orders differ. Raises
-    Refusal where `fc` refuses program or network.
+    With `from_table` all starts are the table and the pending firings of the network, and only the orders differ.
+    Raises Refusal where `fc` refuses program or network.
     """
     search = Search(program, scene, waiting)
     tried: list[Attempt] = []

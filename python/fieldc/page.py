@@ -1,4 +1,5 @@
-"""A page of HTML that shows the frames of a picture one after the other: a slider, a play button, and device numbers."""
+"""A page of HTML that shows the frames of a picture one after the other: a slider, a play button, and device
+numbers."""
 
 from __future__ import annotations
 
@@ -24,7 +25,8 @@ PAGE = """<!doctype html>
  .last circle {{ stroke: #d6381e; stroke-width: 3 }}
  text {{ text-anchor: middle; stroke-width: 0; dominant-baseline: central; pointer-events: none }}
  .mixed text.value {{ paint-order: stroke; stroke-width: 1.5px }}
- text.number {{ text-anchor: start; fill: #404040; visibility: hidden }} svg.numbered text.number {{ visibility: visible }}
+ text.number {{ text-anchor: start; fill: #404040; visibility: hidden }}
+ svg.numbered text.number {{ visibility: visible }}
  .away {{ display: none }}
  #slider {{ width: 100%; margin: 0 }}
  .swatch {{ display: inline-block; width: 1em; height: 1em; border: 1px solid #555; margin: 0 .3em 0 1em }}
@@ -116,7 +118,8 @@ def _script(data: Any) -> str:
 
 
 def _network(picture: Picture, sectors: int) -> tuple[str, float]:
-    """All devices and links of all frames as SVG, which the script shows, hides and colours; and the radius of a device."""
+    """All devices and links of all frames as SVG, which the script shows, hides and colours; and the radius of a
+    device."""
     devices, links = everywhere(picture)
     xs, ys = zip(*(picture.places[device] for device in devices))
     scale = 900 / (max(max(xs) - min(xs), max(ys) - min(ys)) or 1)
@@ -139,7 +142,8 @@ def _network(picture: Picture, sectors: int) -> tuple[str, float]:
             f'<g class="device{last}" data-id="{device}" transform="translate({x:.1f},{y:.1f})">'
             f"<title>device {html.escape(names[device])}</title>{''.join(paths)}"
             f'<circle r="{radius:.1f}"/><text class="value"></text>'
-            f'<text class="number" x="{radius * 0.8:.1f}" y="{-radius * 0.9:.1f}" font-size="{max(radius * 0.6, 5):.1f}">'
+            f'<text class="number" x="{radius * 0.8:.1f}" y="{-radius * 0.9:.1f}" '
+            f'font-size="{max(radius * 0.6, 5):.1f}">'
             f"{html.escape(names[device])}</text></g>"
         )
     return "\n".join([*parts, "</svg>"]), radius
@@ -158,9 +162,7 @@ def _disk(radius: float) -> str:
     return f'<path d="M-{r},0 A{r},{r} 0 1 1 {r},0 A{r},{r} 0 1 1 -{r},0 Z"/>'
 
 
-def _shows(
-    picture: Picture, scales: Sequence[Scale]
-) -> tuple[list[list[Any]], list[list[int]], list[dict[str, Any]]]:
+def _shows(picture: Picture, scales: Sequence[Scale]) -> tuple[list[list[Any]], list[list[int]], list[dict[str, Any]]]:
     """The looks of devices and the sets of links that aren't there, each once, and the frames by their numbers.
 
     A device that isn't there has the look -1.

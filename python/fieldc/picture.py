@@ -18,7 +18,8 @@ LINES_OF_A_RUN = ("run", "mix", "show", "scramble")
 
 @dataclass(frozen=True)
 class Frame:
-    """One view of a network: its title, the network as it is then, values by device, and least walks where there are some."""
+    """One view of a network: its title, the network as it is then, values by device, and least walks where there are
+    some."""
 
     title: str
     network: Network
@@ -30,8 +31,8 @@ class Frame:
 class Picture:
     """All that is drawn: frames over the same places, what their numbers mean, and which devices have a border.
 
-    `last` are devices with a red border, of which `said` tells; `marks` are inputs whose devices have a thick border where
-    they are true.
+    `last` are devices with a red border, of which `said` tells; `marks` are inputs whose devices have a thick border
+    where they are true.
     """
 
     frames: tuple[Frame, ...]
@@ -56,9 +57,9 @@ class Picture:
 def gathered(program: str | None, network: Network, lines: str | None, answer: str | None) -> Picture:
     """The picture of a network and what `fc` answered of it, without places.
 
-    `program` is the program's text, where there is one, `lines` the script or log that `answer` belongs to. Raises Fault,
-    of status 3, where the answer isn't of this network, or a script is missing without which it can't be told which
-    network a show is of.
+    `program` is the program's text, where there is one, `lines` the script or log that `answer` belongs to. Raises
+    Fault, of status 3, where the answer isn't of this network, or a script is missing without which it can't be told
+    which network a show is of.
     """
     ceiling = declared(program).ceiling if program is not None else None
     inputs = tuple(declared(program).inputs) if program is not None else ()
@@ -160,7 +161,8 @@ def everywhere(picture: Picture) -> tuple[list[int], list[tuple[int, int]]]:
 
 
 def at_places(picture: Picture, positions: Mapping[int, Position] | None) -> Picture:
-    """The picture with places: positions of all its devices, or a layout of its own. Raises Fault where one is missing."""
+    """The picture with places: positions of all its devices, or a layout of its own. Raises Fault where one is
+    missing."""
     devices, links = everywhere(picture)
     if positions is None:
         return replace(picture, places=laid_out(devices, links))

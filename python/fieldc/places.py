@@ -19,7 +19,8 @@ MAIL = FORMATS + "#the-mail-log"
 
 @dataclass(frozen=True)
 class Said:
-    """What is said of one section: a sentence, its place in the user's file, the name that is meant, a hint and a page."""
+    """What is said of one section: a sentence, its place in the user's file, the name that is meant, a hint and a
+    page."""
 
     what: str
     at: At | None = None

@@ -1,4 +1,5 @@
-"""A line on standard error that says, above a second and on a terminal, what is being done and how long it has taken."""
+"""A line on standard error that says, above a second and on a terminal, what is being done and how long it has
+taken."""
 
 from __future__ import annotations
 
@@ -22,8 +23,8 @@ PATIENCE = 1.0
 class Progress:
     """Shows the line while it is called now and then, and takes it away at the end.
 
-    `what` says what is done; it is asked once, when the line first shows. With `ticking` a thread calls it, for work that
-    can't.
+    `what` says what is done; it is asked once, when the line first shows. With `ticking` a thread calls it, for work
+    that can't.
     """
 
     def __init__(self, what: Callable[[], str], ticking: bool = False, stream: TextIO | None = None) -> None:
@@ -44,7 +45,9 @@ class Progress:
             self._ticker.start()
         return self
 
-    def __exit__(self, kind: type[BaseException] | None, error: BaseException | None, trace: TracebackType | None) -> None:
+    def __exit__(
+        self, kind: type[BaseException] | None, error: BaseException | None, trace: TracebackType | None
+    ) -> None:
         self._over.set()
         if self._ticker is not None:
             self._ticker.join()
@@ -66,7 +69,8 @@ class Progress:
 
 
 def described(call: Call) -> str:
-    """What a call does, in a few words: its words, and how many devices, nodes and rounds it has, as far as is known."""
+    """What a call does, in a few words: its words, and how many devices, nodes and rounds it has, as far as is
+    known."""
     parts = [" ".join(["fc", *call.words])]
     texts = {section.kind: section.text for section in call.sections}
     counts = [_devices(texts.get("network", "")), _nodes(texts.get("program", "")), _rounds(call, texts)]

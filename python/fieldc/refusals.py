@@ -26,8 +26,8 @@ class Fault(Exception):
 class Section:
     """One section of an input.
 
-    `kind` is "program", "network", "script" or "log"; `name` is the file as the user typed it, "-" for standard input, or
-    "" for a text that came from no file; `first_line` is the line of that file on which the section begins, from 1.
+    `kind` is "program", "network", "script" or "log"; `name` is the file as the user typed it, "-" for standard input,
+    or "" for a text that came from no file; `first_line` is the line of that file on which the section begins, from 1.
     """
 
     kind: str
@@ -48,8 +48,9 @@ class Call:
 class Explanation:
     """A refusal, or the reason of a no, in plain words.
 
-    `what` is one plain sentence. `section`, `line` and `column` are the place, `line` in the user's file and both from 1;
-    `name` is the name that is meant, `hint` what to try, and `page` where to read on. Each but `what` may be missing.
+    `what` is one plain sentence. `section`, `line` and `column` are the place, `line` in the user's file and both from
+    1; `name` is the name that is meant, `hint` what to try, and `page` where to read on. Each but `what` may be
+    missing.
     """
 
     what: str
@@ -65,9 +66,9 @@ class Explanation:
 class Refusal(Exception):
     """An answer of `fc` with a status above 1.
 
-    `status` is that of `fc` (2 to 7), `line` the whole line that it wrote ("" where it wrote none), `word` the first word of
-    that line, and `call` what was asked. It isn't frozen, as Python itself sets an exception's traceback; nobody else
-    changes it.
+    `status` is that of `fc` (2 to 7), `line` the whole line that it wrote ("" where it wrote none), `word` the first
+    word of that line, and `call` what was asked. It isn't frozen, as Python itself sets an exception's traceback;
+    nobody else changes it.
     """
 
     status: int

@@ -128,7 +128,8 @@ class Replayed:
 
 @dataclass(frozen=True)
 class Mailed:
-    """What the devices hold after a mail log, and its rounds. `verdict` is that of a log that was made from a number."""
+    """What the devices hold after a mail log, and its rounds. `verdict` is that of a log that was made from a
+    number."""
 
     values: Values
     rounds: int | None

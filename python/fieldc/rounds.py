@@ -79,8 +79,8 @@ def curves(
 ) -> list[Curve]:
     """The curves of some numbers, made by as many processes as there are processors.
 
-    `waiting` is called about five times a second with how many are done. Raises Fault where so many rounds can't be drawn,
-    and Refusal.
+    `waiting` is called about five times a second with how many are done. Raises Fault where so many rounds can't be
+    drawn, and Refusal.
     """
     if not 1 <= rounds <= MOST_ROUNDS:
         raise Fault(f"{rounds} rounds, and 1 to {MOST_ROUNDS:,} are drawn: choose --rounds")

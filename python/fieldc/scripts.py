@@ -32,7 +32,11 @@ LINES = {
     "mail": {"B": "B3", "E": "E3", "I": "I", "deliver": "deliver A B", "again": "again A B", "lose": "lose A B I"},
 }
 TITLES = {"script": "a script", "log": "a log", "mail": "a mail log"}
-PAGES = {"script": "docs/formats.md#the-script", "log": "docs/formats.md#the-log", "mail": "docs/formats.md#the-mail-log"}
+PAGES = {
+    "script": "docs/formats.md#the-script",
+    "log": "docs/formats.md#the-log",
+    "mail": "docs/formats.md#the-mail-log",
+}
 MIXED = ("link", "unlink", "set", "poke")
 
 
@@ -162,7 +166,9 @@ def _set(words: tuple[Word, ...], kind: str) -> Said | None:
     page = PAGES[kind]
     fault = _count(words, EDITS["set"], page) or _number(words[1], page)
     if fault is None and (not NAME.fullmatch(words[2].text) or words[2].text in WORDS):
-        return Said(f"`{words[2].text}` is no name of an input.", words[2].at, words[2].text, "Write `set 3 src true`.", page)
+        return Said(
+            f"`{words[2].text}` is no name of an input.", words[2].at, words[2].text, "Write `set 3 src true`.", page
+        )
     return fault or _value(words[3], page)
 
 
@@ -207,10 +213,11 @@ def _mix(words: tuple[Word, ...], kind: str) -> Said | None:
 
 @dataclass
 class Net:
-    """What lines change: devices, who is linked to whom, where firings were begun, and messages in transit by ordered pair.
+    """What lines change: devices, who is linked to whom, where firings were begun, and messages in transit by ordered
+    pair.
 
-    A device of `flying` has the line on which its firing was begun, 0 where it is pending at the start. `left` has the line
-    on which a device left. Messages are counted where `mail` is true.
+    A device of `flying` has the line on which its firing was begun, 0 where it is pending at the start. `left` has the
+    line on which a device left. Messages are counted where `mail` is true.
     """
 
     near: dict[int, set[int]] = field(default_factory=dict)

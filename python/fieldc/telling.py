@@ -1,4 +1,5 @@
-"""How refusals are told to a person: the line of `fc`, the sentence, the line of the file with a caret, and what to try."""
+"""How refusals are told to a person: the line of `fc`, the sentence, the line of the file with a caret, and what to
+try."""
 
 from __future__ import annotations
 
@@ -18,7 +19,9 @@ def told(refusal: Refusal, explanation: Explanation) -> str:
 def rest_of(explanation: Explanation) -> str:
     """The lines behind the sentence: the line of the file with a caret, what to try, and the page to read."""
     lines = ["    " + line for line in quoted(explanation)]
-    lines += [f"try: {explanation.hint}"] * bool(explanation.hint) + [f"read: {explanation.page}"] * bool(explanation.page)
+    lines += [f"try: {explanation.hint}"] * bool(explanation.hint) + [f"read: {explanation.page}"] * bool(
+        explanation.page
+    )
     return "".join(line + "\n" for line in lines)
 
 

@@ -53,7 +53,9 @@ def completion(line: Line) -> str:
     text = HEAD.format(program=line.program, guard=GUARD if line.program == "fc" else "")
     text += "".join(values(command) for command in line.commands)
     text += "    esac\n    case $command in\n"
-    names = " ".join([command.name for command in line.commands] + [name for option in line.options for name in option.names])
+    names = " ".join(
+        [command.name for command in line.commands] + [name for option in line.options for name in option.names]
+    )
     text += f'        "") words="{names}" ;;\n'
     help_too = ("-h", "--help") if line.program == "fieldc" else ()
     for command in line.commands:

@@ -14,7 +14,8 @@ NOTHING = ""
 class Option:
     """An option, or a word that stands alone (then without names).
 
-    `takes` is FILE, WORD or NOTHING; `value` what the value is called; `instead` are the options that it can't stand beside.
+    `takes` is FILE, WORD or NOTHING; `value` what the value is called; `instead` are the options that it can't stand
+    beside.
     """
 
     names: tuple[str, ...]

@@ -1,6 +1,6 @@
 #!/usr/bin/env python3
-"""Runs the tests of this folder. It runs the built program, or what the variable FC names. Where a package is missing, the
-tests that need it are skipped, and one line says what is missing."""
+"""Runs the tests of this folder. It runs the built program, or what the variable FC names. Where a package is missing,
+the tests that need it are skipped, and one line says what is missing."""
 
 from __future__ import annotations
 
@@ -25,7 +25,9 @@ def suite(names: list[str]) -> unittest.TestSuite:
 
 
 def main() -> int:
-    parser = argparse.ArgumentParser(prog="tools/test", description=__doc__, formatter_class=argparse.RawTextHelpFormatter)
+    parser = argparse.ArgumentParser(
+        prog="tools/test", description=__doc__, formatter_class=argparse.RawTextHelpFormatter
+    )
     parser.add_argument("names", metavar="MODULE", nargs="*", help="modules, classes or tests (all)")
     parser.add_argument("--pictures", action="store_true", help="puts the tour's pictures into docs/pictures")
     parser.add_argument("--ready", action="store_true", help="says why no test can be run, and runs none")
@@ -42,8 +44,10 @@ def main() -> int:
     reasons = {part for _, reason in done.skipped for part in reason.split(", ")}
     if reasons:
         print(f"some tests are skipped: {', '.join(sorted(reasons))}")
-    print(f"{done.testsRun} tests in {time.monotonic() - start:.0f} s, {len(done.skipped)} skipped, "
-          f"{len(done.failures) + len(done.errors)} failed")
+    print(
+        f"{done.testsRun} tests in {time.monotonic() - start:.0f} s, {len(done.skipped)} skipped, "
+        f"{len(done.failures) + len(done.errors)} failed"
+    )
     return 0 if done.wasSuccessful() else 1
 
 

@@ -138,7 +138,9 @@ def parentIn(net: Net, region: Field, p: Field) -> Field:
 
 
 def nextHop(net: Net, p: Field) -> Field:
-    length = lambda d, near: p[near] + net.graph[d][near][WEIGHT]
+    def length(d: int, near: int) -> int:
+        return p[near] + net.graph[d][near][WEIGHT]
+
     return net.each(lambda d: min(lower(net, p, d), key=lambda near: (length(d, near), near), default=d))
 
 

@@ -9,7 +9,18 @@ from pathlib import Path
 
 from helping import TOP, Done
 
-PARTS = ("build", "fc", "crates.txt", "README.md", "CHANGELOG.md", "CONTRIBUTING.md", "docs", "examples", "editors", "man")
+PARTS = (
+    "build",
+    "fc",
+    "crates.txt",
+    "README.md",
+    "CHANGELOG.md",
+    "CONTRIBUTING.md",
+    "docs",
+    "examples",
+    "editors",
+    "man",
+)
 PARTS += ("completions", "library", "python/fieldc")
 FOLDERS = ("crates/fc_values", "crates/fc_answers", "crates/fc_program/src")
 # what a program that was built answers, in its place
@@ -27,7 +38,9 @@ class Checkout:
         self.folder.mkdir(exist_ok=True)
         for name in PARTS:
             if (TOP / name).is_dir():
-                shutil.copytree(TOP / name, self.folder / name, ignore=shutil.ignore_patterns("__pycache__", "pictures"))
+                shutil.copytree(
+                    TOP / name, self.folder / name, ignore=shutil.ignore_patterns("__pycache__", "pictures")
+                )
             elif (TOP / name).exists():
                 shutil.copy(TOP / name, self.folder / name)
         for name in FOLDERS:
@@ -57,4 +70,3 @@ class Checkout:
             cwd=self.folder,
         )  # fmt: skip
         return Done(done.returncode, done.stdout, done.stderr)
-

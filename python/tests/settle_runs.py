@@ -2,9 +2,9 @@
 """Looks for a run that breaks a line of `fc check --settle`: programs of a list on random networks, from random tables
 and by random schedules. Each device has to hold its value after its settle round. `fc` makes tables, verdicts and runs.
 
-With --from-table the lines are those of `check --settle --from-table`, and the starts are settled, early or rubbish tables
-with up to three edits behind them, half of them with firings in flight; a device with 0 rounds has to hold its value at
-once, and all along.
+With --from-table the lines are those of `check --settle --from-table`, and the starts are settled, early or rubbish
+tables with up to three edits behind them, half of them with firings in flight; a device with 0 rounds has to hold its
+value at once, and all along.
 
 It runs the built program, or what the variable FC names.
 """
@@ -27,19 +27,22 @@ PROGRAMS = (
     "ceiling {c}; input src: bool; main = " + HOP + ";",
     "language 2; ceiling {c}; input src: bool; main = share({c}){{(d) => minHoodLoc(d + 1, mux(sense src, 0, {c}))}};",
     "ceiling {c}; metric 1..9; input src: bool; main = " + HOP.replace("+ 1", "+ nbrLink") + ";",
-    "ceiling {c}; input src: bool; main = let p = " + HOP
+    "ceiling {c}; input src: bool; main = let p = "
+    + HOP
     + " in rep(0){{(x) => 1 + sumHood(mux(nbr{{p}} < p, nbr{{x}}, 0))}};",
     "language 2; ceiling {c}; input src: bool; main = rep({c}){{(d) => "
     "rise(minHoodLoc(nbr{{d}} + 4, mux(sense src, 0, {c})), d, 2)}};",
     "ceiling {c}; input src: bool; main = if (sense src) {{sumHood(nbr{{1}})}} {{7}};",
-    "ceiling {c}; input src: bool; main = let p = " + HOP
+    "ceiling {c}; input src: bool; main = let p = "
+    + HOP
     + " in if (p < 2) {{sumHood(nbr{{p + 1}})}} {{rep(3){{(x) => minHoodLoc(nbr{{x}} + 1, p)}}}};",
     "ceiling {c}; metric 1..9; input src: bool; main = snd(rep(({c}, 0)){{(d) => "
     "minHoodLoc((fst(nbr{{d}}) + nbrLink, snd(nbr{{d}})), mux(sense src, (0, uid), ({c}, 0)))}});",
     "ceiling {c}; main = rep(9){{(d) => let y = nbr{{d}} in minHoodLoc(y + 1, 5)}};",
     "ceiling {c}; main = rep(0){{(x) => x + 1}};",
     "ceiling {c}; main = if (allHood(nbrLink < 2)) {{sumHood(nbrLink)}} {{sumHood(nbr{{uid}})}};",
-    "ceiling {c}; input src: bool; main = let h = " + HOP
+    "ceiling {c}; input src: bool; main = let h = "
+    + HOP
     + " in if (anyHood(nbr{{h}} < h) or allHood(nbr{{sense src}})) {{maxHoodLoc(nbr{{h}}, h)}} {{h - 1}};",
     "ceiling {c}; main = rep(0){{(x) => maxHoodLoc(nbr{{x}}, 0)}};",
 )
@@ -79,8 +82,8 @@ def network(dice, program):
 
 
 def one_round(dice, numbers, flying):
-    """A stretch in which each device begins a firing and ends it: all begin before one ends, or one after another, or as
-    the dice fall. Firings from before end in it, and some that begin in it fly on."""
+    """A stretch in which each device begins a firing and ends it: all begin before one ends, or one after another, or
+    as the dice fall. Firings from before end in it, and some that begin in it fly on."""
     kind = dice.randrange(3)
     todo = {n: (["E"] if n in flying else []) + ["B", "E"] * (1 if kind else dice.randint(1, 2)) for n in numbers}
     flying.clear()
@@ -126,7 +129,10 @@ def first_table(dice, program, scene):
 def copy_of(scene, number):
     """The copy that a begin of a device takes."""
     rows = {row["id"]: row for row in scene["table"]["rows"]}
-    export = lambda row: {"value": row["value"], "kept": [value for _, value in row["kept"]]}
+
+    def export(row):
+        return {"value": row["value"], "kept": [value for _, value in row["kept"]]}
+
     weights = {a + b - number: w for a, b, w in scene["links"] if number in (a, b)}
     return {
         "id": number,
@@ -156,7 +162,10 @@ def with_firings(dice, program, scene):
 def with_input(dice, program, scene):
     """Other inputs of a device."""
     one = dice.choice(numbers_of(scene))
-    changed = lambda device: dict(device, inputs=inputs(dice, program)) if device["id"] == one else device
+
+    def changed(device):
+        return dict(device, inputs=inputs(dice, program)) if device["id"] == one else device
+
     return dict(scene, devices=[changed(device) for device in scene["devices"]])
 
 
@@ -217,8 +226,8 @@ def edited_start(dice, program, scene):
 
 
 def broken_line(dice, program, scene, settled, stretches):
-    """The first line of settled that the run breaks, if one does. All are looked at once their rounds are over, and again
-    after those of the others, and at two places more."""
+    """The first line of settled that the run breaks, if one does. All are looked at once their rounds are over, and
+    again after those of the others, and at two places more."""
     log = [entry for stretch in stretches for entry in stretch]
     ends = list(itertools.accumulate(map(len, stretches), initial=0))
     looks = {ends[rounds] for _, rounds, _ in settled} | {dice.randint(0, len(log)) for _ in range(2)}
@@ -273,7 +282,9 @@ def main():
     parser = argparse.ArgumentParser(description=__doc__, formatter_class=argparse.RawDescriptionHelpFormatter)
     parser.add_argument("--count", type=int, default=1000, help="how many tables and schedules (1000)")
     parser.add_argument("--seed", type=int, default=1, help="of the random numbers (1)")
-    parser.add_argument("--from-table", action="store_true", help="looks at lines from one start, such as an edit leaves")
+    parser.add_argument(
+        "--from-table", action="store_true", help="looks at lines from one start, such as an edit leaves"
+    )
     words = parser.parse_args()
     print(looked(words.count, words.seed, words.from_table))
 

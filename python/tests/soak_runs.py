@@ -23,9 +23,11 @@ PROGRAMS = (
     "ceiling {c}; input src: bool; main = " + HOPS + ";",
     "language 2; ceiling {c}; input src: bool; main = share({c}){{(d) => minHoodLoc(d + 1, mux(sense src, 0, {c}))}};",
     "ceiling {c}; metric 1..9; input src: bool; main = " + HOPS.replace("+ 1", "+ nbrLink") + ";",
-    "ceiling {c}; input src: bool; main = let p = " + HOPS
+    "ceiling {c}; input src: bool; main = let p = "
+    + HOPS
     + " in rep(0){{(x) => 1 + sumHood(mux(nbr{{p}} < p, nbr{{x}}, 0))}};",
-    "ceiling {c}; input src: bool; main = let p = " + HOPS
+    "ceiling {c}; input src: bool; main = let p = "
+    + HOPS
     + " in if (p < 2) {{sumHood(nbr{{p + 1}})}} {{rep(3){{(x) => minHoodLoc(nbr{{x}} + 1, p)}}}};",
     "ceiling {c}; input src: bool; main = rep(0){{(x) => x + mux(sense src, 1, 2)}};",
     "ceiling {c}; input src: bool; main = sumHood(nbr{{rep(0){{(x) => maxHoodLoc(nbr{{x}}, uid)}}}});",
@@ -56,7 +58,7 @@ def network(dice: random.Random, metric: bool) -> Network:
     numbers = sorted(dice.sample(range(60), dice.choice((2, 3, 4, 6, 9, 40))))
     made.inputs = {n: dice.random() < 0.2 for n in numbers}
     for at in range(1, len(numbers)):
-        made.links[dice.choice(numbers[max(0, at - 5):at]), numbers[at]] = made.weight(dice)
+        made.links[dice.choice(numbers[max(0, at - 5) : at]), numbers[at]] = made.weight(dice)
     return made
 
 
@@ -128,7 +130,7 @@ def one_run(seed: int) -> tuple[float, int, str | None]:
     output = ask(["run", "--log", "--workers", str((2, 4, 16)[seed % 3])], [text, scene, lines])
     took = time.monotonic() - begun
     shown, log = output.split("\nlog\n") if "\nlog\n" in output else (output.removesuffix("log\n"), "")
-    values = shown[shown.rindex("@"):].split("\n", 1)[1].strip().split("\n")
+    values = shown[shown.rindex("@") :].split("\n", 1)[1].strip().split("\n")
     found = ask(["replay"], [text, scene, log]).strip().split("\n")
     wrong = None if values == found else f"seed {seed}: shown {values}, replayed {found}"
     return took, log.count("\n"), wrong or (f"seed {seed}: {took:.1f} seconds" if took > LONGEST else None)

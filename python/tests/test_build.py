@@ -43,7 +43,8 @@ esac
 """
 FAILS = """\
 [ "$1" = all ] || exit 0
-echo "== fc_values"; echo "src/lib.rt:3:1: error: a clause stays open"; echo "logic=not-proved functions=3"; echo "== fc_nodes"
+echo "== fc_values"; echo "src/lib.rt:3:1: error: a clause stays open"; echo "logic=not-proved functions=3"
+echo "== fc_nodes"
 echo "== summary"; echo "fc_values: failed (1)"; echo "fc_nodes: not run, since fc_values failed"; exit 1
 """
 
@@ -90,7 +91,9 @@ class Build(InFolder):
     def test_what_is_asked_of_rt(self) -> None:
         self.proves()
         self.checkout.run("build", "--jobs", "6")
-        calls = [line.removeprefix(f"{self.folder}/crates/") for line in (self.folder / "calls").read_text().splitlines()]
+        calls = [
+            line.removeprefix(f"{self.folder}/crates/") for line in (self.folder / "calls").read_text().splitlines()
+        ]
         self.assertEqual(calls, ["fc_values: lib", "fc_answers: all check --jobs 6", "fc_program: run -- replay"])
         self.assertEqual((self.folder / "given").read_text(), (TOP / "examples/two_devices.txt").read_text())
         log = (self.folder / "out/build.log").read_text()
@@ -216,8 +219,10 @@ class Install(unittest.TestCase):
         self.assertTrue((self.prefix / "bin/fc").is_symlink())
 
     def test_the_package_is_whole(self) -> None:
-        kept = lambda folder: [path for path in folder.rglob("*") if path.suffix in (".py", ".lark", ".typed")]  # noqa: E731
-        of = lambda folder: {str(path.relative_to(folder)) for path in kept(folder)}  # noqa: E731
+        def of(folder: Path) -> set[str]:
+            kept = [path for path in folder.rglob("*") if path.suffix in (".py", ".lark", ".typed")]
+            return {str(path.relative_to(folder)) for path in kept}
+
         self.assertEqual(of(self.prefix / "lib/fc/fieldc"), of(TOP / "python/fieldc"))
         blocks = sorted(path.name for path in (TOP / "library").glob("*.fc"))
         self.assertEqual(sorted(path.name for path in (self.prefix / "lib/fc/fieldc/library").glob("*.fc")), blocks)

@@ -1,4 +1,5 @@
-"""The command line: each command on examples, files by name, JSON, names, refusals, statuses, and the line of long work."""
+"""The command line: each command on examples, files by name, JSON, names, refusals, statuses, and the line of long
+work."""
 
 from __future__ import annotations
 
@@ -35,7 +36,12 @@ class Words(unittest.TestCase):
             done = fieldc(*words)
             self.assertEqual((done.status, done.output), (2, ""), words)
             self.assertIn("usage: fieldc", done.errors)
-        for words in (("check", "x", "--fact"), ("stable", "x", "--facts"), ("gen", "3", "4"), ("run", "x", "--work", "2")):
+        for words in (
+            ("check", "x", "--fact"),
+            ("stable", "x", "--facts"),
+            ("gen", "3", "4"),
+            ("run", "x", "--work", "2"),
+        ):
             done = fieldc(*words)
             self.assertEqual((done.status, done.output), (2, ""), words)
             self.assertIn(f"fieldc {words[0]} --help", done.errors)
@@ -107,11 +113,16 @@ class Answers(InFolder):
         program, scene = self.file(HOPS, "hops.fc"), self.file(LINE, "line.json")
         names = self.file("id,name\n0,gate\n2,mill\n", "names.csv")
         script = self.file("run 22\nshow\n", "script.txt")
-        self.assertEqual(fieldc("trace", program, scene, "--names", names).output, "yes 22\ngate 0 gate\n1 1 gate 1\nmill 2 gate 1 mill\n")
+        self.assertEqual(
+            fieldc("trace", program, scene, "--names", names).output,
+            "yes 22\ngate 0 gate\n1 1 gate 1\nmill 2 gate 1 mill\n",
+        )
         found = fieldc("check", "--settle", "--facts", program, scene, "--names", names).output
         self.assertIn("\n0 rep int", found)
         self.assertIn("settles 5\ngate 1 0\n1 3 1\nmill 5 2\n", found)
-        self.assertEqual(fieldc("run", program, scene, script, "--names", names).output, "yes 22\n@2\ngate 0\n1 1\nmill 2\n")
+        self.assertEqual(
+            fieldc("run", program, scene, script, "--names", names).output, "yes 22\n@2\ngate 0\n1 1\nmill 2\n"
+        )
 
     def test_statuses_and_explanations(self) -> None:
         scene = self.file(LINE, "line.json")
@@ -123,7 +134,9 @@ class Answers(InFolder):
         found = json.loads(done.output)
         self.assertEqual((done.status, done.errors, found["verdict"]["reason"]), (1, "", "growth-zero"))
         self.assertIn("docs/", found["explanation"]["page"])
-        self.assertEqual(fieldc("trace", self.file("ceiling 10; input src: bool; main = 3;", "flat.fc"), scene).status, 1)
+        self.assertEqual(
+            fieldc("trace", self.file("ceiling 10; input src: bool; main = 3;", "flat.fc"), scene).status, 1
+        )
         away = self.file("ceiling 10; input src: bool; main = rep(0){(x) => maxHoodLoc(nbr{x}, 0)};", "away.fc")
         done = fieldc("settle", away, scene)
         self.assertEqual((done.status, done.output), (1, "no 0 converging\nopen\n0 -\n1 -\n2 -\n"))
@@ -156,7 +169,9 @@ class Answers(InFolder):
 
     @needs("matplotlib")
     def test_the_settled_value_goes_into_a_picture(self) -> None:
-        done = fieldc("picture", EXAMPLES / "sensor_field_stable.txt", "--of", "settle", "-o", "x.svg", folder=self.folder)
+        done = fieldc(
+            "picture", EXAMPLES / "sensor_field_stable.txt", "--of", "settle", "-o", "x.svg", folder=self.folder
+        )
         self.assertEqual(done.status, 0, done.errors)
         self.assertRegex(done.output, "^the last, after [0-9]+ rounds: device")
 

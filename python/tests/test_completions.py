@@ -54,9 +54,11 @@ class Written(unittest.TestCase):
 @needs_shell("bash")
 class Bash(InFolder):
     def words(self, program: str, *typed: str, called: str | None = None) -> list[str]:
-        """What bash completes behind words that are typed, the last of which may be a part; a builtin is switched off."""
+        """What bash completes behind words that are typed, the last of which may be a part; a builtin is switched
+        off."""
         script = (
-            f'enable -n fc; source "{FOLDER}/{program}.bash"; compopt() {{ :; }}; COMP_WORDS=("$@"); COMP_CWORD=$(($# - 1))\n'
+            f'enable -n fc; source "{FOLDER}/{program}.bash"; compopt() {{ :; }}\n'
+            'COMP_WORDS=("$@"); COMP_CWORD=$(($# - 1))\n'
             f'_{program}_words "$1" "${{@: -1}}" "${{@: -2:1}}"; printf "%s\\n" "${{COMPREPLY[@]}}"'
         )
         done = subprocess.run(
@@ -77,7 +79,9 @@ class Bash(InFolder):
         for line in LINES:
             for command in line.commands:
                 wanted = {name for option in command.options for name in option.names}
-                self.assertEqual({*self.words(line.program, command.name, "-")} - {"-h", "--help"}, wanted, command.name)
+                self.assertEqual(
+                    {*self.words(line.program, command.name, "-")} - {"-h", "--help"}, wanted, command.name
+                )
         self.assertEqual(self.words("fieldc", "check", "a.fc", "--set"), ["--settle"])
 
     def test_values(self) -> None:
@@ -91,7 +95,8 @@ class Bash(InFolder):
         self.assertEqual(self.words("fc", "check", "<", ""), [])
 
     def test_the_builtin_is_left_alone(self) -> None:
-        script = f'source "{FOLDER}/fc.bash"; COMP_WORDS=(fc ""); COMP_CWORD=1; _fc_words fc "" fc; echo "${{#COMPREPLY[@]}}"'
+        typed = 'COMP_WORDS=(fc ""); COMP_CWORD=1; _fc_words fc "" fc'
+        script = f'source "{FOLDER}/fc.bash"; {typed}; echo "${{#COMPREPLY[@]}}"'
         done = subprocess.run(["bash", "--norc", "-c", script], capture_output=True, text=True, check=True)
         self.assertEqual(done.stdout, "0\n")
 
@@ -125,7 +130,9 @@ class Fish(unittest.TestCase):
         """What fish completes."""
         script = f'source {FOLDER}/{program}.fish; complete -C "{typed}"'
         home = {"HOME": "/nonexistent", "XDG_CONFIG_HOME": "/nonexistent", "PATH": os.environ["PATH"]}
-        done = subprocess.run(["fish", "--no-config", "-c", script], capture_output=True, text=True, check=True, env=home)
+        done = subprocess.run(
+            ["fish", "--no-config", "-c", script], capture_output=True, text=True, check=True, env=home
+        )
         return [row.split("\t")[0] for row in done.stdout.splitlines()]
 
     def test_commands_and_options(self) -> None:

@@ -213,7 +213,9 @@ class Telling(unittest.TestCase):
         text = "language 2; ceiling 9; main = hops(true, 9)\n  + 1;"
         made = compose.composed(text, LIBRARY)
         last = made.text.count("\n") + 1
-        said = Explanation("It is on line 1 and on line 3.", line=last - 1, column=31, hint=f"See line {last}.", page="docs/x.md")
+        said = Explanation(
+            "It is on line 1 and on line 3.", line=last - 1, column=31, hint=f"See line {last}.", page="docs/x.md"
+        )
         refusal = Refusal(3, "types", "types 4 mismatch", Call(("check",), ()))
         with mock.patch.object(compose, "explained", lambda call, refusal: said):
             found = compose.own_explanation(made, refusal, "mine.fc")

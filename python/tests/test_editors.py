@@ -181,7 +181,9 @@ def texts() -> list[tuple[str, str]]:
 
 class Words(unittest.TestCase):
     def test_words_are_those_of_the_language(self) -> None:
-        listed = re.search(r"These are words, and so never names: `([^`.]+)\.?`", (TOP / "docs/language.md").read_text())[1]
+        listed = re.search(
+            r"These are words, and so never names: `([^`.]+)\.?`", (TOP / "docs/language.md").read_text()
+        )[1]
         self.assertEqual(sorted(KIND_OF_WORD), sorted(listed.split()))
 
     def test_kinds_of_some_tokens(self) -> None:
@@ -231,7 +233,12 @@ class TextMate(unittest.TestCase):
 class Vim(InFolder):
     def groups(self, named: list[tuple[str, str]]) -> list[list[str]]:
         """For each text the group of each of its bytes, line by line, line ends left out."""
-        script = [f"set runtimepath^={EDITORS}/vim", "set encoding=utf-8 nocompatible", "filetype plugin on", "syntax on"]
+        script = [
+            f"set runtimepath^={EDITORS}/vim",
+            "set encoding=utf-8 nocompatible",
+            "filetype plugin on",
+            "syntax on",
+        ]
         for at, (_, text) in enumerate(named):
             (self.folder / f"{at}.fc").write_text(text)
             script += [f"edit {self.folder}/{at}.fc", f"call Write('{self.folder}/{at}.out')"]

@@ -36,7 +36,10 @@ class Scripts(unittest.TestCase):
 
     def test_the_network_at_each_show(self) -> None:
         found = moments(self.start, SCRIPT, ("src", "w"))
-        self.assertEqual([(m.line, m.rounds, m.edited) for m in found], [(1, 0, False), (3, 2, False), (6, 3, True), (13, 5, True), (17, 0, True)])
+        self.assertEqual(
+            [(m.line, m.rounds, m.edited) for m in found],
+            [(1, 0, False), (3, 2, False), (6, 3, True), (13, 5, True), (17, 0, True)],
+        )
         self.assertEqual(found[0].network.links, self.start.links)
         self.assertEqual(found[2].network.inputs[0], {"src": True, "w": 1})
         self.assertEqual(found[1].network.inputs[0], {"src": False, "w": 1})
@@ -47,7 +50,9 @@ class Scripts(unittest.TestCase):
         self.assertEqual(found[4].network.inputs[2]["w"], 8)
 
     def test_rounds_since_the_last_edit(self) -> None:
-        self.assertEqual(rounds_at_shows(SCRIPT), {1: (0, False), 3: (2, False), 6: (3, True), 13: (5, True), 17: (0, True)})
+        self.assertEqual(
+            rounds_at_shows(SCRIPT), {1: (0, False), 3: (2, False), 6: (3, True), 13: (5, True), 17: (0, True)}
+        )
         self.assertEqual(rounds_at_shows("run 2\r\nscramble 1\r\nrun 3\r\nshow\r\n"), {4: (3, True)})
         self.assertEqual(rounds_at_shows("poke 0 1\nrun 4\nrun 2\nshow"), {4: (6, True)})
 

@@ -141,7 +141,9 @@ class Disagreement(unittest.TestCase):
         self.assertEqual(self.said("types 2 unknown", "ceiling 10;\nmain = 1 + true;\n"), "types 2 unknown")
 
     def test_another_place(self):
-        self.assertEqual(self.said("no 1 unguarded", "ceiling 10;\nmain = rep(0){(x) => x + 1};\n", 1), "no 1 unguarded")
+        self.assertEqual(
+            self.said("no 1 unguarded", "ceiling 10;\nmain = rep(0){(x) => x + 1};\n", 1), "no 1 unguarded"
+        )
 
     def test_another_reason(self):
         self.assertEqual(self.said("no 0 nested", "ceiling 10;\nmain = rep(0){(x) => x + 1};\n", 1), "no 0 nested")

@@ -107,7 +107,10 @@ class Graphs(InFolder):
         for writer in (networkx.write_graphml, networkx.write_gml):
             writer(graph, name)
             found = files.network(name, PROGRAM)
-            self.assertEqual(found.named(found.inputs), {node: {"src": d["src"], "load": d["load"]} for node, d in graph.nodes.items()})
+            self.assertEqual(
+                found.named(found.inputs),
+                {node: {"src": d["src"], "load": d["load"]} for node, d in graph.nodes.items()},
+            )
             self.assertEqual(found.named(found.positions), {node: (d["x"], d["y"]) for node, d in graph.nodes.items()})
             self.assertEqual([(found.called(a), found.called(b), w) for a, b, w in found.links], [("b", "a", 5)])
 
@@ -163,7 +166,7 @@ class Graphs(InFolder):
                 files.network(self.file(text))
             self.assertEqual(caught.exception.status, 3)
         with self.assertRaisesRegex(Fault, "linked"):
-            files.network(self.file('graph [ node [ id 0 ] node [ id 1 ] edge [ source 0 target 0 ] ]\n'))
+            files.network(self.file("graph [ node [ id 0 ] node [ id 1 ] edge [ source 0 target 0 ] ]\n"))
         self.assertEqual(files.network(self.file("0 1 2.5\n"), rounds=True).links, ((0, 1, 2),))
 
 
@@ -173,7 +176,9 @@ class Command(InFolder):
 
     def test_names_are_written_beside(self) -> None:
         self.file("name,x,y,src\nmill,0,0,true\nweir,1,0,false\nroof,5,5,false\n", "motes.csv")
-        done = self.made("--points", "motes.csv", "--range", 2, "-o", "net.json", "--positions", "at.csv", "--set", "src=true@roof")
+        done = self.made(
+            "--points", "motes.csv", "--range", 2, "-o", "net.json", "--positions", "at.csv", "--set", "src=true@roof"
+        )
         self.assertEqual((done.status, done.output), (0, ""))
         self.assertIn("net.names.csv", done.errors)
         scene = json.loads((self.folder / "net.json").read_text())
@@ -202,7 +207,10 @@ class Command(InFolder):
             (*points, "--set", "src=yes"): (2, "isn't NAME=VALUE"),
             (*points, "--set", "src=true@9"): (2, "there is no device 9"),
             (*points, "--program", "program.fc"): (3, "has no src"),
-            (*points, "--program", "program.fc", "--set", "src=true", "--set", "load=12"): (3, "load of device 0 is 12"),
+            (*points, "--program", "program.fc", "--set", "src=true", "--set", "load=12"): (
+                3,
+                "load of device 0 is 12",
+            ),
             (*points, "-o", "nowhere/net.json"): (6, "no folder"),
             ("--line", 0): (2, "a number of devices"),
             ("--line", 1025): (4, "1,025 devices"),

@@ -26,7 +26,10 @@ class Install(unittest.TestCase):
             if (TOP / "library").is_dir():
                 shutil.copytree(TOP / "library", folder / "library")
             environment = {name: value for name, value in os.environ.items() if name not in ("FC", "PYTHONPATH")}
-            run = lambda *words: subprocess.run(words, cwd=folder, env=environment, capture_output=True, text=True, check=True)  # noqa: E731
+
+            def run(*words: str) -> subprocess.CompletedProcess[str]:
+                return subprocess.run(words, cwd=folder, env=environment, capture_output=True, text=True, check=True)
+
             run(sys.executable, "-m", "venv", "--system-site-packages", "there")
             run("there/bin/pip", "install", "--no-index", "--no-build-isolation", "./python")
             self.assertEqual(run("there/bin/fieldc", "--version").stdout, "fieldc 1.0\n")
@@ -38,7 +41,7 @@ class Install(unittest.TestCase):
             self.assertEqual(run("there/bin/fieldc", "format", "x.fc").stdout, "main = 3;\n")
             if (TOP / "library").is_dir():
                 listed = run("there/bin/fieldc", "compose", "--list").stdout.splitlines()
-                self.assertEqual(listed, run(TOP / "fieldc", "compose", "--list").stdout.splitlines())
+                self.assertEqual(listed, run(str(TOP / "fieldc"), "compose", "--list").stdout.splitlines())
                 self.assertTrue(listed)
             call = "import fieldc; print(fieldc.format('main = 3;'), fieldc.__file__)"
             self.assertRegex(run("there/bin/python3", "-c", call).stdout, "^main = 3;\n /.*/there/lib/")

@@ -24,7 +24,9 @@ from fieldc.program import answered
 from fieldc.refusals import Call, Refusal, Section
 
 BLOCK = re.compile(r"^`((?:yes|no) [^`\n]*)`\n\n```fc\n(.*?)^```$", re.MULTILINE | re.DOTALL)
-DOCUMENTED = [(verdict, text) for verdict, text in BLOCK.findall((TOP / "docs" / "patterns.md").read_text(encoding="utf-8"))]
+DOCUMENTED = [
+    (verdict, text) for verdict, text in BLOCK.findall((TOP / "docs" / "patterns.md").read_text(encoding="utf-8"))
+]
 FACTS = re.compile(r"^The hop count on three devices in a line:\n\n```\n(.*?)^```$", re.MULTILINE | re.DOTALL)
 HOPS = helping.HOPS
 
@@ -132,7 +134,9 @@ class Nodes(unittest.TestCase):
     """The unfolded `main`: numbers of nodes and places, and the calls that lead there."""
 
     def test_hop_count(self):
-        found = unfolded("ceiling 10; input src: bool; main = rep(10){(d) => minHoodLoc(nbr{d} + 1, mux(sense src, 0, 10))};")
+        found = unfolded(
+            "ceiling 10; input src: bool; main = rep(10){(d) => minHoodLoc(nbr{d} + 1, mux(sense src, 0, 10))};"
+        )
         wanted = ["rep", "10", "minHoodLoc", "+", "nbr", "var 0", "1", "mux", "sense 0", "0", "10"]
         self.assertEqual([re.sub(r"^\d+ (.*?) (int|bool|field).*$", r"\1", line) for line in facts(found)], wanted)
 
@@ -182,7 +186,9 @@ class Judging(unittest.TestCase):
             with self.subTest(verdict=verdict):
                 blame = Patterns(unfolded(text)).first()
                 found = "yes" if blame is None else f"no {blame.place} {blame.reason}"
-                self.assertTrue(re.split(", | ", verdict)[0] == "yes" if found == "yes" else verdict.startswith(found + ","))
+                self.assertTrue(
+                    re.split(", | ", verdict)[0] == "yes" if found == "yes" else verdict.startswith(found + ",")
+                )
 
     def test_first_values_are_left_out(self):
         text = "ceiling 10; main = rep(rep(0){(x) => x + 1}){(d) => minHoodLoc(nbr{d} + 1, 5)};"

@@ -11,7 +11,10 @@ import fieldc
 
 FAR = 30
 CLIMB = "ceiling 30; input src: bool; main = rep(30){(d) => minHoodLoc(nbr{d} + 1, mux(sense src, 0, 30))};"
-LENGTHS = "ceiling 200; metric 1..9; input src: bool; main = rep(200){(d) => minHoodLoc(nbr{d} + nbrLink, mux(sense src, 0, 200))};"
+LENGTHS = (
+    "ceiling 200; metric 1..9; input src: bool; "
+    "main = rep(200){(d) => minHoodLoc(nbr{d} + nbrLink, mux(sense src, 0, 200))};"
+)
 
 
 @needs_fc
@@ -60,7 +63,9 @@ class BesideNetworkx(unittest.TestCase):
         settled = fieldc.settle(lengths, graph)
         assert settled.rounds is not None
         ran = fieldc.run(lengths, graph, ["scramble 4", "show", f"run {settled.rounds}", "show"], workers=3)
-        self.assertEqual([(show.line, show.rounds, show.edited) for show in ran.shows], [(2, 0, True), (4, settled.rounds, True)])
+        self.assertEqual(
+            [(show.line, show.rounds, show.edited) for show in ran.shows], [(2, 0, True), (4, settled.rounds, True)]
+        )
         self.assertEqual(dict(ran.shows[1].values), self.hops(graph))
         self.assertEqual(dict(settled.values), self.hops(graph))
         self.assertEqual(ran.verdict, settled.verdict)
@@ -82,21 +87,32 @@ class BesideNetworkx(unittest.TestCase):
 class WorkedRows(unittest.TestCase):
     def test_check(self) -> None:
         self.assertEqual(fieldc.check(HOPS, LINE), fieldc.Checked(fieldc.Verdict("yes 22", rounds=22)))
-        facts = fieldc.check("ceiling 10; main = 3 + uid;", '{"devices":[{"id":0,"inputs":{}}],"links":[]}', facts=True).facts
-        self.assertEqual([(fact.operator, fact.range) for fact in facts], [("+", "3..10"), ("3", "3..3"), ("uid", "0..10")])
-        no = fieldc.check("ceiling 10; main = rep(0){(x) => x + 1};", '{"devices":[{"id":0,"inputs":{}}],"links":[]}').verdict
+        facts = fieldc.check(
+            "ceiling 10; main = 3 + uid;", '{"devices":[{"id":0,"inputs":{}}],"links":[]}', facts=True
+        ).facts
+        self.assertEqual(
+            [(fact.operator, fact.range) for fact in facts], [("+", "3..10"), ("3", "3..3"), ("uid", "0..10")]
+        )
+        no = fieldc.check(
+            "ceiling 10; main = rep(0){(x) => x + 1};", '{"devices":[{"id":0,"inputs":{}}],"links":[]}'
+        ).verdict
         self.assertEqual((no.place, no.reason, no.stabilises), (0, "unguarded", False))
 
     def test_settle(self) -> None:
         found = fieldc.settle(HOPS, LINE)
-        self.assertEqual((found.rounds, dict(found.by_device), dict(found.values)), (5, {0: 1, 1: 3, 2: 5}, {0: 0, 1: 1, 2: 2}))
+        self.assertEqual(
+            (found.rounds, dict(found.by_device), dict(found.values)), (5, {0: 1, 1: 3, 2: 5}, {0: 0, 1: 1, 2: 2})
+        )
         rows = [{"id": d, "kept": [[0, d], [4, d]], "value": d} for d in range(3)]
         scene = json.loads(LINE) | {"table": {"format": 2, "rows": rows}}
         scene["devices"][2]["inputs"]["src"] = True
         moved = fieldc.settle(HOPS, scene, from_table=True)
         self.assertEqual((moved.rounds, dict(moved.by_device)), (1, {0: 0, 1: 0, 2: 1}))
         self.assertTrue(moved.from_table)
-        climbing = fieldc.settle("ceiling 10; main = rep(0){(x) => maxHoodLoc(nbr{x}, 0)};", '{"devices":[{"id":0,"inputs":{}},{"id":1,"inputs":{}}],"links":[[0,1,1]]}')
+        climbing = fieldc.settle(
+            "ceiling 10; main = rep(0){(x) => maxHoodLoc(nbr{x}, 0)};",
+            '{"devices":[{"id":0,"inputs":{}},{"id":1,"inputs":{}}],"links":[[0,1,1]]}',
+        )
         self.assertTrue(climbing.open)
 
     def test_stable_trace_and_no_walks(self) -> None:
@@ -123,19 +139,24 @@ class WorkedRows(unittest.TestCase):
         found = fieldc.mail(program, scene, log)
         self.assertEqual([f"{d} {v}" for d, v in found.values.items()] + [f"rounds {found.rounds}"], text)
         driven = fieldc.mail(HOPS, LINE, number=7)
-        self.assertEqual((dict(driven.values), driven.verdict), ({0: 0, 1: 1, 2: 2}, fieldc.Verdict("yes 22", rounds=22)))
+        self.assertEqual(
+            (dict(driven.values), driven.verdict), ({0: 0, 1: 1, 2: 2}, fieldc.Verdict("yes 22", rounds=22))
+        )
         for options in ({}, {"log": "", "number": 3}):
             with self.assertRaises(ValueError):
                 fieldc.mail(HOPS, LINE, **options)
 
     def test_format(self) -> None:
         self.assertEqual(
-            fieldc.format("ceiling 10 ; main=(1+2)*sumHood(nbr{ 1 });"), "ceiling 10;\nmain = (1 + 2) * sumHood(nbr{1});\n"
+            fieldc.format("ceiling 10 ; main=(1+2)*sumHood(nbr{ 1 });"),
+            "ceiling 10;\nmain = (1 + 2) * sumHood(nbr{1});\n",
         )
 
     def test_generate(self) -> None:
         found = fieldc.generate(7)
-        self.assertEqual((found.devices, found.verdict.rounds, found.firings, found.agree, found.sum), (64, 130, 8320, 64, 1024))
+        self.assertEqual(
+            (found.devices, found.verdict.rounds, found.firings, found.agree, found.sum), (64, 130, 8320, 64, 1024)
+        )
         self.assertEqual(fieldc.generate(2, devices=3, workers=1).devices, 3)
 
     def test_networks_in_each_form(self) -> None:

@@ -60,7 +60,9 @@ class Made(unittest.TestCase):
             for option in command.options:
                 words = [command.name, *number, *option.names, *(["4"] if option.takes else [])]
                 words += ["--settle"] * (option.names == ("--from-table",))
-                done = subprocess.run([program.find(), *words], stdin=subprocess.DEVNULL, capture_output=True, check=False)
+                done = subprocess.run(
+                    [program.find(), *words], stdin=subprocess.DEVNULL, capture_output=True, check=False
+                )
                 self.assertNotEqual(done.returncode, 2, words)
                 self.assertEqual(done.returncode, 0 if command.name == "gen" else 3, words)
 

@@ -1,4 +1,5 @@
-"""Networks that are made by a rule or from a graph, beside those that networkx makes, and graphs that are no networks."""
+"""Networks that are made by a rule or from a graph, beside those that networkx makes, and graphs that are no
+networks."""
 
 from __future__ import annotations
 
@@ -38,7 +39,9 @@ class ByRule(unittest.TestCase):
         dice = random.Random(4)
         places = {d: (dice.randrange(12), dice.randrange(12)) for d in range(60)}
         for reach in (0, 1, 2.5, 5):
-            near = {frozenset(p) for p in itertools.combinations(places, 2) if math.dist(*(places[d] for d in p)) <= reach}
+            near = {
+                frozenset(p) for p in itertools.combinations(places, 2) if math.dist(*(places[d] for d in p)) <= reach
+            }
             self.assertEqual(pairs(network.in_range(places, reach)), near)
 
     def test_rings_have_sides_of_one(self) -> None:
@@ -98,12 +101,25 @@ class Changes(unittest.TestCase):
         right = '{"devices":[{"id":0,"inputs":{"w":1}},{"id":1,"inputs":{"w":1}}],"links":[[0,1,1]]}'
         self.assertEqual(len(read_scene(right).devices), 2)
         wrong = [
-            "", "[]", "{}", "3", '{"devices":[],"links":[]}',
-            right.replace("[0,1,1]", "[0,2,1]"), right.replace("[0,1,1]", "[0,0,1]"), right.replace("[0,1,1]", "[0,1]"),
-            right.replace("[0,1,1]", "[0,1,1.5]"), right.replace("[0,1,1]", "[0,1,true]"), right.replace("[0,1,1]", "[0,1,-1]"),
-            right.replace("[0,1,1]", "[0,1,1],[1,0,1]"), right.replace('"id":1', '"id":0'), right.replace('"id":1', '"id":"1"'),
-            right.replace('"w":1', '"w":"1"'), right.replace('"w":1', '"w":1.5'), right.replace('"w":1', '"w":NaN'),
-            right.replace('"id":1', '"id":1,"name":"mill"'), right.replace('"links"', '"more":1,"links"'),
+            "",
+            "[]",
+            "{}",
+            "3",
+            '{"devices":[],"links":[]}',
+            right.replace("[0,1,1]", "[0,2,1]"),
+            right.replace("[0,1,1]", "[0,0,1]"),
+            right.replace("[0,1,1]", "[0,1]"),
+            right.replace("[0,1,1]", "[0,1,1.5]"),
+            right.replace("[0,1,1]", "[0,1,true]"),
+            right.replace("[0,1,1]", "[0,1,-1]"),
+            right.replace("[0,1,1]", "[0,1,1],[1,0,1]"),
+            right.replace('"id":1', '"id":0'),
+            right.replace('"id":1', '"id":"1"'),
+            right.replace('"w":1', '"w":"1"'),
+            right.replace('"w":1', '"w":1.5'),
+            right.replace('"w":1', '"w":NaN'),
+            right.replace('"id":1', '"id":1,"name":"mill"'),
+            right.replace('"links"', '"more":1,"links"'),
         ]
         for text in wrong:
             with self.subTest(text), self.assertRaisesRegex(Fault, "no scene"):
@@ -204,7 +220,10 @@ class Graphs(unittest.TestCase):
             "x of device 0 is nan": (self.graph(pos=(math.nan, 0)), {}),
             "weighs 3, and a weight is from 4 to 5": (self.graph(), {"program": "metric 4..5; input src: bool;"}),
             "device 0 has no far": (self.graph(), {"program": "metric 1..5; input far: bool;"}),
-            "src of device 0 is True, and has to be a whole": (self.graph(), {"program": "metric 1..5; input src: int 0..9;"}),
+            "src of device 0 is True, and has to be a whole": (
+                self.graph(),
+                {"program": "metric 1..5; input src: int 0..9;"},
+            ),
         }
         for said, (graph, options) in wrong.items():
             with self.subTest(said), self.assertRaisesRegex(Fault, said) as caught:

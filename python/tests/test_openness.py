@@ -117,7 +117,9 @@ class Rests(unittest.TestCase):
         scene = {**json.loads(PAIR), "pending": [copy]}
         found = openness.look(FIRST_COME, scene, from_table=True)
         self.assertIsNone(found.rests)
-        self.assertIn(("one after the other", "at rest after at most 1 round"), [(t.order, t.outcome) for t in found.tried])
+        self.assertIn(
+            ("one after the other", "at rest after at most 1 round"), [(t.order, t.outcome) for t in found.tried]
+        )
         self.assertTrue(openness.told(found, []).startswith("No two orders of firings were found that rest apart."))
 
 

@@ -1,7 +1,7 @@
-"""The pages stay true: the programs of docs/patterns.md have the verdicts and settle lines that stand there, the commands
-of README.md and docs/tour.md write what stands below them, the programs of docs/language.md are read, the example of
-docs/commands.md and the examples write what is expected, the calls of docs/fieldc.md answer what stands beside them, and
-each page, anchor and picture that a page names is there."""
+"""The pages stay true: the programs of docs/patterns.md have the verdicts and settle lines that stand there, the
+commands of README.md and docs/tour.md write what stands below them, the programs of docs/language.md are read, the
+example of docs/commands.md and the examples write what is expected, the calls of docs/fieldc.md answer what stands
+beside them, and each page, anchor and picture that a page names is there."""
 
 from __future__ import annotations
 
@@ -82,7 +82,9 @@ def typed(test: unittest.TestCase, folder: Path, commands: list[tuple[str, str]]
     (folder / "fc").chmod(0o755)
     script = "".join(f"{command}\necho '{MARK}'\n" for command, _ in commands)
     environment = dict(os.environ, FC=str(folder / "fc"))
-    shell = subprocess.run(["bash"], cwd=folder, input=script, env=environment, capture_output=True, text=True, check=False)
+    shell = subprocess.run(
+        ["bash"], cwd=folder, input=script, env=environment, capture_output=True, text=True, check=False
+    )
     written = shell.stdout.split(MARK + "\n")
     for (command, wanted), found in zip(commands, written):
         test.assertEqual(found, wanted, f"{command.splitlines()[0]}: {shell.stderr[-300:]}")
@@ -152,7 +154,9 @@ class Readme(unittest.TestCase):
     def test_examples_of_the_commands_are_answered(self) -> None:
         lines = re.findall(r"`\./(fc [^`]+)`", self.text)
         calls = [line.split() for line in lines if " examples/" in line or "gen" in line]
-        self.assertEqual({words[1] for words in calls}, {"check", "stable", "trace", "run", "replay", "mail", "gen", "format"})
+        self.assertEqual(
+            {words[1] for words in calls}, {"check", "stable", "trace", "run", "replay", "mail", "gen", "format"}
+        )
         for words in calls:
             given = (TOP / words[-1]).read_bytes() if "<" in words else b""
             words = [fc.find(), *(words[1 : words.index("<")] if "<" in words else words[1:])]
@@ -176,7 +180,8 @@ class Words(unittest.TestCase):
 
 @needs_fc
 class Language(unittest.TestCase):
-    """The programs of docs/language.md are read; the collection along a potential gets a yes, and settles at the sum."""
+    """The programs of docs/language.md are read; the collection along a potential gets a yes, and settles at the
+    sum."""
 
     text = (TOP / "docs/language.md").read_text()
 
@@ -225,7 +230,9 @@ class Links(unittest.TestCase):
 
     def test_named_pages(self) -> None:
         for page in PAGES:
-            found = re.findall(r"(?<![\w/.])((?:\.\./)?[\w/]+\.(?:md|json|fc|txt|py|antt|rt))(?![\w/])", page.read_text())
+            found = re.findall(
+                r"(?<![\w/.])((?:\.\./)?[\w/]+\.(?:md|json|fc|txt|py|antt|rt))(?![\w/])", page.read_text()
+            )
             for named in found:
                 if named.startswith(FREE) or not (named.endswith(".md") or "/" in named):
                     continue

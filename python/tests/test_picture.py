@@ -198,7 +198,17 @@ class Command(InFolder):
         self.assertGreater(self.vivid("crowd.png"), 5)
 
     def test_a_page_of_a_run(self) -> None:
-        self.picture(CROWD, "--values", EXAMPLES / "crowd_run.expected", "--mark", "beacon", "-o", "run.html", "--title", "</script>")
+        self.picture(
+            CROWD,
+            "--values",
+            EXAMPLES / "crowd_run.expected",
+            "--mark",
+            "beacon",
+            "-o",
+            "run.html",
+            "--title",
+            "</script>",
+        )
         page = (self.folder / "run.html").read_text()
         self.assertEqual(page.count("</script>"), 1)
         looks = json.loads(re.search(r"const looks = (.*);", page)[1])
@@ -239,11 +249,14 @@ class Command(InFolder):
         self.assertEqual(self.seen("numbers.click();" + ask)[0], "visible")
 
     def seen(self, script: str, wait: int = 500) -> tuple[str, dict[int, tuple[str, str]]]:
-        """What a browser shows after a script and some milliseconds: the show, and by device its classes and its text."""
+        """What a browser shows after a script and some milliseconds: the show, and by device its classes and its
+        text."""
         page = (self.folder / "run.html").read_text().replace("</html>", f"<script>{script}</script></html>")
         self.file(page, "seen.html")
         flags = ["--headless", "--no-sandbox", "--disable-gpu", f"--virtual-time-budget={wait}", "--dump-dom"]
-        done = subprocess.run([browser(), *flags, f"file://{self.folder}/seen.html"], capture_output=True, text=True, check=True)
+        done = subprocess.run(
+            [browser(), *flags, f"file://{self.folder}/seen.html"], capture_output=True, text=True, check=True
+        )
         devices = re.findall(r'class="device ?([^"]*)" data-id="(\d+)".*?class="value"[^>]*>([^<]*)<', done.stdout)
         which = re.search(r'<output id="which">([^<]*)<', done.stdout)
         return which[1] if which else "", {int(device): (classes, text) for classes, device, text in devices}
@@ -264,7 +277,9 @@ class Command(InFolder):
         }
         for words, (status, said) in wrong.items():
             with self.subTest(words):
-                done = fieldc(words[0], EXAMPLES / "sensor_field_stable.txt", *words[1:], folder=self.folder, FC=str(program))
+                done = fieldc(
+                    words[0], EXAMPLES / "sensor_field_stable.txt", *words[1:], folder=self.folder, FC=str(program)
+                )
                 self.assertEqual((done.status, done.output), (status, ""), done.errors)
                 self.assertIn(said, done.errors)
         self.assertFalse(touched.exists())

@@ -34,7 +34,10 @@ class Readers(unittest.TestCase):
                 results.verdict_of(line)
 
     def test_facts(self) -> None:
-        text = "yes 1\n0 let int 3..6 1\n1 pair (int, bool) (2..5,-) 1\n2 sense 1 int 2..5 1\n3 nbr field int 2..5 -\n4 + field (int, bool) (0..1,-) 2\n"
+        text = (
+            "yes 1\n0 let int 3..6 1\n1 pair (int, bool) (2..5,-) 1\n2 sense 1 int 2..5 1\n3 nbr field int 2..5 -\n"
+            "4 + field (int, bool) (0..1,-) 2\n"
+        )
         found = results.checked(text).facts
         self.assertEqual([fact.operator for fact in found], ["let", "pair", "sense 1", "nbr", "+"])
         self.assertEqual([fact.type for fact in found], ["int", "(int, bool)", "int", "field int", "field (int, bool)"])
@@ -90,22 +93,28 @@ class Json(unittest.TestCase):
         names = {1: "mill"}
         no = {"verdict": {"stabilises": False, "place": 4, "reason": "nested"}}
         yes = {"verdict": {"stabilises": True, "rounds": 7}}
-        devices = [{"id": 0, "value": [1, True]}, {"id": 1, "name": "mill", "value": None}]
+        mill = {"id": 1, "name": "mill", "value": 3}
+        devices = [{"id": 0, "value": [1, True]}, {**mill, "value": None}]
+        unknown = {"id": 0, "value": None, "rounds": None}
+        show = {"line": 2, "rounds_since_edit": None, "devices": [{"id": 0, "value": 1}]}
         rows = {
             "check": (results.checked("no 4 nested\n"), no),
             "stable": (results.stable("0 (1,true)\n1 -\n"), {"devices": devices}),
             "no stable": (results.stable("no 4 nested\n"), {**no, "devices": []}),
             "replay": (results.replayed("0 (1,true)\n1 -\nrounds 2\n"), {"devices": devices, "rounds": 2}),
-            "mail": (results.mailed("yes 7\n1 3\nrounds 2\n"), {**yes, "devices": [{"id": 1, "name": "mill", "value": 3}], "rounds": 2}),
-            "trace": (results.traced("yes 7\n1 3 0 1\n"), {**yes, "walks": True, "devices": [{"id": 1, "name": "mill", "value": 3, "walk": [0, 1]}]}),
+            "mail": (results.mailed("yes 7\n1 3\nrounds 2\n"), {**yes, "devices": [mill], "rounds": 2}),
+            "trace": (
+                results.traced("yes 7\n1 3 0 1\n"),
+                {**yes, "walks": True, "devices": [{**mill, "walk": [0, 1]}]},
+            ),
             "no walks": (results.traced("yes 7\nno walks\n"), {**yes, "walks": False, "devices": []}),
             "settle": (
                 results.settled("no 4 nested\nopen\n0 -\n", True),
-                {**no, "open": True, "settles": None, "from_table": True, "devices": [{"id": 0, "value": None, "rounds": None}]},
+                {**no, "open": True, "settles": None, "from_table": True, "devices": [unknown]},
             ),
             "run": (
                 results.ran("yes 7\n@2\n0 1\nno 4 nested\n"),
-                {**yes, "shows": [{"line": 2, "rounds_since_edit": None, "devices": [{"id": 0, "value": 1}]}], "later_verdicts": [{"shows_before": 1, **no}]},
+                {**yes, "shows": [show], "later_verdicts": [{"shows_before": 1, **no}]},
             ),
             "gen": (
                 results.generated("number 3\ndevices 4\nverdict yes 7\nfirings 28\nagree 4\nsum 5\n"),
@@ -126,7 +135,9 @@ class Refusals(unittest.TestCase):
         plainly = plain_explanation(refusal)
         self.assertEqual(told(refusal, plainly).splitlines()[0], "fieldc: sections 1")
         self.assertEqual(json.loads(refused(refusal, plainly))["line"], "sections 1")
-        self.assertIn("not enough memory", told(Refusal(7, "", "", self.call), plain_explanation(Refusal(7, "", "", self.call))))
+        self.assertIn(
+            "not enough memory", told(Refusal(7, "", "", self.call), plain_explanation(Refusal(7, "", "", self.call)))
+        )
         self.assertIn("not enough memory", str(Refusal(7, "", "", self.call)))
         self.assertTrue(str(refusal).startswith("sections 1"))
         self.assertEqual((refusal.place, Refusal(3, "types", "types 4 mismatch", self.call).place), ("1", "4 mismatch"))

@@ -115,7 +115,23 @@ OTHERWISE = (
     (("devices", 0, "id"), 0.0),
     (("table", "rows", 0, "kept", 0), [0, 0]),
 )
-MUTANTS = (None, True, -1, 0, 1, 2.5, 1000001, "x", [], [0], [0, 1], [0, 1, 1], {}, {"id": 0}, {"format": 2, "rows": []})
+MUTANTS = (
+    None,
+    True,
+    -1,
+    0,
+    1,
+    2.5,
+    1000001,
+    "x",
+    [],
+    [0],
+    [0, 1],
+    [0, 1, 1],
+    {},
+    {"id": 0},
+    {"format": 2, "rows": []},
+)
 
 
 def changed(place: tuple[str | int, ...], value: object) -> object:

@@ -1,5 +1,5 @@
-"""`fc stable` answers in time where its guess could be wrong: each program on 1,024 devices within seconds, and on twelve
-devices with the values of a run from rubbish."""
+"""`fc stable` answers in time where its guess could be wrong: each program on 1,024 devices within seconds, and on
+twelve devices with the values of a run from rubbish."""
 
 from __future__ import annotations
 
@@ -27,7 +27,8 @@ PROGRAMS = {
     "a first value with a branch that toggles": "main = rep(rep(0){(y) => if (y < 1) {sumHood(nbr{y}) + 1} {1 - y}})"
     "{(d) => minHoodLoc(nbr{d} + 1, " + SOURCE + ")};",
     "weights times 0": "metric 0..9; main = rep({c}){(d) => minHoodLoc(nbr{d} + nbrLink * 0 + 1, " + SOURCE + ")};",
-    "a potential with ties": "main = let q = sense w * 3 in share(0){(x) => maxHoodLoc(mux(nbr{q} < q, x, 0), sense w)};",
+    "a potential with ties": "main = let q = sense w * 3 in"
+    " share(0){(x) => maxHoodLoc(mux(nbr{q} < q, x, 0), sense w)};",
     "a count downhill by number": "main = let q = uid in rep(0){(x) => 1 + sumHood(mux(nbr{q} < q, nbr{x}, 0))};",
     "limited rise": "main = rep(0){(d) => rise(minHoodLoc(nbr{d} + 3, " + SOURCE + "), d, 1)};",
     "the least of two that are heard": "main = share(9){(d) => minHoodLoc(min(d * 2 + 1, d + 4), " + SOURCE + ")};",
@@ -51,7 +52,9 @@ def line(devices: int) -> str:
 @needs_fc
 class StableInTime(unittest.TestCase):
     def ask(self, *parts: str, words: tuple[str, ...] = ("stable",)) -> str:
-        done = subprocess.run([os.environ["FC"], *words], input="%%\n".join(parts), capture_output=True, text=True, check=False)
+        done = subprocess.run(
+            [os.environ["FC"], *words], input="%%\n".join(parts), capture_output=True, text=True, check=False
+        )
         self.assertEqual(done.returncode, 0, (parts[0], done.stdout[:200], done.stderr[:200]))
         return done.stdout
 

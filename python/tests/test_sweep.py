@@ -1,5 +1,5 @@
-"""Sweeps: what is drawn from a seed, the rows that fc's answers make, one file whatever asks, stopping and going on, a cluster
-of which a worker is ended, and rows that are confirmed by hand and by runs from rubbish."""
+"""Sweeps: what is drawn from a seed, the rows that fc's answers make, one file whatever asks, stopping and going on, a
+cluster of which a worker is ended, and rows that are confirmed by hand and by runs from rubbish."""
 
 from __future__ import annotations
 
@@ -225,7 +225,9 @@ class Sweeps(InFolder):
         whole = self.sweep(*SHAPE, "--count", 200, name="whole.csv")
         words = ["sweep", self.program, *map(str, SHAPE), "--count", "200", "--workers", "3", "-o", "rows.csv"]
         environment = dict(os.environ, PYTHONPATH=str(TOP / "python"), FC=slow)
-        with subprocess.Popen([sys.executable, "-B", "-m", "fieldc", *words], cwd=self.folder, env=environment) as process:
+        with subprocess.Popen(
+            [sys.executable, "-B", "-m", "fieldc", *words], cwd=self.folder, env=environment
+        ) as process:
             self.wait_for(self.folder / "rows.csv", 40)
             process.kill()
         there = (self.folder / "rows.csv").read_text()
@@ -268,7 +270,16 @@ class Sweeps(InFolder):
 
     def started(self, name: str, *words: str, **variables: str) -> subprocess.Popen:
         """A program of Dask on loopback, which is ended with the test."""
-        command = [sys.executable, "-B", "-m", f"distributed.cli.{name}", *words, "--host", "127.0.0.1", "--no-dashboard"]
+        command = [
+            sys.executable,
+            "-B",
+            "-m",
+            f"distributed.cli.{name}",
+            *words,
+            "--host",
+            "127.0.0.1",
+            "--no-dashboard",
+        ]
         return self.run_beside(command, **variables)
 
     def run_beside(self, command: list[str], **variables: str) -> subprocess.Popen:
@@ -306,11 +317,15 @@ class Sweeps(InFolder):
             made = deployment(rule, row.seed)
             sources = [device for device, own in made.inputs.items() if own["src"]]
             hops = networkx.multi_source_dijkstra_path_length(made.graph(), sources, weight=None)
-            self.assertEqual([int(value) for value in row.values], [int(hops.get(device, 60)) for device in made.devices])
+            self.assertEqual(
+                [int(value) for value in row.values], [int(hops.get(device, 60)) for device in made.devices]
+            )
             self.assertEqual((row.devices, row.links), (40, len(made.links)))
             left += len(hops) < 40
         self.assertTrue(0 < left < 60)
-        outcome = fieldc("sweep", self.program, *SHAPE, "--count", 60, "--values", "-o", "rows.csv", folder=self.folder).output
+        outcome = fieldc(
+            "sweep", self.program, *SHAPE, "--count", 60, "--values", "-o", "rows.csv", folder=self.folder
+        ).output
         self.assertIn(f"with a device at the ceiling: {left} (", outcome)
 
     @needs("networkx")
@@ -341,7 +356,9 @@ class Sweeps(InFolder):
         self.assertFalse(any(row.refused for row in kept))
 
     def test_what_else_fc_refuses_ends_the_sweep(self) -> None:
-        far = lambda seed: max([0, *(w for _, _, w in network.weighed(network.disk(2, 100, 150, seed), 1, 9, 20).links)])  # noqa: E731
+        def far(seed: int) -> int:
+            return max([0, *(w for _, _, w in network.weighed(network.disk(2, 100, 150, seed), 1, 9, 20).links)])
+
         first = next(seed for seed in range(99) if far(seed) <= 3 < far(seed + 1))
         self.program = self.file(HOPS.replace("main", "metric 1..3; main"), "metric.fc")
         words = ("--disk", 2, "--range", 150, "--metric", "1..9", "--unit", 20, "--set", "src=true@0", "--seed", first)
@@ -350,12 +367,27 @@ class Sweeps(InFolder):
         self.assertTrue(done.errors.startswith("fieldc: network /links/0 weight\n"), done.errors)
 
     def test_files_of_positions_and_links(self) -> None:
-        points = self.file("name,x,y,src\n" + "".join(f"m{d},{10 * d},0,{'true' if d == 0 else 'false'}\n" for d in range(6)))
+        points = self.file(
+            "name,x,y,src\n" + "".join(f"m{d},{10 * d},0,{'true' if d == 0 else 'false'}\n" for d in range(6))
+        )
         text = self.sweep("--points", points, "--range", 12, "--jitter", 1, "--count", 8)
         found = rows.rows_of(text, "rows.csv")
         self.assertTrue(all((row.devices, row.verdict) == (6, "yes") for row in found))
         self.assertEqual({row.links for row in found} | {5}, {5})
-        words = ("--points", points, "--range", 12, "--jitter", 1, "--again", 3, "-o", "net.json", "--positions", "at.csv")
+        words = (
+            "--points",
+            points,
+            "--range",
+            12,
+            "--jitter",
+            1,
+            "--again",
+            3,
+            "-o",
+            "net.json",
+            "--positions",
+            "at.csv",
+        )
         self.assertEqual(fieldc("sweep", self.program, *words, folder=self.folder).status, 0)
         self.assertEqual((self.folder / "net.names.csv").read_text().splitlines()[1], "0,m0")
         places = [float(line.split(",")[1]) for line in (self.folder / "at.csv").read_text().splitlines()[1:]]
@@ -371,14 +403,21 @@ class Sweeps(InFolder):
     @needs("matplotlib")
     def test_the_report(self) -> None:
         words = ("--disk", "10..40", "--density", 40, "--range", 25, "--metric", "1..1", "--set", "src=true@random:2")
-        text = self.sweep(*words, "--count", 40, "--title", "Hops & more", "--report", "page.html", "--report", "drawn.png")
+        text = self.sweep(
+            *words, "--count", 40, "--title", "Hops & more", "--report", "page.html", "--report", "drawn.png"
+        )
         self.assertEqual((self.folder / "drawn.png").read_bytes()[:4], b"\x89PNG")
         page = (self.folder / "page.html").read_text()
         found = rows.rows_of(text, "rows.csv")
         worst = sorted(found, key=lambda row: (-row.rounds, row.seed))[:10]
         for row in worst:
             self.assertIn(f"<tr><td>{row.seed}<td>{row.devices}<td>{row.links}<td>", page)
-        for said in ("<h1>Hops &amp; more</h1>", "data:image/png;base64,iVBOR", "<h2>The slowest</h2>", "seeds 0 to 39"):
+        for said in (
+            "<h1>Hops &amp; more</h1>",
+            "data:image/png;base64,iVBOR",
+            "<h2>The slowest</h2>",
+            "seeds 0 to 39",
+        ):
             self.assertIn(said, page)
         again = next(line for line in page.splitlines() if line.endswith("--again SEED -o net.json</pre>"))
         said = again.split("hops.fc ")[1].split(" --again")[0].split(" ")
@@ -388,7 +427,9 @@ class Sweeps(InFolder):
         words = ("sweep", self.program, *SHAPE, "--count", 150, "--workers", 2, "-o", self.folder / "rows.csv")
         said = test_command.LongWork.on_a_terminal(self, *words, fc=self.slow(0.05))
         self.assertRegex(said, "fieldc: 150 deployments: [0-9]+ s, [1-9][0-9]* done, [0-9]+ a second, [0-9]+ s left")
-        self.assertRegex(said, "fieldc sweep: 150 rows in [0-9.]+ s, [0-9.]+ s of a processor in fc and [0-9.]+ s beside it")
+        self.assertRegex(
+            said, "fieldc sweep: 150 rows in [0-9.]+ s, [0-9.]+ s of a processor in fc and [0-9.]+ s beside it"
+        )
 
     def test_wrong_words_and_files(self) -> None:
         rows_of = {
@@ -481,9 +522,16 @@ class Batches(unittest.TestCase):
                 running.checked(batch)
 
     def test_batches_cover_each_seed_once(self) -> None:
-        for rule in (DISK, Rule("line", count=(10, 1000)), Rule("torus", sides=(3, 4)), Rule("edges", base=network.line(70))):
+        for rule in (
+            DISK,
+            Rule("line", count=(10, 1000)),
+            Rule("torus", sides=(3, 4)),
+            Rule("edges", base=network.line(70)),
+        ):
             found = list(running.batches(questions.Question(rule, "main = 1;"), 5, 333))
-            self.assertEqual([seed for first, count in found for seed in range(first, first + count)], list(range(5, 338)))
+            self.assertEqual(
+                [seed for first, count in found for seed in range(first, first + count)], list(range(5, 338))
+            )
 
 
 if __name__ == "__main__":

@@ -3,11 +3,12 @@
 A case begins with `=== NAME`. `words:` are those of the command, `check` where none are said. `program:`, `network:`,
 `script:` and `log:` begin a section; what follows is its text, up to the next word with a colon. In a section the line
 `repeat N "text"` stands for the text N times, and `count A B "text"` for the text for each number, in the place of `#`;
-neither adds a line feed. `network: three` is three devices in a line, the first of them a source. `fc:` is the line that
-`fc` writes, `at:` the place that is wanted (section, line and column, or none), `says:` the sentence, and `try:` the hint,
-where it is told.
+neither adds a line feed. `network: three` is three devices in a line, the first of them a source. `fc:` is the line
+that `fc` writes, `at:` the place that is wanted (section, line and column, or none), `says:` the sentence, and `try:`
+the hint, where it is told.
 
-A program that is left out is a hop count, and a network three devices in a line, or one device where a program is given.
+A program that is left out is a hop count, and a network three devices in a line, or one device where a program is
+given.
 """
 
 from __future__ import annotations

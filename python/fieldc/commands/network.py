@@ -18,8 +18,9 @@ SUMMARY = "makes a network: a line, ring, grid, torus, devices in a square, or f
 EPILOG = """\
 Example: fieldc network --grid 8x5 --set source=true@0 > grid.json
 
-Names of devices that are no numbers are numbered in the order of the file, and kept in a file of lines id,name: NET.names.csv
-beside -o NET.json, or where --names says. fieldc picture --names and the commands that write values take it."""
+Names of devices that are no numbers are numbered in the order of the file, and kept in a file of lines id,name:
+NET.names.csv beside -o NET.json, or where --names says. fieldc picture --names and the commands that write values
+take it."""
 
 
 def whole(least: int, what: str) -> Callable[[str], int]:
@@ -83,10 +84,16 @@ def arguments(parser: argparse.ArgumentParser) -> None:
     shape.add_argument("--grid", metavar="WxH", type=sides, help="W times H devices, linked across and up and down")
     shape.add_argument("--torus", metavar="WxH", type=sides, help="a grid whose opposite borders are linked")
     shape.add_argument("--disk", metavar="N", type=count, help="N devices at random in a square; needs --range")
-    shape.add_argument("--points", metavar="FILE", help="rows id, x, y, or with the names of columns first; needs --range")
+    shape.add_argument(
+        "--points", metavar="FILE", help="rows id, x, y, or with the names of columns first; needs --range"
+    )
     shape.add_argument("--edges", metavar="FILE", help="links, one line 'a b' or 'a b weight' each, or GraphML, or GML")
-    shape.add_argument("--scene", metavar="FILE", help="a network in JSON, or an input of fc whose second section is one")
-    parser.add_argument("-o", "--output", metavar="FILE", default="-", help="where the network is written (standard output)")
+    shape.add_argument(
+        "--scene", metavar="FILE", help="a network in JSON, or an input of fc whose second section is one"
+    )
+    parser.add_argument(
+        "-o", "--output", metavar="FILE", default="-", help="where the network is written (standard output)"
+    )
     _shaping(parser)
     _filling(parser)
 
@@ -102,7 +109,9 @@ def _shaping(parser: argparse.ArgumentParser) -> None:
     parser.add_argument("--unit", metavar="U", type=length, default=1.0, help="how far a weight of 1 is (1)")
     parser.add_argument("--round", action="store_true", help="rounds the file's weights to whole numbers")
     most = whole(1, "a number of links")
-    parser.add_argument("--max-degree", metavar="N", type=most, help="keeps the nearest links, at most N of each device")
+    parser.add_argument(
+        "--max-degree", metavar="N", type=most, help="keeps the nearest links, at most N of each device"
+    )
 
 
 def _filling(parser: argparse.ArgumentParser) -> None:
@@ -114,9 +123,15 @@ def _filling(parser: argparse.ArgumentParser) -> None:
         default=[],
         help="an input of all devices, or of those named; else it is as in the file, or false",
     )
-    parser.add_argument("--inputs", metavar="NAME,NAME..", help="the columns or attributes of the file that are inputs (all)")
-    parser.add_argument("--program", metavar="FILE", help="a program whose inputs are taken, and checked with the weights")
-    parser.add_argument("--table", metavar="FILE", help="starts from the table of fc run --table, with nothing in flight")
+    parser.add_argument(
+        "--inputs", metavar="NAME,NAME..", help="the columns or attributes of the file that are inputs (all)"
+    )
+    parser.add_argument(
+        "--program", metavar="FILE", help="a program whose inputs are taken, and checked with the weights"
+    )
+    parser.add_argument(
+        "--table", metavar="FILE", help="starts from the table of fc run --table, with nothing in flight"
+    )
     parser.add_argument("--positions", metavar="FILE", help="writes the positions there, one line id,x,y each")
     parser.add_argument("--names", metavar="FILE", help="writes the names of devices there, one line id,name each")
 

@@ -22,8 +22,9 @@ SUMMARY = "draws a network with the values of its devices, or a run as a page wi
 EPILOG = """\
 Example: fieldc picture hops.fc net.json --of stable --positions points.csv -o hops.svg
 
-The files are a program and a network; for a run its script too, and for a replay its log, since each show is drawn on the
-network as it is then. A network alone is drawn without values. What fc wrote is read by --values, or asked for by --of."""
+The files are a program and a network; for a run its script too, and for a replay its log, since each show is drawn on
+the network as it is then. A network alone is drawn without values. What fc wrote is read by --values, or asked for
+by --of."""
 OF = {
     "stable": ("stable",),
     "settle": ("check", "--settle"),
@@ -38,8 +39,12 @@ KINDS = ("program", "network", "script")
 
 
 def arguments(parser: argparse.ArgumentParser) -> None:
-    parser.add_argument("files", nargs="+", metavar="FILE", help="PROGRAM NETWORK [SCRIPT or LOG], joined or not; or a network")
-    parser.add_argument("-o", "--output", metavar="FILE", required=True, help="the picture, by its ending .svg, .png, .pdf, .html")
+    parser.add_argument(
+        "files", nargs="+", metavar="FILE", help="PROGRAM NETWORK [SCRIPT or LOG], joined or not; or a network"
+    )
+    parser.add_argument(
+        "-o", "--output", metavar="FILE", required=True, help="the picture, by its ending .svg, .png, .pdf, .html"
+    )
     values = parser.add_mutually_exclusive_group()
     values.add_argument("--values", metavar="FILE", help="what fc wrote of this network (- is standard input)")
     values.add_argument("--of", choices=tuple(OF), help="asks fc for the values")
@@ -48,7 +53,9 @@ def arguments(parser: argparse.ArgumentParser) -> None:
     parser.add_argument("--positions", metavar="FILE", help="positions, one line id,x,y each (else a layout is made)")
     parser.add_argument("--names", metavar="FILE", help="names of devices, one line id,name each")
     parser.add_argument("--numbers", action="store_true", help="writes the number, or name, beside each device")
-    parser.add_argument("--mark", metavar="NAME", action="append", default=[], help="marks devices whose input NAME is true")
+    parser.add_argument(
+        "--mark", metavar="NAME", action="append", default=[], help="marks devices whose input NAME is true"
+    )
     parser.add_argument("--title", default="", help="a line above the picture")
 
 
@@ -59,7 +66,9 @@ def perform(options: argparse.Namespace) -> int:
     if options.values == "-" and "-" in options.files:
         raise Fault("standard input can be read once: name it by one -")
     parts = parted(options.files)
-    network = replace(read_scene(parts[1].text, parts[1].name), names=names_from(options.names) if options.names else {})
+    network = replace(
+        read_scene(parts[1].text, parts[1].name), names=names_from(options.names) if options.names else {}
+    )
     answer = read(options.values) if options.values else asked(options.of, parts) if options.of else None
     program, lines = (parts[0].text or None), (parts[2].text if len(parts) > 2 else None)
     picture = check_marks(gathered(program, network, lines, answer), options.mark)
@@ -77,7 +86,9 @@ def parted(names: Sequence[str]) -> tuple[Section, ...]:
     if len(parts) == 1 and parts[0].text.lstrip()[:1] in ("{", "["):
         return (Section("program", "", 1, ""), replace(parts[0], kind="network"))
     if len(parts) not in (2, 3):
-        raise Fault(f"{len(parts)} sections: PROGRAM NETWORK and, of a run or replay, SCRIPT or LOG; or a network alone")
+        raise Fault(
+            f"{len(parts)} sections: PROGRAM NETWORK and, of a run or replay, SCRIPT or LOG; or a network alone"
+        )
     return parts
 
 

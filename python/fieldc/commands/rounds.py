@@ -19,12 +19,22 @@ verdict (- with a no)."""
 
 
 def arguments(parser: argparse.ArgumentParser) -> None:
-    parser.add_argument("files", nargs="+", metavar="FILE", help="PROGRAM NETWORK, joined or not (the rest is left out)")
-    parser.add_argument("-o", "--output", metavar="FILE", required=True, help="the picture, by its ending .svg, .png or .pdf")
     parser.add_argument(
-        "--number", metavar="N", type=int, action="append", help="the rubbish of this number (1); several give several curves"
+        "files", nargs="+", metavar="FILE", help="PROGRAM NETWORK, joined or not (the rest is left out)"
     )
-    parser.add_argument("--rounds", metavar="R", type=int, help=f"how many rounds are run (R, at most {rounds.MOST_ROUNDS:,})")
+    parser.add_argument(
+        "-o", "--output", metavar="FILE", required=True, help="the picture, by its ending .svg, .png or .pdf"
+    )
+    parser.add_argument(
+        "--number",
+        metavar="N",
+        type=int,
+        action="append",
+        help="the rubbish of this number (1); several give several curves",
+    )
+    parser.add_argument(
+        "--rounds", metavar="R", type=int, help=f"how many rounds are run (R, at most {rounds.MOST_ROUNDS:,})"
+    )
     parser.add_argument("--workers", metavar="W", type=int, default=4, help="threads that fire devices in each run (4)")
     parser.add_argument("--title", default="", help="a line above the picture")
 
@@ -47,5 +57,8 @@ def perform(options: argparse.Namespace) -> int:
     for one in found:
         settled = one.settled(len(promise.values))
         bound = promise.verdict.rounds
-        print(f"{one.number} {'unsettled' if settled is None else settled} {promise.time} {'-' if bound is None else bound}")
+        print(
+            f"{one.number} {'unsettled' if settled is None else settled} {promise.time} "
+            f"{'-' if bound is None else bound}"
+        )
     return 0

@@ -27,9 +27,9 @@ SUMMARY = "asks after how many rounds a program settles on many deployments that
 EPILOG = """\
 Example: fieldc sweep hops.fc --disk 60 --range 20 --set src=true@random:2 --count 1000 -o hops.csv --report hops.html
 
-Each deployment is drawn from its seed alone, and has a row in the file: seed, devices, links, components, diameter, verdict,
-K, R (or open), and the device that is known last with its rounds. A sweep that was stopped goes on where it was.
-fieldc sweep with the same options and --again SEED makes the network of a seed."""
+Each deployment is drawn from its seed alone, and has a row in the file: seed, devices, links, components, diameter,
+verdict, K, R (or open), and the device that is known last with its rounds. A sweep that was stopped goes on where it
+was. fieldc sweep with the same options and --again SEED makes the network of a seed."""
 
 
 def numbers(word: str) -> Pair:
@@ -79,12 +79,18 @@ def drawn(word: str) -> Setting:
 def arguments(parser: argparse.ArgumentParser) -> None:
     parser.add_argument("program", metavar="PROGRAM", help="the program's file")
     shape = parser.add_mutually_exclusive_group(required=True)
-    shape.add_argument("--line", metavar="N", type=numbers, help="N devices, each linked to the next; N may be LOW..HIGH")
+    shape.add_argument(
+        "--line", metavar="N", type=numbers, help="N devices, each linked to the next; N may be LOW..HIGH"
+    )
     shape.add_argument("--ring", metavar="N", type=numbers, help="a line whose ends are linked; N may be LOW..HIGH")
     shape.add_argument("--grid", metavar="WxH", type=sides, help="W times H devices, linked across and up and down")
     shape.add_argument("--torus", metavar="WxH", type=sides, help="a grid whose opposite borders are linked")
-    shape.add_argument("--disk", metavar="N", type=numbers, help="N devices at random in a square, or LOW..HIGH; needs --range")
-    shape.add_argument("--points", metavar="FILE", help="rows id, x, y of positions, which --jitter moves; needs --range")
+    shape.add_argument(
+        "--disk", metavar="N", type=numbers, help="N devices at random in a square, or LOW..HIGH; needs --range"
+    )
+    shape.add_argument(
+        "--points", metavar="FILE", help="rows id, x, y of positions, which --jitter moves; needs --range"
+    )
     shape.add_argument("--edges", metavar="FILE", help="links, GraphML or GML, of which --fail takes some away")
     _drawing(parser)
     _asking(parser)
@@ -93,36 +99,60 @@ def arguments(parser: argparse.ArgumentParser) -> None:
 def _drawing(parser: argparse.ArgumentParser) -> None:
     parser.add_argument("--range", metavar="R", type=length, help="devices at most this far apart are linked")
     parser.add_argument("--side", metavar="S", type=above, default=SQUARE, help="the side of the square (100)")
-    parser.add_argument("--density", metavar="D", type=above, help="D devices in each square of side 100, in place of --side")
-    parser.add_argument("--jitter", metavar="J", type=length, default=0.0, help="moves points by up to J along each axis (0)")
-    parser.add_argument("--fail", metavar="P", type=probability, default=0.0, help="each link fails with this probability (0)")
-    parser.add_argument("--weight", metavar="W", type=whole(0, "a weight"), help="the weight of each link (1, or the file's)")
+    parser.add_argument(
+        "--density", metavar="D", type=above, help="D devices in each square of side 100, in place of --side"
+    )
+    parser.add_argument(
+        "--jitter", metavar="J", type=length, default=0.0, help="moves points by up to J along each axis (0)"
+    )
+    parser.add_argument(
+        "--fail", metavar="P", type=probability, default=0.0, help="each link fails with this probability (0)"
+    )
+    parser.add_argument(
+        "--weight", metavar="W", type=whole(0, "a weight"), help="the weight of each link (1, or the file's)"
+    )
     parser.add_argument("--metric", metavar="LOW..HIGH", type=span, help="weights by distance, rounded into this range")
     parser.add_argument("--unit", metavar="U", type=above, default=1.0, help="how far a weight of 1 is (1)")
     most = whole(1, "a number of links")
-    parser.add_argument("--max-degree", metavar="N", type=most, help="keeps the nearest links, at most N of each device")
+    parser.add_argument(
+        "--max-degree", metavar="N", type=most, help="keeps the nearest links, at most N of each device"
+    )
     parser.add_argument(
         "--set",
         metavar="NAME=VALUE[@WHERE]",
         type=drawn,
         action="append",
         default=[],
-        help="an input of all devices, of those named (@ID,ID..), or of N that are drawn (@random:N); a value LOW..HIGH is "
-        "drawn for each device",
+        help="an input of all devices, of those named (@ID,ID..), or of N that are drawn (@random:N); "
+        "a value LOW..HIGH is drawn for each device",
     )
 
 
 def _asking(parser: argparse.ArgumentParser) -> None:
-    parser.add_argument("--count", metavar="N", type=whole(1, "a number of deployments"), default=100, help="how many (100)")
-    parser.add_argument("--seed", metavar="S", type=whole(0, "a seed"), default=0, help="the first seed (0); the others follow")
-    parser.add_argument("--values", action="store_true", help="keeps the stabilised values too, as fc stable writes them")
+    parser.add_argument(
+        "--count", metavar="N", type=whole(1, "a number of deployments"), default=100, help="how many (100)"
+    )
+    parser.add_argument(
+        "--seed", metavar="S", type=whole(0, "a seed"), default=0, help="the first seed (0); the others follow"
+    )
+    parser.add_argument(
+        "--values", action="store_true", help="keeps the stabilised values too, as fc stable writes them"
+    )
     parser.add_argument("-o", "--output", metavar="FILE", help="the rows, a file .csv; with --again the network")
-    parser.add_argument("--report", metavar="FILE", action="append", default=[], help="a picture or a page, by its ending")
+    parser.add_argument(
+        "--report", metavar="FILE", action="append", default=[], help="a picture or a page, by its ending"
+    )
     parser.add_argument("--title", help="a line above the report (the program's name)")
-    parser.add_argument("--workers", metavar="W", type=whole(1, "a number of processes"), help="processes (one a processor)")
+    parser.add_argument(
+        "--workers", metavar="W", type=whole(1, "a number of processes"), help="processes (one a processor)"
+    )
     parser.add_argument("--scheduler", metavar="ADDRESS", help="asks on the Dask cluster of this scheduler, host:port")
-    parser.add_argument("--again", metavar="SEED", type=whole(0, "a seed"), help="makes the network of this seed, asks nothing")
-    parser.add_argument("--positions", metavar="FILE", help="with --again: writes the positions there, one line id,x,y each")
+    parser.add_argument(
+        "--again", metavar="SEED", type=whole(0, "a seed"), help="makes the network of this seed, asks nothing"
+    )
+    parser.add_argument(
+        "--positions", metavar="FILE", help="with --again: writes the positions there, one line id,x,y each"
+    )
 
 
 def perform(options: argparse.Namespace) -> int:
@@ -152,7 +182,9 @@ def perform(options: argparse.Namespace) -> int:
 
 def rule_of(options: argparse.Namespace, program: str) -> Rule:
     """The rule that is asked for. Raises Fault where options don't go together, or a file can't be read."""
-    shape = next(name for name in ("line", "ring", "grid", "torus", "disk", "points", "edges") if getattr(options, name))
+    shape = next(
+        name for name in ("line", "ring", "grid", "torus", "disk", "points", "edges") if getattr(options, name)
+    )
     if shape in ("disk", "points") and options.range is None:
         raise Fault(f"--{shape} needs a --range")
     if options.jitter and shape != "points":
@@ -202,7 +234,9 @@ def again(rule: Rule, options: argparse.Namespace) -> int:
 def judge(question: Question, seed: int) -> None:
     """Refuses a program or inputs that are wrong on all deployments, before many are asked."""
     for end in (0, 1):
-        inputs = [replace(one, value=one.value[end]) if isinstance(one.value, tuple) else one for one in question.rule.inputs]
+        inputs = [
+            replace(one, value=one.value[end]) if isinstance(one.value, tuple) else one for one in question.rule.inputs
+        ]
         found = network.judged(deployment(replace(question.rule, inputs=tuple(inputs)), seed), question.program)
     first = min(found.inputs)
     alone = replace(found, inputs={first: found.inputs[first]}, links=(), state={})

@@ -18,7 +18,9 @@ if TYPE_CHECKING:
 OUT_OF_A_FIELD = "One value is taken out of a field by `minHoodLoc`, `maxHoodLoc`, `sumHood`, `anyHood` or `allHood`."
 ANOTHER_NAME = "Give one of them another name."
 PLURAL = {"int": "integers", "bool": "truth values"}
-CALLED = [word for word in WORDS if word.endswith(("Hood", "Loc")) or word in ("min", "max", "mux", "fst", "snd", "rise")]
+CALLED = [
+    word for word in WORDS if word.endswith(("Hood", "Loc")) or word in ("min", "max", "mux", "fst", "snd", "rise")
+]
 
 
 @dataclass(frozen=True)
@@ -250,7 +252,11 @@ def mismatch(text: str, expr: Expr, found: list[Type]) -> Complaint:
     what = f"`{name}` takes {PLURAL[wanted]}, and {quoted(text, expr.kids[place])} is {kind_text(found[place])}."
     if len(found) == 1:
         what = f"`{name}` takes a truth value, and {quoted(text, expr.kids[0])} is {kind_text(found[0])}."
-    hint = "A truth value is made a number by `mux(c, 1, 0)`." if wanted == "int" and found[place].local == "bool" else None
+    hint = (
+        "A truth value is made a number by `mux(c, 1, 0)`."
+        if wanted == "int" and found[place].local == "bool"
+        else None
+    )
     hint = "Compare it, as in `x = 1`." if wanted == "bool" and found[place].local == "int" else hint
     return Complaint(what, expr.kids[place].at, name, hint)
 

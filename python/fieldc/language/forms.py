@@ -55,7 +55,9 @@ def in_keeping(stuck: Stuck) -> Advice | None:
         what = "The variable of a `rep` or `share` has the type of the first value, and none is written."
         return advice(here, what, REP)
     if stuck.kind_of(stuck.index - 3) == "BEGIN" and stuck.kind == "COMMA" and stuck.expected == {"CLOSE"}:
-        return advice(here, "A `rep` or `share` has one variable.", "Keep two values as a pair: `rep((0, 0)){(p) => ..}`.")
+        return advice(
+            here, "A `rep` or `share` has one variable.", "Keep two values as a pair: `rep((0, 0)){(p) => ..}`."
+        )
     return None
 
 

@@ -126,7 +126,7 @@ MARKS = {
 """The marks of programs, by the names that the grammar gives them."""
 
 WORDS = frozenset(
-    "ceiling input metric def main let in if nbr rep sense uid nbrLink not and or true false int bool field min max mux "
-    "fst snd minHoodLoc maxHoodLoc sumHood anyHood allHood share rise language".split()
+    "ceiling input metric def main let in if nbr rep sense uid nbrLink not and or true false int bool field min max "
+    "mux fst snd minHoodLoc maxHoodLoc sumHood anyHood allHood share rise language".split()
 )
 """The words of programs, which are never names."""

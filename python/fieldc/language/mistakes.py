@@ -27,7 +27,9 @@ def lexical(text: str, offset: int, place: At) -> Fault:
         hint = "This begins like a network. The program comes first."
     elif around.startswith("->"):
         place, what = At(place.line, place.column - 1), "`->` isn't a mark of the language."
-        hint = "Behind the variable of a `rep` stands `=>`, and before the type of a result `:`, as `def f(x: int): int`."
+        hint = (
+            "Behind the variable of a `rep` stands `=>`, and before the type of a result `:`, as `def f(x: int): int`."
+        )
         shown = "->"
     elif sign == "." and text[:offset].endswith(")"):
         hint = PARTS
@@ -67,7 +69,9 @@ def first_of(stuck: Stuck) -> Advice | None:
         what = f"A program begins with its ceiling, and this one with {code(here)}."
         return advice(here, what, "Write `ceiling 10;` in front, with the greatest number that the program needs.")
     if stuck.start == "second":
-        return advice(here, f"Behind `language 2;` comes the ceiling, and not {code(here)}.", "Write `ceiling 10;` there.")
+        return advice(
+            here, f"Behind `language 2;` comes the ceiling, and not {code(here)}.", "Write `ceiling 10;` there."
+        )
     return _no_declaration(stuck)
 
 
@@ -81,7 +85,9 @@ def _no_declaration(stuck: Stuck) -> Advice:
         hint = "Write `let x = a in b` in the body of a function or of `main`."
         return advice(here, f"A value is named inside an expression alone, and {code(here)} stands outside.", hint)
     hint = hint_for(here.value) or "Inputs, metrics, functions and `main` are declared, each ending with `;`."
-    return advice(here, f"A declaration begins with `input`, `metric`, `def` or `main`, and not with {code(here)}.", hint)
+    return advice(
+        here, f"A declaration begins with `input`, `metric`, `def` or `main`, and not with {code(here)}.", hint
+    )
 
 
 def other_language(stuck: Stuck) -> Advice | None:
@@ -214,7 +220,9 @@ def _in_define(stuck: Stuck) -> Advice | None:
             return advice(stuck.before, what, f"Write `{stuck.before.value}: int`.", TYPES)
         return advice(here, "The type of the result is missing.", "Write `def f(x: int): int = x;`.", TYPES)
     if expected == {"IS"}:
-        return advice(here, "Between the type of the result and the body stands `=`.", "Write `def f(x: int): int = x;`.")
+        return advice(
+            here, "Between the type of the result and the body stands `=`.", "Write `def f(x: int): int = x;`."
+        )
     if "NAME" in expected and not stuck.operand and stuck.kind == "CLOSE":
         return advice(here, "A parameter is missing behind the comma.", "Take the comma away.")
     return None
@@ -243,7 +251,9 @@ def anything_else(stuck: Stuck) -> Advice:
     wanted = ", ".join(names[:-1]) + (" or " if len(names) > 1 else "") + names[-1] if names else "something else"
     found = code(stuck.here)
     if 0 < len(names) <= 4:
-        return advice(stuck.here or stuck.before, f"Here {wanted} is expected, and there is {found}.", end=stuck.here is None)
+        return advice(
+            stuck.here or stuck.before, f"Here {wanted} is expected, and there is {found}.", end=stuck.here is None
+        )
     return advice(stuck.here or stuck.before, f"{found} can't stand here.".capitalize(), end=stuck.here is None)
 
 

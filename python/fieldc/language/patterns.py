@@ -1,7 +1,7 @@
 """Why a `rep` or `share` isn't of a form that is known to stabilise, and which part of it is to blame.
 
-The rules are those of docs/analysis.md, Growth and Patterns. They serve explanations alone: whether a program stabilises
-is what `fc` says.
+The rules are those of docs/analysis.md, Growth and Patterns. They serve explanations alone: whether a program
+stabilises is what `fc` says.
 """
 
 from __future__ import annotations
@@ -20,8 +20,8 @@ NESTING = ("let", "if", "rep", "share")
 class Blame:
     """The reason of a no at a place, with the place of the part that is to blame, and what is wrong with it.
 
-    `part` is a place; `round` is another one that matters (what stands round the part), or -1. `case` tells the forms of
-    one reason apart.
+    `part` is a place; `round` is another one that matters (what stands round the part), or -1. `case` tells the forms
+    of one reason apart.
     """
 
     place: int
@@ -101,7 +101,8 @@ class Patterns:
         return parent if self.heard(place, parent) else None
 
     def nesting(self, place: int, use: int) -> int | None:
-        """The innermost `let`, `if`, `rep`, `share`, or `nbr` of more than what is heard, between body and occurrence."""
+        """The innermost `let`, `if`, `rep`, `share`, or `nbr` of more than what is heard, between body and
+        occurrence."""
         inner = use
         while inner != self.nodes[place].kids[1]:
             inner = self.nodes[inner].parent
@@ -160,7 +161,8 @@ class Patterns:
         return Blame(place, "potential", uses[0])
 
     def minimising(self, place: int) -> Blame | None:
-        """What the rules of the least value and of limited rise say: a blame or nothing; NotImplemented where none applies."""
+        """What the rules of the least value and of limited rise say: a blame or nothing; NotImplemented where none
+        applies."""
         body = self.nodes[self.nodes[place].kids[1]]
         rising = self.nodes[place].form == "rep" and body.form == "apply" and body.name == "rise"
         if rising and (self.nodes[body.kids[1]].binder != place or self.has(place, body.kids[2])):

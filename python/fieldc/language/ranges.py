@@ -133,9 +133,9 @@ class Ranges:
         if name in ("min", "max"):
             return _by_first(_least if name == "min" else _greatest, kids[0], kids[1])
         if name == "minHoodLoc":
-            return _by_first(lambda f, l: Span(min(f.low, l.low), l.high), kids[0], kids[1])
+            return _by_first(lambda first, last: Span(min(first.low, last.low), last.high), kids[0], kids[1])
         if name == "maxHoodLoc":
-            return _by_first(lambda f, l: Span(l.low, max(f.high, l.high)), kids[0], kids[1])
+            return _by_first(lambda first, last: Span(last.low, max(first.high, last.high)), kids[0], kids[1])
         return self._arithmetic(name, kids)
 
     def _arithmetic(self, name: str, kids: list[Range]) -> Range:

@@ -55,7 +55,8 @@ def number_of(token: Token) -> int:
 
 @v_args(inline=True)
 class Builder(Transformer):
-    """Makes declarations and expressions of what the grammar finds: a method for each rule, with the parts of that rule."""
+    """Makes declarations and expressions of what the grammar finds: a method for each rule, with the parts of that
+    rule."""
 
     def first(self, found: Declaration) -> Declaration:
         return found
@@ -71,8 +72,12 @@ class Builder(Transformer):
     def truth_input(self, word: Token, name: Token, *_rest: Token) -> Declaration:
         return Declaration("input", at(word), name.value, at(name))
 
-    def whole_input(self, word: Token, name: Token, _c: Token, _i: Token, low: Token, _d: Token, high: Token, _e: Token):
-        return Declaration("input", at(word), name.value, at(name), ((number_of(low), at(low)), (number_of(high), at(high))))
+    def whole_input(
+        self, word: Token, name: Token, _c: Token, _i: Token, low: Token, _d: Token, high: Token, _e: Token
+    ):
+        return Declaration(
+            "input", at(word), name.value, at(name), ((number_of(low), at(low)), (number_of(high), at(high)))
+        )
 
     def metric(self, word: Token, low: Token, _dots: Token, high: Token, _end: Token) -> Declaration:
         return Declaration("metric", at(word), bounds=((number_of(low), at(low)), (number_of(high), at(high))))
@@ -137,7 +142,9 @@ class Builder(Transformer):
     def nbr(self, word: Token, _begin: Token, part: Expr, end: Token) -> Expr:
         return self._leaf("nbr", word, end, kids=(part,))
 
-    def keeping(self, word: Token, _o: Token, first: Expr, _c: Token, _b: Token, _p: Token, name: Token, *rest: Any) -> Expr:
+    def keeping(
+        self, word: Token, _o: Token, first: Expr, _c: Token, _b: Token, _p: Token, name: Token, *rest: Any
+    ) -> Expr:
         kids = (first, rest[2])
         return self._leaf(word.value, word, rest[-1], kids=kids, name=name.value, bound=at(name))
 

@@ -15,8 +15,8 @@ CLOSERS = {"OPEN": "CLOSE", "BEGIN": "END"}
 
 @dataclass(frozen=True, eq=False)
 class Stuck:
-    """Where reading a declaration ended: its number, its tokens, the index of the first that can't stand where it does (as
-    many as there are tokens where the declaration ends too early), the kinds of tokens that could, the place of the
+    """Where reading a declaration ended: its number, its tokens, the index of the first that can't stand where it does
+    (as many as there are tokens where the declaration ends too early), the kinds of tokens that could, the place of the
     declaration (first, second, item or end), and whether the program is of language 2."""
 
     number: int
@@ -108,7 +108,9 @@ def code(token: Token | None) -> str:
     return f"`{token.value}`" if token is not None else "the end of the text"
 
 
-def advice(token: Token | None, what: str, hint: str | None = None, page: str = GRAMMAR, *, end: bool = False) -> Advice:
+def advice(
+    token: Token | None, what: str, hint: str | None = None, page: str = GRAMMAR, *, end: bool = False
+) -> Advice:
     """An advice at a token, or right behind it."""
     place = At(1, 1) if token is None else behind(token) if end else place_of(token)
     return (place, what, token.value if token is not None and not end else None, hint, page)

@@ -53,10 +53,11 @@ def leaves(local: Local) -> int:
 class Expr:
     """An expression.
 
-    `form` is one of number, truth, variable, sense, uid, nbrLink, apply, nbr, rep, share, if, let and call. `name` is the
-    variable, input, function, the bound name, or the builtin as a program writes it (`pair` for a pair). `value` is that of
-    a number or truth value. `at` is the first token of the expression, brackets around it left out; `mark` is its operator
-    or word; `bound` the bound name. `start` and `end` are offsets in the section's text, brackets around it included.
+    `form` is one of number, truth, variable, sense, uid, nbrLink, apply, nbr, rep, share, if, let and call. `name` is
+    the variable, input, function, the bound name, or the builtin as a program writes it (`pair` for a pair). `value` is
+    that of a number or truth value. `at` is the first token of the expression, brackets around it left out; `mark` is
+    its operator or word; `bound` the bound name. `start` and `end` are offsets in the section's text, brackets around
+    it included.
     """
 
     form: str
@@ -87,8 +88,9 @@ class Parameter:
 class Declaration:
     """A declaration.
 
-    `form` is one of language, ceiling, input, metric, def and main, `number` its number from 1 and `at` its first token.
-    `bounds` are the number of a `ceiling` or the two of a range, each with its place; an input of truth values has none.
+    `form` is one of language, ceiling, input, metric, def and main, `number` its number from 1 and `at` its first
+    token. `bounds` are the number of a `ceiling` or the two of a range, each with its place; an input of truth values
+    has none.
     """
 
     form: str

@@ -64,7 +64,8 @@ def deep() -> Iterator[None]:
 
 
 def typed(program: Program) -> Known:
-    """The declarations of a program and the types of its expressions. Raises Fault with the first fault, as `fc` names it."""
+    """The declarations of a program and the types of its expressions. Raises Fault with the first fault, as `fc` names
+    it."""
     known = Known(program.text)
     with deep():
         for declaration in program.declarations:
@@ -118,7 +119,9 @@ def _def(declaration: Declaration, known: Known) -> None:
     scope: dict[str, Bound] = {}
     for parameter in declaration.parameters:
         if parameter.name in scope:
-            raise Wrong("twice", complaints.twice("A parameter", parameter.name, parameter.at, scope[parameter.name].at))
+            raise Wrong(
+                "twice", complaints.twice("A parameter", parameter.name, parameter.at, scope[parameter.name].at)
+            )
         _not_wide(parameter.type.local, parameter.at, f"The parameter `{parameter.name}`")
         scope[parameter.name] = Bound(parameter.type, parameter.at)
     assert declaration.result is not None and declaration.body is not None

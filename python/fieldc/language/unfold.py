@@ -26,9 +26,9 @@ class Site:
 class Node:
     """A node of the unfolded `main`.
 
-    `form` is one of number, truth, variable, sense, uid, nbrLink, apply, nbr, rep, share, if and let; a call is a `let` for
-    each argument, and `name` is then the parameter. `kids` are places. `binder` is the place of the node that binds a
-    variable. `expr` is the text that it comes from, `calls` the calls that lead there, the outermost first.
+    `form` is one of number, truth, variable, sense, uid, nbrLink, apply, nbr, rep, share, if and let; a call is a `let`
+    for each argument, and `name` is then the parameter. `kids` are places. `binder` is the place of the node that binds
+    a variable. `expr` is the text that it comes from, `calls` the calls that lead there, the outermost first.
     """
 
     place: int

@@ -7,8 +7,8 @@
     row = sweep.Question(rule, program).row(17)               # what fc says of it
     row.rounds, row.open                                      # (119, False)
 
-`deployments` draws, `questions` asks `fc`, `rows` keeps the answers in a file, `running` asks many at once on the processors
-of this machine or on a Dask cluster, and `report` draws what came of it.
+`deployments` draws, `questions` asks `fc`, `rows` keeps the answers in a file, `running` asks many at once on the
+processors of this machine or on a Dask cluster, and `report` draws what came of it.
 """
 
 from __future__ import annotations

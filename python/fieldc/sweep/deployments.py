@@ -1,7 +1,7 @@
 """Deployments: networks that are drawn by a rule, each from its seed alone.
 
-Only `random()` of Python's generator is used beside positions in a square, and each thing that is drawn has a generator of
-its own, so that one option doesn't change what another one draws.
+Only `random()` of Python's generator is used beside positions in a square, and each thing that is drawn has a generator
+of its own, so that one option doesn't change what another one draws.
 """
 
 from __future__ import annotations
@@ -37,11 +37,12 @@ class Setting:
 class Rule:
     """How deployments are drawn.
 
-    `shape` is one of SHAPES. `count` is the least and the greatest number of devices of a line, ring or disk, between which
-    one is drawn, evenly over their logarithms; `sides` are those of a grid or torus. A disk is a square of this `side`, or of
-    so many devices in each square of side 100 (`density`). Devices at most `reach` apart are linked. `base` has the devices
-    and positions of points, or the whole network of a graph; points are moved by up to `jitter` along each axis. Each link
-    fails with the probability `failing`. `weight`, `metric` with `unit`, and `most_links` are those of `fieldc network`.
+    `shape` is one of SHAPES. `count` is the least and the greatest number of devices of a line, ring or disk, between
+    which one is drawn, evenly over their logarithms; `sides` are those of a grid or torus. A disk is a square of this
+    `side`, or of so many devices in each square of side 100 (`density`). Devices at most `reach` apart are linked.
+    `base` has the devices and positions of points, or the whole network of a graph; points are moved by up to `jitter`
+    along each axis. Each link fails with the probability `failing`. `weight`, `metric` with `unit`, and `most_links`
+    are those of `fieldc network`.
     """
 
     shape: str
@@ -108,7 +109,8 @@ def _moved(base: Network, rule: Rule, seed: int) -> Network:
 
 
 def _filled(found: Network, settings: Sequence[Setting], seed: int) -> Network:
-    """The network with its inputs set, one setting after the other. A truth value that isn't set on a device is false there.
+    """The network with its inputs set, one setting after the other. A truth value that isn't set on a device is false
+    there.
 
     Raises Fault where a device isn't there, or a number is set on some devices and others have none.
     """

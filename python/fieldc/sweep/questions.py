@@ -1,4 +1,5 @@
-"""What is asked of `fc` about a deployment, and many such questions one after the other, in any process and on any machine."""
+"""What is asked of `fc` about a deployment, and many such questions one after the other, in any process and on any
+machine."""
 
 from __future__ import annotations
 
@@ -50,8 +51,8 @@ class Question:
 
 @dataclass(frozen=True)
 class Batch:
-    """Some rows as lines of a file, the seconds of a processor that `fc` took for each, those that were taken beside it for
-    all, and by what they were made."""
+    """Some rows as lines of a file, the seconds of a processor that `fc` took for each, those that were taken beside it
+    for all, and by what they were made."""
 
     lines: tuple[str, ...]
     seconds: tuple[float, ...]
@@ -70,7 +71,8 @@ def made_by() -> str:
 
 @lru_cache(maxsize=1)
 def executable() -> str:
-    """The program `fc`; in a checkout the proved program itself where it is built, since `./fc` looks at all sources first."""
+    """The program `fc`; in a checkout the proved program itself where it is built, since `./fc` looks at all sources
+    first."""
     found, here = fc.find(), fc.checkout()
     built = here / "crates/fc_program/out/fc_program" if here is not None else None
     return str(built) if here is not None and found == str(here / "fc") and os.access(built, os.X_OK) else found

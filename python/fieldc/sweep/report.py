@@ -25,8 +25,9 @@ ONE, SEVERAL, BAD, BOUND = "#1f4e9c", "#e08214", "#b2182b", "#d6381e"
 class Summary:
     """What came of a sweep.
 
-    `settled` are the rows with a settle time, from the slowest on, `open` and `refused` the others by seed. `bounds` are all
-    K, rising. `full` is how many rows have a device whose value is the ceiling or begins with it; nothing without values.
+    `settled` are the rows with a settle time, from the slowest on, `open` and `refused` the others by seed. `bounds`
+    are all K, rising. `full` is how many rows have a device whose value is the ceiling or begins with it; nothing
+    without values.
     """
 
     rows: tuple[Row, ...]
@@ -42,7 +43,8 @@ class Summary:
         return self.settled[:WORST]
 
     def quantile(self, part: float) -> int | None:
-        """The least R that so great a part of the rows with a settle time doesn't pass; nothing where there are none."""
+        """The least R that so great a part of the rows with a settle time doesn't pass; nothing where there are
+        none."""
         rising = self.settled[::-1]
         return rising[max(math.ceil(part * len(rising)), 1) - 1].rounds if rising else None
 
@@ -121,7 +123,8 @@ def bound_of(found: Summary) -> str:
 
 
 def drawn(found: Summary, title: str) -> Any:
-    """The figure: a histogram of R beside K, R against the diameter, and against the devices where they aren't all as many."""
+    """The figure: a histogram of R beside K, R against the diameter, and against the devices where they aren't all as
+    many."""
     pyplot = pyplot_ready()
     many = len({row.devices for row in found.rows}) > 1
     figure, panels = pyplot.subplots(1, 3 if many else 2, figsize=(15 if many else 11, 4.5), layout="constrained")
@@ -164,7 +167,8 @@ def _histogram(axes: Any, found: Summary) -> None:
 
 
 def _scatter(axes: Any, found: Summary, name: str, label: str) -> None:
-    """R against a column of the rows: the greater a dot, the more deployments. A cross above all is one that is open."""
+    """R against a column of the rows: the greater a dot, the more deployments. A cross above all is one that is
+    open."""
     from matplotlib.ticker import MaxNLocator
 
     for said, colour, several in (("one component", ONE, False), ("several components", SEVERAL, True)):
@@ -199,7 +203,8 @@ PAGE = """<!doctype html>
 </style>
 <h1>{title}</h1>
 <pre>{told}</pre>
-<img alt="A histogram of the settle times, and the settle times against the diameter" src="data:image/png;base64,{picture}">
+<img alt="A histogram of the settle times, and the settle times against the diameter"
+ src="data:image/png;base64,{picture}">
 {tables}<p>The network of a seed is made again by</p>
 <pre>{again}</pre>
 </html>
@@ -207,8 +212,8 @@ PAGE = """<!doctype html>
 
 
 def write(found: Summary, name: str, title: str, again: str) -> None:
-    """Writes a report into a file by its ending: `.png`, `.svg` or `.pdf`, or `.html`, which says with `again` how the network
-    of a seed is made again. Raises Fault, of status 6, where it can't be written."""
+    """Writes a report into a file by its ending: `.png`, `.svg` or `.pdf`, or `.html`, which says with `again` how the
+    network of a seed is made again. Raises Fault, of status 6, where it can't be written."""
     figure = drawn(found, title)
     if not name.lower().endswith(".html"):
         saved(figure, name)

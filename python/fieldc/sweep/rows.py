@@ -1,7 +1,7 @@
 """Rows of a sweep: what `fc` said of each deployment, in a file of separated values that grows as they come.
 
-Rows stand in the order of their seeds and have nothing but what the question and the seed decide, so that a sweep has one
-file, whatever asked it. How long `fc` took stands in a file of its own beside it.
+Rows stand in the order of their seeds and have nothing but what the question and the seed decide, so that a sweep has
+one file, whatever asked it. How long `fc` took stands in a file of its own beside it.
 """
 
 from __future__ import annotations
@@ -25,10 +25,10 @@ OPEN = "open"
 class Row:
     """What is known of the deployment of a seed.
 
-    `verdict` is `yes`, `no PLACE REASON`, or the line with which `fc` refused this network (`limit degree 33`). `bound` is
-    the K of a yes. `rounds` is the settle time R, and nothing where the network is open or was refused. `last` is the device
-    that is known last, the smallest of several, or one without a settle round; `last_rounds` is its settle round, if it has
-    one. `values` are those of the devices, rising, as `fc` writes them, where they were asked for.
+    `verdict` is `yes`, `no PLACE REASON`, or the line with which `fc` refused this network (`limit degree 33`). `bound`
+    is the K of a yes. `rounds` is the settle time R, and nothing where the network is open or was refused. `last` is
+    the device that is known last, the smallest of several, or one without a settle round; `last_rounds` is its settle
+    round, if it has one. `values` are those of the devices, rising, as `fc` writes them, where they were asked for.
     """
 
     seed: int
@@ -156,7 +156,9 @@ def _same(files: Files, sweep: Mapping[str, object]) -> None:
     try:
         found = json.loads(files.sweep.read_text())
     except (OSError, ValueError):
-        raise Fault(f"{files.rows} is there, and {files.sweep} doesn't say of which sweep: choose another file", 3) from None
+        raise Fault(
+            f"{files.rows} is there, and {files.sweep} doesn't say of which sweep: choose another file", 3
+        ) from None
     wanted = json.loads(json.dumps(sweep))
     other = [name for name in wanted if not isinstance(found, dict) or found.get(name) != wanted[name]]
     if other:

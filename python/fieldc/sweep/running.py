@@ -1,4 +1,5 @@
-"""Many questions at once: on the processors of this machine, or on a Dask cluster. Rows are written in the order of seeds."""
+"""Many questions at once: on the processors of this machine, or on a Dask cluster. Rows are written in the order of
+seeds."""
 
 from __future__ import annotations
 
@@ -29,8 +30,8 @@ LOUD = ("distributed", "distributed.client", "tornado.application", "asyncio")
 
 @dataclass(frozen=True)
 class Spent:
-    """What a sweep took: the seconds of a processor inside `fc` and beside it, the seconds on the clock, and how many rows
-    were asked."""
+    """What a sweep took: the seconds of a processor inside `fc` and beside it, the seconds on the clock, and how many
+    rows were asked."""
 
     inside: float
     beside: float
@@ -40,8 +41,8 @@ class Spent:
 
 @dataclass(frozen=True)
 class Place:
-    """Where questions are asked: an executor, how many batches are asked ahead, and a check that raises Fault once the place
-    isn't there any more."""
+    """Where questions are asked: an executor, how many batches are asked ahead, and a check that raises Fault once the
+    place isn't there any more."""
 
     executor: Executor
     window: int
