@@ -1,0 +1,1 @@
+"""The gate: what `./test` and `tools/wrong` do beside the tests themselves."""

@@ -1,0 +1,91 @@
+"""Checksums of all that an edit was tried against: where none of it has changed, the edit needn't be tried again."""
+
+from __future__ import annotations
+
+import hashlib
+import re
+from collections.abc import Iterable, Iterator
+from functools import lru_cache
+from pathlib import Path
+
+from .places import CRATES, libraries
+
+# a function in the layout of `rt fmt`: its indentation, and who sees it
+FUNCTION = re.compile(r"( *)(pub |pub\(\w+\) )?(?:const |unsafe )*fn ")
+# a block whose functions are as public as the trait: `impl Trait for Type`, or the trait itself
+OF_TRAIT = re.compile(r"( *)(?:(?:pub )?trait |impl\b[^{]* for )")
+CLAUSE = re.compile(r" +(requires|ensures|decreases|where|ghost)\b")
+OWN_IMPORT = re.compile(r" *use ")
+
+
+def files_of(folder: Path) -> list[Path]:
+    """The files of a folder, in a fixed order."""
+    return sorted(path for path in folder.rglob("*") if path.is_file())
+
+
+def head_of(first: str, lines: Iterator[str]) -> list[str]:
+    """The head of a function with its clauses. What is taken from the lines ends with the function's body."""
+    indent = first[: len(first) - len(first.lstrip())]
+    head = [first]
+    while not head[-1].endswith((";", "{}")) and head[-1] != f"{indent}{{" and not opens_body(head):
+        head.append(next(lines))
+    if head[-1].endswith("{"):
+        for line in lines:
+            if line == f"{indent}}}":
+                break
+    return head
+
+
+def opens_body(head: list[str]) -> bool:
+    """Whether the last line of a head opens the body on the line of the result, as it does where there is no clause."""
+    return head[-1].endswith("{") and not any(CLAUSE.match(line) for line in head)
+
+
+def public_lines(text: str) -> Iterator[str]:
+    """The lines of a source in the layout of `rt fmt` on which other crates can lean: all but comments, imports for the
+    crate's own use, bodies of functions, and functions that aren't public."""
+    lines = iter([line for line in text.splitlines() if line.strip() and not line.lstrip().startswith("//")])
+    end_of_trait = ""
+    for line in lines:
+        if found := OF_TRAIT.match(line):
+            end_of_trait = f"{found[1]}}}"
+        elif line == end_of_trait:
+            end_of_trait = ""
+        if found := FUNCTION.match(line):
+            head = head_of(line, lines)
+            if found[2] == "pub " or end_of_trait:
+                yield from head
+        elif not OWN_IMPORT.match(line):
+            yield line
+
+
+def digest(parts: Iterable[tuple[str, bytes]]) -> str:
+    """The checksum of some named texts."""
+    lines = (f"{name} {hashlib.sha256(content).hexdigest()}\n" for name, content in parts)
+    return hashlib.sha256("".join(lines).encode()).hexdigest()
+
+
+def named(path: Path) -> str:
+    """The name of a file of a crate in a checksum."""
+    return str(path.relative_to(CRATES))
+
+
+@lru_cache(maxsize=None)
+def seen_from_above(crate: str) -> str:
+    """The checksum of what other crates see of a crate: its definitions, and the public lines of its sources."""
+    definitions = [(named(path), path.read_bytes()) for path in files_of(CRATES / crate / "specs")]
+    sources = [(named(path), public_lines(path.read_text())) for path in files_of(CRATES / crate / "src")]
+    return digest([*definitions, *((name, "\n".join(lines).encode()) for name, lines in sources)])
+
+
+@lru_cache(maxsize=None)
+def surroundings(crate: str) -> str:
+    """The checksum of a crate's files, and of what it sees of the crates that its line in crates.txt names."""
+    folders = (CRATES / crate / part for part in ("src", "specs", "proofs"))
+    own = [(named(path), path.read_bytes()) for folder in folders for path in files_of(folder)]
+    return digest([*own, *((name, seen_from_above(name).encode()) for name in libraries()[crate])])
+
+
+def checksum(crate: str, text: str) -> str:
+    """The checksum of an edit of a crate."""
+    return digest([(crate, surroundings(crate).encode()), ("edit", text.encode())])[:32]
