@@ -86,8 +86,8 @@ def changed(edits: Iterable[Edit], rows: dict[Edit, Row]) -> list[Edit]:
 
 
 def sample(edits: Iterable[Edit], size: int, seed: str) -> list[Edit]:
-    """So many of some edits, or all where these are fewer. The crates come in an order that the seed draws, each with all
-    of its edits: the first edit of a crate costs as much as several others."""
+    """So many of some edits, or all where these are fewer. The crates come in an order that the seed draws, each with
+    all of its edits: the first edit of a crate costs as much as several others."""
     order = random.Random(seed)
     crates: dict[str, list[Edit]] = {}
     for edit in sorted(edits):

@@ -64,8 +64,8 @@ def commit() -> str:
 
 
 def proofs(prove: Callable[[], list[str]]) -> Counts:
-    """Has all crates proved by a call that gives the lines which `rt` wrote, and with them some wrong bodies tried: those
-    against which something has changed since they were tried, and a sample of the others."""
+    """Has all crates proved by a call that gives the lines which `rt` wrote, and with them some wrong bodies tried:
+    those against which something has changed since they were tried, and a sample of the others."""
     rows = edits.read_rows()
     new = edits.changed(edits.standing(), rows)
     old = edits.sample({*edits.standing()} - {*new}, SAMPLE, commit())
