@@ -14,6 +14,7 @@ What `fc` refuses is raised as a `Refusal`, whose `explanation` has the place, a
 
 from __future__ import annotations
 
+from .errors import Error
 from .library import check, format, generate, mail, replay, run, settle, stable, trace
 from .network import Network, from_graph, read_scene
 from .refusals import Call, Explanation, Fault, Refusal, Section
@@ -30,10 +31,12 @@ from .results import (
     Traced,
     Verdict,
 )
+from .version import VERSION as __version__
 
 __all__ = [
     "Call",
     "Checked",
+    "Error",
     "Explanation",
     "Fact",
     "Fault",
@@ -49,6 +52,7 @@ __all__ = [
     "Stable",
     "Traced",
     "Verdict",
+    "__version__",
     "check",
     "format",
     "from_graph",

@@ -6,6 +6,7 @@ import argparse
 import sys
 from collections.abc import Callable, Mapping, Sequence
 from dataclasses import replace
+from typing import TypeVar, Union
 
 from . import program as fc
 from . import results
@@ -17,6 +18,7 @@ from .sections import pour, sections, write
 from .telling import place_of, rest_of
 
 WHY_NO = "docs/patterns.md#the-reasons"
+Answer = TypeVar("Answer", bound=Union[results.Result, str])
 OF_DEVICES = ("stable", "trace", "run", "replay", "mail", "settle")
 
 
@@ -44,8 +46,8 @@ def ask(
     options: argparse.Namespace,
     words: Sequence[str],
     kinds: Sequence[str],
-    reader: Callable[[str, Call], results.Result | str],
-) -> tuple[Call, results.Result | str, int]:
+    reader: Callable[[str, Call], Answer],
+) -> tuple[Call, Answer, int]:
     """Asks `fc`, writes its answer, and tells why where it is a no. Answers the call, the result and the status.
 
     Raises Refusal and Fault.
@@ -67,7 +69,7 @@ def ask(
     return call, result, reply.status
 
 
-def understood(reader: Callable[[str, Call], results.Result | str], text: str, call: Call) -> results.Result | str:
+def understood(reader: Callable[[str, Call], Answer], text: str, call: Call) -> Answer:
     """What `fc` wrote, as a result. Raises Fault where it is no answer of its."""
     try:
         return reader(text, call)
@@ -82,7 +84,10 @@ def named(text: str, names: Mapping[int, str], command: str) -> str:
     lines = text.splitlines()
     first = next((i + 1 for i, line in enumerate(lines) if line == "open" or line.startswith("settles ")), 0)
     last = lines.index("log") if "log" in lines else len(lines)
-    call = lambda word: names.get(int(word), word)  # noqa: E731
+
+    def call(word: str) -> str:
+        return names.get(int(word), word)
+
     for place in range(first, last):
         device, *rest = lines[place].split(" ")
         if device.isdigit():

@@ -56,7 +56,7 @@ class Scale:
             return GREY
         if self.low is None or self.high is None:
             return WHITE
-        return colors.to_hex(colormaps[MAP]((part - self.low) / max(self.high - self.low, 1)))
+        return str(colors.to_hex(colormaps[MAP]((part - self.low) / max(self.high - self.low, 1))))
 
 
 def parts_of(value: Value) -> tuple[int | bool, ...]:

@@ -7,12 +7,12 @@ import importlib
 import os
 import sys
 from collections.abc import Sequence
-from importlib.metadata import PackageNotFoundError, version
 from types import ModuleType
 
 from .json_results import faulted, refused
 from .refusals import Fault, Refusal
 from .telling import told
+from .version import VERSION
 
 COMMANDS = {
     "check": "fieldc.commands.check",
@@ -30,8 +30,6 @@ COMMANDS = {
     "rounds": "fieldc.commands.rounds",
     "sweep": "fieldc.commands.sweep",
 }
-OPTIONAL = ("compose",)
-VERSION = "1.0"
 DESCRIPTION = """\
 A front for people over fc, the interpreter and proved checker of the first-order field calculus.
 What is computed of the calculus is computed by fc; fieldc reads files, explains refusals and draws."""
@@ -43,15 +41,8 @@ fieldc COMMAND --help tells of a command. The variable FC names the program fc, 
 
 
 def modules() -> dict[str, ModuleType]:
-    """The modules of the commands that are there, by the name of the command."""
-    found = {}
-    for name, path in COMMANDS.items():
-        try:
-            found[name] = importlib.import_module(path)
-        except ModuleNotFoundError as error:
-            if name not in OPTIONAL or error.name != path:
-                raise
-    return found
+    """The modules of the commands, by the name of the command."""
+    return {name: importlib.import_module(path) for name, path in COMMANDS.items()}
 
 
 def parser() -> argparse.ArgumentParser:
@@ -59,7 +50,7 @@ def parser() -> argparse.ArgumentParser:
     whole = argparse.ArgumentParser(
         prog="fieldc", description=DESCRIPTION, epilog=EPILOG, formatter_class=argparse.RawDescriptionHelpFormatter
     )
-    whole.add_argument("--version", action="version", version=f"fieldc {released()}")
+    whole.add_argument("--version", action="version", version=f"fieldc {VERSION}")
     commands = whole.add_subparsers(metavar="COMMAND", dest="command", required=True)
     for name, module in modules().items():
         summary = getattr(module, "SUMMARY", (module.__doc__ or "").strip().partition("\n")[0])
@@ -74,14 +65,6 @@ def parser() -> argparse.ArgumentParser:
         module.arguments(one)
         one.set_defaults(perform=module.perform)
     return whole
-
-
-def released() -> str:
-    """The version of the installed package, or that of the checkout."""
-    try:
-        return version("fieldc")
-    except PackageNotFoundError:
-        return VERSION
 
 
 def take_rest(options: argparse.Namespace, rest: Sequence[str]) -> None:
@@ -105,7 +88,8 @@ def main(words: Sequence[str] | None = None) -> int:
         return end.code if isinstance(end.code, int) else 2
     try:
         take_rest(options, rest)
-        return options.perform(options)
+        status: int = options.perform(options)
+        return status
     except Refusal as refusal:
         if getattr(options, "json", False):
             sys.stderr.write(refused(refusal, refusal.explanation))

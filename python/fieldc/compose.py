@@ -268,12 +268,18 @@ def arguments(parser: argparse.ArgumentParser) -> None:
     add("--show", metavar="NAME", help="shows one block")
 
 
+def _placed(name: str, line: str) -> str:
+    """A line of a fault, which names its file where it says its place."""
+    at = re.match(r"line (\d+):", line)
+    return line if at is None else f"{name}:{at[1]}:{line[at.end() :]}"
+
+
 def _composed_of(name: str, text: str, library: Library) -> Composition:
     """The composition of a file's program; a fault of its names the file."""
     try:
         return composed(text, library)
     except Fault as fault:
-        lines = [re.sub(r"^line (\d+):", lambda at: f"{name}:{at[1]}:", line) for line in str(fault).splitlines()]
+        lines = [_placed(name, line) for line in str(fault).splitlines()]
         raise Fault("\n".join(lines), fault.status) from None
 
 

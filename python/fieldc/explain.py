@@ -67,6 +67,7 @@ def _no(call: Call, words: list[str]) -> tuple[Section | None, Said | None]:
     section, found = section_of(call, "program"), program_of(call)
     if found.unfolded is None or found.program is None or found.program.main.body is None:
         return None, None
+    said: Said | None
     if words[1:] == ["walks"]:
         said = no_walks(found.unfolded, found.program.main.body.at)
     else:

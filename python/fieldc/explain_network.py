@@ -208,7 +208,7 @@ def _id(text: str, scene: Json, path: str, found: Json) -> Said | None:
     return Said(f"There is no device {number} in this network.", found.at, str(number), "Take it away.", NETWORK)
 
 
-def _before(scene: Json, path: str, number: int) -> At | None:
+def _before(scene: Json, path: str, number: int | None) -> At | None:
     """Where an item of the same list before this one has the same number."""
     owner, step = parent(scene, path)
     for other in owner.items[: int(step)] if owner is not None else ():
@@ -292,13 +292,14 @@ def _weight(found: Json, program: Unfolded) -> Said | None:
 
 def degree(scene: Json) -> Said | None:
     """The first link that is a device's 33rd; nothing where there is none."""
-    links = find(scene, "/links")
-    count: dict[int, int] = {}
-    for link in links.items if links is not None else ():
+    found = find(scene, "/links")
+    links = found.items if found is not None else ()
+    count: dict[int | None, int] = {}
+    for link in links:
         for item in link.items[:2]:
             count[item.whole] = count.get(item.whole, 0) + 1
             if count[item.whole] > MOST_LINKS:
-                total = sum(item.whole in (end.whole for end in other.items[:2]) for other in links.items)
+                total = sum(item.whole in (end.whole for end in other.items[:2]) for other in links)
                 what = (
                     f"Device {item.whole} has {total} links, and a device has at most {MOST_LINKS}; this is its 33rd."
                 )

@@ -4,6 +4,7 @@ from __future__ import annotations
 
 import difflib
 import re
+from collections.abc import Iterable
 
 from .places import COMMANDS, FORMATS, Said, counted
 
@@ -37,7 +38,8 @@ def usage(words: tuple[str, ...]) -> Said | None:
         return Said("A command is missing.", None, None, f"The commands are {_listed(FLAGS)}.", CALLS)
     if words[0] not in FLAGS:
         return _no_command(words[0])
-    command, seen = words[0], set()
+    command = words[0]
+    seen: set[str] = set()
     place, numbers = 1, 0
     while place < len(words):
         word, _, value = words[place].partition("=")
@@ -68,7 +70,7 @@ def usage(words: tuple[str, ...]) -> Said | None:
     return None
 
 
-def _listed(names: object) -> str:
+def _listed(names: Iterable[str]) -> str:
     return ", ".join(f"`{name}`" for name in names)
 
 

@@ -18,6 +18,7 @@ from .sections import read
 
 DELIMITERS = (",", ";", "\t", "|", ":", " ")
 IDS = ("id", "device", "name", "node")
+TRUTHS: dict[str, Input | str] = {"true": True, "false": False}
 ENDS = {"source", "target", "from", "to", "weight", "u", "v", "a", "b", "node1", "node2"}
 
 
@@ -140,7 +141,7 @@ def _numbered_rows(name: str, body: list[tuple[int, list[str]]], at: int) -> tup
 
 def _input(word: str, where: str, wanted: Declared | None, name: str) -> Input:
     """The value of an input in a field: a whole number, or true or false in any letters."""
-    value: Any = int(word) if re.fullmatch("[0-9]+", word) else {"true": True, "false": False}.get(word.lower(), word)
+    value = int(word) if re.fullmatch("[0-9]+", word) else TRUTHS.get(word.lower(), word)
     if wanted is not None and name in wanted.inputs:
         return fitting(value, wanted.inputs[name], where)
     return input_of(value, where)

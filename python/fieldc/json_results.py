@@ -61,7 +61,7 @@ def devices(values: results.Values, names: Mapping[int, str], **more: Mapping[in
     """A list of devices, each with its number, its name where it has one, its value, and more of it."""
     rows = []
     for device, value in values.items():
-        own = {"name": names[device]} if device in names else {}
+        own: dict[str, Any] = {"name": names[device]} if device in names else {}
         rows.append({"id": device, **own, "value": value, **{key: column[device] for key, column in more.items()}})
     return rows
 

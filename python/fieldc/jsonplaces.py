@@ -7,6 +7,7 @@ import re
 from dataclasses import dataclass, field
 from typing import Any
 
+from .errors import Error
 from .language.tree import At
 
 SPACES = " \t\r\n"
@@ -52,7 +53,7 @@ class Json:
         return self.value if is_number else None
 
 
-class JsonFault(Exception):
+class JsonFault(Error):
     """A text that isn't JSON: what is wrong, where, the name that is meant, and what to try."""
 
     def __init__(self, what: str, at: At, name: str | None = None, hint: str | None = None) -> None:
@@ -150,7 +151,7 @@ class _Reader:
     def string(self) -> str:
         start = self.place
         self.place += 1
-        found = []
+        found: list[str] = []
         while True:
             sign = self.text[self.place : self.place + 1]
             if sign == "":

@@ -70,8 +70,13 @@ class Network:
     def scene(self) -> str:
         """The scene in JSON, with a line for each device and link, and one for its table and for its pending
         firings."""
-        short = lambda part: json.dumps(part, separators=(",", ":"))  # noqa: E731
-        in_lines = lambda items: "[\n  " + ",\n  ".join(items) + "]" if items else "[]"  # noqa: E731
+
+        def short(part: Any) -> str:
+            return json.dumps(part, separators=(",", ":"))
+
+        def in_lines(items: list[str]) -> str:
+            return "[\n  " + ",\n  ".join(items) + "]" if items else "[]"
+
         devices = in_lines([json.dumps({"id": device, "inputs": dict(own)}) for device, own in self.inputs.items()])
         rest = "".join(f',\n "{name}": {short(part)}' for name, part in self.state.items())
         return f'{{"devices": {devices},\n "links": {in_lines([short(link) for link in self.links])}{rest}}}\n'
@@ -258,7 +263,7 @@ def read_scene(text: str, name: str = "the network") -> Network:
     try:
         scene = json.loads(text)
         inputs = {_whole(device["id"]): _scene_inputs(device) for device in scene["devices"]}
-        links = tuple(tuple(map(_whole, link)) for link in scene["links"])
+        links = tuple((_whole(a), _whole(b), _whole(weight)) for a, b, weight in scene["links"])
         pairs = {frozenset((a, b)) for a, b, _ in links}
         known = {"devices", "links", "table", "pending"}.issuperset(scene)
         right = len(inputs) == len(scene["devices"]) > 0 and len(pairs) == len(links) and known
@@ -331,7 +336,10 @@ def ring(count: int) -> Network:
 
 def grid(width: int, height: int, closed: bool = False) -> Network:
     """Devices row by row, linked to the left and right, up and down; closed, opposite borders are linked too."""
-    number = lambda x, y: (y % height) * width + x % width  # noqa: E731
+
+    def number(x: int, y: int) -> int:
+        return (y % height) * width + x % width
+
     links = set()
     for y in range(height):
         for x in range(width):
@@ -354,11 +362,13 @@ def in_range(positions: Mapping[int, Position], reach: float) -> Network:
     if not math.isfinite(reach) or reach < 0:
         raise Fault(f"a range of {reach:g}: it has to be a number, and at least 0")
     rows = sorted((x, y, device) for device, (x, y) in positions.items())
-    links, first = [], 0
+    links: list[Pair] = []
+    first = 0
     for place, (x, y, device) in enumerate(rows):
         while rows[first][0] < x - reach - 1e-9 * (abs(x) + reach):
             first += 1
-        links += [tuple(sorted((device, d))) for ox, oy, d in rows[first:place] if math.dist((x, y), (ox, oy)) <= reach]
+        near = [d for ox, oy, d in rows[first:place] if math.dist((x, y), (ox, oy)) <= reach]
+        links += [(min(device, d), max(device, d)) for d in near]
     return shaped(positions, links)
 
 
@@ -423,7 +433,10 @@ def nearest(network: Network, most: int) -> Network:
     lengths nor different weights, so that none is the nearest.
     """
     at = network.positions
-    far = (lambda link: math.dist(at[link[0]], at[link[1]])) if at else (lambda link: link[2])
+
+    def far(link: tuple[int, int, int]) -> float:
+        return math.dist(at[link[0]], at[link[1]]) if at else link[2]
+
     if not at and len({weight for _, _, weight in network.links}) < 2:
         raise Fault("the nearest neighbours can't be told: there are no positions, and all links weigh the same")
     count = dict.fromkeys(network.inputs, 0)

@@ -82,7 +82,7 @@ def _run(network: Network, run: results.Ran, lines: str | None, inputs: tuple[st
     """A frame for each show of a run, on the network as it is at that line of the script."""
     if lines is None:
         raise Fault("these are shows of a run: give its script too, since it may edit the network", 3)
-    by_line = {moment.line: moment for moment in moments(network, lines, inputs)}
+    by_line = {moment.line: moment for moment in moments(network, lines, inputs) if moment.line is not None}
     missing = [show.line for show in run.shows if show.line not in by_line]
     if missing or len(by_line) != len(run.shows):
         raise Fault(f"these shows aren't of this script: line {missing[0] if missing else max(by_line)}", 3)

@@ -3,7 +3,6 @@ taken."""
 
 from __future__ import annotations
 
-import importlib
 import json
 import shutil
 import sys
@@ -15,7 +14,7 @@ from typing import TextIO
 
 from . import program as fc
 from .edits import steps
-from .refusals import Call
+from .refusals import Call, has_lark
 
 PATIENCE = 1.0
 
@@ -85,12 +84,16 @@ def _devices(network: str) -> str:
 
 
 def _nodes(program: str) -> str:
-    """How many nodes the unfolded program has, where the package's own reader of programs is there and can read it."""
+    """How many nodes the unfolded program has, where it can be read, for which Lark has to be there."""
+    if not has_lark():
+        return ""
+    from .language import reading
+
     try:
-        found = importlib.import_module("fieldc.language").reading(program).unfolded
-        return f"{len(found.nodes):,} nodes"
+        found = reading(program).unfolded
     except Exception:  # only a word beside a clock: without it the line says less
         return ""
+    return f"{len(found.nodes):,} nodes" if found is not None else ""
 
 
 def _rounds(call: Call, texts: dict[str, str]) -> str:

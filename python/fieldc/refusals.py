@@ -2,11 +2,13 @@
 
 from __future__ import annotations
 
-import importlib
 from dataclasses import dataclass, replace
+from importlib.util import find_spec
+
+from .errors import Error
 
 
-class Fault(Exception):
+class Fault(Error):
     """What `fieldc` itself refuses, in one line.
 
     Its status is one of `fc`: 2 for options, 3 for what a file or graph says, 5 and 6 for files that can't be read and
@@ -63,7 +65,7 @@ class Explanation:
 
 
 @dataclass(eq=False)
-class Refusal(Exception):
+class Refusal(Error):
     """An answer of `fc` with a status above 1.
 
     `status` is that of `fc` (2 to 7), `line` the whole line that it wrote ("" where it wrote none), `word` the first
@@ -114,19 +116,24 @@ def plain_explanation(refusal: Refusal) -> Explanation:
     return Explanation(what=UNSAID.get(refusal.status, f"fc ended with status {refusal.status}."), page=page)
 
 
+def has_lark() -> bool:
+    """Whether the library is there with which programs are read to be explained."""
+    return find_spec("lark") is not None
+
+
 def explained(call: Call, refusal: Refusal) -> Explanation:
-    """The explanation of a refusal or of a no; only what `fc` said where the explaining part isn't there."""
-    try:
-        explain = importlib.import_module("fieldc.explain").explain
-    except ImportError as error:
-        hint = "Debian's python3-lark lets fieldc say where and why" if error.name == "lark" else None
-        return replace(plain_explanation(refusal), hint=hint)
+    """The explanation of a refusal or of a no; only what `fc` said where programs can't be read for want of Lark."""
+    if not has_lark():
+        return replace(plain_explanation(refusal), hint="Debian's python3-lark lets fieldc say where and why")
+    from .explain import explain
+
     return explain(call, refusal)
 
 
 def warned(call: Call) -> tuple[Explanation, ...]:
-    """What `fc` takes and a user may not have meant; nothing where the explaining part isn't there."""
-    try:
-        return importlib.import_module("fieldc.explain").warnings(call)
-    except (ImportError, AttributeError):
+    """What `fc` takes and a user may not have meant; nothing where programs can't be read for want of Lark."""
+    if not has_lark():
         return ()
+    from .explain import warnings
+
+    return warnings(call)

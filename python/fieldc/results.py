@@ -7,9 +7,12 @@ import re
 from collections.abc import Iterator, Mapping
 from dataclasses import dataclass, field
 from types import MappingProxyType
-from typing import Any, Union
+from typing import Any, TypeVar, Union
 
 from .refusals import Fault
+
+Key = TypeVar("Key")
+Kept = TypeVar("Kept")
 
 Value = Union[int, bool, tuple["Value", "Value"]]
 """A value of the calculus: a whole number, a truth value, or a pair of values."""
@@ -199,7 +202,7 @@ def _values(lines: list[str]) -> Values:
     return _kept({int(row[0]): value_of(row[1]) for row in rows})
 
 
-def _kept(found: dict) -> Mapping:
+def _kept(found: dict[Key, Kept]) -> Mapping[Key, Kept]:
     return MappingProxyType(found)
 
 

@@ -6,6 +6,7 @@ import os
 from collections.abc import Callable, Mapping, Sequence
 from concurrent.futures import FIRST_COMPLETED, ProcessPoolExecutor, wait
 from dataclasses import dataclass
+from typing import Any
 
 from . import library, results
 from . import program as fc
@@ -124,7 +125,7 @@ def draw(promise: Promise, found: Sequence[Curve], name: str, title: str = "") -
     pyplot.close(figure)
 
 
-def _promises(axes, promise: Promise, longest: int) -> None:  # noqa: ANN001
+def _promises(axes: Any, promise: Promise, longest: int) -> None:
     """The devices that are known to hold their value, in grey, and the settle time and the bound as lines."""
     lines = [("settle time R", promise.time, "#1f4e9c")]
     lines += [] if promise.verdict.rounds is None else [("bound K", promise.verdict.rounds, "#d6381e")]

@@ -9,7 +9,7 @@ from pathlib import Path
 TOP = Path(__file__).resolve().parent.parent.parent
 sys.path.insert(0, str(TOP / "python"))
 
-from fieldc.command import VERSION  # noqa: E402
+from fieldc.version import VERSION  # noqa: E402
 from making import bash, fish, lines, manual, zsh  # noqa: E402
 
 

@@ -103,8 +103,13 @@ def of_fieldc() -> Line:
 
 def of_fc() -> Line:
     """The command line of `fc`, which reads its input from standard input."""
-    flag = lambda name, text: Option((name,), text)  # noqa: E731
-    number = lambda name, value, text: Option((name,), text, WORD, value)  # noqa: E731
+
+    def flag(name: str, text: str) -> Option:
+        return Option((name,), text)
+
+    def number(name: str, value: str, text: str) -> Option:
+        return Option((name,), text, WORD, value)
+
     workers = number("--workers", "N", "threads that fire devices, 1 to 16 (4)")
     table = flag("--table", "adds the table of what the devices have published")
     settle = (

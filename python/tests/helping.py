@@ -64,7 +64,9 @@ class Done:
     errors: str
 
 
-def fieldc(*words: object, text: str = "", folder: Path | None = None, seconds: float | None = None, **variables: str) -> Done:
+def fieldc(
+    *words: object, text: str = "", folder: Path | None = None, seconds: float | None = None, **variables: str
+) -> Done:
     """Runs the command in a process of its own, for at most so many seconds."""
     environment = dict(os.environ, PYTHONPATH=str(TOP / "python"), **variables)
     if "FC" not in environment and BUILT.exists():

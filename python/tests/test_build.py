@@ -17,7 +17,7 @@ from checkouts import PROGRAM, Checkout
 from helping import TOP
 from test_files import InFolder
 
-from fieldc.command import released
+from fieldc.version import VERSION
 
 BELOW = "fc_values fc_nodes fc_io command_words fc_answers"
 CRATES = """\
@@ -179,7 +179,7 @@ class Install(unittest.TestCase):
     def test_programs(self) -> None:
         self.assertEqual(self.run_there("bin/fc", "check", "--facts"), "proved check --facts\n")
         self.assertEqual(self.run_there("libexec/fc/fc", "gen", "3"), "proved gen 3\n")
-        self.assertEqual(self.run_there("bin/fieldc", "--version"), f"fieldc {released()}\n")
+        self.assertEqual(self.run_there("bin/fieldc", "--version"), f"fieldc {VERSION}\n")
         self.assertEqual(self.run_there("bin/fieldc", "format", "-"), "proved format\n")
         self.assertIn("usage: fieldc network", self.run_there("bin/fieldc", "network", "--help"))
 

@@ -230,7 +230,8 @@ class LongWork(InFolder):
             program = self.file(front + HOPS, "hops.fc")
             done = fieldc("stable", program, scene, seconds=60, FC=str(late))
             self.assertEqual((done.status, done.output, done.errors), (0, wanted, ""), size)
-            asked = "import fieldc, sys; print(*fieldc.stable(*(open(name).read() for name in sys.argv[1:])).values.values())"
+            asked = "import fieldc, sys; p, n = (open(name).read() for name in sys.argv[1:])"
+            asked += "; print(*fieldc.stable(p, n).values.values())"
             environment = dict(os.environ, PYTHONPATH=str(TOP / "python"), FC=str(late))
             words = [sys.executable, "-B", "-c", asked, program, scene]
             done = subprocess.run(words, capture_output=True, text=True, env=environment, timeout=60, check=True)

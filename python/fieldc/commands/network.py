@@ -137,8 +137,9 @@ def _filling(parser: argparse.ArgumentParser) -> None:
 
 
 def perform(options: argparse.Namespace) -> int:
-    for name in filter(None, (options.positions, options.names, options.output if options.output != "-" else None)):
-        writable(name)
+    for name in (options.positions, options.names, options.output):
+        if name and name != "-":
+            writable(name)
     program = cut(options.program, read(options.program))[0][1] if options.program else None
     found = shaped(options, program)
     found = weighed(network.with_inputs(found, placed(options.set, found)), options)
@@ -169,7 +170,8 @@ def shaped(options: argparse.Namespace, program: str | None) -> Network:
     if options.ring is not None:
         return network.ring(options.ring)
     if options.grid or options.torus:
-        return network.grid(*(options.grid or options.torus), closed=options.torus is not None)
+        width, height = options.grid or options.torus
+        return network.grid(width, height, closed=options.torus is not None)
     if options.range is None:
         raise Fault("--disk and --points need a --range")
     if options.disk is not None:
@@ -205,7 +207,8 @@ def placed(
 def weighed(found: Network, options: argparse.Namespace) -> Network:
     """The links with their weights: by distance, or one for all, or the file's, or 1."""
     if options.metric:
-        return network.weighed(found, *options.metric, options.unit)
+        low, high = options.metric
+        return network.weighed(found, low, high, options.unit)
     return found if options.weight is None else network.with_weight(found, options.weight)
 
 

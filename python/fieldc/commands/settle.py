@@ -3,12 +3,11 @@
 from __future__ import annotations
 
 import argparse
-import importlib
 import sys
 
 from .. import results
 from ..asking import add_answers, add_files, ask
-from ..refusals import Call, Fault
+from ..refusals import Call, Fault, has_lark
 
 SUMMARY = "says after how many rounds each device of this network holds its value"
 KINDS = ("program", "network")
@@ -47,8 +46,8 @@ def why_open(options: argparse.Namespace, call: Call, found: results.Settled) ->
     if not options.why:
         print("try: fieldc settle --why, which looks for two starts that rest apart", file=sys.stderr)
         return
-    try:
-        openness = importlib.import_module("fieldc.openness")
-    except ImportError:
-        raise Fault("--why: this part of fieldc isn't there") from None
+    if not has_lark():
+        raise Fault("--why reads the program, which needs Lark (Debian: python3-lark)")
+    from .. import openness
+
     openness.perform(options, call)

@@ -8,7 +8,9 @@ import math
 import shlex
 import sys
 import time
+from collections.abc import Callable
 from dataclasses import replace
+from typing import Any
 
 from .. import files, network
 from .. import program as fc
@@ -218,8 +220,9 @@ def rule_of(options: argparse.Namespace, program: str) -> Rule:
 def again(rule: Rule, options: argparse.Namespace) -> int:
     """Writes the network of a seed."""
     found = deployment(rule, options.again)
-    for name in filter(None, (options.output, options.positions)):
-        writable(name)
+    for name in (options.output, options.positions):
+        if name:
+            writable(name)
     if options.positions:
         if not found.positions:
             raise Fault("--positions: this network has no positions to write")
@@ -269,15 +272,28 @@ def tell(spent: Spent) -> None:
         print(f"fieldc sweep: {spent.rows:,} rows in {spent.clock:.1f} s, {used}", file=sys.stderr)
 
 
+def _both(found: tuple[int, ...]) -> str:
+    return f"{found[0]}..{found[1]}"
+
+
+def _span(found: tuple[int, int]) -> str:
+    return str(found[0]) if found[0] == found[1] else _both(found)
+
+
+def _sides(found: tuple[int, int]) -> str:
+    return f"{found[0]}x{found[1]}"
+
+
+def _number(found: float) -> str:
+    return repr(found).removesuffix(".0")
+
+
 def said(options: argparse.Namespace) -> str:
     """The command that makes the network of a seed again."""
-    pair = lambda mark: lambda found: f"{found[0]}{mark}{found[1]}"  # noqa: E731
-    count = lambda found: str(found[0]) if found[0] == found[1] else pair("..")(found)  # noqa: E731
-    number = lambda found: repr(found).removesuffix(".0")  # noqa: E731
-    forms = {
-        "line": count, "ring": count, "grid": pair("x"), "torus": pair("x"), "disk": count, "points": str, "edges": str,
-        "range": number, "side": number, "density": number, "jitter": number, "fail": number, "weight": str,
-        "metric": pair(".."), "unit": number, "max_degree": str,
+    forms: dict[str, Callable[[Any], str]] = {
+        "line": _span, "ring": _span, "grid": _sides, "torus": _sides, "disk": _span, "points": str, "edges": str,
+        "range": _number, "side": _number, "density": _number, "jitter": _number, "fail": _number, "weight": str,
+        "metric": _both, "unit": _number, "max_degree": str,
     }  # fmt: skip
     usual = {"side": SQUARE, "jitter": 0.0, "fail": 0.0, "unit": 1.0}
     words = ["fieldc", "sweep", options.program]
@@ -286,7 +302,7 @@ def said(options: argparse.Namespace) -> str:
         if value is not None and value != usual.get(name):
             words += ["--" + name.replace("_", "-"), form(value)]
     for one in options.set:
-        value = pair("..")(one.value) if isinstance(one.value, tuple) else json.dumps(one.value)
+        value = _both(one.value) if isinstance(one.value, tuple) else json.dumps(one.value)
         at = f"@random:{one.devices}" if isinstance(one.devices, int) else ""
         at = "@" + ",".join(map(str, one.devices)) if isinstance(one.devices, tuple) else at
         words += ["--set", f"{one.name}={value}{at}"]

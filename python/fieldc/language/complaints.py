@@ -91,6 +91,7 @@ def unknown_variable(expr: Expr, scope: Mapping[str, Bound], known: Known) -> Co
     name = expr.name
     what = f"Nothing named `{name}` is bound here."
     near = similar(name, [*scope, "uid", "true", "false", "nbrLink"])
+    hint: str | None
     if name in known.inputs:
         hint = f"An input is read by `sense {name}`."
     elif name in known.functions:
@@ -141,6 +142,7 @@ def unknown_function(expr: Expr, scope: Mapping[str, Bound], known: Known) -> Co
     what = f"No function named `{name}` is declared before."
     near = similar(name, [*known.functions, *CALLED])
     later = [part for part in known.later if part.form == "def" and part.name == name]
+    hint: str | None
     if later and later[0] is known.later[0]:
         hint = "A function can't call itself: what goes on from firing to firing is kept by `rep`."
     elif later:

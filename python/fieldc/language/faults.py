@@ -4,6 +4,7 @@ from __future__ import annotations
 
 from dataclasses import dataclass
 
+from ..errors import Error
 from .tree import At
 
 LANGUAGE = "docs/language.md"
@@ -15,7 +16,7 @@ TWO = LANGUAGE + "#two-languages-in-one"
 
 
 @dataclass(eq=False)
-class Fault(Exception):
+class Fault(Error):
     """The first fault of a program.
 
     `line` is what `fc` has to have written for this fault, `what` says it in one sentence, and `at` is its place in the

@@ -2,9 +2,9 @@
 
 from __future__ import annotations
 
-from .faults import TYPES
+from .faults import GRAMMAR, TYPES
 from .grammar import MARKS
-from .stuck import CLOSERS, DECLARING, Advice, Stuck, advice, code
+from .stuck import CLOSERS, DECLARING, Advice, Stuck, advice, code, place_of
 
 TAKES = {
     **dict.fromkeys(("FST", "SND", "SUMHOOD", "ANYHOOD", "ALLHOOD"), ("one argument", "(a)")),
@@ -85,7 +85,7 @@ def in_words(stuck: Stuck) -> Advice | None:
         return advice(here, "Behind `sense` stands the name of an input, without brackets.", "Write `sense src`.")
     if before in ("UID", "NBRLINK") and stuck.kind == "OPEN":
         return advice(here, f"{code(stuck.before)} is no function, and has no brackets.", "Take them away.")
-    if before in TAKES:
+    if before in TAKES and stuck.before is not None:
         count, form = TAKES[before]
         what = f"The arguments of {code(stuck.before)} stand in round brackets."
         return advice(here, what, f"Write `{stuck.before.value}{form}`.")
@@ -166,11 +166,12 @@ def in_operators(stuck: Stuck) -> Advice | None:
         return advice(here, what, "Join two by `and`, as `a < b and b < c`, or put one in brackets.")
     if "SEMI" in stuck.expected and (here is None or stuck.kind in DECLARING):
         return None
-    if stuck.kind == "NAME" and before.type == "NUMBER" and before.end_pos == here.start_pos:
+    if before is None or here is None:
+        return None
+    if (before.type, here.type) == ("NUMBER", "NAME") and before.end_pos == here.start_pos:
         whole = before.value + here.value
         hint = "A number is decimal digits alone."
-        place, what, _, hint, page = advice(before, f"`{whole}` is no number of the language.", hint)
-        return (place, what, whole, hint, page)
-    if stuck.kind not in ("SEMI", "COMMA", "COLON", "ARROW", "IN", "DOTS") and here is not None:
+        return (place_of(before), f"`{whole}` is no number of the language.", whole, hint, GRAMMAR)
+    if stuck.kind not in ("SEMI", "COMMA", "COLON", "ARROW", "IN", "DOTS"):
         return advice(here, f"An operator is missing between {code(before)} and {code(here)}.")
     return None

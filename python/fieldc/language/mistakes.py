@@ -84,7 +84,10 @@ def _no_declaration(stuck: Stuck) -> Advice:
     if stuck.kind == "LET" or stuck.kind_of(1) == "IS":
         hint = "Write `let x = a in b` in the body of a function or of `main`."
         return advice(here, f"A value is named inside an expression alone, and {code(here)} stands outside.", hint)
-    hint = hint_for(here.value) or "Inputs, metrics, functions and `main` are declared, each ending with `;`."
+    hint = (
+        hint_for(here.value if here is not None else "")
+        or "Inputs, metrics, functions and `main` are declared, each ending with `;`."
+    )
     return advice(
         here, f"A declaration begins with `input`, `metric`, `def` or `main`, and not with {code(here)}.", hint
     )
@@ -92,7 +95,7 @@ def _no_declaration(stuck: Stuck) -> Advice:
 
 def other_language(stuck: Stuck) -> Advice | None:
     """Where a number of a language other than 2 stands."""
-    if stuck.kind_of(0) != "LANGUAGE" or stuck.index != 1 or stuck.kind != "NUMBER":
+    if stuck.kind_of(0) != "LANGUAGE" or stuck.index != 1 or stuck.kind != "NUMBER" or stuck.here is None:
         return None
     hint = "Write `language 2;`, or leave it out, which is language 1."
     return advice(stuck.here, f"There is no language {stuck.here.value}.", hint, TWO)
@@ -108,7 +111,7 @@ def second_language(stuck: Stuck) -> Advice | None:
 
 def great_number(stuck: Stuck) -> Advice | None:
     """Where a number is above 1,000,000."""
-    if stuck.kind != "GREAT":
+    if stuck.kind != "GREAT" or stuck.here is None:
         return None
     what = f"The number {stuck.here.value} is above 1,000,000, the greatest that a program may have."
     return advice(stuck.here, what, "Take a greater unit, so that the numbers are smaller.")
@@ -215,7 +218,7 @@ def _in_define(stuck: Stuck) -> Advice | None:
         what = "Brackets of a type hold a pair, which has two parts."
         return advice(here, what, "Write `(int, bool)`, or one type without brackets.", TYPES)
     if expected == {"COLON"}:
-        if stuck.kind in ("COMMA", "CLOSE"):
+        if stuck.kind in ("COMMA", "CLOSE") and stuck.before is not None:
             what = f"The parameter {code(stuck.before)} has no type."
             return advice(stuck.before, what, f"Write `{stuck.before.value}: int`.", TYPES)
         return advice(here, "The type of the result is missing.", "Write `def f(x: int): int = x;`.", TYPES)

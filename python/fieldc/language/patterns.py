@@ -146,7 +146,7 @@ class Patterns:
 
     def no_potential(self, place: int, uses: list[int]) -> Blame:
         """Which guard doesn't compare one bound integer with itself."""
-        binders = []
+        binders: list[int] = []
         for use in uses:
             choice = self.guard(place, use)
             assert choice is not None
@@ -181,7 +181,8 @@ class Patterns:
             assert isinstance(step, Span)
             return Blame(place, "rise-zero", body.kids[2]) if step.low == 0 else None
         kept = self.ranges[local]
-        if isinstance(kept, Both) and leading(kept) is not None and leading(kept).high == self.program.ceiling:
+        lead = leading(kept)
+        if isinstance(kept, Both) and lead is not None and lead.high == self.program.ceiling:
             return Blame(place, "lead-at-ceiling", self._lead(local))
         return None
 
@@ -213,8 +214,8 @@ class Patterns:
                 return first if first[0] is None else second
             return min(first[0], second[0]), found.place, ""
         if found.name == "pair":
-            second = self.nodes[kids[1]]
-            kept = second.form == "apply" and second.name == "snd" and self.heard(place, second.kids[0])
+            other = self.nodes[kids[1]]
+            kept = other.form == "apply" and other.name == "snd" and self.heard(place, other.kids[0])
             if isinstance(self.ranges[kids[0]], Span) and (kept or not self.has(place, kids[1])):
                 return self.growth(place, kids[0])
             return None, found.place, "pair"
@@ -249,11 +250,16 @@ class Patterns:
         node = self.nodes[local]
         while node.form == "apply" and node.name in ("mux", "min", "max"):
             kids = node.kids[-2:]
-            reach = [kid for kid in kids if leading(self.ranges[kid]).high == self.program.ceiling]
+            reach = [kid for kid in kids if self._may_lead_at_ceiling(kid)]
             if not reach:
                 break
             node = self.nodes[reach[0]]
         return node.place
+
+    def _may_lead_at_ceiling(self, place: int) -> bool:
+        """Whether the first number of a value may be the ceiling."""
+        lead = leading(self.ranges[place])
+        return lead is not None and lead.high == self.program.ceiling
 
     def converging(self, place: int, uses: list[int]) -> Blame:
         """Which part of a body is of no known form, where no other reason is there."""

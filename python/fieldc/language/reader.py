@@ -4,7 +4,7 @@ from __future__ import annotations
 
 from dataclasses import dataclass, replace
 from functools import lru_cache
-from typing import Any
+from typing import Any, cast
 
 from lark import Lark, Token, Transformer, UnexpectedCharacters, UnexpectedToken, v_args
 
@@ -12,6 +12,7 @@ from .faults import LIMITS, Fault
 from .grammar import GRAMMAR, STARTS
 from .mistakes import lexical, missing_main, syntax
 from .stuck import Stuck
+from .stuck import place_of as at
 from .tree import At, Declaration, Expr, Local, Pair, Parameter, Type
 
 MOST_TOKENS = 4096
@@ -42,9 +43,14 @@ class Piece:
     tokens: tuple[Token, ...]
 
 
-def at(token: Token) -> At:
-    """Where a token stands."""
-    return At(token.line, token.column)
+def begin_of(token: Token) -> int:
+    """The offset in the text at which a token begins; a token that Lark only tries has none."""
+    return token.start_pos or 0
+
+
+def end_of(token: Token) -> int:
+    """The offset right behind a token; a token that Lark only tries has none."""
+    return token.end_pos or 0
 
 
 def number_of(token: Token) -> int:
@@ -54,7 +60,7 @@ def number_of(token: Token) -> int:
 
 
 @v_args(inline=True)
-class Builder(Transformer):
+class Builder(Transformer[Token, Any]):
     """Makes declarations and expressions of what the grammar finds: a method for each rule, with the parts of that
     rule."""
 
@@ -74,7 +80,7 @@ class Builder(Transformer):
 
     def whole_input(
         self, word: Token, name: Token, _c: Token, _i: Token, low: Token, _d: Token, high: Token, _e: Token
-    ):
+    ) -> Declaration:
         return Declaration(
             "input", at(word), name.value, at(name), ((number_of(low), at(low)), (number_of(high), at(high)))
         )
@@ -82,7 +88,9 @@ class Builder(Transformer):
     def metric(self, word: Token, low: Token, _dots: Token, high: Token, _end: Token) -> Declaration:
         return Declaration("metric", at(word), bounds=((number_of(low), at(low)), (number_of(high), at(high))))
 
-    def define(self, word: Token, name: Token, _o: Token, parameters: tuple, _c: Token, _colon: Token, *rest: Any):
+    def define(
+        self, word: Token, name: Token, _o: Token, parameters: tuple[Parameter, ...], _c: Token, _k: Token, *rest: Any
+    ) -> Declaration:
         (kind, place), _is, body, _end = rest
         return Declaration("def", at(word), name.value, at(name), (), parameters, kind, place, body)
 
@@ -104,21 +112,23 @@ class Builder(Transformer):
     def simple(self, word: Token) -> tuple[Local, At]:
         return word.value, at(word)
 
-    def pair_type(self, first: Token, left: tuple[Local, At], _comma: Token, right: tuple[Local, At], _close: Token):
+    def pair_type(
+        self, first: Token, left: tuple[Local, At], _comma: Token, right: tuple[Local, At], _close: Token
+    ) -> tuple[Local, At]:
         return Pair(left[0], right[0]), at(first)
 
     def let(self, word: Token, name: Token, _is: Token, bound: Expr, _in: Token, body: Expr) -> Expr:
         place = at(word)
-        return Expr("let", place, place, word.start_pos, body.end, (bound, body), name.value, bound=at(name))
+        return Expr("let", place, place, begin_of(word), body.end, (bound, body), name.value, bound=at(name))
 
     def binary(self, left: Expr, mark: Token, right: Expr) -> Expr:
         return Expr("apply", left.at, at(mark), left.start, right.end, (left, right), mark.value)
 
     def negation(self, word: Token, part: Expr) -> Expr:
-        return Expr("apply", at(word), at(word), word.start_pos, part.end, (part,), "not")
+        return Expr("apply", at(word), at(word), begin_of(word), part.end, (part,), "not")
 
     def _leaf(self, form: str, word: Token, last: Token, **more: Any) -> Expr:
-        return Expr(form, at(word), at(word), word.start_pos, last.end_pos, **more)
+        return Expr(form, at(word), at(word), begin_of(word), end_of(last), **more)
 
     def number(self, word: Token) -> Expr:
         return self._leaf("number", word, word, value=number_of(word))
@@ -156,7 +166,7 @@ class Builder(Transformer):
         return self._leaf("apply", word, rest[-1], kids=kids, name=word.value)
 
     def group(self, first: Token, part: Expr, last: Token) -> Expr:
-        return replace(part, start=first.start_pos, end=last.end_pos)
+        return replace(part, start=begin_of(first), end=end_of(last))
 
     def pair(self, first: Token, left: Expr, _comma: Token, right: Expr, last: Token) -> Expr:
         return self._leaf("apply", first, last, kids=(left, right), name="pair")
@@ -176,7 +186,7 @@ def tokens_of(text: str) -> list[Token]:
             great = token.type == "NUMBER" and number_of(token) > MOST_NUMBER
             found.append(token.update(type="GREAT") if great else token)
     except UnexpectedCharacters as error:
-        raise lexical(text, error.pos_in_stream, At(error.line, error.column)) from None
+        raise lexical(text, error.pos_in_stream or 0, At(error.line, error.column)) from None
     return found
 
 
@@ -227,10 +237,11 @@ def declaration_of(piece: Piece, start: str, second: bool) -> Declaration:
     try:
         for place, token in enumerate(piece.tokens):
             if _of_language_2(token, second) or (place == 1 and _other_language(piece)):
-                raise UnexpectedToken(token, set())
+                raise UnexpectedToken(token, set())  # type: ignore[no-untyped-call]
             state.feed_token(token)
         place = len(piece.tokens)
-        return replace(state.feed_eof(), number=piece.number)
+        found = cast(Declaration, state.feed_eof())  # type: ignore[no-untyped-call]
+        return replace(found, number=piece.number)
     except UnexpectedToken:
         expected = accepted(piece, start, place)
         raise syntax(Stuck(piece.number, piece.tokens, place, expected, start, second)) from None
@@ -241,7 +252,7 @@ def accepted(piece: Piece, start: str, count: int) -> frozenset[str]:
     state = parser().parse_interactive(start=start)
     for token in piece.tokens[:count]:
         state.feed_token(token)
-    return frozenset(state.accepts())
+    return frozenset(state.accepts())  # type: ignore[no-untyped-call]
 
 
 def _of_language_2(token: Token, second: bool) -> bool:

@@ -94,13 +94,13 @@ Advice = tuple[At, str, "str | None", "str | None", str]
 
 
 def place_of(token: Token) -> At:
-    """Where a token begins."""
-    return At(token.line, token.column)
+    """Where a token begins; a token that Lark only tries has no place."""
+    return At(token.line or 1, token.column or 1)
 
 
 def behind(token: Token) -> At:
     """The place right behind a token."""
-    return At(token.end_line, token.end_column)
+    return At(token.end_line or 1, token.end_column or 1)
 
 
 def code(token: Token | None) -> str:

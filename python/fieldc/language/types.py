@@ -7,6 +7,7 @@ from collections.abc import Iterator, Mapping
 from contextlib import contextmanager
 from dataclasses import dataclass, field
 
+from ..errors import Error
 from . import complaints
 from .complaints import Complaint
 from .faults import TYPES, Fault
@@ -43,7 +44,7 @@ class Known:
     types: dict[Expr, Type] = field(default_factory=dict)
 
 
-class Wrong(Exception):
+class Wrong(Error):
     """A fault of typing before it has the number of its declaration: its kind and what is said of it."""
 
     def __init__(self, kind: str, complaint: Complaint) -> None:

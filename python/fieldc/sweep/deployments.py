@@ -96,14 +96,17 @@ def _count(rule: Rule, seed: int) -> int:
     low, high = rule.count
     if low == high:
         return low
-    part = Random(f"{seed} devices").random()
-    return min(high, max(low, round(low * (high / low) ** part)))
+    drawn: float = low * (high / low) ** Random(f"{seed} devices").random()
+    return min(high, max(low, round(drawn)))
 
 
 def _moved(base: Network, rule: Rule, seed: int) -> Network:
     """Points that are moved by up to the jitter along each axis, and linked where they are in range."""
     dice = Random(f"{seed} places")
-    shift = lambda: rule.jitter * (2 * dice.random() - 1)  # noqa: E731
+
+    def shift() -> float:
+        return rule.jitter * (2 * dice.random() - 1)
+
     places = {device: (x + shift(), y + shift()) for device, (x, y) in base.positions.items()}
     return replace(network.in_range(places, rule.reach), inputs=base.inputs, names=base.names)
 

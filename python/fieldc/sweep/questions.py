@@ -74,8 +74,10 @@ def executable() -> str:
     """The program `fc`; in a checkout the proved program itself where it is built, since `./fc` looks at all sources
     first."""
     found, here = fc.find(), fc.checkout()
-    built = here / "crates/fc_program/out/fc_program" if here is not None else None
-    return str(built) if here is not None and found == str(here / "fc") and os.access(built, os.X_OK) else found
+    if here is None or found != str(here / "fc"):
+        return found
+    built = here / "crates/fc_program/out/fc_program"
+    return str(built) if os.access(built, os.X_OK) else found
 
 
 @lru_cache(maxsize=1)
@@ -121,4 +123,3 @@ def answer(call: Call, spent: list[float]) -> str:
         line = text.strip("\n") if code in (2, 3, 4) else ""
         raise Refusal(code, line.split(" ")[0].rstrip(":"), line, call)
     return text
-

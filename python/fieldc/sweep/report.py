@@ -66,7 +66,7 @@ def summary(rows: Sequence[Row], ceiling: int | None) -> Summary:
 
 def at_ceiling(row: Row, ceiling: int) -> int:
     """How many devices have a value that is the ceiling, or a pair that begins with it."""
-    return sum(re.match(r"\(*([^,)]*)", value)[1] == str(ceiling) for value in row.values)
+    return sum(re.split("[,)]", value.lstrip("("))[0] == str(ceiling) for value in row.values)
 
 
 def told(found: Summary) -> str:
@@ -93,7 +93,10 @@ def told(found: Summary) -> str:
 
 def by_size(found: Summary) -> list[str]:
     """Where the deployments aren't all of one size, a line for each half of a power of ten in which some are."""
-    step = lambda row: int(2 * math.log10(row.devices) + 1e-9)  # noqa: E731
+
+    def step(row: Row) -> int:
+        return int(2 * math.log10(row.devices) + 1e-9)
+
     steps = sorted({step(row) for row in found.settled})
     lines = []
     for one in steps if len({row.devices for row in found.rows}) > 1 else ():

@@ -103,11 +103,14 @@ def rows_of(text: str, name: str) -> list[Row]:
 
 
 def _row(one: Mapping[str, str]) -> Row:
-    number = lambda name: int(one[name]) if one[name] else None  # noqa: E731
-    shape = [int(one[name]) for name in COLUMNS[:5]]
+    def number(name: str) -> int | None:
+        return int(one[name]) if one[name] else None
+
+    seed, devices, links, components, diameter = (int(one[name]) for name in COLUMNS[:5])
     rounds = None if one["R"] == OPEN else number("R")
     values = tuple((one.get("values") or "").split())
-    return Row(*shape, one["verdict"], number("K"), rounds, number("last"), number("last_rounds"), values)
+    known = (one["verdict"], number("K"), rounds, number("last"), number("last_rounds"), values)
+    return Row(seed, devices, links, components, diameter, *known)
 
 
 # ---- the files -----------------------------------------------------------------------------------------------------

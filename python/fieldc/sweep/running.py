@@ -9,7 +9,7 @@ import signal
 import threading
 import time
 from collections import deque
-from collections.abc import Callable, Iterator
+from collections.abc import Callable, Generator, Iterator
 from concurrent.futures import CancelledError, Executor, Future, ProcessPoolExecutor, wait
 from concurrent.futures.process import BrokenProcessPool
 from contextlib import closing, contextmanager
@@ -88,7 +88,9 @@ def batches(question: Question, first: int, count: int) -> Iterator[tuple[int, i
         yield start, min(size, first + count - start)
 
 
-def in_order(place: Place, question: Question, first: int, count: int, waiting: Callable[[], None]) -> Iterator[Batch]:
+def in_order(
+    place: Place, question: Question, first: int, count: int, waiting: Callable[[], None]
+) -> Generator[Batch, None, None]:
     """The batches of so many seeds, in their order."""
     left = batches(question, first, count)
     asked: deque[Future[Batch]] = deque()

@@ -1,0 +1,3 @@
+"""The version of this package, which the command, the packaging and the manual read from here."""
+
+VERSION = "1.0"
