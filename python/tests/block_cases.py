@@ -8,6 +8,7 @@ import random
 from collections.abc import Callable
 from dataclasses import dataclass, field
 from pathlib import Path
+from typing import Any
 
 import block_values as v
 import networkx as nx
@@ -30,9 +31,9 @@ class Scene:
 
     name: str
     net: v.Net
-    inputs: dict[str, dict[int, int]]
+    inputs: dict[str, dict[int, Any]]
 
-    def __getattr__(self, name: str) -> dict[int, int]:
+    def __getattr__(self, name: str) -> dict[int, Any]:
         try:
             return self.inputs[name]
         except KeyError:
@@ -126,7 +127,7 @@ class Case:
     """
 
     call: str
-    values: Callable[[Scene], dict]
+    values: Callable[[Scene], dict[int, Any]]
     known: dict[str, int] = field(default_factory=dict)
 
     @property

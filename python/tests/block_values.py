@@ -8,6 +8,7 @@ from __future__ import annotations
 
 from collections.abc import Callable
 from dataclasses import dataclass
+from typing import Any
 
 import networkx as nx
 
@@ -28,7 +29,7 @@ class Net:
         """The devices, rising."""
         return sorted(self.graph)
 
-    def each(self, value: Callable[[int], object]) -> dict:
+    def each(self, value: Callable[[int], Any]) -> dict[int, Any]:
         """A value for each device."""
         return {device: value(device) for device in self.devices}
 
@@ -46,7 +47,8 @@ def ways(net: Net, sources: set[int], weight: str | None) -> dict[int, float]:
     """The length of a least way from a source to each device that one reaches, in hops without a weight."""
     if not sources:
         return {}
-    return nx.multi_source_dijkstra_path_length(net.graph, sources, weight=weight or (lambda a, b, data: 1))
+    found = nx.multi_source_dijkstra_path_length(net.graph, sources, weight=weight or (lambda a, b, data: 1))
+    return dict(found)
 
 
 def cut(net: Net, lengths: dict[int, float], far: int) -> Field:
@@ -98,14 +100,15 @@ def least_by(net: Net, source: Truths, value: Field, far: int, weight: str | Non
     found: dict[int, tuple[int, int] | None] = {device: None for device in net.devices}
     for start in where(source):
         for device, length in ways(net, {start}, weight).items():
-            if length < far and (found[device] is None or (length, value[start]) < found[device]):
-                found[device] = (int(length), value[start])
+            own, before = (int(length), value[start]), found[device]
+            if length < far and (before is None or own < before):
+                found[device] = own
     return found
 
 
 def broadcast(net: Net, source: Truths, value: Field, far: int, none: int) -> Field:
     found = least_by(net, source, value, far, None)
-    return net.each(lambda d: none if found[d] is None else found[d][1])
+    return net.each(lambda d: (found[d] or (far, none))[1])
 
 
 def nearestByHops(net: Net, source: Truths, far: int, none: int) -> dict[int, tuple[int, int]]:
@@ -139,7 +142,7 @@ def parentIn(net: Net, region: Field, p: Field) -> Field:
 
 def nextHop(net: Net, p: Field) -> Field:
     def length(d: int, near: int) -> int:
-        return p[near] + net.graph[d][near][WEIGHT]
+        return p[near] + int(net.graph[d][near][WEIGHT])
 
     return net.each(lambda d: min(lower(net, p, d), key=lambda near: (length(d, near), near), default=d))
 
@@ -349,7 +352,8 @@ def rulingOf1024(net: Net, able: Truths, grain: int) -> Truths:
 
 
 def sparse(net: Net, grain: int) -> Truths:
-    near, chosen = close_to(net, grain + 1), set()
+    near = close_to(net, grain + 1)
+    chosen: set[int] = set()
     for _ in range(3):
         able = net.each(lambda d: not near[d] & chosen)
         chosen = chosen | where(ruling(net, able, grain))

@@ -10,18 +10,9 @@ from pathlib import Path
 from helping import TOP, Done
 
 PARTS = (
-    "build",
-    "fc",
-    "crates.txt",
-    "README.md",
-    "CHANGELOG.md",
-    "CONTRIBUTING.md",
-    "docs",
-    "examples",
-    "editors",
-    "man",
-)
-PARTS += ("completions", "library", "python/fieldc")
+    "build", "fc", "crates.txt", "README.md", "CHANGELOG.md", "CONTRIBUTING.md", "docs", "examples", "editors", "man",
+    "completions", "library", "python/fieldc",
+)  # fmt: skip
 FOLDERS = ("crates/fc_values", "crates/fc_answers", "crates/fc_program/src")
 # what a program that was built answers, in its place
 PROGRAM = '#!/bin/sh\necho "proved $*"\n'

@@ -8,9 +8,12 @@ import shutil
 import subprocess
 import sys
 import unittest
+from collections.abc import Callable
 from dataclasses import dataclass
 from pathlib import Path
+from typing import Any, TypeVar
 
+Test = TypeVar("Test", bound=Callable[..., Any])
 HERE = Path(__file__).resolve().parent
 TOP = HERE.parent.parent
 EXAMPLES = TOP / "examples"
@@ -39,9 +42,10 @@ def missing(*modules: str) -> str:
     return ", ".join(f"{name} isn't there (Debian: python3-{name})" for name in absent)
 
 
-def needs(*modules: str):
+def needs(*modules: str) -> Callable[[Test], Test]:
     """Skips a test where one of some modules is missing."""
-    return unittest.skipIf(bool(missing(*modules)), missing(*modules))
+    skips: Callable[[Test], Test] = unittest.skipIf(bool(missing(*modules)), missing(*modules))
+    return skips
 
 
 needs_fc = unittest.skipIf(bool(missing_fc()), missing_fc())

@@ -15,7 +15,9 @@ import argparse
 import bisect
 import itertools
 import json
-import random
+from collections.abc import Sequence
+from random import Random
+from typing import Any
 
 import helping  # noqa: F401
 
@@ -46,31 +48,33 @@ PROGRAMS = (
     + " in if (anyHood(nbr{{h}} < h) or allHood(nbr{{sense src}})) {{maxHoodLoc(nbr{{h}}, h)}} {{h - 1}};",
     "ceiling {c}; main = rep(0){{(x) => maxHoodLoc(nbr{{x}}, 0)}};",
 )
-NO_TABLE = {"format": 2, "rows": []}
+Json = dict[str, Any]
+Line = tuple[str, int, str]
+NO_TABLE: Json = {"format": 2, "rows": []}
 
 
 class Broken(Exception):
     """A run that breaks a line."""
 
 
-def run_fc(words, sections):
+def run_fc(words: Sequence[str], sections: Sequence[str]) -> str:
     """What `fc` writes of sections of input."""
     return fc.answered(Call(tuple(words), tuple(Section("", "", 1, text) for text in sections))).text
 
 
-def weight(dice, program):
+def weight(dice: Random, program: str) -> int:
     return dice.randint(1, 9) if "metric" in program else 1
 
 
-def inputs(dice, program):
+def inputs(dice: Random, program: str) -> Json:
     return {"src": dice.random() < 0.3} if "input" in program else {}
 
 
-def numbers_of(scene):
+def numbers_of(scene: Json) -> list[int]:
     return [device["id"] for device in scene["devices"]]
 
 
-def network(dice, program):
+def network(dice: Random, program: str) -> Json:
     """One to seven devices, most of them linked."""
     numbers = sorted(dice.sample(range(12), dice.randint(1, 7)))
     pairs = {(dice.choice(numbers[:at]), numbers[at]) for at in range(1, len(numbers)) if dice.random() < 0.9}
@@ -81,7 +85,7 @@ def network(dice, program):
     }
 
 
-def one_round(dice, numbers, flying):
+def one_round(dice: Random, numbers: list[int], flying: set[int]) -> list[str]:
     """A stretch in which each device begins a firing and ends it: all begin before one ends, or one after another, or
     as the dice fall. Firings from before end in it, and some that begin in it fly on."""
     kind = dice.randrange(3)
@@ -100,17 +104,18 @@ def one_round(dice, numbers, flying):
     return log + [f"B{n}" for n in sorted(flying)]
 
 
-def table_after(words, program, scene, lines):
+def table_after(words: Sequence[str], program: str, scene: Json, lines: Sequence[str]) -> Json:
     """The table to which the lines of a script or of a log lead."""
-    return json.loads(run_fc([*words, "--table"], [program, json.dumps(scene), "\n".join(lines)]).splitlines()[-1])
+    said = run_fc([*words, "--table"], [program, json.dumps(scene), "\n".join(lines)])
+    return dict(json.loads(said.splitlines()[-1]))
 
 
-def scrambled(dice, program, scene, *more):
+def scrambled(dice: Random, program: str, scene: Json, *more: str) -> Json:
     """The table of rubbish, and of more lines behind it."""
     return table_after(["run", "--workers", "1"], program, scene, [f"scramble {dice.randrange(10**6)}", *more])
 
 
-def table(dice, program, scene):
+def table(dice: Random, program: str, scene: Json) -> Json:
     """A table of rubbish, of which rows may be missing."""
     rubbish = scrambled(dice, program, scene)
     if dice.random() < 0.5:
@@ -118,7 +123,7 @@ def table(dice, program, scene):
     return rubbish
 
 
-def first_table(dice, program, scene):
+def first_table(dice: Random, program: str, scene: Json) -> Json:
     """A table that has settled, or not yet, or one of rubbish, or none."""
     kind = dice.randrange(8)
     if kind < 5:
@@ -126,11 +131,11 @@ def first_table(dice, program, scene):
     return NO_TABLE if kind == 5 else table(dice, program, scene)
 
 
-def copy_of(scene, number):
+def copy_of(scene: Json, number: int) -> Json:
     """The copy that a begin of a device takes."""
     rows = {row["id"]: row for row in scene["table"]["rows"]}
 
-    def export(row):
+    def export(row: Json) -> Json:
         return {"value": row["value"], "kept": [value for _, value in row["kept"]]}
 
     weights = {a + b - number: w for a, b, w in scene["links"] if number in (a, b)}
@@ -142,14 +147,14 @@ def copy_of(scene, number):
     }
 
 
-def with_flights(dice, scene):
+def with_flights(dice: Random, scene: Json) -> Json:
     """The scene with some more devices in flight."""
     flying = {copy["id"] for copy in scene["pending"]}
     begun = [n for n in numbers_of(scene) if n not in flying and dice.random() < 0.4]
     return dict(scene, pending=[*scene["pending"], *(copy_of(scene, n) for n in begun)])
 
 
-def with_firings(dice, program, scene):
+def with_firings(dice: Random, program: str, scene: Json) -> Json:
     """The scene after some devices have landed, and some others have fired."""
     flying = [copy["id"] for copy in scene["pending"]]
     landed = [n for n in flying if dice.random() < 0.4]
@@ -159,17 +164,17 @@ def with_firings(dice, program, scene):
     return dict(scene, table=later, pending=[copy for copy in scene["pending"] if copy["id"] not in landed])
 
 
-def with_input(dice, program, scene):
+def with_input(dice: Random, program: str, scene: Json) -> Json:
     """Other inputs of a device."""
     one = dice.choice(numbers_of(scene))
 
-    def changed(device):
+    def changed(device: Json) -> Json:
         return dict(device, inputs=inputs(dice, program)) if device["id"] == one else device
 
     return dict(scene, devices=[changed(device) for device in scene["devices"]])
 
 
-def with_link(dice, program, scene):
+def with_link(dice: Random, program: str, scene: Json) -> Json:
     """A link less, another weight of one, or a link more."""
     a, b = sorted(dice.sample(numbers_of(scene), 2)) if len(scene["devices"]) > 1 else (0, 0)
     others = [link for link in scene["links"] if link[:2] != [a, b]]
@@ -177,7 +182,7 @@ def with_link(dice, program, scene):
     return dict(scene, links=others if gone else [*others, [a, b, weight(dice, program)]])
 
 
-def with_device(dice, program, scene):
+def with_device(dice: Random, program: str, scene: Json) -> Json:
     """A device more, with up to two links."""
     numbers = numbers_of(scene)
     one = dice.choice([n for n in range(20) if n not in numbers])
@@ -187,7 +192,7 @@ def with_device(dice, program, scene):
     return dict(scene, devices=[*scene["devices"], joined], links=[*scene["links"], *links])
 
 
-def without_device(dice, program, scene):
+def without_device(dice: Random, program: str, scene: Json) -> Json:
     """A device less, unless all are in flight or it is the last."""
     flying = {copy["id"] for copy in scene["pending"]}
     landed = [n for n in numbers_of(scene) if n not in flying]
@@ -202,7 +207,7 @@ def without_device(dice, program, scene):
     )
 
 
-def with_poke(dice, program, scene):
+def with_poke(dice: Random, program: str, scene: Json) -> Json:
     """Rubbish in the place of an export."""
     one = dice.choice(scrambled(dice, program, {name: scene[name] for name in ("devices", "links")})["rows"])
     others = [row for row in scene["table"]["rows"] if row["id"] != one["id"]]
@@ -212,7 +217,7 @@ def with_poke(dice, program, scene):
 EDITS = (with_input, with_input, with_link, with_link, with_device, without_device, with_poke)
 
 
-def edited_start(dice, program, scene):
+def edited_start(dice: Random, program: str, scene: Json) -> Json:
     """A table with up to three edits behind it, some firings among them, and copies in flight in half."""
     flies = dice.random() < 0.67
     scene = dict(scene, table=table(dice, program, scene), pending=[])
@@ -225,7 +230,9 @@ def edited_start(dice, program, scene):
     return with_flights(dice, scene) if flies and dice.random() < 0.5 else scene
 
 
-def broken_line(dice, program, scene, settled, stretches):
+def broken_line(
+    dice: Random, program: str, scene: Json, settled: Sequence[Line], stretches: Sequence[list[str]]
+) -> str | None:
     """The first line of settled that the run breaks, if one does. All are looked at once their rounds are over, and
     again after those of the others, and at two places more."""
     log = [entry for stretch in stretches for entry in stretch]
@@ -241,14 +248,14 @@ def broken_line(dice, program, scene, settled, stretches):
     return None
 
 
-def settled_lines(program, scene, words):
+def settled_lines(program: str, scene: Json, words: Sequence[str]) -> list[Line]:
     """The lines of the devices that have a settle round."""
     lines = run_fc(["check", "--settle", *words], [program, json.dumps(scene)]).splitlines()[2:]
     split = [line.split(" ", 2) for line in lines]
     return [(row[0], int(row[1]), row[2]) for row in split if row[1] != "-"]
 
 
-def tried(dice, from_table):
+def tried(dice: Random, from_table: bool) -> tuple[list[int], bool]:
     """One start and schedule: the rounds of its lines, and whether a firing is in flight. Raises Broken."""
     program = dice.choice(PROGRAMS).format(c=dice.choice([12, 20]))
     scene = network(dice, program)
@@ -268,9 +275,9 @@ def tried(dice, from_table):
     return rounds, flies
 
 
-def looked(count, seed, from_table):
+def looked(count: int, seed: int, from_table: bool) -> str:
     """Looks at so many starts and schedules, and says how many. Raises Broken."""
-    dice = random.Random(seed)
+    dice = Random(seed)
     found = [tried(dice, from_table) for _ in range(count)]
     lines = [after for rounds, _ in found for after in rounds]
     flights = sum(flies for _, flies in found)
@@ -278,7 +285,7 @@ def looked(count, seed, from_table):
     return f"{count} starts and schedules, {len(lines)} lines{more}, none broken"
 
 
-def main():
+def main() -> None:
     parser = argparse.ArgumentParser(description=__doc__, formatter_class=argparse.RawDescriptionHelpFormatter)
     parser.add_argument("--count", type=int, default=1000, help="how many tables and schedules (1000)")
     parser.add_argument("--seed", type=int, default=1, help="of the random numbers (1)")

@@ -4,9 +4,10 @@ Each call of block_cases.py is checked, solved, and run from rubbish for K round
 compared with block_values.py, which finds it by walks, sets and sums.
 """
 
+# mypy: no-strict-optional
+
 from __future__ import annotations
 
-import importlib.util
 import os
 import re
 import subprocess
@@ -15,6 +16,7 @@ import tempfile
 import unittest
 from collections.abc import Iterable
 from pathlib import Path
+from typing import Any
 
 ROOT = Path(__file__).resolve().parent.parent.parent
 sys.path[:0] = [str(ROOT / "python"), str(ROOT / "python" / "tests")]
@@ -27,6 +29,7 @@ try:
 
     import block_cases as cases
     import block_examples as examples
+    import block_values
 except ImportError as error:
     raise unittest.SkipTest(f"{error.name} isn't there (Debian: python3-{error.name})") from None
 
@@ -57,7 +60,7 @@ def written(value: object) -> str:
     return str(value).lower()
 
 
-def lines(values: dict) -> str:
+def lines(values: dict[int, Any]) -> str:
     """The values of devices as `fc` writes them."""
     return "".join(f"{device} {written(value)}\n" for device, value in sorted(values.items()))
 
@@ -93,7 +96,7 @@ def expected_rounds(case: cases.Case, scene: cases.Scene) -> int:
     numbers = {name: int(text) for (name, _), text in named.items() if text.isdigit()}
     deepest = max(level(text, kind, scene.text()) for (_, kind), text in named.items())
     known = {"n": len(scene.net.devices), "w": LEAST_WEIGHT, "L": deepest, **numbers, **case.known}
-    return eval(formula(block), {"__builtins__": {}}, {"max": max, "min": min, **known})  # noqa: S307
+    return int(eval(formula(block), {"__builtins__": {}}, {"max": max, "min": min, **known}))
 
 
 @unittest.skipUnless(compose.built(), "fc isn't built (./build)")
@@ -132,8 +135,8 @@ class Blocks(unittest.TestCase):
 
     def test_sparse_leaves_nobody_out_on_networks_by_dice(self) -> None:
         for net in [scene.net for scene in cases.scenes()] + [cases.spread(seed) for seed in range(100)]:
-            chosen = cases.v.where(cases.v.sparse(net, 2))
-            near = cases.v.close_to(net, 3)
+            chosen = block_values.where(block_values.sparse(net, 2))
+            near = block_values.close_to(net, 3)
             self.assertTrue(all(near[device] & chosen for device in net.devices))
             self.assertTrue(all(near[device] & chosen == {device} for device in chosen))
 
@@ -228,10 +231,9 @@ class Page(unittest.TestCase):
                 self.assertIsNotNone(said, below)
                 self.assertEqual(said.group(1), ", ".join(self.said(whole(code))))
 
-    @unittest.skipIf(importlib.util.find_spec("fieldc.explain") is None, "fieldc has no explanations yet")
     def test_the_commands(self) -> None:
         commands = [command for block in CONSOLE.findall(self.text) for command in block.split("\n$ ")]
-        known = {"env": dict(os.environ, FC=program.find()), "capture_output": True, "text": True, "check": False}
+        environment = dict(os.environ, FC=program.find())
         with tempfile.TemporaryDirectory() as folder:
             for name in ("examples", "fieldc"):
                 (Path(folder) / name).symlink_to(ROOT / name)
@@ -239,7 +241,9 @@ class Page(unittest.TestCase):
                 end = "\nEND\n" if "<<'END'" in command else "\n"
                 typed, _, wanted = (command.rstrip("\n") + "\n").partition(end)
                 typed += end
-                done = subprocess.run(["bash", "-c", typed], cwd=folder, **known)
+                done = subprocess.run(
+                    ["bash", "-c", typed], cwd=folder, env=environment, capture_output=True, text=True, check=False
+                )
                 self.assertEqual((done.stdout.splitlines(), done.stderr), (wanted.splitlines(), ""), typed)
 
     def test_the_pictures_are_there(self) -> None:

@@ -11,10 +11,10 @@ import subprocess
 import tempfile
 import unittest
 from pathlib import Path
-from types import ModuleType
+from typing import Any
 
 from checkouts import PROGRAM, Checkout
-from helping import TOP
+from helping import TOP, Done
 from test_files import InFolder
 
 from fieldc.version import VERSION
@@ -49,12 +49,13 @@ echo "== summary"; echo "fc_values: failed (1)"; echo "fc_nodes: not run, since 
 """
 
 
-def build_itself() -> ModuleType:
+def build_itself() -> Any:
     """What stands in `./build`, as a module."""
     loader = importlib.machinery.SourceFileLoader("build_itself", str(TOP / "build"))
     spec = importlib.util.spec_from_loader("build_itself", loader)
+    assert spec is not None
     made = importlib.util.module_from_spec(spec)
-    spec.loader.exec_module(made)
+    loader.exec_module(made)
     return made
 
 
@@ -153,6 +154,12 @@ class Build(InFolder):
 
 
 class Install(unittest.TestCase):
+    folder: Path
+    checkout: Checkout
+    prefix: Path
+    stale: Path
+    done: Done
+
     @classmethod
     def setUpClass(cls) -> None:
         kept = tempfile.TemporaryDirectory()
@@ -171,10 +178,11 @@ class Install(unittest.TestCase):
     def run_there(self, name: str, *words: str, prefix: Path | None = None) -> str:
         """Runs an installed program, where nothing of a checkout is found."""
         environment = {"PATH": "/usr/bin:/bin", "HOME": str(self.folder)}
-        return subprocess.run(
+        done = subprocess.run(
             [(prefix or self.prefix) / name, *words], capture_output=True, text=True, check=True, env=environment,
             cwd=self.folder, input="",
-        ).stdout  # fmt: skip
+        )  # fmt: skip
+        return done.stdout
 
     def test_programs(self) -> None:
         self.assertEqual(self.run_there("bin/fc", "check", "--facts"), "proved check --facts\n")

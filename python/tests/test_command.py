@@ -176,33 +176,34 @@ class Answers(InFolder):
         self.assertRegex(done.output, "^the last, after [0-9]+ rounds: device")
 
 
+def on_a_terminal(*words: object, fc: str) -> str:
+    """What a command writes on standard error, where that is a terminal."""
+    front, back = pty.openpty()
+    environment = dict(os.environ, PYTHONPATH=str(TOP / "python"), FC=fc)
+    command = [sys.executable, "-B", "-m", "fieldc", *map(str, words)]
+    process = subprocess.Popen(command, stdout=subprocess.PIPE, stderr=back, env=environment)
+    process.communicate()
+    os.close(back)
+    written = b""
+    try:
+        while part := os.read(front, 4096):
+            written += part
+    except OSError:
+        pass
+    os.close(front)
+    return written.decode()
+
+
 class LongWork(InFolder):
     def slow(self, seconds: float) -> str:
         path = Path(self.file(f"#!/bin/sh\nsleep {seconds}\necho 'yes 22'\n", "fc"))
         path.chmod(0o755)
         return str(path)
 
-    def on_a_terminal(self, *words: object, fc: str) -> str:
-        """What a command writes on standard error, where that is a terminal."""
-        front, back = pty.openpty()
-        environment = dict(os.environ, PYTHONPATH=str(TOP / "python"), FC=fc)
-        command = [sys.executable, "-B", "-m", "fieldc", *map(str, words)]
-        process = subprocess.Popen(command, stdout=subprocess.PIPE, stderr=back, env=environment)
-        process.communicate()
-        os.close(back)
-        written = b""
-        try:
-            while part := os.read(front, 4096):
-                written += part
-        except OSError:
-            pass
-        os.close(front)
-        return written.decode()
-
     def test_a_line_says_that_it_goes_on(self) -> None:
         program, scene = self.file(HOPS, "hops.fc"), self.file(LINE, "line.json")
         script = self.file("scramble 1\nrun 20\nmix 3 set 0 src false\nshow\n", "script.txt")
-        said = self.on_a_terminal("run", program, scene, script, fc=self.slow(2.5))
+        said = on_a_terminal("run", program, scene, script, fc=self.slow(2.5))
         self.assertIn("fieldc: fc run --workers 4, 3 devices", said)
         self.assertIn("23 rounds: 2 s", said)
         self.assertTrue(said.endswith("\r"))
@@ -211,12 +212,12 @@ class LongWork(InFolder):
     @needs("matplotlib")
     def test_drawing_says_so_too(self) -> None:
         self.file(network.grid(32, 32).scene(), "net.json")
-        said = self.on_a_terminal("picture", self.folder / "net.json", "-o", self.folder / "net.png", fc="fc")
+        said = on_a_terminal("picture", self.folder / "net.json", "-o", self.folder / "net.png", fc="fc")
         self.assertRegex(said, "fieldc: draws 1,024 devices: [1-9][0-9]* s")
 
     def test_quick_work_and_pipes_are_silent(self) -> None:
         program, scene = self.file(HOPS, "hops.fc"), self.file(LINE, "line.json")
-        self.assertEqual(self.on_a_terminal("check", program, scene, fc=self.slow(0)), "")
+        self.assertEqual(on_a_terminal("check", program, scene, fc=self.slow(0)), "")
         done = fieldc("check", program, scene, FC=self.slow(2))
         self.assertEqual((done.output, done.errors), ("yes 22\n", ""))
 
@@ -234,8 +235,8 @@ class LongWork(InFolder):
             asked += "; print(*fieldc.stable(p, n).values.values())"
             environment = dict(os.environ, PYTHONPATH=str(TOP / "python"), FC=str(late))
             words = [sys.executable, "-B", "-c", asked, program, scene]
-            done = subprocess.run(words, capture_output=True, text=True, env=environment, timeout=60, check=True)
-            self.assertEqual(done.stdout, "0 1 2\n", size)
+            said = subprocess.run(words, capture_output=True, text=True, env=environment, timeout=60, check=True)
+            self.assertEqual(said.stdout, "0 1 2\n", size)
 
     def test_another_program_than_fc(self) -> None:
         done = fieldc("gen", 3, FC=self.slow(0))

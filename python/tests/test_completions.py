@@ -9,8 +9,9 @@ import shutil
 import subprocess
 import time
 import unittest
+from collections.abc import Callable
 
-from helping import TOP
+from helping import TOP, Test
 from test_files import InFolder
 
 from making import lines
@@ -19,9 +20,10 @@ FOLDER = TOP / "completions"
 LINES = (lines.of_fc(), lines.of_fieldc())
 
 
-def needs_shell(name: str):
+def needs_shell(name: str) -> Callable[[Test], Test]:
     """Skips a test where a shell is missing."""
-    return unittest.skipIf(shutil.which(name) is None, f"{name} isn't there (Debian: {name})")
+    skips: Callable[[Test], Test] = unittest.skipIf(shutil.which(name) is None, f"{name} isn't there (Debian: {name})")
+    return skips
 
 
 def named(line: lines.Line) -> list[tuple[str, str]]:
@@ -37,8 +39,8 @@ class Written(unittest.TestCase):
             for command, name in named(line):
                 part = parts.split(f"    {command})\n")[1].split(";;")[0]
                 self.assertRegex(part, rf"['{{,]([(][^)]*[)])?[*]?([(][^)]*[)])?{name}[=\[,}}]", command)
-            for command in line.commands:
-                self.assertIn(f"    '{command.name}:", text)
+            for one in line.commands:
+                self.assertIn(f"    '{one.name}:", text)
 
     def test_fish_has_each_option(self) -> None:
         for line in LINES:
@@ -47,8 +49,8 @@ class Written(unittest.TestCase):
                 word = f" -l {name[2:]} " if name.startswith("--") else f" -s {name[1:]} "
                 rows = [row for row in text.split("\n") if f"seen_subcommand_from {command}'" in row]
                 self.assertTrue(any(word in row for row in rows), (command, name))
-            for command in line.commands:
-                self.assertIn(f" -a {command.name} -d ", text)
+            for one in line.commands:
+                self.assertIn(f" -a {one.name} -d ", text)
 
 
 @needs_shell("bash")

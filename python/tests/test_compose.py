@@ -1,5 +1,7 @@
 """Tests of `fieldc compose`: what is put in front of a program, what is refused, and where `fc`'s refusals are told."""
 
+# mypy: no-strict-optional
+
 from __future__ import annotations
 
 import contextlib

@@ -1,5 +1,7 @@
 """The highlighting of editors: each token of the examples and of the pages has the class that its kind wants."""
 
+# mypy: no-strict-optional
+
 from __future__ import annotations
 
 import json
@@ -187,7 +189,9 @@ class Words(unittest.TestCase):
         self.assertEqual(sorted(KIND_OF_WORD), sorted(listed.split()))
 
     def test_kinds_of_some_tokens(self) -> None:
-        kinds = lambda text: [(text[one.start : one.end], one.kind) for one in tokens(text)]  # noqa: E731
+        def kinds(text: str) -> list[tuple[str, str]]:
+            return [(text[one.start : one.end], one.kind) for one in tokens(text)]
+
         wanted = [("def", "declaration"), ("f", "function"), ("(", "bracket"), ("lets", "name"), ("..", "operator")]
         self.assertEqual(kinds("def f(lets..007"), [*wanted, ("007", "number")])
         wanted = [("sense", "control"), ("x", "input"), (";", "bracket"), ("%%", "separator"), ("E", "step")]

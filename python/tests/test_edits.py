@@ -72,8 +72,9 @@ class Examples(unittest.TestCase):
     def test_the_crowd(self) -> None:
         _, scene, script = sections_of("crowd_run.txt")
         before, after = moments(read_scene(scene), script, ("beacon",))
-        beacons = lambda found: [d for d, own in found.network.inputs.items() if own["beacon"]]  # noqa: E731
-        self.assertEqual((beacons(before), beacons(after)), ([4, 17, 30], [4, 30]))
+        both = (before.network.inputs, after.network.inputs)
+        beacons = [[device for device, own in inputs.items() if own["beacon"]] for inputs in both]
+        self.assertEqual(beacons, [[4, 17, 30], [4, 30]])
         self.assertEqual(set(before.network.devices) ^ set(after.network.devices), {9, 36})
         self.assertEqual((before.rounds, after.rounds), (402, 402))
         gone = set(before.network.links) - set(after.network.links)

@@ -1,5 +1,7 @@
 """Tests the explanations of refusals and of noes, against tables that were written by hand."""
 
+# mypy: no-strict-optional
+
 from __future__ import annotations
 
 import os
@@ -37,7 +39,7 @@ def headings(path: Path) -> set[str]:
 class Tables(unittest.TestCase):
     """Each wrong input of the tables is explained as it is wanted."""
 
-    def test_sentences_and_places(self):
+    def test_sentences_and_places(self) -> None:
         for file, case in CASES:
             with self.subTest(file=file, case=case.name):
                 call = case.call()
@@ -48,7 +50,7 @@ class Tables(unittest.TestCase):
                 if case.hint is not None:
                     self.assertEqual(found.hint, case.hint)
 
-    def test_pages(self):
+    def test_pages(self) -> None:
         anchors = {}
         for file, case in CASES:
             with self.subTest(file=file, case=case.name):
@@ -60,7 +62,7 @@ class Tables(unittest.TestCase):
                 if anchor:
                     self.assertIn(anchor, anchors[path])
 
-    def test_carets(self):
+    def test_carets(self) -> None:
         for file, case in CASES:
             with self.subTest(file=file, case=case.name):
                 found = explain(case.call(), case.refusal())
@@ -74,7 +76,7 @@ class Tables(unittest.TestCase):
                 self.assertEqual(shown[len(under) - 1 :][:1], text[column - 1 : column])
 
     @needs_fc
-    def test_lines_of_fc(self):
+    def test_lines_of_fc(self) -> None:
         for file, case in CASES:
             if case.status in (5, 6, 7):
                 continue
@@ -96,23 +98,23 @@ class Words(unittest.TestCase):
     def told(self) -> set[str]:
         return {word for _, case in CASES for word in case.line.split(" ")}
 
-    def test_reasons(self):
+    def test_reasons(self) -> None:
         self.assertLessEqual(self.words_of("patterns.md", "## The reasons"), self.told())
 
-    def test_kinds_of_types(self):
+    def test_kinds_of_types(self) -> None:
         text = (TOP / "docs" / "language.md").read_text(encoding="utf-8")
         kinds = words_in_first_columns(text.split("\n| Kind | What to mend |\n", 1)[1].split("\n\n", 1)[0])
         self.assertEqual(len(kinds), 9)
         self.assertLessEqual(kinds, self.told())
 
-    def test_words_of_lines(self):
+    def test_words_of_lines(self) -> None:
         text = (TOP / "docs" / "formats.md").read_text(encoding="utf-8")
         part = text.split("\n| Word | When |\n", 1)[1].split("\n\n", 1)[0]
         words = words_in_first_columns(part)
         self.assertGreaterEqual(len(words), 14)
         self.assertLessEqual(words | {"empty"}, self.told())
 
-    def test_statuses(self):
+    def test_statuses(self) -> None:
         lines = self.words_of("commands.md", "## Refusals")
         first = {" ".join(line.split(" ")[: 2 if line.startswith("limit") else 1]) for line in lines}
         told = {" ".join(case.line.split(" ")[: 2 if case.line.startswith("limit") else 1]) for _, case in CASES}
@@ -120,7 +122,7 @@ class Words(unittest.TestCase):
         self.assertLessEqual(first, told)
         self.assertLessEqual({5, 6, 7}, {case.status for _, case in CASES})
 
-    def test_count(self):
+    def test_count(self) -> None:
         self.assertGreaterEqual(len(CASES), 120)
 
 
@@ -134,31 +136,31 @@ class Disagreement(unittest.TestCase):
         self.assertIsNone(found.line)
         return found.what
 
-    def test_another_declaration(self):
+    def test_another_declaration(self) -> None:
         self.assertEqual(self.said("syntax 1 1", "ceiling 10;\nmain = 1 == 2;\n"), "syntax 1 1")
 
-    def test_another_word(self):
+    def test_another_word(self) -> None:
         self.assertEqual(self.said("types 2 unknown", "ceiling 10;\nmain = 1 + true;\n"), "types 2 unknown")
 
-    def test_another_place(self):
+    def test_another_place(self) -> None:
         self.assertEqual(
             self.said("no 1 unguarded", "ceiling 10;\nmain = rep(0){(x) => x + 1};\n", 1), "no 1 unguarded"
         )
 
-    def test_another_reason(self):
+    def test_another_reason(self) -> None:
         self.assertEqual(self.said("no 0 nested", "ceiling 10;\nmain = rep(0){(x) => x + 1};\n", 1), "no 0 nested")
 
-    def test_no_fault(self):
+    def test_no_fault(self) -> None:
         self.assertEqual(self.said("lexical 5", "ceiling 10;\nmain = 1;\n"), "lexical 5")
 
-    def test_a_line_that_is_unknown(self):
+    def test_a_line_that_is_unknown(self) -> None:
         self.assertEqual(self.said("new-word 1 2", "ceiling 10;\nmain = 1;\n"), "new-word 1 2")
 
 
 class Joined(unittest.TestCase):
     """Lines are those of the user's file, also where one file has several sections."""
 
-    def test_a_section_that_begins_further_down(self):
+    def test_a_section_that_begins_further_down(self) -> None:
         text = '{"devices": [{"id": 0, "inputs": {}}],\n "links": [[0, 0, 1]]}\n'
         sections = (Section("program", "all", 1, "ceiling 10;\nmain = 1;\n"), Section("network", "all", 4, text))
         call = Call(("check",), sections)
@@ -176,15 +178,15 @@ class Warned(unittest.TestCase):
         call = Call(("stable",), (Section("program", "p", 1, program), Section("network", "n", 1, scene)))
         return [f"{found.line}:{found.column}: {found.what}" for found in warnings(call)]
 
-    def test_one_device(self):
+    def test_one_device(self) -> None:
         found = self.warned("ceiling 10;\nmain = uid;\n", [3, 10, 12])
         self.assertEqual(found, ["2:8: `uid` is cut at the ceiling 10, so it is 10 at device 12."])
 
-    def test_several(self):
+    def test_several(self) -> None:
         found = self.warned("ceiling 10;\ndef f(): int = uid;\nmain = f();\n", [3, 11, 12, 200])
         self.assertEqual(found, ["2:16: `uid` is cut at the ceiling 10, so it is 10 at the 3 devices from 11 on."])
 
-    def test_none(self):
+    def test_none(self) -> None:
         self.assertEqual(self.warned("ceiling 12;\nmain = uid;\n", [3, 12]), [])
         self.assertEqual(self.warned("ceiling 10;\nmain = 1;\n", [3, 12]), [])
         self.assertEqual(self.warned("ceiling 10;\ndef f(): int = uid;\nmain = 1;\n", [12]), [])

@@ -7,7 +7,7 @@ import tempfile
 import unittest
 from pathlib import Path
 
-from helping import fieldc, needs
+from helping import Done, fieldc, needs
 
 from fieldc import Fault, files
 
@@ -171,7 +171,7 @@ class Graphs(InFolder):
 
 
 class Command(InFolder):
-    def made(self, *words: object):
+    def made(self, *words: object) -> Done:
         return fieldc("network", *words, folder=self.folder)
 
     def test_names_are_written_beside(self) -> None:

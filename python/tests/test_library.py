@@ -4,6 +4,8 @@ from __future__ import annotations
 
 import json
 import unittest
+from collections.abc import Callable
+from typing import Any
 
 from helping import HOPS, LINE, expected, needs, needs_fc, sections_of
 
@@ -20,7 +22,7 @@ LENGTHS = (
 @needs_fc
 @needs("networkx")
 class BesideNetworkx(unittest.TestCase):
-    def graph(self, seed: int = 5):
+    def graph(self, seed: int = 5) -> Any:
         import networkx
 
         graph = networkx.random_geometric_graph(40, 0.25, seed=seed)
@@ -28,7 +30,7 @@ class BesideNetworkx(unittest.TestCase):
         networkx.set_edge_attributes(graph, {edge: 1 + sum(edge) % 9 for edge in graph.edges}, "weight")
         return graph
 
-    def hops(self, graph) -> dict[int, int]:
+    def hops(self, graph: Any) -> dict[int, int]:
         import networkx
 
         lengths = [networkx.single_source_shortest_path_length(graph, source) for source in (3, 17)]
@@ -142,9 +144,10 @@ class WorkedRows(unittest.TestCase):
         self.assertEqual(
             (dict(driven.values), driven.verdict), ({0: 0, 1: 1, 2: 2}, fieldc.Verdict("yes 22", rounds=22))
         )
-        for options in ({}, {"log": "", "number": 3}):
-            with self.assertRaises(ValueError):
-                fieldc.mail(HOPS, LINE, **options)
+        with self.assertRaises(ValueError):
+            fieldc.mail(HOPS, LINE)
+        with self.assertRaises(ValueError):
+            fieldc.mail(HOPS, LINE, "", number=3)
 
     def test_format(self) -> None:
         self.assertEqual(
@@ -165,7 +168,7 @@ class WorkedRows(unittest.TestCase):
             self.assertEqual(dict(fieldc.stable(HOPS, given).values), {0: 0, 1: 1, 2: 2})
 
     def test_refusals_have_word_and_line(self) -> None:
-        wrong = {
+        wrong: dict[str, tuple[Callable[[], object], int]] = {
             "syntax 2 1": (lambda: fieldc.format("ceiling 10; main = 1 == 2;"), 3),
             "types 2 mismatch": (lambda: fieldc.check("ceiling 10; main = 1 + true;", LINE), 3),
             "json": (lambda: fieldc.check("ceiling 10; main = 1;", "{"), 3),

@@ -1,5 +1,7 @@
 """The manual pages: up to date, without a warning of man, and with each command, option and status."""
 
+# mypy: no-strict-optional
+
 from __future__ import annotations
 
 import re

@@ -7,6 +7,7 @@ import itertools
 import math
 import random
 import unittest
+from typing import Any
 
 from helping import needs
 
@@ -22,11 +23,10 @@ class ByRule(unittest.TestCase):
     def test_shapes_are_those_of_networkx(self) -> None:
         import networkx
 
-        grid = lambda w, h, closed: networkx.grid_2d_graph(h, w, periodic=closed)  # noqa: E731
         for width, height, closed in itertools.product((1, 2, 3, 5), (1, 2, 4), (False, True)):
             wanted = {
                 frozenset(y * width + x for y, x in edge)
-                for edge in grid(width, height, closed).edges
+                for edge in networkx.grid_2d_graph(height, width, periodic=closed).edges
                 if edge[0] != edge[1]
             }
             self.assertEqual(pairs(network.grid(width, height, closed)), wanted, (width, height, closed))
@@ -139,7 +139,7 @@ class Declarations(unittest.TestCase):
     def test_networks_are_judged(self) -> None:
         right = network.Network({0: {"src": True, "w": 5}, 1: {"src": False, "w": 1}}, ((0, 1, 2),))
         self.assertIs(network.judged(right, PROGRAM), right)
-        wrong = {
+        wrong: dict[str, tuple[dict[str, network.Input], int]] = {
             "has no w": ({"src": True}, 2),
             "w of device 1 is 6": ({"src": True, "w": 6}, 2),
             "w of device 1 is True": ({"src": True, "w": True}, 2),
@@ -154,7 +154,7 @@ class Declarations(unittest.TestCase):
 
 @needs("networkx")
 class Graphs(unittest.TestCase):
-    def graph(self, **attributes: object):
+    def graph(self, **attributes: object) -> Any:
         import networkx
 
         graph = networkx.path_graph(3)
@@ -206,7 +206,7 @@ class Graphs(unittest.TestCase):
         several.add_edge(0, 1, weight=4)
         clash = networkx.Graph([(1, "1")])
         one_way = networkx.DiGraph([(0, 1, {"weight": 1}), (1, 0, {"weight": 2})])
-        wrong = {
+        wrong: dict[str, tuple[Any, dict[str, Any]]] = {
             "linked to itself": (loop, {}),
             "has no weight, and others have one": (mixed, {}),
             "weighs 2.5, and a weight is a whole number": (half, {}),

@@ -1,11 +1,14 @@
 """Tests the search for two starts that rest apart. The rests that are wanted were worked out by hand."""
 
+# mypy: no-strict-optional
+
 from __future__ import annotations
 
 import json
 import tempfile
 import unittest
 from pathlib import Path
+from typing import Any
 
 import helping
 from helping import LINE, missing, needs_fc
@@ -33,7 +36,7 @@ FIRST_COME = (
 PAIR = '{"devices": [{"id": 0, "inputs": {}}, {"id": 1, "inputs": {}}], "links": [[0, 1, 1]]}'
 
 
-def again(text: str) -> tuple[results.Replayed, dict]:
+def again(text: str) -> tuple[results.Replayed, Any]:
     """What `fc replay --table` writes for an input, and the table of its network."""
     parts = text.split("\n%%\n")
     sections = tuple(Section(kind, "", 1, part + "\n") for kind, part in zip(("program", "network", "log"), parts))
@@ -44,16 +47,16 @@ def again(text: str) -> tuple[results.Replayed, dict]:
 class Tables(unittest.TestCase):
     """Tables with one number everywhere."""
 
-    def test_values(self):
+    def test_values(self) -> None:
         self.assertEqual(openness.filled([3, [True, 0]], 9, False), [9, [False, 9]])
 
-    def test_branches_stay(self):
+    def test_branches_stay(self) -> None:
         program = reading(BRANCHES).unfolded
         table = {"format": 2, "rows": [{"id": 0, "kept": [[0, True], [2, 1]], "value": 1}]}
         found = openness.filled_table(table, program, 10, False)
         self.assertEqual(found, {"format": 2, "rows": [{"id": 0, "kept": [[0, True], [2, 10]], "value": 10}]})
 
-    def test_rounds(self):
+    def test_rounds(self) -> None:
         self.assertEqual(openness.round_of([0, 1], openness.TOGETHER), "B0\nB1\nE0\nE1\n")
         self.assertEqual(openness.round_of([0, 1], openness.IN_TURN), "B0\nE0\nB1\nE1\n")
         self.assertEqual(openness.round_of([0, 1], openness.BACKWARDS), "B1\nE1\nB0\nE0\n")
@@ -63,13 +66,13 @@ class Tables(unittest.TestCase):
 class Rests(unittest.TestCase):
     """What is found on small networks."""
 
-    def test_a_greatest_value(self):
+    def test_a_greatest_value(self) -> None:
         found = openness.look(GREATEST, json.loads(LINE))
         self.assertEqual([dict(rest.values) for rest in found.rests], [{0: 3, 1: 3, 2: 3}, {0: 10, 1: 10, 2: 10}])
         self.assertEqual(found.devices, (0, 1, 2))
         self.assertEqual([rest.start for rest in found.rests], ["everything least", "everything greatest"])
 
-    def test_rests_are_rests(self):
+    def test_rests_are_rests(self) -> None:
         found = openness.look(NO_RISE, json.loads(LINE))
         self.assertEqual([dict(rest.values) for rest in found.rests], [{0: 0, 1: 0, 2: 0}, {0: 0, 1: 1, 2: 2}])
         self.assertEqual(found.devices, (1, 2))
@@ -78,11 +81,11 @@ class Rests(unittest.TestCase):
             self.assertEqual(dict(after.values), dict(rest.values))
             self.assertEqual(dict(after.table), before)
 
-    def test_branches(self):
+    def test_branches(self) -> None:
         found = openness.look(BRANCHES, json.loads(LINE))
         self.assertEqual([dict(rest.values) for rest in found.rests], [{0: 1, 1: 0, 2: 0}, {0: 10, 1: 10, 2: 10}])
 
-    def test_a_swing(self):
+    def test_a_swing(self) -> None:
         found = openness.look(FLIP, json.loads(LINE))
         self.assertIsNone(found.rests)
         self.assertEqual({found.swing.before[0], found.swing.after[0]}, {False, True})
@@ -92,7 +95,7 @@ class Rests(unittest.TestCase):
         twice, table = again(found.swing.text + found.swing.text.split("\n%%\n")[2])
         self.assertEqual(dict(twice.table), table)
 
-    def test_nothing_is_found(self):
+    def test_nothing_is_found(self) -> None:
         found = openness.look(SAME, json.loads(LINE))
         self.assertIsNone(found.rests)
         self.assertIsNone(found.swing)
@@ -101,10 +104,10 @@ class Rests(unittest.TestCase):
         self.assertIn("No two starts were found that rest apart. That doesn't say that there are none.", text)
         self.assertIn("everything greatest, in 3 orders of firings: at rest after at most 1 round", text)
 
-    def test_a_program_that_settles(self):
+    def test_a_program_that_settles(self) -> None:
         self.assertIsNone(openness.look(helping.HOPS, json.loads(LINE)).rests)
 
-    def test_from_the_table(self):
+    def test_from_the_table(self) -> None:
         found = openness.look(FIRST_COME, json.loads(PAIR), from_table=True)
         self.assertEqual([dict(rest.values) for rest in found.rests], [{0: 1, 1: 1}, {0: 2, 1: 2}])
         for rest in found.rests:
@@ -112,7 +115,7 @@ class Rests(unittest.TestCase):
             self.assertIsNone(table)
             self.assertEqual(dict(after.values), dict(rest.values))
 
-    def test_from_pending_firings(self):
+    def test_from_pending_firings(self) -> None:
         copy = {"id": 1, "inputs": {}, "own": None, "near": []}
         scene = {**json.loads(PAIR), "pending": [copy]}
         found = openness.look(FIRST_COME, scene, from_table=True)
@@ -127,7 +130,7 @@ class Rests(unittest.TestCase):
 class Command(unittest.TestCase):
     """`fieldc settle --why` writes the two inputs to files."""
 
-    def test_files(self):
+    def test_files(self) -> None:
         with tempfile.TemporaryDirectory() as folder:
             place = Path(folder)
             (place / "max.fc").write_text(GREATEST)

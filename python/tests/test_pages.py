@@ -3,6 +3,8 @@ commands of README.md and docs/tour.md write what stands below them, the program
 example of docs/commands.md and the examples write what is expected, the calls of docs/fieldc.md answer what stands
 beside them, and each page, anchor and picture that a page names is there."""
 
+# mypy: no-strict-optional
+
 from __future__ import annotations
 
 import ast

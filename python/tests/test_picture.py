@@ -1,5 +1,7 @@
 """Pictures: the network as it is at each show, whole pairs, scales, numbers, names of files, and the time they take."""
 
+# mypy: no-strict-optional
+
 from __future__ import annotations
 
 import json
@@ -10,7 +12,7 @@ import subprocess
 import unittest
 from pathlib import Path
 
-from helping import EXAMPLES, browser, expected, fieldc, needs, needs_browser, sections_of
+from helping import EXAMPLES, Done, browser, expected, fieldc, needs, needs_browser, sections_of
 from test_files import InFolder
 
 from fieldc import Fault, layout, network, read_scene
@@ -114,7 +116,7 @@ class Layout(unittest.TestCase):
     def test_hops_are_about_as_long_as_they_are_many(self) -> None:
         for made in (network.grid(6, 5), network.ring(20), network.line(30)):
             places = layout.laid_out(made.devices, [link[:2] for link in made.links])
-            near = {device: [] for device in made.devices}
+            near: dict[int, list[int]] = {device: [] for device in made.devices}
             for a, b, _ in made.links:
                 near[a].append(b)
                 near[b].append(a)
@@ -143,7 +145,7 @@ class Layout(unittest.TestCase):
     def test_both_ways_to_count_hops_agree(self) -> None:
         dice = random.Random(2)
         made = network.in_range({d: (dice.random(), dice.random()) for d in range(80)}, 0.25)
-        near = {device: [] for device in made.devices}
+        near: dict[int, list[int]] = {device: [] for device in made.devices}
         for a, b, _ in made.links:
             near[a].append(b)
             near[b].append(a)
@@ -162,8 +164,8 @@ class Command(InFolder):
         pixels = (imread(self.folder / name)[::5, ::5, :3] * 255).round().astype(int).reshape(-1, 3).tolist()
         return len({tuple(pixel) for pixel in pixels if max(pixel) - min(pixel) > 60})
 
-    def picture(self, *words: object, **variables: str):
-        return fieldc("picture", *words, folder=self.folder, **variables)
+    def picture(self, *words: object, **variables: str) -> Done:
+        return fieldc("picture", *words, folder=self.folder, seconds=None, **variables)
 
     def test_a_field_in_each_form(self) -> None:
         for name in ("field.png", "field.svg", "field.pdf", "field.html"):
@@ -180,7 +182,10 @@ class Command(InFolder):
 
     def test_device_numbers_on_demand(self) -> None:
         words = [SETTLE, "--values", EXAMPLES / "crowd_settle.expected", "-o", "crowd.svg"]
-        texts = lambda: set(re.findall("<!-- (.*?) -->", (self.folder / "crowd.svg").read_text()))  # noqa: E731
+
+        def texts() -> set[str]:
+            return set(re.findall("<!-- (.*?) -->", (self.folder / "crowd.svg").read_text()))
+
         self.picture(*words)
         without = texts()
         self.picture(*words, "--numbers")
@@ -216,8 +221,8 @@ class Command(InFolder):
         devices = [int(word) for word in re.findall(r'data-id="(\d+)"', page)]
         ends = re.findall(r"<line[^>]*>", page)
         self.assertEqual([len(show["devices"]) for show in shows], [37, 37])
-        for show, gone in zip(shows, (36, 9)):
-            self.assertEqual([devices[at] for at, look in enumerate(show["devices"]) if look < 0], [gone])
+        for show, left in zip(shows, (36, 9)):
+            self.assertEqual([devices[at] for at, look in enumerate(show["devices"]) if look < 0], [left])
         self.assertEqual([[devices[at] for at in show["marked"]] for show in shows], [[4, 17, 30], [4, 30]])
         gone = json.loads(re.search(r"const gone = (.*);", page)[1])
         self.assertEqual(len(gone[shows[0]["away"]]), 2)
@@ -303,7 +308,8 @@ class Command(InFolder):
         self.file("id,x,y\n" + "".join(f"{d},{x},{y}\n" for d, (x, y) in places.items()), "at.csv")
         self.file("".join(f"{d} ({d % 37},{d % 11})\n" for d in range(1024)), "values.txt")
         words = ["net.json", "--values", "values.txt", "--numbers"]
-        for more, most in ((["--positions", "at.csv"], 5), ([], 20)):
+        asked: tuple[tuple[list[str], int], ...] = ((["--positions", "at.csv"], 5), ([], 20))
+        for more, most in asked:
             for name in ("crowd.png", "crowd.html"):
                 before = resource.getrusage(resource.RUSAGE_CHILDREN)
                 self.assertEqual(self.picture(*words, *more, "-o", name).status, 0)

@@ -5,6 +5,7 @@ from __future__ import annotations
 import json
 import pickle
 import unittest
+from typing import Any
 
 import helping  # noqa: F401
 
@@ -18,7 +19,8 @@ from fieldc.telling import told
 
 class Readers(unittest.TestCase):
     def test_values(self) -> None:
-        for word, value in {"0": 0, "true": True, "(1,(false,3))": (1, (False, 3)), "-": None}.items():
+        written: dict[str, results.Value | None] = {"0": 0, "true": True, "(1,(false,3))": (1, (False, 3)), "-": None}
+        for word, value in written.items():
             self.assertEqual(results.value_of(word), value)
             self.assertEqual(results.word_of(value), word)
         for word in ("x", "(1)", "(1,2,3)", "-1", "1.5", '"a"', ""):
@@ -91,13 +93,13 @@ class Sections(unittest.TestCase):
 class Json(unittest.TestCase):
     def test_each_result(self) -> None:
         names = {1: "mill"}
-        no = {"verdict": {"stabilises": False, "place": 4, "reason": "nested"}}
-        yes = {"verdict": {"stabilises": True, "rounds": 7}}
-        mill = {"id": 1, "name": "mill", "value": 3}
+        no: dict[str, Any] = {"verdict": {"stabilises": False, "place": 4, "reason": "nested"}}
+        yes: dict[str, Any] = {"verdict": {"stabilises": True, "rounds": 7}}
+        mill: dict[str, Any] = {"id": 1, "name": "mill", "value": 3}
         devices = [{"id": 0, "value": [1, True]}, {**mill, "value": None}]
         unknown = {"id": 0, "value": None, "rounds": None}
         show = {"line": 2, "rounds_since_edit": None, "devices": [{"id": 0, "value": 1}]}
-        rows = {
+        rows: dict[str, tuple[results.Result | str, dict[str, Any]]] = {
             "check": (results.checked("no 4 nested\n"), no),
             "stable": (results.stable("0 (1,true)\n1 -\n"), {"devices": devices}),
             "no stable": (results.stable("no 4 nested\n"), {**no, "devices": []}),

@@ -8,6 +8,7 @@ import random
 import re
 import unittest
 from collections.abc import Iterator
+from typing import Any
 
 from helping import EXAMPLES, TOP, fieldc, needs, needs_fc, sections_of
 
@@ -18,7 +19,7 @@ SCHEMA = TOP / "docs/scene.schema.json"
 PROGRAM = "ceiling 10; input src: bool; input load: int 0..9; metric 1..9;\n" + (
     "main = (rep(10){(d) => minHoodLoc(nbr{d} + nbrLink, mux(sense src, 0, 10))}, sense load < 5);\n"
 )
-SCENE = {
+SCENE: dict[str, Any] = {
     "devices": [
         {"id": 0, "inputs": {"src": True, "load": 3}},
         {"id": 1, "inputs": {"src": False, "load": 9}},
@@ -106,7 +107,7 @@ WRONG: tuple[tuple[tuple[str | int, ...], object], ...] = (
     (("comment",), "a network"),
 )
 # what only the program or the other devices can say, or a fraction that is none
-OTHERWISE = (
+OTHERWISE: tuple[tuple[tuple[str | int, ...], object], ...] = (
     (("devices", 0, "inputs"), {"src": True}),
     (("devices", 0, "inputs", "load"), 10),
     (("links", 0), [0, 0, 1]),
@@ -115,7 +116,7 @@ OTHERWISE = (
     (("devices", 0, "id"), 0.0),
     (("table", "rows", 0, "kept", 0), [0, 0]),
 )
-MUTANTS = (
+MUTANTS: tuple[object, ...] = (
     None,
     True,
     -1,
@@ -139,7 +140,7 @@ def changed(place: tuple[str | int, ...], value: object) -> object:
     if not place:
         return value
     scene = copy.deepcopy(SCENE)
-    inner = scene
+    inner: Any = scene
     for step in place[:-1]:
         inner = inner[step]
     inner[place[-1]] = value

@@ -1,6 +1,8 @@
 """Sweeps: what is drawn from a seed, the rows that fc's answers make, one file whatever asks, stopping and going on, a
 cluster of which a worker is ended, and rows that are confirmed by hand and by runs from rubbish."""
 
+# mypy: no-strict-optional
+
 from __future__ import annotations
 
 import json
@@ -17,7 +19,7 @@ from pathlib import Path
 from unittest import mock
 
 from helping import HOPS, TOP, fieldc, needs, needs_fc
-import test_command
+from test_command import on_a_terminal
 import test_pages
 from test_files import InFolder
 
@@ -175,7 +177,7 @@ class Sweeps(InFolder):
         self.program = self.file(HOPS.replace("10", "60"), "hops.fc")
 
     def sweep(self, *words: object, name: str = "rows.csv", **variables: str) -> str:
-        done = fieldc("sweep", self.program, *words, "-o", name, folder=self.folder, **variables)
+        done = fieldc("sweep", self.program, *words, "-o", name, folder=self.folder, seconds=None, **variables)
         self.assertEqual(done.status, 0, done.errors)
         return (self.folder / name).read_text()
 
@@ -266,9 +268,9 @@ class Sweeps(InFolder):
             self.assertLess(time.monotonic(), end, "the scheduler doesn't start")
             time.sleep(0.1)
             if path.exists() and path.read_text().strip().endswith("}"):
-                return json.loads(path.read_text())["address"]
+                return str(json.loads(path.read_text())["address"])
 
-    def started(self, name: str, *words: str, **variables: str) -> subprocess.Popen:
+    def started(self, name: str, *words: str, **variables: str) -> subprocess.Popen[bytes]:
         """A program of Dask on loopback, which is ended with the test."""
         command = [
             sys.executable,
@@ -282,7 +284,7 @@ class Sweeps(InFolder):
         ]
         return self.run_beside(command, **variables)
 
-    def run_beside(self, command: list[str], **variables: str) -> subprocess.Popen:
+    def run_beside(self, command: list[str], **variables: str) -> subprocess.Popen[bytes]:
         environment = dict(os.environ, PYTHONPATH=str(TOP / "python"), **variables)
         quiet = subprocess.DEVNULL
         process = subprocess.Popen(command, cwd=self.folder, env=environment, stdout=quiet, stderr=quiet)
@@ -393,8 +395,8 @@ class Sweeps(InFolder):
         places = [float(line.split(",")[1]) for line in (self.folder / "at.csv").read_text().splitlines()[1:]]
         self.assertTrue(all(0 < abs(x - 10 * d) <= 1 for d, x in enumerate(places)))
         edges = self.file("0 1\n1 2\n2 3\n3 0\n", "edges.txt")
-        words = ("--edges", edges, "--fail", 0.5, "--set", "src=true@0", "--count", 40)
-        found = rows.rows_of(self.sweep(*words, name="e.csv"), "e.csv")
+        failing = ("--edges", edges, "--fail", 0.5, "--set", "src=true@0", "--count", 40)
+        found = rows.rows_of(self.sweep(*failing, name="e.csv"), "e.csv")
         self.assertEqual({row.links for row in found} - {0, 1, 2, 3, 4}, set())
         self.assertGreater(len({row.links for row in found}), 2)
         for row in found:
@@ -420,12 +422,12 @@ class Sweeps(InFolder):
         ):
             self.assertIn(said, page)
         again = next(line for line in page.splitlines() if line.endswith("--again SEED -o net.json</pre>"))
-        said = again.split("hops.fc ")[1].split(" --again")[0].split(" ")
-        self.assertEqual(sorted(said), sorted(map(str, words)))
+        called = again.split("hops.fc ")[1].split(" --again")[0].split(" ")
+        self.assertEqual(sorted(called), sorted(map(str, words)))
 
     def test_a_line_says_how_far_it_is(self) -> None:
         words = ("sweep", self.program, *SHAPE, "--count", 150, "--workers", 2, "-o", self.folder / "rows.csv")
-        said = test_command.LongWork.on_a_terminal(self, *words, fc=self.slow(0.05))
+        said = on_a_terminal(*words, fc=self.slow(0.05))
         self.assertRegex(said, "fieldc: 150 deployments: [0-9]+ s, [1-9][0-9]* done, [0-9]+ a second, [0-9]+ s left")
         self.assertRegex(
             said, "fieldc sweep: 150 rows in [0-9.]+ s, [0-9.]+ s of a processor in fc and [0-9.]+ s beside it"

@@ -82,7 +82,7 @@ def written(line: str) -> str:
     """The text for which a line of a section stands."""
     found = REPEAT.fullmatch(line)
     if found:
-        return json.loads(found.group(2)) * int(found.group(1))
+        return str(json.loads(found.group(2))) * int(found.group(1))
     found = COUNT.fullmatch(line)
     if found:
         numbers = range(int(found.group(1)), int(found.group(2)) + 1)
