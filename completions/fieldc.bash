@@ -75,20 +75,20 @@ _fieldc_words() {
     esac
     case $command in
         "") words="check settle stable trace run replay mail gen format compose network picture rounds sweep -h --help --version" ;;
-        check) files=yes words="--facts --settle --from-table --why --json --names -h --help" ;;
-        settle) files=yes words="--facts --from-table --why --json --names -h --help" ;;
-        stable) files=yes words="--json --names -h --help" ;;
-        trace) files=yes words="--json --names -h --help" ;;
-        run) files=yes words="--workers --log --table --json --names -h --help" ;;
+        check) files=yes words="--facts --settle --from-table --why --no-cut-check --json --names -h --help" ;;
+        settle) files=yes words="--facts --from-table --why --no-cut-check --json --names -h --help" ;;
+        stable) files=yes words="--no-cut-check --json --names -h --help" ;;
+        trace) files=yes words="--no-cut-check --json --names -h --help" ;;
+        run) files=yes words="--workers --log --table --no-cut-check --json --names -h --help" ;;
         replay) files=yes words="--rounds --table --json --names -h --help" ;;
         mail) files=yes words="--number --json --names -h --help" ;;
         gen) words="--devices --workers --json -h --help" ;;
         format) files=yes words="--json -h --help" ;;
-        compose) files=yes words="--network --library --unjudged -o --output --list --show -h --help" ;;
+        compose) files=yes words="--network --library --no-cut-check --unjudged -o --output --list --show -h --help" ;;
         network) words="--line --ring --grid --torus --disk --points --edges --scene -o --output --range --side --seed --undirected --weight --metric --unit --round --max-degree --set --inputs --program --table --positions --names -h --help" ;;
         picture) files=yes words="-o --output --values --of --show --page --positions --names --numbers --mark --title -h --help" ;;
         rounds) files=yes words="-o --output --number --rounds --workers --title -h --help" ;;
-        sweep) words="--line --ring --grid --torus --disk --points --edges --range --side --density --jitter --fail --weight --metric --unit --max-degree --set --count --seed --values -o --output --report --title --workers --scheduler --again --positions -h --help" ;;
+        sweep) words="--line --ring --grid --torus --disk --points --edges --range --side --density --jitter --fail --weight --metric --unit --max-degree --set --count --seed --values -o --output --report --title --workers --scheduler --no-cut-check --again --positions -h --help" ;;
     esac
     if [[ $files && $current != -* ]]; then
         return

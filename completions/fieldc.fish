@@ -23,6 +23,7 @@ complete -c fieldc -n '__fish_seen_subcommand_from check' -l facts -d 'adds what
 complete -c fieldc -n '__fish_seen_subcommand_from check' -l settle -d 'adds after how many rounds each device holds its value'
 complete -c fieldc -n '__fish_seen_subcommand_from check' -l from-table -d 'counts from the network\'s table and pending firings, as after an edit, in place of every start'
 complete -c fieldc -n '__fish_seen_subcommand_from check' -l why -d 'where it is open, looks for two starts that rest apart'
+complete -c fieldc -n '__fish_seen_subcommand_from check' -l no-cut-check -d 'doesn\'t ask fc once more, with a greater ceiling, whether values are cut'
 complete -c fieldc -n '__fish_seen_subcommand_from check' -l json -d 'writes the answer, and a refusal, as JSON'
 complete -c fieldc -n '__fish_seen_subcommand_from check' -l names -r -F -d 'a file of lines id,name: devices are called by these names'
 complete -c fieldc -n '__fish_seen_subcommand_from check' -s h -l help -d 'tells of the command'
@@ -31,16 +32,19 @@ complete -c fieldc -n '__fish_seen_subcommand_from check' -s h -l help -d 'tells
 complete -c fieldc -n '__fish_seen_subcommand_from settle' -l facts -d 'adds what is known of each node of the unfolded main'
 complete -c fieldc -n '__fish_seen_subcommand_from settle' -l from-table -d 'counts from the network\'s table and pending firings, as after an edit, in place of every start'
 complete -c fieldc -n '__fish_seen_subcommand_from settle' -l why -d 'where it is open, looks for two starts that rest apart'
+complete -c fieldc -n '__fish_seen_subcommand_from settle' -l no-cut-check -d 'doesn\'t ask fc once more, with a greater ceiling, whether values are cut'
 complete -c fieldc -n '__fish_seen_subcommand_from settle' -l json -d 'writes the answer, and a refusal, as JSON'
 complete -c fieldc -n '__fish_seen_subcommand_from settle' -l names -r -F -d 'a file of lines id,name: devices are called by these names'
 complete -c fieldc -n '__fish_seen_subcommand_from settle' -s h -l help -d 'tells of the command'
 
 # stable
+complete -c fieldc -n '__fish_seen_subcommand_from stable' -l no-cut-check -d 'doesn\'t ask fc once more, with a greater ceiling, whether values are cut'
 complete -c fieldc -n '__fish_seen_subcommand_from stable' -l json -d 'writes the answer, and a refusal, as JSON'
 complete -c fieldc -n '__fish_seen_subcommand_from stable' -l names -r -F -d 'a file of lines id,name: devices are called by these names'
 complete -c fieldc -n '__fish_seen_subcommand_from stable' -s h -l help -d 'tells of the command'
 
 # trace
+complete -c fieldc -n '__fish_seen_subcommand_from trace' -l no-cut-check -d 'doesn\'t ask fc once more, with a greater ceiling, whether values are cut'
 complete -c fieldc -n '__fish_seen_subcommand_from trace' -l json -d 'writes the answer, and a refusal, as JSON'
 complete -c fieldc -n '__fish_seen_subcommand_from trace' -l names -r -F -d 'a file of lines id,name: devices are called by these names'
 complete -c fieldc -n '__fish_seen_subcommand_from trace' -s h -l help -d 'tells of the command'
@@ -49,6 +53,7 @@ complete -c fieldc -n '__fish_seen_subcommand_from trace' -s h -l help -d 'tells
 complete -c fieldc -n '__fish_seen_subcommand_from run' -l workers -x -d 'threads that fire devices, 1 to 16 (4)'
 complete -c fieldc -n '__fish_seen_subcommand_from run' -l log -d 'adds the log of all steps that were taken'
 complete -c fieldc -n '__fish_seen_subcommand_from run' -l table -d 'adds the table of what the devices have published'
+complete -c fieldc -n '__fish_seen_subcommand_from run' -l no-cut-check -d 'doesn\'t ask fc once more, with a greater ceiling, whether values are cut'
 complete -c fieldc -n '__fish_seen_subcommand_from run' -l json -d 'writes the answer, and a refusal, as JSON'
 complete -c fieldc -n '__fish_seen_subcommand_from run' -l names -r -F -d 'a file of lines id,name: devices are called by these names'
 complete -c fieldc -n '__fish_seen_subcommand_from run' -s h -l help -d 'tells of the command'
@@ -80,6 +85,7 @@ complete -c fieldc -n '__fish_seen_subcommand_from format' -s h -l help -d 'tell
 # compose
 complete -c fieldc -n '__fish_seen_subcommand_from compose' -l network -r -F -d 'a network beside: warns of device numbers that aren\'t told apart on it'
 complete -c fieldc -n '__fish_seen_subcommand_from compose' -l library -x -d 'a folder of blocks of your own besides'
+complete -c fieldc -n '__fish_seen_subcommand_from compose' -l no-cut-check -d 'doesn\'t ask fc once more, with a greater ceiling, whether values are cut'
 complete -c fieldc -n '__fish_seen_subcommand_from compose' -l unjudged -d 'doesn\'t ask fc whether it takes the composed program'
 complete -c fieldc -n '__fish_seen_subcommand_from compose' -s o -l output -r -F -d 'where the composed program goes; else to standard output'
 complete -c fieldc -n '__fish_seen_subcommand_from compose' -l list -d 'lists the blocks, a line each'
@@ -162,6 +168,7 @@ complete -c fieldc -n '__fish_seen_subcommand_from sweep' -l report -r -F -d 'a 
 complete -c fieldc -n '__fish_seen_subcommand_from sweep' -l title -x -d 'a line above the report (the program\'s name)'
 complete -c fieldc -n '__fish_seen_subcommand_from sweep' -l workers -x -d 'processes (one a processor)'
 complete -c fieldc -n '__fish_seen_subcommand_from sweep' -l scheduler -x -d 'asks on the Dask cluster of this scheduler, host:port'
+complete -c fieldc -n '__fish_seen_subcommand_from sweep' -l no-cut-check -d 'doesn\'t ask fc once more, with a greater ceiling, whether values are cut'
 complete -c fieldc -n '__fish_seen_subcommand_from sweep' -l again -x -d 'makes the network of this seed, asks nothing'
 complete -c fieldc -n '__fish_seen_subcommand_from sweep' -l positions -r -F -d 'with --again: writes the positions there, one line id,x,y each'
 complete -c fieldc -n '__fish_seen_subcommand_from sweep' -s h -l help -d 'tells of the command'

@@ -3,13 +3,15 @@
 from __future__ import annotations
 
 import argparse
+import functools
 import sys
+import time
 from collections.abc import Callable, Mapping, Sequence
 from dataclasses import replace
 from typing import TypeVar, Union
 
+from . import cuts, results
 from . import program as fc
-from . import results
 from .files import names_from
 from .json_results import written
 from .progress import Progress, described
@@ -42,6 +44,12 @@ def add_answers(parser: argparse.ArgumentParser, names: bool = True) -> None:
         )
 
 
+def add_cut_check(parser: argparse.ArgumentParser) -> None:
+    """Whether values are looked at that the ceiling may have cut."""
+    asks = "doesn't ask fc once more, with a greater ceiling, whether values are cut"
+    parser.add_argument(cuts.OPTION, action="store_true", help=asks)
+
+
 def ask(
     options: argparse.Namespace,
     words: Sequence[str],
@@ -54,11 +62,14 @@ def ask(
     """
     names = names_from(options.names) if getattr(options, "names", None) else {}
     call = Call(tuple(words), sections(options.files, kinds))
+    start = time.monotonic()
     with Progress(lambda: described(call)) as waiting:
         reply = fc.answered(call, waiting)
+    cuts_of = functools.partial(cut_warnings, options, call, names=names, took=time.monotonic() - start)
     result = understood(reader, reply.text, call)
     why, warnings = why_no(call, reply.text) if reply.status == 1 else None, warned(call)
     if options.json:
+        warnings += cuts_of(result)
         write("-", written(result, names, why, warnings))
         return call, result, reply.status
     if names:
@@ -66,7 +77,18 @@ def ask(
     else:
         pour(reply.output)
     tell(why, warnings)
+    tell(None, cuts_of(result))
     return call, result, reply.status
+
+
+def cut_warnings(
+    options: argparse.Namespace, call: Call, result: results.Result | str, *, names: Mapping[int, str], took: float
+) -> tuple[Explanation, ...]:
+    """What the ceiling cuts of values that took so many seconds, where the command looks for it and `fc` is built."""
+    if getattr(options, "no_cut_check", True) or not fc.built():
+        return ()
+    with Progress(lambda: "fc with a greater ceiling") as waiting:
+        return cuts.warned(call, result, names, took, waiting)
 
 
 def understood(reader: Callable[[str, Call], Answer], text: str, call: Call) -> Answer:

@@ -11,7 +11,9 @@ from collections.abc import Iterable, Sequence
 from dataclasses import dataclass, field, replace
 from pathlib import Path
 
+from . import cuts
 from . import program as fc
+from .asking import add_cut_check, tell
 from .blocks import Block, Declaration, Library, Token, declarations, not_there, tokens
 from .blocks import listing, own_library, read_library, shown
 from .refusals import Call, Explanation, Fault, Refusal, Section, explained, plain_explanation
@@ -262,6 +264,7 @@ def arguments(parser: argparse.ArgumentParser) -> None:
     add("program", metavar="FILE", nargs="?", default="-", help=joined)
     add("--network", metavar="FILE", help="a network beside: warns of device numbers that aren't told apart on it")
     add("--library", metavar="DIR", action="append", default=[], help="a folder of blocks of your own besides")
+    add_cut_check(parser)
     add("--unjudged", action="store_true", help="doesn't ask fc whether it takes the composed program")
     add("-o", "--output", metavar="FILE", default="-", help="where the composed program goes; else to standard output")
     add("--list", action="store_true", help="lists the blocks, a line each")
@@ -302,6 +305,9 @@ def perform(options: argparse.Namespace) -> int:
         doubt = wanting(made, refusal, name) if refusal is not None and refusal.status == 1 else None
         if doubt is not None:
             print(f"warning: {doubt}", file=sys.stderr)
+        if network is not None and not options.no_cut_check and (refusal is None or refusal.status == 1):
+            own = Section("program", options.program, 1, text)
+            tell(None, cuts.in_program(own, made.text, network, refusal is None))
         if refusal is not None and refusal.status > 1:
             sys.stderr.write(told(own_explanation(made, refusal, options.program)))
             return refusal.status

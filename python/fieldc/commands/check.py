@@ -5,7 +5,7 @@ from __future__ import annotations
 import argparse
 
 from .. import results
-from ..asking import add_answers, add_files, ask
+from ..asking import add_answers, add_cut_check, add_files, ask
 from ..refusals import Fault
 from .settle import settle_arguments, why_open
 
@@ -18,6 +18,7 @@ def arguments(parser: argparse.ArgumentParser) -> None:
     parser.add_argument("--facts", action="store_true", help="adds what is known of each node of the unfolded main")
     parser.add_argument("--settle", action="store_true", help="adds after how many rounds each device holds its value")
     settle_arguments(parser)
+    add_cut_check(parser)
     add_answers(parser)
 
 

@@ -5,7 +5,7 @@ from __future__ import annotations
 import argparse
 
 from .. import results
-from ..asking import add_answers, add_files, ask
+from ..asking import add_answers, add_cut_check, add_files, ask
 from ..library import with_rounds
 from ..refusals import Call
 
@@ -18,6 +18,7 @@ def arguments(parser: argparse.ArgumentParser) -> None:
     parser.add_argument("--workers", metavar="N", type=int, default=4, help="threads that fire devices, 1 to 16 (4)")
     parser.add_argument("--log", action="store_true", help="adds the log of all steps that were taken")
     parser.add_argument("--table", action="store_true", help="adds the table of what the devices have published")
+    add_cut_check(parser)
     add_answers(parser)
 
 

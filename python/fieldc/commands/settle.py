@@ -6,7 +6,7 @@ import argparse
 import sys
 
 from .. import results
-from ..asking import add_answers, add_files, ask
+from ..asking import add_answers, add_cut_check, add_files, ask
 from ..refusals import Call, Fault, has_lark
 
 SUMMARY = "says after how many rounds each device of this network holds its value"
@@ -17,6 +17,7 @@ def arguments(parser: argparse.ArgumentParser) -> None:
     add_files(parser, KINDS)
     parser.add_argument("--facts", action="store_true", help="adds what is known of each node of the unfolded main")
     settle_arguments(parser)
+    add_cut_check(parser)
     add_answers(parser)
 
 

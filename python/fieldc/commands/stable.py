@@ -5,7 +5,7 @@ from __future__ import annotations
 import argparse
 
 from .. import results
-from ..asking import add_answers, add_files, ask
+from ..asking import add_answers, add_cut_check, add_files, ask
 
 SUMMARY = "writes the final value of each device, without running the program"
 KINDS = ("program", "network")
@@ -13,6 +13,7 @@ KINDS = ("program", "network")
 
 def arguments(parser: argparse.ArgumentParser) -> None:
     add_files(parser, KINDS)
+    add_cut_check(parser)
     add_answers(parser)
 
 

@@ -12,19 +12,22 @@ from collections.abc import Callable
 from dataclasses import replace
 from typing import Any
 
-from .. import files, network
+from .. import cuts, files, network
 from .. import program as fc
+from ..asking import add_cut_check
+from ..asking import tell as told_beside
 from ..drawing import pyplot_ready
 from ..network import Pair
 from ..progress import Progress
 from ..refusals import Call, Fault, Section
 from ..sections import PAGES, PICTURES, cut, read, writable, write
 from ..sweep import report, rows, running
-from ..sweep.deployments import SQUARE, Rule, Setting, deployment
+from ..sweep.deployments import SQUARE, Rule, Setting, deployment, largest
 from ..sweep.questions import Question
 from ..sweep.running import Spent
 from .network import length, sides, span, whole
 
+MOST_LOOKED_AT = 1_000
 SUMMARY = "asks after how many rounds a program settles on many deployments that are drawn"
 EPILOG = """\
 Example: fieldc sweep hops.fc --disk 60 --range 20 --set src=true@random:2 --count 1000 -o hops.csv --report hops.html
@@ -149,6 +152,7 @@ def _asking(parser: argparse.ArgumentParser) -> None:
         "--workers", metavar="W", type=whole(1, "a number of processes"), help="processes (one a processor)"
     )
     parser.add_argument("--scheduler", metavar="ADDRESS", help="asks on the Dask cluster of this scheduler, host:port")
+    add_cut_check(parser)
     parser.add_argument(
         "--again", metavar="SEED", type=whole(0, "a seed"), help="makes the network of this seed, asks nothing"
     )
@@ -170,7 +174,9 @@ def perform(options: argparse.Namespace) -> int:
     if options.report:
         pyplot_ready()
     question = Question(rule, program, options.values, options.program)
-    judge(question, options.seed)
+    stabilises = judge(question, options.seed)
+    if not options.no_cut_check:
+        tell_cuts(question, range(options.seed, options.seed + min(options.count, MOST_LOOKED_AT)), stabilises)
     spent = asked(question, options)
     text = read(options.output)
     found = rows.rows_of(text, options.output)[: options.count]
@@ -234,8 +240,11 @@ def again(rule: Rule, options: argparse.Namespace) -> int:
     return 0
 
 
-def judge(question: Question, seed: int) -> None:
-    """Refuses a program or inputs that are wrong on all deployments, before many are asked."""
+def judge(question: Question, seed: int) -> bool:
+    """Whether the verdict is a yes.
+
+    Refuses a program or inputs that are wrong on all deployments, before many are asked.
+    """
     for end in (0, 1):
         inputs = [
             replace(one, value=one.value[end]) if isinstance(one.value, tuple) else one for one in question.rule.inputs
@@ -244,7 +253,15 @@ def judge(question: Question, seed: int) -> None:
     first = min(found.inputs)
     alone = replace(found, inputs={first: found.inputs[first]}, links=(), state={})
     program = Section("program", question.name, 1, question.program)
-    fc.answered(Call(("check",), (program, Section("network", "", 1, alone.scene()))))
+    return fc.answered(Call(("check",), (program, Section("network", "", 1, alone.scene())))).status == 0
+
+
+def tell_cuts(question: Question, seeds: range, stabilises: bool) -> None:
+    """Warns of a ceiling that cuts what is computed on the largest deployment of some seeds."""
+    seed = largest(question.rule, seeds)
+    program, scene = Section("program", question.name, 1, question.program), deployment(question.rule, seed).scene()
+    warnings = cuts.in_program(program, program.text, scene, stabilises, f"on the deployment of seed {seed}")
+    told_beside(None, warnings)
 
 
 def asked(question: Question, options: argparse.Namespace) -> Spent:

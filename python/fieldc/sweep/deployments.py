@@ -100,6 +100,11 @@ def _count(rule: Rule, seed: int) -> int:
     return min(high, max(low, round(drawn)))
 
 
+def largest(rule: Rule, seeds: Sequence[int]) -> int:
+    """The first of the seeds whose deployments have the most devices."""
+    return seeds[0] if rule.base is not None else max(seeds, key=lambda seed: _count(rule, seed))
+
+
 def _moved(base: Network, rule: Rule, seed: int) -> Network:
     """Points that are moved by up to the jitter along each axis, and linked where they are in range."""
     dice = Random(f"{seed} places")
