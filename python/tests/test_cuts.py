@@ -12,7 +12,12 @@ from fieldc import cuts, network, results
 from fieldc.refusals import Section
 
 SUM = "ceiling {}; input load: int 0..20; main = sumHood(nbr{{sense load}});\n"
-MEAN = "language 2;\nceiling {};\ninput beacon: bool;\ninput value: int 0..20;\nmain = regionMean(sense beacon, 9, sense value);\n"
+MEAN = """language 2;
+ceiling {};
+input beacon: bool;
+input value: int 0..20;
+main = regionMean(sense beacon, 9, sense value);
+"""
 COUNTER = "ceiling 10;\nmain = rep(0){(x) => x + 1};\n"
 STAR = json.dumps(
     {
@@ -54,7 +59,8 @@ class Search(unittest.TestCase):
     def test_the_least_that_is_enough_is_found_with_few_questions(self) -> None:
         for words in ((), ("check", "--settle")):
             asked = self.question(1000, *words)
-            self.assertEqual(cuts.cut_of(asked), cuts.Cut(1000, {0: (1000, 2_881 if not words else 2000)}, 2, 2_881, True))
+            wanted = cuts.Cut(1000, {0: (1000, 2_881 if not words else 2000)}, 2, 2_881, True)
+            self.assertEqual(cuts.cut_of(asked), wanted)
             self.assertLess(len(asked.known), 20)
             self.assertEqual(max(asked.known), 1_000_000 if not words else 8_000)
             self.assertIsNone(cuts.cut_of(self.question(2_881, *words)))
@@ -70,7 +76,8 @@ class Commands(InFolder):
         for ceiling, enough in ((20, 60), (59, 60)):
             done = fieldc("stable", self.file(SUM.format(ceiling), "sum.fc"), scene)
             self.assertEqual((done.status, done.output), (0, f"0 {ceiling}\n1 1\n2 1\n3 1\n"))
-            self.assertIn(f"warning: {self.folder}/sum.fc:1:9: The ceiling {ceiling} cuts what is computed here", done.errors)
+            place = f"{self.folder}/sum.fc:1:9"
+            self.assertIn(f"warning: {place}: The ceiling {ceiling} cuts what is computed here", done.errors)
             self.assertIn(f"1 of 4 devices has another value: 60 and not {ceiling} at device 0.", done.errors)
             self.assertIn(f"Write `ceiling {enough};`, the least that is enough on this network", done.errors)
         for words in (("stable", "--no-cut-check"), ("settle", "--no-cut-check")):
@@ -120,13 +127,13 @@ class Commands(InFolder):
         inputs = '{"beacon": %s, "value": 20}'
         text = network.line(8).scene().replace("{}", inputs % "true", 1).replace("{}", inputs % "false")
         scene = self.file(text, "line.json")
-        done = fieldc("compose", self.file(MEAN.format(100), "mean.fc"), "--network", scene, "-o", self.folder / "made.fc")
+        rest = ("--network", scene, "-o", self.folder / "made.fc")
+        done = fieldc("compose", self.file(MEAN.format(100), "mean.fc"), *rest)
         self.assertEqual(done.status, 0)
-        self.assertIn("mean.fc:2:9: The ceiling 100 cuts what is computed here: with a greater one 8 of 8 devices", done.errors)
+        self.assertIn("mean.fc:2:9: The ceiling 100 cuts what is computed here: with a greater one 8 of 8", done.errors)
         self.assertIn("20 and not 100 at devices", done.errors)
         for words in ((MEAN.format(1000),), (MEAN.format(100), "--no-cut-check")):
-            name = self.file(words[0], "mean.fc")
-            self.assertEqual(fieldc("compose", name, "--network", scene, *words[1:], "-o", self.folder / "made.fc").errors, "")
+            self.assertEqual(fieldc("compose", self.file(words[0], "mean.fc"), *words[1:], *rest).errors, "")
 
     def test_a_sweep_says_it_once(self) -> None:
         words = ("sweep", self.file(SUM.format(20), "sum.fc"), "--ring", "3..9", "--set", "load=20", "--count", 5)
