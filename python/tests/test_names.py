@@ -35,8 +35,8 @@ FILE = re.compile(r"(?:\.{0,2}[\w.*+-]+/)+[\w.*+-]*|[\w-]+\.(?:rt|antt|md|py|edi
 DEFINED = re.compile(r"\b(?:fn|struct|enum|trait|type|const|mod)\s+(\w+)|^\s*(?:pub )?(\w+)\s*[({,:=]", re.MULTILINE)
 # files that the reader of a page makes, or that stand for any of a kind
 MADE = (
-    "mine/", "crates/fc_program/out/", "NAME", "DIR/", "crates/CRATE/", "crates/NAME/", "wrong/CRATE/", "wrong/NAME/", "~",
-    "/", "lib/", "bin/", "libexec/", "usr/", "mine.fc",
+    "mine/", "crates/fc_program/out/", "NAME", "DIR/", "crates/CRATE/", "crates/NAME/", "wrong/CRATE/", "wrong/NAME/",
+    "~", "/", "lib/", "bin/", "libexec/", "usr/", "mine.fc",
 )  # fmt: skip
 
 
