@@ -16,7 +16,7 @@ from __future__ import annotations
 
 from .errors import Error
 from .library import check, format, generate, mail, replay, run, settle, stable, trace
-from .network import Network, from_graph, read_scene
+from .networks import Network, from_graph, read_scene
 from .refusals import Call, Explanation, Fault, Refusal, Section
 from .results import (
     Checked,

@@ -24,7 +24,7 @@ COMMANDS = {
     "mail": "fieldc.commands.mail",
     "gen": "fieldc.commands.gen",
     "format": "fieldc.commands.format",
-    "compose": "fieldc.compose",
+    "compose": "fieldc.composing",
     "network": "fieldc.commands.network",
     "picture": "fieldc.commands.picture",
     "rounds": "fieldc.commands.rounds",

@@ -15,7 +15,7 @@ from . import program as fc
 from . import results
 from .blocks import Token, tokens
 from .edits import moments
-from .network import GREATEST_NUMBER, declared, read_scene
+from .networks import GREATEST_NUMBER, declared, read_scene
 from .places import listed
 from .refusals import Call, Explanation, Fault, Refusal, Section
 from .results import Value, Values, word_of

@@ -8,7 +8,7 @@ from __future__ import annotations
 from collections.abc import Iterator, Mapping
 from dataclasses import dataclass, replace
 
-from .network import Input, Network
+from .networks import Input, Network
 from .refusals import Fault
 
 EDITS = ("link", "unlink", "set", "poke", "join", "leave", "scramble")

@@ -12,7 +12,7 @@ from dataclasses import dataclass
 from pathlib import Path
 from typing import Any
 
-from .network import Declared, Input, Network, Position, declared, finite, fitting, from_graph, input_of, numbered
+from .networks import Declared, Input, Network, Position, declared, finite, fitting, from_graph, input_of, numbered
 from .refusals import Fault
 from .sections import read
 

@@ -13,7 +13,7 @@ import operator
 from collections.abc import Mapping, Sequence
 from typing import Any
 
-from .network import Position
+from .networks import Position
 
 STEPS = 60
 STILL = 1e-4

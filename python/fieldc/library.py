@@ -9,7 +9,7 @@ from typing import Any, Union
 
 from . import program as fc
 from . import results
-from .network import Network, from_graph
+from .networks import Network, from_graph
 from .refusals import Call, Section
 from .edits import rounds_at_shows
 

@@ -9,7 +9,7 @@ from . import results
 from .colours import WHITE, Meaning
 from .edits import Moment, moments
 from .layout import laid_out
-from .network import Network, Position, declared
+from .networks import Network, Position, declared
 from .refusals import Fault
 from .results import Values
 

@@ -8,7 +8,7 @@ import tempfile
 from pathlib import Path
 
 import block_cases as cases
-from fieldc import blocks, compose
+from fieldc import blocks, composing as compose
 from fieldc.command import main
 
 PAGE = cases.ROOT / "docs" / "blocks.md"

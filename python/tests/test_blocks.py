@@ -21,7 +21,7 @@ from typing import Any
 ROOT = Path(__file__).resolve().parent.parent.parent
 sys.path[:0] = [str(ROOT / "python"), str(ROOT / "python" / "tests")]
 
-from fieldc import blocks, compose, program  # noqa: E402
+from fieldc import blocks, composing as compose, program  # noqa: E402
 from fieldc.refusals import Call, Section  # noqa: E402
 
 try:

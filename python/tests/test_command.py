@@ -14,7 +14,7 @@ from pathlib import Path
 from helping import EXAMPLES, HOPS, LINE, TOP, expected, fieldc, needs, needs_fc
 from test_files import InFolder
 
-from fieldc import network
+from fieldc import networks as network
 from fieldc.command import COMMANDS, modules, parser
 
 

@@ -15,7 +15,7 @@ from unittest import mock
 ROOT = Path(__file__).resolve().parent.parent.parent
 sys.path.insert(0, str(ROOT / "python"))
 
-from fieldc import blocks, compose  # noqa: E402
+from fieldc import blocks, composing as compose  # noqa: E402
 from fieldc.command import main  # noqa: E402
 from fieldc.refusals import Call, Explanation, Fault, Refusal, Section  # noqa: E402
 

@@ -8,7 +8,7 @@ import unittest
 from helping import HOPS, LINE, fieldc, needs_fc
 from test_files import InFolder
 
-from fieldc import cuts, network, results
+from fieldc import cuts, networks as network, results
 from fieldc.refusals import Section
 
 SUM = "ceiling {}; input load: int 0..20; main = sumHood(nbr{{sense load}});\n"

@@ -6,7 +6,7 @@ import unittest
 
 from helping import sections_of
 
-from fieldc import Fault, network, read_scene
+from fieldc import Fault, networks as network, read_scene
 from fieldc.edits import moments, rounds_at_shows
 
 SCRIPT = """\

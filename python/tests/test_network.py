@@ -11,7 +11,7 @@ from typing import Any
 
 from helping import needs
 
-from fieldc import Fault, from_graph, network, read_scene
+from fieldc import Fault, from_graph, networks as network, read_scene
 
 
 def pairs(found: network.Network) -> set[frozenset[int]]:

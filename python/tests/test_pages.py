@@ -20,7 +20,7 @@ from pathlib import Path
 from helping import TOP, needs, needs_fc
 
 import fieldc
-from fieldc import network
+from fieldc import networks as network
 from fieldc import program as fc
 
 BLOCK = re.compile(r"^`((?:yes|no) [^`\n]*)`\n\n```fc\n(.*?)^```$", re.MULTILINE | re.DOTALL)

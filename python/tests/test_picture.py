@@ -15,7 +15,7 @@ from pathlib import Path
 from helping import EXAMPLES, Done, browser, expected, fieldc, needs, needs_browser, sections_of
 from test_files import InFolder
 
-from fieldc import Fault, layout, network, read_scene
+from fieldc import Fault, layout, networks as network, read_scene
 from fieldc.colours import APART, GREY, TRUE, WHITE, Meaning, colours_of, entries, scales_of
 from fieldc.picture import at_places, check_marks, gathered, latest
 

@@ -7,7 +7,7 @@ import unittest
 from helping import HOPS, LINE, fieldc, needs, needs_fc
 from test_files import InFolder
 
-from fieldc import Fault, network, rounds
+from fieldc import Fault, networks as network, rounds
 
 FLAT = "ceiling 10; input src: bool; main = rep(0){(x) => maxHoodLoc(nbr{x}, 0)};"
 

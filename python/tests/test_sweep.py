@@ -24,7 +24,7 @@ import test_pages
 from test_files import InFolder
 
 import fieldc as library
-from fieldc import Fault, network, program
+from fieldc import Fault, networks as network, program
 from fieldc.sweep import Row, Rule, Setting, deployment, deployments, questions, report, rows, running
 
 DISK = Rule("disk", count=(40, 40), reach=20.0)

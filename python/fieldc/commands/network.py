@@ -9,8 +9,8 @@ import sys
 from collections.abc import Callable, Sequence
 from dataclasses import replace
 
-from .. import files, network
-from ..network import Network
+from .. import files, networks as network
+from ..networks import Network
 from ..refusals import Fault
 from ..sections import cut, read, writable, write
 

@@ -11,7 +11,7 @@ from .. import program as fc
 from ..asking import tell, why_no
 from ..drawing import draw, pyplot_ready
 from ..files import names_from, positions_for
-from ..network import Network, read_scene
+from ..networks import Network, read_scene
 from ..page import page
 from ..picture import Picture, at_places, check_marks, everywhere, gathered
 from ..progress import Progress, described

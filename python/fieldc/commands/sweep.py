@@ -12,12 +12,12 @@ from collections.abc import Callable
 from dataclasses import replace
 from typing import Any
 
-from .. import cuts, files, network
+from .. import cuts, files, networks as network
 from .. import program as fc
 from ..asking import add_cut_check
 from ..asking import tell as told_beside
 from ..drawing import pyplot_ready
-from ..network import Pair
+from ..networks import Pair
 from ..progress import Progress
 from ..refusals import Call, Fault, Section
 from ..sections import PAGES, PICTURES, cut, read, writable, write

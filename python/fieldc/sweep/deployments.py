@@ -13,8 +13,8 @@ from dataclasses import dataclass, replace
 from random import Random
 from typing import Union
 
-from .. import network
-from ..network import Input, Network, Pair
+from .. import networks as network
+from ..networks import Input, Network, Pair
 from ..refusals import Fault
 
 SHAPES = ("line", "ring", "grid", "torus", "disk", "points", "edges")

@@ -11,7 +11,7 @@ from dataclasses import dataclass
 from functools import lru_cache
 from pathlib import Path
 
-from .. import network
+from .. import networks as network
 from .. import program as fc
 from ..refusals import Call, Fault, Refusal, Section
 from . import deployments, rows
