@@ -4,7 +4,6 @@ from __future__ import annotations
 
 import argparse
 import functools
-import sys
 import time
 from collections.abc import Callable, Mapping, Sequence
 from dataclasses import replace
@@ -16,7 +15,8 @@ from .files import names_from
 from .json_results import written
 from .progress import Progress, described
 from .refusals import Call, Explanation, Fault, Refusal, explained, warned
-from .sections import pour, sections, write
+from .sections import sections, write
+from .streams import pour, say
 from .telling import place_of, rest_of
 
 WHY_NO = "docs/patterns.md#the-reasons"
@@ -131,6 +131,6 @@ def why_no(call: Call, text: str) -> Explanation | None:
 def tell(why: Explanation | None, warnings: Sequence[Explanation] = ()) -> None:
     """Tells on standard error why an answer is a no, whose line stands on standard output, and warnings."""
     if why is not None:
-        sys.stderr.write(f"fieldc: {place_of(why)}{why.what}\n{rest_of(why)}")
+        say(f"fieldc: {place_of(why)}{why.what}\n{rest_of(why)}")
     for warning in warnings:
-        sys.stderr.write(f"fieldc: warning: {place_of(warning)}{warning.what}\n{rest_of(warning)}")
+        say(f"fieldc: warning: {place_of(warning)}{warning.what}\n{rest_of(warning)}")

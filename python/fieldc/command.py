@@ -4,15 +4,20 @@ from __future__ import annotations
 
 import argparse
 import importlib
-import os
 import sys
 from collections.abc import Sequence
 from types import ModuleType
+from typing import TYPE_CHECKING
 
 from .json_results import faulted, refused
+from .program import bytes_of
 from .refusals import Fault, Refusal
+from .streams import pour, ready, say
 from .telling import told
 from .version import VERSION
+
+if TYPE_CHECKING:
+    from _typeshed import SupportsWrite
 
 COMMANDS = {
     "check": "fieldc.commands.check",
@@ -40,6 +45,16 @@ statuses: 0 done; 1 a no, open, or no walks; 2 wrong words; 3 something is wrong
 fieldc COMMAND --help tells of a command. The variable FC names the program fc, where it isn't the installed one."""
 
 
+class Parser(argparse.ArgumentParser):
+    """A parser whose help and refusals are written as all else is."""
+
+    def _print_message(self, message: str, file: SupportsWrite[str] | None = None) -> None:
+        if file is sys.stdout:
+            pour(bytes_of(message))
+        else:
+            say(message)
+
+
 def modules() -> dict[str, ModuleType]:
     """The modules of the commands, by the name of the command."""
     return {name: importlib.import_module(path) for name, path in COMMANDS.items()}
@@ -47,7 +62,7 @@ def modules() -> dict[str, ModuleType]:
 
 def parser() -> argparse.ArgumentParser:
     """The parser of the command line, whose `perform` is the function of the command that was read."""
-    whole = argparse.ArgumentParser(
+    whole = Parser(
         prog="fieldc", description=DESCRIPTION, epilog=EPILOG, formatter_class=argparse.RawDescriptionHelpFormatter
     )
     whole.add_argument("--version", action="version", version=f"fieldc {VERSION}")
@@ -82,27 +97,43 @@ def main(words: Sequence[str] | None = None) -> int:
 
     Whatever is refused is told on standard error.
     """
+    ready()
     try:
-        options, rest = parser().parse_known_args(words)
-    except SystemExit as end:
-        return end.code if isinstance(end.code, int) else 2
+        return performed(words)
+    except Fault as fault:
+        return fault.status
+    except BrokenPipeError:
+        return 6
+
+
+def performed(words: Sequence[str] | None) -> int:
+    """Does a command line and answers the status. Raises Fault where standard error can't be written."""
+    options = argparse.Namespace(command="", json=False)
     try:
+        options, rest = parser().parse_known_args(words, options)
         take_rest(options, rest)
         status: int = options.perform(options)
         return status
+    except SystemExit as end:
+        return end.code if isinstance(end.code, int) else 2
     except Refusal as refusal:
-        if getattr(options, "json", False):
-            sys.stderr.write(refused(refusal, refusal.explanation))
-        else:
-            sys.stderr.write(told(refusal, refusal.explanation))
+        say(refused(refusal, refusal.explanation) if options.json else told(refusal, refusal.explanation))
         return refusal.status if 0 < refusal.status < 128 else 70
     except Fault as fault:
-        json_too = getattr(options, "json", False)
-        sys.stderr.write(faulted(fault) if json_too else f"fieldc {options.command}: {fault}\n")
-        return fault.status
+        return tell(fault, options)
     except BrokenPipeError:
-        os.dup2(os.open(os.devnull, os.O_WRONLY), sys.stdout.fileno())
-        return 6
+        raise
+    except OSError as error:
+        return tell(Fault(str(error), 5), options)
+    except MemoryError:
+        return tell(Fault("there is not enough memory", 7), options)
     except KeyboardInterrupt:
-        print("", file=sys.stderr)
+        say("\n")
         return 130
+
+
+def tell(fault: Fault, options: argparse.Namespace) -> int:
+    """Tells what `fieldc` itself refuses, and answers its status."""
+    name = " ".join(["fieldc", options.command]).rstrip()
+    say(faulted(fault) if options.json else f"{name}: {fault}\n")
+    return fault.status

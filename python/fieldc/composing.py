@@ -6,7 +6,6 @@ import argparse
 import json
 import os
 import re
-import sys
 from collections.abc import Iterable, Sequence
 from dataclasses import dataclass, field, replace
 from pathlib import Path
@@ -18,6 +17,7 @@ from .blocks import Block, Declaration, Library, Token, declarations, not_there,
 from .blocks import listing, own_library, read_library, shown
 from .refusals import Call, Explanation, Fault, Refusal, Section, explained, plain_explanation
 from .sections import cut, read, write
+from .streams import say
 from .telling import place_of, quoted
 
 SUMMARY = "puts the blocks that a program calls in front of it"
@@ -299,17 +299,17 @@ def perform(options: argparse.Namespace) -> int:
     if options.network is not None:
         network, beside = read(options.network), options.network
     for warning in [] if network is None else warnings(made, network, beside):
-        print(f"warning: {warning}", file=sys.stderr)
+        say(f"warning: {warning}\n")
     if not options.unjudged and built():
         refusal = judged(made, least_network(text) if network is None else network)
         doubt = wanting(made, refusal, name) if refusal is not None and refusal.status == 1 else None
         if doubt is not None:
-            print(f"warning: {doubt}", file=sys.stderr)
+            say(f"warning: {doubt}\n")
         if network is not None and not options.no_cut_check and (refusal is None or refusal.status == 1):
             own = Section("program", options.program, 1, text)
             tell(None, cuts.in_program(own, made.text, network, refusal is None))
         if refusal is not None and refusal.status > 1:
-            sys.stderr.write(told(own_explanation(made, refusal, options.program)))
+            say(told(own_explanation(made, refusal, options.program)))
             return refusal.status
     front = made.text if not others or made.text.endswith("\n") else made.text + "\n"
     write(options.output, "%%\n".join([front, *(part for _, part in others)]))

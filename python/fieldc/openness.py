@@ -11,7 +11,6 @@ from __future__ import annotations
 import argparse
 import itertools
 import json
-import sys
 from collections.abc import Callable, Iterator, Mapping, Sequence
 from dataclasses import dataclass, replace
 from pathlib import Path
@@ -25,6 +24,7 @@ from .progress import Progress
 from .refusals import Call, Fault, Refusal, Section
 from .results import Values, word_of
 from .sections import write
+from .streams import say
 
 MOST_BYTES = 1_000_000
 MOST_FIRINGS = 100_000
@@ -352,4 +352,4 @@ def perform(options: argparse.Namespace, call: Call) -> None:
     names = free_names(len(inputs), Path.cwd())
     for name, text in zip(names, inputs):
         write(name, text)
-    sys.stderr.write(told(found, names))
+    say(told(found, names))

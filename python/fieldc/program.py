@@ -95,6 +95,10 @@ def memory(content: bytes = b"") -> Iterator[int]:
         while left:
             left = left[os.write(place, left) :]
         os.lseek(place, 0, os.SEEK_SET)
+    except OSError as error:
+        os.close(place)
+        raise Fault(f"there is no room for the input of fc: {error.strerror}", 7) from None
+    try:
         yield place
     finally:
         os.close(place)

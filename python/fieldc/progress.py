@@ -3,6 +3,7 @@ taken."""
 
 from __future__ import annotations
 
+import contextlib
 import json
 import shutil
 import sys
@@ -51,8 +52,7 @@ class Progress:
         if self._ticker is not None:
             self._ticker.join()
         if self._width:
-            self._stream.write("\r" + " " * self._width + "\r")
-            self._stream.flush()
+            self._show("\r" + " " * self._width + "\r")
 
     def __call__(self, more: str = "") -> None:
         """Shows the line, with more at its end, where a second is over and the stream is a terminal."""
@@ -62,9 +62,14 @@ class Progress:
         if self._said is None:
             self._said = self._what()
         line = f"fieldc: {self._said}: {past:.0f} s{more}"[: shutil.get_terminal_size().columns - 1]
-        self._stream.write("\r" + line.ljust(self._width))
-        self._stream.flush()
+        self._show("\r" + line.ljust(self._width))
         self._width = max(self._width, len(line))
+
+    def _show(self, text: str) -> None:
+        """Writes to the stream; a terminal that went away doesn't end the work."""
+        with contextlib.suppress(OSError):
+            self._stream.write(text)
+            self._stream.flush()
 
 
 def described(call: Call) -> str:

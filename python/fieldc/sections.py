@@ -8,6 +8,7 @@ from pathlib import Path
 
 from .program import bytes_of, text_of
 from .refusals import Fault, Section
+from .streams import pour
 
 KINDS = {
     "format": ("program",),
@@ -30,28 +31,18 @@ def read(name: str) -> str:
             return text_of(sys.stdin.buffer.read())
         return text_of(Path(name).read_bytes())
     except OSError as error:
-        raise Fault(f"{name} can't be read: {error.strerror}", 5) from None
+        called = "standard input" if name == "-" else name
+        raise Fault(f"{called} can't be read: {error.strerror}", 5) from None
 
 
 def write(name: str, text: str) -> None:
     """Writes a text to a file, or to standard output for `-`. Raises Fault, of status 6, where it can't be written."""
+    if name == "-":
+        return pour(bytes_of(text))
     try:
-        if name == "-":
-            pour(bytes_of(text))
-        else:
-            Path(name).write_bytes(bytes_of(text))
-    except BrokenPipeError:
-        raise
+        Path(name).write_bytes(bytes_of(text))
     except OSError as error:
         raise Fault(f"{name} can't be written: {error.strerror}", 6) from None
-
-
-def pour(content: bytes) -> None:
-    """Writes bytes to standard output, all of them: a stream without a buffer takes a part at a time."""
-    left = memoryview(content)
-    while left:
-        left = left[sys.stdout.buffer.write(left) or 0 :]
-    sys.stdout.buffer.flush()
 
 
 def cut(name: str, text: str) -> list[tuple[int, str]]:

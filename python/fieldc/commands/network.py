@@ -5,11 +5,11 @@ from __future__ import annotations
 import argparse
 import json
 import math
-import sys
 from collections.abc import Callable, Sequence
 from dataclasses import replace
 
-from .. import files, networks as network
+from .. import files, streams
+from .. import networks as network
 from ..networks import Network
 from ..refusals import Fault
 from ..sections import cut, read, writable, write
@@ -257,4 +257,4 @@ def keep_beside(options: argparse.Namespace, found: Network) -> None:
 
 def say(line: str) -> None:
     """One line on standard error."""
-    print(f"fieldc network: {line}", file=sys.stderr)
+    streams.say(f"fieldc network: {line}\n")

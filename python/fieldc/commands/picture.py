@@ -76,7 +76,7 @@ def perform(options: argparse.Namespace) -> int:
     with Progress(lambda: f"draws {len(everywhere(picture)[0]):,} devices", ticking=True):
         drawn(options, placed(options.positions, picture, network), as_page)
     if picture.said:
-        print(picture.said)
+        write("-", picture.said + "\n")
     return 0
 
 

@@ -8,7 +8,7 @@ from .. import rounds
 from ..drawing import pyplot_ready
 from ..progress import Progress
 from ..refusals import Fault
-from ..sections import PICTURES, sections, writable
+from ..sections import PICTURES, sections, writable, write
 
 SUMMARY = "draws against the rounds how many devices hold their value, from tables of rubbish"
 EPILOG = """\
@@ -57,8 +57,6 @@ def perform(options: argparse.Namespace) -> int:
     for one in found:
         settled = one.settled(len(promise.values))
         bound = promise.verdict.rounds
-        print(
-            f"{one.number} {'unsettled' if settled is None else settled} {promise.time} "
-            f"{'-' if bound is None else bound}"
-        )
+        words = (one.number, "unsettled" if settled is None else settled, promise.time, "-" if bound is None else bound)
+        write("-", " ".join(map(str, words)) + "\n")
     return 0

@@ -3,11 +3,11 @@
 from __future__ import annotations
 
 import argparse
-import sys
 
 from .. import results
 from ..asking import add_answers, add_cut_check, add_files, ask
 from ..refusals import Call, Fault, has_lark
+from ..streams import say
 
 SUMMARY = "says after how many rounds each device of this network holds its value"
 KINDS = ("program", "network")
@@ -43,9 +43,9 @@ def why_open(options: argparse.Namespace, call: Call, found: results.Settled) ->
     if not found.open:
         return
     count = sum(rounds is None for rounds in found.by_device.values())
-    print(f"fieldc: open: no number of rounds is known for {count} of {len(found.by_device)} devices", file=sys.stderr)
+    say(f"fieldc: open: no number of rounds is known for {count} of {len(found.by_device)} devices\n")
     if not options.why:
-        print("try: fieldc settle --why, which looks for two starts that rest apart", file=sys.stderr)
+        say("try: fieldc settle --why, which looks for two starts that rest apart\n")
         return
     if not has_lark():
         raise Fault("--why reads the program, which needs Lark (Debian: python3-lark)")

@@ -6,7 +6,6 @@ import argparse
 import json
 import math
 import shlex
-import sys
 import time
 from collections.abc import Callable
 from dataclasses import replace
@@ -21,6 +20,7 @@ from ..networks import Pair
 from ..progress import Progress
 from ..refusals import Call, Fault, Section
 from ..sections import PAGES, PICTURES, cut, read, writable, write
+from ..streams import say
 from ..sweep import report, rows, running
 from ..sweep.deployments import SQUARE, Rule, Setting, deployment, largest
 from ..sweep.questions import Question
@@ -236,7 +236,7 @@ def again(rule: Rule, options: argparse.Namespace) -> int:
     write(options.output or "-", found.scene())
     if found.names and options.output:
         write(files.beside(options.output, "names"), files.names_text(found.names))
-        print(f"fieldc sweep: the names of the devices are in {files.beside(options.output, 'names')}", file=sys.stderr)
+        say(f"fieldc sweep: the names of the devices are in {files.beside(options.output, 'names')}\n")
     return 0
 
 
@@ -286,7 +286,7 @@ def tell(spent: Spent) -> None:
     """Says on standard error what the sweep took."""
     if spent.rows:
         used = f"{spent.inside:.1f} s of a processor in fc and {spent.beside:.1f} s beside it"
-        print(f"fieldc sweep: {spent.rows:,} rows in {spent.clock:.1f} s, {used}", file=sys.stderr)
+        say(f"fieldc sweep: {spent.rows:,} rows in {spent.clock:.1f} s, {used}\n")
 
 
 def _both(found: tuple[int, ...]) -> str:

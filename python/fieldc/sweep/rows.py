@@ -9,13 +9,16 @@ from __future__ import annotations
 import csv
 import json
 import math
+import os
 from collections.abc import Callable, Iterator, Mapping, Sequence
 from contextlib import contextmanager
 from dataclasses import dataclass
 from pathlib import Path
 
+from ..program import bytes_of
 from ..refusals import Fault
 from ..results import verdict_of
+from ..sections import read, write
 
 COLUMNS = ("seed", "devices", "links", "components", "diameter", "verdict", "K", "R", "last", "last_rounds")
 OPEN = "open"
@@ -136,19 +139,16 @@ def taken_up(files: Files, sweep: Mapping[str, object], values: bool) -> int:
 
     Raises Fault where the rows are of another sweep than this one, or a file can't be read or written.
     """
-    try:
-        if not files.rows.exists():
-            files.sweep.write_text(json.dumps(sweep, indent=1) + "\n")
-            files.seconds.write_text("seed,seconds\n")
-            files.rows.write_text(header(values))
-            return 0
-        _same(files, sweep)
-        kept = [_whole_lines(path) for path in (files.rows, files.seconds)]
-        count = min(len(lines) for lines in kept)
-        for path, lines in zip((files.rows, files.seconds), kept):
-            _cut(path, sum(len(line) for line in lines[:count]))
-    except OSError as error:
-        raise Fault(f"{error.filename}: {error.strerror}", 6) from None
+    if not files.rows.exists():
+        write(str(files.sweep), json.dumps(sweep, indent=1) + "\n")
+        write(str(files.seconds), "seed,seconds\n")
+        write(str(files.rows), header(values))
+        return 0
+    _same(files, sweep)
+    kept = [_whole_lines(path) for path in (files.rows, files.seconds)]
+    count = min(len(lines) for lines in kept)
+    for path, lines in zip((files.rows, files.seconds), kept):
+        _cut(path, sum(len(line) for line in lines[:count]))
     if not count:
         raise Fault(f"{files.rows} is there, and has no rows of a sweep: choose another file", 3)
     return count - 1
@@ -170,13 +170,15 @@ def _same(files: Files, sweep: Mapping[str, object]) -> None:
 
 def _whole_lines(path: Path) -> list[bytes]:
     """The lines of a file that have their ends."""
-    content = path.read_bytes() if path.exists() else b""
+    content = bytes_of(read(str(path))) if path.exists() else b""
     return content[: content.rfind(b"\n") + 1].splitlines(keepends=True)
 
 
 def _cut(path: Path, length: int) -> None:
-    with path.open("r+b") as opened:
-        opened.truncate(length)
+    try:
+        os.truncate(path, length)
+    except OSError as error:
+        raise Fault(f"{path} can't be written: {error.strerror}", 6) from None
 
 
 @contextmanager
