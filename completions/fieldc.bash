@@ -72,9 +72,14 @@ _fieldc_words() {
         "sweep --line" | "sweep --ring" | "sweep --grid" | "sweep --torus" | "sweep --disk" | "sweep --range" | "sweep --side" | "sweep --density" | "sweep --jitter" | "sweep --fail" | "sweep --weight" | "sweep --metric" | "sweep --unit" | "sweep --max-degree" | "sweep --set" | "sweep --count" | "sweep --seed" | "sweep --title" | "sweep --workers" | "sweep --scheduler" | "sweep --again")
             compopt +o bashdefault +o default 2>/dev/null
             return ;;
+        "firmware --network")
+            return ;;
+        "firmware --name" | "firmware --neighbours" | "firmware -o" | "firmware --output" | "firmware --library")
+            compopt +o bashdefault +o default 2>/dev/null
+            return ;;
     esac
     case $command in
-        "") words="check settle stable trace run replay mail gen format compose network picture rounds sweep -h --help --version" ;;
+        "") words="check settle stable trace run replay mail gen format compose network picture rounds sweep firmware -h --help --version" ;;
         check) files=yes words="--facts --settle --from-table --why --no-cut-check --json --names -h --help" ;;
         settle) files=yes words="--facts --from-table --why --no-cut-check --json --names -h --help" ;;
         stable) files=yes words="--no-cut-check --json --names -h --help" ;;
@@ -89,6 +94,7 @@ _fieldc_words() {
         picture) files=yes words="-o --output --values --of --show --page --positions --names --numbers --mark --title -h --help" ;;
         rounds) files=yes words="-o --output --number --rounds --workers --title -h --help" ;;
         sweep) words="--line --ring --grid --torus --disk --points --edges --range --side --density --jitter --fail --weight --metric --unit --max-degree --set --count --seed --values -o --output --report --title --workers --scheduler --no-cut-check --again --positions -h --help" ;;
+        firmware) words="--name --neighbours -o --output --cost --layout --network --library --unjudged -h --help" ;;
     esac
     if [[ $files && $current != -* ]]; then
         return

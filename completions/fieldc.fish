@@ -1,22 +1,23 @@
 # Completions of fieldc for fish: put this file into a folder of fish_complete_path.
 # Made by tools/pages.
-complete -c fieldc -n 'not __fish_seen_subcommand_from check settle stable trace run replay mail gen format compose network picture rounds sweep' -f
-complete -c fieldc -n 'not __fish_seen_subcommand_from check settle stable trace run replay mail gen format compose network picture rounds sweep' -s h -l help -d 'show this help message and exit'
-complete -c fieldc -n 'not __fish_seen_subcommand_from check settle stable trace run replay mail gen format compose network picture rounds sweep' -l version -d 'show program\'s version number and exit'
-complete -c fieldc -n 'not __fish_seen_subcommand_from check settle stable trace run replay mail gen format compose network picture rounds sweep' -a check -d 'says whether a program stabilises, and after how many rounds'
-complete -c fieldc -n 'not __fish_seen_subcommand_from check settle stable trace run replay mail gen format compose network picture rounds sweep' -a settle -d 'says after how many rounds each device of this network holds its value'
-complete -c fieldc -n 'not __fish_seen_subcommand_from check settle stable trace run replay mail gen format compose network picture rounds sweep' -a stable -d 'writes the final value of each device, without running the program'
-complete -c fieldc -n 'not __fish_seen_subcommand_from check settle stable trace run replay mail gen format compose network picture rounds sweep' -a trace -d 'writes for each device its final value and a cheapest path'
-complete -c fieldc -n 'not __fish_seen_subcommand_from check settle stable trace run replay mail gen format compose network picture rounds sweep' -a run -d 'runs a script: rounds on several threads, edits, rubbish tables, and what is shown'
-complete -c fieldc -n 'not __fish_seen_subcommand_from check settle stable trace run replay mail gen format compose network picture rounds sweep' -a replay -d 'goes through a log, and writes what each device then holds'
-complete -c fieldc -n 'not __fish_seen_subcommand_from check settle stable trace run replay mail gen format compose network picture rounds sweep' -a mail -d 'goes through a log of messages, which links lose, repeat and deliver late, or makes one from a number'
-complete -c fieldc -n 'not __fish_seen_subcommand_from check settle stable trace run replay mail gen format compose network picture rounds sweep' -a gen -d 'runs a scenario that is made from a number: a hop count on a ring of devices that hold rubbish'
-complete -c fieldc -n 'not __fish_seen_subcommand_from check settle stable trace run replay mail gen format compose network picture rounds sweep' -a format -d 'writes the canonical text of a program, or says what is wrong with it and where'
-complete -c fieldc -n 'not __fish_seen_subcommand_from check settle stable trace run replay mail gen format compose network picture rounds sweep' -a compose -d 'puts the blocks that a program calls in front of it'
-complete -c fieldc -n 'not __fish_seen_subcommand_from check settle stable trace run replay mail gen format compose network picture rounds sweep' -a network -d 'makes a network: a line, ring, grid, torus, devices in a square, or from positions, links or a graph'
-complete -c fieldc -n 'not __fish_seen_subcommand_from check settle stable trace run replay mail gen format compose network picture rounds sweep' -a picture -d 'draws a network with the values of its devices, or a run as a page with a slider over its shows'
-complete -c fieldc -n 'not __fish_seen_subcommand_from check settle stable trace run replay mail gen format compose network picture rounds sweep' -a rounds -d 'draws against the rounds how many devices hold their value, from tables of rubbish'
-complete -c fieldc -n 'not __fish_seen_subcommand_from check settle stable trace run replay mail gen format compose network picture rounds sweep' -a sweep -d 'asks after how many rounds a program settles on many deployments that are drawn'
+complete -c fieldc -n 'not __fish_seen_subcommand_from check settle stable trace run replay mail gen format compose network picture rounds sweep firmware' -f
+complete -c fieldc -n 'not __fish_seen_subcommand_from check settle stable trace run replay mail gen format compose network picture rounds sweep firmware' -s h -l help -d 'show this help message and exit'
+complete -c fieldc -n 'not __fish_seen_subcommand_from check settle stable trace run replay mail gen format compose network picture rounds sweep firmware' -l version -d 'show program\'s version number and exit'
+complete -c fieldc -n 'not __fish_seen_subcommand_from check settle stable trace run replay mail gen format compose network picture rounds sweep firmware' -a check -d 'says whether a program stabilises, and after how many rounds'
+complete -c fieldc -n 'not __fish_seen_subcommand_from check settle stable trace run replay mail gen format compose network picture rounds sweep firmware' -a settle -d 'says after how many rounds each device of this network holds its value'
+complete -c fieldc -n 'not __fish_seen_subcommand_from check settle stable trace run replay mail gen format compose network picture rounds sweep firmware' -a stable -d 'writes the final value of each device, without running the program'
+complete -c fieldc -n 'not __fish_seen_subcommand_from check settle stable trace run replay mail gen format compose network picture rounds sweep firmware' -a trace -d 'writes for each device its final value and a cheapest path'
+complete -c fieldc -n 'not __fish_seen_subcommand_from check settle stable trace run replay mail gen format compose network picture rounds sweep firmware' -a run -d 'runs a script: rounds on several threads, edits, rubbish tables, and what is shown'
+complete -c fieldc -n 'not __fish_seen_subcommand_from check settle stable trace run replay mail gen format compose network picture rounds sweep firmware' -a replay -d 'goes through a log, and writes what each device then holds'
+complete -c fieldc -n 'not __fish_seen_subcommand_from check settle stable trace run replay mail gen format compose network picture rounds sweep firmware' -a mail -d 'goes through a log of messages, which links lose, repeat and deliver late, or makes one from a number'
+complete -c fieldc -n 'not __fish_seen_subcommand_from check settle stable trace run replay mail gen format compose network picture rounds sweep firmware' -a gen -d 'runs a scenario that is made from a number: a hop count on a ring of devices that hold rubbish'
+complete -c fieldc -n 'not __fish_seen_subcommand_from check settle stable trace run replay mail gen format compose network picture rounds sweep firmware' -a format -d 'writes the canonical text of a program, or says what is wrong with it and where'
+complete -c fieldc -n 'not __fish_seen_subcommand_from check settle stable trace run replay mail gen format compose network picture rounds sweep firmware' -a compose -d 'puts the blocks that a program calls in front of it'
+complete -c fieldc -n 'not __fish_seen_subcommand_from check settle stable trace run replay mail gen format compose network picture rounds sweep firmware' -a network -d 'makes a network: a line, ring, grid, torus, devices in a square, or from positions, links or a graph'
+complete -c fieldc -n 'not __fish_seen_subcommand_from check settle stable trace run replay mail gen format compose network picture rounds sweep firmware' -a picture -d 'draws a network with the values of its devices, or a run as a page with a slider over its shows'
+complete -c fieldc -n 'not __fish_seen_subcommand_from check settle stable trace run replay mail gen format compose network picture rounds sweep firmware' -a rounds -d 'draws against the rounds how many devices hold their value, from tables of rubbish'
+complete -c fieldc -n 'not __fish_seen_subcommand_from check settle stable trace run replay mail gen format compose network picture rounds sweep firmware' -a sweep -d 'asks after how many rounds a program settles on many deployments that are drawn'
+complete -c fieldc -n 'not __fish_seen_subcommand_from check settle stable trace run replay mail gen format compose network picture rounds sweep firmware' -a firmware -d 'writes a program as C for devices, with what it costs'
 
 # check
 complete -c fieldc -n '__fish_seen_subcommand_from check' -l facts -d 'adds what is known of each node of the unfolded main'
@@ -172,3 +173,15 @@ complete -c fieldc -n '__fish_seen_subcommand_from sweep' -l no-cut-check -d 'do
 complete -c fieldc -n '__fish_seen_subcommand_from sweep' -l again -x -d 'makes the network of this seed, asks nothing'
 complete -c fieldc -n '__fish_seen_subcommand_from sweep' -l positions -r -F -d 'with --again: writes the positions there, one line id,x,y each'
 complete -c fieldc -n '__fish_seen_subcommand_from sweep' -s h -l help -d 'tells of the command'
+
+# firmware
+complete -c fieldc -n '__fish_seen_subcommand_from firmware' -f
+complete -c fieldc -n '__fish_seen_subcommand_from firmware' -l name -x -d 'what all names in C begin with, and the files (the name of the program\'s file)'
+complete -c fieldc -n '__fish_seen_subcommand_from firmware' -l neighbours -x -d 'for how many a device has room, 1 to 32 (32)'
+complete -c fieldc -n '__fish_seen_subcommand_from firmware' -s o -l output -x -d 'where NAME.h and NAME.c go (here)'
+complete -c fieldc -n '__fish_seen_subcommand_from firmware' -l cost -d 'says what it costs, and writes no files'
+complete -c fieldc -n '__fish_seen_subcommand_from firmware' -l layout -d 'writes what a message is like, as JSON, and no files'
+complete -c fieldc -n '__fish_seen_subcommand_from firmware' -l network -r -F -d 'a network: with a no of check it is asked what --settle says'
+complete -c fieldc -n '__fish_seen_subcommand_from firmware' -l library -x -d 'a folder of blocks of your own besides'
+complete -c fieldc -n '__fish_seen_subcommand_from firmware' -l unjudged -d 'doesn\'t ask fc for the verdict'
+complete -c fieldc -n '__fish_seen_subcommand_from firmware' -s h -l help -d 'tells of the command'

@@ -34,6 +34,7 @@ COMMANDS = {
     "picture": "fieldc.commands.picture",
     "rounds": "fieldc.commands.rounds",
     "sweep": "fieldc.commands.sweep",
+    "firmware": "fieldc.commands.firmware",
 }
 DESCRIPTION = """\
 A front for people over fc, the interpreter and proved checker of the first-order field calculus.
