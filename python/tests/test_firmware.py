@@ -3,24 +3,30 @@
 from __future__ import annotations
 
 import ctypes
+import importlib
 import json
+import re
 import shutil
 import subprocess
+import sys
 import tempfile
 import unittest
 from pathlib import Path
 from typing import Any
 
+import firmware_costs
 from firmware_driver import STRICT, Compiler
 from firmware_runs import case_of, compared, programs_of_cases
 from firmware_programs import made
 from helping import HOPS, TOP, fieldc, needs, needs_fc
+from test_pages import commands_of, typed
 
+from fieldc.blocks import own_library, read_library
 from fieldc.firmware import Firmware, firmware_of, header_text, layout_text, source_text
-from fieldc.firmware.cost import ROOMS, device_bytes, work
+from fieldc.firmware.cost import MACHINES, ROOMS, device_bytes, work
 
-SEEDS = 10
-CASES = 10
+SEEDS = 8
+CASES = 8
 COMPILERS = [name for name in ("gcc", "clang") if shutil.which(name)]
 needs_gcc = unittest.skipIf(shutil.which("gcc") is None, "gcc isn't there (Debian: gcc)")
 needs_both = unittest.skipIf(len(COMPILERS) < 2, "gcc or clang isn't there (Debian: gcc, clang)")
@@ -177,9 +183,6 @@ class Calls(unittest.TestCase):
         self.assertEqual(device.message()[3], 7 << 3)
 
 
-BLOCKS = TOP / "examples"
-
-
 @needs("lark")
 class Text(unittest.TestCase):
     """What is written of a program."""
@@ -286,6 +289,69 @@ class Command(unittest.TestCase):
                 self.assertEqual((done.status, done.output), (status, ""))
                 self.assertIn(said, done.errors)
                 self.assertNotIn("Traceback", done.errors)
+
+
+@needs("lark")
+class Page(unittest.TestCase):
+    """What docs/firmware.md says."""
+
+    text = (TOP / "docs/firmware.md").read_text()
+
+    @needs_fc
+    def test_commands_write_what_stands_below_them(self) -> None:
+        with tempfile.TemporaryDirectory() as folder:
+            typed(self, Path(folder), commands_of(self.text))
+
+    def test_costs(self) -> None:
+        rows = [line for line in self.text.splitlines() if line.startswith("| `") and line.count("|") == 10]
+        found = firmware_costs.calls()
+        self.assertGreater(len(found), 50)
+        library = read_library([own_library()])
+        machines = all(shutil.which(machine.front + "gcc") for machine in MACHINES)
+        for line, call in zip(rows, found, strict=True):
+            mine = firmware_costs.row(call, library, machines and call.startswith("hops("))
+            self.assertTrue(line.startswith(mine.removesuffix(" |") + " |"), f"{mine}\n{line}")
+
+    @needs_gcc
+    def test_the_loop_compiles(self) -> None:
+        loop = re.search(r"(?ms)^```c\n(.*?)^```", self.text)
+        assert loop is not None
+        with tempfile.TemporaryDirectory() as folder:
+            written(firmware_of(HOPS, "hops", 8), Path(folder))
+            path = Path(folder) / "loop.c"
+            path.write_text(RADIO + loop[1])
+            words = ["gcc", *STRICT, "-Wno-missing-prototypes", "-fsyntax-only", str(path)]
+            self.assertEqual(subprocess.run(words, capture_output=True, text=True, check=False).stderr, "")
+
+
+RADIO = """\
+#include "hops.h"
+typedef struct { uint16_t from; uint8_t bytes[8]; size_t length; } packet;
+uint16_t own_address(void);
+bool radio_receive(packet *received, unsigned milliseconds);
+void radio_broadcast(const uint8_t *bytes, size_t length);
+int place_of(uint16_t address);
+uint16_t address_at(int place);
+bool known(int place);
+bool button_pressed(void);
+void show(hops_number value);
+void loop(void);
+"""
+"""What the loop of the page is on."""
+
+
+@needs_fc
+@needs("lark")
+@needs_gcc
+class Deployment(unittest.TestCase):
+    """Forty processes with loss, repeats, delays, rubbish and restarts hold what `fc stable` writes."""
+
+    def test_forty_devices(self) -> None:
+        sys.path.insert(0, str(TOP / "examples/firmware"))
+        outcome = importlib.import_module("deploy").deployed(2)
+        self.assertEqual((len(outcome.wanted), outcome.starts), (40, 46))
+        self.assertEqual(outcome.found, outcome.wanted)
+        self.assertGreater(len(outcome.changes), 100)
 
 
 if __name__ == "__main__":

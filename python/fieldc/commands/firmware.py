@@ -10,7 +10,7 @@ from .. import program as fc
 from ..asking import tell
 from ..blocks import own_library, read_library
 from ..composing import OF_PROGRAMS, Composition, composed, least_network, own_explanation, told
-from ..refusals import Call, Fault, Refusal, Section
+from ..refusals import Call, Fault, Refusal, Section, has_lark
 from ..sections import cut, read, write
 from ..streams import say
 
@@ -52,6 +52,8 @@ def arguments(parser: argparse.ArgumentParser) -> None:
 
 def perform(options: argparse.Namespace) -> int:
     """The command: 0, or the status of what `fc` refuses."""
+    if not has_lark():
+        raise Fault("it reads the program, which needs Lark (Debian: python3-lark)")
     from .. import firmware
     from ..firmware.cost import cost_text
     from ..firmware.names import firmware_name, name_of_file
