@@ -15,8 +15,9 @@ What `fc` refuses is raised as a `Refusal`, whose `explanation` has the place, a
 from __future__ import annotations
 
 from .errors import Error
-from .library import check, format, generate, mail, replay, run, settle, stable, trace
+from .library import check, compose, format, generate, mail, replay, run, settle, stable, trace
 from .networks import Network, from_graph, read_scene
+from .plots import draw
 from .refusals import Call, Explanation, Fault, Refusal, Section
 from .results import (
     Checked,
@@ -31,6 +32,7 @@ from .results import (
     Traced,
     Verdict,
 )
+from .shapes import network
 from .version import VERSION as __version__
 
 __all__ = [
@@ -54,10 +56,13 @@ __all__ = [
     "Verdict",
     "__version__",
     "check",
+    "compose",
+    "draw",
     "format",
     "from_graph",
     "generate",
     "mail",
+    "network",
     "read_scene",
     "replay",
     "run",

@@ -18,7 +18,7 @@ from .edits import moments
 from .networks import GREATEST_NUMBER, declared, read_scene
 from .places import listed
 from .refusals import Call, Explanation, Fault, Refusal, Section
-from .results import Value, Values, word_of
+from .results import Value, Values, by_number, word_of
 
 SECONDS, TIMES = 10.0, 5.0
 MOST_PAIRS, MOST_CALLED = 3, 8
@@ -131,7 +131,7 @@ def cut_of(question: Question) -> Cut | Untold | None:
 def differing(here: Values, there: Values) -> dict[int, tuple[Value, Value]]:
     """The devices whose values differ, where both are known."""
     found = {}
-    for device, value in here.items():
+    for device, value in by_number(here).items():
         other = there.get(device)
         if value is not None and other is not None and value != other:
             found[device] = (value, other)

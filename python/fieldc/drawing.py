@@ -40,20 +40,26 @@ def saved(figure: Any, name: str) -> None:
 
 def draw(picture: Picture, name: str) -> None:
     """Draws the last frame of a picture into a file, by its ending `.svg`, `.png` or `.pdf`."""
-    pyplot, frame = pyplot_ready(), picture.frames[-1]
+    pyplot = pyplot_ready()
     figure, axes = pyplot.subplots(figsize=(9, 7), layout="constrained")
+    paint(axes, picture)
+    saved(figure, name)
+    pyplot.close(figure)
+
+
+def paint(axes: Any, picture: Picture) -> None:
+    """Draws the last frame of a picture on axes."""
+    frame = picture.frames[-1]
     scales = scales_of(frame.values.values(), picture.meaning)
     _links(axes, picture, frame)
     _devices(axes, picture, frame, scales)
     _labels(axes, picture, frame, scales)
     _legend(axes, picture, frame, scales)
-    _bars(figure, axes, scales)
+    _bars(axes.figure, axes, scales)
     axes.set_title(" ".join(filter(None, (picture.title, frame.title))))
     axes.set_aspect("equal", adjustable="datalim")
     axes.margins(0.06)
     axes.axis("off")
-    saved(figure, name)
-    pyplot.close(figure)
 
 
 def walked(frame: Frame) -> set[tuple[int, int]]:

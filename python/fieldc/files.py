@@ -237,7 +237,7 @@ def listed(name: str, text: str) -> Any:
     rows = [(number, line) for number, line in rows if line and not line.startswith("#")]
     if not rows:
         raise Fault(f"{name} has no links", 3)
-    if set(re.split(r"[\s,;]+", rows[0][1].lower())) <= ENDS and len(rows) > 1:
+    if _names_columns(*(re.split(r"[\s,;]+", line) for _, line in rows)):
         rows = rows[1:]
     delimiter = next((mark for mark in ",;" if mark in rows[0][1].split("{")[0]), None)
     for number, line in rows:
@@ -247,6 +247,16 @@ def listed(name: str, text: str) -> Any:
             raise Fault(f"{name} line {number}: {a} and {b} are linked already", 3)
         found.update(one)
     return found
+
+
+def _names_columns(first: Sequence[str], *others: Sequence[str]) -> bool:
+    """Whether the first row of a list of links names its columns: by words for ends that are no ends of another row; by
+    letters where all other ends are numbers."""
+    ends = {end for row in others for end in row[:2]}
+    by_letters = any(len(word) == 1 for word in first)
+    if not others or not ENDS.issuperset(word.lower() for word in first) or not ends.isdisjoint(first[:2]):
+        return False
+    return not by_letters or all(_is_number(end) for end in ends)
 
 
 def _link(where: str, line: str, delimiter: str | None) -> Any:

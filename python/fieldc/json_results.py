@@ -34,7 +34,7 @@ def plain(result: results.Result | str, names: Mapping[int, str]) -> dict[str, A
     if isinstance(result, results.Settled):
         return _settled(result, names)
     if isinstance(result, results.Stable):
-        own = verdict(result.verdict) if result.verdict else {}
+        own = verdict(result.verdict) if result.verdict is not None else {}
         return {**own, "devices": devices(result.values, names)}
     if isinstance(result, results.Traced):
         return _traced(result, names)
@@ -44,7 +44,7 @@ def plain(result: results.Result | str, names: Mapping[int, str]) -> dict[str, A
         rounds = {} if result.rounds is None else {"rounds": result.rounds}
         return {"devices": devices(result.values, names), **rounds, **_table(result.table)}
     if isinstance(result, results.Mailed):
-        own = verdict(result.verdict) if result.verdict else {}
+        own = verdict(result.verdict) if result.verdict is not None else {}
         return {**own, "devices": devices(result.values, names), "rounds": result.rounds}
     own = {"number": result.number, "devices": result.devices, **verdict(result.verdict)}
     return {**own, "firings": result.firings, "agree": result.agree, "sum": result.sum}
@@ -60,7 +60,7 @@ def verdict(found: results.Verdict) -> dict[str, Any]:
 def devices(values: results.Values, names: Mapping[int, str], **more: Mapping[int, Any]) -> list[dict[str, Any]]:
     """A list of devices, each with its number, its name where it has one, its value, and more of it."""
     rows = []
-    for device, value in values.items():
+    for device, value in results.by_number(values).items():
         own: dict[str, Any] = {"name": names[device]} if device in names else {}
         rows.append({"id": device, **own, "value": value, **{key: column[device] for key, column in more.items()}})
     return rows
@@ -72,7 +72,7 @@ def _facts(facts: tuple[results.Fact, ...]) -> dict[str, Any]:
 
 
 def _settled(result: results.Settled, names: Mapping[int, str]) -> dict[str, Any]:
-    rows = devices(result.values, names, rounds=result.by_device)
+    rows = devices(result.values, names, rounds=results.by_number(result.by_device))
     settling = {"open": result.open, "settles": result.rounds, "from_table": result.from_table}
     return {**verdict(result.verdict), **settling, "devices": rows, **_facts(result.facts)}
 
@@ -80,7 +80,7 @@ def _settled(result: results.Settled, names: Mapping[int, str]) -> dict[str, Any
 def _traced(result: results.Traced, names: Mapping[int, str]) -> dict[str, Any]:
     if result.walks is None:
         return {**verdict(result.verdict), "walks": False, "devices": []}
-    walks = {device: list(walk) for device, walk in result.walks.items()}
+    walks = {device: list(walk) for device, walk in results.by_number(result.walks).items()}
     return {**verdict(result.verdict), "walks": True, "devices": devices(result.values, names, walk=walks)}
 
 

@@ -2,34 +2,33 @@
 
 from __future__ import annotations
 
-import json
-from collections.abc import Iterable, Mapping
+from collections.abc import Hashable, Iterable, Mapping
 from dataclasses import replace
-from typing import Any, Union
+from pathlib import Path
+from typing import TypeVar, Union
 
+from . import composing, results
 from . import program as fc
-from . import results
-from .networks import Network, from_graph
-from .refusals import Call, Section
-from .edits import rounds_at_shows
+from .answers import Answer, Json, Origin
+from .blocks import own_library, read_library
+from .edits import moments, rounds_at_shows
+from .given import Given, Inputs, Networks, Weight, given
+from .kept import Kept
+from .networks import Network, declared
+from .refusals import Call, Fault, Section
+from .sections import read
 
-Networks = Union[Network, Mapping[str, Any], str, Any]
 Lines = Union[str, Iterable[str]]
+Program = Union[str, Path]
+"""The text of a program, or its file."""
+
+Found = TypeVar("Found", bound=Answer)
+Content = TypeVar("Content")
 
 
 def scene_of(network: Networks, program: str) -> str:
-    """The scene of a network: a Network, a networkx graph, a scene as a mapping, or as text in JSON.
-
-    Of a graph, the node attributes that the program declares are inputs, and the edge attribute `weight` is the weight.
-    Raises Fault where a graph is no network.
-    """
-    if isinstance(network, str):
-        return network
-    if isinstance(network, Network):
-        return network.scene()
-    if isinstance(network, Mapping):
-        return json.dumps(network)
-    return from_graph(network, program).scene()
+    """The scene of a network. Raises Fault where it is none, and TypeError where it is nothing of the kind."""
+    return given(network, program).scene
 
 
 def call_of(words: Iterable[str], **texts: str) -> Call:
@@ -51,51 +50,140 @@ def _answer(words: Iterable[str], **texts: str) -> str:
     return fc.answered(call_of(words, **texts)).text
 
 
-def format(program: str) -> str:  # noqa: A001
+def format(program: Program) -> str:
     """The canonical text of a program. Raises Refusal."""
-    return _answer(["format"], program=program)
+    return _answer(["format"], program=text_of_program(program))
 
 
-def check(program: str, network: Networks, *, facts: bool = False) -> results.Checked:
+def compose(program: Program, *, library: Iterable[str | Path] = ()) -> str:
+    """A program with the blocks that it calls in front of it, those of folders of your own among them.
+
+    Raises Fault where a block isn't there, or isn't called right.
+    """
+    return composing.compose(text_of_program(program), read_library([own_library(), *map(Path, library)]))
+
+
+def text_of_program(program: Program) -> str:
+    """The text of a program. Raises Fault where its file can't be read."""
+    return read(str(program)) if isinstance(program, Path) else program
+
+
+def about(found: Found, program: str, asked: Given, behind: Network | None = None) -> Found:
+    """A result that knows what it is of, with devices called by the nodes of the graph that was given."""
+    if asked.network is None:
+        return found
+    changes: dict[str, object] = {"of": Origin(program, behind or asked.network)}
+    nodes = asked.network.nodes
+    for name in ("values", "by_device", "walks", "shows") if nodes else ():
+        if getattr(found, name, None) is not None:
+            changes[name] = by_nodes(name, getattr(found, name), nodes)
+    return replace(found, **changes)
+
+
+def by_nodes(name: str, part: object, nodes: Mapping[int, Hashable]) -> object:
+    """A part of a result with nodes in the place of numbers; a device that joined in a script has its number."""
+    if isinstance(part, tuple):
+        return tuple(replace(show, values=by_nodes("values", show.values, nodes)) for show in part)
+    assert isinstance(part, Mapping)
+    if name == "walks":
+        part = {device: tuple(nodes.get(one, one) for one in walk) for device, walk in part.items()}
+    return Kept({nodes.get(device, device): content for device, content in part.items()})
+
+
+def check(
+    program: Program,
+    network: Networks,
+    *,
+    facts: bool = False,
+    weight: Weight = "weight",
+    inputs: Inputs | None = None,
+) -> results.Checked:
     """The verdict of a program on networks of so many devices; with `facts` and a yes what is known of each node.
 
     Raises Refusal.
     """
-    words = ["check", *flags(facts=facts)]
-    return results.checked(_answer(words, program=program, network=scene_of(network, program)))
+    text = text_of_program(program)
+    asked = given(network, text, weight, inputs)
+    found = results.checked(_answer(["check", *flags(facts=facts)], program=text, network=asked.scene))
+    return about(found, text, asked)
 
 
-def settle(program: str, network: Networks, *, from_table: bool = False, facts: bool = False) -> results.Settled:
+def settle(
+    program: Program,
+    network: Networks,
+    *,
+    from_table: bool | Mapping[str, Json] = False,
+    facts: bool = False,
+    weight: Weight = "weight",
+    inputs: Inputs | None = None,
+) -> results.Settled:
     """After how many rounds each device of this network holds its value, from every start.
 
-    With `from_table` it is from the table and the pending firings of the network. Raises Refusal.
+    With `from_table` it is from the table and the pending firings of the network, or from the table that is given, as
+    a run has it. Raises Refusal.
     """
-    words = ["check", *flags(facts=facts), "--settle", *flags(from_table=from_table)]
-    return results.settled(_answer(words, program=program, network=scene_of(network, program)), from_table)
+    text = text_of_program(program)
+    asked = given(network, text, weight, inputs)
+    if not isinstance(from_table, bool):
+        asked = with_table(asked, from_table)
+    words = ["check", *flags(facts=facts), "--settle", *flags(from_table=from_table is not False)]
+    found = results.settled(_answer(words, program=text, network=asked.scene), from_table is not False)
+    return about(found, text, asked)
 
 
-def stable(program: str, network: Networks) -> results.Stable:
+def with_table(asked: Given, table: Mapping[str, Json]) -> Given:
+    """The network with a table, and nothing in flight. Raises Fault where it is no network."""
+    if asked.network is None:
+        raise Fault("this is no scene: fieldc.check says where it isn't", 3)
+    network = replace(asked.network, state={"table": table})
+    return Given(network.scene(), network)
+
+
+def stable(
+    program: Program, network: Networks, *, weight: Weight = "weight", inputs: Inputs | None = None
+) -> results.Stable:
     """The value to which each device stabilises; the verdict in its place where that is a no. Raises Refusal."""
-    return results.stable(_answer(["stable"], program=program, network=scene_of(network, program)))
+    text = text_of_program(program)
+    asked = given(network, text, weight, inputs)
+    return about(results.stable(_answer(["stable"], program=text, network=asked.scene)), text, asked)
 
 
-def trace(program: str, network: Networks) -> results.Traced:
+def trace(
+    program: Program, network: Networks, *, weight: Weight = "weight", inputs: Inputs | None = None
+) -> results.Traced:
     """For each device its value and a cheapest path, where the program has walks. Raises Refusal."""
-    return results.traced(_answer(["trace"], program=program, network=scene_of(network, program)))
+    text = text_of_program(program)
+    asked = given(network, text, weight, inputs)
+    return about(results.traced(_answer(["trace"], program=text, network=asked.scene)), text, asked)
 
 
 def run(
-    program: str, network: Networks, script: Lines, *, workers: int = 4, log: bool = False, table: bool = False
+    program: Program,
+    network: Networks,
+    script: Lines,
+    *,
+    workers: int = 4,
+    log: bool = False,
+    table: bool = False,
+    weight: Weight = "weight",
+    inputs: Inputs | None = None,
 ) -> results.Ran:
     """Runs a script, given as a text or as lines: rounds on so many threads, edits, rubbish, and what is shown.
 
     Each show has the rounds that the script asked for since its last edit. With `log` the steps that were taken come
     too, and with `table` what the devices have published. Raises Refusal.
     """
+    text, lines = text_of_program(program), text_of(script)
+    asked = given(network, text, weight, inputs)
     words = ["run", "--workers", str(workers), *flags(log=log, table=table)]
-    text = text_of(script)
-    found = results.ran(_answer(words, program=program, network=scene_of(network, program), script=text))
-    return with_rounds(found, text)
+    found = results.ran(_answer(words, program=text, network=asked.scene, script=lines))
+    return about(with_rounds(found, lines), text, asked, behind(asked, text, lines))
+
+
+def behind(asked: Given, program: str, lines: str) -> Network | None:
+    """The network at the last line that shows something, or behind a log."""
+    found = moments(asked.network, lines, tuple(declared(program).inputs)) if asked.network is not None else []
+    return found[-1].network if found else asked.network
 
 
 def with_rounds(found: results.Ran, script: str) -> results.Ran:
@@ -109,24 +197,46 @@ def with_rounds(found: results.Ran, script: str) -> results.Ran:
 
 
 def replay(
-    program: str, network: Networks, log: Lines, *, rounds: bool = False, table: bool = False
+    program: Program,
+    network: Networks,
+    log: Lines,
+    *,
+    rounds: bool = False,
+    table: bool = False,
+    weight: Weight = "weight",
+    inputs: Inputs | None = None,
 ) -> results.Replayed:
     """What each device holds after a log, given as a text or as lines. Raises Refusal."""
+    text, lines = text_of_program(program), text_of(log)
+    asked = given(network, text, weight, inputs)
     words = ["replay", *flags(rounds=rounds, table=table)]
-    return results.replayed(_answer(words, program=program, network=scene_of(network, program), log=text_of(log)))
+    found = results.replayed(_answer(words, program=text, network=asked.scene, log=lines))
+    return about(found, text, asked, behind(asked, text, lines))
 
 
-def mail(program: str, network: Networks, log: Lines | None = None, *, number: int | None = None) -> results.Mailed:
+def mail(
+    program: Program,
+    network: Networks,
+    log: Lines | None = None,
+    *,
+    number: int | None = None,
+    weight: Weight = "weight",
+    inputs: Inputs | None = None,
+) -> results.Mailed:
     """What each device holds after a mail log, or, where the verdict is a yes, after one that is made from a number.
 
     Raises Refusal, and ValueError where not one of `log` and `number` is given.
     """
     if (log is None) == (number is None):
         raise ValueError("mail takes a log, or a number from which one is made")
-    scene = scene_of(network, program)
+    text = text_of_program(program)
+    asked = given(network, text, weight, inputs)
     if log is None:
-        return results.mailed(_answer(["mail", "--number", str(number)], program=program, network=scene))
-    return results.mailed(_answer(["mail"], program=program, network=scene, log=text_of(log)))
+        words = ["mail", "--number", str(number)]
+        return about(results.mailed(_answer(words, program=text, network=asked.scene)), text, asked)
+    lines = text_of(log)
+    found = results.mailed(_answer(["mail"], program=text, network=asked.scene, log=lines))
+    return about(found, text, asked)
 
 
 def generate(number: int, *, devices: int = 64, workers: int = 4) -> results.Generated:

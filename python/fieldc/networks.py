@@ -9,7 +9,7 @@ import numbers
 import operator
 import random
 import re
-from collections.abc import Iterable, Mapping, Sequence
+from collections.abc import Hashable, Iterable, Mapping, Sequence
 from dataclasses import dataclass, field, replace
 from typing import Any, Union
 
@@ -45,7 +45,8 @@ class Network:
 
     `inputs` has each device, rising, with its inputs; `links` each link once as `(a, b, weight)`. `positions` are there
     for all devices or for none; `names` are what the devices were called in the file or graph, where these were no
-    numbers. `state` may have the `table` and the `pending` firings of a scene, as they stand in its JSON.
+    numbers, and `nodes` the nodes of that graph, where they aren't the numbers. `state` may have the `table` and the
+    `pending` firings of a scene, as they stand in its JSON.
     """
 
     inputs: Mapping[int, Mapping[str, Input]]
@@ -53,6 +54,7 @@ class Network:
     positions: Mapping[int, Position] = field(default_factory=dict)
     names: Mapping[int, str] = field(default_factory=dict)
     state: Mapping[str, Any] = field(default_factory=dict)
+    nodes: Mapping[int, Hashable] = field(default_factory=dict)
 
     @property
     def devices(self) -> tuple[int, ...]:
@@ -172,7 +174,9 @@ def weight_of(value: Any, where: str, rounds: bool = False, span: Pair = (0, GRE
         raise Fault(f"{where} weighs {value!r}, which is no number", 3)
     if found != int(found) and not rounds:
         raise Fault(
-            f"{where} weighs {value!r}, and a weight is a whole number: round it (--round), or scale the weights", 3
+            f"{where} weighs {value!r}, and a weight is a whole number: "
+            "round it (--round, or from_graph(.., rounds=True)), or scale the weights",
+            3,
         )
     if not span[0] <= round(found) <= span[1]:
         raise Fault(f"{where} weighs {value!r}, and a weight is from {span[0]:,} to {span[1]:,}", 3)
@@ -191,27 +195,44 @@ def finite(value: Any, where: str) -> float:
 
 
 def from_graph(
-    graph: Any, program: str | None = None, weight: str = "weight", rounds: bool = False, undirected: bool = False
+    graph: Any,
+    program: str | None = None,
+    weight: str | int = "weight",
+    rounds: bool = False,
+    undirected: bool = False,
+    inputs: Mapping[str, Any] | None = None,
 ) -> Network:
     """The network of a networkx graph.
 
     Nodes are devices, by their own numbers or numbered in their order. Node attributes are inputs: those that `program`
-    declares, or, without a program, all but positions (`x` and `y`, or `pos`) and names. The edge attribute `weight` is
-    the weight of a link, 1 where no edge has it; `rounds` rounds weights. With `undirected` the edges of a directed
-    graph are links both ways.
+    declares, or, without a program, all but positions (`x` and `y`, or `pos`) and names; `inputs` has values for nodes
+    without one, for all or by node. The edge attribute `weight` is the weight of a link, 1 where no edge has it; a
+    number in its place is the weight of edges without one. `rounds` rounds weights. With `undirected` the edges of a
+    directed graph are links both ways.
 
     Raises Fault, of status 3, where an input is missing or of another type, an edge leads from a node to itself, two
     edges join the same nodes, or some edges have a weight and others none.
     """
     number, names = numbered(list(graph.nodes))
     wanted = declared(program) if program is not None else None
-    inputs = {number[node]: _inputs(str(node), data, wanted) for node, data in graph.nodes(data=True)}
+    own = {
+        number[node]: _inputs(str(node), _given(node, data, inputs), wanted) for node, data in graph.nodes(data=True)
+    }
     positions = {number[node]: place for node, data in graph.nodes(data=True) if (place := _place(str(node), data))}
     if graph.is_directed() and not undirected:
-        raise Fault("the graph is directed, and a link has no direction: make it undirected (--undirected)", 3)
+        direct = "make it undirected (--undirected, or from_graph(.., undirected=True))"
+        raise Fault(f"the graph is directed, and a link has no direction: {direct}", 3)
     links = _links(graph, number, weight, rounds, wanted.metric if wanted else (0, GREATEST_NUMBER))
-    ordered = {device: inputs[device] for device in sorted(inputs)}
-    return Network(ordered, links, dict(sorted(positions.items())) if len(positions) == len(inputs) else {}, names)
+    ordered = {device: own[device] for device in sorted(own)}
+    places = dict(sorted(positions.items())) if len(positions) == len(own) else {}
+    nodes = {device: node for node, device in number.items() if node != device}
+    return Network(ordered, links, places, names, nodes={device: nodes[device] for device in sorted(nodes)})
+
+
+def _given(node: Hashable, data: Mapping[str, Any], inputs: Mapping[str, Any] | None) -> Mapping[str, Any]:
+    """The attributes of a node, with values for inputs that it hasn't."""
+    more = {name: value.get(node) if isinstance(value, Mapping) else value for name, value in (inputs or {}).items()}
+    return {**{name: value for name, value in more.items() if value is not None}, **data}
 
 
 def _inputs(name: str, data: Mapping[str, Any], wanted: Declared | None) -> dict[str, Input]:
@@ -221,7 +242,9 @@ def _inputs(name: str, data: Mapping[str, Any], wanted: Declared | None) -> dict
         return {key: input_of(value, where.format(key)) for key, value in own.items()}
     for key in wanted.inputs:
         if key not in data:
-            raise Fault(f"device {name} has no {key}, which the program declares as an input", 3)
+            value = "False" if wanted.inputs[key] is None else str((wanted.inputs[key] or (0, 0))[0])
+            remedy = f"give the node this attribute, or pass inputs={{'{key}': {value}}}"
+            raise Fault(f"device {name} has no {key}, which the program declares as an input: {remedy}", 3)
     return {key: fitting(data[key], span, where.format(key)) for key, span in wanted.inputs.items()}
 
 
@@ -236,21 +259,23 @@ def _place(name: str, data: Mapping[str, Any]) -> Position | None:
 
 
 def _links(
-    graph: Any, number: Mapping[Any, int], weight: str, rounds: bool, span: Pair
+    graph: Any, number: Mapping[Any, int], weight: str | int, rounds: bool, span: Pair
 ) -> tuple[tuple[int, int, int], ...]:
     """The links of a graph, rising."""
     found: dict[Pair, Any] = {}
+    name, usual = (weight, None) if isinstance(weight, str) else ("weight", weight)
     for a, b, data in graph.edges(data=True):
         pair = (min(number[a], number[b]), max(number[a], number[b]))
         if a == b:
             raise Fault(f"device {a} is linked to itself", 3)
-        if pair in found and (not graph.is_directed() or found[pair] != data.get(weight)):
+        if pair in found and (not graph.is_directed() or found[pair] != data.get(name, usual)):
             raise Fault(f"devices {a} and {b} are linked twice", 3)
-        found[pair] = data.get(weight)
+        found[pair] = data.get(name, usual)
     bare = [pair for pair, value in found.items() if value is None]
     if bare and len(bare) < len(found):
         called = {place: str(node) for node, place in number.items()}
-        raise Fault(f"the link of {called[bare[0][0]]} and {called[bare[0][1]]} has no weight, and others have one", 3)
+        link = f"the link of {called[bare[0][0]]} and {called[bare[0][1]]}"
+        raise Fault(f"{link} has no weight, and others have one: give it one, or pass weight=1", 3)
     where = {place: str(node) for node, place in number.items()}
     return tuple(
         (a, b, 1 if value is None else weight_of(value, f"the link of {where[a]} and {where[b]}", rounds, span))

@@ -100,7 +100,7 @@ class Openness:
 
 def differing(first: Values, second: Values) -> tuple[int, ...]:
     """The devices that hold different values."""
-    return tuple(device for device in first if first[device] != second[device])
+    return tuple(device for device in results.by_number(first) if first[device] != second[device])
 
 
 def round_of(devices: Sequence[int], order: str) -> str:

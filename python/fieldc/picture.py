@@ -68,7 +68,7 @@ def gathered(program: str | None, network: Network, lines: str | None, answer: s
     texts = answer.splitlines()
     verdict = next((line for line in texts[:1] if results.is_verdict(line)), "")
     if any(line == "open" or line.startswith("settles ") for line in texts):
-        return _settling(network, results.settled(answer), verdict)
+        return settling(network, results.settled(answer), verdict)
     if any(line.startswith("@") for line in texts):
         found = _run(network, results.ran(answer), lines, inputs)
     else:
@@ -107,7 +107,7 @@ def _one(network: Network, answer: str, lines: str | None, inputs: tuple[str, ..
     texts = answer.splitlines()
     if any(len(line.split(" ")) > 2 for line in texts if line[:1].isdigit()):
         traced = results.traced(answer)
-        return Frame("", network, traced.values, traced.walks or {})
+        return Frame("", network, traced.values, results.walks_by_number(traced))
     while texts and results.is_verdict(texts[0]):
         texts.pop(0)
     if not texts or not texts[0][:1].isdigit():
@@ -121,15 +121,15 @@ def _one(network: Network, answer: str, lines: str | None, inputs: tuple[str, ..
 def _agree(frame: Frame) -> None:
     """Refuses values of other devices than those of the network."""
     there = set(frame.network.inputs)
-    for device in sorted(there ^ set(frame.values)):
+    for device in sorted(there ^ set(results.by_number(frame.values))):
         lacks, has = ("values have", "network hasn't") if device not in there else ("network has", "values haven't")
         raise Fault(f"the values aren't of this network: the {lacks} device {device}, and the {has}", 3)
 
 
-def _settling(network: Network, found: results.Settled, verdict: str) -> Picture:
+def settling(network: Network, found: results.Settled, verdict: str) -> Picture:
     """The picture of settle rounds: grey where a device rests, a red border where it is the last."""
     title = "open" if found.open else f"settles {found.rounds}"
-    last, said = latest(found.by_device, network.names)
+    last, said = latest(results.by_number(found.by_device), network.names)
     still = sum(rounds == 0 for rounds in found.by_device.values())
     resting = f"{still} of {len(found.by_device)} hold their value now" if still else ""
     frame = Frame(f"({title})", network, found.by_device)

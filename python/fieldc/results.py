@@ -4,21 +4,32 @@ from __future__ import annotations
 
 import json
 import re
-from collections.abc import Iterator, Mapping
+from collections.abc import Hashable, Iterator, Mapping
 from dataclasses import dataclass, field
-from types import MappingProxyType
-from typing import Any, TypeVar, Union
+from typing import Any, TypeVar, Union, cast
 
+from .answers import Answer, Json
+from .kept import Kept
 from .refusals import Fault
 
-Key = TypeVar("Key")
-Kept = TypeVar("Kept")
+Found = TypeVar("Found")
 
 Value = Union[int, bool, tuple["Value", "Value"]]
 """A value of the calculus: a whole number, a truth value, or a pair of values."""
 
-Values = Mapping[int, Union[Value, None]]
-"""By device, rising, its value, or nothing where it has published none (or none is known)."""
+Values = Mapping[Hashable, Union[Value, None]]
+"""By device, rising, its value, or nothing where it has published none (or none is known). A device is its number, or
+the node of the graph that the library was given."""
+
+
+def by_number(found: Mapping[Hashable, Found]) -> Mapping[int, Found]:
+    """What `fc` wrote of devices, whose numbers are whole numbers."""
+    return cast("Mapping[int, Found]", found)
+
+
+def walks_by_number(traced: Traced) -> Mapping[int, tuple[int, ...]]:
+    """The walks that `fc` wrote, of whole numbers; none where there are none."""
+    return cast("Mapping[int, tuple[int, ...]]", traced.walks or {})
 
 
 @dataclass(frozen=True)
@@ -35,6 +46,9 @@ class Verdict:
         """Whether it is a yes."""
         return self.rounds is not None
 
+    def __bool__(self) -> bool:
+        return self.stabilises
+
 
 @dataclass(frozen=True)
 class Fact:
@@ -48,7 +62,7 @@ class Fact:
 
 
 @dataclass(frozen=True)
-class Checked:
+class Checked(Answer):
     """The verdict, and the facts of each node where they were asked for and it is a yes."""
 
     verdict: Verdict
@@ -56,7 +70,7 @@ class Checked:
 
 
 @dataclass(frozen=True)
-class Settled:
+class Settled(Answer):
     """After how many rounds each device of the network holds its value.
 
     `rounds` is the settle time, and nothing where the network is open. `by_device` has each device's settle round, and
@@ -66,7 +80,7 @@ class Settled:
 
     verdict: Verdict
     rounds: int | None
-    by_device: Mapping[int, int | None]
+    by_device: Mapping[Hashable, int | None]
     values: Values
     from_table: bool = False
     facts: tuple[Fact, ...] = ()
@@ -78,20 +92,23 @@ class Settled:
 
 
 @dataclass(frozen=True)
-class Stable:
+class Stable(Answer):
     """The value to which each device stabilises; none where the verdict is a no. With a yes `verdict` is nothing."""
 
     values: Values
     verdict: Verdict | None = None
 
+    def __bool__(self) -> bool:
+        return self.verdict is None or self.verdict.stabilises
+
 
 @dataclass(frozen=True)
-class Traced:
+class Traced(Answer):
     """For each device its value and a least walk that ends in it. `walks` is nothing where there are none."""
 
     verdict: Verdict
     values: Values = field(default_factory=dict)
-    walks: Mapping[int, tuple[int, ...]] | None = None
+    walks: Mapping[Hashable, tuple[Hashable, ...]] | None = None
 
 
 @dataclass(frozen=True)
@@ -109,7 +126,7 @@ class Show:
 
 
 @dataclass(frozen=True)
-class Ran:
+class Ran(Answer):
     """A run: the verdict at the start, the shows, the verdicts behind joins and leaves by the number of the show before
     which they were written, the log's lines and the table of exports where they were asked for."""
 
@@ -117,20 +134,20 @@ class Ran:
     shows: tuple[Show, ...]
     verdicts: tuple[tuple[int, Verdict], ...] = ()
     log: tuple[str, ...] | None = None
-    table: Mapping[str, Any] | None = None
+    table: Mapping[str, Json] | None = None
 
 
 @dataclass(frozen=True)
-class Replayed:
+class Replayed(Answer):
     """What the devices hold after a log, and the rounds and the table where they were asked for."""
 
     values: Values
     rounds: int | None = None
-    table: Mapping[str, Any] | None = None
+    table: Mapping[str, Json] | None = None
 
 
 @dataclass(frozen=True)
-class Mailed:
+class Mailed(Answer):
     """What the devices hold after a mail log, and its rounds. `verdict` is that of a log that was made from a
     number."""
 
@@ -140,7 +157,7 @@ class Mailed:
 
 
 @dataclass(frozen=True)
-class Generated:
+class Generated(Answer):
     """The summary of the scenario of a number."""
 
     number: int
@@ -199,11 +216,7 @@ def is_verdict(line: str) -> bool:
 
 def _values(lines: list[str]) -> Values:
     rows = (line.split(" ") for line in lines)
-    return _kept({int(row[0]): value_of(row[1]) for row in rows})
-
-
-def _kept(found: dict[Key, Kept]) -> Mapping[Key, Kept]:
-    return MappingProxyType(found)
+    return Kept({int(row[0]): value_of(row[1]) for row in rows})
 
 
 FACT = re.compile(r"(\d+) (\S+(?: \d+)?) ((?:field )?(?:int|bool|\(.*\))) (\S+) (\d+|-)")
@@ -230,22 +243,22 @@ def settled(text: str, from_table: bool = False) -> Settled:
     place = next((i for i, line in enumerate(lines) if line == "open" or line.startswith("settles ")), None)
     if place is None:
         raise Fault("there is no line of check --settle")
-    rounds: dict[int, int | None] = {}
-    values: dict[int, Value | None] = {}
+    rounds: dict[Hashable, int | None] = {}
+    values: dict[Hashable, Value | None] = {}
     for device, *rest in (line.split(" ") for line in lines[place + 1 :]):
         known = len(rest) == 2
         rounds[int(device)] = int(rest[0]) if known else None
         values[int(device)] = value_of(rest[1]) if known else None
     time = None if lines[place] == "open" else int(lines[place].split(" ")[1])
     facts = tuple(_facts(lines[1:place]))
-    return Settled(verdict_of(lines[0]), time, _kept(rounds), _kept(values), from_table, facts)
+    return Settled(verdict_of(lines[0]), time, Kept(rounds), Kept(values), from_table, facts)
 
 
 def stable(text: str) -> Stable:
     """What `stable` wrote."""
     lines = text.splitlines()
     if lines and is_verdict(lines[0]):
-        return Stable(_kept({}), verdict_of(lines[0]))
+        return Stable(Kept({}), verdict_of(lines[0]))
     return Stable(_values(lines))
 
 
@@ -253,16 +266,16 @@ def traced(text: str) -> Traced:
     """What `trace` wrote."""
     first, *rest = text.splitlines()
     if not rest or rest == ["no walks"]:
-        return Traced(verdict_of(first), _kept({}))
+        return Traced(verdict_of(first), Kept({}))
     rows = [line.split(" ") for line in rest]
-    walks = {int(row[0]): tuple(int(word) for word in row[2:]) for row in rows}
-    return Traced(verdict_of(first), _values(rest), _kept(walks))
+    walks: dict[Hashable, tuple[Hashable, ...]] = {int(row[0]): tuple(map(int, row[2:])) for row in rows}
+    return Traced(verdict_of(first), _values(rest), Kept(walks))
 
 
-def _table(lines: list[str]) -> tuple[list[str], Mapping[str, Any] | None]:
+def _table(lines: list[str]) -> tuple[list[str], Mapping[str, Json] | None]:
     """The lines before a table, and the table, which stands on the last line."""
     if lines and lines[-1].startswith('{"format":2,'):
-        return lines[:-1], _kept(json.loads(lines[-1]))
+        return lines[:-1], Kept(json.loads(lines[-1]))
     return lines, None
 
 
@@ -307,5 +320,7 @@ def mailed(text: str) -> Mailed:
 def generated(text: str) -> Generated:
     """What `gen` wrote."""
     rows = dict(line.split(" ", 1) for line in text.splitlines())
-    numbers = {name: int(rows[name]) for name in ("number", "devices", "firings", "agree", "sum")}
-    return Generated(verdict=verdict_of(rows["verdict"]), **numbers)
+    number, devices, firings, agree, whole = (
+        int(rows[name]) for name in ("number", "devices", "firings", "agree", "sum")
+    )
+    return Generated(number, devices, verdict_of(rows["verdict"]), firings, agree, whole)

@@ -10,6 +10,7 @@ from typing import Any
 
 from . import library, results
 from . import program as fc
+from .given import Networks
 from .refusals import Fault
 from .results import Values, Verdict
 
@@ -43,7 +44,7 @@ class Curve:
         return first if first < len(self.held) else None
 
 
-def promised(program: str, network: library.Networks, waiting: Callable[[], None] | None = None) -> Promise:
+def promised(program: str, network: Networks, waiting: Callable[[], None] | None = None) -> Promise:
     """What `check --settle` says; `waiting` is called now and then as long as it takes.
 
     Raises Fault, of status 1, where the network is open, and Refusal.
@@ -56,9 +57,10 @@ def promised(program: str, network: library.Networks, waiting: Callable[[], None
         raise Fault(f"{found.verdict.line}, {open_too}", 1)
     values = found.values
     if None in values.values():
-        values = library.stable(program, network).values
+        values = library.stable(program, scene).values
     time = found.rounds
-    by_device = {device: time if rounds is None else rounds for device, rounds in found.by_device.items()}
+    known = results.by_number(found.by_device)
+    by_device = {device: time if rounds is None else rounds for device, rounds in known.items()}
     return Promise(found.verdict, time, by_device, values)
 
 
@@ -71,7 +73,7 @@ def curve(program: str, scene: str, values: Values, number: int, rounds: int, wo
 
 def curves(
     program: str,
-    network: library.Networks,
+    network: Networks,
     promise: Promise,
     numbers: Sequence[int],
     rounds: int,

@@ -170,6 +170,21 @@ class Graphs(InFolder):
         self.assertEqual(files.network(self.file("0 1 2.5\n"), rounds=True).links, ((0, 1, 2),))
 
 
+class Columns(InFolder):
+    @needs("networkx")
+    def test_the_first_link_isn_t_taken_for_names_of_columns(self) -> None:
+        for text, wanted in (
+            ("a b\nb c\n", 2),
+            ("a b\nc d\n", 2),
+            ("u,v\nv,w\n", 2),
+            ("source target\ntarget x\n", 2),
+            ("a b\n0 1\n1 2\n", 2),
+            ("source,target,weight\nx,y,1\n", 1),
+            ("from;to\n0;1\n", 1),
+        ):
+            self.assertEqual(len(files.graph(self.file(text)).edges), wanted, text)
+
+
 class Command(InFolder):
     def made(self, *words: object) -> Done:
         return fieldc("network", *words, folder=self.folder)

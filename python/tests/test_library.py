@@ -122,7 +122,8 @@ class WorkedRows(unittest.TestCase):
         self.assertEqual(dict(fieldc.trace(HOPS, LINE).walks or {}), {0: (0,), 1: (0, 1), 2: (0, 1, 2)})
         self.assertIsNone(fieldc.trace("ceiling 10; input src: bool; main = 3;", LINE).walks)
         no = fieldc.stable(HOPS.replace("+ 1", "+ 0"), LINE)
-        self.assertEqual((no.verdict and no.verdict.reason, dict(no.values)), ("growth-zero", {}))
+        assert no.verdict is not None
+        self.assertEqual((no.verdict.reason, dict(no.values)), ("growth-zero", {}))
 
     def test_replay_of_the_first_example(self) -> None:
         program, scene, log = sections_of("two_devices.txt")
