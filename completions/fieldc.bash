@@ -50,7 +50,7 @@ _fieldc_words() {
             return ;;
         "network --points" | "network --edges" | "network --scene" | "network -o" | "network --output" | "network --program" | "network --table" | "network --positions" | "network --names")
             return ;;
-        "network --line" | "network --ring" | "network --grid" | "network --torus" | "network --disk" | "network --range" | "network --side" | "network --seed" | "network --weight" | "network --metric" | "network --unit" | "network --max-degree" | "network --set" | "network --inputs")
+        "network --line" | "network --ring" | "network --grid" | "network --torus" | "network --disk" | "network --range" | "network --scale" | "network --side" | "network --seed" | "network --weight" | "network --metric" | "network --unit" | "network --max-degree" | "network --set" | "network --inputs")
             compopt +o bashdefault +o default 2>/dev/null
             return ;;
         "picture -o" | "picture --output" | "picture --values" | "picture --positions" | "picture --names")
@@ -62,7 +62,7 @@ _fieldc_words() {
             compopt +o bashdefault +o default 2>/dev/null
             COMPREPLY=($(compgen -W "stable settle from-table trace run replay mail" -- "$current"))
             return ;;
-        "rounds -o" | "rounds --output")
+        "rounds -o" | "rounds --output" | "rounds --csv" | "rounds --names")
             return ;;
         "rounds --number" | "rounds --rounds" | "rounds --workers" | "rounds --title")
             compopt +o bashdefault +o default 2>/dev/null
@@ -81,18 +81,18 @@ _fieldc_words() {
     case $command in
         "") words="check settle stable trace run replay mail gen format compose network picture rounds sweep firmware -h --help --version" ;;
         check) files=yes words="--facts --settle --from-table --why --no-cut-check --json --names -h --help" ;;
-        settle) files=yes words="--facts --from-table --why --no-cut-check --json --names -h --help" ;;
-        stable) files=yes words="--no-cut-check --json --names -h --help" ;;
-        trace) files=yes words="--no-cut-check --json --names -h --help" ;;
-        run) files=yes words="--workers --log --table --no-cut-check --json --names -h --help" ;;
-        replay) files=yes words="--rounds --table --json --names -h --help" ;;
-        mail) files=yes words="--number --json --names -h --help" ;;
+        settle) files=yes words="--facts --from-table --why --no-cut-check --json --csv --names -h --help" ;;
+        stable) files=yes words="--no-cut-check --json --csv --names -h --help" ;;
+        trace) files=yes words="--no-cut-check --json --csv --names -h --help" ;;
+        run) files=yes words="--workers --log --table --no-cut-check --json --csv --names -h --help" ;;
+        replay) files=yes words="--rounds --table --json --csv --names -h --help" ;;
+        mail) files=yes words="--number --json --csv --names -h --help" ;;
         gen) words="--devices --workers --json -h --help" ;;
         format) files=yes words="--json -h --help" ;;
         compose) files=yes words="--network --library --no-cut-check --unjudged -o --output --list --show -h --help" ;;
-        network) words="--line --ring --grid --torus --disk --points --edges --scene -o --output --range --side --seed --undirected --weight --metric --unit --round --max-degree --set --inputs --program --table --positions --names -h --help" ;;
+        network) words="--line --ring --grid --torus --disk --points --edges --scene -o --output --range --scale --side --seed --undirected --weight --metric --unit --round --max-degree --set --inputs --program --table --positions --names -h --help" ;;
         picture) files=yes words="-o --output --values --of --show --page --positions --names --numbers --mark --title -h --help" ;;
-        rounds) files=yes words="-o --output --number --rounds --workers --title -h --help" ;;
+        rounds) files=yes words="-o --output --number --rounds --workers --title --csv --names -h --help" ;;
         sweep) words="--line --ring --grid --torus --disk --points --edges --range --side --density --jitter --fail --weight --metric --unit --max-degree --set --count --seed --values -o --output --report --title --workers --scheduler --no-cut-check --again --positions -h --help" ;;
         firmware) words="--name --neighbours -o --output --cost --layout --network --library --unjudged -h --help" ;;
     esac

@@ -35,18 +35,21 @@ complete -c fieldc -n '__fish_seen_subcommand_from settle' -l from-table -d 'cou
 complete -c fieldc -n '__fish_seen_subcommand_from settle' -l why -d 'where it is open, looks for two starts that rest apart'
 complete -c fieldc -n '__fish_seen_subcommand_from settle' -l no-cut-check -d 'doesn\'t ask fc once more, with a greater ceiling, whether values are cut'
 complete -c fieldc -n '__fish_seen_subcommand_from settle' -l json -d 'writes the answer, and a refusal, as JSON'
+complete -c fieldc -n '__fish_seen_subcommand_from settle' -l csv -d 'writes the values alone, as a table with a row a device'
 complete -c fieldc -n '__fish_seen_subcommand_from settle' -l names -r -F -d 'a file of lines id,name: devices are called by these names'
 complete -c fieldc -n '__fish_seen_subcommand_from settle' -s h -l help -d 'tells of the command'
 
 # stable
 complete -c fieldc -n '__fish_seen_subcommand_from stable' -l no-cut-check -d 'doesn\'t ask fc once more, with a greater ceiling, whether values are cut'
 complete -c fieldc -n '__fish_seen_subcommand_from stable' -l json -d 'writes the answer, and a refusal, as JSON'
+complete -c fieldc -n '__fish_seen_subcommand_from stable' -l csv -d 'writes the values alone, as a table with a row a device'
 complete -c fieldc -n '__fish_seen_subcommand_from stable' -l names -r -F -d 'a file of lines id,name: devices are called by these names'
 complete -c fieldc -n '__fish_seen_subcommand_from stable' -s h -l help -d 'tells of the command'
 
 # trace
 complete -c fieldc -n '__fish_seen_subcommand_from trace' -l no-cut-check -d 'doesn\'t ask fc once more, with a greater ceiling, whether values are cut'
 complete -c fieldc -n '__fish_seen_subcommand_from trace' -l json -d 'writes the answer, and a refusal, as JSON'
+complete -c fieldc -n '__fish_seen_subcommand_from trace' -l csv -d 'writes the values alone, as a table with a row a device'
 complete -c fieldc -n '__fish_seen_subcommand_from trace' -l names -r -F -d 'a file of lines id,name: devices are called by these names'
 complete -c fieldc -n '__fish_seen_subcommand_from trace' -s h -l help -d 'tells of the command'
 
@@ -56,6 +59,7 @@ complete -c fieldc -n '__fish_seen_subcommand_from run' -l log -d 'adds the log 
 complete -c fieldc -n '__fish_seen_subcommand_from run' -l table -d 'adds the table of what the devices have published'
 complete -c fieldc -n '__fish_seen_subcommand_from run' -l no-cut-check -d 'doesn\'t ask fc once more, with a greater ceiling, whether values are cut'
 complete -c fieldc -n '__fish_seen_subcommand_from run' -l json -d 'writes the answer, and a refusal, as JSON'
+complete -c fieldc -n '__fish_seen_subcommand_from run' -l csv -d 'writes the values alone, as a table with a row a device'
 complete -c fieldc -n '__fish_seen_subcommand_from run' -l names -r -F -d 'a file of lines id,name: devices are called by these names'
 complete -c fieldc -n '__fish_seen_subcommand_from run' -s h -l help -d 'tells of the command'
 
@@ -63,12 +67,14 @@ complete -c fieldc -n '__fish_seen_subcommand_from run' -s h -l help -d 'tells o
 complete -c fieldc -n '__fish_seen_subcommand_from replay' -l rounds -d 'adds how many rounds the log has after its last edit'
 complete -c fieldc -n '__fish_seen_subcommand_from replay' -l table -d 'adds the table of what the devices have published'
 complete -c fieldc -n '__fish_seen_subcommand_from replay' -l json -d 'writes the answer, and a refusal, as JSON'
+complete -c fieldc -n '__fish_seen_subcommand_from replay' -l csv -d 'writes the values alone, as a table with a row a device'
 complete -c fieldc -n '__fish_seen_subcommand_from replay' -l names -r -F -d 'a file of lines id,name: devices are called by these names'
 complete -c fieldc -n '__fish_seen_subcommand_from replay' -s h -l help -d 'tells of the command'
 
 # mail
 complete -c fieldc -n '__fish_seen_subcommand_from mail' -l number -x -d 'makes the log from this number; then no LOG is given'
 complete -c fieldc -n '__fish_seen_subcommand_from mail' -l json -d 'writes the answer, and a refusal, as JSON'
+complete -c fieldc -n '__fish_seen_subcommand_from mail' -l csv -d 'writes the values alone, as a table with a row a device'
 complete -c fieldc -n '__fish_seen_subcommand_from mail' -l names -r -F -d 'a file of lines id,name: devices are called by these names'
 complete -c fieldc -n '__fish_seen_subcommand_from mail' -s h -l help -d 'tells of the command'
 
@@ -105,6 +111,7 @@ complete -c fieldc -n '__fish_seen_subcommand_from network' -l edges -r -F -d 'l
 complete -c fieldc -n '__fish_seen_subcommand_from network' -l scene -r -F -d 'a network in JSON, or an input of fc whose second section is one'
 complete -c fieldc -n '__fish_seen_subcommand_from network' -s o -l output -r -F -d 'where the network is written (standard output)'
 complete -c fieldc -n '__fish_seen_subcommand_from network' -l range -x -d 'devices at most this far apart are linked'
+complete -c fieldc -n '__fish_seen_subcommand_from network' -l scale -x -d 'multiplies numbers of this input in the file by F, and rounds them'
 complete -c fieldc -n '__fish_seen_subcommand_from network' -l side -x -d 'the side of the square (100)'
 complete -c fieldc -n '__fish_seen_subcommand_from network' -l seed -x -d 'the seed of --disk (0)'
 complete -c fieldc -n '__fish_seen_subcommand_from network' -l undirected -d 'the edges of a directed graph are links both ways'
@@ -140,6 +147,8 @@ complete -c fieldc -n '__fish_seen_subcommand_from rounds' -l number -x -d 'the 
 complete -c fieldc -n '__fish_seen_subcommand_from rounds' -l rounds -x -d 'how many rounds are run (R, at most 2,000)'
 complete -c fieldc -n '__fish_seen_subcommand_from rounds' -l workers -x -d 'threads that fire devices in each run (4)'
 complete -c fieldc -n '__fish_seen_subcommand_from rounds' -l title -x -d 'a line above the picture'
+complete -c fieldc -n '__fish_seen_subcommand_from rounds' -l csv -r -F -d 'writes there what each device holds after each round'
+complete -c fieldc -n '__fish_seen_subcommand_from rounds' -l names -r -F -d 'a file of lines id,name: names of devices for --csv'
 complete -c fieldc -n '__fish_seen_subcommand_from rounds' -s h -l help -d 'tells of the command'
 
 # sweep

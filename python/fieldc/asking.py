@@ -17,6 +17,7 @@ from .progress import Progress, described
 from .refusals import Call, Explanation, Fault, Refusal, explained, warned
 from .sections import sections, write
 from .streams import pour, say
+from .tables import table_of
 from .telling import place_of, rest_of
 
 WHY_NO = "docs/patterns.md#the-reasons"
@@ -35,9 +36,12 @@ def add_files(parser: argparse.ArgumentParser, kinds: Sequence[str]) -> None:
     )
 
 
-def add_answers(parser: argparse.ArgumentParser, names: bool = True) -> None:
-    """How the answer is written."""
-    parser.add_argument("--json", action="store_true", help="writes the answer, and a refusal, as JSON")
+def add_answers(parser: argparse.ArgumentParser, names: bool = True, values: bool = False) -> None:
+    """How the answer is written; `values` is whether it has values of devices."""
+    forms = parser.add_mutually_exclusive_group()
+    forms.add_argument("--json", action="store_true", help="writes the answer, and a refusal, as JSON")
+    if values:
+        forms.add_argument("--csv", action="store_true", help="writes the values alone, as a table with a row a device")
     if names:
         parser.add_argument(
             "--names", metavar="FILE", help="a file of lines id,name: devices are called by these names"
@@ -72,7 +76,9 @@ def ask(
         warnings += cuts_of(result)
         write("-", written(result, names, why, warnings))
         return call, result, reply.status
-    if names:
+    if getattr(options, "csv", False):
+        write("-", table_of(result, names))
+    elif names:
         write("-", named(reply.text, names, "settle" if "--settle" in words else words[0]))
     else:
         pour(reply.output)

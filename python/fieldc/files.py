@@ -7,18 +7,19 @@ import csv
 import io
 import json
 import re
-from collections.abc import Mapping, Sequence
+from collections.abc import Container, Mapping, Sequence
 from dataclasses import dataclass
 from pathlib import Path
+from types import MappingProxyType
 from typing import Any
 
-from .networks import Declared, Input, Network, Position, declared, finite, fitting, from_graph, input_of, numbered
+from .columns import DECIMAL, LATITUDES, LONGITUDES, decimal, in_metres, input_word, latitude, longitude
+from .networks import Declared, Input, Network, Pair, Position, declared, fitting, from_graph, input_of, numbered
 from .refusals import Fault
 from .sections import read
 
-DELIMITERS = (",", ";", "\t", "|", ":", " ")
+DELIMITERS = (";", "\t", "|", ",", ":", " ")
 IDS = ("id", "device", "name", "node")
-TRUTHS: dict[str, Input | str] = {"true": True, "false": False}
 ENDS = {"source", "target", "from", "to", "weight", "u", "v", "a", "b", "node1", "node2"}
 
 
@@ -45,28 +46,54 @@ def text_of_file(name: str) -> str:
 # ---- positions -----------------------------------------------------------------------------------------------------
 
 
-def points(name: str, program: str | None = None, inputs: Sequence[str] | None = None) -> Points:
-    """The positions of a file of rows `id x y` and further columns, parted by commas, semicolons, tabs, bars, colons or
-    spaces.
+def points(
+    name: str,
+    program: str | None = None,
+    inputs: Sequence[str] | None = None,
+    scale: Mapping[str, float] = MappingProxyType({}),
+) -> Points:
+    """The positions of a file of rows `id x y` and further columns, parted by semicolons, tabs, bars, commas, colons or
+    spaces. Where the names of the columns have no id, rows are numbered.
 
     A row of names may stand first; with it the columns may stand in any order, and further ones are inputs: those that
-    `program` declares or `inputs` names, else all. Raises Fault, of status 3, with the line that is at fault.
+    `program` declares or `inputs` names, else all. Columns `lat` and `lon` in the place of `x` and `y` are degrees, of
+    which metres are made. Numbers of inputs are multiplied by what `scale` has for them, and rounded. Raises Fault, of
+    status 3, with the line that is at fault.
     """
-    rows = _rows(name)
-    header, body = _header(name, rows)
-    columns = {word.lower(): place for place, word in enumerate(header)}
-    at = columns.get(next((word for word in IDS if word in columns), header[0].lower()), 0)
-    x, y = columns["x"], columns["y"]
+    header, body, across = _header(name, _rows(name))
     wanted = declared(program) if program is not None else None
-    further = [word for place, word in enumerate(header) if place not in (at, x, y)]
+    asked = {*(wanted.inputs if wanted is not None else ()), *(inputs or ())}
+    at = _id_column(header, across, asked)
+    further = [word for place, word in enumerate(header) if place not in (at, *across)]
     taken, left_out = _taken(name, further, wanted, inputs)
     number, names = _numbered_rows(name, body, at)
-    positions, found = {}, {}
-    for line, row in body:
-        device, where = number[row[at]], f"{name} line {line}"
-        positions[device] = (finite(row[x], f"{where}: x"), finite(row[y], f"{where}: y"))
-        found[device] = {word: _input(row[header.index(word)], f"{where}: {word}", wanted, word) for word in taken}
+    places, found = {}, {}
+    for place, (line, row) in enumerate(body):
+        device, where = (place if at is None else number[row[at]]), f"{name} line {line}"
+        places[device] = _place_of(row, header, across, where)
+        found[device] = {
+            word: _input(row[header.index(word)], f"{where}: {word}", wanted, word, scale) for word in taken
+        }
+    positions = in_metres(places) if header[across[0]].lower() in LATITUDES else places
     return Points(dict(sorted(positions.items())), names, dict(sorted(found.items())), left_out)
+
+
+def _place_of(row: list[str], header: list[str], across: Pair, where: str) -> Position:
+    """The position of a row: x and y, or degrees to the north and to the east."""
+    first, second = (row[place] for place in across)
+    one, other = (f"{where}: {header[place]}" for place in across)
+    if header[across[0]].lower() in LATITUDES:
+        return latitude(first, one), longitude(second, other)
+    return float(decimal(first, one)), float(decimal(second, other))
+
+
+def _id_column(header: list[str], across: Pair, inputs: Container[str]) -> int | None:
+    """The column of ids: one that is called so, else the first, unless that is a position or an input."""
+    lowered = [word.lower() for word in header]
+    for word in IDS:
+        if word in lowered:
+            return lowered.index(word)
+    return None if 0 in across or header[0] in inputs else 0
 
 
 def _rows(name: str) -> list[tuple[int, list[str]]]:
@@ -74,7 +101,8 @@ def _rows(name: str) -> list[tuple[int, list[str]]]:
     lines = [(number, line) for number, line in enumerate(text_of_file(name).splitlines(), 1) if line.strip()]
     if not lines:
         raise Fault(f"{name} has no rows", 3)
-    delimiter = next((mark for mark in DELIMITERS if len(_fields(lines[0][1], mark)) >= 3), None)
+    fields = {mark: len(_fields(lines[0][1], mark)) for mark in DELIMITERS}
+    delimiter = next((mark for least in (3, 2) for mark in DELIMITERS if fields[mark] >= least), None)
     if delimiter is None:
         raise Fault(f"{name} line {lines[0][0]}: not a row id, x, y", 3)
     rows = [(number, _fields(line, delimiter)) for number, line in lines]
@@ -98,21 +126,37 @@ def _is_number(word: str) -> bool:
     return True
 
 
-def _header(name: str, rows: list[tuple[int, list[str]]]) -> tuple[list[str], list[tuple[int, list[str]]]]:
-    """The names of the columns, and the rows behind them: id, x, y and no more where no names stand first."""
+def _header(
+    name: str, rows: list[tuple[int, list[str]]]
+) -> tuple[list[str], list[tuple[int, list[str]]], tuple[int, int]]:
+    """The names of the columns, the rows behind them, and the columns of positions; without names id, x, y or x, y."""
     line, first = rows[0]
     lowered = [word.lower() for word in first]
-    if "x" in lowered and "y" in lowered:
+    across = _across(lowered)
+    if across is not None:
         if len(set(lowered)) < len(lowered):
             raise Fault(f"{name} line {line}: two columns have one name", 3)
         if len(rows) == 1:
             raise Fault(f"{name} has no rows behind the names of its columns", 3)
-        return first, rows[1:]
-    if not (_is_number(first[1]) and _is_number(first[2])):
-        raise Fault(f"{name} line {line}: neither a row id, x, y, nor names of columns with x and y among them", 3)
+        return first, rows[1:], across
+    if len(first) == 2 and all(map(DECIMAL.fullmatch, first)):
+        raise Fault(f"{name} line {line}: 2 numbers; with a line x,y in front rows are numbered", 3)
+    if len(first) < 3 or not all(DECIMAL.fullmatch(word) or _is_number(word) for word in first[1:3]):
+        columns = "names of columns with x and y (or lat and lon) among them"
+        raise Fault(f"{name} line {line}: neither a row id, x, y, nor {columns}", 3)
     if len(first) > 3:
         raise Fault(f"{name} line {line}: {len(first)} fields, and no names of columns stand first", 3)
-    return ["id", "x", "y"], rows
+    return ["id", "x", "y"], rows, (1, 2)
+
+
+def _across(lowered: list[str]) -> Pair | None:
+    """The columns of x and y, or of latitude and longitude."""
+    for firsts, seconds in ((("x",), ("y",)), (LATITUDES, LONGITUDES)):
+        first = next((word for word in firsts if word in lowered), None)
+        second = next((word for word in seconds if word in lowered), None)
+        if first is not None and second is not None:
+            return lowered.index(first), lowered.index(second)
+    return None
 
 
 def _taken(
@@ -128,7 +172,12 @@ def _taken(
     return named, tuple(word for word in further if word not in named)
 
 
-def _numbered_rows(name: str, body: list[tuple[int, list[str]]], at: int) -> tuple[dict[str, int], dict[int, str]]:
+def _numbered_rows(
+    name: str, body: list[tuple[int, list[str]]], at: int | None
+) -> tuple[dict[str, int], dict[int, str]]:
+    """The numbers of devices by their ids, and the names that were no numbers; none where rows are numbered."""
+    if at is None:
+        return {}, {}
     seen: dict[str, int] = {}
     for line, row in body:
         if not row[at]:
@@ -139,12 +188,11 @@ def _numbered_rows(name: str, body: list[tuple[int, list[str]]], at: int) -> tup
     return numbered(list(seen))
 
 
-def _input(word: str, where: str, wanted: Declared | None, name: str) -> Input:
-    """The value of an input in a field: a whole number, or true or false in any letters."""
-    value = int(word) if re.fullmatch("[0-9]+", word) else TRUTHS.get(word.lower(), word)
-    if wanted is not None and name in wanted.inputs:
-        return fitting(value, wanted.inputs[name], where)
-    return input_of(value, where)
+def _input(word: str, where: str, wanted: Declared | None, name: str, scale: Mapping[str, float]) -> Input:
+    """The value of an input in a field."""
+    span = wanted.inputs.get(name, ()) if wanted is not None else ()
+    value = input_word(word, where, name, span is None, scale)
+    return input_of(value, where) if wanted is None or span == () else fitting(value, wanted.inputs[name], where)
 
 
 def positions_for(name: str, devices: Sequence[int], names: Mapping[int, str]) -> dict[int, Position]:
@@ -280,6 +328,14 @@ def _link(where: str, line: str, delimiter: str | None) -> Any:
     return networkx.relabel_nodes(one, {node: node.strip() for node in one})
 
 
+def truths_of_gml(found: Any, wanted: Mapping[str, Pair | None]) -> None:
+    """In a graph from GML, which has no truth values, puts them where a program declares some and 0 or 1 stands."""
+    for _, data in found.nodes(data=True) if found.graph.get("gml") else ():
+        for word in wanted:
+            if wanted[word] is None and data.get(word) in (0, 1):
+                data[word] = bool(data[word])
+
+
 def network(
     name: str,
     program: str | None = None,
@@ -300,9 +356,7 @@ def network(
             raise Fault(f"{name}: device {node} has no {missing[0]}", 3)
         for word in [word for word in data if keep is not None and word not in keep and word not in ("x", "y", "pos")]:
             del data[word]
-        for word in wanted:
-            if found.graph.get("gml") and wanted[word] is None and data.get(word) in (0, 1):
-                data[word] = bool(data[word])
+    truths_of_gml(found, wanted)
     try:
         return from_graph(found, rounds=rounds, undirected=undirected)
     except Fault as fault:

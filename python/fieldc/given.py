@@ -9,7 +9,7 @@ from dataclasses import dataclass, replace
 from typing import Any, Protocol, Union, cast, runtime_checkable
 
 from .answers import Json
-from .networks import Input, Network, from_graph, read_scene
+from .networks import Input, Network, declared, from_graph, read_scene
 from .refusals import Fault
 from .sections import read
 
@@ -108,7 +108,9 @@ def _of_file(name: str, program: str, weight: Weight, inputs: Inputs | None, und
 
     text = read(name)
     if not text.lstrip().startswith("{"):
-        return from_graph(files.graph(name), program, weight, inputs=inputs, undirected=undirected)
+        graph = files.graph(name)
+        files.truths_of_gml(graph, declared(program).inputs)
+        return from_graph(graph, program, weight, inputs=inputs, undirected=undirected)
     try:
         found = json.loads(text)
     except ValueError:

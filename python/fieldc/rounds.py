@@ -32,10 +32,12 @@ class Promise:
 
 @dataclass(frozen=True)
 class Curve:
-    """From the rubbish of `number`, after 0, 1, .. rounds, how many devices hold their value."""
+    """From the rubbish of `number`, after 0, 1, .. rounds, how many devices hold their value; and what they hold, where
+    that was asked for."""
 
     number: int
     held: tuple[int, ...]
+    values: tuple[Values, ...] = ()
 
     def settled(self, devices: int) -> int | None:
         """The first round from which on all devices hold their value, or nothing."""
@@ -64,11 +66,12 @@ def promised(program: str, network: Networks, waiting: Callable[[], None] | None
     return Promise(found.verdict, time, by_device, values)
 
 
-def curve(program: str, scene: str, values: Values, number: int, rounds: int, workers: int) -> Curve:
+def curve(program: str, scene: str, values: Values, number: int, rounds: int, workers: int, keep: bool) -> Curve:
     """Runs a program from the rubbish of a number, and counts after each round who holds its value. Raises Refusal."""
     script = ["scramble " + str(number), "show"] + ["run 1", "show"] * rounds
     shows = library.run(program, scene, script, workers=workers).shows
-    return Curve(number, tuple(sum(show.values[d] == value for d, value in values.items()) for show in shows))
+    held = tuple(sum(show.values[d] == value for d, value in values.items()) for show in shows)
+    return Curve(number, held, tuple(show.values for show in shows) if keep else ())
 
 
 def curves(
@@ -79,8 +82,9 @@ def curves(
     rounds: int,
     workers: int = 4,
     waiting: Callable[[str], None] | None = None,
+    keep: bool = False,
 ) -> list[Curve]:
-    """The curves of some numbers, made by as many processes as there are processors.
+    """The curves of some numbers, made by as many processes as there are processors; with `keep` with all values.
 
     `waiting` is called about five times a second with how many are done. Raises Fault where so many rounds can't be
     drawn, and Refusal.
@@ -89,7 +93,7 @@ def curves(
         raise Fault(f"{rounds} rounds, and 1 to {MOST_ROUNDS:,} are drawn: choose --rounds")
     scene, values = library.scene_of(network, program), dict(promise.values)
     with ProcessPoolExecutor(min(len(numbers), os.cpu_count() or 1)) as pool:
-        asked = [pool.submit(curve, program, scene, values, number, rounds, workers) for number in numbers]
+        asked = [pool.submit(curve, program, scene, values, number, rounds, workers, keep) for number in numbers]
         left = set(asked)
         while left:
             done, left = wait(left, timeout=0.2, return_when=FIRST_COMPLETED)

@@ -5,6 +5,7 @@ from __future__ import annotations
 import os
 from collections.abc import Hashable, Mapping, Sequence
 from dataclasses import replace
+from types import MappingProxyType
 from typing import Any, Union, cast
 
 from . import networks
@@ -32,6 +33,7 @@ def network(
     seed: int = 0,
     program: str | None = None,
     inputs: Inputs | None = None,
+    scale: Mapping[str, float] = MappingProxyType({}),
     weight: Weight = "weight",
     metric: tuple[int, int] | None = None,
     unit: float = 1.0,
@@ -43,8 +45,8 @@ def network(
 
     `points`, and a `disk` of so many devices at random in a square of this `side`, are linked where they are at most
     `range` apart. `edges` is a graph or its file. `inputs` has values for devices without one, for all or by node.
-    `metric` weighs links by distance, in units of so long; else `weight` is the edge attribute, or one weight for all.
-    Raises Fault, and TypeError where not one shape is given.
+    `scale` multiplies numbers of inputs of a file. `metric` weighs links by distance, in units of so long; else
+    `weight` is the edge attribute, or one weight for all. Raises Fault, and TypeError where not one shape is given.
     """
     shapes = {"points": points, "edges": edges, "line": line, "ring": ring, "grid": grid, "torus": torus, "disk": disk}
     asked = [name for name, value in shapes.items() if value is not None]
@@ -57,7 +59,7 @@ def network(
     elif asked[0] in ("points", "disk"):
         if range is None:
             raise TypeError(f"{asked[0]} are linked where they are at most a range apart: pass range=")
-        made = networks.disk(disk, side, range, seed) if disk is not None else of_points(points, range, program)
+        made = networks.disk(disk, side, range, seed) if disk is not None else of_points(points, range, program, scale)
     else:
         made = of_rule(asked[0], shapes[asked[0]])
     made = filled(made, inputs or {})
@@ -97,10 +99,10 @@ def of_edges(
     return from_graph(graph_of(edges), program, weight, rounds, undirected, inputs)
 
 
-def of_points(points: Points, reach: float, program: str | None) -> Network:
+def of_points(points: Points, reach: float, program: str | None, scale: Mapping[str, float]) -> Network:
     """The network of positions, linked where they are in range."""
     if isinstance(points, (str, os.PathLike)):
-        found = points_of_file(os.fspath(points), program)
+        found = points_of_file(os.fspath(points), program, None, scale)
         made = networks.in_range(found.positions, reach)
         nodes = {device: name for device, name in found.names.items()}
         return replace(made, names=found.names, inputs=found.inputs, nodes=nodes)

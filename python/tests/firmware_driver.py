@@ -171,9 +171,7 @@ def glue(firmware: Firmware) -> str:
     else:
         lines += "    (void)in;\n"
     call = "@fire(device, &given)" if inputs else "@fire(device)"
-    kind = firmware.spelled(
-        f"{lines}    const {kind_of(firmware.result)} v = {call};\n{writes('v', firmware.result)}"
-    )
+    kind = firmware.spelled(f"{lines}    const {kind_of(firmware.result)} v = {call};\n{writes('v', firmware.result)}")
     return firmware.spelled(GLUE) % kind
 
 

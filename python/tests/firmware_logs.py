@@ -79,9 +79,7 @@ class Writer:
         self.messages += 1
         return self.messages - 1
 
-    def hear(
-        self, world: World, to: int, sender: int, message: int, status: str, cut: int = 0, turn: int = -1
-    ) -> None:
+    def hear(self, world: World, to: int, sender: int, message: int, status: str, cut: int = 0, turn: int = -1) -> None:
         """A message is heard; `cut` bytes are missing, and the byte `turn` is another one."""
         weight = world.weights[min(to, sender), max(to, sender)]
         slot = self.slots[world.numbers[to]]
@@ -116,8 +114,7 @@ def scene(made: Made, worlds: list[World], held: dict[int, Export] | None = None
     for world in worlds:
         for device, values in world.inputs.items():
             given = {
-                name: bool(value) if ends is None else value
-                for (name, ends), value in zip(made.inputs.items(), values)
+                name: bool(value) if ends is None else value for (name, ends), value in zip(made.inputs.items(), values)
             }
             devices.append({"id": world.numbers[device], "inputs": given})
         links += [[world.numbers[a], world.numbers[b], weight] for (a, b), weight in world.weights.items()]

@@ -227,9 +227,7 @@ def made(seed: int | str) -> Made:
     maker = Maker(dice, ceiling, dice.random() < 0.7)
     lines = ["language 2;"] * maker.second + [f"ceiling {ceiling};"]
     for number in range(dice.randint(0, 3)):
-        name = (
-            dice.choice(("src", "class", "value", "near", "this")) + str(number) * dice.randint(0, 1) + "_" * number
-        )
+        name = dice.choice(("src", "class", "value", "near", "this")) + str(number) * dice.randint(0, 1) + "_" * number
         ends = sorted((maker.number(), maker.number()))
         maker.inputs[name] = None if dice.random() < 0.5 else (ends[0], ends[1])
         lines.append(f"input {name}: " + ("bool;" if maker.inputs[name] is None else f"int {ends[0]}..{ends[1]};"))

@@ -13,7 +13,7 @@ SUMMARY = "goes through a log of messages, which links lose, repeat and deliver 
 def arguments(parser: argparse.ArgumentParser) -> None:
     add_files(parser, ("program", "network", "log"))
     parser.add_argument("--number", metavar="N", type=int, help="makes the log from this number; then no LOG is given")
-    add_answers(parser)
+    add_answers(parser, values=True)
 
 
 def perform(options: argparse.Namespace) -> int:

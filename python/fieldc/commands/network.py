@@ -76,6 +76,18 @@ def setting(word: str) -> tuple[str, int | bool, list[str] | None]:
     return name, value, listed.split(",") if at else None
 
 
+def factor(word: str) -> tuple[str, float]:
+    """NAME=F, with a number above 0."""
+    name, _, text = word.partition("=")
+    try:
+        found = float(text)
+    except ValueError:
+        found = 0.0
+    if not name or not 0 < found < math.inf:
+        raise argparse.ArgumentTypeError(f"{word} isn't NAME=F with a number above 0, as load=10")
+    return name, found
+
+
 def arguments(parser: argparse.ArgumentParser) -> None:
     shape = parser.add_mutually_exclusive_group(required=True)
     count = whole(1, "a number of devices")
@@ -100,6 +112,10 @@ def arguments(parser: argparse.ArgumentParser) -> None:
 
 def _shaping(parser: argparse.ArgumentParser) -> None:
     parser.add_argument("--range", metavar="R", type=length, help="devices at most this far apart are linked")
+    parser.add_argument(
+        "--scale", metavar="NAME=F", type=factor, action="append", default=[],
+        help="multiplies numbers of this input in the file by F, and rounds them",
+    )  # fmt: skip
     parser.add_argument("--side", metavar="S", type=length, default=100.0, help="the side of the square (100)")
     parser.add_argument("--seed", metavar="S", type=whole(0, "a seed"), default=0, help="the seed of --disk (0)")
     parser.add_argument("--undirected", action="store_true", help="the edges of a directed graph are links both ways")
@@ -176,7 +192,7 @@ def shaped(options: argparse.Namespace, program: str | None) -> Network:
         raise Fault("--disk and --points need a --range")
     if options.disk is not None:
         return network.disk(at_most(options.disk), options.side, options.range, options.seed)
-    points = files.points(options.points, program, inputs)
+    points = files.points(options.points, program, inputs, dict(options.scale))
     if points.left_out:
         say(f"{options.points}: left out, as no inputs: {', '.join(points.left_out)}")
     at_most(len(points.positions))

@@ -15,7 +15,7 @@ def arguments(parser: argparse.ArgumentParser) -> None:
     add_files(parser, KINDS)
     parser.add_argument("--rounds", action="store_true", help="adds how many rounds the log has after its last edit")
     parser.add_argument("--table", action="store_true", help="adds the table of what the devices have published")
-    add_answers(parser)
+    add_answers(parser, values=True)
 
 
 def perform(options: argparse.Namespace) -> int:

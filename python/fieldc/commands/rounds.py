@@ -6,9 +6,11 @@ import argparse
 
 from .. import rounds
 from ..drawing import pyplot_ready
+from ..files import names_from
 from ..progress import Progress
 from ..refusals import Fault
 from ..sections import PICTURES, sections, writable, write
+from ..tables import table_of_rounds
 
 SUMMARY = "draws against the rounds how many devices hold their value, from tables of rubbish"
 EPILOG = """\
@@ -37,11 +39,16 @@ def arguments(parser: argparse.ArgumentParser) -> None:
     )
     parser.add_argument("--workers", metavar="W", type=int, default=4, help="threads that fire devices in each run (4)")
     parser.add_argument("--title", default="", help="a line above the picture")
+    parser.add_argument("--csv", metavar="FILE", help="writes there what each device holds after each round")
+    parser.add_argument("--names", metavar="FILE", help="a file of lines id,name: names of devices for --csv")
 
 
 def perform(options: argparse.Namespace) -> int:
     writable(options.output, PICTURES)
+    if options.csv:
+        writable(options.csv)
     pyplot_ready()
+    names = names_from(options.names) if options.names else {}
     parts = sections(options.files, ("program", "network"))
     if len(parts) < 2:
         raise Fault("the files have one section: PROGRAM NETWORK are wanted")
@@ -52,8 +59,10 @@ def perform(options: argparse.Namespace) -> int:
     count = promise.time if options.rounds is None else options.rounds
     what = f"{len(numbers)} runs of {count:,} rounds on {len(promise.values):,} devices"
     with Progress(lambda: what) as waiting:
-        found = rounds.curves(program, network, promise, numbers, count, options.workers, waiting)
+        found = rounds.curves(program, network, promise, numbers, count, options.workers, waiting, bool(options.csv))
     rounds.draw(promise, found, options.output, options.title)
+    if options.csv:
+        write(options.csv, table_of_rounds(found, names))
     for one in found:
         settled = one.settled(len(promise.values))
         bound = promise.verdict.rounds

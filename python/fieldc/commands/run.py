@@ -19,7 +19,7 @@ def arguments(parser: argparse.ArgumentParser) -> None:
     parser.add_argument("--log", action="store_true", help="adds the log of all steps that were taken")
     parser.add_argument("--table", action="store_true", help="adds the table of what the devices have published")
     add_cut_check(parser)
-    add_answers(parser)
+    add_answers(parser, values=True)
 
 
 def perform(options: argparse.Namespace) -> int:

@@ -18,7 +18,7 @@ def arguments(parser: argparse.ArgumentParser) -> None:
     parser.add_argument("--facts", action="store_true", help="adds what is known of each node of the unfolded main")
     settle_arguments(parser)
     add_cut_check(parser)
-    add_answers(parser)
+    add_answers(parser, values=True)
 
 
 def settle_arguments(parser: argparse.ArgumentParser) -> None:

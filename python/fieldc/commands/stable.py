@@ -14,7 +14,7 @@ KINDS = ("program", "network")
 def arguments(parser: argparse.ArgumentParser) -> None:
     add_files(parser, KINDS)
     add_cut_check(parser)
-    add_answers(parser)
+    add_answers(parser, values=True)
 
 
 def perform(options: argparse.Namespace) -> int:

@@ -123,9 +123,7 @@ def types(firmware: Firmware) -> str:
     )
     weight = "    @number weight;\n" * ("nbrLink" in firmware.forms)
     said = f"    uint8_t said[{layout.said_bytes}];\n" * (layout.said_bytes > 0)
-    kept = f"    uint8_t kept[{layout.kept_bytes}]; /* what the device keeps for itself */\n" * (
-        layout.kept_bytes > 0
-    )
+    kept = f"    uint8_t kept[{layout.kept_bytes}]; /* what the device keeps for itself */\n" * (layout.kept_bytes > 0)
     parts = [
         f"#define @@CEILING {firmware.known.ceiling}\n"
         f"#define @@NEIGHBOURS {firmware.neighbours}\n"

@@ -74,9 +74,7 @@ def orders(local: Local) -> list[Helper]:
         lesser, same = f"{lower}\n        || ({alike} && {below})", f"{alike} && {too}"
     else:
         lesser, same = ("a < b", "a == b") if local == "int" else ("!a && b", "a == b")
-    mux = (
-        f"static {kind} {operator('mux', local)}(bool which, {kind} a, {kind} b)\n{{\n    return which ? a : b;\n}}\n"
-    )
+    mux = f"static {kind} {operator('mux', local)}(bool which, {kind} a, {kind} b)\n{{\n    return which ? a : b;\n}}\n"
     return [
         _function("equal", local, "bool", "", same),
         _function("less", local, "bool", "", lesser),

@@ -1,0 +1,74 @@
+"""What `fc` answers as rows of separated values, for tables of others."""
+
+from __future__ import annotations
+
+import csv
+import io
+import json
+from collections.abc import Iterable, Mapping, Sequence
+from typing import TYPE_CHECKING
+
+from . import results
+from .results import Value, Values, by_number
+
+if TYPE_CHECKING:
+    from .rounds import Curve
+
+Row = tuple[Sequence[object], int, "Value | None", Sequence[object]]
+"""The words before a device, the device, its value, and the words behind it."""
+
+
+def leaves(value: Value | None) -> list[str]:
+    """The numbers and truth values of a value, from the left; none where there is none."""
+    if isinstance(value, tuple):
+        return [leaf for part in value for leaf in leaves(part)]
+    return [] if value is None else [json.dumps(value)]
+
+
+def written(front: Sequence[str], rows: Iterable[Row], names: Mapping[int, str], back: Sequence[str] = ()) -> str:
+    """A table with a row of names: what stands before, the device, its name where some have one, a column for each part
+    of a value, and what stands behind."""
+    kept = list(rows)
+    width = max((len(leaves(value)) for _, _, value, _ in kept), default=1)
+    values = ["value"] if width <= 1 else [f"value_{place}" for place in range(1, width + 1)]
+    text = io.StringIO()
+    table = csv.writer(text, lineterminator="\n")
+    table.writerow([*front, "device", *["name"] * bool(names), *values, *back])
+    for before, device, value, behind in kept:
+        own = [names.get(device, "")] if names else []
+        parts = leaves(value) + [""] * (max(width, 1) - len(leaves(value)))
+        table.writerow([*before, device, *own, *parts, *("" if word is None else word for word in behind)])
+    return text.getvalue()
+
+
+def rows_of(values: Values, *before: object) -> list[Row]:
+    """A row for each device."""
+    return [(before, device, value, ()) for device, value in by_number(values).items()]
+
+
+def table_of_rounds(curves: Iterable[Curve], names: Mapping[int, str]) -> str:
+    """What each device held after each round, from the rubbish of each number."""
+    rows = [
+        row for one in curves for count, values in enumerate(one.values) for row in rows_of(values, one.number, count)
+    ]
+    return written(["number", "round"], rows, names)
+
+
+def table_of(result: results.Result | str, names: Mapping[int, str]) -> str:
+    """The values of a result as a table; of a run those of all shows, with their lines."""
+    if isinstance(result, results.Ran):
+        rows = [row for show in result.shows for row in rows_of(show.values, show.line)]
+        return written(["line"], rows, names)
+    if isinstance(result, results.Settled):
+        known = by_number(result.by_device)
+        rows = [((), device, value, (known[device],)) for device, value in by_number(result.values).items()]
+        return written([], rows, names, ["rounds"])
+    if isinstance(result, results.Traced):
+        walks = results.walks_by_number(result)
+        rows = [
+            ((), device, value, (" ".join(map(str, walks[device])),))
+            for device, value in by_number(result.values).items()
+        ]
+        return written([], rows, names, ["walk"])
+    values: Values = getattr(result, "values")
+    return written([], rows_of(values), names)
