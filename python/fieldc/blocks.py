@@ -9,6 +9,7 @@ from dataclasses import dataclass
 from pathlib import Path
 
 from . import program as fc
+from .elsewhere import hint_for
 from .refusals import Fault
 from .sections import read
 
@@ -232,7 +233,9 @@ def near(name: str, library: Library) -> list[str]:
 
 
 def not_there(name: str, library: Library) -> str:
-    """That no block has a name, with the nearest that there are."""
+    """That no block has a name, with what stands for it here, or the nearest that there are."""
+    if not called_elsewhere(name, library) and (hint := hint_for(name)) is not None:
+        return f"no block is called {name}. {hint}"
     found = near(name, library)
     return f"no block is called {name}; " + (f"the nearest: {', '.join(found)}" if found else "--list has all")
 

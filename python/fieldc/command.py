@@ -4,10 +4,11 @@ from __future__ import annotations
 
 import argparse
 import importlib
+import signal
 import sys
 from collections.abc import Sequence
 from types import ModuleType
-from typing import TYPE_CHECKING
+from typing import TYPE_CHECKING, NoReturn
 
 from .json_results import faulted, refused
 from .program import bytes_of
@@ -48,6 +49,10 @@ fieldc COMMAND --help tells of a command. The variable FC names the program fc, 
 
 class Parser(argparse.ArgumentParser):
     """A parser whose help and refusals are written as all else is."""
+
+    def error(self, message: str) -> NoReturn:
+        """Refuses words in one line."""
+        self.exit(2, f"{self.prog}: {message}: {self.prog} --help\n")
 
     def _print_message(self, message: str, file: SupportsWrite[str] | None = None) -> None:
         if file is sys.stdout:
@@ -98,6 +103,8 @@ def main(words: Sequence[str] | None = None) -> int:
 
     Whatever is refused is told on standard error.
     """
+    if signal.getsignal(signal.SIGINT) == signal.SIG_DFL:
+        signal.signal(signal.SIGINT, signal.default_int_handler)
     ready()
     try:
         return performed(words)
@@ -105,6 +112,8 @@ def main(words: Sequence[str] | None = None) -> int:
         return fault.status
     except BrokenPipeError:
         return 6
+    except KeyboardInterrupt:
+        return 130
 
 
 def performed(words: Sequence[str] | None) -> int:

@@ -15,7 +15,8 @@ from . import program as fc
 from .asking import add_cut_check, tell
 from .blocks import Block, Declaration, Library, Token, declarations, not_there, tokens
 from .blocks import listing, own_library, read_library, shown
-from .refusals import Call, Explanation, Fault, Refusal, Section, explained, plain_explanation
+from .networks import read_scene
+from .refusals import Call, Explanation, Fault, Refusal, Section, explained, has_lark, plain_explanation
 from .sections import cut, read, write
 from .streams import say
 from .telling import place_of, quoted
@@ -149,10 +150,7 @@ def warnings(made: Composition, network: str, name: str) -> list[str]:
 
     Raises Fault where the network is no scene.
     """
-    try:
-        greatest = max(int(device["id"]) for device in json.loads(network)["devices"])
-    except (ValueError, KeyError, TypeError):
-        raise Fault(f"{name} is no scene: run fc on it, which says where it isn't", 3) from None
+    greatest = max(read_scene(network, name).devices)
     words = [token.text for token in tokens(made.text)]
     found = []
     ceilings = [int(number) for word, number in zip(words, words[1:]) if word == "ceiling" and number.isdigit()]
@@ -215,6 +213,20 @@ def own_explanation(made: Composition, refusal: Refusal, name: str) -> Explanati
         within = f"in the block {block.name} of library/{block.file}, to which this line leads: {what}"
         return replace(mine, what=within, line=own)
     return replace(mine, line=own, column=found.column)
+
+
+def outside_grammar(name: str, text: str) -> Explanation | None:
+    """What is wrong with a program that no grammar takes, where that is known."""
+    if not has_lark():
+        return None
+    from .language import reading
+
+    found = reading(text).fault
+    if found is None or not found.line.startswith(("lexical", "syntax")):
+        return None
+    section, at = Section("program", name, 1, text), found.at
+    line, column = (None, None) if at is None else (at.line, at.column)
+    return Explanation(found.what, section, line, column, found.name, found.hint, found.page)
 
 
 def told(explanation: Explanation) -> str:
@@ -294,7 +306,14 @@ def perform(options: argparse.Namespace) -> int:
         return 0
     (_, text), *others = cut(options.program, read(options.program))
     name = "standard input" if options.program == "-" else options.program
-    made = _composed_of(name, text, library)
+    try:
+        made = _composed_of(name, text, library)
+    except Fault:
+        wrong = outside_grammar(options.program, text)
+        if wrong is None:
+            raise
+        say(told(wrong))
+        return 3
     network, beside = (others[0][1], name) if others else (None, name)
     if options.network is not None:
         network, beside = read(options.network), options.network

@@ -3,6 +3,8 @@
 from __future__ import annotations
 
 import math
+import os
+import sys
 from collections.abc import Sequence
 from typing import Any
 
@@ -17,6 +19,8 @@ MOST_LABELS = 120
 
 def pyplot_ready() -> Any:
     """matplotlib's pyplot, which draws to files alone. Raises Fault where it isn't there."""
+    if "matplotlib" not in sys.modules:
+        os.environ["MPLBACKEND"] = "Agg"
     try:
         import matplotlib
     except ImportError:

@@ -99,7 +99,7 @@ class Verdict:
             )
             return f"what it hears may shrink from neighbour to neighbour, by {part}", hint
         if blame.case == "without":
-            hint = "Move it into the second argument of `minHoodLoc`."
+            hint = self._in_step(blame, heard) or "Move it into the second argument of `minHoodLoc`."
             return f"{part}, stands beside what it hears, and doesn't grow from neighbour to neighbour", hint
         if blame.case == "no-integer":
             hint = "Keep a pair whose first part is an integer that grows, as a hop count."
@@ -123,6 +123,16 @@ class Verdict:
             return f"of the pair {part}, it isn't known that it grows", hint
         why = f"of {part}, it isn't known that it grows from neighbour to neighbour"
         return why, f"Add to what is heard, as `{heard} + 1`."
+
+    def _in_step(self, blame: Blame, heard: str) -> str | None:
+        """How a value is chosen in place of what is heard, where that depends on the neighbour; else nothing."""
+        choice = next((node for node in self.nodes if node.name == "mux" and blame.part in node.kids[1:]), None)
+        if choice is None or not choice.expr.kids:
+            return None
+        condition, great = quoted(self.program.text, self.nodes[choice.kids[0]].expr), self.program.ceiling
+        steps = f"{great}, 1" if choice.kids[1] == blame.part else f"1, {great}"
+        chosen = f"`{heard} + mux({condition.strip('`')}, {steps})`"
+        return f"Choose the step in its place: {chosen}. With a step of {great} what is heard isn't passed on."
 
     def _growth_zero(self, blame: Blame) -> tuple[str, str]:
         why = f"what it hears, {self.part(blame.part)}, may stay as it is from neighbour to neighbour"

@@ -369,6 +369,6 @@ def table_of(name: str) -> Any:
     try:
         if lines[-1].startswith('{"format":2,'):
             return json.loads(lines[-1])
-    except (IndexError, ValueError):
+    except (IndexError, ValueError, RecursionError):
         pass
     raise Fault(f"{name} has no table: fc run --table and fc replay --table write one", 3)

@@ -9,7 +9,7 @@ import numbers
 import operator
 import random
 import re
-from collections.abc import Hashable, Iterable, Mapping, Sequence
+from collections.abc import Hashable, Iterable, Iterator, Mapping, Sequence
 from dataclasses import dataclass, field, replace
 from typing import Any, Union
 
@@ -283,35 +283,87 @@ def _links(
     )
 
 
-def read_scene(text: str, name: str = "the network") -> Network:
-    """The network of a scene. Raises Fault, of status 3, where the text isn't one; `fc` says where it isn't."""
-    try:
-        scene = json.loads(text)
-        inputs = {_whole(device["id"]): _scene_inputs(device) for device in scene["devices"]}
-        links = tuple((_whole(a), _whole(b), _whole(weight)) for a, b, weight in scene["links"])
-        pairs = {frozenset((a, b)) for a, b, _ in links}
-        known = {"devices", "links", "table", "pending"}.issuperset(scene)
-        right = len(inputs) == len(scene["devices"]) > 0 and len(pairs) == len(links) and known
-        if not right or any(len(pair) != 2 or not pair <= inputs.keys() for pair in pairs):
-            raise ValueError
-    except (ValueError, KeyError, TypeError, AttributeError):
-        raise Fault(f"{name} is no scene: fieldc check says where it isn't", 3) from None
+def read_scene(text: str, name: str = "the network", first_line: int = 1) -> Network:
+    """The network of a scene that begins on a line of its file.
+
+    Raises Fault, of status 3, with the place where the text isn't one.
+    """
+    scene = json_of(text, name, first_line)
+    wrong = next(_wrong_form(scene), None) or next(_wrong_devices(scene["devices"]), None)
+    wrong = wrong or next(_wrong_links(scene["links"], {device["id"] for device in scene["devices"]}), None)
+    if wrong is not None:
+        raise Fault(f"{name} is no scene: {wrong}", 3)
+    inputs = {device["id"]: dict(device["inputs"]) for device in scene["devices"]}
+    links = tuple((a, b, weight) for a, b, weight in scene["links"])
     state = {part: scene[part] for part in ("table", "pending") if part in scene}
     return Network({device: inputs[device] for device in sorted(inputs)}, links, state=state)
 
 
-def _whole(value: Any) -> int:
-    """A whole number of JSON that isn't negative. Raises ValueError for any other value."""
-    if type(value) is not int or value < 0:
-        raise ValueError
-    return value
+def json_of(text: str, name: str, first_line: int = 1) -> Any:
+    """The value of a text in JSON. Raises Fault, of status 3, with the place where it isn't one."""
+    try:
+        return json.loads(text)
+    except json.JSONDecodeError as error:
+        what = error.msg[:1].lower() + error.msg[1:]
+        place = f"line {error.lineno + first_line - 1}, column {error.colno}"
+        raise Fault(f"{name} is no scene: {place} is no JSON, {what}", 3) from None
+    except ValueError as error:
+        raise Fault(f"{name} is no scene: it is no JSON, {error}", 3) from None
+    except RecursionError:
+        raise Fault(f"{name} is no scene: objects and arrays are nested too deeply", 3) from None
 
 
-def _scene_inputs(device: Mapping[str, Any]) -> dict[str, Input]:
-    """The inputs of a device of a scene. Raises ValueError where they are none, or it has more members."""
-    if set(device) != {"id", "inputs"}:
-        raise ValueError
-    return {name: value if isinstance(value, bool) else _whole(value) for name, value in device["inputs"].items()}
+def is_whole(value: object) -> bool:
+    """Whether a value of JSON is a whole number that isn't negative."""
+    return type(value) is int and value >= 0
+
+
+def _wrong_form(scene: Any) -> Iterator[str]:
+    """What is wrong with the outermost members of a scene."""
+    if not isinstance(scene, dict) or not {"devices", "links"} <= set(scene):
+        yield 'a network is an object with the members "devices" and "links"'
+        return
+    for member in scene:
+        if member not in ("devices", "links", "table", "pending"):
+            yield f"/{member} is no member of a network: devices, links, table and pending are"
+    for member in ("devices", "links"):
+        if not isinstance(scene[member], list):
+            yield f"/{member} has to be a list"
+    if not scene["devices"]:
+        yield "/devices is empty, and a network has at least one"
+
+
+def _wrong_devices(devices: list[Any]) -> Iterator[str]:
+    """What is wrong with the devices of a scene."""
+    seen: set[int] = set()
+    for place, device in enumerate(devices):
+        where = f"/devices/{place}"
+        if not isinstance(device, dict) or set(device) != {"id", "inputs"} or not isinstance(device["inputs"], dict):
+            yield f'{where}: a device is {{"id": NUMBER, "inputs": {{..}}}}'
+            return
+        if not is_whole(device["id"]) or device["id"] in seen:
+            yield f"{where}/id: {json.dumps(device['id'])} is no number of a device, or stands there twice"
+            return
+        seen.add(device["id"])
+        for name, value in device["inputs"].items():
+            if not isinstance(value, bool) and not is_whole(value):
+                yield f"{where}/inputs/{name}: {json.dumps(value)[:40]} is neither true nor false nor a whole number"
+
+
+def _wrong_links(links: list[Any], devices: set[int]) -> Iterator[str]:
+    """What is wrong with the links of a scene."""
+    seen: set[frozenset[int]] = set()
+    for place, link in enumerate(links):
+        where = f"/links/{place}"
+        if not isinstance(link, list) or len(link) != 3 or not all(map(is_whole, link)):
+            yield f"{where}: a link is [DEVICE, DEVICE, WEIGHT]"
+            return
+        pair = frozenset(link[:2])
+        for device in sorted(pair - devices):
+            yield f"{where}: there is no device {device}"
+        if len(pair) < 2 or pair in seen:
+            yield f"{where}: {link[0]} and {link[1]} are one device, or linked twice"
+        seen.add(pair)
 
 
 def judged(network: Network, program: str) -> Network:

@@ -16,6 +16,12 @@ from .refusals import Call, Fault, Refusal, Section
 PACKAGE = Path(__file__).resolve().parent
 INSTALLED = ("libexec/fc/fc", "libexec/fc")
 TICK = 0.2
+REFUSING = {
+    2: ("usage:",),
+    3: ("sections", "lexical", "syntax", "types", "json", "shape", "network", "kept", "script", "log"),
+    4: ("limit",),
+}
+MAY_BE_NO = (("check",), ("stable",), ("trace",), ("mail",))
 
 
 @dataclass(frozen=True)
@@ -130,9 +136,25 @@ def ask(call: Call, waiting: Callable[[], None] | None = None) -> Reply:
 
 
 def answered(call: Call, waiting: Callable[[], None] | None = None) -> Reply:
-    """Runs `fc` on a call. Raises Refusal where its status is above 1, or it was killed."""
+    """Runs `fc` on a call. Raises Refusal where its status is above 1, or it was killed, and Fault where it can't have
+    been `fc` that wrote this."""
     reply = ask(call, waiting)
+    if not possible(call, reply):
+        wrote = f"it ended with status {reply.status} and wrote {reply.text[:60]!r}"
+        raise Fault(f"{find()} doesn't answer as fc does: {wrote}")
     if reply.status not in (0, 1):
-        line = reply.text.strip("\n") if reply.status in (2, 3, 4) else ""
+        line = reply.text.strip("\n") if reply.status in REFUSING else ""
         raise Refusal(reply.status, line.split(" ")[0].rstrip(":"), line, call)
     return reply
+
+
+def possible(call: Call, reply: Reply) -> bool:
+    """Whether `fc` may have written this, by its status and the first words."""
+    command, text = call.words[:1], reply.text
+    if reply.status in REFUSING:
+        return text.split(" ")[0].rstrip("\n") in REFUSING[reply.status] and text.count("\n") == 1
+    if command == ("format",) and reply.status == 0:
+        return text.endswith(";\n") and text[text.rfind("\n", 0, -1) + 1 :].startswith("main = ")
+    if reply.status == 1:
+        return command in MAY_BE_NO and text != ""
+    return reply.status != 0 or text != "" or command == ("replay",)

@@ -84,7 +84,7 @@ def described(call: Call) -> str:
 def _devices(network: str) -> str:
     try:
         return f"{len(json.loads(network)['devices']):,} devices"
-    except (ValueError, KeyError, TypeError):
+    except (ValueError, KeyError, TypeError, RecursionError):
         return ""
 
 

@@ -3,6 +3,7 @@
 from __future__ import annotations
 
 import os
+import signal
 from collections.abc import Callable, Mapping, Sequence
 from concurrent.futures import FIRST_COMPLETED, ProcessPoolExecutor, wait
 from dataclasses import dataclass
@@ -92,16 +93,20 @@ def curves(
     if not 1 <= rounds <= MOST_ROUNDS:
         raise Fault(f"{rounds} rounds, and 1 to {MOST_ROUNDS:,} are drawn: choose --rounds")
     scene, values = library.scene_of(network, program), dict(promise.values)
-    with ProcessPoolExecutor(min(len(numbers), os.cpu_count() or 1)) as pool:
+    processes = min(len(numbers), os.cpu_count() or 1)
+    with ProcessPoolExecutor(processes, initializer=signal.signal, initargs=(signal.SIGINT, signal.SIG_IGN)) as pool:
         asked = [pool.submit(curve, program, scene, values, number, rounds, workers, keep) for number in numbers]
         left = set(asked)
-        while left:
-            done, left = wait(left, timeout=0.2, return_when=FIRST_COMPLETED)
-            failed = [one for one in done if one.exception() is not None]
-            if failed:
-                pool.shutdown(cancel_futures=True)
-            if waiting is not None:
-                waiting(f", {len(asked) - len(left)} of {len(asked)} runs done")
+        try:
+            while left:
+                done, left = wait(left, timeout=0.2, return_when=FIRST_COMPLETED)
+                for one in done:
+                    one.result()
+                if waiting is not None:
+                    waiting(f", {len(asked) - len(left)} of {len(asked)} runs done")
+        except BaseException:
+            pool.shutdown(cancel_futures=True)
+            raise
         return [one.result() for one in asked]
 
 

@@ -5,7 +5,7 @@ from __future__ import annotations
 import difflib
 import re
 from collections.abc import Collection, Iterable
-from dataclasses import dataclass, field
+from dataclasses import dataclass, field, replace
 
 from .jsonplaces import Json, find
 from .language.grammar import WORDS
@@ -31,6 +31,7 @@ LINES = {
     "log": {"B": "B3", "E": "E3", "I": "I", **EDITS},
     "mail": {"B": "B3", "E": "E3", "I": "I", "deliver": "deliver A B", "again": "again A B", "lose": "lose A B I"},
 }
+BY_NUMBER = "Devices have their numbers here: the file of names beside the network, as net.names.csv, has them."
 TITLES = {"script": "a script", "log": "a log", "mail": "a mail log"}
 PAGES = {
     "script": "docs/formats.md#the-script",
@@ -142,6 +143,11 @@ def _number(word: Word, page: str) -> Said | None:
     return Said(f"A number of 1 to 7 digits is expected, and `{word.text}` is none.", word.at, word.text, None, page)
 
 
+def _device(word: Word, page: str) -> Said | None:
+    fault = _number(word, page)
+    return fault if fault is None or not word.text[:1].isalpha() else replace(fault, hint=BY_NUMBER)
+
+
 def _value(word: Word, page: str) -> Said | None:
     if is_value(word.text):
         return None
@@ -156,7 +162,9 @@ def _plain(words: tuple[Word, ...], kind: str) -> Said | None:
     form = LINES[kind][verb]
     if verb in ("B", "E"):
         form = words[0].text
-    fault = _count(words, form, page) or next((found for word in words[1:] if (found := _number(word, page))), None)
+    wanted = zip(words[1:], form.split(" ")[1:])
+    found = (_device(word, page) if named in ("A", "B", "D") else _number(word, page) for word, named in wanted)
+    fault = _count(words, form, page) or next(filter(None, found), None)
     if fault is None and verb == "run" and int(words[1].text) == 0:
         return Said("A `run` has at least one round.", words[1].at, "run", None, page)
     return fault
@@ -164,7 +172,7 @@ def _plain(words: tuple[Word, ...], kind: str) -> Said | None:
 
 def _set(words: tuple[Word, ...], kind: str) -> Said | None:
     page = PAGES[kind]
-    fault = _count(words, EDITS["set"], page) or _number(words[1], page)
+    fault = _count(words, EDITS["set"], page) or _device(words[1], page)
     if fault is None and (not NAME.fullmatch(words[2].text) or words[2].text in WORDS):
         return Said(
             f"`{words[2].text}` is no name of an input.", words[2].at, words[2].text, "Write `set 3 src true`.", page
@@ -180,14 +188,14 @@ def _poke(words: tuple[Word, ...], kind: str) -> Said | None:
     page = PAGES[kind]
     if len(words) < 3:
         return _count(words, "poke D V", page)
-    return _number(words[1], page) or _values(words[2:], page)
+    return _device(words[1], page) or _values(words[2:], page)
 
 
 def _join(words: tuple[Word, ...], kind: str) -> Said | None:
     page = PAGES[kind]
     if len(words) < 2:
         return _count(words, "join D", page)
-    fault = _number(words[1], page)
+    fault = _device(words[1], page)
     if fault is None and int(words[1].text) > MOST_ID:
         return Said("The number of a device is at most 65,535.", words[1].at, words[1].text, None, page)
     return fault or _values(words[2:], page)

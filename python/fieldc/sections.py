@@ -2,6 +2,7 @@
 
 from __future__ import annotations
 
+import codecs
 import sys
 from collections.abc import Sequence
 from pathlib import Path
@@ -25,14 +26,20 @@ PAGES = (".html",)
 
 
 def read(name: str) -> str:
-    """The text of a file, or of standard input for `-`. Raises Fault, of status 5, where it can't be read."""
+    """The text of a file, or of standard input for `-`.
+
+    Raises Fault, of status 5, where it can't be read, and of status 3 where it isn't a text.
+    """
+    called = "standard input" if name == "-" else name
     try:
-        if name == "-":
-            return text_of(sys.stdin.buffer.read())
-        return text_of(Path(name).read_bytes())
+        content = sys.stdin.buffer.read() if name == "-" else Path(name).read_bytes()
     except OSError as error:
-        called = "standard input" if name == "-" else name
         raise Fault(f"{called} can't be read: {error.strerror}", 5) from None
+    if content.startswith((codecs.BOM_UTF16_LE, codecs.BOM_UTF16_BE)):
+        raise Fault(f"{called} is in UTF-16: save it as UTF-8", 3)
+    if b"\0" in content:
+        raise Fault(f"{called} is a binary file and no text: byte {content.index(0):,} is zero", 3)
+    return text_of(content)
 
 
 def write(name: str, text: str) -> None:

@@ -18,7 +18,7 @@ if missing("lark"):
     raise unittest.SkipTest(missing("lark"))
 
 from fieldc.language import Unfolded, reading
-from fieldc.language.elsewhere import similar
+from fieldc.elsewhere import similar
 from fieldc.language.patterns import Patterns
 from fieldc.language.ranges import Ranges, text_of
 from fieldc.language.tree import At, quoted, within

@@ -7,6 +7,7 @@ import json
 import math
 from collections.abc import Callable, Sequence
 from dataclasses import replace
+from pathlib import Path
 
 from .. import files, streams
 from .. import networks as network
@@ -14,6 +15,7 @@ from ..networks import Network
 from ..refusals import Fault
 from ..sections import cut, read, writable, write
 
+MOST_CALLED = 5
 SUMMARY = "makes a network: a line, ring, grid, torus, devices in a square, or from positions, links or a graph"
 EPILOG = """\
 Example: fieldc network --grid 8x5 --set source=true@0 > grid.json
@@ -69,7 +71,7 @@ def setting(word: str) -> tuple[str, int | bool, list[str] | None]:
     text, at, listed = rest.partition("@")
     try:
         value = json.loads(text)
-    except ValueError:
+    except (ValueError, RecursionError):
         value = None
     if not name or not equals or not isinstance(value, int) or value < 0 or (at and not all(listed.split(","))):
         raise argparse.ArgumentTypeError(f"{word} isn't NAME=VALUE or NAME=VALUE@ID,ID.., with true, false or a number")
@@ -178,15 +180,17 @@ def shaped(options: argparse.Namespace, program: str | None) -> Network:
     inputs = options.inputs.split(",") if options.inputs is not None else None
     if options.scene:
         sections = cut(options.scene, read(options.scene))
-        return network.read_scene(sections[1 if len(sections) > 1 else 0][1], options.scene)
+        first, text = sections[1 if len(sections) > 1 else 0]
+        return with_names_beside(network.read_scene(text, options.scene, first), options.scene)
     if options.edges:
         return files.network(options.edges, program, inputs, options.round, options.undirected)
     if options.line is not None:
-        return network.line(options.line)
+        return network.line(at_most(options.line))
     if options.ring is not None:
-        return network.ring(options.ring)
+        return network.ring(at_most(options.ring))
     if options.grid or options.torus:
         width, height = options.grid or options.torus
+        at_most(width * height)
         return network.grid(width, height, closed=options.torus is not None)
     if options.range is None:
         raise Fault("--disk and --points need a --range")
@@ -197,6 +201,15 @@ def shaped(options: argparse.Namespace, program: str | None) -> Network:
         say(f"{options.points}: left out, as no inputs: {', '.join(points.left_out)}")
     at_most(len(points.positions))
     return replace(network.in_range(points.positions, options.range), names=points.names, inputs=points.inputs)
+
+
+def with_names_beside(found: Network, name: str) -> Network:
+    """A network with the names of its devices from the file beside its scene, where there is one."""
+    beside = files.beside(name, "names")
+    if name == "-" or not Path(beside).is_file():
+        return found
+    names = files.names_from(beside)
+    return replace(found, names={device: names[device] for device in found.devices if device in names})
 
 
 def at_most(count: int) -> int:
@@ -211,11 +224,13 @@ def placed(
 ) -> list[tuple[str, int | bool, list[int] | None]]:
     """Settings with the numbers of their devices, which the user may call by their names."""
     by_name = {found.called(device): device for device in found.devices}
+    called = f"{', '.join(list(by_name)[:MOST_CALLED])}{', ..' if len(by_name) > MOST_CALLED else ''}"
     numbers = []
     for name, value, listed in settings:
         for word in listed or ():
             if word not in by_name:
-                raise Fault(f"--set {name}={json.dumps(value)}@{','.join(listed or ())}: there is no device {word}")
+                where = f"--set {name}={json.dumps(value)}@{','.join(listed or ())}"
+                raise Fault(f"{where}: there is no device {word}; the devices are called {called}")
         numbers.append((name, value, None if listed is None else [by_name[word] for word in listed]))
     return numbers
 

@@ -72,7 +72,7 @@ def drawn(word: str) -> Setting:
         value = span(text) if ".." in text else json.loads(text)
         count = int(listed.removeprefix("random:")) if listed.startswith("random:") else None
         devices = count if count is not None else tuple(map(int, listed.split(","))) if at else None
-    except (ValueError, argparse.ArgumentTypeError):
+    except (ValueError, RecursionError, argparse.ArgumentTypeError):
         value, devices = None, None
     right = isinstance(value, (int, tuple)) and (isinstance(value, tuple) or value >= 0)
     if not name or not equals or not right or (isinstance(devices, int) and devices < 0):

@@ -7,8 +7,8 @@ from dataclasses import dataclass
 from typing import TYPE_CHECKING
 
 from ..blocks import called_elsewhere, own_library, read_library
+from ..elsewhere import hint_for, similar
 from ..refusals import Fault
-from .elsewhere import hint_for, similar
 from .grammar import WORDS
 from .tree import At, Declaration, Expr, Parameter, Type, quoted
 

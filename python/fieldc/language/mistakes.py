@@ -6,7 +6,7 @@ from collections.abc import Callable
 
 from lark import Token
 
-from .elsewhere import CHARACTERS, KEPT, KINDS, PARTS, hint_for
+from ..elsewhere import CHARACTERS, KEPT, KINDS, PARTS, hint_for
 from .faults import GRAMMAR, TOKENS, TWO, TYPES, Fault
 from .forms import in_brackets, in_choice, in_commas, in_keeping, in_let, in_operators, in_words
 from .grammar import MARKS, WORDS

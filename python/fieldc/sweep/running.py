@@ -5,7 +5,9 @@ from __future__ import annotations
 
 import logging
 import os
+import re
 import signal
+import socket
 import threading
 import time
 from collections import deque
@@ -156,6 +158,7 @@ def on_a_cluster(address: str) -> Iterator[Place]:
         import distributed
     except ImportError:
         raise Fault("--scheduler needs Dask (Debian: python3-distributed)") from None
+    reached(address)
     try:
         client = distributed.Client(address, timeout=PATIENCE, set_as_default=False)
     except (OSError, ValueError) as error:
@@ -170,6 +173,17 @@ def on_a_cluster(address: str) -> Iterator[Place]:
                 raise gone
 
         yield Place(client.get_executor(pure=False), WINDOW_OF_CLUSTER, check)
+
+
+def reached(address: str) -> None:
+    """Raises Fault where nobody answers at an address: Dask's own client would say it in many lines, and late."""
+    found = re.fullmatch(r"(?:(?:tcp|tls)://)?(\[[^]]+\]|[^:/]+):([0-9]+)", address)
+    if found is None:
+        raise Fault(f"{address} is no address of a scheduler: write HOST:PORT, as north:8786")
+    try:
+        socket.create_connection((found[1].strip("[]"), int(found[2])), PATIENCE).close()
+    except (OSError, OverflowError) as error:
+        raise Fault(f"the scheduler {address} can't be reached: {error}") from None
 
 
 @contextmanager
