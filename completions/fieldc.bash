@@ -22,6 +22,10 @@ _fieldc_words() {
     case "$command $before" in
         "check --names")
             return ;;
+        "check --format")
+            compopt +o bashdefault +o default 2>/dev/null
+            COMPREPLY=($(compgen -W "text gcc" -- "$current"))
+            return ;;
         "settle --names")
             return ;;
         "stable --names")
@@ -45,8 +49,12 @@ _fieldc_words() {
             return ;;
         "compose --network" | "compose -o" | "compose --output")
             return ;;
-        "compose --library" | "compose --show")
+        "compose --library")
             compopt +o bashdefault +o default 2>/dev/null
+            return ;;
+        "compose --show")
+            compopt +o bashdefault +o default 2>/dev/null
+            COMPREPLY=($(compgen -W "anywhere away broadcast channel collectAll collectAny collectMax collectMin collectSum colour countDown crowdWarning crowding density dispersal distance distanceAround distanceBetween distanceBy distanceSlow div eccentricity evacuate everywhere fadingMax forecast greatestAlong greatestOf64 heads hops hopsAround leader leaderPacked leastOf1024 leastOf64 majority mean nearest nearestByDistance nearestByHops nextHop onWay parent parentIn recently regionMean regionSum rest ruling rulingOf1024 size sparse sumAlong summariseMax summariseSum timer widest8" -- "$current"))
             return ;;
         "network --points" | "network --edges" | "network --scene" | "network -o" | "network --output" | "network --program" | "network --table" | "network --positions" | "network --names")
             return ;;
@@ -80,7 +88,7 @@ _fieldc_words() {
     esac
     case $command in
         "") words="check settle stable trace run replay mail gen format compose network picture rounds sweep firmware -h --help --version" ;;
-        check) files=yes words="--facts --settle --from-table --why --no-cut-check --json --names -h --help" ;;
+        check) files=yes words="--facts --settle --from-table --why --no-cut-check --format --json --names -h --help" ;;
         settle) files=yes words="--facts --from-table --why --no-cut-check --json --csv --names -h --help" ;;
         stable) files=yes words="--no-cut-check --json --csv --names -h --help" ;;
         trace) files=yes words="--no-cut-check --json --csv --names -h --help" ;;

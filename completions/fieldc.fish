@@ -25,6 +25,7 @@ complete -c fieldc -n '__fish_seen_subcommand_from check' -l settle -d 'adds aft
 complete -c fieldc -n '__fish_seen_subcommand_from check' -l from-table -d 'counts from the network\'s table and pending firings, as after an edit, in place of every start'
 complete -c fieldc -n '__fish_seen_subcommand_from check' -l why -d 'where it is open, looks for two starts that rest apart'
 complete -c fieldc -n '__fish_seen_subcommand_from check' -l no-cut-check -d 'doesn\'t ask fc once more, with a greater ceiling, whether values are cut'
+complete -c fieldc -n '__fish_seen_subcommand_from check' -l format -x -a 'text gcc' -d 'gcc: what is found as lines FILE:LINE:COLUMN: error: ..'
 complete -c fieldc -n '__fish_seen_subcommand_from check' -l json -d 'writes the answer, and a refusal, as JSON'
 complete -c fieldc -n '__fish_seen_subcommand_from check' -l names -r -F -d 'a file of lines id,name: devices are called by these names'
 complete -c fieldc -n '__fish_seen_subcommand_from check' -s h -l help -d 'tells of the command'
@@ -96,7 +97,7 @@ complete -c fieldc -n '__fish_seen_subcommand_from compose' -l no-cut-check -d '
 complete -c fieldc -n '__fish_seen_subcommand_from compose' -l unjudged -d 'doesn\'t ask fc whether it takes the composed program'
 complete -c fieldc -n '__fish_seen_subcommand_from compose' -s o -l output -r -F -d 'where the composed program goes; else to standard output'
 complete -c fieldc -n '__fish_seen_subcommand_from compose' -l list -d 'lists the blocks, a line each'
-complete -c fieldc -n '__fish_seen_subcommand_from compose' -l show -x -d 'shows one block'
+complete -c fieldc -n '__fish_seen_subcommand_from compose' -l show -x -a 'anywhere away broadcast channel collectAll collectAny collectMax collectMin collectSum colour countDown crowdWarning crowding density dispersal distance distanceAround distanceBetween distanceBy distanceSlow div eccentricity evacuate everywhere fadingMax forecast greatestAlong greatestOf64 heads hops hopsAround leader leaderPacked leastOf1024 leastOf64 majority mean nearest nearestByDistance nearestByHops nextHop onWay parent parentIn recently regionMean regionSum rest ruling rulingOf1024 size sparse sumAlong summariseMax summariseSum timer widest8' -d 'shows one block'
 complete -c fieldc -n '__fish_seen_subcommand_from compose' -s h -l help -d 'tells of the command'
 
 # network

@@ -1,3 +1,4 @@
-"""The version of this package, which the command, the packaging and the manual read from here."""
+"""The version of this package and its date, which the command, the packaging and the manual read from here."""
 
 VERSION = "1.0"
+DATE = "2026-11-30"

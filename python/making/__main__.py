@@ -9,14 +9,14 @@ from pathlib import Path
 TOP = Path(__file__).resolve().parent.parent.parent
 sys.path.insert(0, str(TOP / "python"))
 
-from fieldc.version import VERSION  # noqa: E402
+from fieldc.version import DATE, VERSION  # noqa: E402
 from making import bash, fish, lines, manual, zsh  # noqa: E402
 
 
 def made() -> dict[str, str]:
     """The text of each file that is made, by its path from the top of the repository."""
     fieldc, fc = lines.of_fieldc(), lines.of_fc()
-    files = {"man/fieldc.1": manual.page(fieldc, VERSION)}
+    files = {"man/fieldc.1": manual.page(fieldc, VERSION, DATE)}
     for line in (fc, fieldc):
         files[f"completions/{line.program}.bash"] = bash.completion(line)
         files[f"completions/{zsh.file_name(line)}"] = zsh.completion(line)

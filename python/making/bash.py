@@ -69,12 +69,12 @@ def values(command: Command) -> str:
     """What stands behind the options of a command that take a value."""
     text = ""
     for kind in (FILE, WORD):
-        plain = [option for option in command.options if option.takes == kind and not option.choices]
+        plain = [option for option in command.options if option.takes == kind and not option.offered]
         if plain:
             pattern = " | ".join(f'"{command.name} {name}"' for option in plain for name in option.names)
             text += f"        {pattern})\n{behind(kind)}            return ;;\n"
     for option in command.options:
-        if option.choices:
+        if option.offered:
             text += chosen(command, option)
     return text
 
@@ -87,7 +87,7 @@ def behind(kind: str) -> str:
 def chosen(command: Command, option: Option) -> str:
     """One of the words that an option takes."""
     pattern = " | ".join(f'"{command.name} {name}"' for name in option.names)
-    words = " ".join(option.choices)
+    words = " ".join(option.offered)
     return (
         f"        {pattern})\n            {NO_FILES}\n"
         f'            COMPREPLY=($(compgen -W "{words}" -- "$current"))\n            return ;;\n'

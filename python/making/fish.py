@@ -32,7 +32,7 @@ def option_words(option: Option) -> str:
     """An option as `complete` takes it."""
     parts = [f"-l {name[2:]}" if name.startswith("--") else f"-s {name[1:]}" for name in option.names]
     parts += ["-r -F" if option.takes == FILE else "-x"] if option.takes else []
-    parts += [f"-a {quoted(' '.join(option.choices))}"] if option.choices else []
+    parts += [f"-a {quoted(' '.join(option.offered))}"] if option.offered else []
     return " ".join([*parts, "-d", quoted(option.help)])
 
 

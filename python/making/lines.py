@@ -14,8 +14,8 @@ NOTHING = ""
 class Option:
     """An option, or a word that stands alone (then without names).
 
-    `takes` is FILE, WORD or NOTHING; `value` what the value is called; `instead` are the options that it can't stand
-    beside.
+    `takes` is FILE, WORD or NOTHING; `value` what the value is called, `choices` all that it can be, and `known` some
+    that a shell may offer; `instead` are the options that it can't stand beside.
     """
 
     names: tuple[str, ...]
@@ -23,9 +23,15 @@ class Option:
     takes: str = NOTHING
     value: str = ""
     choices: tuple[str, ...] = ()
+    known: tuple[str, ...] = ()
     required: bool = False
     repeated: bool = False
     instead: tuple[str, ...] = ()
+
+    @property
+    def offered(self) -> tuple[str, ...]:
+        """The values that a shell offers."""
+        return self.choices or self.known
 
     @property
     def shown(self) -> str:
@@ -89,16 +95,29 @@ def _option(parser: argparse.ArgumentParser, action: argparse.Action) -> Option:
         takes,
         value,
         tuple(map(str, action.choices or ())),
-        bool(action.required),
-        isinstance(action, argparse._AppendAction) or action.nargs in ("+", "*"),
+        required=bool(action.required),
+        repeated=isinstance(action, argparse._AppendAction) or action.nargs in ("+", "*"),
     )
 
 
 def of_fieldc() -> Line:
-    """The command line of `fieldc`."""
+    """The command line of `fieldc`, in which `compose --show` knows the blocks of the library."""
+    from fieldc.blocks import own_library, read_library
     from fieldc.command import parser
 
-    return of_parser(parser())
+    blocks = tuple(sorted(name for name, block in read_library([own_library()]).items() if not block.is_part))
+    line = of_parser(parser())
+    commands = [
+        replace(one, options=tuple(_with_known(option, blocks) for option in one.options))
+        if one.name == "compose"
+        else one
+        for one in line.commands
+    ]
+    return replace(line, commands=tuple(commands))
+
+
+def _with_known(option: Option, blocks: tuple[str, ...]) -> Option:
+    return replace(option, known=blocks) if "--show" in option.names else option
 
 
 def of_fc() -> Line:

@@ -3,6 +3,7 @@
 from __future__ import annotations
 
 import re
+import textwrap
 
 from .lines import Command, Line, Option
 
@@ -10,10 +11,10 @@ FIRST = '.\\" Made from the parser of fieldc by tools/pages: change the parser, 
 STATUSES = re.compile(r"statuses: (.*?)\.(?:\n|$)", re.S)
 
 
-def page(line: Line, version: str) -> str:
+def page(line: Line, version: str, date: str) -> str:
     """The whole page."""
     parts = [
-        FIRST + f'.TH {line.program.upper()} 1 "" "{line.program} {version}" "User Commands"\n.nh',
+        FIRST + f'.TH {line.program.upper()} 1 "{date}" "{line.program} {version}" "User Commands"\n.nh',
         section("NAME", f"{line.program} \\- a front for people over fc, the checker of the field calculus"),
         section("SYNOPSIS", "\n.br\n".join(synopsis(line, command) for command in line.commands)),
         section("DESCRIPTION", paragraphs(line.description), files_and_answers()),
@@ -23,7 +24,20 @@ def page(line: Line, version: str) -> str:
         section("ENVIRONMENT", tagged("FC", "the program fc that is asked, where it isn't the installed one.")),
         section("SEE ALSO", "\\fBfc\\fR(1)"),
     ]
-    return "\n".join(parts) + "\n"
+    return filled("\n".join(parts) + "\n")
+
+
+def filled(text: str) -> str:
+    """A page whose lines of text have at most 80 letters; lines of macros and of examples stay."""
+    lines, as_it_is = [], False
+    for line in text.splitlines():
+        as_it_is = line == ".nf" or (as_it_is and line != ".fi")
+        if as_it_is or line.startswith((".", "'")):
+            lines.append(line)
+        else:
+            cut = textwrap.wrap(line, 80, break_long_words=False, break_on_hyphens=False)
+            lines += ["\\&" + part if part.startswith((".", "'")) else part for part in cut]
+    return "".join(line + "\n" for line in lines)
 
 
 def plain(text: str) -> str:

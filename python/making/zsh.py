@@ -60,7 +60,7 @@ def spec(option: Option) -> str:
 
 def action(option: Option) -> str:
     """What completes the value of an option."""
-    return f"({' '.join(option.choices)})" if option.choices else "_files" if option.takes == FILE else " "
+    return f"({' '.join(option.offered)})" if option.offered else "_files" if option.takes == FILE else " "
 
 
 def escaped(text: str) -> str:

@@ -4,6 +4,7 @@ from __future__ import annotations
 
 import os
 import pty
+import re
 import select
 import shutil
 import subprocess
@@ -53,6 +54,18 @@ class Written(unittest.TestCase):
                 self.assertIn(f" -a {one.name} -d ", text)
 
 
+class Blocks(unittest.TestCase):
+    def test_each_shell_offers_the_blocks(self) -> None:
+        files = (TOP / "library").glob("*.fc")
+        named = {name for file in files for name in re.findall(r"^def ([a-z]\w*)\(", file.read_text(), re.MULTILINE)}
+        compose = next(one for one in lines.of_fieldc().commands if one.name == "compose")
+        offered = next(option.offered for option in compose.options if "--show" in option.names)
+        self.assertGreater(len(offered), 50)
+        self.assertLess(set(offered), named)
+        for file in ("fieldc.bash", "fieldc.fish", "_fieldc"):
+            self.assertIn(" ".join(offered), (FOLDER / file).read_text(), file)
+
+
 @needs_shell("bash")
 class Bash(InFolder):
     def words(self, program: str, *typed: str, called: str | None = None) -> list[str]:
@@ -92,6 +105,7 @@ class Bash(InFolder):
         every = "stable settle from-table trace run replay mail".split()
         self.assertEqual(self.words("fieldc", "picture", "--of", "="), every)
         self.assertEqual(self.words("fieldc", "run", "--workers", ""), [])
+        self.assertEqual(self.words("fieldc", "compose", "--show", "hopsA"), ["hopsAround"])
         self.assertEqual(self.words("fieldc", "run", "--names", ""), [])
         self.assertEqual(self.words("fieldc", "check", ""), [])
         self.assertEqual(self.words("fc", "check", "<", ""), [])

@@ -80,7 +80,7 @@ class Positions(InFolder):
             "line 3: src is 'so', and has to be true or false": "id,x,y,src,load\n0,1,2,true,1\n1,1,2,so,1\n",
             "line 2: src is '2', and has to be true or false": "id,x,y,src,load\n0,1,2,2,1\n",
             "line 2: load is 10, and has to be a whole number from 0 to 9": "id,x,y,src,load\n0,1,2,true,10\n",
-            "load is 2.5, and an input is a whole number: --scale load=10 takes 25": "id,x,y,src,load\n0,1,2,true,2.5\n",
+            "load is 2.5, and .*: --scale load=10 takes 25": "id,x,y,src,load\n0,1,2,true,2.5\n",
             "line 2: load is True": "id,x,y,load\n0,1,2,true\n",
         }
         for said, text in wrong.items():

@@ -80,6 +80,12 @@ class Shown(unittest.TestCase):
                 self.assertRegex(part, rf"(?m)^ +(.*, )?{name}( |,|$)", command.name)
         self.assertEqual(re.findall(r"(?m)^ +(\d) ", parts["EXIT STATUS"]), list("01234567"))
 
+    @unittest.skipIf(shutil.which("mandoc") is None, "mandoc isn't there (Debian: mandoc)")
+    def test_nothing_is_found_by_mandoc(self) -> None:
+        for name in ("fc.1", "fieldc.1"):
+            done = subprocess.run(["mandoc", "-Tlint", PAGES / name], capture_output=True, text=True, check=False)
+            self.assertEqual((done.returncode, done.stdout), (0, ""), name)
+
     def test_lines_that_join_sections(self) -> None:
         self.assertIn("joined by lines %% in one", re.sub(r"\s+", " ", shown("fieldc.1")))
 

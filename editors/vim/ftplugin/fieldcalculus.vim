@@ -5,4 +5,5 @@ endif
 let b:did_ftplugin = 1
 
 setlocal comments=:// commentstring=//\ %s
-let b:undo_ftplugin = 'setlocal comments< commentstring<'
+compiler fieldc
+let b:undo_ftplugin = 'setlocal comments< commentstring< makeprg< errorformat<'

@@ -6,6 +6,7 @@ import argparse
 
 from .. import results
 from ..asking import add_answers, add_cut_check, add_files, ask
+from ..diagnostics import diagnosed
 from ..refusals import Fault
 from .settle import settle_arguments, why_open
 
@@ -19,6 +20,12 @@ def arguments(parser: argparse.ArgumentParser) -> None:
     parser.add_argument("--settle", action="store_true", help="adds after how many rounds each device holds its value")
     settle_arguments(parser)
     add_cut_check(parser)
+    parser.add_argument(
+        "--format",
+        choices=("text", "gcc"),
+        default="text",
+        help="gcc: what is found as lines FILE:LINE:COLUMN: error: ..",
+    )
     add_answers(parser)
 
 
@@ -26,6 +33,10 @@ def perform(options: argparse.Namespace) -> int:
     if not options.settle and (options.from_table or options.why):
         raise Fault("--from-table and --why stand beside --settle only")
     words = ["check"] + ["--facts"] * options.facts
+    if options.format == "gcc":
+        if options.settle or options.facts or options.json or options.names:
+            raise Fault("--format=gcc stands alone: an editor wants what is wrong, and no answer")
+        return diagnosed(options.files, words)
     if not options.settle:
         return ask(options, words, KINDS, lambda text, _: results.checked(text))[2]
     words += ["--settle"] + ["--from-table"] * options.from_table
