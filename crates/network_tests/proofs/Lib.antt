@@ -1,1 +1,1 @@
-mod PairProgram
+mod Five
