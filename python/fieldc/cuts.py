@@ -16,9 +16,9 @@ from . import results
 from .blocks import Token, tokens
 from .edits import moments
 from .networks import GREATEST_NUMBER, declared, read_scene
-from .places import listed
 from .refusals import Call, Explanation, Fault, Refusal, Section
 from .results import Value, Values, by_number, word_of
+from .telling import listed
 
 SECONDS, TIMES = 10.0, 5.0
 MOST_PAIRS, MOST_CALLED = 3, 8

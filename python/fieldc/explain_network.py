@@ -7,7 +7,8 @@ import re
 from .jsonplaces import Json, JsonFault, find, parent
 from .kept_lists import kept_fault
 from .language import At, Unfolded
-from .places import NETWORK, Said, counted, listed
+from .places import NETWORK, Said
+from .telling import counted, listed
 
 SCENE = "docs/formats.md#the-network-a-scene-in-json"
 MOST_DEVICES = 1024

@@ -9,9 +9,10 @@ from .jsonplaces import Json, read
 from .kept_lists import fits, misfit, missing, too_many, walk
 from .language import Unfolded
 from .language.tree import Declaration
-from .places import Said, counted
+from .places import Said
 from .refusals import Section
 from .scripts import PAGES, Line, Net, Word, after, form_fault, lines_of, start_of
+from .telling import counted
 
 MOST_LINES = 4096
 MOST_SCRAMBLES = 4

@@ -6,7 +6,8 @@ import difflib
 import re
 from collections.abc import Iterable
 
-from .places import COMMANDS, FORMATS, Said, counted
+from .places import COMMANDS, FORMATS, Said
+from .telling import counted
 
 CALLS = COMMANDS + "#the-calls"
 FLAGS = {

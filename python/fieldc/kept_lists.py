@@ -7,7 +7,8 @@ from collections.abc import Iterator
 from .jsonplaces import Json
 from .language import Node, Unfolded
 from .language.tree import Local, Pair, local_text, quoted
-from .places import Said, counted
+from .places import Said
+from .telling import counted
 
 PAGE = "docs/formats.md#the-network-a-scene-in-json"
 ANEW = "A table is of one program: make it anew by `--table`."

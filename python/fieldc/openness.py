@@ -19,12 +19,12 @@ from typing import Any
 from . import program as fc
 from . import results
 from .language import Unfolded, reading
-from .places import counted, listed
 from .progress import Progress
 from .refusals import Call, Fault, Refusal, Section
 from .results import Values, word_of
 from .sections import write
 from .streams import say
+from .telling import counted, listed
 
 MOST_BYTES = 1_000_000
 MOST_FIRINGS = 100_000

@@ -1,4 +1,4 @@
-"""What the explanations share: places in the user's files, and small pieces of sentences."""
+"""What the explanations share: what is said, and places in the user's files."""
 
 from __future__ import annotations
 
@@ -63,13 +63,3 @@ def scene_of(call: Call) -> Json | JsonFault | None:
         return read(section.text, section.first_line)
     except JsonFault as fault:
         return fault
-
-
-def counted(count: int, thing: str) -> str:
-    """A number and what is counted, in one form of its two."""
-    return f"{count:,} {thing}{'' if count == 1 else 's'}"
-
-
-def listed(words: list[str], last: str = "and") -> str:
-    """Words with commas between, and a word before the last."""
-    return words[0] if len(words) == 1 else f"{', '.join(words[:-1])} {last} {words[-1]}"

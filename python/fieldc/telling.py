@@ -55,3 +55,13 @@ def quoted(explanation: Explanation) -> list[str]:
     lead, tail = ".." if front else "", ".." if front + WIDEST < len(row) else ""
     under = "".join("\t" if mark == "\t" else " " for mark in lead + row[front : column - 1])
     return [lead + shown + tail, under + "^"]
+
+
+def counted(count: int, thing: str) -> str:
+    """A number and what is counted, in one form of its two."""
+    return f"{count:,} {thing}{'' if count == 1 else 's'}"
+
+
+def listed(words: list[str], last: str = "and") -> str:
+    """Words with commas between, and a word before the last."""
+    return words[0] if len(words) == 1 else f"{', '.join(words[:-1])} {last} {words[-1]}"
