@@ -3,7 +3,7 @@
 from __future__ import annotations
 
 from collections.abc import Iterable, Sequence
-from dataclasses import dataclass
+from dataclasses import dataclass, replace
 
 from .results import Value, word_of
 
@@ -11,6 +11,11 @@ GREY, WHITE, FALSE, TRUE, APART, LAST, MARK, LINK = (
     "#c9c9c9", "#ffffff", "#d9d9d9", "#1b7837", "#f29ac0", "#d6381e", "#111111", "#b5b5b5",
 )  # fmt: skip
 MOST_APART = 4
+OUTLINES = (
+    ("o", MARK, 1.0), ("s", "#0072b2", 1.7), ("D", "#e69f00", 2.1), ("^", "#009e73", 4.6), ("h", "#cc79a7", 2.8),
+)  # fmt: skip
+"""Of each mark the shape of its outline, its colour, told apart by colour-blind people too, and its area in circles."""
+
 MAP = "viridis_r"
 
 
@@ -35,6 +40,7 @@ class Scale:
     """The colours of one part of the values: numbers from `low` to `high`, or truth values.
 
     `apart` is a number outside of the scale with a colour of its own: the ceiling, or one that is far above all others.
+    `clipped` says that there are numbers beyond its ends, which have the colours of these.
     """
 
     label: str
@@ -43,6 +49,7 @@ class Scale:
     apart: int | None
     truths: bool
     resting: str
+    clipped: bool = False
 
     def colour(self, part: int | bool) -> str:
         """The colour of a number or truth value, as `#rrggbb`."""
@@ -56,7 +63,8 @@ class Scale:
             return GREY
         if self.low is None or self.high is None:
             return WHITE
-        return str(colors.to_hex(colormaps[MAP]((part - self.low) / max(self.high - self.low, 1))))
+        place = (part - self.low) / max(self.high - self.low, 1)
+        return str(colors.to_hex(colormaps[MAP](min(max(place, 0.0), 1.0))))
 
 
 def parts_of(value: Value) -> tuple[int | bool, ...]:
@@ -66,12 +74,33 @@ def parts_of(value: Value) -> tuple[int | bool, ...]:
     return (value,)
 
 
-def scales_of(values: Iterable[Value | None], meaning: Meaning) -> tuple[Scale, ...]:
-    """A scale for each part of the values, so that one colour is one number in all of them."""
-    columns = list(zip(*(parts_of(value) for value in values if value is not None)))
+def scales_of(
+    values: Iterable[Value | None], meaning: Meaning, settled: Iterable[Value | None] | None = None
+) -> tuple[Scale, ...]:
+    """A scale for each part of the values, so that one colour is one number in all of them.
+
+    With `settled` the scale is that of these values alone, and what lies beyond it has the colour of its end.
+    """
+    columns = _columns(values)
     labels = [f"{meaning.scale}, part {place}" for place in range(1, len(columns) + 1)]
     labels = labels if len(columns) > 1 else [meaning.scale]
-    return tuple(_scale(label, column, meaning) for label, column in zip(labels, columns))
+    whole = tuple(_scale(label, column, meaning) for label, column in zip(labels, columns))
+    return whole if settled is None else tuple(map(_clipped, whole, _columns(settled)))
+
+
+def _columns(values: Iterable[Value | None]) -> list[tuple[int | bool, ...]]:
+    """The parts of some values, by their places."""
+    return list(zip(*(parts_of(value) for value in values if value is not None)))
+
+
+def _clipped(scale: Scale, column: Sequence[int | bool]) -> Scale:
+    """A scale from the least to the greatest number of a column."""
+    rests = {part for part in column if scale.resting and part == 0}
+    inside = [part for part in column if not isinstance(part, bool) and part != scale.apart and part not in rests]
+    if not inside:
+        return scale
+    low, high = min(inside), max(inside)
+    return replace(scale, low=low, high=high, clipped=(low, high) != (scale.low, scale.high))
 
 
 def _scale(label: str, column: Sequence[int | bool], meaning: Meaning) -> Scale:

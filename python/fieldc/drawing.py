@@ -8,7 +8,7 @@ import sys
 from collections.abc import Sequence
 from typing import Any
 
-from .colours import LAST, LINK, MAP, MARK, Scale, colours_of, entries, is_dark, label_of, scales_of
+from .colours import LAST, LINK, MAP, OUTLINES, Scale, colours_of, entries, is_dark, label_of, scales_of
 from .picture import Frame, Picture
 from .refusals import Fault
 
@@ -90,7 +90,8 @@ def area(count: int) -> float:
 
 def _devices(axes: Any, picture: Picture, frame: Frame, scales: Sequence[Scale]) -> None:
     """A circle for each device; of pairs, a sector for each part, the first at the upper left."""
-    devices, marked = frame.network.devices, picture.marked(frame)
+    marked = picture.marked(frame)
+    devices = sorted(frame.network.devices, key=marked.__contains__)
     xs, ys = zip(*(picture.places[device] for device in devices))
     size = area(len(devices))
     colours = {device: colours_of(frame.values.get(device), scales, picture.meaning) for device in devices}
@@ -105,9 +106,14 @@ def _devices(axes: Any, picture: Picture, frame: Frame, scales: Sequence[Scale])
         places = list(zip(*(picture.places[device] for device in parted)))
         shades = [colours[device][place] for device in parted]
         axes.scatter(*places, s=size * reach**2, c=shades, marker=corners, linewidths=0, zorder=2)
-    edges = [LAST if d in picture.last else MARK if d in marked else BORDER for d in devices]
-    widths = [2.5 if d in picture.last or d in marked else 0.5 for d in devices]
+    edges = [LAST if d in picture.last else BORDER for d in devices]
+    widths = [2.5 if d in picture.last else 0.5 for d in devices]
     axes.scatter(xs, ys, s=size, facecolors="none", edgecolors=edges, linewidths=widths, zorder=3)
+    for found, (shape, colour, wide) in zip(picture.marked_by(frame), OUTLINES):
+        places = [picture.places[device] for device in sorted(found - (set(picture.last) if shape == "o" else set()))]
+        if places:
+            look = {"marker": shape, "facecolors": "none", "edgecolors": colour, "linewidths": 2.5, "zorder": 6}
+            axes.scatter(*zip(*places), s=size * wide, **look)
 
 
 def sector(place: int, count: int) -> list[tuple[float, float]]:
@@ -159,8 +165,8 @@ def _legend(axes: Any, picture: Picture, frame: Frame, scales: Sequence[Scale]) 
     some_none = any(frame.values.get(device) is None for device in frame.network.devices)
     shown = some_none and bool(frame.values) and not picture.last
     handles = [dot(colour, label) for colour, label in entries(scales, shown, picture.meaning)]
-    if picture.marks:
-        handles.append(dot("white", " and ".join(picture.marks), MARK))
+    for name, (shape, colour, _) in zip(picture.marks, OUTLINES):
+        handles.append(Line2D([], [], marker=shape, ls="", color="white", mec=colour, mew=2, ms=9, label=name))
     if picture.last:
         handles.append(dot("white", picture.said.partition("; ")[0], LAST))
     if frame.walks:

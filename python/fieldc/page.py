@@ -9,10 +9,19 @@ import math
 from collections.abc import Sequence
 from typing import Any
 
-from .colours import Scale, colours_of, entries, is_dark, label_of, scales_of
+from .colours import OUTLINES, Scale, colours_of, entries, is_dark, label_of, scales_of
 from .drawing import sector, walked
 from .picture import Picture, everywhere
 from .results import Value
+
+SIGNS = "\u25a1\u25c7\u25b3\u2b21"
+CORNERS = (
+    ((-1.15, -1.15), (1.15, -1.15), (1.15, 1.15), (-1.15, 1.15)),
+    ((0.0, -1.8), (1.8, 0.0), (0.0, 1.8), (-1.8, 0.0)),
+    ((0.0, -2.3), (2.0, 1.2), (-2.0, 1.2)),
+    ((0.0, -1.6), (1.4, -0.8), (1.4, 0.8), (0.0, 1.6), (-1.4, 0.8), (-1.4, -0.8)),
+)
+"""The corners of the outlines of the second mark and those behind it, around a circle of radius 1."""
 
 PAGE = """<!doctype html>
 <html lang="en"><meta charset="utf-8"><title>{title}</title>
@@ -23,6 +32,7 @@ PAGE = """<!doctype html>
  line {{ stroke: #b5b5b5 }} line.walk {{ stroke: #d6381e; stroke-width: 3 }}
  circle {{ stroke: #555; fill: none }} .marked circle {{ stroke: #111; stroke-width: 3 }}
  .last circle {{ stroke: #d6381e; stroke-width: 3 }}
+ path.mark {{ display: none; fill: none; stroke-width: 3 }} path.mark.shown {{ display: inline }}
  text {{ text-anchor: middle; stroke-width: 0; dominant-baseline: central; pointer-events: none }}
  .mixed text.value {{ paint-order: stroke; stroke-width: 1.5px }}
  text.number {{ text-anchor: start; fill: #404040; visibility: hidden }}
@@ -56,7 +66,8 @@ PAGE = """<!doctype html>
    node.classList.toggle("away", !look);
    if (!look) return;
    node.classList.toggle("marked", marked.has(place));
-   node.querySelectorAll("path").forEach((part, at) => part.setAttribute("fill", look[1][at % look[1].length]));
+   const parts = node.querySelectorAll("path:not(.mark)");
+   parts.forEach((part, at) => part.setAttribute("fill", look[1][at % look[1].length]));
    const text = node.querySelector("text.value");
    text.setAttribute("fill", look[2]);
    text.setAttribute("stroke", look[2] === "#ffffff" ? "#000000" : "#ffffff");
@@ -65,6 +76,14 @@ PAGE = """<!doctype html>
    text.textContent = look[0];
   }});
   links.forEach((line, place) => line.classList.toggle("away", away.has(place)));
+  show.marks.forEach((list, mark) => {{
+   const there = new Set(list);
+   devices.forEach((node, place) => {{
+    node.querySelectorAll(".mark" + (mark + 1)).forEach(one => one.classList.toggle("shown", there.has(place)));
+    if (there.has(place)) marked.add(place);
+   }});
+  }});
+  marked.forEach(place => drawn.append(devices[place]));
  }}
  function stop() {{
   clearInterval(playing);
@@ -94,7 +113,9 @@ PAGE = """<!doctype html>
 
 def page(picture: Picture) -> str:
     """The page of a picture's frames, as a text of HTML that needs nothing beside it."""
-    scales = scales_of({value for frame in picture.frames for value in frame.values.values()}, picture.meaning)
+    values = {value for frame in picture.frames for value in frame.values.values()}
+    settled = {value for frame in picture.frames if frame.settled for value in frame.values.values()}
+    scales = scales_of(values, picture.meaning, settled or None)
     drawn, radius = _network(picture, max(len(scales), 1))
     looks, gone, shows = _shows(picture, scales)
     return PAGE.format(
@@ -135,18 +156,30 @@ def _network(picture: Picture, sectors: int) -> tuple[str, float]:
         parts.append(f'<line{walk} x1="{x1:.1f}" y1="{y1:.1f}" x2="{x2:.1f}" y2="{y2:.1f}"/>')
     names = {device: frame.network.called(device) for frame in picture.frames for device in frame.network.devices}
     paths = [_path(sector(place, sectors), radius) if sectors > 1 else _disk(radius) for place in range(sectors)]
+    outlines = _outlines(picture, radius)
     for device in devices:
         x, y = at[device]
         last = " last" if device in picture.last else ""
         parts.append(
             f'<g class="device{last}" data-id="{device}" transform="translate({x:.1f},{y:.1f})">'
             f"<title>device {html.escape(names[device])}</title>{''.join(paths)}"
-            f'<circle r="{radius:.1f}"/><text class="value"></text>'
+            f'<circle r="{radius:.1f}"/>{outlines.get(device, "")}<text class="value"></text>'
             f'<text class="number" x="{radius * 0.8:.1f}" y="{-radius * 0.9:.1f}" '
             f'font-size="{max(radius * 0.6, 5):.1f}">'
             f"{html.escape(names[device])}</text></g>"
         )
     return "\n".join([*parts, "</svg>"]), radius
+
+
+def _outlines(picture: Picture, radius: float) -> dict[int, str]:
+    """By device the outlines of the second mark and those behind it, which the script shows and hides."""
+    found: dict[int, str] = {}
+    for mark, corners in enumerate(CORNERS[: max(len(picture.marks) - 1, 0)], 1):
+        line = " ".join(f"{x * radius:.1f},{y * radius:.1f}" for x, y in corners)
+        path = f'<path class="mark mark{mark}" stroke="{OUTLINES[mark][1]}" d="M{line} Z"/>'
+        for device in set().union(*(picture.marked_by(frame)[mark] for frame in picture.frames)):
+            found[device] = found.get(device, "") + path
+    return found
 
 
 def _path(corners: Sequence[tuple[float, float]], radius: float) -> str:
@@ -184,8 +217,9 @@ def _shows(picture: Picture, scales: Sequence[Scale]) -> tuple[list[list[Any]], 
             row[place[device]] = numbers[text]
         there = {(min(a, b), max(a, b)) for a, b, _ in frame.network.links}
         away = tuple(number for number, link in enumerate(links) if link not in there)
-        marked = sorted(place[device] for device in picture.marked(frame))
-        shows.append({"title": frame.title, "devices": row, "marked": marked, "away": gone.setdefault(away, len(gone))})
+        first, *others = [sorted(place[device] for device in found) for found in picture.marked_by(frame)] or [[]]
+        which = gone.setdefault(away, len(gone))
+        shows.append({"title": frame.title, "devices": row, "marked": first, "marks": others, "away": which})
     return list(looks.values()), [list(away) for away in gone], shows
 
 
@@ -210,6 +244,10 @@ def _legend(picture: Picture, scales: Sequence[Scale]) -> str:
             rows.append(" ".join([label, *(swatch(scale.colour(number), f"{number:,}") for number in sorted(steps))]))
     none = any(v is None for frame in picture.frames for v in frame.values.values())
     more = [swatch(colour, label) for colour, label in entries(scales, none, picture.meaning)]
-    more += [html.escape("thick border: " + " and ".join(picture.marks))] if picture.marks else []
+    more += [f"thick border: {html.escape(picture.marks[0])}"] if picture.marks else []
+    for name, (_, colour, _), sign in zip(picture.marks[1:], OUTLINES[1:], SIGNS):
+        more.append(f'<span style="color:{colour}">{sign}</span> {html.escape(name)}')
+    clipped = any(scale.clipped for scale in scales)
+    more += ["beyond the settled values: the colour of the nearest one"] if clipped else []
     more += [html.escape("red border: " + picture.said.partition("; ")[0])] if picture.last else []
     return "<br>".join(filter(None, [*rows, " ".join(more)]))

@@ -6,7 +6,7 @@ from collections.abc import Mapping, Sequence
 from dataclasses import dataclass, field, replace
 
 from . import results
-from .colours import WHITE, Meaning
+from .colours import OUTLINES, WHITE, Meaning
 from .edits import Moment, moments
 from .layout import laid_out
 from .networks import Network, Position, declared
@@ -25,6 +25,7 @@ class Frame:
     network: Network
     values: Values
     walks: Mapping[int, tuple[int, ...]] = field(default_factory=dict)
+    settled: bool = False
 
 
 @dataclass(frozen=True)
@@ -45,9 +46,13 @@ class Picture:
     said: str = ""
     numbers: bool = False
 
+    def marked_by(self, frame: Frame) -> list[set[int]]:
+        """For each of the marks the devices of a frame for which it is true then."""
+        return [{d for d, own in frame.network.inputs.items() if own.get(name) is True} for name in self.marks]
+
     def marked(self, frame: Frame) -> set[int]:
         """The devices of a frame for which one of the marks is true then."""
-        return {d for d, own in frame.network.inputs.items() if any(own.get(name) is True for name in self.marks)}
+        return set().union(*self.marked_by(frame))
 
     def one(self, place: int) -> Picture:
         """The picture of one frame alone."""
@@ -86,7 +91,14 @@ def _run(network: Network, run: results.Ran, lines: str | None, inputs: tuple[st
     missing = [show.line for show in run.shows if show.line not in by_line]
     if missing or len(by_line) != len(run.shows):
         raise Fault(f"these shows aren't of this script: line {missing[0] if missing else max(by_line)}", 3)
-    return tuple(Frame(when(by_line[show.line]), by_line[show.line].network, show.values) for show in run.shows)
+    return tuple(_shown(run, place, by_line[show.line]) for place, show in enumerate(run.shows))
+
+
+def _shown(run: results.Ran, place: int, moment: Moment) -> Frame:
+    """The frame of a show; it has settled where as many rounds have run as the verdict of then says."""
+    verdict = [run.verdict, *(found for before, found in run.verdicts if before <= place)][-1]
+    settled = verdict.rounds is not None and moment.rounds is not None and moment.rounds >= verdict.rounds
+    return Frame(when(moment), moment.network, run.shows[place].values, settled=settled)
 
 
 def when(moment: Moment) -> str:
@@ -173,7 +185,9 @@ def at_places(picture: Picture, positions: Mapping[int, Position] | None) -> Pic
 
 
 def check_marks(picture: Picture, marks: Sequence[str]) -> Picture:
-    """The picture with marks. Raises Fault where no device has such an input."""
+    """The picture with marks. Raises Fault where no device has such an input, or there are more than are told apart."""
+    if len(marks) > len(OUTLINES):
+        raise Fault(f"--mark: {len(marks)} are given, and at most {len(OUTLINES)} are told apart")
     for name in marks:
         if not any(name in own for frame in picture.frames for own in frame.network.inputs.values()):
             raise Fault(f"--mark {name}: no device has this input")

@@ -14,11 +14,11 @@ import unittest
 from collections.abc import Callable
 from pathlib import Path
 
-from helping import EXAMPLES, Done, browser, expected, fieldc, needs, needs_browser, sections_of
+from helping import EXAMPLES, HOPS, LINE, Done, browser, expected, fieldc, needs, needs_browser, sections_of
 from test_files import InFolder
 
 from fieldc import Fault, layout, networks as network, read_scene
-from fieldc.colours import APART, GREY, TRUE, WHITE, Meaning, colours_of, entries, scales_of
+from fieldc.colours import APART, GREY, OUTLINES, TRUE, WHITE, Meaning, colours_of, entries, scales_of
 from fieldc.picture import at_places, check_marks, gathered, latest
 
 FIELD = EXAMPLES / "sensor_field.txt"
@@ -243,6 +243,46 @@ class Command(InFolder):
         last = expected("crowd_run").split("@10\n")[-1] if "@10\n" in expected("crowd_run") else expected("crowd_run")
         self.assertEqual(written, [line.split(" ")[1] for line in last.splitlines()[-36:]])
         self.assertNotIn("@", "".join(show["title"] for show in shows))
+
+    def test_several_marks_are_told_apart(self) -> None:
+        words = ["b=true@0,1", "a=true@1,2", "c=true@2"]
+        net = network.with_inputs(network.line(4), [(w[0], True, [int(d) for d in w[7:].split(",")]) for w in words])
+        self.file(net.scene(), "net.json")
+        marks = [word for name in "bac" for word in ("--mark", name)]
+        self.assertEqual(self.picture("net.json", *marks, "-o", "net.html").status, 0)
+        page = (self.folder / "net.html").read_text()
+        (show,) = json.loads(re.search(r"const shows = (.*);", page)[1])
+        self.assertEqual((show["marked"], show["marks"]), ([0, 1], [[1, 2], [2]]))
+        drawn = {int(d): re.findall(r"mark mark(\d)", row) for d, row in re.findall(r'data-id="(\d)"(.*)', page)}
+        self.assertEqual(drawn, {0: [], 1: ["1"], 2: ["1", "2"], 3: []})
+        looks = [(name, look[1]) for name, look in zip("bac", OUTLINES)]
+        self.assertEqual(len({colour for _, colour in looks}), 3)
+        for name, colour in looks[1:]:
+            self.assertRegex(page, f'style="color:{colour}">.</span> {name}')
+        self.assertIn("thick border: b", page)
+        self.assertEqual(self.picture("net.json", *marks, "-o", "net.svg").status, 0)
+        svg = (self.folder / "net.svg").read_text()
+        for _, colour in looks:
+            self.assertIn(f"stroke: {colour}", svg)
+        done = self.picture("net.json", *marks, *["--mark", "a"] * 3, "-o", "net.svg")
+        self.assertEqual((done.status, done.output), (2, ""))
+        self.assertIn("6 are given, and at most 5 are told apart", done.errors)
+
+    def test_the_scale_of_a_page_is_that_of_the_settled_values(self) -> None:
+        self.file(HOPS.replace("10", "90"), "hops.fc")
+        self.file(LINE, "line.json")
+        self.file("scramble 1\nshow\nrun 200\nshow\n", "script.txt")
+        self.file("yes 182\n@2\n0 80\n1 0\n2 55\n@4\n0 0\n1 1\n2 2\n", "shows.txt")
+        words = ["hops.fc", "line.json", "script.txt", "--values", "shows.txt", "-o", "run.html"]
+        self.assertEqual(self.picture(*words).status, 0)
+        page = (self.folder / "run.html").read_text()
+        looks = {look[0]: look[1] for look in json.loads(re.search(r"const looks = (.*);", page)[1])}
+        self.assertEqual((looks["80"], looks["55"]), (looks["2"], looks["2"]))
+        self.assertEqual(len({*map(tuple, (looks["0"], looks["1"], looks["2"]))}), 3)
+        self.assertIn("beyond the settled values: the colour of the nearest one", page)
+        self.file("scramble 1\nshow\nrun 100\nshow\n", "script.txt")
+        self.assertEqual(self.picture(*words).status, 0)
+        self.assertNotIn("beyond the settled values", (self.folder / "run.html").read_text())
 
     @needs_browser
     def test_a_browser_plays_and_slides(self) -> None:
