@@ -10,7 +10,6 @@ from pathlib import Path
 import helping  # noqa: F401  (it knows where fieldc is)
 
 from fieldc.firmware import Firmware, header_text, source_text
-from fieldc.firmware.names import member
 from fieldc.language.tree import Local, Pair
 
 STRICT = ("-std=c99", "-pedantic", "-Wall", "-Wextra", "-Wconversion", "-Wshadow", "-Werror")
@@ -167,7 +166,7 @@ def glue(firmware: Firmware) -> str:
         lines += "    @inputs given;\n"
         for place, one in enumerate(inputs):
             cast = f"(@number)in[{place}]" if one.bounds else f"in[{place}] != 0"
-            lines += f"    given.{member(one.name)} = {cast};\n"
+            lines += f"    given.{firmware.members[one.name]} = {cast};\n"
     else:
         lines += "    (void)in;\n"
     call = "@fire(device, &given)" if inputs else "@fire(device)"
@@ -191,7 +190,7 @@ class Compiler:
     runner: tuple[str, ...] = ()
 
 
-def written(firmwares: Sequence[Firmware], folder: Path, name: str) -> Path:
+def written(firmwares: Sequence[Firmware], folder: Path, name: str, back: str = BACK) -> Path:
     """One C file with all firmwares and the driver; their headers are in the folder."""
     parts = [FRONT]
     rows = []
@@ -202,7 +201,7 @@ def written(firmwares: Sequence[Firmware], folder: Path, name: str) -> Path:
         rows.append(
             f"    {{sizeof({one.name}_device), {one.name.upper()}_MESSAGE_BYTES, {calls}, {one.layout.kept_bytes}}},\n"
         )
-    parts += ["static const firmware firmwares[] = {\n", *rows, "};\n\n", BACK]
+    parts += ["static const firmware firmwares[] = {\n", *rows, "};\n\n", back]
     path = folder / f"{name}.c"
     path.write_text("\n".join(parts))
     return path
@@ -218,9 +217,9 @@ def compiled(path: Path, compiler: Compiler) -> Path:
     return out
 
 
-def driven(program: Path, actions: str, runner: Sequence[str] = ()) -> list[str]:
+def driven(program: Path, actions: str, runner: Sequence[str] = (), words: Sequence[str] = ()) -> list[str]:
     """What the driver writes for each run. Fails where it, or a sanitizer, finds a fault."""
-    done = subprocess.run([*runner, str(program)], input=actions, capture_output=True, text=True, check=False)
+    done = subprocess.run([*runner, str(program), *words], input=actions, capture_output=True, text=True, check=False)
     if done.returncode != 0:
         raise AssertionError(f"status {done.returncode}\n{done.stdout[-300:]}\n{done.stderr[:3000]}")
     return done.stdout.split("end\n")[:-1]

@@ -118,13 +118,26 @@ class Maker:
         if form in ("rep", "share"):
             return self.keeping(form, wanted, scope)
         if form == "if":
-            branches = f"{{{self.local(wanted, scope)}}} {{{self.local(wanted, scope)}}}"
-            return f"(if ({self.local('bool', scope)}) {branches})"
+            return f"(if ({self.split(scope)}) {{{self.branch(wanted, scope)}}} {{{self.branch(wanted, scope)}}})"
         if form == "let":
             return self.let(Type(wanted), scope)
         if form == "call":
             return self.call(Type(wanted), scope)
         return self.operator(form, wanted, scope, False)
+
+    def split(self, scope: dict[str, Type]) -> str:
+        """A condition, which mostly not all devices agree on."""
+        truths = [f"sense {name}" for name, bounds in self.inputs.items() if bounds is None]
+        if self.dice.random() < 0.4:
+            return self.local("bool", scope)
+        return self.dice.choice([*truths, *truths, f"uid < {self.number()}", f"(uid - {self.number()}) < 1"])
+
+    def branch(self, wanted: Local, scope: dict[str, Type]) -> str:
+        """A branch, in which mostly something is heard."""
+        if self.dice.random() < 0.4:
+            return self.local(wanted, scope)
+        words = {"int": ["sum"], "bool": ["any", "all"]}.get(wanted, []) if isinstance(wanted, str) else []
+        return self.made(self.dice.choice(["least", "greatest", *words * 2]), wanted, scope)
 
     def literal(self, wanted: Local, scope: dict[str, Type]) -> str:
         if isinstance(wanted, Pair):
@@ -134,7 +147,22 @@ class Maker:
     def keeping(self, form: str, wanted: Local, scope: dict[str, Type]) -> str:
         name = self.name()
         inner = {**scope, name: Type(wanted, form == "share")}
-        return f"{form}({self.local(wanted, scope)}){{({name}) => {self.local(wanted, inner)}}}"
+        first = self.local(wanted, scope)
+        if self.dice.random() < 0.4:
+            body = self.local(wanted, inner)
+        else:
+            body = self.spread(name if form == "share" else f"nbr{{{name}}}", wanted, inner)
+        return f"{form}({first}){{({name}) => {body}}}"
+
+    def spread(self, heard: str, wanted: Local, scope: dict[str, Type]) -> str:
+        """A body that hears what neighbours have held."""
+        if wanted == "int":
+            heard = self.dice.choice((heard, f"{heard} + 1", f"{heard} + nbrLink", f"max({heard}, {self.number()})"))
+        words = {"int": ["sumHood"], "bool": ["anyHood", "allHood"]}.get(wanted, []) if isinstance(wanted, str) else []
+        word = self.dice.choice(["minHoodLoc", "maxHoodLoc", *words])
+        if word in words:
+            return f"{word}({heard})"
+        return f"{word}({heard}, {self.local(wanted, scope)})"
 
     def let(self, wanted: Type, scope: dict[str, Type]) -> str:
         kind, name = Type(self.type(1), self.dice.random() < 0.4), self.name()

@@ -17,6 +17,7 @@ from typing import Any
 import firmware_costs
 from firmware_driver import STRICT, Compiler
 from firmware_runs import case_of, compared, programs_of_cases
+from firmware_fuzz import fuzzed
 from firmware_programs import made
 from helping import HOPS, TOP, fieldc, needs, needs_fc
 from test_pages import commands_of, typed
@@ -61,6 +62,21 @@ class Values(unittest.TestCase):
         found = list(programs_of_cases())
         self.assertGreater(len(found), 300)
         self.runs(found[7 :: len(found) // CASES][:CASES])
+
+
+@needs_fc
+@needs("lark")
+@needs_both
+class AnyBytes(unittest.TestCase):
+    """No bytes do harm, and what is taken is what some export says; `firmware_fuzz.py` does the same of more."""
+
+    def test_random_and_changed_messages(self) -> None:
+        firmwares = [firmware_of(made(seed).text, f"p{seed}", 8) for seed in range(100, 104)]
+        with tempfile.TemporaryDirectory() as folder:
+            found = fuzzed(firmwares, 4000, 1, Compiler("clang"), Path(folder))
+        self.assertEqual(found.heard, 16_000)
+        self.assertGreater(found.taken, 1000)
+        self.assertGreater(found.judged, 100)
 
 
 class Lent:

@@ -15,7 +15,7 @@ from dataclasses import dataclass
 from ..language.tree import Expr, Local, Pair, Type
 from .kinds import c_type, operator
 from .layout import Frame, Layout, Leaf, Slot, shown, uses
-from .names import Names, member
+from .names import Names, members
 
 DEEPEST = 6
 LONGEST = 70
@@ -57,6 +57,7 @@ class Body:
         self.frame = frame
         self.known = layout.known
         self.names = Names(firmware)
+        self.members = members(layout.known.inputs)
         self.lines: list[str] = []
         self.indent = 1
         self.place = "here"
@@ -144,7 +145,7 @@ class Body:
         return Code("@uid(device)", 1, False)
 
     def sense(self, expr: Expr) -> Code:
-        return Code(f"inputs->{member(expr.name)}")
+        return Code(f"inputs->{self.members[expr.name]}")
 
     def variable(self, expr: Expr) -> Code:
         found = self.scope[expr.name]

@@ -7,7 +7,6 @@ import json
 from .kinds import c_type, struct_of
 from .layout import HEAD, Row
 from .model import LATEST, Firmware
-from .names import member
 from .parts import named
 
 
@@ -116,7 +115,7 @@ def types(firmware: Firmware) -> str:
     """The constants and types."""
     layout = firmware.layout
     inputs = "".join(
-        f"    {'@number' if one.bounds else 'bool'} {member(one.name)};"
+        f"    {'@number' if one.bounds else 'bool'} {firmware.members[one.name]};"
         + (f" /* {one.bounds[0][0]} to {one.bounds[1][0]}; what is outside is cut to it */" if one.bounds else "")
         + "\n"
         for one in firmware.unfolded.inputs

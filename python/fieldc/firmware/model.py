@@ -13,6 +13,7 @@ from ..language.tree import Declaration, Local, Pair, within
 from ..refusals import Fault
 from .kinds import number_type, pairs_in
 from .layout import Layout
+from .names import members
 
 FORM = "fieldc firmware 1"
 """What the messages of this generator are like; it counts in the checksum of a program."""
@@ -49,6 +50,11 @@ class Firmware:
                     wanted.add(part.name)
                     left.append(self.known.functions[part.name])
         return [*(function for name, function in self.known.functions.items() if name in wanted), self.main]
+
+    @cached_property
+    def members(self) -> dict[str, str]:
+        """By input, its name as a member of the struct."""
+        return members(self.known.inputs)
 
     @property
     def forms(self) -> frozenset[str]:

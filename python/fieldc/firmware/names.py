@@ -3,6 +3,7 @@
 from __future__ import annotations
 
 import re
+from collections.abc import Iterable
 
 from ..refusals import Fault
 
@@ -43,9 +44,13 @@ def name_of_file(path: str) -> str:
     return stem if NAME.fullmatch(stem) and not reserved(stem) else "field"
 
 
-def member(name: str) -> str:
-    """The name of an input as a member of a struct."""
-    return name + "_" if reserved(name) else name
+def members(inputs: Iterable[str]) -> dict[str, str]:
+    """The names of inputs as members of a struct, by their names in the program; each is another one."""
+    found = {name: name for name in inputs}
+    for name in [name for name in found if reserved(name)]:
+        while found[name] in (*found, *(taken for other, taken in found.items() if other != name)):
+            found[name] += "_"
+    return found
 
 
 class Names:

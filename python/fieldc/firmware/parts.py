@@ -6,7 +6,6 @@ from ..language.tree import Declaration
 from .kinds import Helper, c_type
 from .layout import Row
 from .model import Firmware
-from .names import member
 
 GET = """\
 /* The number in `count` bits, from the bit `at` on; the first one counts most. */
@@ -310,7 +309,7 @@ def fire(firmware: Firmware) -> str:
         words.append("device")
     if "inputs" in needs:
         words.append("&inputs")
-        values = ", ".join(map(given_value, firmware.unfolded.inputs))
+        values = ", ".join(given_value(firmware, one) for one in firmware.unfolded.inputs)
         lines.append(f"const @inputs inputs = {{{values}}};")
     elif given:
         lines.append("(void)given;")
@@ -328,9 +327,9 @@ def fire(firmware: Firmware) -> str:
     return f"{kind} @fire(@device *device{given})\n{{\n{body}}}\n"
 
 
-def given_value(declared: Declaration) -> str:
+def given_value(firmware: Firmware, declared: Declaration) -> str:
     """An input as it is given, cut to its range."""
-    name = f"given->{member(declared.name)}"
+    name = f"given->{firmware.members[declared.name]}"
     if not declared.bounds:
         return name
     return f"@within({name}, {declared.bounds[0][0]}, {declared.bounds[1][0]})"
