@@ -194,7 +194,7 @@ def mail_step(step: Step, world: World, writer: Writer, dice: random.Random) -> 
         writer.log.append(f"lose {world.numbers[a]} {world.numbers[b]} {place}")
         link.transit.pop(place)
     elif word == "old" and link.heard:
-        writer.hear(world, b, a, dice.choice(link.heard), "OLD")
+        writer.hear(world, b, a, dice.choice(link.heard[:-1] or link.heard), "OLD")
     elif word == "cut" and link.transit:
         writer.hear(world, b, a, link.transit[-1], "LENGTH", dice.randint(1, 3))
     elif word == "foreign" and link.transit:
@@ -225,7 +225,7 @@ def replayed(made: Made, seed: int | str, firings: int = 10, most: int = 4) -> R
 
 def edited_step(made: Made, world: World, writer: Writer, dice: random.Random, count: int) -> int:
     """A firing, which counts 1, or an edit."""
-    word = dice.choices(("fire", "link", "unlink", "set", "leave"), (12, 3, 2, 2, 1))[0]
+    word = dice.choices(("fire", "link", "unlink", "set", "leave"), (12, 2, 2, 4, 1))[0]
     a, b = dice.sample(range(count), 2)
     low, high = min(a, b), max(a, b)
     if word == "fire":

@@ -13,6 +13,19 @@ CEILINGS = (1, 2, 3, 7, 10, 20, 100, 255, 256, 1000, 65534, 65535, 65536, 1_000_
 KINDS = {"not": ("bool",), "and": ("bool", "bool"), "or": ("bool", "bool"), "rise": ("int", "int", "int")}
 
 
+TELLING = (
+    "ceiling 100; input b: bool; main = if (sense b) {rep(5){(x) => x + 1 + sumHood(nbr{0})}} {7};\n",
+    "ceiling 100; input b: bool; main = if (sense b) {rep(5){(x) => x + 1}} {rep(50){(x) => x + 2}};\n",
+    "ceiling 9; input b: bool; input c: bool;\n"
+    "def f(g: field int, t: bool): int = if (t) {sumHood(g)} {minHoodLoc(g, 8)};\n"
+    "main = let g = nbr{uid} in\n"
+    "  if (sense b) {(f(g, sense c), if (sense c) {rep(1){(x) => x + sumHood(nbr{x})}} {3})} {(9, 0)};\n",
+    "language 2; ceiling 300; metric 2..90; input b: bool;\n"
+    "main = (share((0, true)){(x) => maxHoodLoc((fst(x) + nbrLink, not snd(x)), (uid, sense b))}, 1);\n",
+)
+"""Programs that tell what random ones tell rarely."""
+
+
 @dataclass(frozen=True)
 class Function:
     """A function that may be called."""
@@ -137,7 +150,7 @@ class Maker:
         if self.dice.random() < 0.4:
             return self.local(wanted, scope)
         words = {"int": ["sum"], "bool": ["any", "all"]}.get(wanted, []) if isinstance(wanted, str) else []
-        return self.made(self.dice.choice(["least", "greatest", *words * 2]), wanted, scope)
+        return self.made(self.dice.choice(["least", "greatest", "rep", *words * 2]), wanted, scope)
 
     def literal(self, wanted: Local, scope: dict[str, Type]) -> str:
         if isinstance(wanted, Pair):
@@ -148,7 +161,9 @@ class Maker:
         name = self.name()
         inner = {**scope, name: Type(wanted, form == "share")}
         first = self.local(wanted, scope)
-        if self.dice.random() < 0.4:
+        if form == "rep" and wanted == "int" and self.dice.random() < 0.4:
+            body = f"{name} + {self.number()}"
+        elif self.dice.random() < 0.4:
             body = self.local(wanted, inner)
         else:
             body = self.spread(name if form == "share" else f"nbr{{{name}}}", wanted, inner)
@@ -158,7 +173,9 @@ class Maker:
         """A body that hears what neighbours have held."""
         if wanted == "int":
             heard = self.dice.choice((heard, f"{heard} + 1", f"{heard} + nbrLink", f"max({heard}, {self.number()})"))
-        words = {"int": ["sumHood"], "bool": ["anyHood", "allHood"]}.get(wanted, []) if isinstance(wanted, str) else []
+        words = (
+            {"int": ["sumHood"], "bool": ["anyHood", "allHood"]}.get(wanted, []) if isinstance(wanted, str) else []
+        )
         word = self.dice.choice(["minHoodLoc", "maxHoodLoc", *words])
         if word in words:
             return f"{word}({heard})"

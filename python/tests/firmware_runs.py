@@ -20,7 +20,7 @@ from typing import Any
 import helping
 from firmware_driver import Compiler, compiled, driven, written
 from firmware_logs import Run, mailed, replayed
-from firmware_programs import Made, made
+from firmware_programs import TELLING, Made, made
 
 from fieldc import program as fc
 from fieldc.firmware import Firmware, firmware_of
@@ -100,6 +100,7 @@ def programs_of_cases() -> Iterator[tuple[str, str]]:
 def programs(first: int, count: int, of_cases: bool) -> Iterator[tuple[str, str]]:
     """The programs: those of the conformance cases, if they are wanted, and then random ones."""
     if of_cases:
+        yield from ((f"telling {place}", text) for place, text in enumerate(TELLING))
         yield from programs_of_cases()
     for seed in range(first, first + count):
         yield str(seed), made(seed).text
@@ -123,7 +124,11 @@ def main() -> int:
     parser.add_argument("--count", type=int, default=20_000, help="how many random programs (20000)")
     parser.add_argument("--batch", type=int, default=250, help="programs in one C file (250)")
     parser.add_argument("--firings", type=int, default=10, help="firings of a run (10)")
-    parser.add_argument("--cases", action="store_true", help="takes the programs of the conformance cases too, first")
+    parser.add_argument(
+        "--cases",
+        action="store_true",
+        help="takes the programs of the conformance cases too, first, and some that tell much",
+    )
     parser.add_argument("--compiler", nargs="*", default=["gcc", "clang"], help="compilers (gcc and clang)")
     parser.add_argument("--plain", action="store_true", help="without sanitizers")
     parser.add_argument("--runner", default="", help="what runs the program that is compiled, such as qemu-arm")

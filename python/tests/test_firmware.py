@@ -18,7 +18,7 @@ import firmware_costs
 from firmware_driver import STRICT, Compiler
 from firmware_runs import case_of, compared, programs_of_cases
 from firmware_fuzz import fuzzed
-from firmware_programs import made
+from firmware_programs import TELLING, made
 from helping import HOPS, TOP, fieldc, needs, needs_fc
 from test_pages import commands_of, typed
 
@@ -26,8 +26,8 @@ from fieldc.blocks import own_library, read_library
 from fieldc.firmware import Firmware, firmware_of, header_text, layout_text, source_text
 from fieldc.firmware.cost import MACHINES, ROOMS, device_bytes, work
 
-SEEDS = 8
-CASES = 8
+SEEDS = 6
+CASES = 6
 COMPILERS = [name for name in ("gcc", "clang") if shutil.which(name)]
 needs_gcc = unittest.skipIf(shutil.which("gcc") is None, "gcc isn't there (Debian: gcc)")
 needs_both = unittest.skipIf(len(COMPILERS) < 2, "gcc or clang isn't there (Debian: gcc, clang)")
@@ -48,8 +48,8 @@ def written(firmware: Firmware, folder: Path) -> Path:
 class Values(unittest.TestCase):
     """Each value behind each firing is that of `fc`; `firmware_runs.py` does the same of any number of programs."""
 
-    def runs(self, found: list[tuple[str, str]]) -> None:
-        cases = [case_of(seed, text, number, 6) for number, (seed, text) in enumerate(found)]
+    def runs(self, found: list[tuple[str, str]], firings: int = 6) -> None:
+        cases = [case_of(seed, text, number, firings) for number, (seed, text) in enumerate(found)]
         with tempfile.TemporaryDirectory() as folder:
             self.assertGreater(
                 compared(cases, [Compiler(name) for name in COMPILERS], Path(folder), "all"), 20 * len(cases)
@@ -57,6 +57,9 @@ class Values(unittest.TestCase):
 
     def test_random_programs(self) -> None:
         self.runs([(str(seed), made(seed).text) for seed in range(SEEDS)])
+
+    def test_programs_that_tell(self) -> None:
+        self.runs([(f"telling {place}", text) for place, text in enumerate(TELLING)], 12)
 
     def test_programs_of_the_conformance_cases(self) -> None:
         found = list(programs_of_cases())
@@ -293,8 +296,9 @@ class Command(unittest.TestCase):
             (("-",), "ceiling 5; main = x;", 3, "Nothing named `x`"),
             (("-",), "ceiling 5; main = hop(1);", 3, "no block is called hop"),
             (("-",), "ceiling 5; main = 1", 3, "standard input:1"),
-            (("hops.fc", "--name", "int"), "", 2, "no name in C"),
-            (("hops.fc", "--name", "2"), "", 2, "no name in C"),
+            (("hops.fc", "--name", "int"), "", 2, "can't be the name"),
+            (("hops.fc", "--name", "string"), "", 2, "can't be the name"),
+            (("hops.fc", "--name", "2"), "", 2, "can't be the name"),
             (("hops.fc", "--neighbours", 33), "", 2, "33 is no number from 1 to 32"),
             (("hops.fc", "-o", "nowhere"), "", 6, "no such folder"),
             (("none.fc",), "", 5, "can't be read"),

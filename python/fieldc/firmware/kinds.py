@@ -57,11 +57,11 @@ def number_bytes(most: int) -> int:
 def arithmetic(ceiling: int) -> list[Helper]:
     """The operators on numbers that are cut at the ceiling or at 0."""
     wide = "uint32_t" if ceiling < 1 << 16 else "uint64_t"
-    cut = "exact < @@CEILING ? (@number)exact : @@CEILING"
+    cut = "(@number)(exact < @@CEILING ? exact : @@CEILING)"
     return [
         _function("add", "int", "int", "const uint32_t exact = (uint32_t)a + b;", cut),
         _function("multiply", "int", "int", f"const {wide} exact = ({wide})a * b;", cut),
-        _function("subtract", "int", "int", "", "a > b ? (@number)(a - b) : 0"),
+        _function("subtract", "int", "int", "", "(@number)(a > b ? a - b : 0)"),
     ]
 
 

@@ -18,6 +18,11 @@ WORDS = frozenset(
     "NULL offsetof size_t ptrdiff_t max_align_t".split()
 )
 """Words of C and C++, and what compilers and the headers of the firmware define besides."""
+HEADERS = frozenset(
+    "assert complex ctype errno fenv float inttypes iso646 limits locale math setjmp signal stdalign stdarg stdatomic "
+    "stdbool stddef stdint stdio stdlib stdnoreturn string tgmath threads time uchar wchar wctype".split()
+)
+"""Headers of C, whose names the header of a firmware can't have."""
 OF_HEADERS = re.compile(
     r"U?INT\w*_(MAX|MIN|C|WIDTH)|(SIZE|PTRDIFF|WCHAR|WINT|SIG_ATOMIC)_(MAX|MIN|WIDTH)|u?int\w*_t|w(char|int)_t"
 )
@@ -33,15 +38,16 @@ def reserved(name: str) -> bool:
 
 def firmware_name(wanted: str) -> str:
     """The name before all names of a firmware. Raises Fault where it can't be one."""
-    if not NAME.fullmatch(wanted) or reserved(wanted):
-        raise Fault(f"--name: {wanted!r} is no name in C; take letters, digits and _, with a letter first")
+    if not NAME.fullmatch(wanted) or reserved(wanted) or wanted in HEADERS:
+        raise Fault(f"--name: {wanted!r} can't be the name; take letters, digits and _, with a letter first")
     return wanted
 
 
 def name_of_file(path: str) -> str:
     """The name that a firmware has from the name of a program's file."""
     stem = re.sub(r"[^A-Za-z0-9_]", "_", re.sub(r"^.*/|\.[^./]*$", "", path))[:40]
-    return stem if NAME.fullmatch(stem) and not reserved(stem) else "field"
+    free = NAME.fullmatch(stem) and not reserved(stem) and stem not in HEADERS
+    return stem if free else "field"
 
 
 def members(inputs: Iterable[str]) -> dict[str, str]:

@@ -149,7 +149,7 @@ def number_of_device(ceiling: int) -> str:
     """A device's number, cut at the ceiling; without a comparison that always holds."""
     if ceiling >= 0xFFFF:
         return "device->number"
-    return "device->number < @@CEILING ? (@number)device->number : @@CEILING"
+    return "(@number)(device->number < @@CEILING ? device->number : @@CEILING)"
 
 
 TAKEN = """\
