@@ -1,6 +1,6 @@
-"""A reader of the language with places, used to explain what `fc` says, and for nothing else.
+"""A reader of the language with places, used to explain what `fc` says and to write firmware, and for nothing else.
 
-Where it and `fc` don't agree, what it says isn't used.
+Where it and `fc` don't agree, what it explains isn't used.
 """
 
 from __future__ import annotations
