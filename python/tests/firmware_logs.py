@@ -16,7 +16,6 @@ from firmware_programs import Made
 from fieldc.firmware import Firmware
 
 IN_TRANSIT = 4
-LATEST = 32
 
 
 @dataclass(frozen=True)

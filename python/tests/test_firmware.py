@@ -325,8 +325,9 @@ class Page(unittest.TestCase):
     def test_costs(self) -> None:
         rows = [line for line in self.text.splitlines() if line.startswith("| `") and line.count("|") == 10]
         found = firmware_costs.calls()
-        self.assertGreater(len(found), 50)
         library = read_library([own_library()])
+        blocks = {name for name, block in library.items() if not block.is_part}
+        self.assertEqual({call.partition("(")[0] for call in found}, blocks)
         machines = all(shutil.which(machine.front + "gcc") for machine in MACHINES)
         for line, call in zip(rows, found, strict=True):
             mine = firmware_costs.row(call, library, machines and call.startswith("hops("))

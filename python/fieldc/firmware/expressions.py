@@ -111,14 +111,13 @@ class Body:
         write(declared(c_type(local), name, code.text))
         return Code(name)
 
-    def held(self, expr: Expr, wanted: str = "part") -> Code:
+    def held(self, expr: Expr) -> Code:
         """A local expression that may be written in a loop: what costs something has a name."""
-        code = self.local(expr)
-        return (
-            code
-            if code.simple
-            else self.named(expr.form if expr.form == "uid" else wanted, self.type_of(expr).local, code)
-        )
+        return self.once("uid" if expr.form == "uid" else "part", self.type_of(expr).local, self.local(expr))
+
+    def once(self, wanted: str, local: Local, code: Code) -> Code:
+        """An expression that may be written twice: what costs something has a name."""
+        return code if code.simple else self.named(wanted, local, code)
 
     def named(self, wanted: str, local: Local, code: Code) -> Code:
         """A name for an expression."""
@@ -215,8 +214,8 @@ class Body:
         with self.block(f"if ({self.place}.own)"):
             self.line(f"{name} = {self.read(slot, local, 'device->kept')};")
         self.scope[expr.name] = Code(name)
-        result = self._result("result", local, self.local(body))
-        self.put(slot, local, result.text)
+        result = self.once("result", local, self.local(body))
+        self.put(slot, result.text)
         return result
 
     def share(self, expr: Expr) -> Code:
@@ -226,13 +225,10 @@ class Body:
         self.dropped(first)
         slot = self.frame.slots[expr]
         self.scope[expr.name] = slot
-        result = self._result("shared", local, self.local(body))
+        result = self.once("shared", local, self.local(body))
         self.comment(expr)
-        self.put(slot, local, result.text)
+        self.put(slot, result.text)
         return result
-
-    def _result(self, wanted: str, local: Local, code: Code) -> Code:
-        return code if code.simple else self.named(wanted, local, code)
 
     def let(self, expr: Expr) -> Code:
         self.bind(expr.name, expr.kids[0], uses(expr.kids[1], expr.name), expr)
@@ -276,7 +272,7 @@ class Body:
         slot = self.frame.slots.get(expr)
         before, outer = self.lines, self.place
         if slot is not None:
-            test = self.held_as("truth", test)
+            test = self.once("truth", "bool", test)
             self.comment(expr)
             outer, self.place = self.place, self.branch(expr, slot, test.text)
         bodies: list[tuple[list[str], Code]] = []
@@ -292,10 +288,6 @@ class Body:
             depth = 1 + max(test.depth, yes.depth, no.depth)
             return Code(f"{operator('mux', local)}({test.text}, {yes.text}, {no.text})", depth, False)
         return self._chosen(expr, test, bodies, inner if slot is not None else "")
-
-    def held_as(self, wanted: str, code: Code) -> Code:
-        """A truth value that is read twice: what costs something has a name."""
-        return code if code.simple else self.named(wanted, "bool", code)
 
     def branch(self, expr: Expr, slot: Slot, truth: str) -> str:
         """The place in the branch that is taken; its truth is sent, or kept."""
@@ -375,7 +367,7 @@ class Body:
 
     # ---- slots
 
-    def put(self, slot: Slot, local: Local, value: str) -> None:
+    def put(self, slot: Slot, value: str) -> None:
         """Writes a value to a slot."""
         bits, base = ("@said(device)", "here.sent") if slot.sent else ("device->kept", "here.kept")
         if not any(leaf.width for leaf in slot.leaves):
@@ -418,7 +410,7 @@ class Body:
         if len(slot.leaves) > 1 and not code.simple:
             code = self.named("own", local, code)
         self.comment(expr)
-        self.put(slot, local, code.text)
+        self.put(slot, code.text)
         return Code(self.read(slot, local, "device->neighbours[i].said"), 1, False)
 
     def field_apply(self, expr: Expr, inside: list[str]) -> Code:
