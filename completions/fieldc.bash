@@ -63,7 +63,7 @@ _fieldc_words() {
             return ;;
         "picture -o" | "picture --output" | "picture --values" | "picture --positions" | "picture --names")
             return ;;
-        "picture --show" | "picture --mark" | "picture --title")
+        "picture --show" | "picture --mark" | "picture --kinds" | "picture --title")
             compopt +o bashdefault +o default 2>/dev/null
             return ;;
         "picture --of")
@@ -99,7 +99,7 @@ _fieldc_words() {
         format) files=yes words="--json -h --help" ;;
         compose) files=yes words="--network --library --no-cut-check --unjudged -o --output --list --show -h --help" ;;
         network) words="--line --ring --grid --torus --disk --points --edges --scene -o --output --range --scale --side --seed --undirected --weight --metric --unit --round --max-degree --set --inputs --program --table --positions --names -h --help" ;;
-        picture) files=yes words="-o --output --values --of --show --page --positions --names --numbers --mark --title -h --help" ;;
+        picture) files=yes words="-o --output --values --of --show --page --positions --names --numbers --mark --kinds --arrows --title -h --help" ;;
         rounds) files=yes words="-o --output --number --rounds --workers --title --csv --names -h --help" ;;
         sweep) words="--line --ring --grid --torus --disk --points --edges --range --side --density --jitter --fail --weight --metric --unit --max-degree --set --count --seed --values -o --output --report --title --workers --scheduler --no-cut-check --again --positions -h --help" ;;
         firmware) words="--name --neighbours -o --output --cost --layout --network --library --unjudged -h --help" ;;

@@ -139,6 +139,8 @@ complete -c fieldc -n '__fish_seen_subcommand_from picture' -l positions -r -F -
 complete -c fieldc -n '__fish_seen_subcommand_from picture' -l names -r -F -d 'names of devices, one line id,name each'
 complete -c fieldc -n '__fish_seen_subcommand_from picture' -l numbers -d 'writes the number, or name, beside each device'
 complete -c fieldc -n '__fish_seen_subcommand_from picture' -l mark -x -d 'marks devices whose input NAME is true'
+complete -c fieldc -n '__fish_seen_subcommand_from picture' -l kinds -x -d 'numbers are names, and no amounts: in all parts of the values, or 2, or 1,3'
+complete -c fieldc -n '__fish_seen_subcommand_from picture' -l arrows -d 'arrows to the neighbour whose number a device holds'
 complete -c fieldc -n '__fish_seen_subcommand_from picture' -l title -x -d 'a line above the picture'
 complete -c fieldc -n '__fish_seen_subcommand_from picture' -s h -l help -d 'tells of the command'
 

@@ -2,7 +2,7 @@
 
 from __future__ import annotations
 
-from collections.abc import Iterable, Sequence
+from collections.abc import Iterable, Mapping, Sequence
 from dataclasses import dataclass, replace
 
 from .results import Value, word_of
@@ -16,7 +16,28 @@ OUTLINES = (
 )  # fmt: skip
 """Of each mark the shape of its outline, its colour, told apart by colour-blind people too, and its area in circles."""
 
+KINDS = (
+    "#0072b2", "#e69f00", "#009e73", "#cc79a7", "#56b4e9", "#d55e00",
+    "#f0e442", "#882255", "#44aa99", "#332288", "#999933", "#aa4499",
+)  # fmt: skip
+"""The colours of kinds, which colour-blind people tell apart too; from the thirteenth kind on they come again."""
+
 MAP = "viridis_r"
+
+
+@dataclass(frozen=True)
+class Kinds:
+    """Which parts of the values are kinds and no amounts, from 1 on, or nothing for all; and the devices by name.
+
+    A number that no device has stands apart from the kinds, unless none is a device's.
+    """
+
+    parts: frozenset[int] | None
+    devices: Mapping[int, str]
+
+    def has(self, part: int) -> bool:
+        """Whether a part is of kinds."""
+        return self.parts is None or part in self.parts
 
 
 @dataclass(frozen=True)
@@ -33,6 +54,7 @@ class Meaning:
     bare: str = GREY
     resting: str = ""
     ceiling: int | None = None
+    kinds: Kinds | None = None
 
 
 @dataclass(frozen=True)
@@ -40,7 +62,8 @@ class Scale:
     """The colours of one part of the values: numbers from `low` to `high`, or truth values.
 
     `apart` is a number outside of the scale with a colour of its own: the ceiling, or one that is far above all others.
-    `clipped` says that there are numbers beyond its ends, which have the colours of these.
+    `clipped` says that there are numbers beyond its ends, which have the colours of these. `kinds` are numbers with a
+    colour each, in place of a scale; all others are white then.
     """
 
     label: str
@@ -50,6 +73,7 @@ class Scale:
     truths: bool
     resting: str
     clipped: bool = False
+    kinds: tuple[int, ...] = ()
 
     def colour(self, part: int | bool) -> str:
         """The colour of a number or truth value, as `#rrggbb`."""
@@ -57,6 +81,8 @@ class Scale:
 
         if isinstance(part, bool):
             return TRUE if part else FALSE
+        if self.kinds:
+            return KINDS[self.kinds.index(part) % len(KINDS)] if part in self.kinds else WHITE
         if part == self.apart:
             return APART
         if self.resting and part == 0:
@@ -85,7 +111,25 @@ def scales_of(
     labels = [f"{meaning.scale}, part {place}" for place in range(1, len(columns) + 1)]
     labels = labels if len(columns) > 1 else [meaning.scale]
     whole = tuple(_scale(label, column, meaning) for label, column in zip(labels, columns))
+    if meaning.kinds is not None:
+        return _with_kinds(whole, columns, meaning.kinds, meaning.ceiling)
     return whole if settled is None else tuple(map(_clipped, whole, _columns(settled)))
+
+
+def _with_kinds(
+    scales: Sequence[Scale], columns: Sequence[Sequence[int | bool]], kinds: Kinds, ceiling: int | None
+) -> tuple[Scale, ...]:
+    """Scales of which some have kinds, the same colour for one number in all of them."""
+    chosen = [column if kinds.has(place) else () for place, column in enumerate(columns, 1)]
+    numbers = sorted({part for column in chosen for part in column if not isinstance(part, bool)})
+    known = tuple(number for number in numbers if number in kinds.devices and number != ceiling)
+    known = known or tuple(number for number in numbers if number != ceiling)
+    return tuple(
+        replace(scale, low=None, high=None, apart=None, clipped=not set(column) <= set(known), kinds=known)
+        if column and not scale.truths
+        else scale
+        for scale, column in zip(scales, chosen)
+    )
 
 
 def _columns(values: Iterable[Value | None]) -> list[tuple[int | bool, ...]]:
@@ -140,7 +184,7 @@ def is_dark(colours: Sequence[str]) -> bool:
 
 def entries(scales: Sequence[Scale], some_none: bool, meaning: Meaning) -> list[tuple[str, str]]:
     """The legend beside the scales: colours, and what they mean."""
-    found = []
+    found = kinds_shown(scales, meaning)
     if any(scale.truths for scale in scales):
         found += [(TRUE, "true"), (FALSE, "false")]
     for number in dict.fromkeys(scale.apart for scale in scales if scale.apart is not None):
@@ -153,6 +197,28 @@ def entries(scales: Sequence[Scale], some_none: bool, meaning: Meaning) -> list[
     return found
 
 
-def label_of(value: Value | None) -> str:
-    """What is written in a device: its whole value."""
-    return word_of(value)
+def kinds_shown(scales: Sequence[Scale], meaning: Meaning) -> list[tuple[str, str]]:
+    """The legend of kinds: the first of them by their names, and what is no kind."""
+    found = next(((scale, scale.kinds) for scale in scales if scale.kinds), None)
+    if found is None or meaning.kinds is None:
+        return []
+    scale, kinds = found
+    rows = [(scale.colour(number), meaning.kinds.devices.get(number, str(number))) for number in kinds[: len(KINDS)]]
+    if len(kinds) > len(KINDS):
+        rows[-1] = (rows[-1][0], f"{rows[-1][1]}, and {len(kinds) - len(KINDS)} more in these colours again")
+    return [*rows, *[(WHITE, "no device")] * any(one.kinds and one.clipped for one in scales)]
+
+
+def label_of(value: Value | None, scales: Sequence[Scale] = (), meaning: Meaning = Meaning()) -> str:
+    """What is written in a device: its whole value, with kinds by their names."""
+    if value is None or meaning.kinds is None:
+        return word_of(value)
+    names, left = meaning.kinds.devices, iter(scales)
+
+    def said(part: Value) -> str:
+        if isinstance(part, tuple):
+            return f"({said(part[0])},{said(part[1])})"
+        kind = part in next(left).kinds and not isinstance(part, bool)
+        return names.get(part, str(part)) if kind else word_of(part)
+
+    return said(value)

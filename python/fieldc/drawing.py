@@ -14,6 +14,7 @@ from .refusals import Fault
 
 WALK = LAST
 BORDER = "#555555"
+ARROW = "#222222"
 MOST_LABELS = 120
 
 
@@ -56,6 +57,7 @@ def paint(axes: Any, picture: Picture) -> None:
     frame = picture.frames[-1]
     scales = scales_of(frame.values.values(), picture.meaning)
     _links(axes, picture, frame)
+    _arrows(axes, picture, frame)
     _devices(axes, picture, frame, scales)
     _labels(axes, picture, frame, scales)
     _legend(axes, picture, frame, scales)
@@ -81,6 +83,15 @@ def _links(axes: Any, picture: Picture, frame: Frame) -> None:
     axes.add_collection(
         LineCollection(rows, colors=colours, linewidths=[3 if one else 0.8 for one in on_walk], zorder=1)
     )
+
+
+def _arrows(axes: Any, picture: Picture, frame: Frame) -> None:
+    """An arrow from each device to the neighbour whose number it holds."""
+    away = math.sqrt(area(len(frame.network.devices))) / 2
+    look = {"arrowstyle": "-|>", "color": ARROW, "lw": 1.6, "shrinkA": 0, "shrinkB": away, "mutation_scale": 11}
+    for start, end in picture.arrows_of(frame):
+        ends = {"xy": picture.places[end], "xytext": picture.places[start]}
+        axes.annotate("", **ends, arrowprops=look, zorder=1.5).set_in_layout(False)
 
 
 def area(count: int) -> float:
@@ -134,7 +145,7 @@ def _labels(axes: Any, picture: Picture, frame: Frame, scales: Sequence[Scale]) 
     for device in devices:
         value, at = frame.values.get(device), picture.places[device]
         if frame.values and len(devices) <= MOST_LABELS:
-            text = label_of(value)
+            text = label_of(value, scales, picture.meaning)
             colours = colours_of(value, scales, picture.meaning)
             ink, halo = ("white", "black") if is_dark(colours) else ("black", "white")
             font = min(8 if len(devices) <= 60 else 6, across / (0.55 * len(text)))

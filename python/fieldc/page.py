@@ -23,6 +23,11 @@ CORNERS = (
 )
 """The corners of the outlines of the second mark and those behind it, around a circle of radius 1."""
 
+TIP = (
+    '<marker id="tip" viewBox="0 0 10 10" refX="9" refY="5" markerWidth="6" markerHeight="6" orient="auto">'
+    '<path d="M0,0 L10,5 L0,10 Z" fill="#222"/></marker>'
+)
+
 PAGE = """<!doctype html>
 <html lang="en"><meta charset="utf-8"><title>{title}</title>
 <style>
@@ -37,7 +42,7 @@ PAGE = """<!doctype html>
  .mixed text.value {{ paint-order: stroke; stroke-width: 1.5px }}
  text.number {{ text-anchor: start; fill: #404040; visibility: hidden }}
  svg.numbered text.number {{ visibility: visible }}
- .away {{ display: none }}
+ .away {{ display: none }} path.arrow {{ stroke: #222; stroke-width: 2; fill: none }}
  #slider {{ width: 100%; margin: 0 }}
  .swatch {{ display: inline-block; width: 1em; height: 1em; border: 1px solid #555; margin: 0 .3em 0 1em }}
 </style>
@@ -54,6 +59,8 @@ PAGE = """<!doctype html>
  const shows = {shows};
  const devices = [...document.querySelectorAll("g.device")];
  const links = [...document.querySelectorAll("line")];
+ const arrows = [...document.querySelectorAll("path.arrow")];
+ const at = place => devices[place].getAttribute("transform").match(/[-.0-9]+/g).map(Number);
  const slider = document.getElementById("slider"), play = document.getElementById("play");
  const numbers = document.getElementById("numbers"), drawn = document.querySelector("svg");
  let playing = null;
@@ -84,6 +91,13 @@ PAGE = """<!doctype html>
    }});
   }});
   marked.forEach(place => drawn.append(devices[place]));
+  arrows.forEach((arrow, place) => {{
+   const next = show.next[place];
+   arrow.classList.toggle("away", next < 0);
+   if (next < 0) return;
+   const [x, y] = at(place), [u, v] = at(next), far = Math.hypot(u - x, v - y) || 1, part = 1 - {radius} / far;
+   arrow.setAttribute("d", "M" + x + "," + y + " L" + (x + (u - x) * part) + "," + (y + (v - y) * part));
+  }});
  }}
  function stop() {{
   clearInterval(playing);
@@ -154,6 +168,7 @@ def _network(picture: Picture, sectors: int) -> tuple[str, float]:
         (x1, y1), (x2, y2) = at[a], at[b]
         walk = ' class="walk"' if (a, b) in thick else ""
         parts.append(f'<line{walk} x1="{x1:.1f}" y1="{y1:.1f}" x2="{x2:.1f}" y2="{y2:.1f}"/>')
+    parts += [TIP, *['<path class="arrow" marker-end="url(#tip)"/>'] * len(devices)] if picture.arrows else []
     names = {device: frame.network.called(device) for frame in picture.frames for device in frame.network.devices}
     paths = [_path(sector(place, sectors), radius) if sectors > 1 else _disk(radius) for place in range(sectors)]
     outlines = _outlines(picture, radius)
@@ -207,7 +222,8 @@ def _shows(picture: Picture, scales: Sequence[Scale]) -> tuple[list[list[Any]], 
     gone: dict[tuple[int, ...], int] = {}
     shows = []
     for frame in picture.frames:
-        texts = [label_of(frame.values.get(d)) if frame.values else "" for d in frame.network.devices]
+        values = [frame.values.get(d) for d in frame.network.devices]
+        texts = [label_of(value, scales, picture.meaning) if frame.values else "" for value in values]
         for device, text in zip(frame.network.devices, texts):
             if text not in looks:
                 numbers[text] = len(looks)
@@ -220,6 +236,9 @@ def _shows(picture: Picture, scales: Sequence[Scale]) -> tuple[list[list[Any]], 
         first, *others = [sorted(place[device] for device in found) for found in picture.marked_by(frame)] or [[]]
         which = gone.setdefault(away, len(gone))
         shows.append({"title": frame.title, "devices": row, "marked": first, "marks": others, "away": which})
+        if picture.arrows:
+            ends = dict(picture.arrows_of(frame))
+            shows[-1]["next"] = [place[ends[device]] if device in ends else -1 for device in devices]
     return list(looks.values()), [list(away) for away in gone], shows
 
 
@@ -247,7 +266,7 @@ def _legend(picture: Picture, scales: Sequence[Scale]) -> str:
     more += [f"thick border: {html.escape(picture.marks[0])}"] if picture.marks else []
     for name, (_, colour, _), sign in zip(picture.marks[1:], OUTLINES[1:], SIGNS):
         more.append(f'<span style="color:{colour}">{sign}</span> {html.escape(name)}')
-    clipped = any(scale.clipped for scale in scales)
+    clipped = any(scale.clipped and not scale.kinds for scale in scales)
     more += ["beyond the settled values: the colour of the nearest one"] if clipped else []
     more += [html.escape("red border: " + picture.said.partition("; ")[0])] if picture.last else []
     return "<br>".join(filter(None, [*rows, " ".join(more)]))

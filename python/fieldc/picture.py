@@ -6,13 +6,14 @@ from collections.abc import Mapping, Sequence
 from dataclasses import dataclass, field, replace
 
 from . import results
-from .colours import OUTLINES, WHITE, Meaning
+from .colours import OUTLINES, WHITE, Kinds, Meaning, parts_of
 from .edits import Moment, moments
 from .layout import laid_out
 from .networks import Network, Position, declared
 from .refusals import Fault
 from .results import Values
 
+SETTLING = "settle round"
 LINES_OF_A_RUN = ("run", "mix", "show", "scramble")
 
 
@@ -45,10 +46,20 @@ class Picture:
     last: tuple[int, ...] = ()
     said: str = ""
     numbers: bool = False
+    arrows: bool = False
 
     def marked_by(self, frame: Frame) -> list[set[int]]:
         """For each of the marks the devices of a frame for which it is true then."""
         return [{d for d, own in frame.network.inputs.items() if own.get(name) is True} for name in self.marks]
+
+    def arrows_of(self, frame: Frame) -> list[tuple[int, int]]:
+        """The devices that hold the number of a neighbour, each with it; of a pair it is the last part."""
+        if not self.arrows:
+            return []
+        near = {pair for a, b, _ in frame.network.links for pair in ((a, b), (b, a))}
+        values = [(device, frame.values.get(device)) for device in frame.network.devices]
+        held = [(device, parts_of(value)[-1]) for device, value in values if value is not None]
+        return [(device, end) for device, end in held if not isinstance(end, bool) and (device, end) in near]
 
     def marked(self, frame: Frame) -> set[int]:
         """The devices of a frame for which one of the marks is true then."""
@@ -146,7 +157,7 @@ def settling(network: Network, found: results.Settled, verdict: str) -> Picture:
     resting = f"{still} of {len(found.by_device)} hold their value now" if still else ""
     frame = Frame(f"({title})", network, found.by_device)
     _agree(frame)
-    meaning = Meaning("settle round", "no settle round", WHITE, resting)
+    meaning = Meaning(SETTLING, "no settle round", WHITE, resting)
     return Picture((frame,), {}, meaning, verdict, last=last, said="; ".join(filter(None, (said, resting))))
 
 
@@ -192,3 +203,30 @@ def check_marks(picture: Picture, marks: Sequence[str]) -> Picture:
         if not any(name in own for frame in picture.frames for own in frame.network.inputs.values()):
             raise Fault(f"--mark {name}: no device has this input")
     return replace(picture, marks=tuple(marks))
+
+
+def check_kinds(picture: Picture, word: str | None, names: Mapping[int, str]) -> Picture:
+    """The picture with kinds: of `all` parts of the values, or of some, as `2` or `1,3`.
+
+    Raises Fault where a part isn't there, or the picture is of settle rounds.
+    """
+    if word is None:
+        return picture
+    parts = None if word == "all" else [int(part) for part in word.split(",") if part.isdecimal()]
+    values = [value for frame in picture.frames for value in frame.values.values() if value is not None]
+    most = len(parts_of(values[0])) if values else 0
+    if picture.meaning.scale == SETTLING or not most:
+        raise Fault(f"--kinds {word}: it colours values, and there are none")
+    if parts is not None and (len(parts) != len(word.split(",")) or not all(1 <= part <= most for part in parts)):
+        raise Fault(f"--kinds {word}: it is all, or numbers of parts, and a value has {most}")
+    devices = {device: names.get(device, str(device)) for device in everywhere(picture)[0]}
+    kinds = Kinds(None if parts is None else frozenset(parts), devices)
+    return replace(picture, meaning=replace(picture.meaning, kinds=kinds))
+
+
+def check_arrows(picture: Picture, wanted: bool) -> Picture:
+    """The picture with arrows, where they are wanted. Raises Fault where no device holds the number of a neighbour."""
+    found = replace(picture, arrows=wanted)
+    if wanted and not any(found.arrows_of(frame) for frame in found.frames):
+        raise Fault("--arrows: no device holds the number of a neighbour")
+    return found

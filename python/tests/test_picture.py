@@ -284,6 +284,48 @@ class Command(InFolder):
         self.assertEqual(self.picture(*words).status, 0)
         self.assertNotIn("beyond the settled values", (self.folder / "run.html").read_text())
 
+    def test_numbers_that_are_names_are_coloured_as_kinds(self) -> None:
+        self.file(network.line(4).scene(), "net.json")
+        self.file("0 (0,0)\n1 (1,3)\n2 (1,0)\n3 (0,7)\n", "values.txt")
+        self.file("id,name\n0,gate\n3,mill\n", "names.csv")
+        words = ["net.json", "--values", "values.txt", "--names", "names.csv"]
+        self.file("ceiling 9; main = (1, 2);", "two.fc")
+        self.assertEqual(self.picture("two.fc", *words, "--kinds", "2", "-o", "net.html").status, 0)
+        page = (self.folder / "net.html").read_text()
+        looks = {look[0]: look[1] for look in json.loads(re.search(r"const looks = (.*);", page)[1])}
+        self.assertEqual(set(looks), {"(0,gate)", "(1,mill)", "(1,gate)", "(0,7)"})
+        self.assertEqual(looks["(0,gate)"][1], looks["(1,gate)"][1])
+        self.assertEqual(len({looks[name][1] for name in ("(0,gate)", "(1,mill)", "(0,7)")}), 3)
+        self.assertEqual(looks["(0,7)"][1], WHITE)
+        self.assertEqual((looks["(1,mill)"][0], looks["(0,gate)"][0]), (looks["(1,gate)"][0], looks["(0,7)"][0]))
+        for colour, name in ((looks["(0,gate)"][1], "gate"), (looks["(1,mill)"][1], "mill"), (WHITE, "no device")):
+            self.assertIn(f'style="background:{colour}"></span>{name}', page)
+        for kinds, says in (("3", "a value has 2"), ("x", "a value has 2"), ("2,", "a value has 2")):
+            done = self.picture("two.fc", *words, "--kinds", kinds, "-o", "net.html")
+            self.assertEqual(done.status, 2)
+            self.assertIn(says, done.errors)
+        self.assertEqual(self.picture("net.json", "--kinds", "all", "-o", "net.png").status, 2)
+
+    def test_arrows_lead_to_the_neighbour_that_is_held(self) -> None:
+        self.file(network.line(4).scene(), "net.json")
+        self.file("0 0\n1 0\n2 1\n3 1\n", "values.txt")
+        words = ["net.json", "--values", "values.txt", "--arrows"]
+        self.file("ceiling 9; main = 1;", "one.fc")
+        self.assertEqual(self.picture("one.fc", *words, "-o", "net.html").status, 0)
+        page = (self.folder / "net.html").read_text()
+        (show,) = json.loads(re.search(r"const shows = (.*);", page)[1])
+        self.assertEqual(show["next"], [-1, 0, 1, -1])
+        self.assertEqual(page.count('<path class="arrow"'), 4)
+        self.assertEqual(self.picture("one.fc", *words, "-o", "net.svg").status, 0)
+        plain = [word for word in words if word != "--arrows"]
+        self.assertEqual(self.picture("one.fc", *plain, "-o", "plain.svg").status, 0)
+        count = [(self.folder / name).read_text().count("stroke: #222222") for name in ("net.svg", "plain.svg")]
+        self.assertEqual((count[0] > 0, count[0] % 2, count[1]), (True, 0, 0))
+        self.file("0 9\n1 9\n2 9\n3 9\n", "values.txt")
+        done = self.picture("one.fc", *words, "-o", "net.html")
+        self.assertEqual((done.status, done.output), (2, ""))
+        self.assertIn("no device holds the number of a neighbour", done.errors)
+
     @needs_browser
     def test_a_browser_plays_and_slides(self) -> None:
         self.picture(CROWD, "--values", EXAMPLES / "crowd_run.expected", "--mark", "beacon", "-o", "run.html")

@@ -13,7 +13,7 @@ from ..drawing import draw, pyplot_ready
 from ..files import names_from, positions_for
 from ..networks import Network, read_scene
 from ..page import page
-from ..picture import Picture, at_places, check_marks, everywhere, gathered
+from ..picture import Picture, at_places, check_arrows, check_kinds, check_marks, everywhere, gathered
 from ..progress import Progress, described
 from ..refusals import Call, Fault, Section
 from ..sections import PAGES, PICTURES, read, sections, writable, write
@@ -56,6 +56,10 @@ def arguments(parser: argparse.ArgumentParser) -> None:
     parser.add_argument(
         "--mark", metavar="NAME", action="append", default=[], help="marks devices whose input NAME is true"
     )
+    parser.add_argument(
+        "--kinds", metavar="PARTS", help="numbers are names, and no amounts: in all parts of the values, or 2, or 1,3"
+    )
+    parser.add_argument("--arrows", action="store_true", help="arrows to the neighbour whose number a device holds")
     parser.add_argument("--title", default="", help="a line above the picture")
 
 
@@ -72,6 +76,7 @@ def perform(options: argparse.Namespace) -> int:
     answer = read(options.values) if options.values else asked(options.of, parts) if options.of else None
     program, lines = (parts[0].text or None), (parts[2].text if len(parts) > 2 else None)
     picture = check_marks(gathered(program, network, lines, answer), options.mark)
+    picture = check_arrows(check_kinds(picture, options.kinds, network.names), options.arrows)
     picture = replace(picture, title=options.title, numbers=options.numbers)
     with Progress(lambda: f"draws {len(everywhere(picture)[0]):,} devices", ticking=True):
         drawn(options, placed(options.positions, picture, network), as_page)
