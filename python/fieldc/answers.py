@@ -3,15 +3,12 @@
 from __future__ import annotations
 
 from dataclasses import dataclass, field
-from typing import TYPE_CHECKING, Union
+from typing import TYPE_CHECKING
 
 from .networks import Network
 
 if TYPE_CHECKING:
     from pandas import DataFrame
-
-Json = Union[None, bool, int, float, str, "list[Json]", "dict[str, Json]"]
-"""A value of JSON."""
 
 
 @dataclass(frozen=True)

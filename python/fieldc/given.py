@@ -8,26 +8,9 @@ from collections.abc import Hashable, Iterable, Mapping
 from dataclasses import dataclass, replace
 from typing import Any, Protocol, Union, cast, runtime_checkable
 
-from .answers import Json
-from .networks import Input, Network, declared, from_graph, read_scene
+from .networks import Graph, Input, Network, declared, from_graph, read_scene
 from .refusals import Fault
 from .sections import read
-
-
-@runtime_checkable
-class Graph(Protocol):
-    """A graph of networkx."""
-
-    @property
-    def nodes(self) -> Any:
-        ...
-
-    @property
-    def edges(self) -> Any:
-        ...
-
-    def is_directed(self) -> bool:
-        ...
 
 
 @runtime_checkable
@@ -40,7 +23,7 @@ class Array(Protocol):
 
 
 Near = Union[Iterable[Hashable], Mapping[Any, object]]
-Scene = Mapping[str, Json]
+Scene = Mapping[str, object]
 Networks = Union[Network, Graph, Array, Scene, Mapping[Any, Near], str, "os.PathLike[str]"]
 """What is taken as a network. A mapping is a scene, what networkx's `node_link_data` makes, or an adjacency list: for
 each node its neighbours, or a mapping of these to weights. A text is a scene in JSON, or the name of a file."""

@@ -2,19 +2,19 @@
 
 from __future__ import annotations
 
-from collections.abc import Hashable, Iterable, Mapping
+from collections.abc import Callable, Hashable, Iterable, Mapping
 from dataclasses import replace
 from pathlib import Path
 from typing import TypeVar, Union
 
 from . import composing, results
 from . import program as fc
-from .answers import Answer, Json, Origin
+from .answers import Answer, Origin
 from .blocks import own_library, read_library
 from .edits import moments, rounds_at_shows
 from .given import Given, Inputs, Networks, Weight, given
 from .kept import Kept
-from .networks import Network, declared
+from .networks import Json, Network, declared
 from .refusals import Call, Fault, Section
 from .sections import read
 
@@ -90,6 +90,21 @@ def by_nodes(name: str, part: object, nodes: Mapping[int, Hashable]) -> object:
     return Kept({nodes.get(device, device): content for device, content in part.items()})
 
 
+def _asked(
+    reader: Callable[[str], Found],
+    words: Iterable[str],
+    program: Program,
+    network: Networks,
+    weight: Weight,
+    inputs: Inputs | None,
+    **texts: str,
+) -> Found:
+    """What `fc` answers to a command line, a program, a network and further sections."""
+    text = text_of_program(program)
+    asked = given(network, text, weight, inputs)
+    return about(reader(_answer(words, program=text, network=asked.scene, **texts)), text, asked)
+
+
 def check(
     program: Program,
     network: Networks,
@@ -102,10 +117,7 @@ def check(
 
     Raises Refusal.
     """
-    text = text_of_program(program)
-    asked = given(network, text, weight, inputs)
-    found = results.checked(_answer(["check", *flags(facts=facts)], program=text, network=asked.scene))
-    return about(found, text, asked)
+    return _asked(results.checked, ["check", *flags(facts=facts)], program, network, weight, inputs)
 
 
 def settle(
@@ -143,18 +155,14 @@ def stable(
     program: Program, network: Networks, *, weight: Weight = "weight", inputs: Inputs | None = None
 ) -> results.Stable:
     """The value to which each device stabilises; the verdict in its place where that is a no. Raises Refusal."""
-    text = text_of_program(program)
-    asked = given(network, text, weight, inputs)
-    return about(results.stable(_answer(["stable"], program=text, network=asked.scene)), text, asked)
+    return _asked(results.stable, ["stable"], program, network, weight, inputs)
 
 
 def trace(
     program: Program, network: Networks, *, weight: Weight = "weight", inputs: Inputs | None = None
 ) -> results.Traced:
     """For each device its value and a cheapest path, where the program has walks. Raises Refusal."""
-    text = text_of_program(program)
-    asked = given(network, text, weight, inputs)
-    return about(results.traced(_answer(["trace"], program=text, network=asked.scene)), text, asked)
+    return _asked(results.traced, ["trace"], program, network, weight, inputs)
 
 
 def run(
@@ -229,14 +237,9 @@ def mail(
     """
     if (log is None) == (number is None):
         raise ValueError("mail takes a log, or a number from which one is made")
-    text = text_of_program(program)
-    asked = given(network, text, weight, inputs)
     if log is None:
-        words = ["mail", "--number", str(number)]
-        return about(results.mailed(_answer(words, program=text, network=asked.scene)), text, asked)
-    lines = text_of(log)
-    found = results.mailed(_answer(["mail"], program=text, network=asked.scene, log=lines))
-    return about(found, text, asked)
+        return _asked(results.mailed, ["mail", "--number", str(number)], program, network, weight, inputs)
+    return _asked(results.mailed, ["mail"], program, network, weight, inputs, log=text_of(log))
 
 
 def generate(number: int, *, devices: int = 64, workers: int = 4) -> results.Generated:

@@ -11,9 +11,12 @@ import random
 import re
 from collections.abc import Hashable, Iterable, Iterator, Mapping, Sequence
 from dataclasses import dataclass, field, replace
-from typing import Any, Union
+from typing import TYPE_CHECKING, Any, Protocol, TypeVar, Union, runtime_checkable
 
 from .refusals import Fault
+
+if TYPE_CHECKING:
+    import networkx
 
 GREATEST_DEVICE = 65_535
 GREATEST_NUMBER = 1_000_000
@@ -24,6 +27,26 @@ PLACES = ("x", "y", "pos", "position", "label", "name", "id")
 Input = Union[int, bool]
 Position = tuple[float, float]
 Pair = tuple[int, int]
+Found = TypeVar("Found")
+
+Json = Union[None, bool, int, float, str, "list[Json]", "dict[str, Json]"]
+"""A value of JSON."""
+
+
+@runtime_checkable
+class Graph(Protocol):
+    """A graph of networkx."""
+
+    @property
+    def nodes(self) -> Any:
+        ...
+
+    @property
+    def edges(self) -> Any:
+        ...
+
+    def is_directed(self) -> bool:
+        ...
 
 
 @dataclass(frozen=True)
@@ -53,7 +76,7 @@ class Network:
     links: tuple[tuple[int, int, int], ...]
     positions: Mapping[int, Position] = field(default_factory=dict)
     names: Mapping[int, str] = field(default_factory=dict)
-    state: Mapping[str, Any] = field(default_factory=dict)
+    state: Mapping[str, object] = field(default_factory=dict)
     nodes: Mapping[int, Hashable] = field(default_factory=dict)
 
     @property
@@ -65,7 +88,7 @@ class Network:
         """The name of a device, or its number where it has none."""
         return self.names.get(device, str(device))
 
-    def named(self, values: Mapping[int, Any]) -> dict[str, Any]:
+    def named(self, values: Mapping[int, Found]) -> dict[str, Found]:
         """Values by the names of the devices."""
         return {self.called(device): value for device, value in values.items()}
 
@@ -83,7 +106,7 @@ class Network:
         rest = "".join(f',\n "{name}": {short(part)}' for name, part in self.state.items())
         return f'{{"devices": {devices},\n "links": {in_lines([short(link) for link in self.links])}{rest}}}\n'
 
-    def graph(self) -> Any:
+    def graph(self) -> networkx.Graph:
         """The network as a networkx graph of numbers: inputs, `pos` and `name` on nodes, `weight` on edges."""
         import networkx
 
@@ -195,12 +218,12 @@ def finite(value: Any, where: str) -> float:
 
 
 def from_graph(
-    graph: Any,
+    graph: Graph,
     program: str | None = None,
     weight: str | int = "weight",
     rounds: bool = False,
     undirected: bool = False,
-    inputs: Mapping[str, Any] | None = None,
+    inputs: Mapping[str, object] | None = None,
 ) -> Network:
     """The network of a networkx graph.
 
@@ -229,7 +252,7 @@ def from_graph(
     return Network(ordered, links, places, names, nodes={device: nodes[device] for device in sorted(nodes)})
 
 
-def _given(node: Hashable, data: Mapping[str, Any], inputs: Mapping[str, Any] | None) -> Mapping[str, Any]:
+def _given(node: Hashable, data: Mapping[str, Any], inputs: Mapping[str, object] | None) -> Mapping[str, Any]:
     """The attributes of a node, with values for inputs that it hasn't."""
     more = {name: value.get(node) if isinstance(value, Mapping) else value for name, value in (inputs or {}).items()}
     return {**{name: value for name, value in more.items() if value is not None}, **data}

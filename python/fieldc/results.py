@@ -8,8 +8,9 @@ from collections.abc import Hashable, Iterator, Mapping
 from dataclasses import dataclass, field
 from typing import Any, TypeVar, Union, cast
 
-from .answers import Answer, Json
+from .answers import Answer
 from .kept import Kept
+from .networks import Json
 from .refusals import Fault
 
 Found = TypeVar("Found")

@@ -173,9 +173,7 @@ class Maker:
         """A body that hears what neighbours have held."""
         if wanted == "int":
             heard = self.dice.choice((heard, f"{heard} + 1", f"{heard} + nbrLink", f"max({heard}, {self.number()})"))
-        words = (
-            {"int": ["sumHood"], "bool": ["anyHood", "allHood"]}.get(wanted, []) if isinstance(wanted, str) else []
-        )
+        words = {"int": ["sumHood"], "bool": ["anyHood", "allHood"]}.get(wanted, []) if isinstance(wanted, str) else []
         word = self.dice.choice(["minHoodLoc", "maxHoodLoc", *words])
         if word in words:
             return f"{word}({heard})"

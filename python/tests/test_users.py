@@ -244,6 +244,18 @@ class Made(unittest.TestCase):
         with self.assertRaises(fieldc.Fault):
             fieldc.draw(results.checked("yes 3\n"), ax=axes[0])
 
+    def test_no_public_type_is_any(self) -> None:
+        """The names of types that functions, methods and parts of classes have; `Inputs` and `Networks` say why not."""
+        looked = 0
+        for name in fieldc.__all__:
+            thing = getattr(fieldc, name)
+            parts = [thing, *vars(thing).values()] if isinstance(thing, type) else [thing]
+            for part in parts:
+                for key, kind in getattr(part, "__annotations__", {}).items():
+                    self.assertNotRegex(str(kind), r"\bAny\b", f"{name} {key}")
+                    looked += 1
+        self.assertGreater(looked, 150)
+
     def test_version(self) -> None:
         self.assertIn(f'VERSION = "{fieldc.__version__}"', (TOP / "python/fieldc/version.py").read_text())
 
