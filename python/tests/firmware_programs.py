@@ -14,6 +14,7 @@ KINDS = {"not": ("bool",), "and": ("bool", "bool"), "or": ("bool", "bool"), "ris
 
 
 TELLING = (
+    "language 2; ceiling 20; main = rep(2){(x) => rep(x){(y) => 3}} + share(rep(1){(z) => z}){(w) => 2};\n",
     "ceiling 100; input b: bool; main = if (sense b) {rep(5){(x) => x + 1 + sumHood(nbr{0})}} {7};\n",
     "ceiling 100; input b: bool; main = if (sense b) {rep(5){(x) => x + 1}} {rep(50){(x) => x + 2}};\n",
     "ceiling 9; input b: bool; input c: bool;\n"

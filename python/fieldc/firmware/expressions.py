@@ -7,6 +7,7 @@ neighbour `i`; where a name or a parameter is bound to it, an array with a value
 
 from __future__ import annotations
 
+import re
 import textwrap
 from collections.abc import Callable, Iterator
 from contextlib import contextmanager
@@ -20,6 +21,7 @@ from .names import Names, members
 DEEPEST = 6
 LONGEST = 70
 WIDEST = 110
+LITERAL = re.compile(r"\d+|true|false")
 WORDS = {"+": "add", "-": "subtract", "*": "multiply", "<": "less", "=": "equal", "and": "&&", "or": "||", "not": "!"}
 HOODS = {"minHoodLoc": "least", "maxHoodLoc": "greatest", "sumHood": "sum", "anyHood": "any", "allHood": "all"}
 
@@ -127,9 +129,8 @@ class Body:
 
     def dropped(self, expr: Expr) -> None:
         """An expression whose value nobody reads, evaluated for what it sends and keeps."""
-        before = len(self.lines)
         code = self.local(expr)
-        if len(self.lines) > before:
+        if not LITERAL.fullmatch(code.text):
             self.line(f"(void){code.text};")
 
     # ---- forms of local type
