@@ -27,6 +27,30 @@ TELLING = (
 """Programs that tell what random ones tell rarely."""
 
 
+def nested(inner: str, around: str, count: int) -> str:
+    """An expression inside of others: `{e}` stands for the inner one, `{i}` for a number."""
+    for place in range(count):
+        inner = around.replace("{e}", inner).replace("{i}", str(place % 9))
+    return inner
+
+
+LETS = " ".join(f"let x{place} = x{place - 1} + 1 in" for place in range(1, 500))
+DEEP = tuple(
+    f"ceiling 10; input b: bool; main = {main};\n"
+    for main in (
+        nested("sumHood(nbr{1})", "if (sense b) {{e}} {{i}}", 190),
+        nested("rep(1){(x) => x}", "if (sense b) {{i}} {{e}}", 190),
+        " + ".join(["1"] * 1000),
+        f"let x0 = 1 in {LETS} x499",
+        f"if ({'not ' * 1500} true) {{1}} {{2}}",
+        f"sumHood({' + '.join(['nbr{1}'] * 500)})",
+        f"sumHood({nested('nbr{1}', '({e} + 1)', 150)})",
+        nested("rep(1){(x) => x}", "rep({e}){(y) => y + {i}}", 90),
+    )
+)
+"""Programs that are nested as deeply, or are as long, as a program may be, or nearly."""
+
+
 @dataclass(frozen=True)
 class Function:
     """A function that may be called."""

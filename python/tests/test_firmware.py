@@ -18,7 +18,7 @@ import firmware_costs
 from firmware_driver import STRICT, Compiler
 from firmware_runs import case_of, compared, programs_of_cases
 from firmware_fuzz import fuzzed
-from firmware_programs import TELLING, made
+from firmware_programs import DEEP, TELLING, made
 from helping import HOPS, TOP, fieldc, needs, needs_fc
 from test_pages import commands_of, typed
 
@@ -238,6 +238,14 @@ class Text(unittest.TestCase):
                         "-Werror",
                     ]
                     subprocess.run([*words, "-fsyntax-only", str(path)], check=True)
+
+    @needs_both
+    def test_the_deepest_programs_compile(self) -> None:
+        with tempfile.TemporaryDirectory() as folder:
+            for place, text in enumerate(DEEP):
+                path = written(firmware_of(text, f"p{place}"), Path(folder))
+                for compiler in COMPILERS:
+                    subprocess.run([compiler, *STRICT, "-fsyntax-only", str(path)], check=True)
 
     def test_the_layout_covers_each_bit_once(self) -> None:
         for seed in range(40):

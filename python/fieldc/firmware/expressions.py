@@ -19,6 +19,7 @@ from .layout import Frame, Layout, Leaf, Slot, shown, uses
 from .names import Names, members
 
 DEEPEST = 6
+DEEPEST_INDENT = 12
 LONGEST = 70
 WIDEST = 110
 LITERAL = re.compile(r"\d+|true|false")
@@ -66,9 +67,14 @@ class Body:
         self.scope: dict[str, Bound] = {}
         self.said = ""
 
+    @property
+    def front(self) -> str:
+        """What stands before a statement; of deeply nested ones no more than of less deep ones."""
+        return "    " * min(self.indent, DEEPEST_INDENT)
+
     def line(self, text: str) -> None:
         """Writes a statement."""
-        front = "    " * self.indent
+        front = self.front
         if len(front) + len(text) <= WIDEST:
             self.lines.append(front + text)
         else:
@@ -77,11 +83,11 @@ class Body:
 
     def comment(self, expr: Expr) -> None:
         """Writes the text of the program from which the next statements come, unless it stands there."""
-        room = max(20, WIDEST - 4 * self.indent - 16)
+        room = WIDEST - len(self.front) - 16
         text = f"/* {expr.at.line}: {shown(self.known.text, expr, room)} */"
         if text != self.said:
             self.said = text
-            self.lines.append("    " * self.indent + text)
+            self.lines.append(self.front + text)
 
     @contextmanager
     def block(self, head: str, end: str = "}") -> Iterator[None]:
