@@ -125,4 +125,6 @@ def wrong_sections(words: tuple[str, ...], count: int) -> Said | None:
     given = f"{count} {'is' if count == 1 else 'are'} given"
     what = f"`{command}` takes {counted(len(wanted), 'section')}, {names}, and {given}."
     hint = "Two sections are parted by a line that is exactly `%%`."
+    if 0 < count < len(wanted):
+        hint = f"The {wanted[count]} is missing: give its file too, or put it behind a line that is exactly `%%`."
     return Said(what, None, command, hint, FORMATS + "#the-input")

@@ -200,8 +200,11 @@ def check_marks(picture: Picture, marks: Sequence[str]) -> Picture:
     if len(marks) > len(OUTLINES):
         raise Fault(f"--mark: {len(marks)} are given, and at most {len(OUTLINES)} are told apart")
     for name in marks:
-        if not any(name in own for frame in picture.frames for own in frame.network.inputs.values()):
+        inputs = [own for frame in picture.frames for own in frame.network.inputs.values()]
+        if not any(name in own for own in inputs):
             raise Fault(f"--mark {name}: no device has this input")
+        if not any(isinstance(own.get(name), bool) for own in inputs):
+            raise Fault(f"--mark {name}: this input is a number, and devices are marked where one is true")
     return replace(picture, marks=tuple(marks))
 
 

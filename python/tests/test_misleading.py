@@ -131,6 +131,18 @@ class Files(InFolder):
         done = fieldc("run", program, scene, self.file("run ten\n", "script.txt"))
         self.assertNotIn("Devices have their numbers", done.errors)
 
+    @needs_fc
+    def test_a_file_that_is_missing_is_named(self) -> None:
+        program, scene = self.file(HOPS, "hops.fc"), self.file(LINE, "line.json")
+        for command, files, says in (
+            ("run", (program, scene), "script"),
+            ("check", (program,), "network"),
+            ("mail", (program, scene), "mail log"),
+        ):
+            done = fieldc(command, *files)
+            self.assertEqual((done.status, done.output), (3, ""), command)
+            self.assertIn(f"try: The {says} is missing: give its file too", done.errors)
+
     def test_an_fc_that_isnt_one(self) -> None:
         program, scene = self.file(HOPS, "hops.fc"), self.file(LINE, "line.json")
         for fc in ("/bin/cat", "/bin/true", "/bin/false", "/bin/echo"):

@@ -267,6 +267,10 @@ class Command(InFolder):
         done = self.picture("net.json", *marks, *["--mark", "a"] * 3, "-o", "net.svg")
         self.assertEqual((done.status, done.output), (2, ""))
         self.assertIn("6 are given, and at most 5 are told apart", done.errors)
+        self.file(network.with_inputs(network.line(2), [("load", 3, None)]).scene(), "net.json")
+        done = self.picture("net.json", "--mark", "load", "-o", "net.svg")
+        self.assertEqual((done.status, done.output), (2, ""))
+        self.assertIn("--mark load: this input is a number", done.errors)
 
     def test_the_scale_of_a_page_is_that_of_the_settled_values(self) -> None:
         self.file(HOPS.replace("10", "90"), "hops.fc")
