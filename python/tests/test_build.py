@@ -175,26 +175,28 @@ class Install(unittest.TestCase):
             file.write_text("")
         cls.done = cls.checkout.run("build", "--prefix", str(cls.prefix))
 
-    def run_there(self, name: str, *words: str, prefix: Path | None = None) -> str:
-        """Runs an installed program, where nothing of a checkout is found."""
+    def run_there(self, name: str, *words: str, prefix: Path | None = None, status: int = 0) -> str:
+        """Runs an installed program, where nothing of a checkout is found; with a status above 0 what it tells."""
         environment = {"PATH": "/usr/bin:/bin", "HOME": str(self.folder)}
         done = subprocess.run(
-            [(prefix or self.prefix) / name, *words], capture_output=True, text=True, check=True, env=environment,
+            [(prefix or self.prefix) / name, *words], capture_output=True, text=True, check=False, env=environment,
             cwd=self.folder, input="",
         )  # fmt: skip
-        return done.stdout
+        self.assertEqual(done.returncode, status, done)
+        return done.stderr if status else done.stdout
 
     def test_programs(self) -> None:
         self.assertEqual(self.run_there("bin/fc", "check", "--facts"), "proved check --facts\n")
         self.assertEqual(self.run_there("libexec/fc/fc", "gen", "3"), "proved gen 3\n")
         self.assertEqual(self.run_there("bin/fieldc", "--version"), f"fieldc {VERSION}\n")
-        self.assertEqual(self.run_there("bin/fieldc", "format", "-"), "proved format\n")
+        self.assertIn("wrote 'proved format\\n'", self.run_there("bin/fieldc", "format", "-", status=2))
         self.assertIn("usage: fieldc network", self.run_there("bin/fieldc", "network", "--help"))
 
     def test_they_may_be_moved(self) -> None:
         there = Path(shutil.copytree(self.prefix, self.folder / "elsewhere", symlinks=True))
         (there / "libexec/fc/fc").write_text(PROGRAM.replace("proved", "moved"))
-        self.assertEqual(self.run_there("bin/fieldc", "format", "-", prefix=there), "moved format\n")
+        told = self.run_there("bin/fieldc", "format", "-", prefix=there, status=2)
+        self.assertIn("wrote 'moved format\\n'", told)
         self.assertEqual(self.run_there("bin/fc", "format", prefix=there), "moved format\n")
 
     def test_pages_completions_and_documents(self) -> None:
