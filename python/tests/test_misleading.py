@@ -154,7 +154,7 @@ class Files(InFolder):
 
 class Ending(InFolder):
     def test_an_interrupt_at_any_time_is_no_traceback(self) -> None:
-        slow = Path(self.file("#!/bin/sh\nsleep 60\n", "fc"))
+        slow = Path(self.file("#!/bin/sh\nexec sleep 60\n", "fc"))
         slow.chmod(0o755)
         environment = dict(os.environ, FC=str(slow))
         for seconds in (0.0, 0.02, 0.05, 0.1, 0.2, 0.4, 1.5):
