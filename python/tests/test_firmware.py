@@ -26,8 +26,8 @@ from fieldc.blocks import own_library, read_library
 from fieldc.firmware import Firmware, firmware_of, header_text, layout_text, source_text
 from fieldc.firmware.cost import MACHINES, ROOMS, device_bytes, work
 
-SEEDS = 6
-CASES = 6
+SEEDS = 8
+CASES = 8
 COMPILERS = [name for name in ("gcc", "clang") if shutil.which(name)]
 needs_gcc = unittest.skipIf(shutil.which("gcc") is None, "gcc isn't there (Debian: gcc)")
 needs_both = unittest.skipIf(len(COMPILERS) < 2, "gcc or clang isn't there (Debian: gcc, clang)")
