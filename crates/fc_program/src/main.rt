@@ -5,14 +5,10 @@
 
 mod ending;
 #[cfg(test)]
-mod held_firing;
+mod held;
 #[cfg(test)]
-mod held_mix;
-#[cfg(test)]
-mod hostile_rows;
+mod hostile;
 mod judging;
-#[cfg(test)]
-mod tests;
 mod top;
 
 use export_table::OpenGate;
