@@ -1,0 +1,5 @@
+pub mod Within
+pub mod Exact
+mod EditsStay
+mod LookedUp
+mod Rounds

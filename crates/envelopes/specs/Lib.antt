@@ -1,0 +1,6 @@
+pub mod Envelopes
+pub mod Exactly
+pub mod Edits
+pub mod Logs
+pub mod Lookups
+pub mod Laws
