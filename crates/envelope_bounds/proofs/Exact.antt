@@ -3,13 +3,13 @@ use Rattle.std.proofs.Common.{◌≡◌, ℕ, zero, suc, List, [], ◌∷◌, ma
 use Rattle.std.proofs.Common.{if◌then◌else◌}
 use Rattle.std.specs.Prelude.{nat_eq}
 use Rattle.fc_nodes.specs.Program.{Unfolding}
-use Rattle.topology.specs.Networks.{Edge, Network, IsNetwork, Lives, inputs_in, near_in, near}
+use Rattle.topology.specs.Networks.{Edge, Network, Lives, inputs_in, near_in, near}
 use Rattle.value_bounds.specs.BoundValues.{BoundValue, exactly}
 use Rattle.bound_firing.specs.Exports.{bound_export}
 use Rattle.bound_firing.specs.Seats.{NearSeat, Seats}
 use Rattle.bound_firing.specs.Firing.{BoundSituation, bound_of}
 use Rattle.export_bounds.specs.Exports.{either_export}
-use Rattle.envelopes.specs.Envelopes.{is_sure, maybe_near}
+use Rattle.envelopes.specs.Envelopes.{maybe_near}
 use Rattle.envelopes.specs.Exactly.{exact_link, exact_envelope}
 use Rattle.envelopes.proofs.Exact.{inputs_are, sure_exact}
 use Rattle.bound_rounds.specs.declared.rounds.RoundKind.{RoundKind}

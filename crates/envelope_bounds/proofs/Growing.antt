@@ -42,7 +42,8 @@ module _ (hold : ExportsHold) (U : Unfolding) (E : Envelope) where
       let g = grown_holds_within first c h i in
       record {
         exports = λ d l.
-            still_lies (grown_within U E first i d) (fired_within U E (grown_within U E first i) d) (c.exports d) (g.exports d l);
+            still_lies (grown_within U E first i d) (fired_within U E (grown_within U E first i) d) (c.exports d)
+            (g.exports d l);
         flights = λ d l s q e typed v. (hold U).first (grown_within U E first i d)
             (fired_within U E (grown_within U E first i) d) e (g.flights d l s q e typed v);
       }
@@ -134,7 +135,8 @@ module _ (fit : CopiesFit) (P : Program) (E : Envelope) (program : IsProgram P) 
     first_flight b (begins f g q k v) s p x typed w = absurd (no_flight s p k)
     first_flight b (comes g q k) s p x typed w = absurd (no_flight s p k)
 
-  pub first_holds_within : ExportsHold → (first : BoundTable) → FirstTableWithin U E c.net c first → HoldsCoreWithin U E first c
+  pub first_holds_within : ExportsHold → (first : BoundTable) → FirstTableWithin U E c.net c first →
+      HoldsCoreWithin U E first c
   first_holds_within hold first b = record {
     exports = λ d l. first_export hold d l (first d) (b d l);
     flights = λ d l s q e typed v. first_flight hold d l (first d) (b d l) s q e typed v;
@@ -145,6 +147,7 @@ tables_grow_within fit hold P E program c good =
     let U = unfolding_of P in
     record {
       some = some_first_within fit P E program c good;
-      holds = λ first i b. grown_holds_within hold U E first c (first_holds_within fit P E program c good hold first b) i;
+      holds =
+          λ first i b. grown_holds_within hold U E first c (first_holds_within fit P E program c good hold first b) i;
       closed = λ table full. full_closed_within hold U E table full;
     }

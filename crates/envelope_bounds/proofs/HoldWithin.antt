@@ -1,6 +1,7 @@
 -- What a closed table holds stays within the bounds after each number of rounds, while the network changes within an
 -- envelope. From any exports is the case of the table that holds every good core.
-use Rattle.std.proofs.Common.{◌≡◌, ◌+◌, ℕ, zero, suc, ◌≤◌, refl, sym, ◌∙◌, subst, arith, true, false, Option, Some, None}
+use Rattle.std.proofs.Common.{◌≡◌, ◌+◌, ℕ, zero, suc, ◌≤◌, refl, sym, ◌∙◌, subst, arith, true, false, Option, Some}
+use Rattle.std.proofs.Common.{None}
 use Rattle.fc_values.specs.Trees.{TreeExport, Copy}
 use Rattle.fc_nodes.specs.Program.{Program, Unfolding, unfolding_of, IsProgram}
 use Rattle.fc_nodes.specs.Flat.{IsWellTyped}
@@ -76,7 +77,8 @@ module _ (fit : CopiesFit) (P : Program) (E : Envelope) (program : IsProgram P) 
           closed.fires d l e (typed_of n f net same t d there e v)
           (firings_land_within U E n envelope w table f (λ m q. h m q 0 (omega arith)) d there e v)
       by_round j n f w net same t h d there e v l (suc i) k =
-          firings_land_within U E n envelope w (rounds_within U E table i) f (λ m q. h m q i (omega (arith, k))) d there e v
+          firings_land_within U E n envelope w (rounds_within U E table i) f (λ m q. h m q i (omega (arith, k))) d
+          there e v
 
   -- a good core that the table holds is at level 0
   pub held_start : (c : Core) → IsGood U c → LiesWithin E c.net → HoldsCoreWithin U E table c
@@ -110,7 +112,8 @@ module _ (keeps : StepsKeepGood) (fit : CopiesFit) (cuts : RunsCut) where
       → MaybeLies (unfolding_of P) (rounds_within (unfolding_of P) E table i d) (last.exports d)
   at_level P E program envelope table closed start last good h i m d l k r =
       let z : 0 + m ≡ m = omega arith in
-      let a = subst (λ (x : ℕ). MovingLevel (WithinIn (unfolding_of P) E table) (unfolding_of P) (LiesWithin E) x last) z
+      let a =
+      subst (λ (x : ℕ). MovingLevel (WithinIn (unfolding_of P) E table) (unfolding_of P) (LiesWithin E) x last) z
       (moves_by_rounds keeps fit cuts (WithinIn (unfolding_of P) E table) P (LiesWithin E) program
       (lifts fit P E program envelope table closed) 0 m r.log start last
       (held_start fit P E program envelope table closed start good (stays_first (LiesWithin E) start.net r.log r.stays)
@@ -147,6 +150,7 @@ pub bounds_hold_within : BoundsHoldWithinFrom → BoundsHoldWithin
 bounds_hold_within from P E program envelope start last good m d l r =
     let U = unfolding_of P in
     let at : (i : ℕ) → i ≤ m → StandsIn U (rounds_within U E (any_table U) i d) (last.exports d) =
-    λ i k. from P E program envelope (any_table U) (any_closed_within U E) start last good (any_holds_within U E start good) i m
+    λ i k. from P E program envelope (any_table U) (any_closed_within U E) start last good
+    (any_holds_within U E start good) i m
     d l k r in
     record { bounds = at; there = λ k s. (at 1 k).sure s }

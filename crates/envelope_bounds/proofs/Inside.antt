@@ -1,5 +1,5 @@
 -- The neighbours of a network within an envelope take seats, so what they fire to lies in what bounds fire to.
-use Rattle.std.proofs.Common.{◌≡◌, ◌≤◌, ℕ, List, [], ◌∷◌, map, refl, sym, ◌∙◌, ap, subst, Bool, true, false, ◌&&◌, ◌||◌}
+use Rattle.std.proofs.Common.{◌≡◌, ◌≤◌, ℕ, List, [], ◌∷◌, map, refl, sym, ◌∙◌, ap, subst, Bool, true, false, ◌&&◌}
 use Rattle.std.proofs.Common.{Option, Some, None, option_map, if◌then◌else◌}
 use Rattle.std.specs.Prelude.{nat_eq}
 use Rattle.fc_values.specs.Types.{Declarations}
@@ -8,7 +8,7 @@ use Rattle.fc_values.specs.Trees.{TreeExport}
 use Rattle.fc_values.proofs.Rising.{rises_apart, rises_tail}
 use Rattle.fc_nodes.specs.Program.{Unfolding}
 use Rattle.device_eval.specs.Copies.{near_tree, env_of, situation_of}
-use Rattle.topology.specs.Networks.{NetDevice, Edge, Network, LinksFit, numbers, lives, Lives, inputs_in, near_in}
+use Rattle.topology.specs.Networks.{Edge, numbers, near_in}
 use Rattle.topology.specs.Nearby.{near_numbers}
 use Rattle.topology.proofs.Lemmas.{AllNear, near_fits, near_rises}
 use Rattle.firing_core.specs.Cores.{Map, near_with, near_copies, copy_of}
@@ -19,7 +19,7 @@ use Rattle.bound_firing.proofs.Firings.{firings_land, local_lies}
 use Rattle.bound_firing.specs.Seats.{OwnSeen, SeenNear, no_seat, takes, free, Sees, maybes}
 use Rattle.bound_firing.specs.Firing.{bound_of}
 use Rattle.envelopes.specs.Envelopes.{MaybeLink, Envelope, ids, MayLive, bounds_in, maybe_near, near_ids, least_edge}
-use Rattle.envelopes.specs.Envelopes.{LinksWithin, no_link, is_linked, is_unlinked, LiesWithin}
+use Rattle.envelopes.specs.Envelopes.{LinksWithin, no_link, is_linked, is_unlinked}
 use Rattle.bound_rounds.specs.Rounds.{BoundTable}
 use Rattle.envelope_bounds.specs.Rounds.{seat_in, seats_in, situation_in}
 use Rattle.settle_rounds.specs.Starts.{MaybeLies}

@@ -39,5 +39,6 @@ lines_hold from starts P E program envelope start last good most table is r d b 
 pub lines_hold_anyhow : BoundsHoldWithinFrom → LinesHoldAnyhow
 lines_hold_anyhow from P E program envelope start last good r d b l h m le log =
     let U = unfolding_of P in
-    bound_holds from P E program envelope start last good (any_table U) (any_closed_within U E) (any_holds_within U E start good)
+    bound_holds from P E program envelope start last good (any_table U) (any_closed_within U E)
+    (any_holds_within U E start good)
     r d b l h m le log

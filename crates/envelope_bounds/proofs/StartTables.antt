@@ -1,6 +1,7 @@
 -- A core has at most one table from which its rounds within an envelope are counted, and each good core has one, which
 -- is closed and holds the core.
-use Rattle.std.proofs.Common.{◌≡◌, ℕ, zero, suc, ◌≤◌, List, [], ◌∷◌, refl, sym, ◌∙◌, ap, subst, arith, Bool, true, false}
+use Rattle.std.proofs.Common.{◌≡◌, ℕ, zero, suc, ◌≤◌, List, [], ◌∷◌, refl, sym, ◌∙◌, ap, subst, arith, Bool, true}
+use Rattle.std.proofs.Common.{false}
 use Rattle.std.proofs.Common.{nat_eq, ◌⊎◌, inl, inr, Option, Some, None}
 use Rattle.std.specs.Prelude.{nat_le}
 use Rattle.std.proofs.lemmas.Bool.{cases_eq, or_right}
@@ -25,7 +26,8 @@ use Rattle.envelope_bounds.specs.Within.{StartTableWithin, grows, any_start, One
 use Rattle.envelope_bounds.specs.Within.{StartsHoldWithin}
 use Rattle.envelope_bounds.proofs.OneExport.{one_evaluation}
 use Rattle.envelope_bounds.proofs.HoldWithin.{any_closed_within, any_holds_within}
-use Rattle.envelope_bounds.proofs.Growing.{full_closed_within, grown_holds_within, some_first_within, first_holds_within}
+use Rattle.envelope_bounds.proofs.Growing.{full_closed_within, grown_holds_within, some_first_within}
+use Rattle.envelope_bounds.proofs.Growing.{first_holds_within}
 use Rattle.envelope_bounds.proofs.Still.{after_agree, still_agree, still_stays_within}
 
 -- ---- each device has one first bound
@@ -118,14 +120,16 @@ module _ (hold : ExportsHold) (U : Unfolding) (E : Envelope) where
     gets_full : (most : ℕ) → GetsFull most ⊎ NeverFull most
     gets_full zero = by_test (full_or (grown_within U E first 0))
       where
-        by_test : IsFullWithin U E (grown_within U E first 0) ⊎ (IsFullWithin U E (grown_within U E first 0) → ⊥) → GetsFull 0 ⊎ NeverFull 0
+        by_test : IsFullWithin U E (grown_within U E first 0) ⊎ (IsFullWithin U E (grown_within U E first 0) → ⊥) →
+            GetsFull 0 ⊎ NeverFull 0
         by_test (inl full) = inl (record { rounds = 0; within = omega arith; full = full })
         by_test (inr other) = inr (λ i l full. let z : i ≡ 0 = omega (arith, l) in
             other (subst (λ n. IsFullWithin U E (grown_within U E first n)) z full))
     gets_full (suc most) = by_both (gets_full most) (full_or (grown_within U E first (suc most)))
       where
         by_both : GetsFull most ⊎ NeverFull most
-            → IsFullWithin U E (grown_within U E first (suc most)) ⊎ (IsFullWithin U E (grown_within U E first (suc most)) → ⊥)
+            → IsFullWithin U E (grown_within U E first (suc most)) ⊎
+            (IsFullWithin U E (grown_within U E first (suc most)) → ⊥)
             → GetsFull (suc most) ⊎ NeverFull (suc most)
         by_both (inl found) last =
             inl (record { rounds = found.rounds; within = omega (arith, found.within); full = found.full })
@@ -147,10 +151,12 @@ module _ (U : Unfolding) (E : Envelope) (N : Network) (envelope : IsEnvelope E) 
     grown_same i d l = after_agree kind.Growing U E envelope f g agree i d l
 
     full_same : (i : ℕ) → IsFullWithin U E (grown_within U E f i) → IsFullWithin U E (grown_within U E g i)
-    full_same i full = still_agree kind.Growing U E envelope (grown_within U E f i) (grown_within U E g i) (grown_same i) full
+    full_same i full =
+        still_agree kind.Growing U E envelope (grown_within U E f i) (grown_within U E g i) (grown_same i) full
 
   -- and a full one is that of any other number of rounds after which it is full
-  both_full : (g : BoundTable) (i k : ℕ) → IsFullWithin U E (grown_within U E g i) → IsFullWithin U E (grown_within U E g k) → (d : ℕ)
+  both_full : (g : BoundTable) (i k : ℕ) → IsFullWithin U E (grown_within U E g i) →
+      IsFullWithin U E (grown_within U E g k) → (d : ℕ)
       → MayLive E d → grown_within U E g i d ≡ grown_within U E g k d
   both_full g i k x y d l = by_order (nat_le i k) refl
     where
@@ -158,7 +164,8 @@ module _ (U : Unfolding) (E : Envelope) (N : Network) (envelope : IsEnvelope E) 
       by_order true t = sym (still_stays_within kind.Growing U E envelope g i k x (grind (arith, t)) d l)
       by_order false t = still_stays_within kind.Growing U E envelope g k i y (grind (arith, t)) d l
 
-  same_start : (s t : BoundTable) → StartTableWithin U E N most c s → StartTableWithin U E N most c t → (d : ℕ) → MayLive E d → s d ≡ t d
+  same_start : (s t : BoundTable) → StartTableWithin U E N most c s → StartTableWithin U E N most c t → (d : ℕ) →
+      MayLive E d → s d ≡ t d
   same_start s t (grows f i first l x) (grows g k second m y) d here =
       grown_same f g first second i d here ∙ both_full g i k (full_same f g first second i x) y d here
   same_start s t (grows f i first l x) (any_start g second none) d here =
@@ -178,7 +185,8 @@ module _ (fit : CopiesFit) (hold : ExportsHold) (P : Program) (E : Envelope) (pr
   some_start : (table : BoundTable) × StartTableWithin U E c.net most c table
   some_start = by_first (some_first_within fit P E program c good)
     where
-      by_first : (first : BoundTable) × FirstTableWithin U E c.net c first → (table : BoundTable) × StartTableWithin U E c.net most c table
+      by_first : (first : BoundTable) × FirstTableWithin U E c.net c first →
+          (table : BoundTable) × StartTableWithin U E c.net most c table
       by_first t = by_full (gets_full hold U E t.0 most)
         where
           by_full : GetsFull hold U E t.0 most ⊎ NeverFull hold U E t.0 most
@@ -191,7 +199,8 @@ module _ (fit : CopiesFit) (hold : ExportsHold) (P : Program) (E : Envelope) (pr
     closed = full_closed_within hold U E (grown_within U E first i) full;
     holds = grown_holds_within hold U E first c (first_holds_within fit P E program c good hold first has) i;
   }
-  start_holds s (any_start first has none) = record { closed = any_closed_within U E; holds = any_holds_within U E c good }
+  start_holds s (any_start first has none) =
+      record { closed = any_closed_within U E; holds = any_holds_within U E c good }
 
 pub starts_hold_within : CopiesFit → ExportsHold → StartsHoldWithin
 starts_hold_within fit hold P E program c good most = record {

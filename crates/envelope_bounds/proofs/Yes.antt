@@ -1,6 +1,6 @@
 -- Levels rise with the number of devices, so a yes for more devices is one for fewer, with no more rounds.
-use Rattle.std.proofs.Common.{◌≡◌, ◌≤◌, ◌+◌, ◌-◌, ◌*◌, ℕ, zero, suc, min, max, List, [], ◌∷◌, length, refl, sym, ◌∙◌}
-use Rattle.std.proofs.Common.{subst, arith, Bool, true, false, Option, Some, None, nat_eq, if◌then◌else◌}
+use Rattle.std.proofs.Common.{◌≡◌, ◌≤◌, ◌+◌, ◌-◌, ◌*◌, ℕ, zero, suc, max, List, length, refl}
+use Rattle.std.proofs.Common.{arith, Bool, true, false, Option, Some, None, nat_eq, if◌then◌else◌}
 use Rattle.std.specs.declared.result.Result.{Result}
 use Rattle.std.specs.declared.result.Result.TheVariants.{Ok, Err}
 use Rattle.fc_values.specs.Types.{ValueType}
@@ -22,7 +22,7 @@ use Rattle.fragment_check.specs.declared.kinds.Pattern.TheVariants as pattern
 use Rattle.fragment_check.specs.Patterns.{pattern_of, first_refused}
 use Rattle.fragment_check.specs.Levels.{Stages, Lvs, bind_level, reads_level, leaf_level, level_of, level_all}
 use Rattle.fragment_check.specs.Verdicts.{stage_rounds, ranks, added_levels, added_by, added_at, variable_range}
-use Rattle.fragment_check.specs.Verdicts.{stages_of, judged_of, main_level, verdict_by, verdict_of}
+use Rattle.fragment_check.specs.Verdicts.{stages_of, judged_of, main_level, verdict_by}
 use Rattle.converge_laws.specs.Verdicts.{YesStabilises}
 use Rattle.envelopes.specs.Envelopes.{MaybeDevice, DevicesWithin, no_device, is_there, is_away}
 use Rattle.envelope_bounds.specs.Yes.{VerdictsRise, YesHoldsWithin}

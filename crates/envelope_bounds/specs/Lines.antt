@@ -23,8 +23,8 @@ StillStaysWithin = (k : RoundKind) (U : Unfolding) (E : Envelope) → IsEnvelope
 
 -- ---- what a line of text promises
 
--- the bound of a device's value in the table after r rounds, where the export is there for sure or the device may be away.
--- In the text r is the first round with the last bound
+-- the bound of a device's value in the table after r rounds, where the export is there for sure or the device may be
+-- away. In the text r is the first round with the last bound
 pub record HasBound (U : Unfolding) (E : Envelope) (start : BoundTable) (r d : ℕ) (b : BoundValue) : Type 0 where
   pub is : (rounds_within U E start r d).value ≡ b
   pub there : ((rounds_within U E start r d).sure ≡ true) ⊎ (is_sure E d ≡ false)

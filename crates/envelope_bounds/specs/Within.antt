@@ -18,8 +18,8 @@ use Rattle.envelopes.specs.Logs.{StaysWithin}
 use Rattle.settle_rounds.specs.Rounds.{any_table}
 use Rattle.settle_rounds.specs.Starts.{MaybeLies}
 
--- ---- the law of firing over an envelope: what a copy evaluates to that is taken on a network within the envelope, from
--- exports in a table of bounds, lies in the firing over the table
+-- ---- the law of firing over an envelope: what a copy evaluates to that is taken on a network within the envelope,
+-- from exports in a table of bounds, lies in the firing over the table
 abbrev pub FiringsLandWithin : Type 0
 FiringsLandWithin = (U : Unfolding) (E : Envelope) (N : Network) → IsEnvelope E → LiesWithin E N
     → (bounds : BoundTable) (table : Map TreeExport)
@@ -41,8 +41,8 @@ pub record StandsIn (U : Unfolding) (b : ExportBound) (o : Option TreeExport) : 
 
 -- ---- from every good core
 
--- after m rounds from a good core each export lies in the bounds after any i rounds up to m; and from the first round on
--- a device that is always there has one
+-- after m rounds from a good core each export lies in the bounds after any i rounds up to m; and from the first round
+-- on a device that is always there has one
 pub record HoldsWithin (U : Unfolding) (E : Envelope) (m d : ℕ) (last : Core) : Type 0 where
   pub bounds : (i : ℕ) → i ≤ m → StandsIn U (rounds_within U E (any_table U) i d) (last.exports d)
   pub there : 1 ≤ m → is_sure E d ≡ true → (e : TreeExport) × (last.exports d ≡ Some e)
@@ -87,9 +87,9 @@ BoundsReachWithin = (P : Program) (E : Envelope) → IsProgram P → IsEnvelope 
 
 -- ---- the table of a core
 
--- A device's first bound, of a core on a network: its export, and the one that its copy in flight evaluates to. Where it
--- has neither, the one that a copy taken now evaluates to; and of a device that isn't there, what it makes on its own.
--- There for sure is an export of a device that is always there.
+-- A device's first bound, of a core on a network: its export, and the one that its copy in flight evaluates to. Where
+-- it has neither, the one that a copy taken now evaluates to; and of a device that isn't there, what it makes on its
+-- own. There for sure is an export of a device that is always there.
 pub data FirstWithin (U : Unfolding) (E : Envelope) (N : Network) (c : Core) (d : ℕ) : ExportBound → Type 0 where
   stands : (e : TreeExport) → c.exports d ≡ Some e → c.flying d ≡ None
       → FirstWithin U E N c d (exact_export U (is_sure E d) e)

@@ -10,8 +10,8 @@ use converge_laws::yes_stabilises;
 use export_bounds::exports_hold;
 use firing_core::{faultless_steps, runs_cut, steps_keep_good};
 
-/// A copy that is taken on a network within an envelope, from exports in bounds, evaluates to what lies in the firing of
-/// the bounds over the envelope.
+/// A copy that is taken on a network within an envelope, from exports in bounds, evaluates to what lies in the firing
+/// of the bounds over the envelope.
 pub fn firings_land_within()
     ensures { FiringsLandWithin }
 {}
@@ -26,8 +26,8 @@ pub fn bounds_hold_within_from()
     runs_cut();
 }
 
-/// The same from every good core, with the bounds from any exports. From the first round on a device that is always there
-/// has an export.
+/// The same from every good core, with the bounds from any exports. From the first round on a device that is always
+/// there has an export.
 pub fn bounds_hold_within()
     ensures { BoundsHoldWithin }
 {

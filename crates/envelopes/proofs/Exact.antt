@@ -9,7 +9,8 @@ use Rattle.value_bounds.specs.BoundValues.{Lies, exactly}
 use Rattle.value_bounds.proofs.Values.{lies_exactly}
 use Rattle.bound_firing.specs.Firing.{InputsLie}
 use Rattle.net_moves.proofs.Plain.{plain_stays, plain_rounds_are}
-use Rattle.envelopes.specs.Envelopes.{ids, MayLive, sure_in, bounds_in, least_edge, IsEnvelope, DevicesWithin, no_device}
+use Rattle.envelopes.specs.Envelopes.{ids, MayLive, sure_in, bounds_in, least_edge, IsEnvelope, DevicesWithin}
+use Rattle.envelopes.specs.Envelopes.{no_device}
 use Rattle.envelopes.specs.Envelopes.{is_there, is_away, LinksWithin, no_link, is_linked, is_unlinked, LiesWithin}
 use Rattle.envelopes.specs.Exactly.{exact_device, exact_link, exact_envelope}
 use Rattle.envelopes.specs.Laws.{EnvelopesAreExact}
@@ -17,7 +18,8 @@ use Rattle.envelopes.specs.Laws.{EnvelopesAreExact}
 -- ---- what is exact is one
 
 exact_value : (v w : LocalValue) → Lies (exactly v) w → w ≡ v
-exact_value (IntValue n) (IntValue m) h = let x = h.0 in let y = h.1 in let e : m ≡ n = omega (arith, x, y) in ap IntValue e
+exact_value (IntValue n) (IntValue m) h = let x = h.0 in let y = h.1 in let e : m ≡ n =
+    omega (arith, x, y) in ap IntValue e
 exact_value (IntValue n) (BoolValue c) h = absurd h
 exact_value (IntValue n) (PairValue x y) h = absurd h
 exact_value (BoolValue b) (IntValue m) h = absurd h

@@ -16,7 +16,8 @@ use Rattle.envelopes.specs.Edits.{is_pair_of, sure_link, MayLink}
 use Rattle.envelopes.specs.Lookups.{AllMayLink, LiesByLookups}
 use Rattle.envelopes.specs.Laws.{LookupsAgree}
 use Rattle.envelopes.proofs.Within.{may_live_in, away_in, inputs_within}
-use Rattle.envelopes.proofs.EditsStay.{clash, any_true, in_front, not_first, later_above, pair_is, before_pair, pair_same}
+use Rattle.envelopes.proofs.EditsStay.{clash, any_true, in_front, not_first, later_above, pair_is, before_pair}
+use Rattle.envelopes.proofs.EditsStay.{pair_same}
 
 -- ---- devices
 

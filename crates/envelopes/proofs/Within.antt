@@ -5,18 +5,20 @@ use Rattle.std.specs.Prelude.{nat_eq}
 use Rattle.fc_values.specs.Types.{Declarations}
 use Rattle.fc_values.specs.Fields.{Rises, is_in}
 use Rattle.fc_values.proofs.Rising.{rises_apart, rises_tail}
-use Rattle.topology.specs.Networks.{NetDevice, Edge, Network, LinksFit, numbers, lives, Lives, inputs_in, near_in}
+use Rattle.topology.specs.Networks.{NetDevice, Network, LinksFit, numbers, lives, Lives, inputs_in, near_in}
 use Rattle.topology.specs.Nearby.{near_numbers}
 use Rattle.topology.proofs.Lemmas.{AllNear, near_fits}
 use Rattle.value_bounds.proofs.Values.{nat_same}
 use Rattle.bound_firing.specs.Firing.{InputsLie}
 use Rattle.envelopes.specs.Envelopes.{MaybeDevice, MaybeLink, Envelope, ids, MayLive, sure_in, is_sure, bounds_in}
-use Rattle.envelopes.specs.Envelopes.{maybe_near, near_ids, least_edge, IsEnvelope, DevicesWithin, no_device, is_there, is_away, LiesWithin}
+use Rattle.envelopes.specs.Envelopes.{maybe_near, near_ids, least_edge, IsEnvelope, DevicesWithin, no_device}
+use Rattle.envelopes.specs.Envelopes.{is_there, is_away, LiesWithin}
 
 -- ---- devices
 
 -- a device that is there is one of the envelope
-pub may_live_in : (d : ℕ) {ms : List MaybeDevice} {ns : List NetDevice} → DevicesWithin ms ns → is_in d (numbers ns) ≡ true
+pub may_live_in : (d : ℕ) {ms : List MaybeDevice} {ns : List NetDevice} → DevicesWithin ms ns →
+    is_in d (numbers ns) ≡ true
     → is_in d (ids ms) ≡ true
 may_live_in d no_device h = absurd cc
 may_live_in d (is_away m {ms} {ns} u r) h = let e = may_live_in d r h in rw e (any (nat_eq d m.id))

@@ -1,5 +1,6 @@
 -- Which edits an envelope allows.
-use Rattle.std.specs.Prelude.{ℕ, Bool, true, false, ◌≡◌, ◌≤◌, ◌⊎◌, ◌&&◌, ◌||◌, min, max, List, [], ◌∷◌, nat_eq, slice_get}
+use Rattle.std.specs.Prelude.{ℕ, Bool, true, false, ◌≡◌, ◌≤◌, ◌⊎◌, ◌&&◌, ◌||◌, min, max, List, [], ◌∷◌, nat_eq}
+use Rattle.std.specs.Prelude.{slice_get}
 use Rattle.firing_core.specs.Entries.{EditValue, LinkEdit, UnlinkEdit, SetEdit, PokeEdit, JoinEdit, LeaveEdit}
 use Rattle.firing_core.specs.Entries.{EntryValue, BeginEntry, EndEntry, IdleEntry, EditEntry}
 use Rattle.value_bounds.specs.BoundValues.{Lies}

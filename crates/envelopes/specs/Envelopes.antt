@@ -65,7 +65,8 @@ abbrev pub least_edge : MaybeLink → Edge
 least_edge l = record { a = l.a; b = l.b; weight = l.least }
 
 -- Devices by rising numbers, links by rising pairs, each between two devices. That is all that the laws ask: nothing of
--- bounds of inputs and of greatest weights, of how many links a device has, or of sure links of devices that may be away.
+-- bounds of inputs and of greatest weights, of how many links a device has, or of sure links of devices that may be
+-- away.
 pub record IsEnvelope (E : Envelope) : Type 0 where
   pub rising : Rises (ids E.devices)
   pub links : LinksFit E.declared (ids E.devices) (map least_edge E.links)

@@ -11,8 +11,8 @@ abbrev pub AllMayLink : List MaybeLink → List Edge → Type 0
 AllMayLink ms [] = Unit {0}
 AllMayLink ms (l ∷ ls) = MayLink l.a l.b l.weight ms × AllMayLink ms ls
 
--- a network has the declarations; its devices may be there, with inputs in their bounds, and those that are always there
--- are; its links may be there, with weights in their bounds, and those that are always there are
+-- a network has the declarations; its devices may be there, with inputs in their bounds, and those that are always
+-- there are; its links may be there, with weights in their bounds, and those that are always there are
 pub record LiesByLookups (E : Envelope) (N : Network) : Type 0 where
   pub declared : N.declared ≡ E.declared
   pub devices : (d : ℕ) → Lives N d → MayLive E d

@@ -1,7 +1,7 @@
--- Crates above cite this module. One round raises the level of a core by one, from whatever state and whatever is edited:
--- a device that is there all the time begins and ends a firing, and one that isn't there at some moment has neither an
--- export nor a copy in flight then.
-use Rattle.std.proofs.Common.{◌≡◌, ◌+◌, ◌⊎◌, ℕ, zero, suc, List, [], ◌∷◌, ◌++◌, refl, sym, ◌∙◌, ap, subst, Bool, true}
+-- Crates above cite this module. One round raises the level of a core by one, from whatever state and whatever is
+-- edited: a device that is there all the time begins and ends a firing, and one that isn't there at some moment has
+-- neither an export nor a copy in flight then.
+use Rattle.std.proofs.Common.{◌≡◌, ◌+◌, ◌⊎◌, ℕ, zero, suc, List, [], ◌∷◌, ◌++◌, refl, sym, ◌∙◌, ap, subst, true}
 use Rattle.std.proofs.Common.{false, Option, Some, None, arith, inl, inr}
 use Rattle.fc_values.specs.Trees.{TreeExport, Copy}
 use Rattle.fc_nodes.specs.Program.{Program, Unfolding, unfolding_of, IsProgram}
@@ -77,8 +77,8 @@ module _ (keeps : StepsKeepGood) (fit : CopiesFit) (cuts : RunsCut) (L : MaybeLe
   abbrev Flight : ℕ → ℕ → Option Copy → Type 0
   Flight j d o = (s : Copy) → o ≡ Some s → CopyOf L U In j d s
 
-  -- ---- what edits do to a device: nothing, or it has no export and no copy in flight any more, and it wasn't there, or
-  -- isn't there any more
+  -- ---- what edits do to a device: nothing, or it has no export and no copy in flight any more, and it wasn't there,
+  -- or isn't there any more
 
   edit_flying : (Q : Option Copy → Type 0) (c : Core) (x : EditValue) (d : ℕ) → Q None → Q (c.flying d)
       → Q ((edited U c x).flying d)
@@ -103,76 +103,77 @@ module _ (keeps : StepsKeepGood) (fit : CopiesFit) (cuts : RunsCut) (L : MaybeLe
 
   -- ---- steps
 
-  module _ (j : ℕ) (t : ℕ → Map TreeExport) (c next : Core) (a : MovingLevel L U In j c) (v : SeenOf L U j c.net t) where
-    -- the level is kept by a step
-    pub kept : (e : EntryValue) → is_poke e ≡ false → In next.net → IsGood U next → StepSeeing U t c e next
-        → MovingLevel L U In j next
-    kept (BeginEntry d) n i good s = record {
-      allowed = i;
-      good = good;
-      exports = subst (λ (x : Core). TableOf L j x.exports) (sym s.2) a.exports;
-      copies = λ e. subst (λ (x : Core). Flight j e (x.flying e)) (sym s.2)
-          (put_case (Flight j e) c.flying d e (Some (copy_of c.net (t d) d))
-          (λ q u h. copy_down j e u (taken j t c a v d e s.0 q u h)) (a.copies e));
-    }
-    kept (EndEntry d) n i good s = record {
-      allowed = i;
-      good = good;
-      exports = subst (λ (x : Core). TableOf L j x.exports) (sym s.after) (λ e.
-          put_case (L j e) c.exports d e (Some s.export)
-          (λ q. copy_ends j e s.copy s.export (a.copies e s.copy (ap c.flying q ∙ s.flies)) s.evaluates)
-          (a.exports e));
-      copies = λ e. subst (λ (x : Core). Flight j e (x.flying e)) (sym s.after)
-          (put_case (Flight j e) c.flying d e None (λ q u h. absurd cc) (a.copies e));
-    }
-    kept IdleEntry n i good s = subst (MovingLevel L U In j) (sym s) a
-    kept (EditEntry x) n i good s =
-        let o : In (net_edited c.net x) = subst In (ap (λ (y : Core). y.net) s.after ∙ edited_net U c x) i in
-        record {
-          allowed = i;
-          good = good;
-          exports = subst (λ (y : Core). TableOf L j y.exports) (sym s.after)
-              (λ d. edit_exports j c x n a.allowed o s.allowed d (a.exports d));
-          copies = λ d. subst (λ (y : Core). Flight j d (y.flying d)) (sym s.after)
-              (edit_flying (Flight j d) c x d (λ u h. absurd cc) (a.copies d));
-        }
+  module _ (j : ℕ) (t : ℕ → Map TreeExport) (c next : Core) (a : MovingLevel L U In j c) (v : SeenOf L U j c.net t)
+    where
+      -- the level is kept by a step
+      pub kept : (e : EntryValue) → is_poke e ≡ false → In next.net → IsGood U next → StepSeeing U t c e next
+          → MovingLevel L U In j next
+      kept (BeginEntry d) n i good s = record {
+        allowed = i;
+        good = good;
+        exports = subst (λ (x : Core). TableOf L j x.exports) (sym s.2) a.exports;
+        copies = λ e. subst (λ (x : Core). Flight j e (x.flying e)) (sym s.2)
+            (put_case (Flight j e) c.flying d e (Some (copy_of c.net (t d) d))
+            (λ q u h. copy_down j e u (taken j t c a v d e s.0 q u h)) (a.copies e));
+      }
+      kept (EndEntry d) n i good s = record {
+        allowed = i;
+        good = good;
+        exports = subst (λ (x : Core). TableOf L j x.exports) (sym s.after) (λ e.
+            put_case (L j e) c.exports d e (Some s.export)
+            (λ q. copy_ends j e s.copy s.export (a.copies e s.copy (ap c.flying q ∙ s.flies)) s.evaluates)
+            (a.exports e));
+        copies = λ e. subst (λ (x : Core). Flight j e (x.flying e)) (sym s.after)
+            (put_case (Flight j e) c.flying d e None (λ q u h. absurd cc) (a.copies e));
+      }
+      kept IdleEntry n i good s = subst (MovingLevel L U In j) (sym s) a
+      kept (EditEntry x) n i good s =
+          let o : In (net_edited c.net x) = subst In (ap (λ (y : Core). y.net) s.after ∙ edited_net U c x) i in
+          record {
+            allowed = i;
+            good = good;
+            exports = subst (λ (y : Core). TableOf L j y.exports) (sym s.after)
+                (λ d. edit_exports j c x n a.allowed o s.allowed d (a.exports d));
+            copies = λ d. subst (λ (y : Core). Flight j d (y.flying d)) (sym s.after)
+                (edit_flying (Flight j d) c x d (λ u h. absurd cc) (a.copies d));
+          }
 
-    pub fresh : (d : ℕ) (e : EntryValue) → StepSeeing U t c e next → FreshOf L U In j d c → FreshOf L U In j d next
-    fresh d (BeginEntry b) s w = subst (FreshOf L U In j d) (sym s.2)
-        (put_case (Flight (suc j) d) c.flying b d (Some (copy_of c.net (t b) b))
-        (λ q u h. taken j t c a v b d s.0 q u h) w)
-    fresh d (EndEntry b) s w = subst (FreshOf L U In j d) (sym s.after)
-        (put_case (Flight (suc j) d) c.flying b d None (λ q u h. absurd cc) w)
-    fresh d IdleEntry s w = subst (FreshOf L U In j d) (sym s) w
-    fresh d (EditEntry x) s w = subst (FreshOf L U In j d) (sym s.after)
-        (edit_flying (Flight (suc j) d) c x d (λ u h. absurd cc) w)
+      pub fresh : (d : ℕ) (e : EntryValue) → StepSeeing U t c e next → FreshOf L U In j d c → FreshOf L U In j d next
+      fresh d (BeginEntry b) s w = subst (FreshOf L U In j d) (sym s.2)
+          (put_case (Flight (suc j) d) c.flying b d (Some (copy_of c.net (t b) b))
+          (λ q u h. taken j t c a v b d s.0 q u h) w)
+      fresh d (EndEntry b) s w = subst (FreshOf L U In j d) (sym s.after)
+          (put_case (Flight (suc j) d) c.flying b d None (λ q u h. absurd cc) w)
+      fresh d IdleEntry s w = subst (FreshOf L U In j d) (sym s) w
+      fresh d (EditEntry x) s w = subst (FreshOf L U In j d) (sym s.after)
+          (edit_flying (Flight (suc j) d) c x d (λ u h. absurd cc) w)
 
-    pub begins : (d : ℕ) → StepSeeing U t c (BeginEntry d) next → FreshOf L U In j d next
-    begins d s = subst (FreshOf L U In j d) (sym s.2) (λ u h.
-        taken j t c a v d d s.0 refl u (sym (put_same c.flying d (Some (copy_of c.net (t d) d))) ∙ h))
+      pub begins : (d : ℕ) → StepSeeing U t c (BeginEntry d) next → FreshOf L U In j d next
+      begins d s = subst (FreshOf L U In j d) (sym s.2) (λ u h.
+          taken j t c a v d d s.0 refl u (sym (put_same c.flying d (Some (copy_of c.net (t d) d))) ∙ h))
 
-    pub finished : (d : ℕ) (e : EntryValue) → is_poke e ≡ false → In next.net → StepSeeing U t c e next
-        → FiredOf L U In j d c → FiredOf L U In j d next
-    finished d e n i s w = (exports_keep e n s, fresh d e s w.1)
-      where
-        exports_keep : (e : EntryValue) → is_poke e ≡ false → StepSeeing U t c e next → L (suc j) d (next.exports d)
-        exports_keep (BeginEntry b) n s = subst (λ (x : Core). L (suc j) d (x.exports d)) (sym s.2) w.0
-        exports_keep (EndEntry b) n s = subst (λ (x : Core). L (suc j) d (x.exports d)) (sym s.after)
-            (put_case (L (suc j) d) c.exports b d (Some s.export)
-            (λ q. copy_ends (suc j) d s.copy s.export (w.1 s.copy (ap c.flying q ∙ s.flies)) s.evaluates) w.0)
-        exports_keep IdleEntry n s = subst (λ (x : Core). L (suc j) d (x.exports d)) (sym s) w.0
-        exports_keep (EditEntry x) n s =
-            let o : In (net_edited c.net x) = subst In (ap (λ (y : Core). y.net) s.after ∙ edited_net U c x) i in
-            subst (λ (y : Core). L (suc j) d (y.exports d)) (sym s.after)
-            (edit_exports (suc j) c x n a.allowed o s.allowed d w.0)
+      pub finished : (d : ℕ) (e : EntryValue) → is_poke e ≡ false → In next.net → StepSeeing U t c e next
+          → FiredOf L U In j d c → FiredOf L U In j d next
+      finished d e n i s w = (exports_keep e n s, fresh d e s w.1)
+        where
+          exports_keep : (e : EntryValue) → is_poke e ≡ false → StepSeeing U t c e next → L (suc j) d (next.exports d)
+          exports_keep (BeginEntry b) n s = subst (λ (x : Core). L (suc j) d (x.exports d)) (sym s.2) w.0
+          exports_keep (EndEntry b) n s = subst (λ (x : Core). L (suc j) d (x.exports d)) (sym s.after)
+              (put_case (L (suc j) d) c.exports b d (Some s.export)
+              (λ q. copy_ends (suc j) d s.copy s.export (w.1 s.copy (ap c.flying q ∙ s.flies)) s.evaluates) w.0)
+          exports_keep IdleEntry n s = subst (λ (x : Core). L (suc j) d (x.exports d)) (sym s) w.0
+          exports_keep (EditEntry x) n s =
+              let o : In (net_edited c.net x) = subst In (ap (λ (y : Core). y.net) s.after ∙ edited_net U c x) i in
+              subst (λ (y : Core). L (suc j) d (y.exports d)) (sym s.after)
+              (edit_exports (suc j) c x n a.allowed o s.allowed d w.0)
 
-    pub ends : (d : ℕ) → StepSeeing U t c (EndEntry d) next → FreshOf L U In j d c → FiredOf L U In j d next
-    ends d s w = (
-      subst (λ (x : Core). L (suc j) d (x.exports d)) (sym s.after)
-          (subst (L (suc j) d) (sym (put_same c.exports d (Some s.export)))
-          (copy_ends (suc j) d s.copy s.export (w s.copy s.flies) s.evaluates)),
-      fresh d (EndEntry d) s w,
-    )
+      pub ends : (d : ℕ) → StepSeeing U t c (EndEntry d) next → FreshOf L U In j d c → FiredOf L U In j d next
+      ends d s w = (
+        subst (λ (x : Core). L (suc j) d (x.exports d)) (sym s.after)
+            (subst (L (suc j) d) (sym (put_same c.exports d (Some s.export)))
+            (copy_ends (suc j) d s.copy s.export (w s.copy s.flies) s.evaluates)),
+        fresh d (EndEntry d) s w,
+      )
 
   -- a device that isn't there has neither an export nor a copy in flight, so it counts as one that has fired
   pub gone : (j d : ℕ) (c : Core) → MovingLevel L U In j c → lives c.net d ≡ false → FiredOf L U In j d c

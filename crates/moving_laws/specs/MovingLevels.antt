@@ -1,6 +1,6 @@
 -- Levels of cores while the network changes: as in `StartLevels` of converge_laws, but the network is any allowed one,
--- and a copy in flight may be from another one that is allowed. Levels speak of every device: one that isn't there has a
--- missing export at each level.
+-- and a copy in flight may be from another one that is allowed. Levels speak of every device: one that isn't there
+-- has a missing export at each level.
 use Rattle.std.specs.Prelude.{ℕ, zero, suc, false, ◌≡◌, ◌+◌, List, Option, Some, None}
 use Rattle.fc_values.specs.Trees.{TreeExport, Copy}
 use Rattle.fc_nodes.specs.Program.{Unfolding}
