@@ -3,3 +3,4 @@ pub mod Exact
 mod EditsStay
 mod LookedUp
 mod Rounds
+mod Placing
