@@ -10,11 +10,10 @@ use Rattle.fc_nodes.specs.Layouts.{LayoutValue, IsLayout}
 use Rattle.fc_nodes.proofs.Places.{formed_above, laid_within}
 use Rattle.fc_nodes.proofs.Kids.{laid_term, size_some, SomeKids, apply_laid}
 use Rattle.fc_nodes.proofs.Kept.{kept_step, kept_size}
-use Rattle.device_eval.specs.Evaluation.{Situation}
 use Rattle.value_bounds.specs.BoundValues.{BoundValue}
 use Rattle.value_bounds.specs.BoundBuiltins.{AnyBound, builtin_bound}
 use Rattle.bound_firing.specs.BoundTrees.{bound_trees_at}
-use Rattle.bound_firing.specs.Firing.{BoundVars, bounds_of}
+use Rattle.bound_firing.specs.Firing.{BoundSituation, BoundVars, bounds_of}
 use Rattle.bound_firing.specs.FlatSeats.{FlatSeats, seats_over}
 use Rattle.bound_firing.specs.Walks.{Room, SameOut, Reach, Can, Did, DidAt, Ready, ReadyAt, EachReady, EachDid}
 use Rattle.bound_firing.specs.Walks.{none_did, one_did, AllDid}
@@ -23,7 +22,7 @@ use Rattle.bound_firing.proofs.Seated.{IsRest, rest_all, rest_next, argument_sea
 use Rattle.bound_firing.proofs.Frames.{room_part, room_behind, same_out, reach_as}
 use Rattle.bound_firing.proofs.KidsAt.{KidAt, kid_ready, kid_did}
 
-module _ (S : Situation) (ns : List Node) (lay : LayoutValue) (layout : IsLayout ns lay) (formed : WellFormed ns)
+module _ (S : BoundSituation) (ns : List Node) (lay : LayoutValue) (layout : IsLayout ns lay) (formed : WellFormed ns)
     (vars : BoundVars) (F : FlatSeats) where
   -- a term that stands at a place after p
   stands_there : (p q : ℕ) (u : Term) (k : ℕ) → p < q → Laid ns q u → k ≡ kept_before ns q → KidAt ns lay p q q u k
@@ -120,14 +119,14 @@ module _ {ns : List Node} {lay : LayoutValue} {p : ℕ} {o : Builtin} {t : Value
   slot_next : kept_before ns p ≡ kept_before ns (suc p)
   slot_next = let k = kept_step ns p _ _ _ here.node in omega (arith, k)
 
-  pub apply_ready : (S : Situation) (vars : BoundVars) {qs : List ℕ} → qs ≡ ks → EachReady S ns lay qs vars F xs
+  pub apply_ready : (S : BoundSituation) (vars : BoundVars) {qs : List ℕ} → qs ≡ ks → EachReady S ns lay qs vars F xs
   apply_ready S vars {qs} e =
       let c = can_a in
       subst (λ js. EachReady S ns lay js vars F xs) (sym (e ∙ kids_are))
       (each_ready S ns lay here.ready.stands.layout here.ready.stands.formed vars F p all (suc p) (kept_before ns p) xs
       (omega arith) kids_laid slot_next c.room c.reach)
 
-  pub apply_done : (S : Situation) (vars : BoundVars) {qs : List ℕ} {old bs : List AnyBound} {ys : List BoundValue}
+  pub apply_done : (S : BoundSituation) (vars : BoundVars) {qs : List ℕ} {old bs : List AnyBound} {ys : List BoundValue}
       → qs ≡ ks → old ≡ [] → AllDid S ns qs vars F xs old bs ys
       → DidAt S ns p vars F xs (builtin_bound o S.ceiling S.device bs) ys
   apply_done S vars {qs} {old} {bs} {ys} e f d =
@@ -154,13 +153,13 @@ first_within : {ns : List Node} {lay : LayoutValue} {F : FlatSeats} {xs : List B
     → Ready ns lay q F xs → q < length ns
 first_within r = r.stands.within
 
-pub none_done : {S : Situation} {ns : List Node} {vars : BoundVars} {F : FlatSeats} {xs : List BoundValue}
+pub none_done : {S : BoundSituation} {ns : List Node} {vars : BoundVars} {F : FlatSeats} {xs : List BoundValue}
     {old : List AnyBound} (ks : List ℕ) → length ks ≡ 0 → AllDid S ns ks vars F xs old old xs
 none_done {S} {ns} {vars} {F} {xs} {old} [] e =
     record { bounds = []; added = sym (append-nil old); each = none_did }
 none_done {S} {ns} {vars} {F} {xs} {old} (k ∷ ks) e = absurd (omega (arith, e))
 
-module _ (S : Situation) (ns : List Node) (lay : LayoutValue) (vars : BoundVars) (F : FlatSeats)
+module _ (S : BoundSituation) (ns : List Node) (lay : LayoutValue) (vars : BoundVars) (F : FlatSeats)
     (xs : List BoundValue) {ks : List ℕ} {k : ℕ} {rest : List ℕ} (e : ks ≡ k ∷ rest)
     (here : EachReady S ns lay ks vars F xs) where
   ready : EachReady S ns lay (k ∷ rest) vars F xs

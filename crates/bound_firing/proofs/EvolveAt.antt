@@ -10,11 +10,10 @@ use Rattle.fc_nodes.specs.Layouts.{LayoutValue, number_in}
 use Rattle.fc_nodes.proofs.Places.{formed_above}
 use Rattle.fc_nodes.proofs.Kids.{TwoKids, evolve_laid}
 use Rattle.fc_nodes.proofs.Kept.{one_more, kept_size}
-use Rattle.device_eval.specs.Evaluation.{Situation}
 use Rattle.value_bounds.specs.BoundValues.{BoundValue}
 use Rattle.value_bounds.specs.BoundBuiltins.{AnyBound, BoundLocal}
 use Rattle.bound_firing.specs.BoundTrees.{slot_bound}
-use Rattle.bound_firing.specs.Firing.{BoundVars, local_part, evolving_bound}
+use Rattle.bound_firing.specs.Firing.{BoundSituation, BoundVars, local_part, evolving_bound}
 use Rattle.bound_firing.specs.FlatSeats.{FlatSeats, seats_over, SlotsHave}
 use Rattle.bound_firing.specs.Walks.{Can, Did, DidAt, Ready, ReadyAt, started}
 use Rattle.bound_firing.proofs.Slots.{tree_same}
@@ -41,7 +40,7 @@ module _ (t : ValueType) (e : Evolution) (a b : Term) (k : ℕ) (F : FlatSeats) 
   evolve_has : (k < length xs) × SlotsHave k F
   evolve_has = let w = can.room.within in let l : k < length xs = omega (arith, w) in (l, can.reach.each k l)
 
-  module _ (S : Situation) (p : ℕ) (vars : BoundVars) (va : AnyBound) (ys : List BoundValue)
+  module _ (S : BoundSituation) (p : ℕ) (vars : BoundVars) (va : AnyBound) (ys : List BoundValue)
       (did : Did S (suc p) a (suc k) vars F xs va ys) where
     evolve_second : Can b (suc k + kept a) F ys
     evolve_second = record {
@@ -132,7 +131,7 @@ module _ {ns : List Node} {lay : LayoutValue} {p : ℕ} {e : Evolution} {t : Val
       let c = kid_a q h in
       (c.later, kid_ready ns lay p q (suc p) A (suc K) c F xs (evolve_first t e A B K F xs can_e))
 
-  module _ (S : Situation) (vars : BoundVars) {q : ℕ} (h : q ≡ get_or ks 0 q) {va : AnyBound} {ys : List BoundValue}
+  module _ (S : BoundSituation) (vars : BoundVars) {q : ℕ} (h : q ≡ get_or ks 0 q) {va : AnyBound} {ys : List BoundValue}
       (did : DidAt S ns q vars F xs va ys) where
     did_a : Did S (suc p) A (suc K) vars F xs va ys
     did_a = kid_did ns lay p q (suc p) A (suc K) (kid_a q h) S vars F xs va ys did

@@ -131,8 +131,7 @@ field_lies d f ss es b v a h l =
 module _ (Q : Fitting) where
   weights_enter : {ss : List NearSeat} {ns : List NearTree} → SeenNear Q ss ns → Entered seat_weight ss (weights ns)
   weights_enter no_seat = no_entry
-  weights_enter (takes s n t h) = let w = t.weight in
-      enters s (n.0, IntValue n.1) t.device (rw w (omega arith, omega arith)) (weights_enter h)
+  weights_enter (takes s n t h) = enters s (n.0, IntValue n.1) t.device t.weight (weights_enter h)
   weights_enter (free s u h) = omits s u (weights_enter h)
 
   kept_enter : ((B : BoundTree) (T : Tree) → Q B T → KeptLies (held B) (kept_of T))

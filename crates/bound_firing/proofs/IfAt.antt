@@ -9,12 +9,11 @@ use Rattle.fc_nodes.specs.Layouts.{LayoutValue, number_in}
 use Rattle.fc_nodes.proofs.Places.{formed_above}
 use Rattle.fc_nodes.proofs.Kids.{ThreeKids, if_laid}
 use Rattle.fc_nodes.proofs.Kept.{one_more, kept_size}
-use Rattle.device_eval.specs.Evaluation.{Situation}
 use Rattle.value_bounds.specs.BoundValues.{BoundValue}
 use Rattle.value_bounds.specs.BoundBuiltins.{AnyBound}
 use Rattle.bound_firing.specs.BoundTrees.{BoundTree, Hold, Below, NoneBelow, slot_bound, bound_tree_at}
 use Rattle.bound_firing.specs.Seats.{may_be, child_seats, branch_seats}
-use Rattle.bound_firing.specs.Firing.{BoundVars, BoundOutcome, local_part, either_bound, if_taken, bound_of}
+use Rattle.bound_firing.specs.Firing.{BoundSituation, BoundVars, BoundOutcome, local_part, either_bound, if_taken, bound_of}
 use Rattle.bound_firing.specs.FlatSeats.{FlatSeats, seats_over, flat_branch, SlotsHave}
 use Rattle.bound_firing.specs.Walks.{Room, SameOut, Can, Did, DidAt, Ready, ReadyAt, BranchReady, BranchDid, one_of}
 use Rattle.bound_firing.proofs.Slots.{tree_same, tree_blank}
@@ -26,7 +25,7 @@ use Rattle.bound_firing.proofs.KidsAt.{KidAt, kid_at, kid_ready, kid_did, slot_i
 -- ---- a branch
 
 -- a branch of the term u was evaluated or not
-abbrev Turn : Situation → ℕ → Term → ℕ → ℕ → Bool → BoundVars → FlatSeats → List BoundValue → Option AnyBound
+abbrev Turn : BoundSituation → ℕ → Term → ℕ → ℕ → Bool → BoundVars → FlatSeats → List BoundValue → Option AnyBound
     → List BoundValue → Type 0
 Turn S p u l k truth vars F xs None ys = (may_be truth (slot_bound k xs) ≡ false) × (ys ≡ xs)
 Turn S p u l k truth vars F xs (Some b) ys =
@@ -43,7 +42,7 @@ record Took (m : Bool) (r : BoundOutcome) (u : Term) (l : ℕ) (o : Option AnyBo
   pub tree : if_taken m u r.1 ≡ bound_tree_at u l ys
   pub out : SameOut l (kept u) xs ys
 
-module _ (S : Situation) (p : ℕ) (u : Term) (l k : ℕ) (truth : Bool) (vars : BoundVars) (F : FlatSeats)
+module _ (S : BoundSituation) (p : ℕ) (u : Term) (l k : ℕ) (truth : Bool) (vars : BoundVars) (F : FlatSeats)
     (xs : List BoundValue) (room : Room l (kept u) xs) where
   took : (o : Option AnyBound) (ys : List BoundValue) → Turn S p u l k truth vars F xs o ys
       → Took (may_be truth (slot_bound k xs)) (bound_of S p u vars (seats_over u l (flat_branch k truth F))) u l o xs ys
@@ -85,7 +84,7 @@ module _ (t : ValueType) (c a b : Term) (k : ℕ) (F : FlatSeats) (xs : List Bou
   if_has : (k < length xs) × SlotsHave k F
   if_has = let w = can.room.within in let l : k < length xs = omega (arith, w) in (l, can.reach.each k l)
 
-  module _ (S : Situation) (p : ℕ) (vars : BoundVars) (vc : AnyBound) (ys : List BoundValue)
+  module _ (S : BoundSituation) (p : ℕ) (vars : BoundVars) (vc : AnyBound) (ys : List BoundValue)
       (did : Did S (suc p) c (suc k) vars F xs vc ys) where
     abbrev zs : List BoundValue
     zs = slice_set ys k (local_part vc)
@@ -207,7 +206,7 @@ module _ (t : ValueType) (c a b : Term) (k : ℕ) (F : FlatSeats) (xs : List Bou
 
 -- ---- at a place
 
-turn_at : (S : Situation) (ns : List Node) (lay : LayoutValue) (p q there : ℕ) (u : Term) (l : ℕ)
+turn_at : (S : BoundSituation) (ns : List Node) (lay : LayoutValue) (p q there : ℕ) (u : Term) (l : ℕ)
     → KidAt ns lay p q there u l → (k : ℕ) (truth : Bool) (vars : BoundVars) (F : FlatSeats) (xs : List BoundValue)
     (o : Option AnyBound) (ys : List BoundValue) → BranchDid S ns q k truth vars F xs o ys
     → Turn S there u l k truth vars F xs o ys
@@ -288,7 +287,7 @@ module _ {ns : List Node} {lay : LayoutValue} {p : ℕ} {t : ValueType} {ks : Li
       let c = kid_c q e in
       (c.later, kid_ready ns lay p q (suc p) C (suc K) c F xs (if_first t C A B K F xs can_i))
 
-  module _ (S : Situation) (vars : BoundVars) {k : ℕ} (n : number_in lay p ≡ Some k) {q : ℕ} (e : q ≡ get_or ks 0 q)
+  module _ (S : BoundSituation) (vars : BoundVars) {k : ℕ} (n : number_in lay p ≡ Some k) {q : ℕ} (e : q ≡ get_or ks 0 q)
       {vc : AnyBound} {ys : List BoundValue} (did : DidAt S ns q vars F xs vc ys) {zs : List BoundValue}
       (set : zs ≡ slice_set ys k (local_part vc)) where
     did_c : Did S (suc p) C (suc K) vars F xs vc ys

@@ -6,11 +6,10 @@ use Rattle.fc_nodes.specs.declared.nodes.Node.{Node}
 use Rattle.fc_nodes.specs.Terms.{Term, Sort, kept_type, kept_before, term_at, HasNode, Laid}
 use Rattle.fc_nodes.specs.Layouts.{LayoutValue, number_in, number_at}
 use Rattle.fc_nodes.proofs.Places.{laid_within}
-use Rattle.device_eval.specs.Evaluation.{Situation}
 use Rattle.device_eval.specs.Walks.{Stands}
 use Rattle.value_bounds.specs.BoundValues.{BoundValue}
 use Rattle.value_bounds.specs.BoundBuiltins.{AnyBound}
-use Rattle.bound_firing.specs.Firing.{BoundVars}
+use Rattle.bound_firing.specs.Firing.{BoundSituation, BoundVars}
 use Rattle.bound_firing.specs.FlatSeats.{FlatSeats}
 use Rattle.bound_firing.specs.Walks.{Can, Did, DidAt, Ready, ReadyAt}
 
@@ -29,7 +28,7 @@ module _ (ns : List Node) (l : LayoutValue) (p q there : ℕ) (u : Term) (k : �
     stands = kid.stands;
   }
 
-  pub kid_did : (S : Situation) (vars : BoundVars) (F : FlatSeats) (xs : List BoundValue) (b : AnyBound)
+  pub kid_did : (S : BoundSituation) (vars : BoundVars) (F : FlatSeats) (xs : List BoundValue) (b : AnyBound)
       (ys : List BoundValue) → DidAt S ns q vars F xs b ys → Did S there u k vars F xs b ys
   kid_did S vars F xs b ys did =
       subst (λ i. Did S i u k vars F xs b ys) kid.place

@@ -7,18 +7,17 @@ use Rattle.fc_nodes.specs.declared.nodes.Node.{Node}
 use Rattle.fc_nodes.specs.Terms.{Leaf, Literal, Variable, Sense, Uid, NbrLink, Plain, OfLeaf, kept_before}
 use Rattle.fc_nodes.specs.Layouts.{LayoutValue}
 use Rattle.fc_nodes.proofs.Places.{formed_above, term_is}
-use Rattle.device_eval.specs.Evaluation.{Situation}
 use Rattle.value_bounds.specs.BoundValues.{BoundValue, Between, exactly}
 use Rattle.value_bounds.specs.BoundBuiltins.{AnyBound, BoundLocal, BoundField}
 use Rattle.bound_firing.specs.Seats.{cut_to}
-use Rattle.bound_firing.specs.Firing.{BoundVars, variable_bound, input_bound, leaf_bound}
+use Rattle.bound_firing.specs.Firing.{BoundSituation, BoundVars, variable_bound, input_bound, leaf_bound}
 use Rattle.bound_firing.specs.FlatSeats.{FlatSeats, seats_over, flat_entries, flat_weight, flat_maybes}
 use Rattle.bound_firing.specs.Walks.{Did, DidAt, ReadyAt}
 use Rattle.bound_firing.proofs.Seated.{weight_entries, seat_maybes}
 use Rattle.bound_firing.proofs.Frames.{same_out}
 
 module _ {ns : List Node} {lay : LayoutValue} {p : ℕ} {t : ValueType} {ks : List ℕ} {F : FlatSeats}
-    {xs : List BoundValue} (S : Situation) (vars : BoundVars) where
+    {xs : List BoundValue} (S : BoundSituation) (vars : BoundVars) where
   leaf_done : (l : Leaf) → ReadyAt ns lay p (OfLeaf l) t ks F xs → (b : AnyBound)
       → leaf_bound S l vars (seats_over (Plain t l) (kept_before ns p) F) ≡ b → DidAt S ns p vars F xs b xs
   leaf_done l h b e =

@@ -7,10 +7,9 @@ use Rattle.fc_nodes.specs.Layouts.{LayoutValue}
 use Rattle.fc_nodes.proofs.Places.{formed_above}
 use Rattle.fc_nodes.proofs.Kids.{TwoKids, let_laid}
 use Rattle.fc_nodes.proofs.Kept.{one_more, kept_size}
-use Rattle.device_eval.specs.Evaluation.{Situation}
 use Rattle.value_bounds.specs.BoundValues.{BoundValue}
 use Rattle.value_bounds.specs.BoundBuiltins.{AnyBound}
-use Rattle.bound_firing.specs.Firing.{BoundVars}
+use Rattle.bound_firing.specs.Firing.{BoundSituation, BoundVars}
 use Rattle.bound_firing.specs.FlatSeats.{FlatSeats}
 use Rattle.bound_firing.specs.Walks.{Can, Did, DidAt, Ready, ReadyAt}
 use Rattle.bound_firing.proofs.Slots.{tree_same}
@@ -26,7 +25,7 @@ module _ (t : ValueType) (a b : Term) (k : ℕ) (F : FlatSeats) (xs : List Bound
     reach = can.reach;
   }
 
-  module _ (S : Situation) (p : ℕ) (vars : BoundVars) (va : AnyBound) (ys : List BoundValue)
+  module _ (S : BoundSituation) (p : ℕ) (vars : BoundVars) (va : AnyBound) (ys : List BoundValue)
       (did : Did S (suc p) a k vars F xs va ys) where
     let_second : Can b (k + kept a) F ys
     let_second = record {
@@ -95,7 +94,7 @@ module _ {ns : List Node} {lay : LayoutValue} {p : ℕ} {t : ValueType} {ks : Li
       let c = kid_a q e in
       (c.later, kid_ready ns lay p q (suc p) A K c F xs (let_first t A B K F xs can_l))
 
-  module _ (S : Situation) (vars : BoundVars) {q : ℕ} (e : q ≡ get_or ks 0 q) {va : AnyBound} {ys : List BoundValue}
+  module _ (S : BoundSituation) (vars : BoundVars) {q : ℕ} (e : q ≡ get_or ks 0 q) {va : AnyBound} {ys : List BoundValue}
       (did : DidAt S ns q vars F xs va ys) where
     did_a : Did S (suc p) A K vars F xs va ys
     did_a = kid_did ns lay p q (suc p) A K (kid_a q e) S vars F xs va ys did

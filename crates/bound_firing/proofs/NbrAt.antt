@@ -10,11 +10,10 @@ use Rattle.fc_nodes.specs.Layouts.{LayoutValue, number_in}
 use Rattle.fc_nodes.proofs.Places.{formed_above}
 use Rattle.fc_nodes.proofs.Kids.{OneKid, nbr_laid}
 use Rattle.fc_nodes.proofs.Kept.{one_more}
-use Rattle.device_eval.specs.Evaluation.{Situation}
 use Rattle.value_bounds.specs.BoundValues.{BoundValue}
 use Rattle.value_bounds.specs.BoundBuiltins.{AnyBound, BoundField}
 use Rattle.bound_firing.specs.BoundTrees.{slot_bound}
-use Rattle.bound_firing.specs.Firing.{BoundVars, local_part}
+use Rattle.bound_firing.specs.Firing.{BoundSituation, BoundVars, local_part}
 use Rattle.bound_firing.specs.FlatSeats.{FlatSeats, flat_entries, flat_slot, SlotsHave}
 use Rattle.bound_firing.specs.Walks.{Can, Did, DidAt, Ready, ReadyAt}
 use Rattle.bound_firing.proofs.Slots.{tree_same}
@@ -32,7 +31,7 @@ module _ (t : ValueType) (a : Term) (k : ℕ) (F : FlatSeats) (xs : List BoundVa
   nbr_has : (k < length xs) × SlotsHave k F
   nbr_has = let w = can.room.within in let l : k < length xs = omega (arith, w) in (l, can.reach.each k l)
 
-  nbr_did : (S : Situation) (p : ℕ) (vars : BoundVars) (va : AnyBound) (ys : List BoundValue)
+  nbr_did : (S : BoundSituation) (p : ℕ) (vars : BoundVars) (va : AnyBound) (ys : List BoundValue)
       → Did S (suc p) a (suc k) vars F xs va ys
       → Did S p (Nbr t a) k vars F xs (BoundField (local_part va) (flat_entries (flat_slot k) F.near))
       (slice_set ys k (local_part va))
@@ -91,7 +90,7 @@ module _ {ns : List Node} {lay : LayoutValue} {p : ℕ} {t : ValueType} {ks : Li
       let c = kid_a q e in
       (c.later, kid_ready ns lay p q (suc p) A (suc K) c F xs (nbr_first t A K F xs can_n))
 
-  pub nbr_within : {k : ℕ} → number_in lay p ≡ Some k → {S : Situation} {vars : BoundVars} {q : ℕ} {va : AnyBound}
+  pub nbr_within : {k : ℕ} → number_in lay p ≡ Some k → {S : BoundSituation} {vars : BoundVars} {q : ℕ} {va : AnyBound}
       {ys : List BoundValue} → DidAt S ns q vars F xs va ys → k < length ys
   nbr_within {k} n did =
       let w = nbr_there n in
@@ -99,7 +98,7 @@ module _ {ns : List Node} {lay : LayoutValue} {p : ℕ} {t : ValueType} {ks : Li
       let l = did.out.long in
       omega (arith, w', l)
 
-  pub nbr_done : (S : Situation) (vars : BoundVars) {q : ℕ} → q ≡ get_or ks 0 q → {k : ℕ} → number_in lay p ≡ Some k
+  pub nbr_done : (S : BoundSituation) (vars : BoundVars) {q : ℕ} → q ≡ get_or ks 0 q → {k : ℕ} → number_in lay p ≡ Some k
       → {va : AnyBound} {ys : List BoundValue} → DidAt S ns q vars F xs va ys
       → DidAt S ns p vars F xs (BoundField (local_part va) (flat_entries (flat_slot k) F.near))
       (slice_set ys k (local_part va))

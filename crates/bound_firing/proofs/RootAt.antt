@@ -1,6 +1,6 @@
 -- The firing of a program at its root.
-use Rattle.std.proofs.Common.{◌≡◌, ℕ, zero, suc, ◌<◌, ◌+◌, List, [], ◌∷◌, ◌++◌, length, map, take, refl, sym, ◌∙◌, ap}
-use Rattle.std.proofs.Common.{subst, arith, true, false, Option, Some, None, option_map}
+use Rattle.std.proofs.Common.{Bool, ◌≡◌, ℕ, zero, suc, ◌<◌, ◌+◌, List, [], ◌∷◌, ◌++◌, length, map, take, refl, sym, ◌∙◌, ap}
+use Rattle.std.proofs.Common.{subst, arith, false, Option, Some, None, option_map}
 use Rattle.std.proofs.lemmas.List.{length-map, map-append}
 use Rattle.std.proofs.Math.Seq.{take-length}
 use Rattle.std.specs.List.{All}
@@ -14,7 +14,6 @@ use Rattle.fc_nodes.specs.Program.{Program, Unfolding, IsProgram}
 use Rattle.fc_nodes.specs.Layouts.{LayoutValue, IsLayout}
 use Rattle.fc_nodes.proofs.Places.{laid_within}
 use Rattle.fc_nodes.proofs.Kept.{kept_none, kept_long, types_step, types_whole}
-use Rattle.device_eval.specs.Evaluation.{Situation}
 use Rattle.value_bounds.specs.BoundValues.{BoundValue, Unbounded, anything}
 use Rattle.value_bounds.specs.BoundBuiltins.{AnyBound}
 use Rattle.value_bounds.specs.declared.bounds.LocalBound.{LocalBound}
@@ -25,7 +24,7 @@ use Rattle.bound_firing.specs.declared.seats.Seats.{Seats}
 use Rattle.bound_firing.specs.BoundTrees.{slot_bound, bound_tree_at}
 use Rattle.bound_firing.specs.Exports.{any_export, bound_export}
 use Rattle.bound_firing.specs.ExportReferences.{OwnIsLong, SlotsAreLong}
-use Rattle.bound_firing.specs.Firing.{local_part, bound_of}
+use Rattle.bound_firing.specs.Firing.{BoundSituation, local_part, bound_of}
 use Rattle.bound_firing.specs.FlatSeats.{FlatSeats, seats_over, OwnHasSlot, NearHaveSlot}
 use Rattle.bound_firing.specs.References.{own_seat_in, near_seats_in, flat_seats_in}
 use Rattle.bound_firing.proofs.Slots.{slots_at_first}
@@ -137,10 +136,10 @@ module _ (P : Program) (p : IsProgram P) (lay : LayoutValue) (layout : IsLayout 
         };
       }
 
-  pub root_done : (S : Situation) (b : AnyBound) (ys : List BoundValue) → DidAt S P.nodes 0 [] F xs b ys
-      → record { value = local_part b; tree = bound_tree_at (term_at P.nodes 0) 0 ys; sure = true }
-      ≡ bound_export (bound_of S 0 (term_at P.nodes 0) [] (seats_over (term_at P.nodes 0) 0 F))
-  root_done S b ys did =
+  pub root_done : (sure : Bool) (S : BoundSituation) (b : AnyBound) (ys : List BoundValue) → DidAt S P.nodes 0 [] F xs b ys
+      → record { value = local_part b; tree = bound_tree_at (term_at P.nodes 0) 0 ys; sure = sure }
+      ≡ bound_export sure (bound_of S 0 (term_at P.nodes 0) [] (seats_over (term_at P.nodes 0) 0 F))
+  root_done sure S b ys did =
       let d : Did S 0 (term_at P.nodes 0) 0 [] F xs b ys =
       subst (λ k. Did S 0 (term_at P.nodes 0) k [] F xs b ys) (kept_none P.nodes) did in
       rw d.gives refl

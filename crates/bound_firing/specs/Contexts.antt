@@ -1,10 +1,8 @@
 -- What the contexts, scopes and sights of code stand for.
-use Rattle.std.specs.Prelude.{ℕ, Bool, List, [], ◌∷◌, map, Option, option_map}
+use Rattle.std.specs.Prelude.{ℕ, Bool, List, [], ◌∷◌, Option, option_map}
 use Rattle.fc_values.specs.Types.{type_of}
-use Rattle.fc_values.specs.Values.{local_of}
 use Rattle.fc_nodes.specs.declared.nodes.Node.{Node}
 use Rattle.fc_nodes.specs.Terms.{Evolution, ByRep, ByShare, Sort}
-use Rattle.device_eval.specs.Evaluation.{Situation}
 use Rattle.value_bounds.specs.declared.bounds.LocalBound.{LocalBound}
 use Rattle.value_bounds.specs.declared.bounds.Bound.{Bound}
 use Rattle.value_bounds.specs.BoundBuiltins.{AnyBound}
@@ -15,17 +13,17 @@ use Rattle.bound_firing.specs.declared.evaluation.Scope.TheVariants as scope
 use Rattle.bound_firing.specs.declared.evaluation.Sight.{Sight}
 use Rattle.bound_firing.specs.declared.evaluation.Evolution.{Evolution as CodeEvolution}
 use Rattle.bound_firing.specs.declared.evaluation.Evolution.TheVariants as evolution
-use Rattle.bound_firing.specs.Firing.{BoundVars}
+use Rattle.bound_firing.specs.Firing.{BoundSituation, BoundVars}
 use Rattle.bound_firing.specs.References.{flat_seats_in}
 use Rattle.bound_firing.specs.Walks.{Ready, ReadyAt, DidAt, EachReady, AllDid, BranchReady, BranchDid}
 
 -- the situation of a context
-abbrev pub situation_in : Context → Situation
+abbrev pub situation_in : Context → BoundSituation
 situation_in c = record {
   device = c.device;
   ceiling = c.program.now.declared.ceiling;
   least = c.program.now.declared.least;
-  inputs = map local_of c.inputs.now;
+  inputs = local_bounds_in c.inputs.now;
 }
 
 -- the binders in scope

@@ -2,9 +2,8 @@
 use Rattle.std.specs.Prelude.{ℕ, ◌≡◌, List, length, Option, Some, None}
 use Rattle.std.specs.List.{All}
 use Rattle.fc_values.specs.Types.{Declarations}
-use Rattle.fc_values.specs.Values.{LocalValue}
+use Rattle.value_bounds.specs.BoundValues.{BoundValue}
 use Rattle.fc_nodes.specs.Program.{Unfolding}
-use Rattle.device_eval.specs.Evaluation.{Situation}
 use Rattle.value_bounds.specs.declared.bounds.LocalBound.{LocalBound}
 use Rattle.value_bounds.specs.References.{local_bound_in, local_bounds_in}
 use Rattle.bound_firing.specs.declared.seats.OwnSeat.{OwnSeat}
@@ -12,6 +11,7 @@ use Rattle.bound_firing.specs.declared.seats.NearSeat.{NearSeat}
 use Rattle.bound_firing.specs.declared.seats.Seats.{Seats}
 use Rattle.bound_firing.specs.declared.firing.ExportBound.{ExportBound as FlatBound}
 use Rattle.bound_firing.specs.BoundTrees.{bound_tree_at}
+use Rattle.bound_firing.specs.Firing.{BoundSituation}
 use Rattle.bound_firing.specs.Exports.{ExportBound}
 
 abbrev pub export_bound_in : Unfolding → FlatBound → ExportBound
@@ -21,8 +21,8 @@ export_bound_in U e = record {
   sure = e.sure;
 }
 
--- the situation of a device with some inputs
-abbrev pub situation_for : Declarations → ℕ → List LocalValue → Situation
+-- the situation of a device with some bounds of inputs
+abbrev pub situation_for : Declarations → ℕ → List BoundValue → BoundSituation
 situation_for D device inputs =
     record { device = device; ceiling = D.ceiling; least = D.least; inputs = inputs }
 

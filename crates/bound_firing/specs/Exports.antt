@@ -1,5 +1,5 @@
 -- Bounds of exports.
-use Rattle.std.specs.Prelude.{Bool, true, false}
+use Rattle.std.specs.Prelude.{Bool, false}
 use Rattle.fc_values.specs.BuiltinTypes.{inner}
 use Rattle.fc_values.specs.Trees.{TreeExport}
 use Rattle.fc_nodes.specs.Terms.{type_of}
@@ -28,5 +28,5 @@ pub record ExportLies (U : Unfolding) (b : ExportBound) (e : TreeExport) : Type 
   pub tree : TreeLies U.main b.tree e.tree
 
 -- that of a firing
-abbrev pub bound_export : BoundOutcome → ExportBound
-bound_export r = record { value = local_part r.0; tree = r.1; sure = true }
+abbrev pub bound_export : Bool → BoundOutcome → ExportBound
+bound_export sure r = record { value = local_part r.0; tree = r.1; sure = sure }

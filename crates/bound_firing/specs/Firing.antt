@@ -9,7 +9,7 @@ use Rattle.fc_nodes.specs.Terms.{Leaf, Literal, Variable, Sense, Uid, NbrLink, E
 use Rattle.fc_nodes.specs.Terms.{Term, Terms, Plain, Apply, Nbr, Evolve, If, Let, NoMore, More, size}
 use Rattle.device_eval.specs.Evaluation.{Situation, Vars}
 use Rattle.device_eval.specs.Rules.{Evaluates}
-use Rattle.value_bounds.specs.BoundValues.{BoundValue, Between, Unbounded, exactly, either}
+use Rattle.value_bounds.specs.BoundValues.{BoundValue, Between, Unbounded, Lies, exactly, either}
 use Rattle.value_bounds.specs.BoundBuiltins.{AnyBound, BoundLocal, BoundField, BoundAny, LiesIn, builtin_bound}
 use Rattle.bound_firing.specs.BoundTrees.{BoundTree, BoundTrees, Hold, NoneBelow, Below, bare, blank, held, TreeLies}
 use Rattle.bound_firing.specs.Seats.{Seats, Sees, child_seats, branch_seats, may_be, maybes, cut_to, seat_held}
@@ -35,11 +35,29 @@ local_part (BoundLocal b) = b
 local_part (BoundField own es) = Unbounded
 local_part BoundAny = Unbounded
 
-abbrev pub input_bound : Option LocalValue → BoundValue
-input_bound None = Unbounded
-input_bound (Some v) = exactly v
+-- values lie in bounds, one by one
+abbrev pub InputsLie : List BoundValue → List LocalValue → Type 0
+InputsLie [] [] = Unit {0}
+InputsLie [] (v ∷ vs) = ⊥
+InputsLie (b ∷ bs) [] = ⊥
+InputsLie (b ∷ bs) (v ∷ vs) = Lies b v × InputsLie bs vs
 
-abbrev pub leaf_bound : Situation → Leaf → BoundVars → Seats → AnyBound
+-- where a firing of bounds happens: as a situation, with bounds of the inputs
+pub record BoundSituation : Type 0 where
+  pub device : ℕ
+  pub ceiling : ℕ
+  pub least : ℕ
+  pub inputs : List BoundValue
+
+-- that of a situation, with these bounds of its inputs
+abbrev pub bounding : Situation → List BoundValue → BoundSituation
+bounding S ins = record { device = S.device; ceiling = S.ceiling; least = S.least; inputs = ins }
+
+abbrev pub input_bound : Option BoundValue → BoundValue
+input_bound None = Unbounded
+input_bound (Some b) = b
+
+abbrev pub leaf_bound : BoundSituation → Leaf → BoundVars → Seats → AnyBound
 leaf_bound S (Literal v) vars seats = BoundLocal (exactly v)
 leaf_bound S (Variable n) vars seats = cut_to (maybes seats.near) (variable_bound n vars)
 leaf_bound S (Sense i) vars seats = BoundLocal (input_bound (slice_get S.inputs i))
@@ -106,7 +124,7 @@ of_let r f = ((f r.0).0, Hold Unbounded (Below r.1 (Below (f r.0).1 NoneBelow)))
 
 -- the outcome of a term whose root stands at place p
 abbrev mutual
-  pub bound_of : Situation → ℕ → Term → BoundVars → Seats → BoundOutcome
+  pub bound_of : BoundSituation → ℕ → Term → BoundVars → Seats → BoundOutcome
   bound_of S p (Plain t l) vars seats = (leaf_bound S l vars seats, bare)
   bound_of S p (Apply t o xs) vars seats =
       of_arguments (builtin_bound o S.ceiling S.device) (bounds_of S (suc p) 0 xs vars seats)
@@ -119,19 +137,19 @@ abbrev mutual
   bound_of S p (Let t a b) vars seats = of_let (bound_of S (suc p) a vars (child_seats 0 seats))
       (λ x. bound_of S (suc p + size a) b ((p, x) ∷ vars) (child_seats 1 seats))
 
-  pub bounds_of : Situation → ℕ → ℕ → Terms → BoundVars → Seats → BoundOutcomes
+  pub bounds_of : BoundSituation → ℕ → ℕ → Terms → BoundVars → Seats → BoundOutcomes
   bounds_of S p i NoMore vars seats = ([], NoneBelow)
   bounds_of S p i (More x xs) vars seats =
       one_before (bound_of S p x vars (child_seats i seats)) (bounds_of S (p + size x) (suc i) xs vars seats)
 
 -- ---- the law of firings: what is seen by seats fires to what lies in the bound
 
-pub record Lands (S : Situation) (p : ℕ) (t : Term) (vars : BoundVars) (seats : Seats) (v : AnyValue) (tree : Tree)
-    : Type 0 where
-  pub lies : LiesIn S.device (bound_of S p t vars seats).0 v
-  pub kept : TreeLies t (bound_of S p t vars seats).1 tree
+pub record Lands (S : Situation) (ins : List BoundValue) (p : ℕ) (t : Term) (vars : BoundVars) (seats : Seats)
+    (v : AnyValue) (tree : Tree) : Type 0 where
+  pub lies : LiesIn S.device (bound_of (bounding S ins) p t vars seats).0 v
+  pub kept : TreeLies t (bound_of (bounding S ins) p t vars seats).1 tree
 
 abbrev pub FiringsLand : Type 0
-FiringsLand = (S : Situation) (p : ℕ) (t : Term) (vars : Vars) (env : Env) (v : AnyValue) (tree : Tree)
-    (bounds : BoundVars) (seats : Seats) → VarsLie S.device bounds vars → Sees (TreeLies t) S.device seats env
-    → Evaluates S p t vars env v tree → Lands S p t bounds seats v tree
+FiringsLand = (S : Situation) (ins : List BoundValue) (p : ℕ) (t : Term) (vars : Vars) (env : Env) (v : AnyValue)
+    (tree : Tree) (bounds : BoundVars) (seats : Seats) → InputsLie ins S.inputs → VarsLie S.device bounds vars
+    → Sees (TreeLies t) S.device seats env → Evaluates S p t vars env v tree → Lands S ins p t bounds seats v tree

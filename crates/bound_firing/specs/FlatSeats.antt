@@ -7,10 +7,12 @@ use Rattle.value_bounds.specs.BoundBuiltins.{Maybes, BoundEntries}
 use Rattle.bound_firing.specs.BoundTrees.{BoundTree, slot_bound, bound_tree_at}
 use Rattle.bound_firing.specs.Seats.{NearSeat, Seats, may_be, is_settled}
 
--- a neighbour that may be aligned: its number, its weight, whether it is aligned for sure, and the bounds of its slots
+-- a neighbour that may be aligned: its number, the least and the greatest weight, whether it is aligned for sure, and
+-- the bounds of its slots
 pub record FlatSeat : Type 0 where
   pub device : ℕ
-  pub weight : ℕ
+  pub least : ℕ
+  pub greatest : ℕ
   pub sure : Bool
   pub slots : List BoundValue
 
@@ -21,7 +23,13 @@ pub record FlatSeats : Type 0 where
 
 -- the seats that they are for a term whose first kept place is slot k
 abbrev pub seat_over : Term → ℕ → FlatSeat → NearSeat
-seat_over t k n = record { device = n.device; weight = n.weight; sure = n.sure; tree = bound_tree_at t k n.slots }
+seat_over t k n = record {
+  device = n.device;
+  least = n.least;
+  greatest = n.greatest;
+  sure = n.sure;
+  tree = bound_tree_at t k n.slots;
+}
 
 abbrev pub own_over : Term → ℕ → Bool × List BoundValue → Bool × BoundTree
 own_over t k o = (o.0, bound_tree_at t k o.1)
@@ -45,7 +53,8 @@ flat_own_branch k t (Some o) =
 abbrev pub flat_less_sure : ℕ → FlatSeat → FlatSeat
 flat_less_sure k n = record {
   device = n.device;
-  weight = n.weight;
+  least = n.least;
+  greatest = n.greatest;
   sure = n.sure && is_settled (slot_bound k n.slots);
   slots = n.slots;
 }
@@ -63,7 +72,7 @@ abbrev pub flat_entries : (FlatSeat → BoundValue) → List FlatSeat → BoundE
 flat_entries f ns = map (λ (n : FlatSeat). (n.device, n.sure, f n)) ns
 
 abbrev pub flat_weight : FlatSeat → BoundValue
-flat_weight n = Between n.weight n.weight
+flat_weight n = Between n.least n.greatest
 
 abbrev pub flat_slot : ℕ → FlatSeat → BoundValue
 flat_slot k n = slot_bound k n.slots

@@ -11,8 +11,13 @@ abbrev pub own_seat_in : OwnSeat → Bool × List BoundValue
 own_seat_in o = (o.sure, local_bounds_in o.slots.now)
 
 abbrev pub near_seat_in : NearSeat → FlatSeat
-near_seat_in n =
-    record { device = n.device; weight = n.weight; sure = n.sure; slots = local_bounds_in n.slots.now }
+near_seat_in n = record {
+  device = n.device;
+  least = n.least;
+  greatest = n.greatest;
+  sure = n.sure;
+  slots = local_bounds_in n.slots.now;
+}
 
 abbrev pub near_seats_in : List NearSeat → List FlatSeat
 near_seats_in ns = map near_seat_in ns

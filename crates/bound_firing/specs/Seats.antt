@@ -1,5 +1,5 @@
 -- What a node may see: seats of trees.
-use Rattle.std.specs.Prelude.{ℕ, Bool, true, false, ◌≡◌, List, [], ◌∷◌, map, Option, Some, None, option_map, nat_eq}
+use Rattle.std.specs.Prelude.{ℕ, Bool, true, false, ◌≡◌, ◌≤◌, List, [], ◌∷◌, map, Option, Some, None, option_map, nat_eq}
 use Rattle.std.specs.Prelude.{not, ◌&&◌, ◌||◌, if◌then◌else◌}
 use Rattle.fc_values.specs.Trees.{Tree}
 use Rattle.alignment.specs.Environments.{Env, NearTree}
@@ -7,10 +7,12 @@ use Rattle.value_bounds.specs.BoundValues.{BoundValue, Between, Truths, Both, Un
 use Rattle.value_bounds.specs.BoundBuiltins.{Maybes, BoundEntries, AreApart, AnyBound, BoundLocal, BoundField, BoundAny}
 use Rattle.bound_firing.specs.BoundTrees.{BoundTree, held, below}
 
--- a neighbour that may be aligned: its number, its weight, whether it is aligned for sure, and the bound of its tree
+-- a neighbour that may be aligned: its number, the least and the greatest weight, whether it is aligned for sure, and
+-- the bound of its tree
 pub record NearSeat : Type 0 where
   pub device : ℕ
-  pub weight : ℕ
+  pub least : ℕ
+  pub greatest : ℕ
   pub sure : Bool
   pub tree : BoundTree
 
@@ -20,7 +22,8 @@ pub record Seats : Type 0 where
   pub near : List NearSeat
 
 abbrev pub seat_by : (BoundTree → BoundTree) → NearSeat → NearSeat
-seat_by f n = record { device = n.device; weight = n.weight; sure = n.sure; tree = f n.tree }
+seat_by f n =
+    record { device = n.device; least = n.least; greatest = n.greatest; sure = n.sure; tree = f n.tree }
 
 abbrev pub own_by : (BoundTree → BoundTree) → Bool × BoundTree → Bool × BoundTree
 own_by f o = (o.0, f o.1)
@@ -48,8 +51,13 @@ own_branch t None = None
 own_branch t (Some o) = if may_be t (held o.1) then Some (o.0 && is_settled (held o.1), o.1) else None
 
 abbrev pub less_sure : NearSeat → NearSeat
-less_sure n =
-    record { device = n.device; weight = n.weight; sure = n.sure && is_settled (held n.tree); tree = n.tree }
+less_sure n = record {
+  device = n.device;
+  least = n.least;
+  greatest = n.greatest;
+  sure = n.sure && is_settled (held n.tree);
+  tree = n.tree;
+}
 
 abbrev pub near_branch : Bool → List NearSeat → List NearSeat
 near_branch t [] = []
@@ -74,7 +82,7 @@ OwnSeen Q (Some o) (Some T) = Q o.1 T
 -- a neighbour takes a seat
 pub record Takes (Q : Fitting) (s : NearSeat) (n : NearTree) : Type 0 where
   pub device : n.0 ≡ s.device
-  pub weight : n.1 ≡ s.weight
+  pub weight : (s.least ≤ n.1) × (n.1 ≤ s.greatest)
   pub fits : Q s.tree n.2
 
 -- the near trees take some of the seats in order, among them all sure ones
@@ -122,7 +130,7 @@ abbrev pub seat_held : NearSeat → BoundValue
 seat_held n = held n.tree
 
 abbrev pub seat_weight : NearSeat → BoundValue
-seat_weight n = Between n.weight n.weight
+seat_weight n = Between n.least n.greatest
 
 -- a field over the seats
 abbrev pub seat_entries : (NearSeat → BoundValue) → List NearSeat → BoundEntries

@@ -5,13 +5,12 @@ use Rattle.fc_values.specs.Types.{ValueType}
 use Rattle.fc_nodes.specs.declared.nodes.Node.{Node}
 use Rattle.fc_nodes.specs.Terms.{Evolution, ByRep, ByShare, Term, Sort, HasNode, kept, kept_before, term_at}
 use Rattle.fc_nodes.specs.Layouts.{LayoutValue}
-use Rattle.device_eval.specs.Evaluation.{Situation}
 use Rattle.device_eval.specs.Walks.{Stands}
 use Rattle.value_bounds.specs.BoundValues.{BoundValue, Unbounded}
 use Rattle.value_bounds.specs.BoundBuiltins.{AnyBound, BoundLocal, BoundField, BoundAny}
 use Rattle.bound_firing.specs.BoundTrees.{slot_bound, bound_tree_at}
 use Rattle.bound_firing.specs.Seats.{may_be}
-use Rattle.bound_firing.specs.Firing.{BoundVars, either_bound, bound_of}
+use Rattle.bound_firing.specs.Firing.{BoundSituation, BoundVars, either_bound, bound_of}
 use Rattle.bound_firing.specs.FlatSeats.{FlatSeats, seats_over, flat_branch, flat_entries, flat_slot, flat_own_bound}
 use Rattle.bound_firing.specs.FlatSeats.{SlotsHave}
 
@@ -44,7 +43,7 @@ pub record Can (t : Term) (k : ℕ) (seats : FlatSeats) (xs : List BoundValue) :
   pub reach : Reach (length xs) seats
 
 -- what it gives: the bounds of the definition, and no other slot is written
-pub record Did (S : Situation) (p : ℕ) (t : Term) (k : ℕ) (vars : BoundVars) (seats : FlatSeats)
+pub record Did (S : BoundSituation) (p : ℕ) (t : Term) (k : ℕ) (vars : BoundVars) (seats : FlatSeats)
     (xs : List BoundValue) (b : AnyBound) (ys : List BoundValue) : Type 0 where
   pub gives : bound_of S p t vars (seats_over t k seats) ≡ (b, bound_tree_at t k ys)
   pub out : SameOut k (kept t) xs ys
@@ -54,7 +53,7 @@ pub record Ready (ns : List Node) (l : LayoutValue) (p : ℕ) (seats : FlatSeats
   pub can : Can (term_at ns p) (kept_before ns p) seats xs
   pub stands : Stands ns l p
 
-abbrev pub DidAt : Situation → List Node → ℕ → BoundVars → FlatSeats → List BoundValue → AnyBound → List BoundValue
+abbrev pub DidAt : BoundSituation → List Node → ℕ → BoundVars → FlatSeats → List BoundValue → AnyBound → List BoundValue
     → Type 0
 DidAt S ns p vars seats xs b ys = Did S p (term_at ns p) (kept_before ns p) vars seats xs b ys
 
@@ -67,13 +66,13 @@ pub record ReadyAt (ns : List Node) (l : LayoutValue) (p : ℕ) (s : Sort) (t : 
 -- ---- places one after another
 
 -- the first is ready, and after it the rest
-abbrev pub EachReady : Situation → List Node → LayoutValue → List ℕ → BoundVars → FlatSeats → List BoundValue → Type 0
+abbrev pub EachReady : BoundSituation → List Node → LayoutValue → List ℕ → BoundVars → FlatSeats → List BoundValue → Type 0
 EachReady S ns l [] vars seats xs = Unit {0}
 EachReady S ns l (k ∷ ks) vars seats xs = Ready ns l k seats xs × (k < get_or ks 0 (length ns))
     × ((b : AnyBound) (ys : List BoundValue) → DidAt S ns k vars seats xs b ys → EachReady S ns l ks vars seats ys)
 
 -- the bounds that one after another gives, and the slots that are left
-pub data EachDid (S : Situation) (ns : List Node) (vars : BoundVars) (seats : FlatSeats)
+pub data EachDid (S : BoundSituation) (ns : List Node) (vars : BoundVars) (seats : FlatSeats)
     : List ℕ → List BoundValue → List AnyBound → List BoundValue → Type 0 where
   none_did : {xs : List BoundValue} → EachDid S ns vars seats [] xs [] xs
   one_did : (k : ℕ) (b : AnyBound) {ks : List ℕ} {bs : List AnyBound} {xs ys zs : List BoundValue}
@@ -81,7 +80,7 @@ pub data EachDid (S : Situation) (ns : List Node) (vars : BoundVars) (seats : Fl
       → EachDid S ns vars seats (k ∷ ks) xs (b ∷ bs) zs
 
 -- they are added to others
-pub record AllDid (S : Situation) (ns : List Node) (ks : List ℕ) (vars : BoundVars) (seats : FlatSeats)
+pub record AllDid (S : BoundSituation) (ns : List Node) (ks : List ℕ) (vars : BoundVars) (seats : FlatSeats)
     (xs : List BoundValue) (old new : List AnyBound) (ys : List BoundValue) : Type 0 where
   pub bounds : List AnyBound
   pub added : new ≡ old ++ bounds
@@ -101,7 +100,7 @@ pub record BranchReady (ns : List Node) (l : LayoutValue) (p k : ℕ) (truth : B
   pub has : SlotsHave k seats
 
 -- then it is evaluated, else its slots are left as they are
-abbrev pub BranchDid : Situation → List Node → ℕ → ℕ → Bool → BoundVars → FlatSeats → List BoundValue → Option AnyBound
+abbrev pub BranchDid : BoundSituation → List Node → ℕ → ℕ → Bool → BoundVars → FlatSeats → List BoundValue → Option AnyBound
     → List BoundValue → Type 0
 BranchDid S ns p k truth vars seats xs None ys = (may_be truth (slot_bound k xs) ≡ false) × (ys ≡ xs)
 BranchDid S ns p k truth vars seats xs (Some b) ys =

@@ -1,7 +1,6 @@
 //! The evaluation of a program's nodes over bounds.
 
 ghost use Rattle.std.specs.Prelude.{◌≡◌, ◌<◌, IfOk, OnOk, length, map, min, slice_get, slice_set};
-ghost use Rattle.fc_values.specs.Values.{local_of};
 ghost use Rattle.fc_nodes.specs.Terms.{OfApply, OfNbr, OfEvolve, OfIf, OfLet};
 ghost use Rattle.value_bounds.specs.BoundValues.{Between};
 ghost use Rattle.value_bounds.specs.References.{local_bound_in, local_bounds_in, any_bound_in};
@@ -18,17 +17,17 @@ use crate::seating::{
 };
 use crate::seats::Seats;
 use fc_nodes::{Layout, Node, Op, Unfolded, ceiling_of, least_weight, slot_of};
-use fc_values::{Builtin, Local, Memory};
+use fc_values::{Builtin, Memory};
 use std::alloc::Global;
 use value_bounds::{Bound, LocalBound, bound_of_builtin, copy_bound, either, exactly};
 
-/// What a firing depends on: a program, its layout, the device, and its inputs.
+/// What a firing depends on: a program, its layout, the device, and bounds of its inputs.
 #[derive(Clone, Copy)]
 pub struct Context<'a> {
     pub program: &'a Unfolded,
     pub layout: &'a Layout,
     pub device: u32,
-    pub inputs: &'a [Local],
+    pub inputs: &'a [LocalBound],
 }
 
 /// The binders in scope, by their places, with their bounds.
@@ -266,11 +265,11 @@ fn variable(
 }
 
 // The bound of an input.
-fn input_bound(alloc: Global, inputs: &[Local], index: u32) -> Result<LocalBound, Memory>
-    ensures { IfOk result (λ b. local_bound_in b ≡ bound_of_input (slice_get (map local_of inputs.now) index)) }
+fn input_bound(alloc: Global, inputs: &[LocalBound], index: u32) -> Result<LocalBound, Memory>
+    ensures { IfOk result (λ b. local_bound_in b ≡ bound_of_input (slice_get (local_bounds_in inputs.now) index)) }
 {
     match inputs.get(index as usize) {
-        Some(value) => Ok(exactly(alloc, value)?),
+        Some(bound) => Ok(copy_bound(alloc, bound)?),
         None => Ok(LocalBound::Unbounded),
     }
 }

@@ -1,7 +1,6 @@
 //! The firing of a device over bounds.
 
 ghost use Rattle.std.specs.Prelude.{ℕ, [], ◌≡◌, ◌++◌, IfOk, OnOk, length, map, option_to_list};
-ghost use Rattle.fc_values.specs.Values.{local_of};
 ghost use Rattle.fc_nodes.specs.Terms.{kept, kept_types, node_keeps, term_at};
 ghost use Rattle.fc_nodes.specs.Program.{unfolding_of};
 ghost use Rattle.value_bounds.specs.BoundValues.{Unbounded, anything as anything_of};
@@ -16,7 +15,7 @@ ghost use Rattle.bound_firing.specs.ExportReferences.{export_bound_in, situation
 use crate::evaluation::{Context, Scope, Sight, eval, into_local};
 use crate::seats::Seats;
 use fc_nodes::{Node, Op, Unfolded};
-use fc_values::{Local, Memory, inner};
+use fc_values::{Memory, inner};
 use std::alloc::Global;
 use value_bounds::{LocalBound, anything};
 
@@ -46,18 +45,20 @@ pub fn any_export_bound(alloc: Global, program: &Unfolded) -> Result<ExportBound
     })
 }
 
-/// Fires a device over the bounds that its seats have, and writes the bound of its export over another.
+/// Fires a device over bounds of its inputs and those that its seats have, and writes the bound of its export over
+/// another. It is there for sure where the device is.
 pub fn fire_bounds(
     alloc: Global,
     program: &Unfolded,
     device: u32,
-    inputs: &[Local],
+    inputs: &[LocalBound],
     seats: &Seats<'_>,
+    sure: bool,
     target: &mut ExportBound,
 ) -> Result<(), Memory>
     requires { SlotsAreLong (kept (unfolding_of program.now).main) seats.now target.old.slots.items }
     ensures bound { OnOk result (export_bound_in (unfolding_of program.now) target.new
-        ≡ bound_export (bound_of (situation_for program.now.declared device (map local_of inputs.now)) 0
+        ≡ bound_export sure (bound_of (situation_for program.now.declared device (local_bounds_in inputs.now)) 0
         (unfolding_of program.now).main [] (seats_over (unfolding_of program.now).main 0 (flat_seats_in seats.now)))) }
     ensures slots { length target.new.slots.items ≡ length target.old.slots.items }
 {
@@ -75,7 +76,7 @@ pub fn fire_bounds(
     };
     let bound = eval(alloc, &context, 0, &sight, slots)?;
     target.value = into_local(bound);
-    target.sure = true;
+    target.sure = sure;
     Ok(())
 }
 

@@ -83,7 +83,7 @@ pub fn seat_weights(alloc: Global, seats: &Seats<'_>, least: u32) -> Result<Fiel
         entries.push(BoundEntry {
             device: seat.device,
             sure: seat.sure,
-            bound: LocalBound::Between(seat.weight, seat.weight),
+            bound: LocalBound::Between(seat.least, seat.greatest),
         })?;
     }
     let own = LocalBound::Between(least, least);

@@ -9,12 +9,13 @@ pub struct OwnSeat<'a> {
     pub slots: &'a [LocalBound],
 }
 
-/// A neighbour that may be aligned: its number, the weight of its link, whether it is aligned for sure, and the bounds
-/// of its slots.
+/// A neighbour that may be aligned: its number, the least and the greatest weight of its link, whether it is aligned for
+/// sure, and the bounds of its slots.
 #[derive(Clone, Copy)]
 pub struct NearSeat<'a> {
     pub device: u32,
-    pub weight: u32,
+    pub least: u32,
+    pub greatest: u32,
     pub sure: bool,
     pub slots: &'a [LocalBound],
 }

@@ -1,11 +1,11 @@
 -- Crates above cite this module: what tables of bounds in code stand for, place by place; and seats over them.
+use Rattle.value_bounds.specs.BoundValues.{BoundValue, exactly}
 use Rattle.std.proofs.Common.{◌≡◌, ℕ, zero, suc, ◌<◌, ◌≤◌, List, [], ◌∷◌, ◌++◌, length, map, take, get_or, refl, sym}
-use Rattle.std.proofs.Common.{◌∙◌, ap, arith, Some, All, Vec, Global}
+use Rattle.std.proofs.Common.{◌∙◌, ap, arith, true, Some, All, Vec, Global}
 use Rattle.std.proofs.lemmas.List.{length-map, map-append}
 use Rattle.std.proofs.lemmas.List.{take_all}
 use Rattle.std.proofs.lemmas.List.Elements.{All-push, All-nil, All-get_or}
 use Rattle.std.proofs.Math.Seq.{take-suc}
-use Rattle.fc_values.specs.Values.{LocalValue}
 use Rattle.fc_nodes.specs.Program.{Unfolding}
 use Rattle.topology.specs.Networks.{NetDevice, Network, numbers, near, inputs_in}
 use Rattle.bound_firing.specs.declared.firing.ExportBound.{ExportBound as FlatBound}
@@ -60,15 +60,15 @@ module _ (U : Unfolding) (N : Network) (table : BoundTable) (xs : List FlatBound
 
   -- a near seat over the bounds at the place of a neighbour
   pub near_seat : Stand U N table xs → (i : ℕ) (b : FlatBound) (n : NearSeat) → i < length N.devices → b ≡ get_or xs i b
-      → device_at N i ≡ n.device
+      → device_at N i ≡ n.device → n.greatest ≡ n.least
       → n.sure ≡ b.sure → n.slots.now ≡ b.slots.items → seat_over U.main 0 (near_seat_in n)
-      ≡ seat_in table (n.device, n.weight)
-  near_seat s i b n h is at sure slots =
+      ≡ seat_in table (n.device, n.least)
+  near_seat s i b n h is at exact sure slots =
       let e : export_bound_in U b ≡ table n.device = ap (export_bound_in U) is ∙ stand_at s i b h ∙ ap table at in
       let p : n.sure ≡ (table n.device).sure = sure ∙ ap (λ (x : ExportBound). x.sure) e in
       let q : bound_tree_at U.main 0 (local_bounds_in n.slots.now) ≡ (table n.device).tree =
       ap (λ ys. bound_tree_at U.main 0 (local_bounds_in ys)) slots ∙ ap (λ (x : ExportBound). x.tree) e in
-      rw (p, q) refl
+      rw (p, q, exact) refl
 
 -- one seat more
 pub seats_more : (U : Unfolding) (table : BoundTable) (ss : List NearSeat) (s : NearSeat) (ns : List (ℕ × ℕ))
@@ -100,7 +100,8 @@ none_seen N xs d = record { seen = λ U table s. refl; long = λ n h. All-nil (L
 -- a seat is that of a neighbour over a bound
 pub record IsSeatOf (n : ℕ × ℕ) (b : FlatBound) (s : NearSeat) : Type 0 where
   pub device : s.device ≡ n.0
-  pub weight : s.weight ≡ n.1
+  pub least : s.least ≡ n.1
+  pub greatest : s.greatest ≡ n.1
   pub sure : s.sure ≡ b.sure
   pub slots : s.slots.now ≡ b.slots.items
 
@@ -111,9 +112,9 @@ module _ (N : Network) (xs : List FlatBound) (many : length xs ≡ length N.devi
       → IsSeatOf (get_or (near N d) k (0, 0)) b s → NearSeen N xs d k ss → NearSeen N xs d (suc k) (ss ++ s ∷ [])
   seen_next h l is place o seen = record {
     seen = λ U table t.
-        let q = near_seat U N table xs t at b s l is (place ∙ sym o.device) o.sure o.slots in
-        let w : seat_in table (s.device, s.weight) ≡ seat_in table (get_or (near N d) k (0, 0)) =
-        (let e = o.device in let e' = o.weight in rw (e, e') refl) in
+        let q = near_seat U N table xs t at b s l is (place ∙ sym o.device) (o.greatest ∙ sym o.least) o.sure o.slots in
+        let w : seat_in table (s.device, s.least) ≡ seat_in table (get_or (near N d) k (0, 0)) =
+        (let e = o.device in let e' = o.least in rw (e, e') refl) in
         seats_more U table ss s (near N d) k h (seen.seen U table t) (q ∙ w);
     long = λ n h.
         let e = All-get_or (λ (x : FlatBound). length x.slots.items ≡ n) xs at b (omega (arith, l, many)) h in
@@ -145,8 +146,8 @@ module _ (N : Network) (xs : List FlatBound) (many : length xs ≡ length N.devi
 
 -- the firing over seats of a table is that over the table
 pub fired_over : (U : Unfolding) (N : Network) (table : BoundTable) (xs : List FlatBound) (d device : ℕ)
-    (inputs : List LocalValue) (seats : CodeSeats) → device ≡ d → inputs ≡ inputs_in d N.devices
+    (inputs : List BoundValue) (seats : CodeSeats) → device ≡ d → inputs ≡ map exactly (inputs_in d N.devices)
     → Stand U N table xs → SeeTable N xs d seats
-    → bound_export (bound_of (situation_for U.declared device inputs) 0 U.main []
+    → bound_export true (bound_of (situation_for U.declared device inputs) 0 U.main []
     (seats_over U.main 0 (flat_seats_in seats))) ≡ fired U N table d
 fired_over U N table xs d device inputs seats e q t s = let r = s.seen U table t in rw (e, q, r) refl

@@ -10,7 +10,7 @@ ghost use Rattle.bound_rounds.specs.Rounds.{BoundTable, fired, next_table};
 ghost use Rattle.bound_rounds.specs.Tables.{Stand, FitTable, SeeTable, AreMarked, AllMarked, AreSwapped};
 ghost use Rattle.bound_rounds.specs.Tables.{IsReady, IsFiredTable, IsRound, device_at};
 
-use crate::copies::copy_bounds;
+use crate::copies::{copy_bounds, exact_bounds};
 use bound_firing::{ExportBound, NearSeat, OwnSeat, Seats, fire_bounds};
 use export_bounds::{same_export_bound, widen_bound};
 use fc_nodes::Unfolded;
@@ -170,8 +170,9 @@ fn fire(
     ensures slots { length draft.new.slots.items ≡ length draft.old.slots.items }
 {
     let device = &network.devices()[place];
+    let inputs = exact_bounds(alloc, &device.inputs)?;
     let seats = seats_at(alloc, network, bounds, place)?;
-    fire_bounds(alloc, program, device.id, &device.inputs, &seats, draft)?;
+    fire_bounds(alloc, program, device.id, &inputs, &seats, true, draft)?;
     Ok(())
 }
 
@@ -192,7 +193,8 @@ fn seats_at<'a>(
         let bound = &bounds[place_of(network, neighbour.0)];
         near.push(NearSeat {
             device: neighbour.0,
-            weight: neighbour.1,
+            least: neighbour.1,
+            greatest: neighbour.1,
             sure: bound.sure,
             slots: &bound.slots,
         })?;

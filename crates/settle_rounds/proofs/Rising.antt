@@ -9,21 +9,22 @@ use Rattle.fc_values.specs.Trees.{TreeExport}
 use Rattle.fc_values.proofs.Rising.{rises_apart, rises_tail}
 use Rattle.fc_nodes.specs.Program.{Program, Unfolding, unfolding_of, IsProgram}
 use Rattle.fc_nodes.specs.Flat.{IsWellTyped}
-use Rattle.device_eval.specs.Copies.{near_tree, env_of, EvaluatesCopy, HasOneExport}
+use Rattle.device_eval.specs.Copies.{near_tree, env_of, situation_of, EvaluatesCopy, HasOneExport}
 use Rattle.device_eval.proofs.OneExport.{program_export}
-use Rattle.topology.specs.Networks.{Network, numbers, Lives, near, IsNetwork}
+use Rattle.topology.specs.Networks.{Network, numbers, Lives, near, inputs_in, IsNetwork}
 use Rattle.topology.specs.Nearby.{near_numbers}
 use Rattle.topology.proofs.Lemmas.{AllNear, near_fits, near_rises}
 use Rattle.firing_core.specs.Cores.{Map, near_with, near_copies, copy_of}
 use Rattle.firing_core.specs.Laws.{CopiesFit}
 use Rattle.converge_laws.specs.CoreLevels.{MaybeAt, GoodTable, Raises}
 use Rattle.converge_laws.specs.StartLevels.{MaybeLevel, TableFrom, Lifts}
-use Rattle.value_bounds.specs.BoundValues.{BoundValue, Between, Truths, Both, Unbounded, Lies, is_known, value_left}
+use Rattle.value_bounds.specs.BoundValues.{BoundValue, Between, Truths, Both, Unbounded, Lies, exactly, is_known}
+use Rattle.value_bounds.specs.BoundValues.{value_left}
 use Rattle.value_bounds.specs.BoundBuiltins.{AreApart, maybe_numbers}
-use Rattle.value_bounds.proofs.Values.{both_parts, nat_same}
+use Rattle.value_bounds.proofs.Values.{both_parts, nat_same, lies_exactly}
 use Rattle.bound_firing.specs.BoundTrees.{TreeLies}
 use Rattle.bound_firing.specs.Seats.{OwnSeen, SeenNear, no_seat, takes, free, Sees, maybes}
-use Rattle.bound_firing.specs.Firing.{bound_of}
+use Rattle.bound_firing.specs.Firing.{InputsLie, bound_of}
 use Rattle.bound_firing.specs.Exports.{ExportBound, ExportLies}
 use Rattle.bound_firing.proofs.Firings.{firings_land, local_lies}
 use Rattle.bound_firing.proofs.Anything.{lies_at_first}
@@ -90,7 +91,7 @@ module _ (U : Unfolding) (f : Map TreeExport) where
             (map near_tree (near_with n o (near_copies f ns)))
         by_export None h s = free (seat_in table n) h s
         by_export (Some e) h s = takes (seat_in table n) (near_tree (record { device = n.0; weight = n.1; export = e }))
-            (record { device = refl; weight = refl; fits = h.tree }) s
+            (record { device = refl; weight = (omega arith, omega arith); fits = h.tree }) s
 
     seat_numbers : (ns : List (ℕ × ℕ)) → maybe_numbers (maybes (map (seat_in table) ns)) ≡ near_numbers ns
     seat_numbers [] = refl
@@ -110,6 +111,10 @@ module _ (U : Unfolding) (f : Map TreeExport) where
         → OwnSeen (TreeLies U.main) (Some ((table d).sure, (table d).tree)) (option_map (λ (e : TreeExport). e.tree) o)
     own_seen d None h = h
     own_seen d (Some e) h = h.tree
+
+inputs_exact : (vs : List LocalValue) → InputsLie (map exactly vs) vs
+inputs_exact [] = tt
+inputs_exact (v ∷ vs) = (lies_exactly v, inputs_exact vs)
 
 -- levels by a table of bounds: within the bounds after each number of rounds up to the level
 abbrev pub WithinFrom : Unfolding → Network → BoundTable → MaybeLevel
@@ -142,8 +147,9 @@ module _ (fit : CopiesFit) (P : Program) (N : Network) (program : IsProgram P) (
             (near_fits N.declared (numbers N.devices) d N.links net.links)
             (near_rises N.declared (numbers N.devices) d N.links net.links);
       } in
-      let r = firings_land (situation_at U N d) 0 U.main [] (env_of (copy_of N f d)) (ValueLocal e.value) e.tree []
-      (seats_in table N d) tt seen v.main in
+      let r = firings_land (situation_of U.declared (copy_of N f d)) (map exactly (inputs_in d N.devices)) 0 U.main []
+      (env_of (copy_of N f d)) (ValueLocal e.value) e.tree [] (seats_in table N d)
+      (inputs_exact (inputs_in d N.devices)) tt seen v.main in
       record {
         value = local_lies d (bound_of (situation_at U N d) 0 U.main [] (seats_in table N d)).0 e.value r.lies;
         tree = r.kept;

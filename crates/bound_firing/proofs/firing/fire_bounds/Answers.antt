@@ -24,4 +24,4 @@ returns-clause-bound c =
     (omega (arith, l, e, ap length c.as_mut_slice-slots.ensures.value, c.args.target.now.slots.ok.0)) in
     rw (c.into_local.ensures, back)
     (root_done c.args.program.now c.layout.ensures.program c.layout.result.now c.layout.ensures.layout
-    (flat_seats_in c.args.seats.now) (local_bounds_in c.clear.new.slots) _ _ _ c.in_ok-bound.ensures)
+    (flat_seats_in c.args.seats.now) (local_bounds_in c.clear.new.slots) c.args.sure _ _ _ c.in_ok-bound.ensures)

@@ -1,5 +1,7 @@
 use Rattle.std.proofs.Common.{◌∙◌, sym, ap}
 use Rattle.fc_values.specs.Values.{local_of}
+use Rattle.value_bounds.specs.BoundValues.{exactly}
+use Rattle.value_bounds.specs.References.{local_bounds_in}
 use Rattle.std.proofs.Common.{map}
 use Rattle.fc_nodes.specs.Terms.{kept}
 use Rattle.fc_nodes.specs.Program.{unfolding_of}
@@ -24,5 +26,6 @@ returns-clause-fired c table s =
     c.devices.ensures.network c.requires.within c.index-devices-place.is in
     c.in_ok-fire_bounds.ensures.bound
     ∙ fired_over (unfolding_of c.args.program.now) N table c.args.bounds.now (device_at N c.args.place)
-    c.index-devices-place.result.id (map local_of c.deref.result.now) c.in_ok-seats.seats
-    (sym at) (ap (map local_of) c.deref.ensures.value ∙ inputs) s c.in_ok-seats.ensures
+    c.index-devices-place.result.id (local_bounds_in c.deref-2.result.now) c.in_ok-seats.seats (sym at)
+    (ap local_bounds_in c.deref-2.ensures.value ∙ c.in_ok-inputs.ensures
+    ∙ ap (map exactly) (ap (map local_of) c.deref.ensures.value ∙ inputs)) s c.in_ok-seats.ensures

@@ -29,13 +29,20 @@ loop-neighbour-preserved c =
     ap (λ (ns : List (ℕ × ℕ)). get_or ns k (0, 0)) v in
     let s : NearSeat = record {
       device = (get_or c.near_at-neighbours.result.now k (0, 0)).0;
-      weight = (get_or c.near_at-neighbours.result.now k (0, 0)).1;
+      least = (get_or c.near_at-neighbours.result.now k (0, 0)).1;
+      greatest = (get_or c.near_at-neighbours.result.now k (0, 0)).1;
       sure = c.index-bounds-place_of.result.sure;
       slots = c.deref.result;
     } in
     let first = ap (λ (x : ℕ × ℕ). x.0) n in
     let o : IsSeatOf (get_or (near c.args.network.now d) k (0, 0)) c.index-bounds-place_of.result s =
-    record { device = first; weight = ap (λ (x : ℕ × ℕ). x.1) n; sure = refl; slots = c.deref.ensures.value } in
+    record {
+      device = first;
+      least = ap (λ (x : ℕ × ℕ). x.1) n;
+      greatest = ap (λ (x : ℕ × ℕ). x.1) n;
+      sure = refl;
+      slots = c.deref.ensures.value;
+    } in
     rw add-one (subst (NearSeen c.args.network.now c.args.bounds.now d _)
     (sym {A = List NearSeat} c.in_ok-push.ensures.items)
     (seen_next c.args.network.now c.args.bounds.now c.requires.many d k c.place_of.result c.loop-neighbour.near.items s

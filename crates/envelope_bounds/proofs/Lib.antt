@@ -1,0 +1,10 @@
+mod Left
+mod OneExport
+mod Inside
+mod HoldWithin
+mod Still
+mod Growing
+mod StartTables
+mod Lines
+mod Exact
+mod Yes

@@ -1,0 +1,50 @@
+-- When tables over an envelope stay, and what bounds of devices promise.
+use Rattle.std.specs.Prelude.{ℕ, true, false, ◌≡◌, ◌≤◌, ◌⊎◌, Some}
+use Rattle.fc_values.specs.Trees.{TreeExport}
+use Rattle.fc_nodes.specs.Program.{Program, Unfolding, unfolding_of, IsProgram}
+use Rattle.firing_core.specs.Cores.{Core, IsGood}
+use Rattle.value_bounds.specs.BoundValues.{BoundValue, Lies}
+use Rattle.bound_rounds.specs.declared.rounds.RoundKind.{RoundKind}
+use Rattle.bound_rounds.specs.Rounds.{BoundTable}
+use Rattle.envelope_bounds.specs.Rounds.{table_within, rounds_within, IsFixedWithin}
+use Rattle.envelopes.specs.Envelopes.{Envelope, MayLive, is_sure, IsEnvelope}
+use Rattle.settle_rounds.specs.Rounds.{any_table}
+use Rattle.envelope_bounds.specs.Within.{RoundsWithin, StartTableWithin}
+
+-- the round after the first j ones changes no bound of a device that may be there
+abbrev pub IsStillWithin : RoundKind → Unfolding → Envelope → BoundTable → ℕ → Type 0
+IsStillWithin k U E start j = IsFixedWithin k U E (table_within k U E start j)
+
+-- from then on nothing changes
+abbrev pub StillStaysWithin : Type 0
+StillStaysWithin = (k : RoundKind) (U : Unfolding) (E : Envelope) → IsEnvelope E → (start : BoundTable) (j i : ℕ)
+    → IsStillWithin k U E start j → j ≤ i → (d : ℕ) → MayLive E d
+    → table_within k U E start i d ≡ table_within k U E start j d
+
+-- ---- what a line of text promises
+
+-- the bound of a device's value in the table after r rounds, where the export is there for sure or the device may be
+-- away. In the text r is the first round with the last bound
+pub record HasBound (U : Unfolding) (E : Envelope) (start : BoundTable) (r d : ℕ) (b : BoundValue) : Type 0 where
+  pub is : (rounds_within U E start r d).value ≡ b
+  pub there : ((rounds_within U E start r d).sure ≡ true) ⊎ (is_sure E d ≡ false)
+
+-- where a device has an export its value lies in a bound, and a device that is always there has one
+pub record LiesAt (E : Envelope) (d : ℕ) (b : BoundValue) (last : Core) : Type 0 where
+  pub value : (e : TreeExport) → last.exports d ≡ Some e → Lies b e.value
+  pub there : is_sure E d ≡ true → (e : TreeExport) × (last.exports d ≡ Some e)
+
+-- from a core and the table from which its rounds are counted
+abbrev pub LinesHold : Type 0
+LinesHold = (P : Program) (E : Envelope) → IsProgram P → IsEnvelope E
+    → (start last : Core) → IsGood (unfolding_of P) start → (most : ℕ) (table : BoundTable)
+    → StartTableWithin (unfolding_of P) E start.net most start table
+    → (r d : ℕ) (b : BoundValue) → MayLive E d → HasBound (unfolding_of P) E table r d b
+    → (m : ℕ) → r ≤ m → RoundsWithin (unfolding_of P) E m start last → LiesAt E d b last
+
+-- and from every good core, with the tables from anything
+abbrev pub LinesHoldAnyhow : Type 0
+LinesHoldAnyhow = (P : Program) (E : Envelope) → IsProgram P → IsEnvelope E
+    → (start last : Core) → IsGood (unfolding_of P) start
+    → (r d : ℕ) (b : BoundValue) → MayLive E d → HasBound (unfolding_of P) E (any_table (unfolding_of P)) r d b
+    → (m : ℕ) → r ≤ m → RoundsWithin (unfolding_of P) E m start last → LiesAt E d b last

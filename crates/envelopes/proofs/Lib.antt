@@ -1,0 +1,6 @@
+pub mod Within
+pub mod Exact
+mod EditsStay
+mod LookedUp
+mod Rounds
+mod Placing
