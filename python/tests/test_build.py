@@ -59,6 +59,10 @@ def build_itself() -> Any:
     return made
 
 
+# what holds while the network changes: no command leans on it yet
+LAWS = ("net_moves", "moving_laws", "envelopes", "envelope_bounds")
+
+
 class Build(InFolder):
     def setUp(self) -> None:
         super().setUp()
@@ -143,11 +147,13 @@ class Build(InFolder):
             self.assertEqual(made.at_once(), wanted, (processors, memory))
 
     def test_the_crates_of_the_repository(self) -> None:
-        """Each crate but the program and those of tests is counted, after those that it names."""
+        """Each crate but the program, those of tests and laws that it doesn't lean on is counted, after those that it
+        names."""
         made = build_itself()
         named = dict(line.split(":") for line in (TOP / "crates.txt").read_text().splitlines() if ":" in line)
         order = made.Crates(made.ROOF).order
-        self.assertEqual({name for name in named if not name.endswith("_tests")} - set(order), {made.PROGRAM})
+        others = {made.PROGRAM, *LAWS}
+        self.assertEqual({name for name in named if not name.endswith("_tests")} - set(order), others)
         for at, name in enumerate(order):
             self.assertEqual({other for other in named[name].split() if other in named} - set(order[:at]), set(), name)
         self.assertEqual({other for other in named[made.PROGRAM].split() if other in named} - set(order), set())
