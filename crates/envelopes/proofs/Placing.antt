@@ -70,7 +70,7 @@ room_at id k (m ∷ ms) r h e =
       where
         first : (q : Bool) → nat_eq id m.id ≡ q → (k < length (m ∷ ms)) × (get_or (ids (m ∷ ms)) k 0 ≡ id)
         first true w =
-          (omega (arith, u), subst (λ i. get_or (ids (m ∷ ms)) i 0 ≡ id) (sym u) (sym (eqb-true id m.id w)))
+            (omega (arith, u), subst (λ i. get_or (ids (m ∷ ms)) i 0 ≡ id) (sym u) (sym (eqb-true id m.id w)))
         first false w =
             let rest : is_in id (ids ms) ≡ true = rw w at h in
             let above = later_above m.id id (ids ms) r rest in
@@ -139,7 +139,7 @@ each_none (i ∷ is) = ap (λ ns. [] ∷ ns) (each_none is)
 
 -- the ends of the links of an envelope
 pub ends_fit : (D : Declarations) (ds : List ℕ) (ls : List MaybeLink) → LinksFit D ds (map least_edge ls) →
-  EndsFit ds ls
+    EndsFit ds ls
 ends_fit D ds [] h = tt
 ends_fit D ds (l ∷ ls) h = (h.0.order, h.0.from, h.0.to, ends_fit D ds ls h.2)
 
@@ -178,7 +178,7 @@ pub each_pushed : (is : List ℕ) (ls : List MaybeLink) (l : LinkBound) (vs : Li
     → map neighbours_of (set (set vs p n) q m) ≡ near_each is (ls ++ maybe_link_of l ∷ [])
 each_pushed is ls l vs p q x y n m k r o h j e g en em =
     let apart : q ≡ p → ⊥ =
-      λ w. let u : l.b ≡ l.a = sym g ∙ ap (λ i. get_or is i 0) w ∙ e in absurd (omega (arith, o, u)) in
+    λ w. let u : l.b ≡ l.a = sym g ∙ ap (λ i. get_or is i 0) w ∙ e in absurd (omega (arith, o, u)) in
     let first : neighbours_of n ≡ maybe_near l.a ls ++ (l.b, maybe_link_of l) ∷ [] =
     ap (map neighbour_of) en
     ∙ map-append neighbour_of (get_or vs p x).items ((l.b, l) ∷ [])

@@ -37,7 +37,7 @@ pub read_back : (v : BoundValue) (rest : List Token) (stack : List BoundValue)
     → read_on (written v rest) stack ≡ read_on rest (v ∷ stack)
 read_back (Between a b) rest stack = refl
 read_back (Truths a b) rest stack =
-  ap (λ x. read_on rest (Truths x (number_truth (truth_number b)) ∷ stack)) (truth_back a)
+    ap (λ x. read_on rest (Truths x (number_truth (truth_number b)) ∷ stack)) (truth_back a)
     ∙ ap (λ x. read_on rest (Truths a x ∷ stack)) (truth_back b)
 read_back (Both a b) rest stack =
     read_back a (written b ((2, (0, 0)) ∷ rest)) stack ∙ read_back b ((2, (0, 0)) ∷ rest) (a ∷ stack)

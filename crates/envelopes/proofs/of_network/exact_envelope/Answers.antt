@@ -14,7 +14,7 @@ parts_same {D} {G} {ms} {ks} {ls} {js} d m l =
 pub new-requires : goal.new-requires
 new-requires c =
     let same : envelope_of (declarations_of c.in_ok-declared.declared)
-      (map maybe_device_of c.in_ok-devices.devices.items)
+    (map maybe_device_of c.in_ok-devices.devices.items)
     (map maybe_link_of c.in_ok-links.links.items) ≡ exact_envelope c.args.network.now =
     parts_same (c.in_ok-declared.ensures ∙ c.declared.ensures.value)
     (c.in_ok-devices.ensures ∙ ap (map exact_device) c.devices.ensures.value)

@@ -20,5 +20,5 @@ returns-clause-value c =
     ) in
     ap (map neighbour_of) (c.deref.ensures.value ∙ ap (λ (v : Vec (ℕ × LinkBound) Global). v.items) c.index.ensures)
     ∙ near_at (ids E.devices) E.links c.self.inside.near.items c.args.place c.index.result.now c.self.invariant.near
-      within
+    within
     ∙ ap (λ (v : Envelope). maybe_near (get_or (ids v.devices) c.args.place 0) v.links) c.self.view_is

@@ -10,7 +10,7 @@ invariant_of-result c = record {
   envelope = c.requires;
   near = c.in_ok-near.ensures
       ∙ ap (λ ds. near_each (ids (map maybe_device_of ds)) (map maybe_link_of c.deref-2.result.now))
-        c.deref.ensures.value
+      c.deref.ensures.value
       ∙ ap (λ ls. near_each (ids (map maybe_device_of c.args.devices.items)) (map maybe_link_of ls))
       c.deref-2.ensures.value;
 }
@@ -18,7 +18,7 @@ invariant_of-result c = record {
 pub near_lists-requires-clause-links : goal.near_lists-requires-clause-links
 near_lists-requires-clause-links c =
     subst (λ ds. EndsFit (ids (map maybe_device_of ds)) (map maybe_link_of c.deref-2.result.now))
-      (sym c.deref.ensures.value)
+    (sym c.deref.ensures.value)
     (subst (λ ls. EndsFit (ids (map maybe_device_of c.args.devices.items)) (map maybe_link_of ls))
     (sym c.deref-2.ensures.value)
     (ends_fit (declarations_of c.args.declared) (ids (map maybe_device_of c.args.devices.items))
