@@ -23,7 +23,8 @@ def must_fail(chosen: list[Edit]) -> Iterator[str]:
     crates = sorted({edit.crate for edit in chosen})
     with edits.placed(chosen):
         rt = subprocess.Popen(
-            ["rt", "must-fail", *crates], cwd=TOP, stdout=subprocess.PIPE, stderr=subprocess.STDOUT, text=True
+            ["rt", "must-fail", *crates], cwd=TOP, stdin=subprocess.DEVNULL, stdout=subprocess.PIPE,
+            stderr=subprocess.STDOUT, encoding="utf-8", errors="replace",
         )  # fmt: skip
         for line in rt.stdout or ():
             print(line, end="", flush=True)
