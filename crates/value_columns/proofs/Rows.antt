@@ -1,9 +1,10 @@
 -- Crates above cite this module: what a row holds depends on the words of its leaves alone.
 use Rattle.std.proofs.Common.{◌≡◌, ℕ, ◌+◌, ◌*◌, ◌<◌, ◌≤◌, ◌≢◌, ◌%◌, List, sym, ap, ◌∙◌, arith}
 use Rattle.std.proofs.Math.Arith.{digits_mod}
+use Rattle.std.proofs.Math.Nat.{mul-le-mul_left}
 use Rattle.fc_values.specs.Types.{LocalType, IntType, BoolType, PairType, leaves}
 use Rattle.fc_values.specs.Values.{IntValue, BoolValue, PairValue}
-use Rattle.value_columns.specs.Columns.{word_in, truth_of, row_in}
+use Rattle.value_columns.specs.Columns.{word_in, truth_of, row_in, StandsBelow}
 
 pub same_word : (ws : List ℕ) (p q : ℕ) → p ≡ q → word_in ws p ≡ word_in ws q
 same_word ws p q e = ap (word_in ws) e
@@ -37,3 +38,11 @@ rows_apart rows at k m i j p q other e = other (sym (digits_mod k q) ∙ ap (λ 
   where
     h : k * rows + j ≡ m * rows + i
     h = omega arith
+
+-- a later leaf stands further on
+pub leaves_rise : (rows k m : ℕ) → 0 < rows → k < m → rows * k < rows * m
+leaves_rise rows k m p q = let h : k + 1 ≤ m = omega arith in omega (arith, mul-le-mul_left rows h)
+
+-- what follows some leaves of a row stands where the whole row does
+pub later_stands : (count s t rows place at : ℕ) → at ≡ place + rows * s → StandsBelow count (s + t) rows place → StandsBelow count t rows at
+later_stands count s t rows place at e stands k h = omega (arith, stands (s + k) (omega arith))

@@ -1,7 +1,7 @@
 -- Values as columns of words. Each leaf of a value, a whole number or a truth value, is one word: a truth value is 0 or 1.
 -- What has several rows (a field, with one row for each of its devices) stands leaf by leaf: first the words of the first
 -- leaf in all rows, then those of the next one.
-use Rattle.std.specs.Prelude.{ℕ, Bool, not, nat_eq, ◌+◌, ◌*◌, List, [], ◌∷◌, slice_index_or}
+use Rattle.std.specs.Prelude.{ℕ, Bool, not, nat_eq, ◌+◌, ◌*◌, ◌<◌, List, [], ◌∷◌, slice_index_or}
 use Rattle.fc_values.specs.Types.{LocalType, IntType, BoolType, PairType, leaves}
 use Rattle.fc_values.specs.Values.{LocalValue, IntValue, BoolValue, PairValue}
 use Rattle.fc_values.specs.Fields.{Entries}
@@ -28,3 +28,7 @@ local_in ws t at = row_in ws t 1 at 0
 abbrev pub entries_in : List ℕ → LocalType → ℕ → ℕ → ℕ → List ℕ → Entries
 entries_in ws t rows at i [] = []
 entries_in ws t rows at i (d ∷ ds) = (d, row_in ws t rows at i) ∷ entries_in ws t rows at (i + 1) ds
+
+-- so many leaves of a row, the first of which stands at a place, are within a number of words
+abbrev pub StandsBelow : ℕ → ℕ → ℕ → ℕ → Type 0
+StandsBelow count width rows place = (k : ℕ) → k < width → place + rows * k < count
