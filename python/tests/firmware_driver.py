@@ -14,6 +14,11 @@ from fieldc.language.tree import Local, Pair
 
 STRICT = ("-std=c99", "-pedantic", "-Wall", "-Wextra", "-Wconversion", "-Wshadow", "-Werror")
 SANITIZED = ("-O2", "-fsanitize=address,undefined", "-fno-sanitize-recover")
+QUICK = {
+    "gcc": ("-fsanitize-undefined-trap-on-error", "--param", "asan-instrumentation-with-call-threshold=0"),
+    "clang": ("-mllvm", "-asan-instrumentation-with-call-threshold=0"),
+}
+"""Has the sanitizers check by calls, and gcc's by traps, which end the program without a word."""
 
 FRONT = """\
 #include <stdio.h>
@@ -188,6 +193,11 @@ class Compiler:
     command: str
     options: tuple[str, ...] = SANITIZED
     runner: tuple[str, ...] = ()
+
+
+def quick(command: str, level: int = 2) -> Compiler:
+    """A compiler for many programs: under its sanitizers as much is checked, in less time for it to write."""
+    return Compiler(command, (f"-O{level}", "-fno-inline", *SANITIZED[1:], *QUICK.get(command, ())))
 
 
 def written(firmwares: Sequence[Firmware], folder: Path, name: str, back: str = BACK) -> Path:

@@ -13,12 +13,13 @@ import sys
 import tempfile
 import time
 from collections.abc import Iterator, Sequence
+from concurrent.futures import ThreadPoolExecutor
 from dataclasses import dataclass
 from pathlib import Path
 from typing import Any
 
 import helping
-from firmware_driver import Compiler, compiled, driven, written
+from firmware_driver import Compiler, compiled, driven, quick, written
 from firmware_logs import Run, mailed, replayed
 from firmware_programs import TELLING, Made, made
 
@@ -66,17 +67,18 @@ def compared(cases: Sequence[Case], compilers: Sequence[Compiler], folder: Path,
     path = written([case.firmware for case in cases], folder, name)
     runs = [(place, case, run) for place, case in enumerate(cases) for run in case.runs]
     actions = "".join(f"p {place}\n{run.actions}e\n" for place, _, run in runs)
-    wanted = [asked(case, run) for _, case, run in runs]
-    for compiler in compilers:
-        found = driven(compiled(path, compiler), actions, compiler.runner)
-        if len(found) != len(wanted):
-            raise AssertionError(f"{compiler.command}: {len(found)} answers")
-        for (_, case, run), mine, its in zip(runs, found, wanted):
-            if mine != its:
-                raise AssertionError(
-                    f"{compiler.command}, seed {case.seed}, {run.command}:\n{case.made.text}\n{run.network}\n"
-                    f"{run.log}\nfc: {its}\nfirmware: {mine}"
-                )
+    with ThreadPoolExecutor() as pool:
+        answers = pool.map(lambda one: driven(compiled(path, one), actions, one.runner), compilers)
+        wanted = [asked(case, run) for _, case, run in runs]
+        for compiler, found in zip(compilers, answers):
+            if len(found) != len(wanted):
+                raise AssertionError(f"{compiler.command}: {len(found)} answers")
+            for (_, case, run), mine, its in zip(runs, found, wanted):
+                if mine != its:
+                    raise AssertionError(
+                        f"{compiler.command}, seed {case.seed}, {run.command}:\n{case.made.text}\n{run.network}\n"
+                        f"{run.log}\nfc: {its}\nfirmware: {mine}"
+                    )
     return sum(line.startswith("B") for _, _, run in runs for line in run.log.splitlines())
 
 
@@ -118,11 +120,20 @@ def batches(found: Iterator[tuple[str, str]], size: int, firings: int) -> Iterat
         yield batch
 
 
+def compiler_of(name: str, words: argparse.Namespace) -> Compiler:
+    """A compiler as the command line has it."""
+    if words.runner:
+        return Compiler(name, ("-O2", "-static"), tuple(words.runner.split()))
+    if words.plain:
+        return Compiler(name, ("-O2",))
+    return quick(name, words.level)
+
+
 def main() -> int:
     parser = argparse.ArgumentParser(description=__doc__, formatter_class=argparse.RawDescriptionHelpFormatter)
     parser.add_argument("--seed", type=int, default=1, help="of the first program (1)")
     parser.add_argument("--count", type=int, default=20_000, help="how many random programs (20000)")
-    parser.add_argument("--batch", type=int, default=250, help="programs in one C file (250)")
+    parser.add_argument("--batch", type=int, default=100, help="programs in one C file (100)")
     parser.add_argument("--firings", type=int, default=10, help="firings of a run (10)")
     parser.add_argument(
         "--cases",
@@ -131,16 +142,17 @@ def main() -> int:
     )
     parser.add_argument("--compiler", nargs="*", default=["gcc", "clang"], help="compilers (gcc and clang)")
     parser.add_argument("--plain", action="store_true", help="without sanitizers")
+    parser.add_argument("--level", type=int, default=2, help="of optimisation, with sanitizers (2)")
     parser.add_argument("--runner", default="", help="what runs the program that is compiled, such as qemu-arm")
     words = parser.parse_args()
-    options = ("-O2", "-static") if words.runner else ("-O2",) if words.plain else Compiler("").options
-    compilers = [Compiler(name, options, tuple(words.runner.split())) for name in words.compiler]
+    compilers = [compiler_of(name, words) for name in words.compiler]
     start, done, firings = time.monotonic(), 0, 0
     for batch in batches(programs(words.seed, words.count, words.cases), words.batch, words.firings):
         with tempfile.TemporaryDirectory() as folder:
             firings += compared(batch, compilers, Path(folder), "all")
         done += len(batch)
-        print(f"{done} programs, {firings} firings, {time.monotonic() - start:.0f} s", flush=True)
+        spent = time.monotonic() - start
+        print(f"{done} programs, up to {batch[-1].seed}, {firings} firings, {spent:.0f} s", flush=True)
     return 0
 
 

@@ -56,7 +56,7 @@ class Firmware:
         """By input, its name as a member of the struct."""
         return members(self.known.inputs)
 
-    @property
+    @cached_property
     def forms(self) -> frozenset[str]:
         """The forms that the functions have."""
         return frozenset(part.form for one in self.functions if one.body is not None for part in within(one.body))
@@ -72,7 +72,7 @@ class Firmware:
         """The pairs that the header has, since `main` has a value of them."""
         return list(dict.fromkeys(pairs_in(self.result)))
 
-    @property
+    @cached_property
     def checksum(self) -> int:
         """Two bytes that tell programs apart, mostly: of the tokens, so that spaces and comments don't count."""
         words = " ".join([FORM, *(token.text for token in tokens(self.text))])
