@@ -1,0 +1,123 @@
+"""The promises whose closure is read, and the names that say only which answer it is."""
+
+from __future__ import annotations
+
+from dataclasses import dataclass
+
+# the definitions by which the clause of `fc` leads to the rules of the calculus
+WAY = (
+    "fc_program/src/top.rt fc",
+    "fc_answers/specs/Headline.antt IsKept",
+    "fc_answers/specs/Headline.antt ChecksYes",
+    "converge_laws/specs/Stabilising.antt Stabilises",
+    "device_eval/specs/Rules.antt Evaluates",
+)
+# where that way branches off to what a solution is, and to what rounds are
+BRANCHES = (
+    "interval_facts/specs/Solutions.antt Solves",
+    "firing_core/specs/Rounds.antt Covers",
+    "firing_core/specs/Cores.antt IsGood",
+)
+
+
+@dataclass(frozen=True)
+class Promise:
+    """A part of the page: its title, what is said of it, and the definitions whose closure it has."""
+
+    title: str
+    said: str
+    roots: tuple[str, ...]
+    # what isn't gone into here, beside what isn't anywhere
+    cut: tuple[str, ...] = ()
+
+
+HEADLINE = "fc_answers/specs/Headline.antt "
+EDITS = "firing_core/specs/Cores.antt Edits"
+PROMISES = (
+    Promise(
+        "What stabilises means",
+        "The rules of the calculus, networks, firings and rounds, solutions, and the promise itself, `Stabilises`. The "
+        "lines on edits (`Edits`) are left for later: a log that has rounds has no edit (`HasRounds`, `has_edit`).",
+        ("converge_laws/specs/Stabilising.antt Stabilises",),
+        (EDITS,),
+    ),
+    Promise(
+        "Which program and which network two texts are",
+        "Tokens, grammar, calls replaced by what they call, and JSON: `ReadsInput`. With them `HasYes` can be read.",
+        ("fc_inputs/specs/Inputs.antt ReadsInput", HEADLINE + "HasYes"),
+        (EDITS,),
+    ),
+    Promise(
+        "What `check` and `stable` promise",
+        "`ChecksYes` and `SolvesYes`: the yes stands in the text, and the lines of `stable` are the one field.",
+        (HEADLINE + "ChecksYes", HEADLINE + "SolvesYes"),
+        (EDITS,),
+    ),
+    Promise(
+        "What `check --settle` promises",
+        "`SettlesKept` and `StartKept`, over firings and over message links.",
+        (HEADLINE + "SettlesKept", HEADLINE + "StartKept"),
+        (EDITS,),
+    ),
+    Promise(
+        "What `trace` promises", "`TracesYes`: walks, their costs, and the best.", (HEADLINE + "TracesYes",), (EDITS,)
+    ),
+    Promise(
+        "What `replay` promises",
+        "`ReplaysKept`: which entries the lines of a log are, and what each does to a core, edits too.",
+        (HEADLINE + "ReplaysKept",),
+    ),
+    Promise(
+        "What `run` promises",
+        "`RunsKept`: which commands the lines of a script are, and what each does to a core.",
+        (HEADLINE + "RunsKept",),
+    ),
+    Promise(
+        "What `mail` promises",
+        "`MailPromises`: which entries the lines of a mail log are, and what each does to a mail core.",
+        (HEADLINE + "MailPromises",),
+    ),
+    Promise(
+        "What `gen` promises",
+        "`ScenarioAgrees`: the program and the ring of a number.",
+        ("fc_gen/specs/Laws.antt ScenarioAgrees",),
+    ),
+    Promise(
+        "The limits",
+        "`LimitsAre`, the clause of `fc_answers::limits_are`: each limit as a number.",
+        ("fc_answers/specs/Limits.antt LimitsAre",),
+    ),
+    Promise(
+        "The clause of `fc`",
+        "`CallEnds`: what a command line asks for, which promise is kept of which status (`IsKept`), and what source "
+        "and sink have to do with it.",
+        ("fc_program/src/top.rt fc",),
+    ),
+)
+
+# What is promised of a text that was written would be promised whatever these names meant; each has the reason why.
+CUTS = {
+    "fc_answers/specs/Answers.antt Answers":
+        "which answer is prescribed: what is promised of the one that was written stands beside it, in `IsKept`",
+    "fragment_check/specs/Verdicts.antt verdict_of":
+        "which programs get a yes, and which `K`: the `K` that is written is the one of the promise",
+    "report/specs/Facts.antt facts_text": "what `--facts` writes behind the verdict: nothing is promised of it",
+    "interval_facts/specs/Ranges.antt ranges_of": "the same",
+    "fragment_check/specs/Verdicts.antt levels_of": "the same",
+    "settle_rounds/specs/SettleTimes.antt settled_from":
+        "which settle rounds and values are found: those that are written are the ones of the promise",
+    "settle_rounds/specs/SettleTimes.antt settle_time": "which settle time is found: as with settle rounds",
+    "settle_rounds/specs/Rounds.antt any_table": "from which table of bounds they are counted: as with settle rounds",
+    "settle_rounds/specs/Starts.antt StartTable": "the same, from one start",
+    "settle_rounds/specs/Starts.antt growing_cap": "the same",
+    "bound_rounds/specs/Rounds.antt BoundTable": "the same",
+    "fc_inputs/specs/Sources.antt IsNoProgram": "why a text is refused: where it is, nothing is promised of it",
+    "fc_types/specs/Typing.antt IsTyped": "which programs are accepted beyond grammar: a promise is of one that was",
+    "fc_parser/specs/Limits.antt limit_passed": "the same",
+    "unfold/specs/Nodes.antt Nodes": "the same",
+    "fragment_check/specs/Patterns.antt body_pattern":
+        "which programs have the walk form: what it makes of one that has it stands beside it",
+    "fc_mail/specs/Drives.antt driven_log":
+        "which log a number makes: how many rounds it has is said beside it, and of any such log",
+    "scramble/specs/Rubbish.antt AreDrawn": "which exports a `scramble` draws: a yes is from any",
+}  # fmt: skip
