@@ -1,2 +1,5 @@
 pub mod Columns
 pub mod Arguments
+pub mod LocalWords
+pub mod LoneRows
+pub mod OtherRows
