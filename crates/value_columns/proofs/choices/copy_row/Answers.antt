@@ -1,5 +1,4 @@
-use Rattle.std.proofs.Common.{◌≡◌, ◌≢◌, ℕ, ◌+◌, ◌*◌, ◌<◌, length, arith, ◌∙◌, below_more, get_or-set_other, get_or-set_same}
-use Rattle.value_columns.specs.Columns.{word_in}
+use Rattle.std.proofs.Common.{◌≢◌, ℕ, ◌+◌, ◌*◌, ◌<◌, length, arith, ◌∙◌, below_more, get_or-set_other, get_or-set_same}
 use Rattle.value_columns.proofs.Rows.{leaves_rise}
 use Rattle.value_columns.proofs.choices.copy_row.Goals as goal
 

@@ -1,4 +1,4 @@
-use Rattle.std.proofs.Common.{◌≡◌, ℕ, ◌+◌, ◌*◌, ◌<◌, length, arith, ap, ◌∙◌}
+use Rattle.std.proofs.Common.{◌+◌, ◌*◌, length, arith, ap}
 use Rattle.fc_values.specs.Types.{leaves, local_type_of}
 use Rattle.value_columns.proofs.Rows.{some_leaf, later_stands}
 use Rattle.value_columns.proofs.choices.second_place.Goals as goal
