@@ -87,12 +87,14 @@ class Repository:
 
     # ---- what a definition names
 
-    def in_type(self, file: File, it: Definition) -> Iterator[Meaning]:
-        """The types that a type of the code names."""
+    def in_code(self, file: File, it: Definition) -> Iterator[Meaning]:
+        """The types and traits that a part of the code names, and what it names in its clauses."""
         for name in TYPE.findall(it.text.partition(it.name)[2]):
             crate = file.names[name][0] if name in file.names else ""
             outer = self.type_of(it.crate if crate == "crate" else crate, name) if crate else None
             yield file.named(name) or outer
+        if clause := CLAUSE.search(it.text):
+            yield from self.in_clauses(file, it, it.text[clause.start() :])
 
     def in_clause(self, file: File, it: Definition, clause: str, fields: set[str]) -> Iterator[Meaning]:
         """What a clause of a definition names, but for the names that it binds."""
@@ -106,12 +108,8 @@ class Repository:
             if not is_variable:
                 yield meaning
 
-    def in_clauses(self, file: File, it: Definition) -> Iterator[Meaning]:
-        """What a definition names, or a function of the code in its clauses."""
-        text = it.text
-        if it.file.endswith(".rt"):
-            clause = CLAUSE.search(text)
-            text = text[clause.start() :] if clause else ""
+    def in_clauses(self, file: File, it: Definition, text: str) -> Iterator[Meaning]:
+        """What the lines of a definition name."""
         text = LABEL.sub(r"\1", COMMENT.sub("", TEXT.sub('""', text)))
         fields = {*FIELD.findall(text)}
         for clause_text in [text] if it.is_type else equations(it.name, text):
@@ -122,8 +120,8 @@ class Repository:
         if it not in self._named:
             file = self.file(it.file)
             assert file is not None
-            find = self.in_type if it.file.endswith(".rt") and it.is_type else self.in_clauses
-            self._named[it] = [one for one in dict.fromkeys(find(file, it)) if one is not None and one != it]
+            found = self.in_code(file, it) if it.file.endswith(".rt") else self.in_clauses(file, it, it.text)
+            self._named[it] = [one for one in dict.fromkeys(found) if one is not None and one != it]
         return self._named[it]
 
     def named(self, it: Definition) -> list[Definition]:

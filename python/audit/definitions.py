@@ -15,15 +15,16 @@ CASE = re.compile(rf" +({WORD}) :")
 USE = re.compile(r"(?:pub |ghost )*use (?P<module>[\w.]+?)(?:\.\{(?P<names>.*)\})?(?: as (?P<alias>\w+))?;?$")
 # the first lines of what is no definition
 OTHERS = ("use ", "pub use ", "pub mod ", "infixl ", "module ", "--")
-CODE = re.compile(r"(?:pub(?:\(\w+\))? )?(?P<kind>enum|struct|const|fn) (?P<name>\w+)")
+CODE = re.compile(r"(?:pub(?:\(\w+\))? )?(?P<kind>enum|struct|trait|const|fn) (?P<name>\w+)")
 CODE_USE = re.compile(r"^(?:pub )?use (?P<crate>\w+)(?P<rest>::[^;]*);", re.MULTILINE)
+TYPES = ("enum", "struct", "trait")
 # a name of a type in the code
 TYPE = re.compile(r"(?<![\w.])([A-Z]\w*)")
 
 
 @dataclass(frozen=True)
 class Definition:
-    """A definition, or a type, constant or function of the code: its file below `crates`, and its lines there."""
+    """A definition, or a type, trait, constant or function of the code: its file below `crates`, and its lines."""
 
     file: str
     name: str
@@ -154,8 +155,8 @@ def read_definitions(path: Path, file: str) -> File:
 
 
 def code_parts(lines: Iterable[str]) -> Iterator[tuple[str, Part]]:
-    """The types, constants and functions that begin at the left, each with its kind; of a function the head alone, with
-    its clauses."""
+    """The types, traits, constants and functions that begin at the left, each with its kind; of a function the head
+    alone, with its clauses."""
     above: list[str] = []
     rest = iter(enumerate(lines, 1))
     for number, line in rest:
@@ -165,7 +166,7 @@ def code_parts(lines: Iterable[str]) -> Iterator[tuple[str, Part]]:
             continue
         if found:
             taken = [line]
-            while not taken[-1].startswith(("{", "}")) and not taken[-1].endswith(";"):
+            while not taken[-1].startswith(("{", "}")) and not (taken[-1].endswith(";") and found["kind"] != "trait"):
                 taken.append(next(rest)[1])
             comment = [it for it in above if it.startswith("///")]
             yield found["kind"], Part(found["name"], comment, number - len(above), number + len(taken) - 1, taken)
@@ -181,7 +182,7 @@ def read_code(path: Path, file: str) -> File:
         for name in TYPE.findall(used["rest"]):
             names.setdefault(name, (used["crate"], name))
     found = [
-        Definition(file, it.name, it.first, it.last, said(it.comment), "\n".join(it.lines), kind in ("enum", "struct"))
+        Definition(file, it.name, it.first, it.last, said(it.comment), "\n".join(it.lines), kind in TYPES)
         for kind, it in code_parts(lines)
     ]
     return File(file, said(takewhile(lambda line: line.startswith("//!"), lines)), found, names, aliases)

@@ -77,6 +77,26 @@ pub enum Kind {
     Many(Vec<Part>),
 }
 """
+TOP_CALL = """\
+//! The call.
+ghost use Rattle.low.specs.Numbers.{size};
+ghost use Rattle.high.specs.Promise.{Promise, made};
+
+use low::Kind;
+
+/// Something outside.
+pub trait Outside {
+    fn left(&self) -> u32
+        ensures least { size (made result) ≡ 0 };
+}
+
+/// Calls.
+pub fn call<O: Outside>(outside: &O) -> Kind
+    ensures kept { Promise result }
+{
+    made(outside)
+}
+"""
 
 
 def repository(folder: Path) -> Repository:
@@ -86,6 +106,7 @@ def repository(folder: Path) -> Repository:
         "high/specs/Promise.antt": HIGH,
         "low/src/kinds.rt": KINDS,
         "low/src/parts.rt": "//! Parts.\n\npub struct Part {\n    pub size: u32,\n}\n",
+        "high/src/top.rt": TOP_CALL,
     }
     for name, text in texts.items():
         (folder / name).parent.mkdir(parents=True, exist_ok=True)
@@ -109,6 +130,8 @@ class Closure(unittest.TestCase):
         self.assertEqual(self.named("high/specs/Promise.antt", "Promise"), ["Tree", "times"])
         self.assertEqual(self.named("high/specs/Promise.antt", "made"), ["Tree"])
         self.assertEqual(self.named("low/src/kinds.rt", "Kind"), ["Part"])
+        self.assertEqual(self.named("high/src/top.rt", "call"), ["Outside", "Kind", "Promise"])
+        self.assertEqual(self.named("high/src/top.rt", "Outside"), ["size", "made"])
 
     def test_what_it_rests_on_and_what_is_cut(self) -> None:
         promise = self.small.find("high/specs/Promise.antt", "Promise")
