@@ -15,8 +15,9 @@ TITLE = """\
 # The audit
 
 What to read to believe what `fc` promises, by file and lines, each with what it is for. A row rests on the rows above \
-it alone, so nothing has to be looked up elsewhere. `docs/headline.md` says the promises in words. `tools/audit` makes \
-this page from the definitions as they stand, and the gate fails where it isn't what the tool makes.
+it alone, so nothing has to be looked up elsewhere; the names of the first table aren't looked into. \
+`docs/headline.md` says the promises in words. `tools/audit` makes this page from the definitions as they stand, and \
+the gate fails where it isn't what the tool makes.
 
 A definition stands here if the clause of `fc` leans on it. The tool walks from name to name, through the definitions \
 and the types and constants of the code that they name. Proofs aren't among them: the toolchain checks these.

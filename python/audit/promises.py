@@ -118,6 +118,6 @@ CUTS = {
     "fragment_check/specs/Patterns.antt body_pattern":
         "which programs have the walk form: what it makes of one that has it stands beside it",
     "fc_mail/specs/Drives.antt driven_log":
-        "which log a number makes: how many rounds it has is said beside it, and of any such log",
+        "which log a number makes: that it has so many rounds is said beside it",
     "scramble/specs/Rubbish.antt AreDrawn": "which exports a `scramble` draws: a yes is from any",
 }  # fmt: skip

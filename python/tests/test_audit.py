@@ -196,6 +196,12 @@ class Audit(unittest.TestCase):
             for it in definitions:
                 self.assertLessEqual({*self.repository.named(it)}, above, it)
 
+    def test_each_promise_of_the_headline_has_a_section(self) -> None:
+        """What the last section adds of the headline says which promise is kept, and is none."""
+        _, last = self.page.soundness()[-1]
+        added = [it for it in last if it.file == "fc_answers/specs/Headline.antt"]
+        self.assertEqual([it.name for it in added if it.is_type], [])
+
     def test_each_name_that_is_cut_is_met(self) -> None:
         met = self.repository.rests_on([self.page.root], lambda it: it in self.page.cuts)
         self.assertLessEqual({*self.page.cuts}, {*met})
