@@ -1,10 +1,14 @@
 -- Crates above cite this module: what the words of a local value read.
-use Rattle.std.proofs.Common.{◌≡◌, ℕ, ◌+◌, ◌*◌, List, [], ◌∷◌, ◌++◌, length, refl, sym, ◌∙◌, ap, arith, true, false}
-use Rattle.std.proofs.lemmas.List.{get_or-append-add, append_assoc, append-nil, length-append}
-use Rattle.fc_values.specs.Types.{leaves}
-use Rattle.fc_values.specs.Values.{LocalValue, IntValue, BoolValue, PairValue, form_of}
-use Rattle.value_columns.specs.Columns.{word_in, truth_of, local_in}
-use Rattle.value_columns.specs.LocalWords.{words_of}
+use Rattle.std.proofs.Common.{◌≡◌, ℕ, ◌+◌, ◌-◌, ◌*◌, ◌<◌, ◌≤◌, List, [], ◌∷◌, ◌++◌, length, get_or, refl, sym, subst, ◌∙◌, ap, arith}
+use Rattle.std.proofs.Common.{true, false}
+use Rattle.std.specs.Borrow.{Bor}
+use Rattle.std.proofs.lemmas.List.{get_or-append-add, get_or_append_left, get_or-append_right, get_or-map, append_assoc, append-nil, length-append}
+use Rattle.fc_values.specs.declared.values.Local.{Local}
+use Rattle.fc_values.specs.Types.{LocalType, leaves}
+use Rattle.fc_values.specs.Values.{LocalValue, IntValue, BoolValue, PairValue, form_of, local_of}
+use Rattle.value_columns.specs.Columns.{word_in, truth_of, row_in, local_in}
+use Rattle.value_columns.specs.LocalWords.{local_at, words_of}
+use Rattle.value_columns.proofs.Rows.{same_row, same_word}
 
 -- a value has as many words as leaves
 pub words_long : (v : LocalValue) → length (words_of v) ≡ leaves (form_of v)
@@ -41,3 +45,28 @@ pub pair_behind : (v a b : LocalValue) (xs ys zs : List ℕ) → v ≡ PairValue
 pair_behind v a b xs ys zs e f g =
     let both = g ∙ (ap (λ ws. ws ++ words_of b) f ∙ append_assoc xs (words_of a) (words_of b)) in
     rw e (reads_behind (PairValue a b) xs zs both)
+
+-- a leaf of the first component of a pair, and one of the second
+pub first_leaf : (v a b : LocalValue) (k : ℕ) → v ≡ PairValue a b → k < leaves (form_of a)
+    → word_in (words_of a) k ≡ word_in (words_of v) k
+first_leaf v a b k e h =
+    rw e (sym (get_or_append_left (words_of a) (words_of b) 0 k (omega (arith, words_long a))))
+
+pub second_leaf : (v a b : LocalValue) (k : ℕ) → v ≡ PairValue a b → leaves (form_of a) ≤ k
+    → word_in (words_of b) (k - leaves (form_of a)) ≡ word_in (words_of v) k
+second_leaf v a b k e h =
+    rw e (sym (get_or-append_right (words_of a) (words_of b) (leaves (form_of a)) k 0 (words_long a) h))
+
+-- a row whose leaves are the words of a value has that value
+pub reads_row : (v : LocalValue) (t : LocalType) (ws : List ℕ) (rows at i : ℕ) → form_of v ≡ t
+    → ((k : ℕ) → k < leaves t → word_in ws (at + rows * k + i) ≡ word_in (words_of v) k) → row_in ws t rows at i ≡ v
+reads_row v t ws rows at i e =
+    let P : LocalType → Type 0 = λ u. ((k : ℕ) → k < leaves u → word_in ws (at + rows * k + i) ≡ word_in (words_of v) k)
+    → row_in ws u rows at i ≡ v in
+    subst P e (λ h. same_row (form_of v) ws (words_of v) rows 1 at 0 i 0
+    (λ k l. h k l ∙ same_word (words_of v) k (0 + 1 * k + 0) (omega arith))
+    ∙ reads_back v [] [] (words_of v) 0 (sym (append-nil (words_of v))) refl)
+
+-- the value behind one of some references, as it is read
+pub local_read : (xs : List (Bor Local)) (i : ℕ) (d : Bor Local) → i < length xs → local_of (get_or xs i d).now ≡ local_at xs i
+local_read xs i d h = sym (get_or-map (λ (r : Bor Local). local_of r.now) xs i d (IntValue 0) h)

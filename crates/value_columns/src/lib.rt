@@ -1,4 +1,3 @@
-//! Values as columns of words: what operators and hoods make of them, with no memory taken for a value of its own.
 #![tactic(auto)]
 
 mod choices;
@@ -10,6 +9,6 @@ mod restriction;
 mod widths;
 
 pub use gaps::close_gap;
-pub use locals::{push_value, value_at};
+pub use locals::{leaf_at, push_rows, push_value, value_at};
 pub use restriction::choose_rows;
 pub use widths::width;

@@ -1,9 +1,9 @@
-use Rattle.std.proofs.Common.{◌∙◌, length, arith}
+use Rattle.std.proofs.Common.{◌+◌, ◌*◌, ◌∙◌, length, arith}
 use Rattle.fc_values.specs.Types.{leaves, local_type_of}
 use Rattle.value_columns.specs.Columns.{word_in}
 use Rattle.value_columns.proofs.Rows.{same_row}
-use Rattle.value_columns.proofs.Standing.{leaves_below}
-use Rattle.value_columns.proofs.ChosenRows.{one_column}
+use Rattle.value_columns.proofs.Standing.{leaf_below, leaves_below}
+use Rattle.value_columns.proofs.MoreColumns.{one_column}
 use Rattle.value_columns.proofs.restriction.choose_rows.Goals as goal
 
 pub width-leaf-end-requires : goal.width-leaf-end-requires
@@ -15,12 +15,22 @@ pub loop-leaf-preserved : goal.loop-leaf-preserved
 loop-leaf-preserved c =
     let was = c.loop-leaf.invariant in
     let column = c.in_ok-choose_column.ensures in
+    let old = c.args.words.now.items in
+    let kept = c.args.kept.now in
+    let rows = c.args.rows in
+    let leaf = c.loop-leaf.leaf in
     record {
       long = omega (arith, was.long, column.long);
       stay = λ p h. column.stay p (omega (arith, was.long)) ∙ was.stay p h;
-      chosen = one_column c.args.words.now.items c.loop-leaf.words.items c.choose_column.new.words.items
-          c.args.kept.now c.args.rows c.args.at c.loop-leaf.leaf (leaves (local_type_of c.args.ty.now)) (omega arith)
-          c.requires.within c.requires.below was.long was.stay was.chosen column.stay column.chosen;
+      chosen = one_column c.loop-leaf.words.items c.choose_column.new.words.items (length old) (length kept)
+          (λ k j. word_in old (c.args.at + rows * k + word_in kept j)) leaf was.long was.chosen column.stay
+          (λ j h. column.chosen j h ∙ was.stay (c.args.at + rows * leaf + word_in kept j)
+          (omega (
+            arith,
+            c.requires.within,
+            leaf_below rows (word_in kept j) leaf (leaves (local_type_of c.args.ty.now))
+                (c.requires.below j h) (omega arith),
+          )));
     }
 
 pub returns-clause-chosen : goal.returns-clause-chosen
