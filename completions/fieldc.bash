@@ -56,9 +56,9 @@ _fieldc_words() {
             compopt +o bashdefault +o default 2>/dev/null
             COMPREPLY=($(compgen -W "anywhere away broadcast channel collectAll collectAny collectMax collectMin collectSum colour countDown crowdWarning crowding density dispersal distance distanceAround distanceBetween distanceBy distanceSlow div eccentricity evacuate everywhere fadingMax forecast greatestAlong greatestOf64 heads hops hopsAround leader leaderPacked leastOf1024 leastOf64 majority mean nearest nearestByDistance nearestByHops nextHop onWay parent parentIn recently regionMean regionSum rest ruling rulingOf1024 size sparse sumAlong summariseMax summariseSum timer widest8" -- "$current"))
             return ;;
-        "network --points" | "network --edges" | "network --scene" | "network -o" | "network --output" | "network --program" | "network --table" | "network --positions" | "network --names")
+        "network --points" | "network --edges" | "network --scene" | "network --moves" | "network -o" | "network --output" | "network --program" | "network --table" | "network --positions" | "network --names")
             return ;;
-        "network --line" | "network --ring" | "network --grid" | "network --torus" | "network --disk" | "network --range" | "network --scale" | "network --side" | "network --seed" | "network --weight" | "network --metric" | "network --unit" | "network --max-degree" | "network --set" | "network --inputs")
+        "network --line" | "network --ring" | "network --grid" | "network --torus" | "network --disk" | "network --every" | "network --run" | "network --gone-after" | "network --range" | "network --scale" | "network --side" | "network --seed" | "network --weight" | "network --metric" | "network --unit" | "network --max-degree" | "network --set" | "network --inputs")
             compopt +o bashdefault +o default 2>/dev/null
             return ;;
         "picture -o" | "picture --output" | "picture --values" | "picture --positions" | "picture --names")
@@ -98,7 +98,7 @@ _fieldc_words() {
         gen) words="--devices --workers --json -h --help" ;;
         format) files=yes words="--json -h --help" ;;
         compose) files=yes words="--network --library --no-cut-check --unjudged -o --output --list --show -h --help" ;;
-        network) words="--line --ring --grid --torus --disk --points --edges --scene -o --output --range --scale --side --seed --undirected --weight --metric --unit --round --max-degree --set --inputs --program --table --positions --names -h --help" ;;
+        network) words="--line --ring --grid --torus --disk --points --edges --scene --moves -o --output --every --run --gone-after --range --scale --side --seed --undirected --weight --metric --unit --round --max-degree --set --inputs --program --table --positions --names -h --help" ;;
         picture) files=yes words="-o --output --values --of --show --page --positions --names --numbers --mark --kinds --arrows --title -h --help" ;;
         rounds) files=yes words="-o --output --number --rounds --workers --title --csv --names -h --help" ;;
         sweep) words="--line --ring --grid --torus --disk --points --edges --range --side --density --jitter --fail --weight --metric --unit --max-degree --set --count --seed --values -o --output --report --title --workers --scheduler --no-cut-check --again --positions -h --help" ;;

@@ -2,6 +2,7 @@
 
 from __future__ import annotations
 
+import math
 from collections.abc import Iterable, Mapping, Sequence
 from dataclasses import dataclass, replace
 
@@ -23,6 +24,8 @@ KINDS = (
 """The colours of kinds, which colour-blind people tell apart too; from the thirteenth kind on they come again."""
 
 MAP = "viridis_r"
+RUNGS = 5
+NOTHING = "\u00b7"
 
 
 @dataclass(frozen=True)
@@ -75,10 +78,22 @@ class Scale:
     clipped: bool = False
     kinds: tuple[int, ...] = ()
 
+    @property
+    def has_numbers(self) -> bool:
+        """Whether there are numbers from `low` to `high`."""
+        return self.low is not None and self.high is not None
+
+    def at(self, place: float) -> str:
+        """The number about a place of the scale, from 0 to 1; a dot where there is none."""
+        if self.low is None or self.high is None:
+            return NOTHING
+        wide = self.high - self.low
+        above = math.floor(wide * place + 0.5)
+        is_near = abs(place - above / max(wide, 1)) * 2 * (RUNGS - 1) <= 1
+        return f"{self.low + above}" if is_near else NOTHING
+
     def colour(self, part: int | bool) -> str:
         """The colour of a number or truth value, as `#rrggbb`."""
-        from matplotlib import colormaps, colors
-
         if isinstance(part, bool):
             return TRUE if part else FALSE
         if self.kinds:
@@ -89,8 +104,14 @@ class Scale:
             return GREY
         if self.low is None or self.high is None:
             return WHITE
-        place = (part - self.low) / max(self.high - self.low, 1)
-        return str(colors.to_hex(colormaps[MAP](min(max(place, 0.0), 1.0))))
+        return shade((part - self.low) / max(self.high - self.low, 1))
+
+
+def shade(place: float) -> str:
+    """The colour at a place of a scale, which goes from 0 to 1."""
+    from matplotlib import colormaps, colors
+
+    return str(colors.to_hex(colormaps[MAP](min(max(place, 0.0), 1.0))))
 
 
 def parts_of(value: Value) -> tuple[int | bool, ...]:
@@ -130,6 +151,29 @@ def _with_kinds(
         else scale
         for scale, column in zip(scales, chosen)
     )
+
+
+def rungs(scales: Sequence[Scale], values: Iterable[Value | None]) -> list[tuple[float, str]]:
+    """One scale for all parts of pairs: places from 0 to 1 on it, each with the value whose parts have that place on
+    scales of their own, written as the values are.
+
+    A dot stands for a part that has no number about there.
+    """
+    form = next((value for value in values if value is not None), None)
+    if form is None or not any(scale.has_numbers for scale in scales):
+        return []
+    places = [number / (RUNGS - 1) for number in range(RUNGS)]
+    return [(place, shaped(form, [scale.at(place) for scale in scales])) for place in places]
+
+
+def shaped(form: Value, words: Sequence[str]) -> str:
+    """Words in the place of the parts of a value, from left to right."""
+    left = iter(words)
+
+    def said(part: Value) -> str:
+        return f"({said(part[0])},{said(part[1])})" if isinstance(part, tuple) else next(left)
+
+    return said(form)
 
 
 def _columns(values: Iterable[Value | None]) -> list[tuple[int | bool, ...]]:
@@ -213,12 +257,6 @@ def label_of(value: Value | None, scales: Sequence[Scale] = (), meaning: Meaning
     """What is written in a device: its whole value, with kinds by their names."""
     if value is None or meaning.kinds is None:
         return word_of(value)
-    names, left = meaning.kinds.devices, iter(scales)
-
-    def said(part: Value) -> str:
-        if isinstance(part, tuple):
-            return f"({said(part[0])},{said(part[1])})"
-        kind = part in next(left).kinds and not isinstance(part, bool)
-        return names.get(part, str(part)) if kind else word_of(part)
-
-    return said(value)
+    names = meaning.kinds.devices
+    kinds = [part in scale.kinds and not isinstance(part, bool) for scale, part in zip(scales, parts_of(value))]
+    return shaped(value, [names.get(p, str(p)) if kind else word_of(p) for kind, p in zip(kinds, parts_of(value))])

@@ -13,6 +13,7 @@ from .refusals import Fault
 TRUTHS = {"true": True, "false": False, "yes": True, "no": False}
 DIGITS = {"1": True, "0": False}
 LATITUDES, LONGITUDES = ("lat", "latitude"), ("lon", "lng", "long", "longitude")
+TIMES = ("t", "time", "timestamp", "seconds")
 EARTH = 6_371_008.8
 """The mean radius of the earth, in metres."""
 MOST_METRES = 500_000.0

@@ -8,7 +8,7 @@ import sys
 from collections.abc import Sequence
 from typing import Any
 
-from .colours import LAST, LINK, MAP, OUTLINES, Scale, colours_of, entries, is_dark, label_of, scales_of
+from .colours import LAST, LINK, MAP, OUTLINES, Scale, colours_of, entries, is_dark, label_of, rungs, scales_of
 from .picture import Frame, Picture
 from .refusals import Fault
 
@@ -61,7 +61,7 @@ def paint(axes: Any, picture: Picture) -> None:
     _devices(axes, picture, frame, scales)
     _labels(axes, picture, frame, scales)
     _legend(axes, picture, frame, scales)
-    _bars(axes.figure, axes, scales)
+    _bar(axes.figure, axes, scales, picture)
     axes.set_title(" ".join(filter(None, (picture.title, frame.title))))
     axes.set_aspect("equal", adjustable="datalim")
     axes.margins(0.06)
@@ -188,14 +188,19 @@ def _legend(axes: Any, picture: Picture, frame: Frame, scales: Sequence[Scale]) 
         )
 
 
-def _bars(figure: Any, axes: Any, scales: Sequence[Scale]) -> None:
-    """A bar of colours for each part of the values that has numbers."""
+def _bar(figure: Any, axes: Any, scales: Sequence[Scale], picture: Picture) -> None:
+    """A bar of colours beside the numbers of the values; of pairs beside values whose parts have these colours."""
     from matplotlib import colormaps, colors
     from matplotlib.cm import ScalarMappable
     from matplotlib.ticker import MaxNLocator
 
-    for scale in reversed(scales):
-        if scale.low is not None and scale.high is not None:
-            span = colors.Normalize(scale.low, max(scale.high, scale.low + 1))
-            mapped = ScalarMappable(span, colormaps[MAP])
-            figure.colorbar(mapped, ax=axes, label=scale.label, shrink=0.8, ticks=MaxNLocator(integer=True))
+    marks = rungs(scales, picture.frames[-1].values.values()) if len(scales) > 1 else []
+    scale = scales[0] if len(scales) == 1 else None
+    if marks:
+        mapped = ScalarMappable(colors.Normalize(0, 1), colormaps[MAP])
+        bar = figure.colorbar(mapped, ax=axes, label=picture.meaning.scale, shrink=0.8)
+        bar.set_ticks([place for place, _ in marks], labels=[text for _, text in marks])
+    elif scale is not None and scale.low is not None and scale.high is not None:
+        span = colors.Normalize(scale.low, max(scale.high, scale.low + 1))
+        mapped = ScalarMappable(span, colormaps[MAP])
+        figure.colorbar(mapped, ax=axes, label=scale.label, shrink=0.8, ticks=MaxNLocator(integer=True))

@@ -11,6 +11,7 @@ from dataclasses import dataclass, replace
 from .networks import Input, Network
 from .refusals import Fault
 
+MOST_LINES = 4096
 EDITS = ("link", "unlink", "set", "poke", "join", "leave", "scramble")
 
 

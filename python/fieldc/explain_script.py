@@ -5,6 +5,7 @@ from __future__ import annotations
 import re
 from dataclasses import replace
 
+from .edits import MOST_LINES
 from .jsonplaces import Json, read
 from .kept_lists import fits, misfit, missing, too_many, walk
 from .language import Unfolded
@@ -14,7 +15,6 @@ from .refusals import Section
 from .scripts import PAGES, Line, Net, Word, after, form_fault, lines_of, start_of
 from .telling import counted
 
-MOST_LINES = 4096
 MOST_SCRAMBLES = 4
 MOST_FIRINGS = 1_000_000
 MOST_LINKS = 32

@@ -7,19 +7,18 @@ import csv
 import io
 import json
 import re
-from collections.abc import Container, Mapping, Sequence
+from collections.abc import Mapping, Sequence
 from dataclasses import dataclass
 from pathlib import Path
 from types import MappingProxyType
 from typing import Any
 
-from .columns import DECIMAL, LATITUDES, LONGITUDES, decimal, in_metres, input_word, latitude, longitude
-from .networks import Declared, Input, Network, Pair, Position, declared, fitting, from_graph, input_of, numbered
+from .columns import in_metres
+from .networks import Input, Network, Pair, Position, declared, from_graph, numbered
 from .refusals import Fault
 from .sections import read
+from .separated import Columns, columns_of, is_number, text_of_file
 
-DELIMITERS = (";", "\t", "|", ",", ":", " ")
-IDS = ("id", "device", "name", "node")
 ENDS = {"source", "target", "from", "to", "weight", "u", "v", "a", "b", "node1", "node2"}
 
 
@@ -33,16 +32,6 @@ class Points:
     left_out: tuple[str, ...] = ()
 
 
-def text_of_file(name: str) -> str:
-    """The text of a file in UTF-8, without a byte order mark. Raises Fault where it isn't in UTF-8."""
-    text = read(name)
-    try:
-        text.encode("utf-8")
-    except UnicodeEncodeError:
-        raise Fault(f"{name} isn't in UTF-8", 3) from None
-    return text.removeprefix("\ufeff")
-
-
 # ---- positions -----------------------------------------------------------------------------------------------------
 
 
@@ -53,146 +42,32 @@ def points(
     scale: Mapping[str, float] = MappingProxyType({}),
 ) -> Points:
     """The positions of a file of rows `id x y` and further columns, parted by semicolons, tabs, bars, commas, colons or
-    spaces. Where the names of the columns have no id, rows are numbered.
+    spaces, or of points in GeoJSON. Where the names of the columns have no id, rows are numbered.
 
     A row of names may stand first; with it the columns may stand in any order, and further ones are inputs: those that
     `program` declares or `inputs` names, else all. Columns `lat` and `lon` in the place of `x` and `y` are degrees, of
     which metres are made. Numbers of inputs are multiplied by what `scale` has for them, and rounded. Raises Fault, of
     status 3, with the line that is at fault.
     """
-    header, body, across = _header(name, _rows(name))
-    wanted = declared(program) if program is not None else None
-    asked = {*(wanted.inputs if wanted is not None else ()), *(inputs or ())}
-    at = _id_column(header, across, asked)
-    further = [word for place, word in enumerate(header) if place not in (at, *across)]
-    taken, left_out = _taken(name, further, wanted, inputs)
-    number, names = _numbered_rows(name, body, at)
+    columns = columns_of(name, program, inputs, scale)
+    number, names = _numbered_rows(columns)
     places, found = {}, {}
-    for place, (line, row) in enumerate(body):
-        device, where = (place if at is None else number[row[at]]), f"{name} line {line}"
-        places[device] = _place_of(row, header, across, where)
-        found[device] = {
-            word: _input(row[header.index(word)], f"{where}: {word}", wanted, word, scale) for word in taken
-        }
-    positions = in_metres(places) if header[across[0]].lower() in LATITUDES else places
-    return Points(dict(sorted(positions.items())), names, dict(sorted(found.items())), left_out)
+    for place, row in enumerate(columns.rows):
+        device = place if columns.id is None else number[columns.id_of(row)]
+        places[device], found[device] = columns.place(row), columns.inputs(row)
+    positions = in_metres(places) if columns.in_degrees else places
+    return Points(dict(sorted(positions.items())), names, dict(sorted(found.items())), columns.left_out)
 
 
-def _place_of(row: list[str], header: list[str], across: Pair, where: str) -> Position:
-    """The position of a row: x and y, or degrees to the north and to the east."""
-    first, second = (row[place] for place in across)
-    one, other = (f"{where}: {header[place]}" for place in across)
-    if header[across[0]].lower() in LATITUDES:
-        return latitude(first, one), longitude(second, other)
-    return float(decimal(first, one)), float(decimal(second, other))
-
-
-def _id_column(header: list[str], across: Pair, inputs: Container[str]) -> int | None:
-    """The column of ids: one that is called so, else the first, unless that is a position or an input."""
-    lowered = [word.lower() for word in header]
-    for word in IDS:
-        if word in lowered:
-            return lowered.index(word)
-    return None if 0 in across or header[0] in inputs else 0
-
-
-def _rows(name: str) -> list[tuple[int, list[str]]]:
-    """The rows of a file that aren't empty, with their lines; all have as many fields as the first."""
-    lines = [(number, line) for number, line in enumerate(text_of_file(name).splitlines(), 1) if line.strip()]
-    if not lines:
-        raise Fault(f"{name} has no rows", 3)
-    fields = {mark: len(_fields(lines[0][1], mark)) for mark in DELIMITERS}
-    delimiter = next((mark for least in (3, 2) for mark in DELIMITERS if fields[mark] >= least), None)
-    if delimiter is None:
-        raise Fault(f"{name} line {lines[0][0]}: not a row id, x, y", 3)
-    rows = [(number, _fields(line, delimiter)) for number, line in lines]
-    for number, row in rows:
-        if len(row) != len(rows[0][1]):
-            raise Fault(f"{name} line {number}: {len(row)} fields, and line {rows[0][0]} has {len(rows[0][1])}", 3)
-    return rows
-
-
-def _fields(line: str, delimiter: str) -> list[str]:
-    if delimiter == " ":
-        return line.split()
-    return [field.strip() for field in next(csv.reader([line], delimiter=delimiter, skipinitialspace=True))]
-
-
-def _is_number(word: str) -> bool:
-    try:
-        float(word)
-    except ValueError:
-        return False
-    return True
-
-
-def _header(
-    name: str, rows: list[tuple[int, list[str]]]
-) -> tuple[list[str], list[tuple[int, list[str]]], tuple[int, int]]:
-    """The names of the columns, the rows behind them, and the columns of positions; without names id, x, y or x, y."""
-    line, first = rows[0]
-    lowered = [word.lower() for word in first]
-    across = _across(lowered)
-    if across is not None:
-        if len(set(lowered)) < len(lowered):
-            raise Fault(f"{name} line {line}: two columns have one name", 3)
-        if len(rows) == 1:
-            raise Fault(f"{name} has no rows behind the names of its columns", 3)
-        return first, rows[1:], across
-    if len(first) == 2 and all(map(DECIMAL.fullmatch, first)):
-        raise Fault(f"{name} line {line}: 2 numbers; with a line x,y in front rows are numbered", 3)
-    if len(first) < 3 or not all(DECIMAL.fullmatch(word) or _is_number(word) for word in first[1:3]):
-        columns = "names of columns with x and y (or lat and lon) among them"
-        raise Fault(f"{name} line {line}: neither a row id, x, y, nor {columns}", 3)
-    if len(first) > 3:
-        raise Fault(f"{name} line {line}: {len(first)} fields, and no names of columns stand first", 3)
-    return ["id", "x", "y"], rows, (1, 2)
-
-
-def _across(lowered: list[str]) -> Pair | None:
-    """The columns of x and y, or of latitude and longitude."""
-    for firsts, seconds in ((("x",), ("y",)), (LATITUDES, LONGITUDES)):
-        first = next((word for word in firsts if word in lowered), None)
-        second = next((word for word in seconds if word in lowered), None)
-        if first is not None and second is not None:
-            return lowered.index(first), lowered.index(second)
-    return None
-
-
-def _taken(
-    name: str, further: Sequence[str], wanted: Declared | None, inputs: Sequence[str] | None
-) -> tuple[list[str], tuple[str, ...]]:
-    """The further columns that are inputs, and those that are left out."""
-    if inputs is None and wanted is None:
-        return list(further), ()
-    named = list(inputs or ()) if wanted is None or inputs is not None else [w for w in wanted.inputs if w in further]
-    for word in named:
-        if word not in further:
-            raise Fault(f"{name} has no column {word}", 3)
-    return named, tuple(word for word in further if word not in named)
-
-
-def _numbered_rows(
-    name: str, body: list[tuple[int, list[str]]], at: int | None
-) -> tuple[dict[str, int], dict[int, str]]:
+def _numbered_rows(columns: Columns) -> tuple[dict[str, int], dict[int, str]]:
     """The numbers of devices by their ids, and the names that were no numbers; none where rows are numbered."""
-    if at is None:
-        return {}, {}
     seen: dict[str, int] = {}
-    for line, row in body:
-        if not row[at]:
-            raise Fault(f"{name} line {line}: the device has no name", 3)
-        if row[at] in seen:
-            raise Fault(f"{name} line {line}: device {row[at]} stands on line {seen[row[at]]} already", 3)
-        seen[row[at]] = line
+    for row in columns.rows if columns.id is not None else ():
+        name = columns.id_of(row)
+        if name in seen:
+            raise Fault(f"{columns.where(row)}: device {name} stands on line {seen[name]} already", 3)
+        seen[name] = row[0]
     return numbered(list(seen))
-
-
-def _input(word: str, where: str, wanted: Declared | None, name: str, scale: Mapping[str, float]) -> Input:
-    """The value of an input in a field."""
-    span = wanted.inputs.get(name, ()) if wanted is not None else ()
-    value = input_word(word, where, name, span is None, scale)
-    return input_of(value, where) if wanted is None or span == () else fitting(value, wanted.inputs[name], where)
 
 
 def positions_for(name: str, devices: Sequence[int], names: Mapping[int, str]) -> dict[int, Position]:
@@ -304,7 +179,7 @@ def _names_columns(first: Sequence[str], *others: Sequence[str]) -> bool:
     by_letters = any(len(word) == 1 for word in first)
     if not others or not ENDS.issuperset(word.lower() for word in first) or not ends.isdisjoint(first[:2]):
         return False
-    return not by_letters or all(_is_number(end) for end in ends)
+    return not by_letters or all(is_number(end) for end in ends)
 
 
 def _link(where: str, line: str, delimiter: str | None) -> Any:
@@ -317,7 +192,7 @@ def _link(where: str, line: str, delimiter: str | None) -> Any:
     words = [word.strip() for word in head.split(delimiter)]
     words = words[:-1] if "{" in line and words and not words[-1] else words
     data: Any = True if "{" in line else (("weight", str),)[: len(words) - 2]
-    if len(words) not in (2, 3) or (len(words) == 3 and ("{" in line or not _is_number(words[2]))) or not all(words):
+    if len(words) not in (2, 3) or (len(words) == 3 and ("{" in line or not is_number(words[2]))) or not all(words):
         raise Fault(f"{where}: not a link 'a b' or 'a b weight'", 3)
     try:
         one = networkx.parse_edgelist([line], comments=None, delimiter=delimiter, data=data)

@@ -7,10 +7,12 @@ import html
 import json
 import math
 from collections.abc import Sequence
+from dataclasses import dataclass
 from typing import Any
 
-from .colours import OUTLINES, Scale, colours_of, entries, is_dark, label_of, scales_of
+from .colours import OUTLINES, Scale, colours_of, entries, is_dark, label_of, rungs, scales_of, shade
 from .drawing import sector, walked
+from .networks import Position
 from .picture import Picture, everywhere
 from .results import Value
 
@@ -44,6 +46,7 @@ PAGE = """<!doctype html>
  svg.numbered text.number {{ visibility: visible }}
  .away {{ display: none }} path.arrow {{ stroke: #222; stroke-width: 2; fill: none }}
  #slider {{ width: 100%; margin: 0 }}
+ #legend span {{ white-space: nowrap }} #legend > span:not(.swatch) {{ margin-right: 1em }}
  .swatch {{ display: inline-block; width: 1em; height: 1em; border: 1px solid #555; margin: 0 .3em 0 1em }}
 </style>
 <h1>{title}</h1>
@@ -52,10 +55,11 @@ PAGE = """<!doctype html>
 <p><button id="play" type="button">Play</button>
 <label><input id="numbers" type="checkbox"{numbered}> device numbers</label></p>
 {picture}
-<p>{legend}</p>
+<p id="legend">{legend}</p>
 <script>
  const looks = {looks};
  const gone = {gone};
+ const ends = {ends};
  const shows = {shows};
  const devices = [...document.querySelectorAll("g.device")];
  const links = [...document.querySelectorAll("line")];
@@ -82,7 +86,16 @@ PAGE = """<!doctype html>
    text.setAttribute("font-size", Math.min({font}, {radius} * 3.4 / Math.max(look[0].length, 1)));
    text.textContent = look[0];
   }});
-  links.forEach((line, place) => line.classList.toggle("away", away.has(place)));
+  devices.forEach((node, place) => {{
+   const at = show.at && show.at[place];
+   if (at) node.setAttribute("transform", `translate(${{at}})`);
+  }});
+  links.forEach((line, place) => {{
+   line.classList.toggle("away", away.has(place));
+   if (!show.at || away.has(place)) return;
+   const [one, other] = ends[place].map(end => show.at[end]);
+   [["x1", one[0]], ["y1", one[1]], ["x2", other[0]], ["y2", other[1]]].forEach(part => line.setAttribute(...part));
+  }});
   show.marks.forEach((list, mark) => {{
    const there = new Set(list);
    devices.forEach((node, place) => {{
@@ -130,8 +143,10 @@ def page(picture: Picture) -> str:
     values = {value for frame in picture.frames for value in frame.values.values()}
     settled = {value for frame in picture.frames if frame.settled for value in frame.values.values()}
     scales = scales_of(values, picture.meaning, settled or None)
-    drawn, radius = _network(picture, max(len(scales), 1))
-    looks, gone, shows = _shows(picture, scales)
+    screen = Screen.of(picture)
+    drawn, radius = _network(picture, max(len(scales), 1), screen)
+    looks, gone, shows = _shows(picture, scales, screen)
+    moving = any(frame.places for frame in picture.frames)
     return PAGE.format(
         title=html.escape(picture.title or "A run of fc"),
         verdict=html.escape(picture.verdict),
@@ -143,6 +158,7 @@ def page(picture: Picture) -> str:
         legend=_legend(picture, scales),
         looks=_script(looks),
         gone=_script(gone),
+        ends=_script(_ends(picture) if moving else []),
         shows=_script(shows),
     )
 
@@ -152,18 +168,45 @@ def _script(data: Any) -> str:
     return json.dumps(data, separators=(",", ":")).replace("</", "<\\/")
 
 
-def _network(picture: Picture, sectors: int) -> tuple[str, float]:
+@dataclass(frozen=True)
+class Screen:
+    """Where places are on the page: the picture's box, and how long a length of 1 is."""
+
+    left: float
+    top: float
+    width: float
+    height: float
+    scale: float
+
+    @staticmethod
+    def of(picture: Picture) -> Screen:
+        """The box that has all places of all frames."""
+        moved = [place for frame in picture.frames for place in frame.places.values()]
+        xs, ys = zip(*picture.places.values(), *moved)
+        wide, high = max(xs) - min(xs), max(ys) - min(ys)
+        scale = 900 / (max(wide, high) or 1)
+        return Screen(min(xs), max(ys), 80 + wide * scale, 80 + high * scale, scale)
+
+    def at(self, place: Position) -> Position:
+        """Where a place is: so far to the right, and so far down."""
+        return 40 + (place[0] - self.left) * self.scale, 40 + (self.top - place[1]) * self.scale
+
+
+def _ends(picture: Picture) -> list[list[int]]:
+    """The ends of all links, by the places of the devices."""
+    devices, links = everywhere(picture)
+    place = {device: number for number, device in enumerate(devices)}
+    return [[place[a], place[b]] for a, b in links]
+
+
+def _network(picture: Picture, sectors: int, screen: Screen) -> tuple[str, float]:
     """All devices and links of all frames as SVG, which the script shows, hides and colours; and the radius of a
     device."""
     devices, links = everywhere(picture)
-    xs, ys = zip(*(picture.places[device] for device in devices))
-    scale = 900 / (max(max(xs) - min(xs), max(ys) - min(ys)) or 1)
-    across, down = [40 + (x - min(xs)) * scale for x in xs], [40 + (max(ys) - y) * scale for y in ys]
-    at = dict(zip(devices, zip(across, down)))
-    width, height = 80 + (max(xs) - min(xs)) * scale, 80 + (max(ys) - min(ys)) * scale
+    at = {device: screen.at(picture.places[device]) for device in devices}
     radius = max(4, min(22, 220 / len(devices) ** 0.5))
     thick = set().union(*(walked(frame) for frame in picture.frames))
-    parts = [f'<svg viewBox="0 0 {width:.0f} {height:.0f}" xmlns="http://www.w3.org/2000/svg">']
+    parts = [f'<svg viewBox="0 0 {screen.width:.0f} {screen.height:.0f}" xmlns="http://www.w3.org/2000/svg">']
     for a, b in links:
         (x1, y1), (x2, y2) = at[a], at[b]
         walk = ' class="walk"' if (a, b) in thick else ""
@@ -210,10 +253,12 @@ def _disk(radius: float) -> str:
     return f'<path d="M-{r},0 A{r},{r} 0 1 1 {r},0 A{r},{r} 0 1 1 -{r},0 Z"/>'
 
 
-def _shows(picture: Picture, scales: Sequence[Scale]) -> tuple[list[list[Any]], list[list[int]], list[dict[str, Any]]]:
+def _shows(
+    picture: Picture, scales: Sequence[Scale], screen: Screen
+) -> tuple[list[list[Any]], list[list[int]], list[dict[str, Any]]]:
     """The looks of devices and the sets of links that aren't there, each once, and the frames by their numbers.
 
-    A device that isn't there has the look -1.
+    A device that isn't there has the look -1. Where devices move, a frame has the place of each.
     """
     devices, links = everywhere(picture)
     place = {device: number for number, device in enumerate(devices)}
@@ -236,6 +281,9 @@ def _shows(picture: Picture, scales: Sequence[Scale]) -> tuple[list[list[Any]], 
         first, *others = [sorted(place[device] for device in found) for found in picture.marked_by(frame)] or [[]]
         which = gone.setdefault(away, len(gone))
         shows.append({"title": frame.title, "devices": row, "marked": first, "marks": others, "away": which})
+        if frame.places:
+            at = {device: [round(part, 1) for part in screen.at(place)] for device, place in frame.places.items()}
+            shows[-1]["at"] = [at.get(device) for device in devices]
         if picture.arrows:
             ends = dict(picture.arrows_of(frame))
             shows[-1]["next"] = [place[ends[device]] if device in ends else -1 for device in devices]
@@ -250,18 +298,18 @@ def _look(text: str, value: Value | None, scales: Sequence[Scale], picture: Pict
 
 
 def _legend(picture: Picture, scales: Sequence[Scale]) -> str:
-    """The legend: of each scale five of its numbers, and what else colours and borders mean."""
+    """The legend: five numbers of the scale, or values of pairs, and what else colours and borders mean."""
 
     def swatch(colour: str, label: str) -> str:
         return f'<span class="swatch" style="background:{colour}"></span>{html.escape(label)}'
 
-    rows = []
-    for scale in scales:
+    values = [value for frame in picture.frames for value in frame.values.values()]
+    row = [swatch(shade(place), text) for place, text in rungs(scales, values)] if len(scales) > 1 else []
+    for scale in scales if len(scales) == 1 else ():
         if scale.low is not None and scale.high is not None:
             steps = {scale.low + math.floor((scale.high - scale.low) * part / 4 + 0.5) for part in range(5)}
-            label = html.escape(scale.label) + ":" if len(scales) > 1 else ""
-            rows.append(" ".join([label, *(swatch(scale.colour(number), f"{number:,}") for number in sorted(steps))]))
-    none = any(v is None for frame in picture.frames for v in frame.values.values())
+            row = [swatch(scale.colour(number), f"{number:,}") for number in sorted(steps)]
+    none = any(value is None for value in values)
     more = [swatch(colour, label) for colour, label in entries(scales, none, picture.meaning)]
     more += [f"thick border: {html.escape(picture.marks[0])}"] if picture.marks else []
     for name, (_, colour, _), sign in zip(picture.marks[1:], OUTLINES[1:], SIGNS):
@@ -269,4 +317,4 @@ def _legend(picture: Picture, scales: Sequence[Scale]) -> str:
     clipped = any(scale.clipped and not scale.kinds for scale in scales)
     more += ["beyond the settled values: the colour of the nearest one"] if clipped else []
     more += [html.escape("red border: " + picture.said.partition("; ")[0])] if picture.last else []
-    return "<br>".join(filter(None, [*rows, " ".join(more)]))
+    return "<br>".join(filter(None, [" ".join(row), " ".join(f"<span>{one}</span>" for one in more)]))

@@ -20,13 +20,14 @@ LINES_OF_A_RUN = ("run", "mix", "show", "scramble")
 @dataclass(frozen=True)
 class Frame:
     """One view of a network: its title, the network as it is then, values by device, and least walks where there are
-    some."""
+    some. Where devices move, `places` are those of then."""
 
     title: str
     network: Network
     values: Values
     walks: Mapping[int, tuple[int, ...]] = field(default_factory=dict)
     settled: bool = False
+    places: Mapping[int, Position] = field(default_factory=dict)
 
 
 @dataclass(frozen=True)
@@ -67,7 +68,8 @@ class Picture:
 
     def one(self, place: int) -> Picture:
         """The picture of one frame alone."""
-        return replace(self, frames=(self.frames[place],))
+        frame = self.frames[place]
+        return replace(self, frames=(replace(frame, places={}),), places=frame.places or self.places)
 
 
 def gathered(program: str | None, network: Network, lines: str | None, answer: str | None) -> Picture:
@@ -193,6 +195,24 @@ def at_places(picture: Picture, positions: Mapping[int, Position] | None) -> Pic
         if device not in positions:
             raise Fault(f"there is no position of device {device}", 3)
     return replace(picture, places={device: positions[device] for device in devices})
+
+
+def at_times(picture: Picture, places: Mapping[float, Mapping[int, Position]]) -> Picture:
+    """The picture whose frames are drawn one after the other at the places of these times.
+
+    Raises Fault where there are more or fewer times than frames, or a device of a frame has no place then.
+    """
+    if len(places) != len(picture.frames):
+        raise Fault(f"there are positions of {len(places)} times, and {len(picture.frames)} shows to draw at them", 3)
+    found = []
+    for frame, (time, then) in zip(picture.frames, places.items()):
+        for device in frame.network.devices:
+            if device not in then:
+                raise Fault(f"there is no position of device {frame.network.called(device)} at t = {time:g}", 3)
+        title = ": ".join(filter(None, (f"t = {time:g}", frame.title)))
+        found.append(replace(frame, title=title, places={device: then[device] for device in frame.network.devices}))
+    first = {device: place for frame in reversed(found) for device, place in frame.places.items()}
+    return replace(picture, frames=tuple(found), places=first)
 
 
 def check_marks(picture: Picture, marks: Sequence[str]) -> Picture:

@@ -9,10 +9,11 @@ from types import MappingProxyType
 from typing import Any, Union, cast
 
 from . import networks
-from .files import IDS, points as points_of_file
+from .files import points as points_of_file
 from .given import Inputs, Weight, filled, graph_of
 from .networks import Network, Position, finite, fitting, from_graph, input_of
 from .refusals import Fault
+from .separated import IDS
 
 Points = Union[str, "os.PathLike[str]", Mapping[Hashable, Sequence[float]], Sequence[Sequence[float]], object]
 """Positions: a file, a mapping from nodes to x and y, rows of x and y, or a table of pandas with columns `x` and `y`:

@@ -1,7 +1,7 @@
 """The pages stay true: the programs of docs/patterns.md have the verdicts and settle lines that stand there, the
-commands of README.md and docs/tour.md write what stands below them, the programs of docs/language.md are read, the
-example of docs/commands.md and the examples write what is expected, the calls of docs/fieldc.md answer what stands
-beside them, and each page, anchor and picture that a page names is there."""
+commands of README.md, docs/tour.md and docs/fieldc.md write what stands below them, the programs of docs/language.md
+are read, the example of docs/commands.md and the examples write what is expected, the calls of docs/fieldc.md answer
+what stands beside them, and each page, anchor and picture that a page names is there."""
 
 # mypy: no-strict-optional
 
@@ -130,10 +130,11 @@ def vivid(path: Path) -> int:
 @needs_fc
 @needs("matplotlib", "networkx")
 class Tour(unittest.TestCase):
-    """`PICTURES` in the environment puts the pictures of the tour into docs/pictures."""
+    """`PICTURES` in the environment puts the pictures of a page into docs/pictures."""
 
-    def test_commands_write_what_stands_below_them(self) -> None:
-        text = (TOP / "docs/tour.md").read_text()
+    def follow(self, page: str, *made: str) -> None:
+        """Types the commands of a page, and looks at its pictures and at the pages that they make."""
+        text = (TOP / page).read_text()
         with tempfile.TemporaryDirectory() as kept:
             folder = Path(kept)
             typed(self, folder, commands_of(text))
@@ -141,8 +142,14 @@ class Tour(unittest.TestCase):
                 self.assertGreaterEqual(vivid(folder / "mine" / name), 2, name)
                 if "PICTURES" in os.environ:
                     shutil.copy(folder / "mine" / name, TOP / "docs/pictures" / name)
-            for name in ("run.html", "healed.html"):
+            for name in made:
                 self.assertIn("const shows", (folder / "mine" / name).read_text())
+
+    def test_commands_write_what_stands_below_them(self) -> None:
+        self.follow("docs/tour.md", "run.html", "healed.html")
+
+    def test_commands_of_networks_that_move(self) -> None:
+        self.follow("docs/fieldc.md", "moves.html")
 
 
 @needs_fc

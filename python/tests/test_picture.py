@@ -18,7 +18,9 @@ from helping import EXAMPLES, HOPS, LINE, Done, browser, expected, fieldc, needs
 from test_files import InFolder
 
 from fieldc import Fault, layout, networks as network, read_scene
-from fieldc.colours import APART, GREY, OUTLINES, TRUE, WHITE, Meaning, colours_of, entries, scales_of
+from fieldc.colours import (
+    APART, GREY, OUTLINES, TRUE, WHITE, Meaning, colours_of, entries, rungs, scales_of, shade,
+)  # fmt: skip
 from fieldc.picture import at_places, check_marks, gathered, latest
 
 FIELD = EXAMPLES / "sensor_field.txt"
@@ -102,6 +104,17 @@ class Colours(unittest.TestCase):
         nested = scales_of([((1, True), (2, 9))], Meaning())
         self.assertEqual([scale.label for scale in nested], [f"value, part {n}" for n in (1, 2, 3, 4)])
         self.assertEqual(colours_of(((1, True), (2, 9)), nested, Meaning())[1], TRUE)
+
+    def test_one_scale_for_all_parts_of_pairs(self) -> None:
+        values = [((0, True), (10, 3)), ((40, False), (12, 3)), None]
+        marks = rungs(scales_of(values, Meaning()), values)
+        wanted = ["((0,\u00b7),(10,3))", "((10,\u00b7),(\u00b7,\u00b7))", "((20,\u00b7),(11,\u00b7))"]
+        self.assertEqual([text for _, text in marks[:3]], wanted)
+        self.assertEqual(marks[4], (1.0, "((40,\u00b7),(12,\u00b7))"))
+        self.assertEqual(rungs(scales_of([(True, False)], Meaning()), [(True, False)]), [])
+        for place, text in marks:
+            first = int(text[2:].split(",")[0])
+            self.assertEqual(scales_of(values, Meaning())[0].colour(first), shade(place))
 
     def test_the_ceiling_doesnt_take_the_scale(self) -> None:
         values = [*range(9), 1_000_000]

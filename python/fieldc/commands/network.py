@@ -1,28 +1,35 @@
-"""`fieldc network`: a network made by a rule, or from a file."""
+"""`fieldc network`: a network made by a rule, or from a file, or one that moves, with its script."""
 
 from __future__ import annotations
 
 import argparse
 import json
 import math
-from collections.abc import Callable, Sequence
+from collections.abc import Callable, Iterable, Mapping, Sequence
 from dataclasses import replace
 from pathlib import Path
 
-from .. import files, streams
+from .. import files, moves, streams
 from .. import networks as network
-from ..networks import Network
+from ..networks import Input, Network, Position
 from ..refusals import Fault
 from ..sections import cut, read, writable, write
 
 MOST_CALLED = 5
-SUMMARY = "makes a network: a line, ring, grid, torus, devices in a square, or from positions, links or a graph"
+SUMMARY = "makes a network: a line, ring, grid, torus, devices in a square, or from positions, links, a graph or moves"
 EPILOG = """\
 Example: fieldc network --grid 8x5 --set source=true@0 > grid.json
 
 Names of devices that are no numbers are numbered in the order of the file, and kept in a file of lines id,name:
 NET.names.csv beside -o NET.json, or where --names says. fieldc picture --names and the commands that write values
-take it."""
+take it.
+
+Example: fieldc network --moves moves.csv --range 20 --every 5 --program hops.fc --positions at.csv -o moves.txt
+
+With --moves two sections are written: the network at the first time, and a script that edits it at each step. So
+fieldc run hops.fc moves.txt runs it, fieldc picture draws a page that moves, and fieldc rounds draws how far behind the
+motion the values are."""
+ONLY_MOVING = {"every": "--every", "run": "--run", "gone_after": "--gone-after"}
 
 
 def whole(least: int, what: str) -> Callable[[str], int]:
@@ -103,13 +110,27 @@ def arguments(parser: argparse.ArgumentParser) -> None:
     )
     shape.add_argument("--edges", metavar="FILE", help="links, one line 'a b' or 'a b weight' each, or GraphML, or GML")
     shape.add_argument(
-        "--scene", metavar="FILE", help="a network in JSON, or an input of fc whose second section is one"
+        "--scene", metavar="FILE", help="a network in JSON, or an input of fc that has one"
+    )
+    shape.add_argument(
+        "--moves", metavar="FILE", help="rows t, id, x, y, or points in GeoJSON with times; needs --range and --every"
     )
     parser.add_argument(
         "-o", "--output", metavar="FILE", default="-", help="where the network is written (standard output)"
     )
+    _moving(parser)
     _shaping(parser)
     _filling(parser)
+
+
+def _moving(parser: argparse.ArgumentParser) -> None:
+    parser.add_argument("--every", metavar="S", type=length, help="beside --moves: a step each S of the file's time")
+    rounds = whole(1, "a number of rounds")
+    parser.add_argument("--run", metavar="N", type=rounds, help="beside --moves: the rounds of each step (1)")
+    parser.add_argument(
+        "--gone-after", metavar="S", type=length,
+        help="beside --moves: a device isn't there once it was last seen more than S before",
+    )  # fmt: skip
 
 
 def _shaping(parser: argparse.ArgumentParser) -> None:
@@ -150,7 +171,9 @@ def _filling(parser: argparse.ArgumentParser) -> None:
     parser.add_argument(
         "--table", metavar="FILE", help="starts from the table of fc run --table, with nothing in flight"
     )
-    parser.add_argument("--positions", metavar="FILE", help="writes the positions there, one line id,x,y each")
+    parser.add_argument(
+        "--positions", metavar="FILE", help="writes the positions there, one line id,x,y each, with --moves t,id,x,y"
+    )
     parser.add_argument("--names", metavar="FILE", help="writes the names of devices there, one line id,name each")
 
 
@@ -159,28 +182,72 @@ def perform(options: argparse.Namespace) -> int:
         if name and name != "-":
             writable(name)
     program = cut(options.program, read(options.program))[0][1] if options.program else None
+    if options.moves:
+        return perform_moves(options, program)
+    for name, option in ONLY_MOVING.items():
+        if getattr(options, name) is not None:
+            raise Fault(f"{option} is of --moves")
     found = shaped(options, program)
-    found = weighed(network.with_inputs(found, placed(options.set, found)), options)
-    if options.max_degree is not None:
-        found = thinned(found, options.max_degree)
+    found, lost = finished(found, options, program, by_name(found.devices, found.names))
+    tell_lost(options, lost)
+    if options.positions and not found.positions:
+        raise Fault("--positions: this network has no positions to write")
+    keep_beside(options, found.names, files.positions_text(found.positions))
+    write(options.output, found.scene())
+    return 0
+
+
+def finished(
+    found: Network, options: argparse.Namespace, program: str | None, numbers: Mapping[str, int]
+) -> tuple[Network, str]:
+    """The network with inputs, weights and few enough links, and what is said of links that were left out."""
+    found = weighed(network.with_inputs(found, placed(options.set, found, numbers)), options)
+    found, lost = thinned(found, options.max_degree)
     found = network.within_limits(found)
     if program is not None:
         found = network.judged(found, program)
     if options.table:
         found = replace(found, state={"table": files.table_of(options.table)})
-    if options.positions and not found.positions:
-        raise Fault("--positions: this network has no positions to write")
-    keep_beside(options, found)
-    write(options.output, found.scene())
+    return found, lost
+
+
+def perform_moves(options: argparse.Namespace, program: str | None) -> int:
+    """Writes the first network of devices that move, and the script that makes the others of it."""
+    if options.range is None or options.every is None:
+        raise Fault("--moves needs a --range and --every, the time of a step")
+    found = moves.read(options.moves, program, inputs_of(options), dict(options.scale))
+    say_left_out(options.moves, found.left_out)
+    numbers, lost = by_name(found.seen, found.names), list[str]()
+
+    def linked(places: Mapping[int, Position], inputs: Mapping[int, Mapping[str, Input]]) -> Network:
+        at_most(len(places))
+        names = {device: found.names[device] for device in places if device in found.names}
+        made = replace(network.in_range(places, options.range), names=names, inputs=inputs)
+        made, less = finished(made, options, program, numbers)
+        lost.extend([less] if less else [])
+        return made
+
+    times = moves.times_of(found, options.every)
+    gone_after = math.inf if options.gone_after is None else options.gone_after
+    steps = moves.steps(found, times, gone_after, linked)
+    script = moves.script(steps, options.run or 1, list(network.declared(program).inputs) if program else None)
+    if lost:
+        tell_lost(options, f"{lost[0]}, and so in {len(lost)} of {len(steps)} steps")
+    still = moves.still_there(found, times) if options.gone_after is None else []
+    if still:
+        called = first_of([found.names.get(device, str(device)) for device in still])
+        say(f"not seen any more at the end, and still where they were last: {called} (--gone-after S lets them leave)")
+    keep_beside(options, found.names, moves.positions_text(steps))
+    write(options.output, f"{steps[0].network.scene()}%%\n{script}")
     return 0
 
 
 def shaped(options: argparse.Namespace, program: str | None) -> Network:
     """The devices, positions and links of the shape or file that is asked for."""
-    inputs = options.inputs.split(",") if options.inputs is not None else None
+    inputs = inputs_of(options)
     if options.scene:
         sections = cut(options.scene, read(options.scene))
-        first, text = sections[1 if len(sections) > 1 else 0]
+        first, text = next((part for part in sections[:2] if part[1].lstrip()[:1] == "{"), sections[:2][-1])
         return with_names_beside(network.read_scene(text, options.scene, first), options.scene)
     if options.edges:
         return files.network(options.edges, program, inputs, options.round, options.undirected)
@@ -197,8 +264,7 @@ def shaped(options: argparse.Namespace, program: str | None) -> Network:
     if options.disk is not None:
         return network.disk(at_most(options.disk), options.side, options.range, options.seed)
     points = files.points(options.points, program, inputs, dict(options.scale))
-    if points.left_out:
-        say(f"{options.points}: left out, as no inputs: {', '.join(points.left_out)}")
+    say_left_out(options.points, points.left_out)
     at_most(len(points.positions))
     return replace(network.in_range(points.positions, options.range), names=points.names, inputs=points.inputs)
 
@@ -219,20 +285,41 @@ def at_most(count: int) -> int:
     return count
 
 
+def inputs_of(options: argparse.Namespace) -> list[str] | None:
+    """The inputs that `--inputs` names."""
+    return options.inputs.split(",") if options.inputs is not None else None
+
+
+def say_left_out(name: str, left_out: Sequence[str]) -> None:
+    """Says which columns of a file are nothing."""
+    if left_out:
+        say(f"{name}: left out, as no inputs: {', '.join(left_out)}")
+
+
+def by_name(devices: Iterable[int], names: Mapping[int, str]) -> dict[str, int]:
+    """The devices by what they are called."""
+    return {names.get(device, str(device)): device for device in devices}
+
+
+def first_of(words: Sequence[str]) -> str:
+    """The first of some words."""
+    return f"{', '.join(words[:MOST_CALLED])}{', ..' if len(words) > MOST_CALLED else ''}"
+
+
 def placed(
-    settings: Sequence[tuple[str, int | bool, list[str] | None]], found: Network
+    settings: Sequence[tuple[str, int | bool, list[str] | None]], found: Network, numbers: Mapping[str, int]
 ) -> list[tuple[str, int | bool, list[int] | None]]:
-    """Settings with the numbers of their devices, which the user may call by their names."""
-    by_name = {found.called(device): device for device in found.devices}
-    called = f"{', '.join(list(by_name)[:MOST_CALLED])}{', ..' if len(by_name) > MOST_CALLED else ''}"
-    numbers = []
+    """Settings with the numbers of their devices, which the user may call by their names; of these those that are there
+    now."""
+    made = []
     for name, value, listed in settings:
         for word in listed or ():
-            if word not in by_name:
+            if word not in numbers:
                 where = f"--set {name}={json.dumps(value)}@{','.join(listed or ())}"
-                raise Fault(f"{where}: there is no device {word}; the devices are called {called}")
-        numbers.append((name, value, None if listed is None else [by_name[word] for word in listed]))
-    return numbers
+                raise Fault(f"{where}: there is no device {word}; the devices are called {first_of(list(numbers))}")
+        devices = None if listed is None else [numbers[word] for word in listed if numbers[word] in found.inputs]
+        made.append((name, value, devices))
+    return made
 
 
 def weighed(found: Network, options: argparse.Namespace) -> Network:
@@ -243,15 +330,20 @@ def weighed(found: Network, options: argparse.Namespace) -> Network:
     return found if options.weight is None else network.with_weight(found, options.weight)
 
 
-def thinned(found: Network, most: int) -> Network:
-    """The network with the nearest links kept; how many were left out is said on standard error."""
-    if max(network.degrees(found).values(), default=0) <= most:
-        return found
+def thinned(found: Network, most: int | None) -> tuple[Network, str]:
+    """The network with the nearest links kept, at most so many of a device; and what is said of those left out."""
+    if most is None or max(network.degrees(found).values(), default=0) <= most:
+        return found, ""
     kept = network.nearest(found, most)
     lost = len(found.links) - len(kept.links)
     more = f"; it falls into {parts(kept)} parts, and was in {parts(found)}" if parts(kept) > parts(found) else ""
-    say(f"--max-degree {most}: {lost} of {len(found.links)} links are left out{more}")
-    return kept
+    return kept, f"{lost} of {len(found.links)} links are left out{more}"
+
+
+def tell_lost(options: argparse.Namespace, lost: str) -> None:
+    """Says on standard error that links were left out."""
+    if lost:
+        say(f"--max-degree {options.max_degree}: {lost}")
 
 
 def parts(found: Network) -> int:
@@ -273,16 +365,16 @@ def parts(found: Network) -> int:
     return count
 
 
-def keep_beside(options: argparse.Namespace, found: Network) -> None:
+def keep_beside(options: argparse.Namespace, names: Mapping[int, str], positions: str) -> None:
     """Writes the positions and the names where they are wanted; says so where names would be lost."""
     if options.positions:
-        write(options.positions, files.positions_text(found.positions))
-    if found.names:
+        write(options.positions, positions)
+    if names:
         name = options.names or (files.beside(options.output, "names") if options.output != "-" else None)
         if name is None:
-            say(f"{len(found.names)} devices have names: --names FILE keeps them")
+            say(f"{len(names)} devices have names: --names FILE keeps them")
         else:
-            write(name, files.names_text(found.names))
+            write(name, files.names_text(names))
             say(f"the names of the devices are in {name}")
 
 

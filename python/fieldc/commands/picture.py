@@ -11,9 +11,10 @@ from .. import program as fc
 from ..asking import tell, why_no
 from ..drawing import draw, pyplot_ready
 from ..files import names_from, positions_for
+from ..moves import positions_by_time
 from ..networks import Network, read_scene
 from ..page import page
-from ..picture import Picture, at_places, check_arrows, check_kinds, check_marks, everywhere, gathered
+from ..picture import Picture, at_places, at_times, check_arrows, check_kinds, check_marks, everywhere, gathered
 from ..progress import Progress, described
 from ..refusals import Call, Fault, Section
 from ..sections import PAGES, PICTURES, read, sections, writable, write
@@ -50,7 +51,9 @@ def arguments(parser: argparse.ArgumentParser) -> None:
     values.add_argument("--of", choices=tuple(OF), help="asks fc for the values")
     parser.add_argument("--show", metavar="N", type=int, help="which show of a run is drawn, from 1 (the last)")
     parser.add_argument("--page", action="store_true", help="a page of HTML, with a slider over all shows")
-    parser.add_argument("--positions", metavar="FILE", help="positions, one line id,x,y each (else a layout is made)")
+    parser.add_argument(
+        "--positions", metavar="FILE", help="positions, lines id,x,y, or t,id,x,y with a time for each show (a layout)"
+    )
     parser.add_argument("--names", metavar="FILE", help="names of devices, one line id,name each")
     parser.add_argument("--numbers", action="store_true", help="writes the number, or name, beside each device")
     parser.add_argument(
@@ -111,9 +114,12 @@ def asked(of: str, parts: Sequence[Section]) -> str:
 
 
 def placed(positions: str | None, picture: Picture, network: Network) -> Picture:
-    """The picture with places, from a file or from a layout."""
+    """The picture with places, from a file, in which they may change with time, or from a layout."""
     if positions is None:
         return at_places(picture, None)
+    moving = positions_by_time(positions, network.names)
+    if moving is not None:
+        return at_times(picture, moving)
     return at_places(picture, positions_for(positions, everywhere(picture)[0], network.names))
 
 

@@ -1,28 +1,36 @@
-"""`fieldc rounds`: how many devices hold their value, round by round, from tables of rubbish."""
+"""`fieldc rounds`: how many devices hold their value, round by round, from tables of rubbish; and how far behind the
+edits of a script the values are."""
 
 from __future__ import annotations
 
 import argparse
+from collections.abc import Sequence
 
-from .. import rounds
+from .. import behind, rounds
 from ..drawing import pyplot_ready
 from ..files import names_from
 from ..progress import Progress
-from ..refusals import Fault
+from ..refusals import Fault, Section
 from ..sections import PICTURES, sections, writable, write
 from ..tables import table_of_rounds
 
-SUMMARY = "draws against the rounds how many devices hold their value, from tables of rubbish"
+SUMMARY = "draws against the rounds how many devices hold their value, from rubbish, or how far they are behind edits"
 EPILOG = """\
 Example: fieldc rounds hops.fc net.json --number 1 --number 2 -o rounds.svg
 
 For each table it writes NUMBER ROUNDS R K: after how many rounds it had settled, the settle time and the bound of the
-verdict (- with a no)."""
+verdict (- with a no).
+
+With a script it runs that, and draws for each group of edits the settle time from what devices hold then, beside the
+rounds until the next edit. It writes LINE BEFORE R ROUNDS LATE: the line of the first edit, the rounds that had run,
+the settle time (- where it is open), the rounds until the next edit, and how many devices don't hold their value
+then."""
+NOT_OF_SCRIPTS = {"number": "--number", "rounds": "--rounds", "csv": "--csv", "names": "--names"}
 
 
 def arguments(parser: argparse.ArgumentParser) -> None:
     parser.add_argument(
-        "files", nargs="+", metavar="FILE", help="PROGRAM NETWORK, joined or not (the rest is left out)"
+        "files", nargs="+", metavar="FILE", help="PROGRAM NETWORK [SCRIPT], joined or not"
     )
     parser.add_argument(
         "-o", "--output", metavar="FILE", required=True, help="the picture, by its ending .svg, .png or .pdf"
@@ -49,9 +57,11 @@ def perform(options: argparse.Namespace) -> int:
         writable(options.csv)
     pyplot_ready()
     names = names_from(options.names) if options.names else {}
-    parts = sections(options.files, ("program", "network"))
-    if len(parts) < 2:
-        raise Fault("the files have one section: PROGRAM NETWORK are wanted")
+    parts = sections(options.files, ("program", "network", "script"))
+    if len(parts) not in (2, 3):
+        raise Fault(f"{len(parts)} sections: PROGRAM NETWORK and, to draw how far behind it is, SCRIPT")
+    if len(parts) == 3:
+        return perform_script(options, parts)
     program, network = parts[0].text, parts[1].text
     numbers = list(dict.fromkeys(options.number or [1]))
     with Progress(lambda: "fc check --settle") as waiting:
@@ -67,5 +77,20 @@ def perform(options: argparse.Namespace) -> int:
         settled = one.settled(len(promise.values))
         bound = promise.verdict.rounds
         words = (one.number, "unsettled" if settled is None else settled, promise.time, "-" if bound is None else bound)
+        write("-", " ".join(map(str, words)) + "\n")
+    return 0
+
+
+def perform_script(options: argparse.Namespace, parts: Sequence[Section]) -> int:
+    """Draws how far behind the edits of a script the values are."""
+    for name, option in NOT_OF_SCRIPTS.items():
+        if getattr(options, name) is not None:
+            raise Fault(f"{option} isn't taken beside a script, which says itself what happens")
+    network, lines = behind.judged(*parts)
+    with Progress(lambda: f"runs the script on {len(network.devices):,} devices") as waiting:
+        found = behind.stretches(parts[0].text, network, lines, options.workers, waiting)
+    behind.draw(found, options.output, options.title)
+    for one in found:
+        words = (one.line, one.before, "-" if one.time is None else one.time, one.rounds, one.late)
         write("-", " ".join(map(str, words)) + "\n")
     return 0
