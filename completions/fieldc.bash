@@ -28,20 +28,32 @@ _fieldc_words() {
             return ;;
         "settle --names")
             return ;;
+        "settle --kinds")
+            compopt +o bashdefault +o default 2>/dev/null
+            return ;;
         "stable --names")
+            return ;;
+        "stable --kinds")
+            compopt +o bashdefault +o default 2>/dev/null
             return ;;
         "trace --names")
             return ;;
+        "trace --kinds")
+            compopt +o bashdefault +o default 2>/dev/null
+            return ;;
         "run --names")
             return ;;
-        "run --workers")
+        "run --workers" | "run --kinds")
             compopt +o bashdefault +o default 2>/dev/null
             return ;;
         "replay --names")
             return ;;
+        "replay --kinds")
+            compopt +o bashdefault +o default 2>/dev/null
+            return ;;
         "mail --names")
             return ;;
-        "mail --number")
+        "mail --number" | "mail --kinds")
             compopt +o bashdefault +o default 2>/dev/null
             return ;;
         "gen --devices" | "gen --workers")
@@ -89,12 +101,12 @@ _fieldc_words() {
     case $command in
         "") words="check settle stable trace run replay mail gen format compose network picture rounds sweep firmware -h --help --version" ;;
         check) files=yes words="--facts --settle --from-table --why --no-cut-check --format --json --names -h --help" ;;
-        settle) files=yes words="--facts --from-table --why --no-cut-check --json --csv --names -h --help" ;;
-        stable) files=yes words="--no-cut-check --json --csv --names -h --help" ;;
-        trace) files=yes words="--no-cut-check --json --csv --names -h --help" ;;
-        run) files=yes words="--workers --log --table --no-cut-check --json --csv --names -h --help" ;;
-        replay) files=yes words="--rounds --table --json --csv --names -h --help" ;;
-        mail) files=yes words="--number --json --csv --names -h --help" ;;
+        settle) files=yes words="--facts --from-table --why --no-cut-check --json --csv --names --kinds -h --help" ;;
+        stable) files=yes words="--no-cut-check --json --csv --names --kinds -h --help" ;;
+        trace) files=yes words="--no-cut-check --json --csv --names --kinds -h --help" ;;
+        run) files=yes words="--workers --log --table --no-cut-check --json --csv --names --kinds -h --help" ;;
+        replay) files=yes words="--rounds --table --json --csv --names --kinds -h --help" ;;
+        mail) files=yes words="--number --json --csv --names --kinds -h --help" ;;
         gen) words="--devices --workers --json -h --help" ;;
         format) files=yes words="--json -h --help" ;;
         compose) files=yes words="--network --library --no-cut-check --unjudged -o --output --list --show -h --help" ;;

@@ -38,6 +38,7 @@ complete -c fieldc -n '__fish_seen_subcommand_from settle' -l no-cut-check -d 'd
 complete -c fieldc -n '__fish_seen_subcommand_from settle' -l json -d 'writes the answer, and a refusal, as JSON'
 complete -c fieldc -n '__fish_seen_subcommand_from settle' -l csv -d 'writes the values alone, as a table with a row a device'
 complete -c fieldc -n '__fish_seen_subcommand_from settle' -l names -r -F -d 'a file of lines id,name: devices are called by these names'
+complete -c fieldc -n '__fish_seen_subcommand_from settle' -l kinds -x -d 'numbers in these parts of the values are devices, written by their names: all, or 2, or 1,3'
 complete -c fieldc -n '__fish_seen_subcommand_from settle' -s h -l help -d 'tells of the command'
 
 # stable
@@ -45,6 +46,7 @@ complete -c fieldc -n '__fish_seen_subcommand_from stable' -l no-cut-check -d 'd
 complete -c fieldc -n '__fish_seen_subcommand_from stable' -l json -d 'writes the answer, and a refusal, as JSON'
 complete -c fieldc -n '__fish_seen_subcommand_from stable' -l csv -d 'writes the values alone, as a table with a row a device'
 complete -c fieldc -n '__fish_seen_subcommand_from stable' -l names -r -F -d 'a file of lines id,name: devices are called by these names'
+complete -c fieldc -n '__fish_seen_subcommand_from stable' -l kinds -x -d 'numbers in these parts of the values are devices, written by their names: all, or 2, or 1,3'
 complete -c fieldc -n '__fish_seen_subcommand_from stable' -s h -l help -d 'tells of the command'
 
 # trace
@@ -52,6 +54,7 @@ complete -c fieldc -n '__fish_seen_subcommand_from trace' -l no-cut-check -d 'do
 complete -c fieldc -n '__fish_seen_subcommand_from trace' -l json -d 'writes the answer, and a refusal, as JSON'
 complete -c fieldc -n '__fish_seen_subcommand_from trace' -l csv -d 'writes the values alone, as a table with a row a device'
 complete -c fieldc -n '__fish_seen_subcommand_from trace' -l names -r -F -d 'a file of lines id,name: devices are called by these names'
+complete -c fieldc -n '__fish_seen_subcommand_from trace' -l kinds -x -d 'numbers in these parts of the values are devices, written by their names: all, or 2, or 1,3'
 complete -c fieldc -n '__fish_seen_subcommand_from trace' -s h -l help -d 'tells of the command'
 
 # run
@@ -62,6 +65,7 @@ complete -c fieldc -n '__fish_seen_subcommand_from run' -l no-cut-check -d 'does
 complete -c fieldc -n '__fish_seen_subcommand_from run' -l json -d 'writes the answer, and a refusal, as JSON'
 complete -c fieldc -n '__fish_seen_subcommand_from run' -l csv -d 'writes the values alone, as a table with a row a device'
 complete -c fieldc -n '__fish_seen_subcommand_from run' -l names -r -F -d 'a file of lines id,name: devices are called by these names'
+complete -c fieldc -n '__fish_seen_subcommand_from run' -l kinds -x -d 'numbers in these parts of the values are devices, written by their names: all, or 2, or 1,3'
 complete -c fieldc -n '__fish_seen_subcommand_from run' -s h -l help -d 'tells of the command'
 
 # replay
@@ -70,6 +74,7 @@ complete -c fieldc -n '__fish_seen_subcommand_from replay' -l table -d 'adds the
 complete -c fieldc -n '__fish_seen_subcommand_from replay' -l json -d 'writes the answer, and a refusal, as JSON'
 complete -c fieldc -n '__fish_seen_subcommand_from replay' -l csv -d 'writes the values alone, as a table with a row a device'
 complete -c fieldc -n '__fish_seen_subcommand_from replay' -l names -r -F -d 'a file of lines id,name: devices are called by these names'
+complete -c fieldc -n '__fish_seen_subcommand_from replay' -l kinds -x -d 'numbers in these parts of the values are devices, written by their names: all, or 2, or 1,3'
 complete -c fieldc -n '__fish_seen_subcommand_from replay' -s h -l help -d 'tells of the command'
 
 # mail
@@ -77,6 +82,7 @@ complete -c fieldc -n '__fish_seen_subcommand_from mail' -l number -x -d 'makes 
 complete -c fieldc -n '__fish_seen_subcommand_from mail' -l json -d 'writes the answer, and a refusal, as JSON'
 complete -c fieldc -n '__fish_seen_subcommand_from mail' -l csv -d 'writes the values alone, as a table with a row a device'
 complete -c fieldc -n '__fish_seen_subcommand_from mail' -l names -r -F -d 'a file of lines id,name: devices are called by these names'
+complete -c fieldc -n '__fish_seen_subcommand_from mail' -l kinds -x -d 'numbers in these parts of the values are devices, written by their names: all, or 2, or 1,3'
 complete -c fieldc -n '__fish_seen_subcommand_from mail' -s h -l help -d 'tells of the command'
 
 # gen
@@ -155,7 +161,7 @@ complete -c fieldc -n '__fish_seen_subcommand_from rounds' -l rounds -x -d 'how 
 complete -c fieldc -n '__fish_seen_subcommand_from rounds' -l workers -x -d 'threads that fire devices in each run (4)'
 complete -c fieldc -n '__fish_seen_subcommand_from rounds' -l title -x -d 'a line above the picture'
 complete -c fieldc -n '__fish_seen_subcommand_from rounds' -l csv -r -F -d 'writes there what each device holds after each round'
-complete -c fieldc -n '__fish_seen_subcommand_from rounds' -l names -r -F -d 'a file of lines id,name: names of devices for --csv'
+complete -c fieldc -n '__fish_seen_subcommand_from rounds' -l names -r -F -d 'a file of lines id,name: devices in --csv and in a script'
 complete -c fieldc -n '__fish_seen_subcommand_from rounds' -s h -l help -d 'tells of the command'
 
 # sweep

@@ -11,10 +11,13 @@ from typing import TypeVar, Union
 
 from . import cuts, results
 from . import program as fc
+from .edits import by_numbers
 from .files import names_from
 from .json_results import written
+from .kinds import Kinds, by_names, kinds_of, values_of, with_names
 from .progress import Progress, described
-from .refusals import Call, Explanation, Fault, Refusal, explained, warned
+from .refusals import Call, Explanation, Fault, Refusal, Section, explained, warned
+from .results import value_of, word_of
 from .sections import sections, write
 from .streams import pour, say
 from .tables import table_of
@@ -46,6 +49,11 @@ def add_answers(parser: argparse.ArgumentParser, names: bool = True, values: boo
         parser.add_argument(
             "--names", metavar="FILE", help="a file of lines id,name: devices are called by these names"
         )
+    if names and values:
+        parser.add_argument(
+            "--kinds", metavar="PARTS",
+            help="numbers in these parts of the values are devices, written by their names: all, or 2, or 1,3",
+        )  # fmt: skip
 
 
 def add_cut_check(parser: argparse.ArgumentParser) -> None:
@@ -65,21 +73,25 @@ def ask(
     Raises Refusal and Fault.
     """
     names = names_from(options.names) if getattr(options, "names", None) else {}
-    call = Call(tuple(words), sections(options.files, kinds))
+    if getattr(options, "kinds", None) and not options.names:
+        raise Fault("--kinds writes devices by their names: give --names too")
+    call = Call(tuple(words), tuple(numbered(section, names) for section in sections(options.files, kinds)))
     start = time.monotonic()
     with Progress(lambda: described(call)) as waiting:
         reply = fc.answered(call, waiting)
     cuts_of = functools.partial(cut_warnings, options, call, names=names, took=time.monotonic() - start)
     result = understood(reader, reply.text, call)
+    parts = kinds_of(options.kinds, values_of(result), names) if getattr(options, "kinds", None) else None
+    shown = result if parts is None else with_names(result, parts)
     why, warnings = why_no(call, reply.text) if reply.status == 1 else None, warned(call)
     if options.json:
         warnings += cuts_of(result)
-        write("-", written(result, names, why, warnings))
+        write("-", written(shown, names, why, warnings))
         return call, result, reply.status
     if getattr(options, "csv", False):
-        write("-", table_of(result, names))
+        write("-", table_of(shown, names))
     elif names:
-        write("-", named(reply.text, names, "settle" if "--settle" in words else words[0]))
+        write("-", named(reply.text, names, "settle" if "--settle" in words else words[0], parts))
     else:
         pour(reply.output)
     tell(why, warnings)
@@ -105,8 +117,15 @@ def understood(reader: Callable[[str, Call], Answer], text: str, call: Call) -> 
         raise Fault(f"{fc.find()} doesn't answer as fc does: {text[:60]!r}") from None
 
 
-def named(text: str, names: Mapping[int, str], command: str) -> str:
-    """An answer of `fc` in which devices are called by their names, where they have one."""
+def numbered(section: Section, names: Mapping[int, str]) -> Section:
+    """A section; a script or log with the numbers of its devices in the place of names. Raises Fault."""
+    if section.kind not in ("script", "log") or not names:
+        return section
+    return replace(section, text=by_numbers(section.text, names, section.name, section.first_line))
+
+
+def named(text: str, names: Mapping[int, str], command: str, kinds: Kinds | None = None) -> str:
+    """An answer of `fc` in which devices are called by their names, where they have one; in values those of `kinds`."""
     if command not in OF_DEVICES:
         return text
     lines = text.splitlines()
@@ -120,7 +139,10 @@ def named(text: str, names: Mapping[int, str], command: str) -> str:
         device, *rest = lines[place].split(" ")
         if device.isdigit():
             walk = [call(word) for word in rest[1:]] if command == "trace" else rest[1:]
-            lines[place] = " ".join([call(device), *rest[:1], *walk])
+            rest, at = [*rest[:1], *walk], 1 if command == "settle" else 0
+            if kinds is not None and at < len(rest):
+                rest[at] = word_of(by_names(value_of(rest[at]), kinds))
+            lines[place] = " ".join([call(device), *rest])
     return "".join(line + "\n" for line in lines)
 
 

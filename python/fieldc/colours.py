@@ -3,9 +3,10 @@
 from __future__ import annotations
 
 import math
-from collections.abc import Iterable, Mapping, Sequence
+from collections.abc import Iterable, Sequence
 from dataclasses import dataclass, replace
 
+from .kinds import Kinds, by_names, parts_of
 from .results import Value, word_of
 
 GREY, WHITE, FALSE, TRUE, APART, LAST, MARK, LINK = (
@@ -26,21 +27,6 @@ KINDS = (
 MAP = "viridis_r"
 RUNGS = 5
 NOTHING = "\u00b7"
-
-
-@dataclass(frozen=True)
-class Kinds:
-    """Which parts of the values are kinds and no amounts, from 1 on, or nothing for all; and the devices by name.
-
-    A number that no device has stands apart from the kinds, unless none is a device's.
-    """
-
-    parts: frozenset[int] | None
-    devices: Mapping[int, str]
-
-    def has(self, part: int) -> bool:
-        """Whether a part is of kinds."""
-        return self.parts is None or part in self.parts
 
 
 @dataclass(frozen=True)
@@ -112,13 +98,6 @@ def shade(place: float) -> str:
     from matplotlib import colormaps, colors
 
     return str(colors.to_hex(colormaps[MAP](min(max(place, 0.0), 1.0))))
-
-
-def parts_of(value: Value) -> tuple[int | bool, ...]:
-    """The numbers and truth values of a value, from left to right: one, or those of the pairs."""
-    if isinstance(value, tuple):
-        return parts_of(value[0]) + parts_of(value[1])
-    return (value,)
 
 
 def scales_of(
@@ -257,6 +236,6 @@ def label_of(value: Value | None, scales: Sequence[Scale] = (), meaning: Meaning
     """What is written in a device: its whole value, with kinds by their names."""
     if value is None or meaning.kinds is None:
         return word_of(value)
-    names = meaning.kinds.devices
-    kinds = [part in scale.kinds and not isinstance(part, bool) for scale, part in zip(scales, parts_of(value))]
-    return shaped(value, [names.get(p, str(p)) if kind else word_of(p) for kind, p in zip(kinds, parts_of(value))])
+    known = {number for scale in scales for number in scale.kinds}
+    devices = {device: name for device, name in meaning.kinds.devices.items() if device in known}
+    return word_of(by_names(value, replace(meaning.kinds, devices=devices)))

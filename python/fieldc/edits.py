@@ -12,6 +12,7 @@ from .networks import Input, Network
 from .refusals import Fault
 
 MOST_LINES = 4096
+DEVICES_OF = {"link": 2, "unlink": 2, "set": 1, "poke": 1, "join": 1, "leave": 1}
 EDITS = ("link", "unlink", "set", "poke", "join", "leave", "scramble")
 
 
@@ -41,6 +42,23 @@ def steps(text: str) -> Iterator[tuple[int, list[str], int]]:
             yield number, words, int(words[1])
         elif words != [""]:
             yield number, words, 0
+
+
+def by_numbers(text: str, names: Mapping[int, str], name: str, first_line: int = 1) -> str:
+    """A script or log whose edits have the numbers of devices in the place of their names; a name goes before a number
+    that is written like it. Raises Fault, with the line of the file, where a word is neither a name nor a number."""
+    number = {word: str(device) for device, word in names.items()}
+    lines = text.split("\n")
+    for place, line in enumerate(lines):
+        words = line.removesuffix("\r").split(" ")
+        first = 2 if words[0] == "mix" else 0
+        count = DEVICES_OF.get(words[first], 0) if first < len(words) else 0
+        for at in range(first + 1, min(first + 1 + count, len(words))):
+            if words[at] not in number and not words[at].isdecimal():
+                raise Fault(f"{name} line {place + first_line}: no device is called {words[at]}", 3)
+            words[at] = number.get(words[at], words[at])
+        lines[place] = " ".join(words) + "\r" * line.endswith("\r")
+    return "\n".join(lines)
 
 
 def rounds_at_shows(script: str) -> dict[int, tuple[int, bool]]:

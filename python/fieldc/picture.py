@@ -6,8 +6,9 @@ from collections.abc import Mapping, Sequence
 from dataclasses import dataclass, field, replace
 
 from . import results
-from .colours import OUTLINES, WHITE, Kinds, Meaning, parts_of
+from .colours import OUTLINES, WHITE, Meaning
 from .edits import Moment, moments
+from .kinds import kinds_of, parts_of
 from .layout import laid_out
 from .networks import Network, Position, declared
 from .refusals import Fault
@@ -235,16 +236,11 @@ def check_kinds(picture: Picture, word: str | None, names: Mapping[int, str]) ->
     """
     if word is None:
         return picture
-    parts = None if word == "all" else [int(part) for part in word.split(",") if part.isdecimal()]
-    values = [value for frame in picture.frames for value in frame.values.values() if value is not None]
-    most = len(parts_of(values[0])) if values else 0
-    if picture.meaning.scale == SETTLING or not most:
-        raise Fault(f"--kinds {word}: it colours values, and there are none")
-    if parts is not None and (len(parts) != len(word.split(",")) or not all(1 <= part <= most for part in parts)):
-        raise Fault(f"--kinds {word}: it is all, or numbers of parts, and a value has {most}")
+    if picture.meaning.scale == SETTLING:
+        raise Fault(f"--kinds {word}: it is of values, and these are settle rounds")
+    values = [value for frame in picture.frames for value in frame.values.values()]
     devices = {device: names.get(device, str(device)) for device in everywhere(picture)[0]}
-    kinds = Kinds(None if parts is None else frozenset(parts), devices)
-    return replace(picture, meaning=replace(picture.meaning, kinds=kinds))
+    return replace(picture, meaning=replace(picture.meaning, kinds=kinds_of(word, values, devices)))
 
 
 def check_arrows(picture: Picture, wanted: bool) -> Picture:

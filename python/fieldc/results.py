@@ -18,6 +18,9 @@ Found = TypeVar("Found")
 Value = Union[int, bool, tuple["Value", "Value"]]
 """A value of the calculus: a whole number, a truth value, or a pair of values."""
 
+Shown = Union[int, bool, str, tuple["Shown", "Shown"]]
+"""A value as it is written: numbers that are devices may have their names."""
+
 Values = Mapping[Hashable, Union[Value, None]]
 """By device, rising, its value, or nothing where it has published none (or none is known). A device is its number, or
 the node of the graph that the library was given."""
@@ -191,10 +194,10 @@ def _paired(found: Any) -> Value:
     raise ValueError
 
 
-def word_of(value: Value | None) -> str:
-    """A value in the words of `fc`: `-` for nothing, `(1,true)` for a pair."""
-    if value is None:
-        return "-"
+def word_of(value: Shown | None) -> str:
+    """A value in the words of `fc`: `-` for nothing, `(1,true)` for a pair; a name is as it is."""
+    if value is None or isinstance(value, str):
+        return "-" if value is None else value
     if isinstance(value, tuple):
         return "(" + ",".join(word_of(part) for part in value) + ")"
     return json.dumps(value)

@@ -31,7 +31,10 @@ LINES = {
     "log": {"B": "B3", "E": "E3", "I": "I", **EDITS},
     "mail": {"B": "B3", "E": "E3", "I": "I", "deliver": "deliver A B", "again": "again A B", "lose": "lose A B I"},
 }
-BY_NUMBER = "Devices have their numbers here: the file of names beside the network, as net.names.csv, has them."
+BY_NUMBER = (
+    "Devices have their numbers here: the file of names beside the network, as net.names.csv, has them. "
+    "With --names and that file, edits may have their names."
+)
 TITLES = {"script": "a script", "log": "a log", "mail": "a mail log"}
 PAGES = {
     "script": "docs/formats.md#the-script",

@@ -4,25 +4,24 @@ from __future__ import annotations
 
 import csv
 import io
-import json
 from collections.abc import Iterable, Mapping, Sequence
 from typing import TYPE_CHECKING
 
 from . import results
-from .results import Value, Values, by_number
+from .results import Shown, Values, by_number, word_of
 
 if TYPE_CHECKING:
     from .rounds import Curve
 
-Row = tuple[Sequence[object], int, "Value | None", Sequence[object]]
+Row = tuple[Sequence[object], int, "Shown | None", Sequence[object]]
 """The words before a device, the device, its value, and the words behind it."""
 
 
-def leaves(value: Value | None) -> list[str]:
-    """The numbers and truth values of a value, from the left; none where there is none."""
+def leaves(value: Shown | None) -> list[str]:
+    """The numbers, truth values and names of a value, from the left; none where there is none."""
     if isinstance(value, tuple):
         return [leaf for part in value for leaf in leaves(part)]
-    return [] if value is None else [json.dumps(value)]
+    return [] if value is None else [word_of(value)]
 
 
 def written(front: Sequence[str], rows: Iterable[Row], names: Mapping[int, str], back: Sequence[str] = ()) -> str:

@@ -7,7 +7,7 @@ import unittest
 from helping import sections_of
 
 from fieldc import Fault, networks as network, read_scene
-from fieldc.edits import moments, rounds_at_shows
+from fieldc.edits import by_numbers, moments, rounds_at_shows
 
 SCRIPT = """\
 show
@@ -61,6 +61,15 @@ class Scripts(unittest.TestCase):
         self.assertEqual((found.line, found.rounds), (None, None))
         self.assertEqual(found.network.devices, (0, 1))
         self.assertEqual(found.network.inputs[0], {"src": True, "w": 1})
+
+    def test_devices_by_their_names(self) -> None:
+        names = {0: "mill", 1: "weir", 2: "1", 7: "roof"}
+        given = "set mill src true\r\n\nmix 3 link weir 1 4\nrun 5\njoin roof false 9\npoke 1 (1,2)\nleave 7\nset\nB1\n"
+        made = "set 0 src true\r\n\nmix 3 link 1 2 4\nrun 5\njoin 7 false 9\npoke 2 (1,2)\nleave 7\nset\nB1\n"
+        self.assertEqual(by_numbers(given, names, "s.txt"), made)
+        self.assertEqual(by_numbers(made, {}, "s.txt"), made)
+        with self.assertRaisesRegex(Fault, "s.txt line 12: no device is called rof"):
+            by_numbers("run 1\nleave rof\n", names, "s.txt", 11)
 
     def test_lines_of_another_network(self) -> None:
         for line in ("set 9 src true", "leave 9", "unlink 0 2", "join 7 true", "set 0 src yes"):

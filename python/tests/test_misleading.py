@@ -132,6 +132,38 @@ class Files(InFolder):
         self.assertNotIn("Devices have their numbers", done.errors)
 
     @needs_fc
+    def test_names_in_scripts_beside_a_file_of_names(self) -> None:
+        files = self.file(HOPS, "hops.fc"), self.file(LINE, "line.json")
+        names = ("--names", self.file("id,name\n0,gate\n2,mill\n", "names.csv"))
+        script = self.file("set mill src true\nunlink 1 mill\nmix 22 link gate mill 1\nshow\n", "script.txt")
+        done = fieldc("run", *files, script, *names)
+        self.assertEqual((done.status, done.output), (0, "yes 22\n@4\ngate 0\n1 1\nmill 0\n"), done.errors)
+        both = self.file(f"{LINE}%%\nset roof src true\n", "both.txt")
+        done = fieldc("run", files[0], both, *names)
+        self.assertEqual((done.status, done.output), (3, ""))
+        self.assertIn("both.txt line 3: no device is called roof", done.errors)
+
+    @needs_fc
+    def test_values_that_are_devices_have_their_names(self) -> None:
+        program = "ceiling 10; input src: bool; main = (mux(sense src, 7, uid), (uid, sense src));"
+        files = self.file(program, "own.fc"), self.file(LINE, "line.json")
+        names = ("--names", self.file("id,name\n0,gate\n2,mill\n", "names.csv"))
+        for words, wanted in (
+            (("stable", "--kinds", "all"), "gate (7,(gate,true))\n1 (1,(1,false))\nmill (mill,(mill,false))\n"),
+            (("stable", "--kinds", "2"), "gate (7,(gate,true))\n1 (1,(1,false))\nmill (2,(mill,false))\n"),
+            (("settle", "--kinds", "1,2"), "gate 1 (7,(gate,true))\n1 1 (1,(1,false))\nmill 1 (mill,(mill,false))\n"),
+            (("stable", "--kinds", "2", "--csv"), "0,gate,7,gate,true\n1,,1,1,false\n2,mill,2,mill,false\n"),
+        ):
+            done = fieldc(words[0], *files, *words[1:], *names)
+            self.assertEqual((done.status, done.output.endswith(wanted)), (0, True), done.output)
+        told = json.loads(fieldc("stable", *files, "--kinds", "2", "--json", *names).output)
+        self.assertEqual([one["value"][1][0] for one in told["devices"]], ["gate", 1, "mill"])
+        for more, says in (((), "give --names too"), ((*names, "--kinds", "4"), "a value has 3")):
+            done = fieldc("stable", *files, "--kinds", "all", *more)
+            self.assertEqual((done.status, done.output), (2, ""))
+            self.assertIn(says, done.errors)
+
+    @needs_fc
     def test_a_file_that_is_missing_is_named(self) -> None:
         program, scene = self.file(HOPS, "hops.fc"), self.file(LINE, "line.json")
         for command, files, says in (

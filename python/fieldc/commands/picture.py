@@ -8,7 +8,7 @@ from dataclasses import replace
 from pathlib import Path
 
 from .. import program as fc
-from ..asking import tell, why_no
+from ..asking import numbered, tell, why_no
 from ..drawing import draw, pyplot_ready
 from ..files import names_from, positions_for
 from ..moves import positions_by_time
@@ -72,10 +72,9 @@ def perform(options: argparse.Namespace) -> int:
     pyplot_ready()
     if options.values == "-" and "-" in options.files:
         raise Fault("standard input can be read once: name it by one -")
-    parts = parted(options.files)
-    network = replace(
-        read_scene(parts[1].text, parts[1].name), names=names_from(options.names) if options.names else {}
-    )
+    names = names_from(options.names) if options.names else {}
+    parts = tuple(numbered(part, names) for part in parted(options.files))
+    network = replace(read_scene(parts[1].text, parts[1].name), names=names)
     answer = read(options.values) if options.values else asked(options.of, parts) if options.of else None
     program, lines = (parts[0].text or None), (parts[2].text if len(parts) > 2 else None)
     picture = check_marks(gathered(program, network, lines, answer), options.mark)

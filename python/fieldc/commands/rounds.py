@@ -7,6 +7,7 @@ import argparse
 from collections.abc import Sequence
 
 from .. import behind, rounds
+from ..asking import numbered
 from ..drawing import pyplot_ready
 from ..files import names_from
 from ..progress import Progress
@@ -25,7 +26,7 @@ With a script it runs that, and draws for each group of edits the settle time fr
 rounds until the next edit. It writes LINE BEFORE R ROUNDS LATE: the line of the first edit, the rounds that had run,
 the settle time (- where it is open), the rounds until the next edit, and how many devices don't hold their value
 then."""
-NOT_OF_SCRIPTS = {"number": "--number", "rounds": "--rounds", "csv": "--csv", "names": "--names"}
+NOT_OF_SCRIPTS = {"number": "--number", "rounds": "--rounds", "csv": "--csv"}
 
 
 def arguments(parser: argparse.ArgumentParser) -> None:
@@ -48,7 +49,7 @@ def arguments(parser: argparse.ArgumentParser) -> None:
     parser.add_argument("--workers", metavar="W", type=int, default=4, help="threads that fire devices in each run (4)")
     parser.add_argument("--title", default="", help="a line above the picture")
     parser.add_argument("--csv", metavar="FILE", help="writes there what each device holds after each round")
-    parser.add_argument("--names", metavar="FILE", help="a file of lines id,name: names of devices for --csv")
+    parser.add_argument("--names", metavar="FILE", help="a file of lines id,name: devices in --csv and in a script")
 
 
 def perform(options: argparse.Namespace) -> int:
@@ -61,7 +62,7 @@ def perform(options: argparse.Namespace) -> int:
     if len(parts) not in (2, 3):
         raise Fault(f"{len(parts)} sections: PROGRAM NETWORK and, to draw how far behind it is, SCRIPT")
     if len(parts) == 3:
-        return perform_script(options, parts)
+        return perform_script(options, tuple(numbered(part, names) for part in parts))
     program, network = parts[0].text, parts[1].text
     numbers = list(dict.fromkeys(options.number or [1]))
     with Progress(lambda: "fc check --settle") as waiting:
