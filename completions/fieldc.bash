@@ -105,14 +105,14 @@ _fieldc_words() {
         stable) files=yes words="--no-cut-check --json --csv --names --kinds -h --help" ;;
         trace) files=yes words="--no-cut-check --json --csv --names --kinds -h --help" ;;
         run) files=yes words="--workers --log --table --no-cut-check --json --csv --names --kinds -h --help" ;;
-        replay) files=yes words="--rounds --table --json --csv --names --kinds -h --help" ;;
-        mail) files=yes words="--number --json --csv --names --kinds -h --help" ;;
+        replay) files=yes words="--rounds --table --no-cut-check --json --csv --names --kinds -h --help" ;;
+        mail) files=yes words="--number --no-cut-check --json --csv --names --kinds -h --help" ;;
         gen) words="--devices --workers --json -h --help" ;;
         format) files=yes words="--json -h --help" ;;
         compose) files=yes words="--network --library --no-cut-check --unjudged -o --output --list --show -h --help" ;;
         network) words="--line --ring --grid --torus --disk --points --edges --scene --moves -o --output --every --run --gone-after --range --scale --side --seed --undirected --weight --metric --unit --round --max-degree --set --inputs --program --table --positions --names -h --help" ;;
-        picture) files=yes words="-o --output --values --of --show --page --positions --names --numbers --mark --kinds --arrows --title -h --help" ;;
-        rounds) files=yes words="-o --output --number --rounds --workers --title --csv --names -h --help" ;;
+        picture) files=yes words="-o --output --values --of --show --page --positions --names --numbers --mark --kinds --arrows --title --no-cut-check -h --help" ;;
+        rounds) files=yes words="-o --output --number --rounds --workers --title --csv --names --no-cut-check -h --help" ;;
         sweep) words="--line --ring --grid --torus --disk --points --edges --range --side --density --jitter --fail --weight --metric --unit --max-degree --set --count --seed --values -o --output --report --title --workers --scheduler --no-cut-check --again --positions -h --help" ;;
         firmware) words="--name --neighbours -o --output --cost --layout --network --library --unjudged -h --help" ;;
     esac

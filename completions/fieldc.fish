@@ -71,6 +71,7 @@ complete -c fieldc -n '__fish_seen_subcommand_from run' -s h -l help -d 'tells o
 # replay
 complete -c fieldc -n '__fish_seen_subcommand_from replay' -l rounds -d 'adds how many rounds the log has after its last edit'
 complete -c fieldc -n '__fish_seen_subcommand_from replay' -l table -d 'adds the table of what the devices have published'
+complete -c fieldc -n '__fish_seen_subcommand_from replay' -l no-cut-check -d 'doesn\'t ask fc once more, with a greater ceiling, whether values are cut'
 complete -c fieldc -n '__fish_seen_subcommand_from replay' -l json -d 'writes the answer, and a refusal, as JSON'
 complete -c fieldc -n '__fish_seen_subcommand_from replay' -l csv -d 'writes the values alone, as a table with a row a device'
 complete -c fieldc -n '__fish_seen_subcommand_from replay' -l names -r -F -d 'a file of lines id,name: devices are called by these names'
@@ -79,6 +80,7 @@ complete -c fieldc -n '__fish_seen_subcommand_from replay' -s h -l help -d 'tell
 
 # mail
 complete -c fieldc -n '__fish_seen_subcommand_from mail' -l number -x -d 'makes the log from this number; then no LOG is given'
+complete -c fieldc -n '__fish_seen_subcommand_from mail' -l no-cut-check -d 'doesn\'t ask fc once more, with a greater ceiling, whether values are cut'
 complete -c fieldc -n '__fish_seen_subcommand_from mail' -l json -d 'writes the answer, and a refusal, as JSON'
 complete -c fieldc -n '__fish_seen_subcommand_from mail' -l csv -d 'writes the values alone, as a table with a row a device'
 complete -c fieldc -n '__fish_seen_subcommand_from mail' -l names -r -F -d 'a file of lines id,name: devices are called by these names'
@@ -152,6 +154,7 @@ complete -c fieldc -n '__fish_seen_subcommand_from picture' -l mark -x -d 'marks
 complete -c fieldc -n '__fish_seen_subcommand_from picture' -l kinds -x -d 'numbers are names, and no amounts: in all parts of the values, or 2, or 1,3'
 complete -c fieldc -n '__fish_seen_subcommand_from picture' -l arrows -d 'arrows to the neighbour whose number a device holds'
 complete -c fieldc -n '__fish_seen_subcommand_from picture' -l title -x -d 'a line above the picture'
+complete -c fieldc -n '__fish_seen_subcommand_from picture' -l no-cut-check -d 'doesn\'t ask fc once more, with a greater ceiling, whether values are cut'
 complete -c fieldc -n '__fish_seen_subcommand_from picture' -s h -l help -d 'tells of the command'
 
 # rounds
@@ -162,6 +165,7 @@ complete -c fieldc -n '__fish_seen_subcommand_from rounds' -l workers -x -d 'thr
 complete -c fieldc -n '__fish_seen_subcommand_from rounds' -l title -x -d 'a line above the picture'
 complete -c fieldc -n '__fish_seen_subcommand_from rounds' -l csv -r -F -d 'writes there what each device holds after each round'
 complete -c fieldc -n '__fish_seen_subcommand_from rounds' -l names -r -F -d 'a file of lines id,name: devices in --csv and in a script'
+complete -c fieldc -n '__fish_seen_subcommand_from rounds' -l no-cut-check -d 'doesn\'t ask fc once more, with a greater ceiling, whether values are cut'
 complete -c fieldc -n '__fish_seen_subcommand_from rounds' -s h -l help -d 'tells of the command'
 
 # sweep

@@ -14,8 +14,9 @@ What `fc` refuses is raised as a `Refusal`, whose `explanation` has the place, a
 
 from __future__ import annotations
 
+from .cuts import Cut, Untold
 from .errors import Error
-from .library import check, compose, format, generate, mail, replay, run, settle, stable, trace
+from .library import check, compose, cut, format, generate, mail, replay, run, settle, stable, trace
 from .networks import Network, from_graph, read_scene
 from .plots import draw
 from .refusals import Call, Explanation, Fault, Refusal, Section
@@ -38,6 +39,7 @@ from .version import VERSION as __version__
 __all__ = [
     "Call",
     "Checked",
+    "Cut",
     "Error",
     "Explanation",
     "Fact",
@@ -53,10 +55,12 @@ __all__ = [
     "Show",
     "Stable",
     "Traced",
+    "Untold",
     "Verdict",
     "__version__",
     "check",
     "compose",
+    "cut",
     "draw",
     "format",
     "from_graph",

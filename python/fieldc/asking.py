@@ -100,7 +100,7 @@ def ask(
 
 
 def cut_warnings(
-    options: argparse.Namespace, call: Call, result: results.Result | str, *, names: Mapping[int, str], took: float
+    options: argparse.Namespace, call: Call, result: results.Result | str, names: Mapping[int, str], took: float
 ) -> tuple[Explanation, ...]:
     """What the ceiling cuts of values that took so many seconds, where the command looks for it and `fc` is built."""
     if getattr(options, "no_cut_check", True) or not fc.built():

@@ -10,6 +10,7 @@ from __future__ import annotations
 import time
 from collections.abc import Callable, Mapping
 from dataclasses import dataclass, field, replace
+from typing import Union
 
 from . import program as fc
 from . import results
@@ -25,6 +26,10 @@ MOST_PAIRS, MOST_CALLED = 3, 8
 MOST_NETWORKS = 4
 PAGE = "docs/fieldc.md#values-that-the-ceiling-cuts"
 OPTION = "--no-cut-check"
+WithValues = Union[results.Settled, results.Traced, results.Stable, results.Replayed, results.Mailed]
+VALUES_OF: Mapping[str, Callable[[str], WithValues]] = {
+    "stable": results.stable, "check": results.settled, "replay": results.replayed, "mail": results.mailed,
+}  # fmt: skip
 
 
 class Late(Exception):
@@ -58,13 +63,15 @@ class Untold:
 class Question:
     """What values a program has on a network with one ceiling or another; each ceiling is asked once.
 
-    `by_bounds` are the words that are asked in place of `stable`, where the verdict is a no. What takes more than
-    `seconds` in all is given up, and `waiting` is called now and then.
+    `words` are those that are asked: `check --settle` where the verdict is a no, and `replay` or `mail` where the
+    values are those after a `log`. What takes more than `seconds` in all is given up, and `waiting` is called now and
+    then.
     """
 
     program: Section
     network: Section
-    by_bounds: tuple[str, ...] = ()
+    words: tuple[str, ...] = ("stable",)
+    log: Section | None = None
     seconds: float = SECONDS
     waiting: Callable[[], None] | None = None
     known: dict[int, Values] = field(default_factory=dict)
@@ -74,14 +81,14 @@ class Question:
         """The values with a ceiling. Raises Late, Refusal, and Fault where `fc` answers as it never does."""
         if ceiling not in self.known:
             program = replace(self.program, text=with_ceiling(self.program.text, ceiling))
-            reply = fc.answered(Call(self.by_bounds or ("stable",), (program, self.network)), self._tick)
-            read = results.settled(reply.text).values if self.by_bounds else results.stable(reply.text).values
-            self.known[ceiling] = read
+            sections = (program, self.network) + ((self.log,) if self.log is not None else ())
+            reply = fc.answered(Call(self.words, sections), self._tick)
+            self.known[ceiling] = VALUES_OF[self.words[0]](reply.text).values
         return self.known[ceiling]
 
     def above(self, ceiling: int) -> int:
         """The ceiling with which that one is compared."""
-        return min(2 * ceiling, GREATEST_NUMBER) if self.by_bounds else GREATEST_NUMBER
+        return min(2 * ceiling, GREATEST_NUMBER) if "--settle" in self.words else GREATEST_NUMBER
 
     def _tick(self) -> None:
         if self.waiting is not None:
@@ -215,12 +222,14 @@ def warned(
 ) -> tuple[Explanation, ...]:
     """What the ceiling cuts of the values of a result that took so many seconds; nothing where no cut is seen.
 
-    Of a run it is the values to which its program settles on the networks of its last shows.
+    Of a run it is the values to which its program settles on the networks of its last shows; of a log those after it.
     """
-    if not isinstance(result, (results.Settled, results.Traced, results.Stable, results.Ran)):
+    if isinstance(result, (str, results.Checked, results.Generated)):
         return ()
-    program, network = call.sections[:2]
-    question = Question(program, network, by_bounds(call, result.verdict), SECONDS + TIMES * took, waiting)
+    program, network, *log = call.sections
+    words = words_of(call, result)
+    after = log[0] if words[0] in ("replay", "mail") else None
+    question = Question(program, network, words, after, SECONDS + TIMES * took, waiting)
     if isinstance(result, results.Ran):
         for line, scene in networks_shown(result, call):
             found = cut_of(replace(question, network=replace(network, text=scene), known={}))
@@ -232,13 +241,15 @@ def warned(
         return ()
     question.known[int(number.text)] = result.values
     found = cut_of(question)
-    return () if found is None else (told(found, program, names),)
+    return () if found is None else (told(found, program, names, "by this log" if after is not None else "here"),)
 
 
-def by_bounds(call: Call, verdict: results.Verdict | None) -> tuple[str, ...]:
-    """The words that are asked in place of `stable`: none with a yes."""
-    if verdict is None or verdict.stabilises:
-        return ()
+def words_of(call: Call, result: WithValues | results.Ran) -> tuple[str, ...]:
+    """The words that are asked of a result: `stable` where its values are those of the one field."""
+    if isinstance(result, (results.Replayed, results.Mailed)):
+        return ("stable",) if "--number" in call.words else call.words[:1]
+    if result.verdict is None or result.verdict.stabilises:
+        return ("stable",)
     return ("check", "--settle") + ("--from-table",) * ("--from-table" in call.words)
 
 
@@ -258,7 +269,7 @@ def in_program(
 
     Nothing is said where `fc` refuses the network.
     """
-    words = () if stabilises else ("check", "--settle")
+    words = ("stable",) if stabilises else ("check", "--settle")
     try:
         found = cut_of(Question(replace(program, text=made), Section("network", "", 1, network), words))
     except Refusal:

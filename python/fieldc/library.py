@@ -7,7 +7,7 @@ from dataclasses import replace
 from pathlib import Path
 from typing import TypeVar, Union
 
-from . import composing, results
+from . import composing, cuts, results
 from . import program as fc
 from .answers import Answer, Origin
 from .blocks import own_library, read_library
@@ -141,6 +141,18 @@ def settle(
     words = ["check", *flags(facts=facts), "--settle", *flags(from_table=from_table is not False)]
     found = results.settled(_answer(words, program=text, network=asked.scene), from_table is not False)
     return about(found, text, asked)
+
+
+def cut(
+    program: Program, network: Networks, *, weight: Weight = "weight", inputs: Inputs | None = None
+) -> cuts.Cut | cuts.Untold | None:
+    """What the ceiling of a program cuts of the values that `stable` has, or with a no `settle`; nothing where nothing
+    is seen of it, and `Untold` where it can't be told. Raises Refusal."""
+    text = text_of_program(program)
+    asked = given(network, text, weight, inputs)
+    words = ("stable",) if check(text, network, weight=weight, inputs=inputs) else ("check", "--settle")
+    own, scene = call_of(words, program=text, network=asked.scene).sections
+    return cuts.cut_of(cuts.Question(own, scene, words))
 
 
 def with_table(asked: Given, table: Mapping[str, Json]) -> Given:

@@ -8,7 +8,7 @@ import unittest
 from helping import HOPS, LINE, fieldc, needs_fc
 from test_files import InFolder
 
-from fieldc import cuts, networks as network, results
+from fieldc import cuts, library, networks as network, results
 from fieldc.refusals import Section
 
 SUM = "ceiling {}; input load: int 0..20; main = sumHood(nbr{{sense load}});\n"
@@ -57,12 +57,12 @@ class Search(unittest.TestCase):
         return Known(program, Section("network", "n", 1, ""), words)
 
     def test_the_least_that_is_enough_is_found_with_few_questions(self) -> None:
-        for words in ((), ("check", "--settle")):
+        for words in (("stable",), ("check", "--settle")):
             asked = self.question(1000, *words)
-            wanted = cuts.Cut(1000, {0: (1000, 2_881 if not words else 2000)}, 2, 2_881, True)
+            wanted = cuts.Cut(1000, {0: (1000, 2_881 if len(words) == 1 else 2000)}, 2, 2_881, True)
             self.assertEqual(cuts.cut_of(asked), wanted)
             self.assertLess(len(asked.known), 20)
-            self.assertEqual(max(asked.known), 1_000_000 if not words else 8_000)
+            self.assertEqual(max(asked.known), 1_000_000 if len(words) == 1 else 8_000)
             self.assertIsNone(cuts.cut_of(self.question(2_881, *words)))
 
     def test_at_the_greatest_ceiling(self) -> None:
@@ -71,6 +71,25 @@ class Search(unittest.TestCase):
 
 @needs_fc
 class Commands(InFolder):
+    def test_logs_pictures_and_the_library(self) -> None:
+        files = self.file(SUM.format(20), "sum.fc"), self.file(STAR, "star.json")
+        log = self.file("B1\nE1\nB2\nE2\nB3\nE3\nB0\nE0\n", "log.txt")
+        sent = self.file("B1\nE1\nB2\nE2\ndeliver 1 0\ndeliver 2 0\nB0\nE0\n", "mail.txt")
+        for words, where in (
+            (("replay", *files, log), "by this log"),
+            (("mail", *files, sent), "by this log"),
+            (("mail", *files, "--number", 3), "here"),
+            (("picture", *files, "--of", "stable", "-o", self.folder / "x.png"), "here"),
+            (("rounds", *files, "-o", self.folder / "x.png"), "here"),
+        ):
+            done = fieldc(*words)
+            self.assertEqual(done.status, 0, done.errors)
+            self.assertIn(f"sum.fc:1:9: The ceiling 20 cuts what is computed {where}: with a greater one", done.errors)
+            self.assertNotIn("warning", fieldc(*words, "--no-cut-check").errors)
+        found = library.cut(SUM.format(20), STAR)
+        self.assertEqual(found, cuts.Cut(20, {0: (20, 60)}, 4, 60, True))
+        self.assertIsNone(library.cut(SUM.format(60), STAR))
+
     def test_a_sum_that_is_cut(self) -> None:
         scene = self.file(STAR, "star.json")
         for ceiling, enough in ((20, 60), (59, 60)):

@@ -5,7 +5,7 @@ from __future__ import annotations
 import argparse
 
 from .. import results
-from ..asking import add_answers, add_files, ask
+from ..asking import add_answers, add_cut_check, add_files, ask
 
 SUMMARY = "goes through a log of messages, which links lose, repeat and deliver late, or makes one from a number"
 
@@ -13,6 +13,7 @@ SUMMARY = "goes through a log of messages, which links lose, repeat and deliver 
 def arguments(parser: argparse.ArgumentParser) -> None:
     add_files(parser, ("program", "network", "log"))
     parser.add_argument("--number", metavar="N", type=int, help="makes the log from this number; then no LOG is given")
+    add_cut_check(parser)
     add_answers(parser, values=True)
 
 

@@ -3,12 +3,13 @@
 from __future__ import annotations
 
 import argparse
-from collections.abc import Sequence
+import time
+from collections.abc import Callable, Mapping, Sequence
 from dataclasses import replace
 from pathlib import Path
 
-from .. import program as fc
-from ..asking import numbered, tell, why_no
+from .. import program as fc, results
+from ..asking import add_cut_check, cut_warnings, numbered, tell, understood, why_no
 from ..drawing import draw, pyplot_ready
 from ..files import names_from, positions_for
 from ..moves import positions_by_time
@@ -26,14 +27,14 @@ Example: fieldc picture hops.fc net.json --of stable --positions points.csv -o h
 The files are a program and a network; for a run its script too, and for a replay its log, since each show is drawn on
 the network as it is then. A network alone is drawn without values. What fc wrote is read by --values, or asked for
 by --of."""
-OF = {
-    "stable": ("stable",),
-    "settle": ("check", "--settle"),
-    "from-table": ("check", "--settle", "--from-table"),
-    "trace": ("trace",),
-    "run": ("run",),
-    "replay": ("replay",),
-    "mail": ("mail",),
+OF: dict[str, tuple[tuple[str, ...], Callable[[str], results.Result]]] = {
+    "stable": (("stable",), results.stable),
+    "settle": (("check", "--settle"), results.settled),
+    "from-table": (("check", "--settle", "--from-table"), results.settled),
+    "trace": (("trace",), results.traced),
+    "run": (("run",), results.ran),
+    "replay": (("replay",), results.replayed),
+    "mail": (("mail",), results.mailed),
 }
 WITH_LINES = ("run", "replay", "mail")
 KINDS = ("program", "network", "script")
@@ -64,6 +65,7 @@ def arguments(parser: argparse.ArgumentParser) -> None:
     )
     parser.add_argument("--arrows", action="store_true", help="arrows to the neighbour whose number a device holds")
     parser.add_argument("--title", default="", help="a line above the picture")
+    add_cut_check(parser)
 
 
 def perform(options: argparse.Namespace) -> int:
@@ -75,7 +77,7 @@ def perform(options: argparse.Namespace) -> int:
     names = names_from(options.names) if options.names else {}
     parts = tuple(numbered(part, names) for part in parted(options.files))
     network = replace(read_scene(parts[1].text, parts[1].name), names=names)
-    answer = read(options.values) if options.values else asked(options.of, parts) if options.of else None
+    answer = read(options.values) if options.values else asked(options, parts, names) if options.of else None
     program, lines = (parts[0].text or None), (parts[2].text if len(parts) > 2 else None)
     picture = check_marks(gathered(program, network, lines, answer), options.mark)
     picture = check_arrows(check_kinds(picture, options.kinds, network.names), options.arrows)
@@ -99,16 +101,20 @@ def parted(names: Sequence[str]) -> tuple[Section, ...]:
     return parts
 
 
-def asked(of: str, parts: Sequence[Section]) -> str:
+def asked(options: argparse.Namespace, parts: Sequence[Section], names: Mapping[int, str]) -> str:
     """What `fc` writes of the sections. Raises Refusal where it refuses them."""
+    of = options.of
     if (len(parts) > 2) < (of in WITH_LINES):
         raise Fault(f"--of {of}: the files have no {'script' if of == 'run' else 'log'}")
     if not parts[0].text:
         raise Fault(f"--of {of}: a network alone has no values: give the program before it")
-    call = Call(OF[of], tuple(parts if of in WITH_LINES else parts[:2]))
+    words, reader = OF[of]
+    call, start = Call(words, tuple(parts if of in WITH_LINES else parts[:2])), time.monotonic()
     with Progress(lambda: described(call)) as waiting:
         reply = fc.answered(call, waiting)
-    tell(why_no(call, reply.text) if reply.status == 1 else None)
+    took = time.monotonic() - start
+    result = understood(lambda text, _: reader(text), reply.text, call)
+    tell(why_no(call, reply.text) if reply.status == 1 else None, cut_warnings(options, call, result, names, took))
     return reply.text
 
 

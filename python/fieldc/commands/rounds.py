@@ -6,12 +6,12 @@ from __future__ import annotations
 import argparse
 from collections.abc import Sequence
 
-from .. import behind, rounds
-from ..asking import numbered
+from .. import behind, results, rounds
+from ..asking import add_cut_check, cut_warnings, numbered, tell
 from ..drawing import pyplot_ready
 from ..files import names_from
 from ..progress import Progress
-from ..refusals import Fault, Section
+from ..refusals import Call, Fault, Section
 from ..sections import PICTURES, sections, writable, write
 from ..tables import table_of_rounds
 
@@ -50,6 +50,7 @@ def arguments(parser: argparse.ArgumentParser) -> None:
     parser.add_argument("--title", default="", help="a line above the picture")
     parser.add_argument("--csv", metavar="FILE", help="writes there what each device holds after each round")
     parser.add_argument("--names", metavar="FILE", help="a file of lines id,name: devices in --csv and in a script")
+    add_cut_check(parser)
 
 
 def perform(options: argparse.Namespace) -> int:
@@ -67,6 +68,8 @@ def perform(options: argparse.Namespace) -> int:
     numbers = list(dict.fromkeys(options.number or [1]))
     with Progress(lambda: "fc check --settle") as waiting:
         promise = rounds.promised(program, network, waiting)
+    promised = results.Stable(promise.values, promise.verdict)
+    tell(None, cut_warnings(options, Call(("check", "--settle"), parts), promised, names, 0.0))
     count = promise.time if options.rounds is None else options.rounds
     what = f"{len(numbers)} runs of {count:,} rounds on {len(promise.values):,} devices"
     with Progress(lambda: what) as waiting:
@@ -87,9 +90,10 @@ def perform_script(options: argparse.Namespace, parts: Sequence[Section]) -> int
     for name, option in NOT_OF_SCRIPTS.items():
         if getattr(options, name) is not None:
             raise Fault(f"{option} isn't taken beside a script, which says itself what happens")
-    network, lines = behind.judged(*parts)
+    network, lines, judged = behind.judged(*parts)
     with Progress(lambda: f"runs the script on {len(network.devices):,} devices") as waiting:
         found = behind.stretches(parts[0].text, network, lines, options.workers, waiting)
+    tell(None, cut_warnings(options, Call(("run",), tuple(parts)), judged, network.names, 0.0))
     behind.draw(found, options.output, options.title)
     for one in found:
         words = (one.line, one.before, "-" if one.time is None else one.time, one.rounds, one.late)
