@@ -11,6 +11,11 @@ KEPT = "Nothing is assigned: what a device keeps from firing to firing is kept b
 LEAST = "The least over the neighbours is `minHoodLoc(f, l)`: of a field, and of a value of the device itself."
 GREATEST = "The greatest over the neighbours is `maxHoodLoc(f, l)`: of a field, and of a value of the device itself."
 FOLDS = "Over the neighbours there are `minHoodLoc`, `maxHoodLoc`, `sumHood`, `anyHood` and `allHood`, and no others."
+MEAN = (
+    "The mean of a number over the neighbours and the device itself is "
+    "`div(a + sumHood(nbr{a}), 1 + sumHood(nbr{1}))`; over the whole network it is the block `mean(sink, far, value)`, "
+    "over regions `regionMean(leader, far, value)`. `fieldc compose` puts blocks in front."
+)
 FUNCTION = "A function is declared by `def f(x: int): int = x + 1;`."
 WEIGHT = "The weight of the link to each neighbour is `nbrLink`."
 NUMBERS = "The number of the device is `uid`."
@@ -55,7 +60,11 @@ HINTS = {
     "foldHood": FOLDS,
     "foldHoodPlus": FOLDS,
     "unionHood": FOLDS,
-    "meanHood": FOLDS,
+    "meanHood": MEAN,
+    "avgHood": MEAN,
+    "averageHood": MEAN,
+    "avg": MEAN,
+    "average": MEAN,
     "everyHood": "Whether it is true of all neighbours is `allHood(f)`.",
     "countHood": "The number of neighbours is `sumHood(nbr{1})`.",
     "nbrRange": WEIGHT,

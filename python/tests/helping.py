@@ -4,6 +4,7 @@ from __future__ import annotations
 
 import importlib.util
 import os
+import resource
 import shutil
 import subprocess
 import sys
@@ -18,6 +19,7 @@ HERE = Path(__file__).resolve().parent
 TOP = HERE.parent.parent
 EXAMPLES = TOP / "examples"
 BUILT = TOP / "crates/fc_program/out/fc_program"
+FIXED_WORK = "sum(number * number % 7 for number in range(10_000_000))"
 BROWSERS = ("chromium", "chromium-browser", "google-chrome")
 
 sys.path.insert(0, str(TOP / "python"))
@@ -82,6 +84,20 @@ def fieldc(
     )  # fmt: skip
     errors = done.stderr.decode("utf-8", "replace")
     return Done(done.returncode, done.stdout.decode("utf-8", "surrogateescape"), errors)
+
+
+def used(work: Callable[[], object]) -> float:
+    """The seconds of a processor that the processes take that some work starts and ends."""
+    before = resource.getrusage(resource.RUSAGE_CHILDREN)
+    work()
+    after = resource.getrusage(resource.RUSAGE_CHILDREN)
+    return after.ru_utime + after.ru_stime - before.ru_utime - before.ru_stime
+
+
+def fixed_work() -> float:
+    """The seconds of a processor that a fixed piece of work takes now: about one where nothing else runs, and more on a
+    busy machine, as what is compared with it."""
+    return used(lambda: subprocess.run([sys.executable, "-c", FIXED_WORK], check=True))
 
 
 def sections_of(name: str) -> list[str]:

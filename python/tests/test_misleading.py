@@ -10,7 +10,7 @@ import time
 import unittest
 from pathlib import Path
 
-from helping import HOPS, LINE, TOP, fieldc, needs, needs_fc
+from helping import HOPS, LINE, TOP, Done, fieldc, fixed_work, needs, needs_fc, used
 from test_files import InFolder
 
 from fieldc import Fault, networks
@@ -37,6 +37,9 @@ class Programs(InFolder):
         said = self.composed("ceiling 9; main = mid();")
         self.assertIn("no block is called mid. The number of the device is `uid`.", said)
         self.assertIn("no block is called hopz; the nearest: hops", self.composed("ceiling 9; main = hopz(true, 3);"))
+        said = self.composed("ceiling 9; main = avgHood(nbr{1});")
+        self.assertIn("`div(a + sumHood(nbr{a}), 1 + sumHood(nbr{1}))`; over the whole network", said)
+        self.assertIn("the block `mean(sink, far, value)`", said)
 
     @needs_fc
     def test_division_has_a_block(self) -> None:
@@ -103,12 +106,13 @@ class Networks(InFolder):
         self.assertIn("there is no device roof; the devices are called mill, weir", done.errors)
 
     def test_limits_before_work(self) -> None:
+        unit = fixed_work()
         for words in (("--line", 50_000_000), ("--ring", 2_000), ("--grid", "100000x100000"), ("--torus", "40x40")):
-            start = time.process_time()
-            done = fieldc("network", *words, seconds=60)
-            self.assertEqual((done.status, done.output), (4, ""), words)
-            self.assertIn("devices, and fc takes 1 to 1,024", done.errors)
-            self.assertLess(time.process_time() - start, 5)
+            done: list[Done] = []
+            took = used(lambda: done.append(fieldc("network", *words)))
+            self.assertEqual((done[0].status, done[0].output), (4, ""), words)
+            self.assertIn("devices, and fc takes 1 to 1,024", done[0].errors)
+            self.assertLess(took / unit, 5, f"{took:.1f} s, and {unit:.1f} s for the fixed work")
 
 
 class Files(InFolder):

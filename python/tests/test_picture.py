@@ -7,14 +7,13 @@ from __future__ import annotations
 import json
 import random
 import re
-import resource
 import subprocess
-import sys
 import unittest
-from collections.abc import Callable
 from pathlib import Path
 
-from helping import EXAMPLES, HOPS, LINE, Done, browser, expected, fieldc, needs, needs_browser, sections_of
+from helping import (
+    EXAMPLES, HOPS, LINE, Done, browser, expected, fieldc, fixed_work, needs, needs_browser, sections_of, used,
+)  # fmt: skip
 from test_files import InFolder
 
 from fieldc import Fault, layout, networks as network, read_scene
@@ -26,16 +25,6 @@ from fieldc.picture import at_places, check_marks, gathered, latest
 FIELD = EXAMPLES / "sensor_field.txt"
 CROWD = EXAMPLES / "crowd_run.txt"
 SETTLE = EXAMPLES / "crowd_settle.txt"
-# About a second of a processor where nothing else runs: a busy machine takes longer for it, as for a picture.
-FIXED_WORK = "sum(number * number % 7 for number in range(10_000_000))"
-
-
-def used(work: Callable[[], object]) -> float:
-    """The seconds of a processor that the processes take that some work starts and ends."""
-    before = resource.getrusage(resource.RUSAGE_CHILDREN)
-    work()
-    after = resource.getrusage(resource.RUSAGE_CHILDREN)
-    return after.ru_utime + after.ru_stime - before.ru_utime - before.ru_stime
 
 
 class Gathered(unittest.TestCase):
@@ -422,7 +411,7 @@ class Command(InFolder):
         asked: tuple[tuple[list[str], int], ...] = ((["--positions", "at.csv"], 6), ([], 24))
         for more, most in asked:
             for name in ("crowd.png", "crowd.html"):
-                unit = used(lambda: subprocess.run([sys.executable, "-c", FIXED_WORK], check=True))
+                unit = fixed_work()
                 done: list[Done] = []
                 took = used(lambda: done.append(self.picture(*words, *more, "-o", name)))
                 self.assertEqual(done[0].status, 0)

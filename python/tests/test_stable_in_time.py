@@ -1,18 +1,17 @@
-"""`fc stable` answers in time where its guess could be wrong: each program on 1,024 devices within seconds, and on
-twelve devices with the values of a run from rubbish."""
+"""`fc stable` answers in time where its guess could be wrong: each program on 1,024 devices within some times a fixed
+piece of work in the same run, and on twelve devices with the values of a run from rubbish."""
 
 from __future__ import annotations
 
 import json
 import os
 import subprocess
-import time
 import unittest
 
-from helping import needs_fc
+from helping import fixed_work, needs_fc, used
 
-# No answer takes a second where nothing else runs; a slow corner takes minutes or hours.
-MOST_SECONDS = 10.0
+# No answer takes as long as the fixed work; a slow corner takes minutes or hours.
+MOST_TIMES = 10
 SOURCE = "mux(sense src, 0, {c})"
 PROGRAMS = {
     "a first value that never rests": "main = rep(rep(0){(y) => 1 - y}){(d) => minHoodLoc(nbr{d} + 1, {c})};",
@@ -61,9 +60,9 @@ class StableInTime(unittest.TestCase):
     def test_each_is_answered_in_time(self) -> None:
         for name, program in PROGRAMS.items():
             with self.subTest(name):
-                start = time.monotonic()
-                self.ask(text_of(program, 1_000_000 if "never rests" in name else 4000), line(1024))
-                self.assertLess(time.monotonic() - start, MOST_SECONDS)
+                text = text_of(program, 1_000_000 if "never rests" in name else 4000)
+                unit, took = fixed_work(), used(lambda: self.ask(text, line(1024)))
+                self.assertLess(took / unit, MOST_TIMES, f"{took:.1f} s, and {unit:.1f} s for the fixed work")
 
     def test_each_has_the_values_of_a_run(self) -> None:
         for name, program in PROGRAMS.items():
