@@ -121,7 +121,8 @@ def numbered(section: Section, names: Mapping[int, str]) -> Section:
     """A section; a script or log with the numbers of its devices in the place of names. Raises Fault."""
     if section.kind not in ("script", "log") or not names:
         return section
-    return replace(section, text=by_numbers(section.text, names, section.name, section.first_line))
+    text = by_numbers(section.text, names, section.name, section.first_line)
+    return replace(section, text=text, typed=section.text)
 
 
 def named(text: str, names: Mapping[int, str], command: str, kinds: Kinds | None = None) -> str:

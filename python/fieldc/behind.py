@@ -66,21 +66,20 @@ def parts_of(script: str) -> list[Part]:
     return found if found[0].rounds else found[1:]
 
 
-def judged(program: Section, network: Section, script: Section) -> tuple[Network, list[Part], results.Ran]:
-    """The network and the parts of a script that `fc` takes, and a run of it with few rounds. Raises Fault where it has
-    no rounds, and Refusal.
+def judged(program: Section, network: Section, script: Section) -> tuple[Network, list[Part]]:
+    """The network and the parts of a script that `fc` takes. Raises Fault where it has no rounds, and Refusal.
 
     What `fc` says of a line it says of the whole script; each `run` runs one round for that.
     """
     short = re.sub(r"(?m)^run [0-9]+(?=\r?$)", "run 1", script.text)
-    reply = fc.answered(Call(("run",), (program, network, replace(script, text=short))))
+    fc.answered(Call(("run",), (program, network, replace(script, text=short))))
     made, parts = read_scene(network.text, network.name, network.first_line), parts_of(script.text)
     if not any(part.rounds for part in parts):
         raise Fault("the script runs no round", 3)
     if "pending" in made.state and parts[0].edits:
         line = f"line {parts[0].line} of the script edits while firings are in flight"
         raise Fault(f"{line}: let a run line stand before", 3)
-    return made, parts, results.ran(reply.text)
+    return made, parts
 
 
 def stretches(

@@ -142,7 +142,8 @@ def rungs(scales: Sequence[Scale], values: Iterable[Value | None]) -> list[tuple
     if form is None or not any(scale.has_numbers for scale in scales):
         return []
     places = [number / (RUNGS - 1) for number in range(RUNGS)]
-    return [(place, shaped(form, [scale.at(place) for scale in scales])) for place in places]
+    rows = [(place, [scale.at(place) for scale in scales]) for place in places]
+    return [(place, shaped(form, words)) for place, words in rows if set(words) != {NOTHING}]
 
 
 def shaped(form: Value, words: Sequence[str]) -> str:

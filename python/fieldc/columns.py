@@ -17,6 +17,7 @@ TIMES = ("t", "time", "timestamp", "seconds")
 EARTH = 6_371_008.8
 """The mean radius of the earth, in metres."""
 MOST_METRES = 500_000.0
+FARTHEST = 1e12
 DECIMAL = re.compile(r"[+-]?[0-9]+(?:[.,][0-9]+)?(?:[eE][+-]?[0-9]+)?|[+-]?[.,][0-9]+")
 
 
@@ -26,6 +27,14 @@ def decimal(word: str, where: str) -> Decimal:
         return Decimal(word.replace(",", "."))
     marks = "; parts of thousands can't be set apart" if re.fullmatch(r"[+-]?[0-9][0-9., ]*[0-9]", word) else ""
     raise Fault(f"{where} is {word!r}, which is no number{marks}", 3)
+
+
+def real(word: str, where: str) -> float:
+    """A position or a time. Raises Fault, of status 3, where it is no number, or too great to be reckoned with."""
+    found = float(decimal(word, where))
+    if not -FARTHEST <= found <= FARTHEST:
+        raise Fault(f"{where} is {word}, and has to be from -{FARTHEST:g} to {FARTHEST:g}", 3)
+    return found
 
 
 def input_word(word: str, where: str, name: str, truth: bool, scale: Mapping[str, float]) -> Input | str:
@@ -67,11 +76,13 @@ def _degrees(word: str, where: str, most: int) -> float:
     return found
 
 
-def in_metres(degrees: Mapping[int, tuple[float, float]]) -> dict[int, Position]:
+def in_metres(
+    degrees: Mapping[int, tuple[float, float]], where: Mapping[int, str] | None = None
+) -> dict[int, Position]:
     """Positions in metres to the east and north of the middle, of latitudes and longitudes on a ball.
 
     Distances from the middle are exact, and others by a thousandth within 500 km of it. Raises Fault, of status 3,
-    where a device is further away.
+    which says `where`, if a device is further away.
     """
     places = {device: (math.radians(lat), math.radians(lon)) for device, (lat, lon) in degrees.items()}
     vectors = [(math.cos(a) * math.cos(b), math.cos(a) * math.sin(b), math.sin(a)) for a, b in places.values()]
@@ -81,7 +92,9 @@ def in_metres(degrees: Mapping[int, tuple[float, float]]) -> dict[int, Position]
     far = max(found, key=lambda device: math.hypot(*found[device]))
     if math.hypot(*found[far]) > MOST_METRES:
         away = math.hypot(*found[far]) / 1000
-        raise Fault(f"a device is {away:,.0f} km away from the middle of all, and a flat map has at most 500 km", 3)
+        stands = f"{where[far]}: " if where is not None else ""
+        middle = "km away from the middle of all, and a flat map has at most 500 km"
+        raise Fault(f"{stands}a device is {away:,.0f} {middle}", 3)
     return found
 
 

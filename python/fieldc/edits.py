@@ -8,6 +8,7 @@ from __future__ import annotations
 from collections.abc import Iterator, Mapping
 from dataclasses import dataclass, replace
 
+from .elsewhere import similar
 from .networks import Input, Network
 from .refusals import Fault
 
@@ -55,7 +56,9 @@ def by_numbers(text: str, names: Mapping[int, str], name: str, first_line: int =
         count = DEVICES_OF.get(words[first], 0) if first < len(words) else 0
         for at in range(first + 1, min(first + 1 + count, len(words))):
             if words[at] not in number and not words[at].isdecimal():
-                raise Fault(f"{name} line {place + first_line}: no device is called {words[at]}", 3)
+                near = similar(words[at], names.values())
+                hint = f"; is {near} meant?" if near is not None else ""
+                raise Fault(f"{name} line {place + first_line}: no device is called {words[at]}{hint}", 3)
             words[at] = number.get(words[at], words[at])
         lines[place] = " ".join(words) + "\r" * line.endswith("\r")
     return "\n".join(lines)

@@ -125,6 +125,8 @@ def wrong_sections(words: tuple[str, ...], count: int) -> Said | None:
     given = f"{count} {'is' if count == 1 else 'are'} given"
     what = f"`{command}` takes {counted(len(wanted), 'section')}, {names}, and {given}."
     hint = "Two sections are parted by a line that is exactly `%%`."
+    if count > len(wanted) and len(wanted) == 2:
+        hint = "No script is wanted: `fieldc network --scene FILE` takes the network out of what `--moves` wrote."
     if 0 < count < len(wanted):
         hint = f"The {wanted[count]} is missing: give its file too, or put it behind a line that is exactly `%%`."
     return Said(what, None, command, hint, FORMATS + "#the-input")

@@ -51,11 +51,11 @@ def points(
     """
     columns = columns_of(name, program, inputs, scale)
     number, names = _numbered_rows(columns)
-    places, found = {}, {}
+    places, found, lines = {}, {}, {}
     for place, row in enumerate(columns.rows):
         device = place if columns.id is None else number[columns.id_of(row)]
-        places[device], found[device] = columns.place(row), columns.inputs(row)
-    positions = in_metres(places) if columns.in_degrees else places
+        places[device], found[device], lines[device] = columns.place(row), columns.inputs(row), columns.where(row)
+    positions = in_metres(places, lines) if columns.in_degrees else places
     return Points(dict(sorted(positions.items())), names, dict(sorted(found.items())), columns.left_out)
 
 

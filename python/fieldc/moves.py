@@ -10,7 +10,7 @@ from dataclasses import dataclass, field
 from datetime import datetime, timezone
 from types import MappingProxyType
 
-from .columns import DECIMAL, decimal, in_metres
+from .columns import DECIMAL, in_metres, real
 from .edits import MOST_LINES
 from .networks import Input, Network, Position, numbered
 from .refusals import Fault
@@ -67,7 +67,7 @@ def read(
     times = _times(columns)
     number, names = numbered(list(dict.fromkeys(map(columns.id_of, columns.rows))))
     places = {place: columns.place(row) for place, row in enumerate(columns.rows)}
-    places = in_metres(places) if columns.in_degrees else places
+    places = in_metres(places, dict(enumerate(map(columns.where, columns.rows)))) if columns.in_degrees else places
     seen: dict[int, dict[float, Sight]] = {device: {} for device in sorted(number.values())}
     lines: dict[tuple[int, float], int] = {}
     for place, (row, time) in enumerate(zip(columns.rows, times)):
@@ -88,7 +88,7 @@ def _times(columns: Columns) -> list[float]:
     for row in columns.rows:
         word, where = row[1][columns.time], columns.where(row, columns.header[columns.time])
         dated.append(not DECIMAL.fullmatch(word))
-        found.append(_date(word, where) if dated[-1] else float(decimal(word, where)))
+        found.append(_date(word, where) if dated[-1] else real(word, where))
         if dated[-1] != dated[0]:
             kinds = "a date" if dated[-1] else "a number", "a date" if dated[0] else "a number"
             raise Fault(f"{where} is {kinds[0]}, and on line {columns.rows[0][0]} it is {kinds[1]}", 3)
@@ -170,10 +170,9 @@ def steps(
 
 
 def still_there(moves: Moves, times: Sequence[float]) -> list[int]:
-    """The devices that aren't seen any more when the last steps are made."""
-    last = [sights[-1].time for sights in moves.seen.values()]
-    gap = max(last) - (times[-1] - times[-2] if len(times) > 1 else 0.0)
-    return [device for device, sights in moves.seen.items() if sights[-1].time < gap]
+    """The devices that aren't seen any more when the last step is made."""
+    before_last = times[-2] if len(times) > 1 else -math.inf
+    return [device for device, sights in moves.seen.items() if sights[-1].time <= before_last]
 
 
 # ---- the script ----------------------------------------------------------------------------------------------------

@@ -13,6 +13,7 @@ from .layout import laid_out
 from .networks import Network, Position, declared
 from .refusals import Fault
 from .results import Values
+from .telling import counted
 
 SETTLING = "settle round"
 LINES_OF_A_RUN = ("run", "mix", "show", "scramble")
@@ -204,7 +205,8 @@ def at_times(picture: Picture, places: Mapping[float, Mapping[int, Position]]) -
     Raises Fault where there are more or fewer times than frames, or a device of a frame has no place then.
     """
     if len(places) != len(picture.frames):
-        raise Fault(f"there are positions of {len(places)} times, and {len(picture.frames)} shows to draw at them", 3)
+        times, shows = counted(len(places), "time"), counted(len(picture.frames), "show")
+        raise Fault(f"there are positions of {times}, and {shows} to draw at them: --of run draws all of a script", 3)
     found = []
     for frame, (time, then) in zip(picture.frames, places.items()):
         for device in frame.network.devices:

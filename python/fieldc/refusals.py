@@ -30,12 +30,14 @@ class Section:
 
     `kind` is "program", "network", "script" or "log"; `name` is the file as the user typed it, "-" for standard input,
     or "" for a text that came from no file; `first_line` is the line of that file on which the section begins, from 1.
+    `typed` is the text as it stands in the file where words of it, names of devices, were put in others' place.
     """
 
     kind: str
     name: str
     first_line: int
     text: str
+    typed: str = ""
 
 
 @dataclass(frozen=True)
@@ -127,7 +129,19 @@ def explained(call: Call, refusal: Refusal) -> Explanation:
         return replace(plain_explanation(refusal), hint="Debian's python3-lark lets fieldc say where and why")
     from .explain import explain
 
-    return explain(call, refusal)
+    return as_typed(explain(call, refusal))
+
+
+def as_typed(found: Explanation) -> Explanation:
+    """An explanation whose place is that in the text as the user typed it, which has as many words on each line."""
+    section = found.section
+    if section is None or not section.typed or found.line is None or found.column is None:
+        return found
+    place = found.line - section.first_line
+    given, typed = (text.split("\n")[place].split(" ") for text in (section.text, section.typed))
+    before = " ".join(given)[: found.column - 1].count(" ")
+    column = found.column + sum(map(len, typed[:before])) - sum(map(len, given[:before]))
+    return replace(found, section=replace(section, text=section.typed, typed=""), column=column)
 
 
 def warned(call: Call) -> tuple[Explanation, ...]:

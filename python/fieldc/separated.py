@@ -8,10 +8,11 @@ from dataclasses import dataclass
 from types import MappingProxyType
 
 from . import geojson
-from .columns import DECIMAL, LATITUDES, LONGITUDES, TIMES, decimal, input_word, latitude, longitude
+from .columns import DECIMAL, LATITUDES, LONGITUDES, TIMES, input_word, latitude, longitude, real
 from .networks import Declared, Input, Pair, Position, declared, fitting, input_of
 from .refusals import Fault
 from .sections import read
+from .telling import counted
 
 DELIMITERS = (";", "\t", "|", ",", ":", " ")
 IDS = ("id", "device", "name", "node")
@@ -60,7 +61,7 @@ class Columns:
         one, other = (self.where(row, self.header[place]) for place in self.across)
         if self.in_degrees:
             return latitude(first, one), longitude(second, other)
-        return float(decimal(first, one)), float(decimal(second, other))
+        return real(first, one), real(second, other)
 
     def inputs(self, row: Row) -> dict[str, Input]:
         """The inputs of a row. Raises Fault where one can't be one."""
@@ -70,6 +71,9 @@ class Columns:
         span = self.wanted.inputs.get(name, ()) if self.wanted is not None else ()
         where = self.where(row, name)
         value = input_word(row[1][self.header.index(name)], where, name, span is None, self.scale)
+        if isinstance(value, str) and self.wanted is None:
+            remedy = "if the column is none, --inputs or --program say which are"
+            raise Fault(f"{where} is {value!r}, and an input is true, false or a whole number; {remedy}", 3)
         return input_of(value, where) if span == () else fitting(value, span or None, where)
 
     def id_of(self, row: Row) -> str:
@@ -139,7 +143,8 @@ def _rows(name: str) -> list[Row]:
     rows = [(number, _fields(line, delimiter)) for number, line in lines]
     for number, row in rows:
         if len(row) != len(rows[0][1]):
-            raise Fault(f"{name} line {number}: {len(row)} fields, and line {rows[0][0]} has {len(rows[0][1])}", 3)
+            fields_here = counted(len(row), "field")
+            raise Fault(f"{name} line {number}: {fields_here}, and line {rows[0][0]} has {len(rows[0][1])}", 3)
     return rows
 
 

@@ -145,7 +145,12 @@ class Files(InFolder):
         both = self.file(f"{LINE}%%\nset roof src true\n", "both.txt")
         done = fieldc("run", files[0], both, *names)
         self.assertEqual((done.status, done.output), (3, ""))
-        self.assertIn("both.txt line 3: no device is called roof", done.errors)
+        self.assertIn("both.txt line 3: no device is called roof\n", done.errors)
+        done = fieldc("run", *files, self.file("run 1\nleave mil\n", "script.txt"), *names)
+        self.assertIn("script.txt line 2: no device is called mil; is mill meant?", done.errors)
+        done = fieldc("run", *files, self.file("run 1\nmix 3 set mill scr true\n", "script.txt"), *names)
+        self.assertIn("script.txt:2:16: The program declares no input named `scr`.", done.errors)
+        self.assertIn("    mix 3 set mill scr true\n                   ^\n", done.errors)
 
     @needs_fc
     def test_values_that_are_devices_have_their_names(self) -> None:

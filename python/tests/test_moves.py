@@ -318,7 +318,7 @@ CUT = "run 4\nunlink 0 1\nrun 2\nshow\nrun 1\nlink 0 1 1\nset 2 src true\nrun 9\
 @needs_fc
 class Behind(InFolder):
     def stretches(self, script: str, program: str = HOPS, scene: str = LINE) -> list[behind.Stretch]:
-        made, parts, _ = behind.judged(*library.call_of([], program=program, network=scene, script=script).sections)
+        made, parts = behind.judged(*library.call_of([], program=program, network=scene, script=script).sections)
         return behind.stretches(program, made, parts, workers=1)
 
     def test_parts_of_a_script(self) -> None:

@@ -101,6 +101,7 @@ class Colours(unittest.TestCase):
         self.assertEqual([text for _, text in marks[:3]], wanted)
         self.assertEqual(marks[4], (1.0, "((40,\u00b7),(12,\u00b7))"))
         self.assertEqual(rungs(scales_of([(True, False)], Meaning()), [(True, False)]), [])
+        self.assertEqual(rungs(scales_of([(2, True)], Meaning()), [(2, True)]), [(0.0, "(2,\u00b7)")])
         for place, text in marks:
             first = int(text[2:].split(",")[0])
             self.assertEqual(scales_of(values, Meaning())[0].colour(first), shade(place))

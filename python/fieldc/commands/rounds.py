@@ -90,10 +90,9 @@ def perform_script(options: argparse.Namespace, parts: Sequence[Section]) -> int
     for name, option in NOT_OF_SCRIPTS.items():
         if getattr(options, name) is not None:
             raise Fault(f"{option} isn't taken beside a script, which says itself what happens")
-    network, lines, judged = behind.judged(*parts)
+    network, lines = behind.judged(*parts)
     with Progress(lambda: f"runs the script on {len(network.devices):,} devices") as waiting:
         found = behind.stretches(parts[0].text, network, lines, options.workers, waiting)
-    tell(None, cut_warnings(options, Call(("run",), tuple(parts)), judged, network.names, 0.0))
     behind.draw(found, options.output, options.title)
     for one in found:
         words = (one.line, one.before, "-" if one.time is None else one.time, one.rounds, one.late)
