@@ -237,16 +237,13 @@ def told(explanation: Explanation) -> str:
     return "\n".join(lines) + "\n"
 
 
-def judged(made: Composition, network: str) -> Refusal | None:
-    """What `fc check` refuses in a composed program on a network, or its no, as a refusal of status 1; else nothing.
-
-    What is wrong with the network isn't said.
-    """
-    call = Call(("check",), (Section("program", "", 1, made.text), Section("network", "", 1, network)))
+def judged(made: Composition, network: Section) -> Refusal | None:
+    """What `fc check` refuses in a composed program on a network, or its no, as a refusal of status 1; else nothing."""
+    call = Call(("check",), (Section("program", "", 1, made.text), network))
     try:
         reply = fc.answered(call)
     except Refusal as refusal:
-        return refusal if refusal.line.startswith(OF_PROGRAMS) else None
+        return refusal
     return Refusal(1, "no", reply.text.strip(), call) if reply.status == 1 else None
 
 
@@ -314,19 +311,22 @@ def perform(options: argparse.Namespace) -> int:
             raise
         say(told(wrong))
         return 3
-    network, beside = (others[0][1], name) if others else (None, name)
+    network = Section("network", name, *others[0]) if others else None
     if options.network is not None:
-        network, beside = read(options.network), options.network
-    for warning in [] if network is None else warnings(made, network, beside):
+        network = Section("network", options.network, 1, read(options.network))
+    for warning in [] if network is None else warnings(made, network.text, network.name):
         say(f"warning: {warning}\n")
     if not options.unjudged and built():
-        refusal = judged(made, least_network(text) if network is None else network)
+        refusal = judged(made, Section("network", "", 1, least_network(text)) if network is None else network)
+        if refusal is not None and refusal.status > 1 and not refusal.line.startswith(OF_PROGRAMS):
+            tell(None, () if network is None else (explained(refusal.call, refusal),))
+            refusal = None
         doubt = wanting(made, refusal, name) if refusal is not None and refusal.status == 1 else None
         if doubt is not None:
             say(f"warning: {doubt}\n")
         if network is not None and not options.no_cut_check and (refusal is None or refusal.status == 1):
             own = Section("program", options.program, 1, text)
-            tell(None, cuts.in_program(own, made.text, network, refusal is None))
+            tell(None, cuts.in_program(own, made.text, network.text, refusal is None))
         if refusal is not None and refusal.status > 1:
             say(told(own_explanation(made, refusal, options.program)))
             return refusal.status

@@ -298,7 +298,7 @@ def _links(
     if bare and len(bare) < len(found):
         called = {place: str(node) for node, place in number.items()}
         link = f"the link of {called[bare[0][0]]} and {called[bare[0][1]]}"
-        raise Fault(f"{link} has no weight, and others have one: give it one, or pass weight=1", 3)
+        raise Fault(f"{link} has no weight, and others have one: give it one, or (in Python) pass weight=1", 3)
     where = {place: str(node) for node, place in number.items()}
     return tuple(
         (a, b, 1 if value is None else weight_of(value, f"the link of {where[a]} and {where[b]}", rounds, span))

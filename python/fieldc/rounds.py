@@ -67,6 +67,12 @@ def promised(program: str, network: Networks, waiting: Callable[[], None] | None
     return Promise(found.verdict, time, by_device, values)
 
 
+def check_rounds(rounds: int) -> None:
+    """Raises Fault where so many rounds can't be drawn."""
+    if not 1 <= rounds <= MOST_ROUNDS:
+        raise Fault(f"{rounds} rounds, and 1 to {MOST_ROUNDS:,} are drawn: choose --rounds")
+
+
 def curve(program: str, scene: str, values: Values, number: int, rounds: int, workers: int, keep: bool) -> Curve:
     """Runs a program from the rubbish of a number, and counts after each round who holds its value. Raises Refusal."""
     script = ["scramble " + str(number), "show"] + ["run 1", "show"] * rounds
@@ -90,8 +96,7 @@ def curves(
     `waiting` is called about five times a second with how many are done. Raises Fault where so many rounds can't be
     drawn, and Refusal.
     """
-    if not 1 <= rounds <= MOST_ROUNDS:
-        raise Fault(f"{rounds} rounds, and 1 to {MOST_ROUNDS:,} are drawn: choose --rounds")
+    check_rounds(rounds)
     scene, values = library.scene_of(network, program), dict(promise.values)
     processes = min(len(numbers), os.cpu_count() or 1)
     with ProcessPoolExecutor(processes, initializer=signal.signal, initargs=(signal.SIGINT, signal.SIG_IGN)) as pool:

@@ -287,10 +287,19 @@ class Command(unittest.TestCase):
         self.assertEqual(status, 0)
         self.assertIn("warning: the ceiling 70 is below device 80", said)
 
+    def test_a_network_that_isnt_taken_is_said(self) -> None:
+        with tempfile.TemporaryDirectory() as folder:
+            path = Path(folder) / "net.json"
+            path.write_text(LINE.replace("[0, 80, 1]", "[0, 80, 7]"))
+            status, made, said = asked("--network", str(path), "-", standing=LOW)
+            self.assertEqual((status, made[:8]), (0, "language"))
+            self.assertIn(f"fieldc: warning: {path}:1:", said)
+            self.assertIn("Each link weighs 1 in this program, and this one 7.", said)
+
     def test_a_no_that_comes_of_a_blocks_arguments(self) -> None:
         text = FRONT + "main = broadcast(sense source, 1, 100, 0);"
         made = compose.composed(text, LIBRARY)
-        no = compose.judged(made, compose.least_network(text))
+        no = compose.judged(made, Section("network", "", 1, compose.least_network(text)))
         self.assertRegex(no.line, r"^no \d+ lead-at-ceiling$")
         there = made.text[: made.text.index("share")].count("\n") + 1
         with mock.patch.object(compose, "explained", lambda call, refusal: Explanation("so", line=there)):

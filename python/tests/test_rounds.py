@@ -56,6 +56,9 @@ class Runs(InFolder):
         for said in ("settle time R = 5", "rubbish of 2, settled after", "known to, from every start"):
             self.assertIn(f"<!-- {said}", drawn)
         self.assertEqual(fieldc("rounds", files[0], "-o", "x.svg", folder=self.folder).status, 2)
+        done = fieldc("rounds", *files, "--rounds", 2001, "-o", "x.svg", folder=self.folder, FC="/bin/false")
+        self.assertEqual((done.status, done.errors.count("\n")), (2, 1))
+        self.assertIn("2001 rounds, and 1 to 2,000 are drawn", done.errors)
         flat = fieldc("rounds", self.file(FLAT, "flat.fc"), files[1], "-o", "x.svg", folder=self.folder)
         self.assertEqual((flat.status, flat.output), (1, ""))
 

@@ -66,6 +66,8 @@ def perform(options: argparse.Namespace) -> int:
         return perform_script(options, tuple(numbered(part, names) for part in parts))
     program, network = parts[0].text, parts[1].text
     numbers = list(dict.fromkeys(options.number or [1]))
+    if options.rounds is not None:
+        rounds.check_rounds(options.rounds)
     with Progress(lambda: "fc check --settle") as waiting:
         promise = rounds.promised(program, network, waiting)
     promised = results.Stable(promise.values, promise.verdict)

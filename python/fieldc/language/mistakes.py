@@ -13,6 +13,7 @@ from .grammar import MARKS, WORDS
 from .stuck import DECLARING, Advice, Stuck, advice, behind, code
 from .tree import At
 
+NAMED = "Write `let x = a in b` in the body of a function or of `main`."
 SIGNS = "There are letters, digits, spaces, comments behind `//`, and `( ) { } , ; : .. = => + - * <`."
 
 
@@ -82,8 +83,7 @@ def _no_declaration(stuck: Stuck) -> Advice:
     if stuck.kind == "LANGUAGE":
         return advice(here, "`language 2;` stands in front of all other declarations.", "Move it to the front.", TWO)
     if stuck.kind == "LET" or stuck.kind_of(1) == "IS":
-        hint = "Write `let x = a in b` in the body of a function or of `main`."
-        return advice(here, f"A value is named inside an expression alone, and {code(here)} stands outside.", hint)
+        return advice(here, f"A value is named inside an expression alone, and {code(here)} stands outside.", NAMED)
     hint = (
         hint_for(here.value if here is not None else "")
         or "Inputs, metrics, functions and `main` are declared, each ending with `;`."
@@ -257,7 +257,8 @@ def anything_else(stuck: Stuck) -> Advice:
         return advice(
             stuck.here or stuck.before, f"Here {wanted} is expected, and there is {found}.", end=stuck.here is None
         )
-    return advice(stuck.here or stuck.before, f"{found} can't stand here.".capitalize(), end=stuck.here is None)
+    hint = NAMED if stuck.here is not None and stuck.here.value == ":" else None
+    return advice(stuck.here or stuck.before, f"{found} can't stand here.".capitalize(), hint, end=stuck.here is None)
 
 
 RULES = (
