@@ -6,6 +6,7 @@ import argparse
 import json
 import os
 import re
+import time
 from collections.abc import Iterable, Sequence
 from dataclasses import dataclass, field, replace
 from pathlib import Path
@@ -317,6 +318,7 @@ def perform(options: argparse.Namespace) -> int:
     for warning in [] if network is None else warnings(made, network.text, network.name):
         say(f"warning: {warning}\n")
     if not options.unjudged and built():
+        start = time.monotonic()
         refusal = judged(made, Section("network", "", 1, least_network(text)) if network is None else network)
         if refusal is not None and refusal.status > 1 and not refusal.line.startswith(OF_PROGRAMS):
             tell(None, () if network is None else (explained(refusal.call, refusal),))
@@ -326,7 +328,8 @@ def perform(options: argparse.Namespace) -> int:
             say(f"warning: {doubt}\n")
         if network is not None and not options.no_cut_check and (refusal is None or refusal.status == 1):
             own = Section("program", options.program, 1, text)
-            tell(None, cuts.in_program(own, made.text, network.text, refusal is None))
+            took = time.monotonic() - start
+            tell(None, cuts.in_program(own, made.text, network.text, refusal is None, took=took))
         if refusal is not None and refusal.status > 1:
             say(told(own_explanation(made, refusal, options.program)))
             return refusal.status

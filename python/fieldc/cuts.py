@@ -263,15 +263,16 @@ def networks_shown(result: results.Ran, call: Call) -> list[tuple[int, str]]:
 
 
 def in_program(
-    program: Section, made: str, network: str, stabilises: bool, where: str = "here"
+    program: Section, made: str, network: str, stabilises: bool, where: str = "here", took: float = 0.0
 ) -> tuple[Explanation, ...]:
     """What the ceiling cuts on a network in a text that was made of a program, whose ceiling it has.
 
-    Nothing is said where `fc` refuses the network.
+    `took` is how many seconds `fc` took for the network before. Nothing is said where it refuses that.
     """
     words = ("stable",) if stabilises else ("check", "--settle")
     try:
-        found = cut_of(Question(replace(program, text=made), Section("network", "", 1, network), words))
+        beside = Section("network", "", 1, network)
+        found = cut_of(Question(replace(program, text=made), beside, words, seconds=SECONDS + TIMES * took))
     except Refusal:
         return ()
     return () if found is None else (told(found, program, {}, where),)

@@ -204,7 +204,7 @@ class Ending(InFolder):
             ) as process:
                 time.sleep(seconds)
                 process.send_signal(signal.SIGINT)
-                output, errors = process.communicate(timeout=30)
+                output, errors = process.communicate(timeout=600)
                 self.assertIn(process.returncode, (-signal.SIGINT, 130))
                 self.assertEqual((output, errors.strip()), (b"", b""), seconds)
 
