@@ -59,8 +59,8 @@ def build_itself() -> Any:
     return made
 
 
-# what holds while the network changes: no command leans on it yet
-LAWS = ("net_moves", "moving_laws", "envelopes", "envelope_bounds")
+# what is said of envelopes alone: no command leans on it yet
+LAWS = ("envelope_bounds",)
 
 
 class Build(InFolder):

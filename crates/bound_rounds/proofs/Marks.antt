@@ -2,15 +2,16 @@
 use Rattle.std.proofs.Common.{◌≡◌, ℕ, zero, suc, ◌<◌, ◌≤◌, List, [], ◌∷◌, length, take, get_or, refl, sym, ◌∙◌, ap}
 use Rattle.std.proofs.Common.{subst, arith, Bool, true, false, ◌||◌, nat_eq, ◌⊎◌, inl, inr}
 use Rattle.std.specs.Prelude.{slice_set}
-use Rattle.std.proofs.lemmas.Bool.{ne_eqb, cases_order}
+use Rattle.std.proofs.lemmas.Bool.{eq-eqb, ne_eqb, cases_order}
 use Rattle.std.proofs.lemmas.List.{length-map, take_all}
-use Rattle.fc_values.specs.Types.{Declarations}
 use Rattle.fc_values.specs.Fields.{is_in, Rises}
 use Rattle.fc_values.proofs.Rising.{rises_at}
-use Rattle.topology.specs.Networks.{NetDevice, Network, numbers, Lives, near, IsNetwork}
-use Rattle.topology.specs.Nearby.{near_numbers}
-use Rattle.topology.proofs.Lemmas.{AllNear, near_fits}
+use Rattle.envelopes.specs.Envelopes.{MaybeDevice, MaybeLink, Envelope, ids, MayLive, maybe_near, near_ids}
+use Rattle.envelopes.specs.Envelopes.{IsEnvelope}
+use Rattle.envelopes.proofs.Within.{near_there}
 use Rattle.bound_rounds.specs.Tables.{device_at, AreMarked}
+use Rattle.bound_rounds.proofs.Closeness.{or_second}
+use Rattle.bound_rounds.proofs.Places.{no_near}
 
 -- one mark more
 pub marked_stays : (ms : List Bool) (p i : ℕ) → get_or ms i true ≡ true → get_or (slice_set ms p true) i true ≡ true
@@ -41,18 +42,18 @@ one_place is r i j h l e = by_order (cases_order i j)
     by_order (inr (inl k)) = let g = rises_at is r i j k l in absurd (omega (arith, g, e))
     by_order (inr (inr k)) = let g = rises_at is r j i k h in absurd (omega (arith, g, e))
 
-pub at_one_place : (N : Network) → IsNetwork N → (i j : ℕ) → i < length N.devices → j < length N.devices
-    → device_at N i ≡ device_at N j → i ≡ j
-at_one_place N net i j h l e =
-    let m = length-map N.devices (λ (n : NetDevice). n.id) in
-    one_place (numbers N.devices) net.rising i j (omega (arith, h, m)) (omega (arith, l, m)) e
+pub at_one_place : (E : Envelope) → IsEnvelope E → (i j : ℕ) → i < length E.devices → j < length E.devices
+    → device_at E i ≡ device_at E j → i ≡ j
+at_one_place E envelope i j h l e =
+    let m = length-map E.devices (λ (m : MaybeDevice). m.id) in
+    one_place (ids E.devices) envelope.rising i j (omega (arith, h, m)) (omega (arith, l, m)) e
 
 -- a place that isn't marked is another one
-pub apart_from : (N : Network) → IsNetwork N → (ms : List Bool) (p i d : ℕ) → p < length N.devices
-    → i < length N.devices → device_at N p ≡ d → get_or ms p true ≡ true → get_or ms i true ≡ false
-    → nat_eq (device_at N i) d ≡ false
-apart_from N net ms p i d h l at marked q = ne_eqb (device_at N i) d (λ e.
-    let same = at_one_place N net i p l h (e ∙ sym at) in
+pub apart_from : (E : Envelope) → IsEnvelope E → (ms : List Bool) (p i d : ℕ) → p < length E.devices
+    → i < length E.devices → device_at E p ≡ d → get_or ms p true ≡ true → get_or ms i true ≡ false
+    → nat_eq (device_at E i) d ≡ false
+apart_from E envelope ms p i d h l at marked q = ne_eqb (device_at E i) d (λ e.
+    let same = at_one_place E envelope i p l h (e ∙ sym at) in
     let m : get_or ms i true ≡ true = ap (λ x. get_or ms x true) same ∙ marked in
     absurd cc)
 
@@ -61,61 +62,62 @@ apart_from N net ms p i d h l at marked q = ne_eqb (device_at N i) d (λ e.
 or_none : (a b : Bool) → a ≡ false → b ≡ false → (a || b) ≡ false
 or_none a b e q = rw (e, q) refl
 
-pub taken_more : (ns : List (ℕ × ℕ)) (k e : ℕ) → k < length ns → is_in e (near_numbers (take k ns)) ≡ false
-    → nat_eq e (get_or ns k (0, 0)).0 ≡ false
-    → is_in e (near_numbers (take (suc k) ns)) ≡ false
+pub taken_more : (ns : List (ℕ × MaybeLink)) (k e : ℕ) → k < length ns → is_in e (near_ids (take k ns)) ≡ false
+    → nat_eq e (get_or ns k no_near).0 ≡ false
+    → is_in e (near_ids (take (suc k) ns)) ≡ false
 taken_more [] k e h i q = absurd (omega arith)
 taken_more (n ∷ ns) zero e h i q = rw q refl
 taken_more (n ∷ ns) (suc k) e h i q = by_test (nat_eq e n.0) refl i (taken_more ns k e (omega arith))
   where
-    by_test : (c : Bool) → nat_eq e n.0 ≡ c → (c || is_in e (near_numbers (take k ns))) ≡ false
-        → (is_in e (near_numbers (take k ns)) ≡ false → nat_eq e (get_or ns k (0, 0)).0 ≡ false
-        → is_in e (near_numbers (take (suc k) ns)) ≡ false)
-        → is_in e (near_numbers (take (suc (suc k)) (n ∷ ns))) ≡ false
+    by_test : (c : Bool) → nat_eq e n.0 ≡ c → (c || is_in e (near_ids (take k ns))) ≡ false
+        → (is_in e (near_ids (take k ns)) ≡ false → nat_eq e (get_or ns k no_near).0 ≡ false
+        → is_in e (near_ids (take (suc k) ns)) ≡ false)
+        → is_in e (near_ids (take (suc (suc k)) (n ∷ ns))) ≡ false
     by_test true t i ih = absurd cc
     by_test false t i ih = rw t (ih i q)
 
-near_there : (D : Declarations) (ds : List ℕ) (d : ℕ) (ns : List (ℕ × ℕ)) → AllNear D ds d ns → (k : ℕ) → k < length ns
-    → is_in (get_or ns k (0, 0)).0 ds ≡ true
-near_there D ds d [] a k h = absurd (omega arith)
-near_there D ds d (n ∷ ns) a zero h = a.0.there
-near_there D ds d (n ∷ ns) a (suc k) h = near_there D ds d ns a.1 k (omega arith)
+is_near : (ns : List (ℕ × MaybeLink)) (k : ℕ) → k < length ns → is_in (get_or ns k no_near).0 (near_ids ns) ≡ true
+is_near [] k h = absurd (omega arith)
+is_near (n ∷ ns) zero h = let t = eq-eqb n.0 n.0 refl in rw t refl
+is_near (n ∷ ns) (suc k) h =
+    let m = (get_or ns k no_near).0 in or_second (nat_eq m n.0) (is_in m (near_ids ns)) (is_near ns k (omega arith))
 
-pub near_lives : (N : Network) → IsNetwork N → (d : ℕ) (k : ℕ) → k < length (near N d)
-    → Lives N (get_or (near N d) k (0, 0)).0
-near_lives N net d k h = near_there N.declared (numbers N.devices) d (near N d)
-    (near_fits N.declared (numbers N.devices) d N.links net.links) k h
+pub near_lives : (E : Envelope) → IsEnvelope E → (d : ℕ) (k : ℕ) → k < length (maybe_near d E.links)
+    → MayLive E (get_or (maybe_near d E.links) k no_near).0
+near_lives E envelope d k h =
+    near_there E envelope d (get_or (maybe_near d E.links) k no_near).0 (is_near (maybe_near d E.links) k h)
 
 -- ---- the marks of a device and of its first neighbours
 
-pub record NearMarked (N : Network) (ms : List Bool) (p k : ℕ) : Type 0 where
+pub record NearMarked (E : Envelope) (ms : List Bool) (p k : ℕ) : Type 0 where
   pub own : get_or ms p true ≡ true
-  pub near : (i : ℕ) → i < length N.devices → get_or ms i true ≡ false
-      → is_in (device_at N i) (near_numbers (take k (near N (device_at N p)))) ≡ false
+  pub near : (i : ℕ) → i < length E.devices → get_or ms i true ≡ false
+      → is_in (device_at E i) (near_ids (take k (maybe_near (device_at E p) E.links))) ≡ false
 
-pub marked_first : (N : Network) (ms : List Bool) (p : ℕ) → NearMarked N (slice_set ms p true) p 0
-marked_first N ms p = record { own = marked_here ms p; near = λ i h q. refl }
+pub marked_first : (E : Envelope) (ms : List Bool) (p : ℕ) → NearMarked E (slice_set ms p true) p 0
+marked_first E ms p = record { own = marked_here ms p; near = λ i h q. refl }
 
-pub marked_next : (N : Network) → IsNetwork N → (ms : List Bool) (p k at : ℕ) → k < length (near N (device_at N p))
-    → at < length N.devices
-    → device_at N at ≡ (get_or (near N (device_at N p)) k (0, 0)).0 → NearMarked N ms p k
-    → NearMarked N (slice_set ms at true) p (suc k)
-marked_next N net ms p k at h l e m = record {
+pub marked_next : (E : Envelope) → IsEnvelope E → (ms : List Bool) (p k at : ℕ)
+    → k < length (maybe_near (device_at E p) E.links)
+    → at < length E.devices
+    → device_at E at ≡ (get_or (maybe_near (device_at E p) E.links) k no_near).0 → NearMarked E ms p k
+    → NearMarked E (slice_set ms at true) p (suc k)
+marked_next E envelope ms p k at h l e m = record {
   own = marked_stays ms at p m.own;
   near = λ i w q.
       let old = m.near i w (mark_kept ms at i q) in
-      let other = apart_from N net (slice_set ms at true) at i (get_or (near N (device_at N p)) k (0, 0)).0 l w e
-      (marked_here ms at) q in
-      taken_more (near N (device_at N p)) k (device_at N i) h old other;
+      let other = apart_from E envelope (slice_set ms at true) at i
+      (get_or (maybe_near (device_at E p) E.links) k no_near).0 l w e (marked_here ms at) q in
+      taken_more (maybe_near (device_at E p) E.links) k (device_at E i) h old other;
 }
 
-pub marked_all : (N : Network) → IsNetwork N → (ms : List Bool) (p k : ℕ) → p < length N.devices
-    → length (near N (device_at N p)) ≤ k → NearMarked N ms p k
-    → AreMarked N (device_at N p) ms
-marked_all N net ms p k l h m i w q =
-    let away = apart_from N net ms p i (device_at N p) l w refl m.own q in
-    let whole : is_in (device_at N i) (near_numbers (near N (device_at N p))) ≡ false =
-    subst (λ ns. is_in (device_at N i) (near_numbers ns) ≡ false) (take_all k (near N (device_at N p)) h)
+pub marked_all : (E : Envelope) → IsEnvelope E → (ms : List Bool) (p k : ℕ) → p < length E.devices
+    → length (maybe_near (device_at E p) E.links) ≤ k → NearMarked E ms p k
+    → AreMarked E (device_at E p) ms
+marked_all E envelope ms p k l h m i w q =
+    let away = apart_from E envelope ms p i (device_at E p) l w refl m.own q in
+    let whole : is_in (device_at E i) (near_ids (maybe_near (device_at E p) E.links)) ≡ false =
+    subst (λ ns. is_in (device_at E i) (near_ids ns) ≡ false) (take_all k (maybe_near (device_at E p) E.links) h)
     (m.near i w q) in
-    or_none (nat_eq (device_at N i) (device_at N p)) (is_in (device_at N i) (near_numbers (near N (device_at N p))))
-    away whole
+    or_none (nat_eq (device_at E i) (device_at E p))
+    (is_in (device_at E i) (near_ids (maybe_near (device_at E p) E.links))) away whole

@@ -5,21 +5,21 @@ use Rattle.std.specs.List.{list_any}
 use Rattle.std.proofs.lemmas.List.Folds.{list_any_at}
 use Rattle.fc_nodes.specs.Program.{Unfolding}
 use Rattle.fc_nodes.specs.Terms.{kept}
-use Rattle.topology.specs.Networks.{Network, numbers, Lives, IsNetwork}
 use Rattle.firing_core.proofs.Taken.{in_at}
 use Rattle.bound_firing.specs.declared.firing.ExportBound.{ExportBound as FlatBound}
 use Rattle.bound_firing.specs.ExportReferences.{export_bound_in}
+use Rattle.envelopes.specs.Envelopes.{Envelope, ids, MayLive, IsEnvelope}
 use Rattle.bound_rounds.specs.declared.rounds.Table.{Table}
 use Rattle.bound_rounds.specs.declared.rounds.RoundKind.{RoundKind}
-use Rattle.bound_rounds.specs.Rounds.{BoundTable, next_table, IsFixed}
+use Rattle.bound_rounds.specs.Rounds.{BoundTable, next_within, IsFixedWithin}
 use Rattle.bound_rounds.specs.Tables.{device_at, Stand, HaveSlots, FitTable, AllMarked, AreDue, IsFiredTable}
 use Rattle.bound_rounds.specs.Tables.{AreSwapped, table_by}
 use Rattle.bound_rounds.proofs.Closeness.{stands_at, unmarked_stays, next_live}
 use Rattle.bound_rounds.proofs.Standing.{stand_at, at_stand, many_numbers}
 use Rattle.bound_rounds.proofs.Tabled.{stand_live, by_stands}
 
-pub at_lives : (N : Network) (i : ℕ) → i < length N.devices → Lives N (device_at N i)
-at_lives N i h = let m = many_numbers N in in_at (numbers N.devices) i (device_at N i) (omega (arith, h, m)) refl
+pub at_lives : (E : Envelope) (i : ℕ) → i < length E.devices → MayLive E (device_at E i)
+at_lives E i h = let m = many_numbers E in in_at (ids E.devices) i (device_at E i) (omega (arith, h, m)) refl
 
 -- swapped lists have as many slots each
 pub swapped_slots : (n : ℕ) (changed : List Bool) (xs ys zs : List FlatBound) → length xs ≡ length changed
@@ -33,9 +33,10 @@ swapped_slots n changed xs ys zs l l' m s h h' k d b =
     by_test true = h' k d (omega (arith, b, m, l'))
     by_test false = h k d (omega (arith, b, m, l))
 
-module _ (k : RoundKind) (U : Unfolding) (N : Network) (net : IsNetwork N) (T : Table) (f : IsFiredTable k U N T) where
+module _ (k : RoundKind) (U : Unfolding) (E : Envelope) (envelope : IsEnvelope E) (T : Table)
+    (f : IsFiredTable k U E T) where
   abbrev n : ℕ
-  n = length N.devices
+  n = length E.devices
 
   abbrev cs : List Bool
   cs = T.changed.items
@@ -44,55 +45,55 @@ module _ (k : RoundKind) (U : Unfolding) (N : Network) (net : IsNetwork N) (T : 
   first_bound : (i : ℕ) → i < n → FlatBound
   first_bound i h = get_first T.bounds.items f.fits.many
     where
-      get_first : (xs : List FlatBound) → length xs ≡ length N.devices → FlatBound
+      get_first : (xs : List FlatBound) → length xs ≡ length E.devices → FlatBound
       get_first [] l = absurd (omega (arith, h, l))
       get_first (x ∷ xs) l = x
 
-  module _ (table : BoundTable) (st : Stand U N table T.bounds.items) where
+  module _ (table : BoundTable) (st : Stand U E table T.bounds.items) where
     abbrev next : BoundTable
-    next = next_table k U N table
+    next = next_within k U E table
 
     -- what did not change stays
-    pub same_at : (i : ℕ) → i < n → get_or cs i false ≡ false → next (device_at N i) ≡ table (device_at N i)
+    pub same_at : (i : ℕ) → i < n → get_or cs i false ≡ false → next (device_at E i) ≡ table (device_at E i)
     same_at i h e = (f.fired table st i (first_bound i h) h).same e
 
-    pub fixed : ((i : ℕ) → i < n → get_or cs i false ≡ false) → IsFixed k U N table
+    pub fixed : ((i : ℕ) → i < n → get_or cs i false ≡ false) → IsFixedWithin k U E table
     fixed h d l =
-        let p = stands_at N d l in
+        let p = stands_at E d l in
         subst (λ x. next x ≡ table x) p.is_there (same_at p.place p.within (h p.place p.within))
 
     -- and what changed doesn't
-    pub moves : (i : ℕ) → i < n → get_or cs i false ≡ true → IsFixed k U N table → ⊥
-    moves i h e all = (f.fired table st i (first_bound i h) h).other e (all (device_at N i) (at_lives N i h))
+    pub moves : (i : ℕ) → i < n → get_or cs i false ≡ true → IsFixedWithin k U E table → ⊥
+    moves i h e all = (f.fired table st i (first_bound i h) h).other e (all (device_at E i) (at_lives E i h))
 
-    module _ (zs : List FlatBound) (long : length zs ≡ length N.devices)
+    module _ (zs : List FlatBound) (long : length zs ≡ length E.devices)
         (s : AreSwapped cs (length cs) T.bounds.items T.drafts.items zs) where
-      pub next_stands : Stand U N next zs
-      next_stands = at_stand U N next zs long (λ i x h. ap (export_bound_in U)
+      pub next_stands : Stand U E next zs
+      next_stands = at_stand U E next zs long (λ i x h. ap (export_bound_in U)
           (s i x (omega (arith, h, f.changed))) ∙ by_test i x h (get_or cs i false) refl)
         where
-          by_test : (i : ℕ) (x : FlatBound) → i < length N.devices → (c : Bool) → get_or cs i false ≡ c
+          by_test : (i : ℕ) (x : FlatBound) → i < length E.devices → (c : Bool) → get_or cs i false ≡ c
               → export_bound_in U (if c then get_or T.drafts.items i x else get_or T.bounds.items i x)
-              ≡ next_table k U N table (device_at N i)
+              ≡ next_within k U E table (device_at E i)
           by_test i x h true e = (f.fired table st i x h).next e
-          by_test i x h false e = stand_at U N table T.bounds.items st i x h ∙ sym (same_at i h e)
+          by_test i x h false e = stand_at U E table T.bounds.items st i x h ∙ sym (same_at i h e)
 
-    next_due : (marks : List Bool) → length marks ≡ n → AllMarked N cs (length cs) marks → AreDue k U N next marks
+    next_due : (marks : List Bool) → length marks ≡ n → AllMarked E cs (length cs) marks → AreDue k U E next marks
     next_due marks long m = record {
       many = long;
-      same = λ i h e. unmarked_stays k U N net table cs marks same_at (λ p l. m p (omega (arith, l, f.changed))) i h
-          (at_lives N i h) e;
+      same = λ i h e. unmarked_stays k U E envelope table cs marks same_at
+          (λ p l. m p (omega (arith, l, f.changed))) i h (at_lives E i h) e;
     }
 
-  module _ (zs : List FlatBound) (long : length zs ≡ length N.devices) where
-    pub next_fits : AreSwapped cs (length cs) T.bounds.items T.drafts.items zs → FitTable U N zs
+  module _ (zs : List FlatBound) (long : length zs ≡ length E.devices) where
+    pub next_fits : AreSwapped cs (length cs) T.bounds.items T.drafts.items zs → FitTable U E zs
     next_fits s = record {
       many = long;
       slots = swapped_slots (kept U.main) cs T.bounds.items T.drafts.items zs (f.fits.many ∙ sym f.changed)
           (f.drafts.many ∙ sym f.changed) (long ∙ sym f.changed) s f.fits.slots f.drafts.slots;
     }
 
-    pub drafts_fit : AreSwapped cs (length cs) T.drafts.items T.bounds.items zs → FitTable U N zs
+    pub drafts_fit : AreSwapped cs (length cs) T.drafts.items T.bounds.items zs → FitTable U E zs
     drafts_fit s = record {
       many = long;
       slots = swapped_slots (kept U.main) cs T.drafts.items T.bounds.items zs (f.drafts.many ∙ sym f.changed)
@@ -101,18 +102,18 @@ module _ (k : RoundKind) (U : Unfolding) (N : Network) (net : IsNetwork N) (T : 
 
     -- the marks are right for each table for which the new bounds stand
     pub all_due : AreSwapped cs (length cs) T.bounds.items T.drafts.items zs → (marks : List Bool) → length marks ≡ n
-        → AllMarked N cs (length cs) marks → (t : BoundTable) → Stand U N t zs → AreDue k U N t marks
+        → AllMarked E cs (length cs) marks → (t : BoundTable) → Stand U E t zs → AreDue k U E t marks
     all_due s marks many m t h =
-        let old = table_by U (numbers N.devices) T.bounds.items in
-        let st = by_stands U N net T.bounds.items f.fits.many in
+        let old = table_by U (ids E.devices) T.bounds.items in
+        let st = by_stands U E envelope T.bounds.items f.fits.many in
         let d = next_due old st marks many m in
         let new = next_stands old st zs long s in
-        let same = stand_live U N (next_table k U N old) t zs new h in record {
+        let same = stand_live U E (next_within k U E old) t zs new h in record {
           many = many;
           same = λ i l e.
-              let there = at_lives N i l in
-              sym (next_live k U N net (next_table k U N old) t same (device_at N i) there) ∙ d.same i l e
-              ∙ same (device_at N i) there;
+              let there = at_lives E i l in
+              sym (next_live k U E envelope (next_within k U E old) t same (device_at E i) there) ∙ d.same i l e
+              ∙ same (device_at E i) there;
         }
 
 pub of_swapped : (cs es : List Bool) (xs ps ys qs zs : List FlatBound) → cs ≡ es → xs ≡ ps → ys ≡ qs
@@ -121,9 +122,9 @@ of_swapped cs es xs ps ys qs zs e p q s =
     subst (λ us. AreSwapped us (length us) ps qs zs) e (subst (λ us. AreSwapped cs (length cs) us qs zs) p
     (subst (λ us. AreSwapped cs (length cs) xs us zs) q s))
 
-pub of_marked : (N : Network) (us es marks : List Bool) → us ≡ es → AllMarked N us (length us) marks
-    → AllMarked N es (length es) marks
-of_marked N us es marks e m = subst (λ ws. AllMarked N ws (length ws) marks) e m
+pub of_marked : (E : Envelope) (us es marks : List Bool) → us ≡ es → AllMarked E us (length us) marks
+    → AllMarked E es (length es) marks
+of_marked E us es marks e m = subst (λ ws. AllMarked E ws (length ws) marks) e m
 
 -- where no element passes, none is true
 pub none_true : (p : Bool → Bool) → p true ≡ true → (xs : List Bool) → list_any p xs ≡ false → (i : ℕ) → i < length xs

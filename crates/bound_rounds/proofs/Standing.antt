@@ -1,13 +1,12 @@
 -- Crates above cite this module: what tables of bounds in code stand for, place by place; and seats over them.
-use Rattle.value_bounds.specs.BoundValues.{BoundValue, exactly}
+use Rattle.value_bounds.specs.BoundValues.{BoundValue}
 use Rattle.std.proofs.Common.{◌≡◌, ℕ, zero, suc, ◌<◌, ◌≤◌, List, [], ◌∷◌, ◌++◌, length, map, take, get_or, refl, sym}
-use Rattle.std.proofs.Common.{◌∙◌, ap, arith, true, Some, All, Vec, Global}
+use Rattle.std.proofs.Common.{◌∙◌, ap, arith, Bool, Some, All, Vec, Global, ◌&&◌}
 use Rattle.std.proofs.lemmas.List.{length-map, map-append}
 use Rattle.std.proofs.lemmas.List.{take_all}
 use Rattle.std.proofs.lemmas.List.Elements.{All-push, All-nil, All-get_or}
 use Rattle.std.proofs.Math.Seq.{take-suc}
 use Rattle.fc_nodes.specs.Program.{Unfolding}
-use Rattle.topology.specs.Networks.{NetDevice, Network, numbers, near, inputs_in}
 use Rattle.bound_firing.specs.declared.firing.ExportBound.{ExportBound as FlatBound}
 use Rattle.bound_firing.specs.declared.seats.NearSeat.{NearSeat}
 use Rattle.bound_firing.specs.BoundTrees.{bound_tree_at}
@@ -21,8 +20,10 @@ use Rattle.bound_firing.specs.declared.seats.OwnSeat.{OwnSeat}
 use Rattle.bound_firing.specs.declared.seats.Seats.{Seats as CodeSeats}
 use Rattle.bound_firing.specs.FlatSeats.{seats_over}
 use Rattle.bound_firing.specs.References.{flat_seats_in}
-use Rattle.bound_rounds.specs.Rounds.{BoundTable, seat_in, fired}
+use Rattle.envelopes.specs.Envelopes.{MaybeDevice, MaybeLink, Envelope, ids, is_sure, bounds_in, maybe_near}
+use Rattle.bound_rounds.specs.Rounds.{BoundTable, seat_in, fired_within}
 use Rattle.bound_rounds.specs.Tables.{device_at, Stand, HaveSlots, SeeTable}
+use Rattle.bound_rounds.proofs.Places.{no_near}
 
 module _ {A B C : Type 0} (f : A → C) (g : B → C) where
   -- lists that are the same by two functions are so place by place
@@ -43,79 +44,82 @@ module _ {A B C : Type 0} (f : A → C) (g : B → C) where
       let r = at_map b xs ys (omega (arith, l)) (λ i a k. h (suc i) a (omega (arith, k))) in
       rw (e, r) refl
 
-pub many_numbers : (N : Network) → length (numbers N.devices) ≡ length N.devices
-many_numbers N = length-map N.devices (λ (n : NetDevice). n.id)
+pub many_numbers : (E : Envelope) → length (ids E.devices) ≡ length E.devices
+many_numbers E = length-map E.devices (λ (m : MaybeDevice). m.id)
 
-module _ (U : Unfolding) (N : Network) (table : BoundTable) (xs : List FlatBound) where
-  pub stand_at : Stand U N table xs → (i : ℕ) (x : FlatBound) → i < length N.devices
-      → export_bound_in U (get_or xs i x) ≡ table (device_at N i)
-  stand_at s i x h = map_at (export_bound_in U) table xs (numbers N.devices) s i x 0
-      (let m = many_numbers N in omega (arith, h, m))
+module _ (U : Unfolding) (E : Envelope) (table : BoundTable) (xs : List FlatBound) where
+  pub stand_at : Stand U E table xs → (i : ℕ) (x : FlatBound) → i < length E.devices
+      → export_bound_in U (get_or xs i x) ≡ table (device_at E i)
+  stand_at s i x h = map_at (export_bound_in U) table xs (ids E.devices) s i x 0
+      (let m = many_numbers E in omega (arith, h, m))
 
-  pub at_stand : length xs ≡ length N.devices → ((i : ℕ) (x : FlatBound) → i < length N.devices
-      → export_bound_in U (get_or xs i x) ≡ table (device_at N i)) → Stand U N table xs
-  at_stand l h = let m = many_numbers N in
-      at_map (export_bound_in U) table 0 xs (numbers N.devices) (omega (arith, l, m))
+  pub at_stand : length xs ≡ length E.devices → ((i : ℕ) (x : FlatBound) → i < length E.devices
+      → export_bound_in U (get_or xs i x) ≡ table (device_at E i)) → Stand U E table xs
+  at_stand l h = let m = many_numbers E in
+      at_map (export_bound_in U) table 0 xs (ids E.devices) (omega (arith, l, m))
       (λ i x k. h i x (omega (arith, k, m)))
 
-  -- a near seat over the bounds at the place of a neighbour
-  pub near_seat : Stand U N table xs → (i : ℕ) (b : FlatBound) (n : NearSeat) → i < length N.devices → b ≡ get_or xs i b
-      → device_at N i ≡ n.device → n.greatest ≡ n.least
-      → n.sure ≡ b.sure → n.slots.now ≡ b.slots.items → seat_over U.main 0 (near_seat_in n)
-      ≡ seat_in table (n.device, n.least)
-  near_seat s i b n h is at exact sure slots =
-      let e : export_bound_in U b ≡ table n.device = ap (export_bound_in U) is ∙ stand_at s i b h ∙ ap table at in
-      let p : n.sure ≡ (table n.device).sure = sure ∙ ap (λ (x : ExportBound). x.sure) e in
-      let q : bound_tree_at U.main 0 (local_bounds_in n.slots.now) ≡ (table n.device).tree =
-      ap (λ ys. bound_tree_at U.main 0 (local_bounds_in ys)) slots ∙ ap (λ (x : ExportBound). x.tree) e in
-      rw (p, q, exact) refl
+-- a seat is that of a neighbour over a bound
+pub record IsSeatOf (n : ℕ × MaybeLink) (b : FlatBound) (s : NearSeat) : Type 0 where
+  pub device : s.device ≡ n.0
+  pub least : s.least ≡ n.1.least
+  pub greatest : s.greatest ≡ n.1.greatest
+  pub sure : s.sure ≡ (n.1.sure && b.sure)
+  pub slots : s.slots.now ≡ b.slots.items
+
+-- it stands for that of the neighbour over a table
+near_seat : (U : Unfolding) (E : Envelope) (table : BoundTable) (xs : List FlatBound) → Stand U E table xs → (i : ℕ)
+    (b : FlatBound) (n : ℕ × MaybeLink) (s : NearSeat) → i < length E.devices → b ≡ get_or xs i b
+    → device_at E i ≡ n.0 → IsSeatOf n b s → seat_over U.main 0 (near_seat_in s) ≡ seat_in table n
+near_seat U E table xs t i b n s h is at o =
+    let e : export_bound_in U b ≡ table n.0 = ap (export_bound_in U) is ∙ stand_at U E table xs t i b h
+    ∙ ap table at in
+    let device = o.device in
+    let least = o.least in
+    let greatest = o.greatest in
+    let sure : s.sure ≡ (n.1.sure && (table n.0).sure) =
+    o.sure ∙ ap (λ (x : ExportBound). n.1.sure && x.sure) e in
+    let tree : bound_tree_at U.main 0 (local_bounds_in s.slots.now) ≡ (table n.0).tree =
+    ap (λ ys. bound_tree_at U.main 0 (local_bounds_in ys)) o.slots ∙ ap (λ (x : ExportBound). x.tree) e in
+    rw (device, least, greatest, sure, tree) refl
 
 -- one seat more
-pub seats_more : (U : Unfolding) (table : BoundTable) (ss : List NearSeat) (s : NearSeat) (ns : List (ℕ × ℕ))
+pub seats_more : (U : Unfolding) (table : BoundTable) (ss : List NearSeat) (s : NearSeat) (ns : List (ℕ × MaybeLink))
     (k : ℕ) → k < length ns
     → map (seat_over U.main 0) (near_seats_in ss) ≡ map (seat_in table) (take k ns)
-    → seat_over U.main 0 (near_seat_in s) ≡ seat_in table (get_or ns k (0, 0))
+    → seat_over U.main 0 (near_seat_in s) ≡ seat_in table (get_or ns k no_near)
     → map (seat_over U.main 0) (near_seats_in (ss ++ s ∷ [])) ≡ map (seat_in table) (take (suc k) ns)
 seats_more U table ss s ns k h e q =
     ap (map (seat_over U.main 0)) (map-append near_seat_in ss (s ∷ []))
     ∙ map-append (seat_over U.main 0) (near_seats_in ss) (near_seat_in s ∷ [])
     ∙ ap (λ ys. ys ++ seat_over U.main 0 (near_seat_in s) ∷ []) e
     ∙ ap (λ y. map (seat_in table) (take k ns) ++ y ∷ []) q
-    ∙ sym (map-append (seat_in table) (take k ns) (get_or ns k (0, 0) ∷ []))
-    ∙ ap (map (seat_in table)) (sym (take-suc ns k (0, 0) h))
+    ∙ sym (map-append (seat_in table) (take k ns) (get_or ns k no_near ∷ []))
+    ∙ ap (map (seat_in table)) (sym (take-suc ns k no_near h))
 
 -- ---- seats of the first neighbours of a device
 
 abbrev Long : ℕ → NearSeat → Type 0
 Long n s = length s.slots.now ≡ n
 
-pub record NearSeen (N : Network) (xs : List FlatBound) (d k : ℕ) (ss : List NearSeat) : Type 0 where
-  pub seen : (U : Unfolding) (table : BoundTable) → Stand U N table xs
-      → map (seat_over U.main 0) (near_seats_in ss) ≡ map (seat_in table) (take k (near N d))
+pub record NearSeen (E : Envelope) (xs : List FlatBound) (d k : ℕ) (ss : List NearSeat) : Type 0 where
+  pub seen : (U : Unfolding) (table : BoundTable) → Stand U E table xs
+      → map (seat_over U.main 0) (near_seats_in ss) ≡ map (seat_in table) (take k (maybe_near d E.links))
   pub long : (n : ℕ) → HaveSlots n xs → All (λ (s : NearSeat). length s.slots.now ≡ n) ss
 
-pub none_seen : (N : Network) (xs : List FlatBound) (d : ℕ) → NearSeen N xs d 0 []
-none_seen N xs d = record { seen = λ U table s. refl; long = λ n h. All-nil (Long n) }
+pub none_seen : (E : Envelope) (xs : List FlatBound) (d : ℕ) → NearSeen E xs d 0 []
+none_seen E xs d = record { seen = λ U table s. refl; long = λ n h. All-nil (Long n) }
 
--- a seat is that of a neighbour over a bound
-pub record IsSeatOf (n : ℕ × ℕ) (b : FlatBound) (s : NearSeat) : Type 0 where
-  pub device : s.device ≡ n.0
-  pub least : s.least ≡ n.1
-  pub greatest : s.greatest ≡ n.1
-  pub sure : s.sure ≡ b.sure
-  pub slots : s.slots.now ≡ b.slots.items
-
-module _ (N : Network) (xs : List FlatBound) (many : length xs ≡ length N.devices) (d k at : ℕ) (ss : List NearSeat)
+module _ (E : Envelope) (xs : List FlatBound) (many : length xs ≡ length E.devices) (d k at : ℕ) (ss : List NearSeat)
     (s : NearSeat) (b : FlatBound) where
-  pub seen_next : k < length (near N d) → at < length N.devices → b ≡ get_or xs at b
-      → device_at N at ≡ (get_or (near N d) k (0, 0)).0
-      → IsSeatOf (get_or (near N d) k (0, 0)) b s → NearSeen N xs d k ss → NearSeen N xs d (suc k) (ss ++ s ∷ [])
+  pub seen_next : k < length (maybe_near d E.links) → at < length E.devices → b ≡ get_or xs at b
+      → device_at E at ≡ (get_or (maybe_near d E.links) k no_near).0
+      → IsSeatOf (get_or (maybe_near d E.links) k no_near) b s → NearSeen E xs d k ss
+      → NearSeen E xs d (suc k) (ss ++ s ∷ [])
   seen_next h l is place o seen = record {
     seen = λ U table t.
-        let q = near_seat U N table xs t at b s l is (place ∙ sym o.device) (o.greatest ∙ sym o.least) o.sure o.slots in
-        let w : seat_in table (s.device, s.least) ≡ seat_in table (get_or (near N d) k (0, 0)) =
-        (let e = o.device in let e' = o.least in rw (e, e') refl) in
-        seats_more U table ss s (near N d) k h (seen.seen U table t) (q ∙ w);
+        seats_more U table ss s (maybe_near d E.links) k h (seen.seen U table t)
+        (near_seat U E table xs t at b (get_or (maybe_near d E.links) k no_near) s l is place o);
     long = λ n h.
         let e = All-get_or (λ (x : FlatBound). length x.slots.items ≡ n) xs at b (omega (arith, l, many)) h in
         All-push (Long n) ss s (seen.long n h) (ap length o.slots ∙ ap (λ (x : FlatBound). length x.slots.items) is
@@ -123,20 +127,21 @@ module _ (N : Network) (xs : List FlatBound) (many : length xs ≡ length N.devi
   }
 
 -- with the own seat
-module _ (N : Network) (xs : List FlatBound) (many : length xs ≡ length N.devices) (p k : ℕ) (b : FlatBound)
+module _ (E : Envelope) (xs : List FlatBound) (many : length xs ≡ length E.devices) (p k : ℕ) (b : FlatBound)
     (o : OwnSeat) (v : Vec NearSeat Global) where
-  pub see_table : p < length N.devices → b ≡ get_or xs p b → o.sure ≡ b.sure → o.slots.now ≡ b.slots.items
-      → length (near N (device_at N p)) ≤ k
-      → NearSeen N xs (device_at N p) k v.items → SeeTable N xs (device_at N p) (record { own = Some o; near = v })
+  pub see_table : p < length E.devices → b ≡ get_or xs p b → o.sure ≡ b.sure → o.slots.now ≡ b.slots.items
+      → length (maybe_near (device_at E p) E.links) ≤ k
+      → NearSeen E xs (device_at E p) k v.items → SeeTable E xs (device_at E p) (record { own = Some o; near = v })
   see_table h is sure slots all seen = record {
     seen = λ U table t.
-        let e : export_bound_in U b ≡ table (device_at N p) = ap (export_bound_in U) is
-        ∙ stand_at U N table xs t p b h in
-        let a : o.sure ≡ (table (device_at N p)).sure = sure ∙ ap (λ (x : ExportBound). x.sure) e in
-        let q : bound_tree_at U.main 0 (local_bounds_in o.slots.now) ≡ (table (device_at N p)).tree =
+        let e : export_bound_in U b ≡ table (device_at E p) = ap (export_bound_in U) is
+        ∙ stand_at U E table xs t p b h in
+        let a : o.sure ≡ (table (device_at E p)).sure = sure ∙ ap (λ (x : ExportBound). x.sure) e in
+        let q : bound_tree_at U.main 0 (local_bounds_in o.slots.now) ≡ (table (device_at E p)).tree =
         ap (λ ys. bound_tree_at U.main 0 (local_bounds_in ys)) slots ∙ ap (λ (x : ExportBound). x.tree) e in
-        let r : map (seat_over U.main 0) (near_seats_in v.items) ≡ map (seat_in table) (near N (device_at N p)) =
-        seen.seen U table t ∙ ap (map (seat_in table)) (take_all k (near N (device_at N p)) all) in
+        let ns = maybe_near (device_at E p) E.links in
+        let r : map (seat_over U.main 0) (near_seats_in v.items) ≡ map (seat_in table) ns =
+        seen.seen U table t ∙ ap (map (seat_in table)) (take_all k ns all) in
         rw (a, q, r) refl;
     own = λ n s.
         let e = All-get_or (λ (x : FlatBound). length x.slots.items ≡ n) xs p b (omega (arith, h, many)) s in
@@ -145,9 +150,9 @@ module _ (N : Network) (xs : List FlatBound) (many : length xs ≡ length N.devi
   }
 
 -- the firing over seats of a table is that over the table
-pub fired_over : (U : Unfolding) (N : Network) (table : BoundTable) (xs : List FlatBound) (d device : ℕ)
-    (inputs : List BoundValue) (seats : CodeSeats) → device ≡ d → inputs ≡ map exactly (inputs_in d N.devices)
-    → Stand U N table xs → SeeTable N xs d seats
-    → bound_export true (bound_of (situation_for U.declared device inputs) 0 U.main []
-    (seats_over U.main 0 (flat_seats_in seats))) ≡ fired U N table d
-fired_over U N table xs d device inputs seats e q t s = let r = s.seen U table t in rw (e, q, r) refl
+pub fired_over : (U : Unfolding) (E : Envelope) (table : BoundTable) (xs : List FlatBound) (d device : ℕ)
+    (inputs : List BoundValue) (sure : Bool) (seats : CodeSeats) → device ≡ d → inputs ≡ bounds_in d E.devices
+    → sure ≡ is_sure E d → Stand U E table xs → SeeTable E xs d seats
+    → bound_export sure (bound_of (situation_for U.declared device inputs) 0 U.main []
+    (seats_over U.main 0 (flat_seats_in seats))) ≡ fired_within U E table d
+fired_over U E table xs d device inputs sure seats e q p t s = let r = s.seen U table t in rw (e, q, p, r) refl

@@ -5,27 +5,27 @@ use Rattle.std.proofs.lemmas.List.{length-map}
 use Rattle.fc_values.specs.Fields.{is_in, Rises}
 use Rattle.fc_values.proofs.Rising.{rises_apart, rises_tail}
 use Rattle.fc_nodes.specs.Program.{Unfolding}
-use Rattle.topology.specs.Networks.{Network, numbers, Lives, IsNetwork}
 use Rattle.bound_firing.specs.declared.firing.ExportBound.{ExportBound as FlatBound}
 use Rattle.bound_firing.specs.ExportReferences.{export_bound_in}
+use Rattle.envelopes.specs.Envelopes.{Envelope, ids, MayLive, IsEnvelope}
 use Rattle.bound_rounds.specs.Rounds.{BoundTable}
 use Rattle.bound_rounds.specs.Tables.{Stand, FitTable, table_by, slot_counts}
 use Rattle.bound_rounds.proofs.Closeness.{or_second, stands_at}
 use Rattle.bound_rounds.proofs.Standing.{map_at, many_numbers}
 
--- tables for which the same bounds stand are the same at the devices of the network
-pub stand_live : (U : Unfolding) (N : Network) (s t : BoundTable) (xs : List FlatBound) → Stand U N s xs
-    → Stand U N t xs → (d : ℕ) → Lives N d → s d ≡ t d
-stand_live U N s t xs h g d l =
-    let p = stands_at N d l in
-    let m = many_numbers N in
+-- tables for which the same bounds stand are the same at the devices of the envelope
+pub stand_live : (U : Unfolding) (E : Envelope) (s t : BoundTable) (xs : List FlatBound) → Stand U E s xs
+    → Stand U E t xs → (d : ℕ) → MayLive E d → s d ≡ t d
+stand_live U E s t xs h g d l =
+    let p = stands_at E d l in
+    let m = many_numbers E in
     subst (λ x. s x ≡ t x) p.is_there
-    (map_at s t (numbers N.devices) (numbers N.devices) (sym h ∙ g) p.place 0 0 (omega (arith, p.within, m)))
+    (map_at s t (ids E.devices) (ids E.devices) (sym h ∙ g) p.place 0 0 (omega (arith, p.within, m)))
 
 -- and bounds stand for each table that is the same there
-pub stand_as : (U : Unfolding) (N : Network) (s t : BoundTable) (xs : List FlatBound)
-    → ((d : ℕ) → Lives N d → s d ≡ t d) → Stand U N s xs → Stand U N t xs
-stand_as U N s t xs h n = n ∙ live_map (numbers N.devices) h
+pub stand_as : (U : Unfolding) (E : Envelope) (s t : BoundTable) (xs : List FlatBound)
+    → ((d : ℕ) → MayLive E d → s d ≡ t d) → Stand U E s xs → Stand U E t xs
+stand_as U E s t xs h n = n ∙ live_map (ids E.devices) h
   where
     live_map : (ds : List ℕ) → ((d : ℕ) → is_in d ds ≡ true → s d ≡ t d) → map s ds ≡ map t ds
     live_map [] h = refl
@@ -36,11 +36,11 @@ stand_as U N s t xs h n = n ∙ live_map (numbers N.devices) h
         let r = live_map ds (λ x i. h x (or_second (nat_eq x d) (is_in x ds) i)) in
         rw (e, r) refl
 
--- bounds of the devices of a network stand for a table
-pub by_stands : (U : Unfolding) (N : Network) → IsNetwork N → (xs : List FlatBound) → length xs ≡ length N.devices
-    → Stand U N (table_by U (numbers N.devices) xs) xs
-by_stands U N net xs l =
-    let m = many_numbers N in by_list (numbers N.devices) xs net.rising (omega (arith, l, m))
+-- bounds of the devices of an envelope stand for a table
+pub by_stands : (U : Unfolding) (E : Envelope) → IsEnvelope E → (xs : List FlatBound) → length xs ≡ length E.devices
+    → Stand U E (table_by U (ids E.devices) xs) xs
+by_stands U E envelope xs l =
+    let m = many_numbers E in by_list (ids E.devices) xs envelope.rising (omega (arith, l, m))
   where
     later : (i : ℕ) (x : FlatBound) (is : List ℕ) (xs : List FlatBound) → (ds : List ℕ)
         → ((d : ℕ) → is_in d ds ≡ true → nat_eq d i ≡ false)
@@ -71,9 +71,9 @@ by_stands U N net xs l =
             absurd cc)
 
 -- bounds with as many slots as those of a table
-pub fit_copies : (U : Unfolding) (N : Network) (xs ys : List FlatBound) → slot_counts ys ≡ slot_counts xs
-    → FitTable U N xs → FitTable U N ys
-fit_copies U N xs ys e f =
+pub fit_copies : (U : Unfolding) (E : Envelope) (xs ys : List FlatBound) → slot_counts ys ≡ slot_counts xs
+    → FitTable U E xs → FitTable U E ys
+fit_copies U E xs ys e f =
     let slots = λ (x : FlatBound). length x.slots.items in
     let long : length ys ≡ length xs = sym (length-map ys slots) ∙ ap length e ∙ length-map xs slots in
     record {

@@ -1,17 +1,15 @@
-//! Copies of bounds of exports, and exact bounds of inputs.
+//! Copies of bounds of exports.
 
 ghost use Rattle.std.specs.Prelude.{◌≡◌, IfOk, length, map};
-ghost use Rattle.fc_values.specs.Values.{local_of};
 ghost use Rattle.fc_nodes.specs.Program.{Unfolding};
-ghost use Rattle.value_bounds.specs.BoundValues.{exactly as exactly_of};
 ghost use Rattle.value_bounds.specs.References.{local_bounds_in};
 ghost use Rattle.bound_firing.specs.ExportReferences.{export_bound_in};
 ghost use Rattle.bound_rounds.specs.Tables.{slot_counts};
 
 use bound_firing::ExportBound;
-use fc_values::{Local, Memory};
+use fc_values::Memory;
 use std::alloc::Global;
-use value_bounds::{LocalBound, copy_bound, exactly};
+use value_bounds::{LocalBound, copy_bound};
 
 /// Copies of the bounds of exports.
 pub fn copy_bounds(alloc: Global, bounds: &[ExportBound]) -> Result<Vec<ExportBound>, Memory>
@@ -47,15 +45,4 @@ fn copy_slots(alloc: Global, slots: &[LocalBound]) -> Result<Vec<LocalBound>, Me
         copies.push(copy_bound(alloc, slot)?)?;
     }
     Ok(copies)
-}
-
-/// The exact bounds of values.
-pub fn exact_bounds(alloc: Global, values: &[Local]) -> Result<Vec<LocalBound>, Memory>
-    ensures { IfOk result (λ v. local_bounds_in v.items ≡ map exactly_of (map local_of values.now)) }
-{
-    let mut bounds = Vec::with_capacity(alloc, values.len())?;
-    for value in values {
-        bounds.push(exactly(alloc, value)?)?;
-    }
-    Ok(bounds)
 }

@@ -1,7 +1,9 @@
-//! Rounds over tables of bounds of exports.
+//! Rounds over tables of bounds of exports, within an envelope.
 #![tactic(auto)]
 
 mod copies;
+mod laws;
 mod rounds;
 
+pub use laws::rounds_are_local;
 pub use rounds::{RoundKind, Table, round, table_of};

@@ -1,10 +1,6 @@
-mod Left
-mod OneExport
-mod Inside
-mod HoldWithin
-mod Still
-mod Growing
-mod StartTables
-mod Lines
+mod EditsStay
+mod LookedUp
+mod LogRounds
 mod Exact
+mod Lines
 mod Yes

@@ -1,44 +1,35 @@
 -- What the bounds of lines promise.
-use Rattle.std.proofs.Common.{◌≡◌, ◌⊎◌, ◌≤◌, ℕ, sym, ◌∙◌, subst, true, false, Some, inl, inr}
+use Rattle.std.proofs.Common.{◌≡◌, ◌⊎◌, ◌≤◌, ℕ, refl, sym, ◌∙◌, subst, true, false, Some, inl, inr}
 use Rattle.fc_values.specs.Trees.{TreeExport}
-use Rattle.fc_nodes.specs.Program.{Program, unfolding_of, IsProgram}
-use Rattle.firing_core.specs.Cores.{Core, IsGood}
+use Rattle.fc_nodes.specs.Program.{Unfolding, unfolding_of}
+use Rattle.firing_core.specs.Cores.{Core}
 use Rattle.value_bounds.specs.BoundValues.{BoundValue, Lies}
-use Rattle.bound_rounds.specs.Rounds.{BoundTable}
-use Rattle.envelope_bounds.specs.Rounds.{rounds_within}
-use Rattle.envelopes.specs.Envelopes.{Envelope, MayLive, is_sure, IsEnvelope}
+use Rattle.envelopes.specs.Envelopes.{Envelope, is_sure}
+use Rattle.bound_rounds.specs.Rounds.{BoundTable, rounds_within}
 use Rattle.settle_rounds.specs.Rounds.{any_table}
-use Rattle.envelope_bounds.specs.Within.{StandsIn, IsClosedWithin, HoldsCoreWithin, RoundsWithin, BoundsHoldWithinFrom}
-use Rattle.envelope_bounds.specs.Within.{StartsHoldWithin}
+use Rattle.settle_rounds.specs.Within.{StandsIn, BoundsHoldWithin, BoundsHoldWithinFrom, StartsHoldWithin}
 use Rattle.envelope_bounds.specs.Lines.{HasBound, LiesAt, LinesHold, LinesHoldAnyhow}
-use Rattle.envelope_bounds.proofs.HoldWithin.{any_closed_within, any_holds_within}
 
-bound_holds : BoundsHoldWithinFrom → (P : Program) (E : Envelope) → IsProgram P → IsEnvelope E → (start last : Core)
-    → IsGood (unfolding_of P) start → (table : BoundTable) → IsClosedWithin (unfolding_of P) E table
-    → HoldsCoreWithin (unfolding_of P) E table start → (r d : ℕ) (b : BoundValue) → MayLive E d
-    → HasBound (unfolding_of P) E table r d b → (m : ℕ) → r ≤ m → RoundsWithin (unfolding_of P) E m start last
-    → LiesAt E d b last
-bound_holds from P E program envelope start last good table closed holds r d b l h m le log =
-    let s = from P E program envelope table closed start last good holds r m d l le log in
-    record {
-      value = λ e q. subst (λ x. Lies x e.value) h.is (s.lies e q).value;
-      there = λ g. by_cases s g h.there;
-    }
+-- what stands in the bound of a line lies there
+bound_holds : (U : Unfolding) (E : Envelope) (table : BoundTable) (r d : ℕ) (b : BoundValue) (last : Core)
+    → HasBound U E table r d b → StandsIn U (rounds_within U E table r d) (last.exports d) → LiesAt E d b last
+bound_holds U E table r d b last h s = record {
+  value = λ e q. subst (λ x. Lies x e.value) h.is (s.lies e q).value;
+  there = λ g. by_cases g h.there;
+}
   where
-    by_cases : StandsIn (unfolding_of P) (rounds_within (unfolding_of P) E table r d) (last.exports d)
-        → is_sure E d ≡ true → ((rounds_within (unfolding_of P) E table r d).sure ≡ true) ⊎ (is_sure E d ≡ false)
+    by_cases : is_sure E d ≡ true → ((rounds_within U E table r d).sure ≡ true) ⊎ (is_sure E d ≡ false)
         → (e : TreeExport) × (last.exports d ≡ Some e)
-    by_cases s g (inl t) = s.sure t
-    by_cases s g (inr u) = let z : false ≡ true = sym u ∙ g in absurd cc
+    by_cases g (inl t) = s.sure t
+    by_cases g (inr u) = let z : false ≡ true = sym u ∙ g in absurd cc
 
 pub lines_hold : BoundsHoldWithinFrom → StartsHoldWithin → LinesHold
 lines_hold from starts P E program envelope start last good most table is r d b l h m le log =
     let t = (starts P E program start good most).hold table is in
-    bound_holds from P E program envelope start last good table t.closed t.holds r d b l h m le log
+    bound_holds (unfolding_of P) E table r d b last h
+    (from P E program envelope table t.closed start last good t.holds r m d l le log)
 
-pub lines_hold_anyhow : BoundsHoldWithinFrom → LinesHoldAnyhow
-lines_hold_anyhow from P E program envelope start last good r d b l h m le log =
-    let U = unfolding_of P in
-    bound_holds from P E program envelope start last good (any_table U) (any_closed_within U E)
-    (any_holds_within U E start good)
-    r d b l h m le log
+pub lines_hold_anyhow : BoundsHoldWithin → LinesHoldAnyhow
+lines_hold_anyhow hold P E program envelope start last good r d b l h m le log =
+    bound_holds (unfolding_of P) E (any_table (unfolding_of P)) r d b last h
+    ((hold P E program envelope start last good m d l log).bounds r le)

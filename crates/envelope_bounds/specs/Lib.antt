@@ -1,5 +1,6 @@
-pub mod Rounds
-pub mod Within
-pub mod Lines
+pub mod Edits
+pub mod Lookups
+pub mod Logs
 pub mod Laws
+pub mod Lines
 pub mod Yes

@@ -1,27 +1,13 @@
--- When tables over an envelope stay, and what bounds of devices promise.
+-- What lines of text promise: the bound of a device after so many rounds.
 use Rattle.std.specs.Prelude.{ℕ, true, false, ◌≡◌, ◌≤◌, ◌⊎◌, Some}
 use Rattle.fc_values.specs.Trees.{TreeExport}
 use Rattle.fc_nodes.specs.Program.{Program, Unfolding, unfolding_of, IsProgram}
 use Rattle.firing_core.specs.Cores.{Core, IsGood}
 use Rattle.value_bounds.specs.BoundValues.{BoundValue, Lies}
-use Rattle.bound_rounds.specs.declared.rounds.RoundKind.{RoundKind}
-use Rattle.bound_rounds.specs.Rounds.{BoundTable}
-use Rattle.envelope_bounds.specs.Rounds.{table_within, rounds_within, IsFixedWithin}
+use Rattle.bound_rounds.specs.Rounds.{BoundTable, rounds_within}
 use Rattle.envelopes.specs.Envelopes.{Envelope, MayLive, is_sure, IsEnvelope}
 use Rattle.settle_rounds.specs.Rounds.{any_table}
-use Rattle.envelope_bounds.specs.Within.{RoundsWithin, StartTableWithin}
-
--- the round after the first j ones changes no bound of a device that may be there
-abbrev pub IsStillWithin : RoundKind → Unfolding → Envelope → BoundTable → ℕ → Type 0
-IsStillWithin k U E start j = IsFixedWithin k U E (table_within k U E start j)
-
--- from then on nothing changes
-abbrev pub StillStaysWithin : Type 0
-StillStaysWithin = (k : RoundKind) (U : Unfolding) (E : Envelope) → IsEnvelope E → (start : BoundTable) (j i : ℕ)
-    → IsStillWithin k U E start j → j ≤ i → (d : ℕ) → MayLive E d
-    → table_within k U E start i d ≡ table_within k U E start j d
-
--- ---- what a line of text promises
+use Rattle.settle_rounds.specs.Within.{RoundsWithin, StartTableWithin}
 
 -- the bound of a device's value in the table after r rounds, where the export is there for sure or the device may be
 -- away. In the text r is the first round with the last bound

@@ -8,12 +8,10 @@ use Rattle.topology.specs.Networks.{NetDevice, Edge, Network, network_of, IsNetw
 use Rattle.value_bounds.specs.BoundValues.{Lies, exactly}
 use Rattle.value_bounds.proofs.Values.{lies_exactly}
 use Rattle.bound_firing.specs.Firing.{InputsLie}
-use Rattle.net_moves.proofs.Plain.{plain_stays, plain_rounds_are}
 use Rattle.envelopes.specs.Envelopes.{ids, MayLive, sure_in, bounds_in, least_edge, IsEnvelope, DevicesWithin}
 use Rattle.envelopes.specs.Envelopes.{no_device}
 use Rattle.envelopes.specs.Envelopes.{is_there, is_away, LinksWithin, no_link, is_linked, is_unlinked, LiesWithin}
 use Rattle.envelopes.specs.Exactly.{exact_device, exact_link, exact_envelope}
-use Rattle.envelopes.specs.Laws.{EnvelopesAreExact}
 
 -- ---- what is exact is one
 
@@ -88,7 +86,7 @@ links_exact (l ∷ ls) = is_linked (exact_link l) l
 pub exact_within : (N : Network) → LiesWithin (exact_envelope N) N
 exact_within N = record { declared = refl; devices = devices_exact N.devices; links = links_exact N.links }
 
-exact_only : (N M : Network) → LiesWithin (exact_envelope N) M → M ≡ N
+pub exact_only : (N M : Network) → LiesWithin (exact_envelope N) M → M ≡ N
 exact_only N M w =
     ap (λ D. network_of D M.devices M.links) w.declared
     ∙ ap (λ ns. network_of N.declared ns M.links) (exact_devices N.devices M.devices w.devices)
@@ -138,12 +136,3 @@ inputs_are d (n ∷ ns) = by_test (nat_eq d n.id) (inputs_are d ns)
         ≡ map exactly (if c then n.inputs else inputs_in d ns)
     by_test true ih = refl
     by_test false ih = ih
-
-pub envelopes_are_exact : EnvelopesAreExact
-envelopes_are_exact N net = record {
-  envelope = exact_is N net;
-  within = exact_within N;
-  only = exact_only N;
-  stays = λ log h. plain_stays (LiesWithin (exact_envelope N)) N log (exact_within N) h;
-  rounds = λ log m p. plain_rounds_are N log m p;
-}

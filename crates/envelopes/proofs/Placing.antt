@@ -17,7 +17,7 @@ use Rattle.envelopes.specs.declared.types.DeviceBound.{DeviceBound}
 use Rattle.envelopes.specs.declared.types.LinkBound.{LinkBound}
 use Rattle.envelopes.specs.Envelopes.{MaybeDevice, MaybeLink, ids, maybe_near, least_edge}
 use Rattle.envelopes.specs.Code.{maybe_device_of, maybe_link_of, near_each, EndsFit, neighbour_of, neighbours_of}
-use Rattle.envelopes.proofs.EditsStay.{later_above}
+use Rattle.envelopes.proofs.Within.{later_above}
 
 -- ---- places
 

@@ -1,10 +1,11 @@
 -- Crates above cite this module: what a network within an envelope has of it, and the neighbours in an envelope.
-use Rattle.std.proofs.Common.{◌≡◌, ℕ, List, [], ◌∷◌, map, refl, sym, ◌∙◌, ap, subst, Bool, true, false, ◌&&◌, ◌||◌}
-use Rattle.std.proofs.Common.{if◌then◌else◌}
+use Rattle.std.proofs.Common.{◌≡◌, ◌<◌, ℕ, List, [], ◌∷◌, map, refl, sym, ◌∙◌, ap, subst, arith, Bool, true, false}
+use Rattle.std.proofs.Common.{◌&&◌, ◌||◌, if◌then◌else◌}
 use Rattle.std.specs.Prelude.{nat_eq}
+use Rattle.std.proofs.lemmas.Bool.{eqb-true}
 use Rattle.fc_values.specs.Types.{Declarations}
 use Rattle.fc_values.specs.Fields.{Rises, is_in}
-use Rattle.fc_values.proofs.Rising.{rises_apart, rises_tail}
+use Rattle.fc_values.proofs.Rising.{rises_apart, rises_tail, rises_weaker}
 use Rattle.topology.specs.Networks.{NetDevice, Network, LinksFit, numbers, lives, Lives, inputs_in, near_in}
 use Rattle.topology.specs.Nearby.{near_numbers}
 use Rattle.topology.proofs.Lemmas.{AllNear, near_fits}
@@ -15,6 +16,15 @@ use Rattle.envelopes.specs.Envelopes.{maybe_near, near_ids, least_edge, IsEnvelo
 use Rattle.envelopes.specs.Envelopes.{is_there, is_away, LiesWithin}
 
 -- ---- devices
+
+-- what is among later numbers is greater
+pub later_above : (k d : ℕ) (ks : List ℕ) → Rises (k ∷ ks) → is_in d ks ≡ true → k < d
+later_above k d [] u h = absurd cc
+later_above k d (n ∷ ns) u h = by_test (nat_eq d n) refl h (later_above k d ns (rises_weaker k n ns u.0 u.1))
+  where
+    by_test : (c : Bool) → nat_eq d n ≡ c → (c || is_in d ns) ≡ true → (is_in d ns ≡ true → k < d) → k < d
+    by_test true t g ih = let e = eqb-true d n t in let l = u.0 in omega (arith, e, l)
+    by_test false t g ih = ih g
 
 -- a device that is there is one of the envelope
 pub may_live_in : (d : ℕ) {ms : List MaybeDevice} {ns : List NetDevice} → DevicesWithin ms ns →

@@ -8,6 +8,8 @@ use Rattle.fc_nodes.specs.Program.{Unfolding}
 use Rattle.topology.specs.declared.types.Device.{Device}
 use Rattle.topology.specs.Networks.{NetDevice, Network, device_of, numbers}
 use Rattle.fragment_check.specs.Verdicts.{verdict_of}
+use Rattle.envelopes.specs.Exactly.{exact_envelope}
+use Rattle.envelopes.proofs.Exact.{ids_same}
 use Rattle.bound_rounds.specs.Rounds.{BoundTable}
 use Rattle.settle_rounds.specs.declared.settling.Settled.{Settled}
 use Rattle.settle_rounds.specs.References.{settled_in}
@@ -30,11 +32,12 @@ zip_map f (d ∷ ds) = ap (λ more. (d, f d) ∷ more) (zip_map f ds)
 
 -- each device has its own
 pub as_many : (U : Unfolding) (N : Network) (table : BoundTable) (cap : ℕ) (xs : List (Option Settled))
-    → map (option_map settled_in) xs ≡ all_settle_to U N table cap → length xs ≡ length N.devices
+    → map (option_map settled_in) xs ≡ all_settle_to U (exact_envelope N) table cap → length xs ≡ length N.devices
 as_many U N table cap xs e =
     sym (length-map xs (option_map settled_in))
     ∙ ap length e
-    ∙ length-map (numbers N.devices) (settles_to U N table cap)
+    ∙ ap (λ ds. length (map (settles_to U (exact_envelope N) table cap) ds)) (ids_same N.devices)
+    ∙ length-map (numbers N.devices) (settles_to U (exact_envelope N) table cap)
     ∙ length-map N.devices (λ (n : NetDevice). n.id)
 
 -- ---- what is made of a program and a network
@@ -47,7 +50,7 @@ pub record AreMade (facts : Bool) (U : Unfolding) (N : Network) (table : BoundTa
   pub verdict : v ≡ verdict_of U n
   pub cap : most ≡ settle_cap v n
   pub judged : text ≡ (checked_of facts U n).text
-  pub settled : os ≡ all_settle_to U N table most
+  pub settled : os ≡ all_settle_to U (exact_envelope N) table most
 
 module _ (facts : Bool) (U : Unfolding) (N : Network) (table : BoundTable) (v : Verdict) (n most : ℕ) (text : List ℕ)
     (os : List (Option (ℕ × LocalValue))) (m : AreMade facts U N table v n most text os) where
@@ -55,7 +58,8 @@ module _ (facts : Bool) (U : Unfolding) (N : Network) (table : BoundTable) (v : 
   judged = m.verdict ∙ ap (verdict_of U) m.many
 
   each : os ≡ map (settled_from U N table) (numbers N.devices)
-  each = m.settled ∙ ap (all_settle_to U N table) (m.cap ∙ ap₂ settle_cap judged m.many)
+  each = m.settled ∙ ap (all_settle_to U (exact_envelope N) table) (m.cap ∙ ap₂ settle_cap judged m.many)
+      ∙ ap (map (settled_from U N table)) (ids_same N.devices)
 
   timed : settle_time v os ≡ time_of U N table
   timed = ap₂ settle_time judged each

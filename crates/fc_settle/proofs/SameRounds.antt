@@ -9,10 +9,12 @@ use Rattle.topology.specs.Networks.{Network, IsNetwork, Lives, numbers}
 use Rattle.fragment_check.specs.Verdicts.{verdict_of}
 use Rattle.value_bounds.specs.BoundValues.{value_left}
 use Rattle.bound_firing.specs.Exports.{ExportBound}
+use Rattle.envelopes.specs.Exactly.{exact_envelope}
+use Rattle.envelopes.proofs.Exact.{exact_is, exact_may_live, live_of_exact}
 use Rattle.bound_rounds.specs.declared.rounds.RoundKind.TheVariants as kind
 use Rattle.bound_rounds.specs.Rounds.{BoundTable, rounds_from}
 use Rattle.settle_rounds.specs.Settling.{first_reached, settle_round}
-use Rattle.settle_rounds.proofs.Still.{after_same}
+use Rattle.settle_rounds.proofs.Still.{after_agree}
 use Rattle.settle_rounds.specs.SettleTimes.{settle_time, settled_from, settles_to}
 use Rattle.report.specs.Settling.{settling_text}
 use Rattle.fc_inputs.specs.Refusals.{Reply}
@@ -32,21 +34,22 @@ module _ (U : Unfolding) (N : Network) (net : IsNetwork N) (s t : BoundTable) (a
   abbrev left_from : BoundTable → ℕ → ℕ × LocalValue
   left_from table k = (k, value_left (rounds_from U N table k d).value)
 
+  rounds_same : (k : ℕ) → rounds_from U N s k d ≡ rounds_from U N t k d
+  rounds_same k = after_agree kind.Firing U (exact_envelope N) (exact_is N net) s t
+      (λ e there. agree e (live_of_exact N e there)) k d (exact_may_live N d lives)
+
   left_same : (o : Option ℕ) → option_map (left_from s) o ≡ option_map (left_from t) o
   left_same None = refl
-  left_same (Some k) =
-      ap (λ (b : ExportBound). pair k (value_left b.value)) (after_same kind.Firing U N net s t agree k d lives)
+  left_same (Some k) = ap (λ (b : ExportBound). pair k (value_left b.value)) (rounds_same k)
     where
       pair : ℕ → LocalValue → Option (ℕ × LocalValue)
       pair k v = Some (k, v)
 
-  round_same : settle_round U N s cap d ≡ settle_round U N t cap d
-  round_same =
-      first_same (λ j. rounds_from U N s j d) (λ j. rounds_from U N t j d)
-      (λ i. after_same kind.Firing U N net s t agree i d lives) (suc cap) 0
+  round_same : settle_round U (exact_envelope N) s cap d ≡ settle_round U (exact_envelope N) t cap d
+  round_same = first_same (λ j. rounds_from U N s j d) (λ j. rounds_from U N t j d) rounds_same (suc cap) 0
 
-  settles_same : settles_to U N s cap d ≡ settles_to U N t cap d
-  settles_same = ap (option_map (left_from s)) round_same ∙ left_same (settle_round U N t cap d)
+  settles_same : settles_to U (exact_envelope N) s cap d ≡ settles_to U (exact_envelope N) t cap d
+  settles_same = ap (option_map (left_from s)) round_same ∙ left_same (settle_round U (exact_envelope N) t cap d)
 
 -- ---- what is made of each device that is there
 later : (a b : Bool) → b ≡ true → (a || b) ≡ true

@@ -4,7 +4,7 @@ ghost use Rattle.fc_settle.specs.Laws.{OneSettle, SomeSettle};
 
 use fc_inputs::{one_input, texts_unfold};
 use fc_replay::inputs_start;
-use settle_rounds::{one_start, starts_hold};
+use settle_rounds::{one_start_within, starts_hold_within};
 
 /// `check --settle` has at most one result for the same texts.
 pub fn one_settle()
@@ -12,7 +12,7 @@ pub fn one_settle()
 {
     one_input();
     inputs_start();
-    one_start();
+    one_start_within();
 }
 
 /// `check --settle` has a result where the text of the program is within the limit.
@@ -22,5 +22,5 @@ pub fn some_settle()
     one_input();
     texts_unfold();
     inputs_start();
-    starts_hold();
+    starts_hold_within();
 }

@@ -1,3 +1,7 @@
+mod Left
+mod OneExport
+mod Inside
+mod HoldWithin
 mod Rising
 mod ReachFrom
 pub mod Still

@@ -1,40 +1,42 @@
--- Crates above cite this module: tables after rounds, and that a round which changes nothing is the last one that does.
+-- Crates above cite this module: tables after rounds within an envelope, and that a round which changes nothing is the
+-- last one that does.
 use Rattle.std.proofs.Common.{◌≡◌, ℕ, zero, suc, ◌+◌, ◌-◌, refl, sym, ◌≤◌, ◌∙◌, ap, arith, subst}
 use Rattle.std.proofs.Common.{true, ◌<◌, Bool, false, Some, None, if◌then◌else◌}
 use Rattle.std.specs.Prelude.{nat_eq, nat_le}
 use Rattle.fc_values.proofs.Rising.{strictly}
 use Rattle.value_bounds.proofs.Values.{nat_same}
 use Rattle.fc_nodes.specs.Program.{Unfolding}
-use Rattle.topology.specs.Networks.{Network, Lives, IsNetwork}
 use Rattle.bound_firing.specs.Exports.{ExportBound}
+use Rattle.envelopes.specs.Envelopes.{Envelope, MayLive, IsEnvelope}
 use Rattle.bound_rounds.specs.declared.rounds.RoundKind.{RoundKind}
 use Rattle.bound_rounds.specs.declared.rounds.RoundKind.TheVariants as kind
-use Rattle.bound_rounds.specs.Rounds.{BoundTable, table_after, rounds_from, IsFixed}
+use Rattle.bound_rounds.specs.Rounds.{BoundTable, table_within, rounds_within, IsFixedWithin}
 use Rattle.bound_rounds.proofs.Closeness.{next_live}
 use Rattle.settle_rounds.specs.Rounds.{is_reached}
-use Rattle.settle_rounds.specs.Settling.{IsStill, StillStays, first_reached, RoundsSettle}
+use Rattle.settle_rounds.specs.Settling.{IsStillWithin, StillStaysWithin, first_reached, RoundsSettle}
 
--- ---- a round depends on the bounds of devices that are there alone, and so do those after it
+-- ---- a round depends on the bounds of devices that may be there alone, and so do those after it
 
-module _ (k : RoundKind) (U : Unfolding) (N : Network) (net : IsNetwork N) (f g : BoundTable)
-    (agree : (n : ℕ) → Lives N n → f n ≡ g n) where
-  pub after_same : (j d : ℕ) → Lives N d → table_after k U N f j d ≡ table_after k U N g j d
-  after_same zero d l = agree d l
-  after_same (suc j) d l = next_live k U N net (table_after k U N f j) (table_after k U N g j) (after_same j) d l
+module _ (k : RoundKind) (U : Unfolding) (E : Envelope) (envelope : IsEnvelope E) (f g : BoundTable)
+    (agree : (n : ℕ) → MayLive E n → f n ≡ g n) where
+  pub after_agree : (j d : ℕ) → MayLive E d → table_within k U E f j d ≡ table_within k U E g j d
+  after_agree zero d l = agree d l
+  after_agree (suc j) d l =
+      next_live k U E envelope (table_within k U E f j) (table_within k U E g j) (after_agree j) d l
 
-  pub fixed_same : IsFixed k U N f → IsFixed k U N g
-  fixed_same fixed d l = sym (next_live k U N net f g agree d l) ∙ fixed d l ∙ agree d l
+  pub still_agree : IsFixedWithin k U E f → IsFixedWithin k U E g
+  still_agree fixed d l = sym (next_live k U E envelope f g agree d l) ∙ fixed d l ∙ agree d l
 
-module _ (k : RoundKind) (U : Unfolding) (N : Network) (net : IsNetwork N) (start : BoundTable) (j : ℕ)
-    (s : IsStill k U N start j) where
-  more : (m i : ℕ) → i ≡ j + m → (n : ℕ) → Lives N n → table_after k U N start i n ≡ table_after k U N start j n
-  more zero i e n l = let same : i ≡ j = omega (arith, e) in ap (λ x. table_after k U N start x n) same
+module _ (k : RoundKind) (U : Unfolding) (E : Envelope) (envelope : IsEnvelope E) (start : BoundTable) (j : ℕ)
+    (s : IsStillWithin k U E start j) where
+  more : (m i : ℕ) → i ≡ j + m → (n : ℕ) → MayLive E n → table_within k U E start i n ≡ table_within k U E start j n
+  more zero i e n l = let same : i ≡ j = omega (arith, e) in ap (λ x. table_within k U E start x n) same
   more (suc m) zero e n l = absurd (omega (arith, e))
-  more (suc m) (suc i) e n l = next_live k U N net (table_after k U N start i) (table_after k U N start j)
+  more (suc m) (suc i) e n l = next_live k U E envelope (table_within k U E start i) (table_within k U E start j)
       (more m i (omega (arith, e))) n l ∙ s n l
 
-pub still_stays : StillStays
-still_stays k U N net start j i s l d m = more k U N net start j s (i - j) i (omega (arith, l)) d m
+pub still_stays_within : StillStaysWithin
+still_stays_within k U E envelope start j i s l d m = more k U E envelope start j s (i - j) i (omega (arith, l)) d m
 
 -- ---- the first round after which a device is reached
 
@@ -94,25 +96,26 @@ none_is : (b : ℕ → ExportBound) → ((i : ℕ) → is_reached (b i) ≡ fals
 none_is b h zero j = refl
 none_is b h (suc n) j = let q = h j in rw q (none_is b h n (suc j))
 
-module _ (U : Unfolding) (N : Network) (net : IsNetwork N) (start : BoundTable) (j d : ℕ)
-    (s : IsStill kind.Firing U N start j) (l : Lives N d)
-    (h : (i : ℕ) → i ≤ j → is_reached (rounds_from U N start i d) ≡ false) where
-  never_is : (i : ℕ) → is_reached (rounds_from U N start i d) ≡ false
+module _ (U : Unfolding) (E : Envelope) (envelope : IsEnvelope E) (start : BoundTable) (j d : ℕ)
+    (s : IsStillWithin kind.Firing U E start j) (l : MayLive E d)
+    (h : (i : ℕ) → i ≤ j → is_reached (rounds_within U E start i d) ≡ false) where
+  never_is : (i : ℕ) → is_reached (rounds_within U E start i d) ≡ false
   never_is i = by_test (nat_le i j) refl
     where
-      by_test : (c : Bool) → nat_le i j ≡ c → is_reached (rounds_from U N start i d) ≡ false
+      by_test : (c : Bool) → nat_le i j ≡ c → is_reached (rounds_within U E start i d) ≡ false
       by_test true q = h i (grind (arith, q))
       by_test false q =
-          let e = still_stays kind.Firing U N net start j i s (grind (arith, q)) d l in
+          let e = still_stays_within kind.Firing U E envelope start j i s (grind (arith, q)) d l in
           ap is_reached e ∙ h j (omega arith)
 
 pub rounds_settle : RoundsSettle
-rounds_settle U N net start = record {
+rounds_settle U E envelope start = record {
   settles = λ cap d k e.
-      let r = first_is (λ j. rounds_from U N start j d) (suc cap) 0 k (λ i l. absurd (omega (arith, l))) e in
+      let r = first_is (λ j. rounds_within U E start j d) (suc cap) 0 k (λ i l. absurd (omega (arith, l))) e in
       record { reached = r.0; before = r.1 };
-  within = λ cap d k e. let l = first_within (λ j. rounds_from U N start j d) (suc cap) 0 k e in omega (arith, l);
-  found = λ cap d k l s. found_is (λ j. rounds_from U N start j d) (suc cap) 0 k (omega arith) (omega (arith, l))
+  within = λ cap d k e. let l = first_within (λ j. rounds_within U E start j d) (suc cap) 0 k e in omega (arith, l);
+  found = λ cap d k l s. found_is (λ j. rounds_within U E start j d) (suc cap) 0 k (omega arith) (omega (arith, l))
       s.reached s.before;
-  never = λ cap d j s l h. none_is (λ i. rounds_from U N start i d) (never_is U N net start j d s l h) (suc cap) 0;
+  never = λ cap d j s l h.
+      none_is (λ i. rounds_within U E start i d) (never_is U E envelope start j d s l h) (suc cap) 0;
 }

@@ -14,11 +14,13 @@ use Rattle.converge_laws.specs.Verdicts.{YesStabilises}
 use Rattle.mail_laws.specs.Laws.{YesStabilisesMail}
 use Rattle.value_bounds.proofs.Values.{nat_same}
 use Rattle.value_bounds.specs.BoundValues.{value_left}
+use Rattle.envelopes.specs.Exactly.{exact_envelope}
+use Rattle.envelopes.proofs.Exact.{exact_is}
 use Rattle.bound_rounds.specs.Rounds.{BoundTable, rounds_from}
 use Rattle.settle_rounds.specs.Rounds.{any_table, is_reached, ReachedAt, BoundsReach}
-use Rattle.settle_rounds.specs.Starts.{ReachedFrom, BoundsReachFrom, LeftIsSolvedFrom, YesLeavesFrom, StartsHold}
-use Rattle.settle_rounds.specs.Starts.{growing_cap}
-use Rattle.settle_rounds.specs.Settling.{settle_round, RoundsSettle, YesLeaves}
+use Rattle.settle_rounds.specs.Starts.{ReachedFrom, BoundsReachFrom, LeftIsSolvedFrom, YesLeavesFrom, growing_cap}
+use Rattle.settle_rounds.specs.Within.{StartTableWithin, StartsHoldWithin}
+use Rattle.settle_rounds.specs.Settling.{settle_round, RoundsAre, RoundsSettle, YesLeaves}
 use Rattle.settle_rounds.specs.Mail.{MailReachedAt, BoundsReachMail}
 use Rattle.settle_rounds.specs.SettleTimes.{settle_cap, settles_to, cap_of, Settlings, settled_from, greatest_round}
 use Rattle.settle_rounds.specs.SettleTimes.{rounds_of_yes, settle_time, IsSettleTime, Leading, RoundsLead, ValuesSolve}
@@ -27,7 +29,7 @@ use Rattle.settle_rounds.specs.StartTimes.{StartTimesHold}
 
 -- what a device settles to is what its settle round leaves
 record LeftAt (U : Unfolding) (N : Network) (start : BoundTable) (most d k : ℕ) (v : LocalValue) : Type 0 where
-  pub round : settle_round U N start most d ≡ Some k
+  pub round : settle_round U (exact_envelope N) start most d ≡ Some k
   pub left : v ≡ value_left (rounds_from U N start k d).value
 
 with_round : (f : ℕ → LocalValue) (o : Option ℕ) (k : ℕ) (v : LocalValue)
@@ -42,9 +44,10 @@ with_round f (Some i) k v e =
     (ap Some q, sym (ap (λ (w : ℕ × LocalValue). w.1) p) ∙ ap f q)
 
 left_at : (U : Unfolding) (N : Network) (start : BoundTable) (most d k : ℕ) (v : LocalValue)
-    → settles_to U N start most d ≡ Some (k, v) → LeftAt U N start most d k v
+    → settles_to U (exact_envelope N) start most d ≡ Some (k, v) → LeftAt U N start most d k v
 left_at U N start most d k v e =
-    let r = with_round (λ i. value_left (rounds_from U N start i d).value) (settle_round U N start most d) k v e in
+    let r = with_round (λ i. value_left (rounds_from U N start i d).value)
+    (settle_round U (exact_envelope N) start most d) k v e in
     record { round = r.0; left = r.1 }
 
 -- ---- the greatest round is no less than that of each device
@@ -131,13 +134,16 @@ module _ (are : RoundsSettle) (U : Unfolding) (N : Network) (net : IsNetwork N) 
   abbrev settled : Settlings
   settled d = settled_from U N start d
 
+  at_start : RoundsAre U (exact_envelope N) start
+  at_start = are U (exact_envelope N) (exact_is N net) start
+
   settled_at : (d k : ℕ) (v : LocalValue) → settled d ≡ Some (k, v) → LeftAt U N start (cap_of U N) d k v
   settled_at d k v e = left_at U N start (cap_of U N) d k v e
 
   -- a settle round is no more than the rounds of a yes
   round_low : (K : ℕ) → V ≡ verdict.Yes K → (d k : ℕ) (v : LocalValue) → settled d ≡ Some (k, v) → k ≤ K
   round_low K y d k v e =
-      let w = (are U N net start).within (cap_of U N) d k (settled_at d k v e).round in
+      let w = at_start.within (cap_of U N) d k (settled_at d k v e).round in
       cap_low K (length N.devices) k (subst (λ x. k ≤ settle_cap x (length N.devices)) y w)
 
   -- the rounds of a device that settles lead it to its value
@@ -146,7 +152,7 @@ module _ (are : RoundsSettle) (U : Unfolding) (N : Network) (net : IsNetwork N) 
       → RoundsLead Leads N settled
   rounds_lead Leads law d k v l e m h =
       let a = settled_at d k v e in
-      let s = (are U N net start).settles (cap_of U N) d k a.round in
+      let s = at_start.settles (cap_of U N) d k a.round in
       subst (Leads m d) (sym a.left) (law k d l s.reached m h)
 
   values_solve : LeftIsSolvedFrom U N start → ValuesSolve U N settled
@@ -154,7 +160,7 @@ module _ (are : RoundsSettle) (U : Unfolding) (N : Network) (net : IsNetwork N) 
     one = left.one;
     values = λ d k v l e.
         let a = settled_at d k v e in
-        a.left ∙ left.left k d l ((are U N net start).settles (cap_of U N) d k a.round).reached;
+        a.left ∙ left.left k d l (at_start.settles (cap_of U N) d k a.round).reached;
   }
 
   time_leads : (Leads : Leading) → RoundsLead Leads N settled
@@ -207,10 +213,14 @@ settle_times_hold reach mail are leaves steady mail_steady P N program net same 
       low = time_low are U N net (any_table U);
     }
 
-pub start_times_hold : StartsHold → BoundsReachFrom → RoundsSettle → YesLeavesFrom → YesStabilises → StartTimesHold
+pub start_times_hold : StartsHoldWithin → BoundsReachFrom → RoundsSettle → YesLeavesFrom → YesStabilises
+    → StartTimesHold
 start_times_hold starts reach are leaves steady P N program net same c good on table from =
     let U = unfolding_of P in
-    let h = (starts P N program net same c good on (growing_cap (length N.devices))).hold table from in
+    let E = exact_envelope N in
+    let most = growing_cap (length N.devices) in
+    let h = (starts P E program c good most).hold table
+    (subst (λ n. StartTableWithin U E n most c table) (sym on) from) in
     let rounds = rounds_lead are U N net table (ReachedFrom U N c)
     (λ k d l r m g. reach P N program net same table h.closed c good on h.holds k d l r m g) in
     record {

@@ -1,7 +1,7 @@
 -- With a yes, the value that is left from a core is the solution's: synchronous firings from its exports are within the
 -- bounds, and rise to the solution.
-use Rattle.std.proofs.Common.{◌≡◌, ℕ, zero, suc, ◌+◌, refl, sym, ◌∙◌, subst, arith, Bool, true, false, Option, Some}
-use Rattle.std.proofs.Common.{None}
+use Rattle.std.proofs.Common.{◌≡◌, ◌≤◌, ℕ, zero, suc, ◌+◌, refl, sym, ◌∙◌, subst, arith, Bool, true, false, Option}
+use Rattle.std.proofs.Common.{Some, None}
 use Rattle.fc_values.specs.Trees.{TreeExport}
 use Rattle.fc_nodes.specs.Program.{Program, Unfolding, unfolding_of, IsProgram}
 use Rattle.fc_nodes.specs.Flat.{IsWellTyped}
@@ -14,12 +14,16 @@ use Rattle.converge_laws.specs.StartLevels.{TableFrom}
 use Rattle.converge_laws.specs.Verdicts.{level_by, RaisesTo, YesRaises}
 use Rattle.value_bounds.specs.BoundValues.{is_known}
 use Rattle.value_bounds.proofs.Values.{both_parts}
+use Rattle.envelopes.specs.Exactly.{exact_envelope}
+use Rattle.envelopes.proofs.Exact.{exact_may_live}
 use Rattle.bound_rounds.specs.Rounds.{BoundTable, rounds_from}
 use Rattle.settle_rounds.specs.Rounds.{any_table}
 use Rattle.settle_rounds.specs.Settling.{YesLeaves}
-use Rattle.settle_rounds.specs.Starts.{MaybeLies, IsClosed, HoldsCore, YesLeavesFrom}
-use Rattle.settle_rounds.proofs.Rising.{left_is, WithinFrom, one_of, lifts, any_closed}
-use Rattle.settle_rounds.proofs.ReachFrom.{held_start, any_holds}
+use Rattle.settle_rounds.specs.Within.{MaybeLies}
+use Rattle.settle_rounds.specs.Starts.{IsClosed, HoldsCore, YesLeavesFrom}
+use Rattle.settle_rounds.proofs.HoldWithin.{any_closed_within, any_holds_within}
+use Rattle.settle_rounds.proofs.Left.{left_is}
+use Rattle.settle_rounds.proofs.Rising.{WithinFrom, one_of, lifts}
 
 -- a table of exports within the bounds of a table, and at a level
 record Reaches (start : BoundTable) (R : ExportLevel) (U : Unfolding) (N : Network) (j : ℕ) : Type 0 where
@@ -77,10 +81,15 @@ module _ (fit : CopiesFit) (P : Program) (N : Network) (program : IsProgram P) (
   after zero = record {
     table = start.exports;
     good = good_start;
-    first = (held_start P N program table start good on held).exports;
+    first = λ d l i k. at_zero d (start.exports d) (held.exports d (exact_may_live N d l)) i k;
     second = λ d l. by_export d l (start.exports d) refl;
   }
     where
+      at_zero : (d : ℕ) (o : Option TreeExport) → MaybeLies U (table d) o → (i : ℕ) → i ≤ 0
+          → MaybeLies U (rounds_from U N table i d) o
+      at_zero d o m zero k = m
+      at_zero d o m (suc i) k = absurd (omega (arith, k))
+
       by_export : (d : ℕ) → Lives N d → (o : Option TreeExport) → start.exports d ≡ o → MaybeAt R 0 d o
       by_export d l (Some e) q = r.first d e l (good_start d e q).typed
       by_export d l None q = tt
@@ -132,5 +141,5 @@ yes_leaves from P N K program net same v =
       exports = λ d e q. absurd cc;
       flying = λ d s q. absurd cc;
     } in
-    from P N K program net same v (any_table U) (any_closed U N) (empty_core N) good refl
-    (any_holds U N (empty_core N) good)
+    from P N K program net same v (any_table U) (any_closed_within U (exact_envelope N)) (empty_core N) good refl
+    (any_holds_within U (exact_envelope N) (empty_core N) good)

@@ -15,13 +15,14 @@ use Rattle.bound_firing.specs.declared.firing.ExportBound.{ExportBound as FlatBo
 use Rattle.bound_firing.specs.Exports.{ExportBound}
 use Rattle.bound_firing.specs.ExportReferences.{export_bound_in}
 use Rattle.export_bounds.specs.Exports.{exact_export, either_export}
+use Rattle.envelopes.specs.Envelopes.{Envelope}
 use Rattle.bound_rounds.specs.declared.rounds.RoundKind.TheVariants as kind
 use Rattle.bound_rounds.specs.declared.rounds.Table.{Table}
-use Rattle.bound_rounds.specs.Rounds.{BoundTable, rounds_from, grown, IsFull}
+use Rattle.bound_rounds.specs.Rounds.{BoundTable, rounds_within, grown_within, IsFullWithin}
 use Rattle.bound_rounds.specs.Tables.{Stand, FitTable, IsReady}
 use Rattle.settle_rounds.specs.declared.settling.Settled.{Settled}
 use Rattle.settle_rounds.specs.SettleTimes.{all_settle_to}
-use Rattle.settle_rounds.specs.Starts.{FirstTable, StartTable, growing_cap}
+use Rattle.settle_rounds.specs.Within.{FirstTableWithin, StartTableWithin}
 
 -- the settle round of a device and its value
 abbrev pub settled_in : Settled → ℕ × LocalValue
@@ -39,22 +40,23 @@ AreNoted j bs k xs ys = (i : ℕ) (b : FlatBound) (o : Option Settled) → i < k
     ≡ noted j (get_or bs i b).sure (local_bound_in (get_or bs i b).value) (option_map settled_in (get_or xs i o))
 
 -- a table after so many rounds from a start, and which devices have settled by then
-pub record IsSettling (U : Unfolding) (N : Network) (first : List FlatBound) (j : ℕ) (t : Table)
+pub record IsSettling (U : Unfolding) (E : Envelope) (first : List FlatBound) (j : ℕ) (t : Table)
     (xs : List (Option Settled)) : Type 0 where
-  pub ready : IsReady kind.Firing U N t
-  pub many : length xs ≡ length N.devices
-  pub after : (start : BoundTable) → Stand U N start first → Stand U N (rounds_from U N start j) t.bounds.items
-  pub settled : (start : BoundTable) → Stand U N start first
-      → map (option_map settled_in) xs ≡ all_settle_to U N start j
+  pub ready : IsReady kind.Firing U E t
+  pub many : length xs ≡ length E.devices
+  pub after : (start : BoundTable) → Stand U E start first → Stand U E (rounds_within U E start j) t.bounds.items
+  pub settled : (start : BoundTable) → Stand U E start first
+      → map (option_map settled_in) xs ≡ all_settle_to U E start j
 
 -- ---- from a core
 
--- what an export and a copy in flight hold, of which one at least is there
-pub data StateBound (U : Unfolding) : Option TreeExport → Option Copy → ExportBound → Type 0 where
-  standing : (e : TreeExport) → StateBound U (Some e) None (exact_export U true e)
+-- what an export and a copy in flight hold, of which one at least is there, of a device that is there for sure or not
+pub data StateBound (U : Unfolding) (sure : Bool) : Option TreeExport → Option Copy → ExportBound → Type 0 where
+  standing : (e : TreeExport) → StateBound U sure (Some e) None (exact_export U sure e)
   standing_and_landing : (e : TreeExport) (s : Copy) (f : TreeExport) → EvaluatesCopy U s f
-      → StateBound U (Some e) (Some s) (either_export U (exact_export U true e) (exact_export U true f))
-  landing : (s : Copy) (f : TreeExport) → EvaluatesCopy U s f → StateBound U None (Some s) (exact_export U false f)
+      → StateBound U sure (Some e) (Some s) (either_export U (exact_export U sure e) (exact_export U sure f))
+  landing : (s : Copy) (f : TreeExport) → EvaluatesCopy U s f
+      → StateBound U sure None (Some s) (exact_export U false f)
 
 -- the bound of the export that a copy evaluates to
 pub record LandingBound (U : Unfolding) (s : Copy) (sure : Bool) (b : FlatBound) : Type 0 where
@@ -75,28 +77,28 @@ pub data HasState (N : Network) (old new : Core) (d : ℕ) : Type 0 where
       → HasState N old new d
 
 -- bounds that stand for the first bounds of a core
-pub record FirstBounds (U : Unfolding) (N : Network) (c : Core) (xs : List FlatBound) : Type 0 where
-  pub fits : FitTable U N xs
+pub record FirstBounds (U : Unfolding) (E : Envelope) (N : Network) (c : Core) (xs : List FlatBound) : Type 0 where
+  pub fits : FitTable U E xs
   pub table : BoundTable
-  pub first : FirstTable U N c table
-  pub stands : Stand U N table xs
+  pub first : FirstTableWithin U E N c table
+  pub stands : Stand U E table xs
 
 -- bounds that stand for the table that a first one grows to, and from which it doesn't grow any more
-pub record IsGrown (U : Unfolding) (N : Network) (most : ℕ) (first new : List FlatBound) : Type 0 where
-  pub fits : FitTable U N new
+pub record IsGrown (U : Unfolding) (E : Envelope) (most : ℕ) (first new : List FlatBound) : Type 0 where
+  pub fits : FitTable U E new
   pub rounds : ℕ
   pub few : rounds ≤ most
-  pub full : (start : BoundTable) → Stand U N start first → IsFull U N (grown U N start rounds)
-  pub stands : (start : BoundTable) → Stand U N start first → Stand U N (grown U N start rounds) new
+  pub full : (start : BoundTable) → Stand U E start first → IsFullWithin U E (grown_within U E start rounds)
+  pub stands : (start : BoundTable) → Stand U E start first → Stand U E (grown_within U E start rounds) new
 
 -- it grows longer than so many rounds
-abbrev pub GrowsOn : Unfolding → Network → ℕ → List FlatBound → Type 0
-GrowsOn U N most first = (start : BoundTable) → Stand U N start first → (i : ℕ) → i ≤ most
-    → IsFull U N (grown U N start i) → ⊥
+abbrev pub GrowsOn : Unfolding → Envelope → ℕ → List FlatBound → Type 0
+GrowsOn U E most first = (start : BoundTable) → Stand U E start first → (i : ℕ) → i ≤ most
+    → IsFullWithin U E (grown_within U E start i) → ⊥
 
--- settle rounds up to a cap, from the table of a core
-pub record IsSettledFrom (U : Unfolding) (N : Network) (cap : ℕ) (c : Core) (os : List (Option (ℕ × LocalValue)))
-    : Type 0 where
+-- settle rounds up to a cap, from the table of a core that grows for at most so many rounds
+pub record IsSettledFrom (U : Unfolding) (E : Envelope) (N : Network) (most cap : ℕ) (c : Core)
+    (os : List (Option (ℕ × LocalValue))) : Type 0 where
   pub table : BoundTable
-  pub starts : StartTable U N (growing_cap (length N.devices)) c table
-  pub settled : os ≡ all_settle_to U N table cap
+  pub starts : StartTableWithin U E N most c table
+  pub settled : os ≡ all_settle_to U E table cap

@@ -10,7 +10,9 @@ use Rattle.fragment_check.specs.Verdicts.{verdict_of}
 use Rattle.converge_laws.specs.Stabilising.{HasOneSolution}
 use Rattle.value_bounds.specs.BoundValues.{value_left}
 use Rattle.settle_rounds.specs.declared.limits.TheConstants.{MOST_BOUND_FIRINGS}
-use Rattle.bound_rounds.specs.Rounds.{BoundTable, rounds_from}
+use Rattle.envelopes.specs.Envelopes.{Envelope, ids}
+use Rattle.envelopes.specs.Exactly.{exact_envelope}
+use Rattle.bound_rounds.specs.Rounds.{BoundTable, rounds_within}
 use Rattle.settle_rounds.specs.Rounds.{any_table, ReachedAt}
 use Rattle.settle_rounds.specs.Settling.{settle_round}
 use Rattle.settle_rounds.specs.Mail.{MailReachedAt}
@@ -26,20 +28,20 @@ settle_cap (verdict.Yes rounds) n = min (MOST_BOUND_FIRINGS / n) rounds
 settle_cap (verdict.No place reason) n = MOST_BOUND_FIRINGS / n
 
 -- the settle round of a device from a start, up to a cap, with the value that is left then
-abbrev pub settles_to : Unfolding → Network → BoundTable → ℕ → ℕ → Option (ℕ × LocalValue)
-settles_to U N start cap d =
-    option_map (λ k. (k, value_left (rounds_from U N start k d).value)) (settle_round U N start cap d)
+abbrev pub settles_to : Unfolding → Envelope → BoundTable → ℕ → ℕ → Option (ℕ × LocalValue)
+settles_to U E start cap d =
+    option_map (λ k. (k, value_left (rounds_within U E start k d).value)) (settle_round U E start cap d)
 
 -- those of all devices, by rising number
-abbrev pub all_settle_to : Unfolding → Network → BoundTable → ℕ → List (Option (ℕ × LocalValue))
-all_settle_to U N start cap = map (settles_to U N start cap) (numbers N.devices)
+abbrev pub all_settle_to : Unfolding → Envelope → BoundTable → ℕ → List (Option (ℕ × LocalValue))
+all_settle_to U E start cap = map (settles_to U E start cap) (ids E.devices)
 
--- those of a program on a network, up to its cap: from a start, and from any exports
+-- those of a program on a network that stands still, up to its cap: from a start, and from any exports
 abbrev pub cap_of : Unfolding → Network → ℕ
 cap_of U N = settle_cap (verdict_of U (length N.devices)) (length N.devices)
 
 abbrev pub settled_from : Unfolding → Network → BoundTable → Settlings
-settled_from U N start d = settles_to U N start (cap_of U N) d
+settled_from U N start d = settles_to U (exact_envelope N) start (cap_of U N) d
 
 abbrev pub settled_of : Unfolding → Network → Settlings
 settled_of U N d = settled_from U N (any_table U) d

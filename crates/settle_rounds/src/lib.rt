@@ -1,4 +1,5 @@
-//! Rounds of bounds: what each device may hold after each round, and from which round on it holds one value.
+//! Rounds of bounds: what each device may hold after each round, while the network changes within an envelope, and from
+//! which round on it holds one value where the network stands still.
 #![tactic(auto)]
 
 mod laws;
@@ -7,8 +8,10 @@ mod settling;
 mod starts;
 
 pub use laws::{
-    bounds_hold_from, bounds_reach, bounds_reach_from, bounds_reach_mail, one_start, rounds_settle,
-    settle_times_hold, start_times_hold, starts_hold, still_stays, yes_leaves, yes_leaves_from,
+    bounds_hold_from, bounds_hold_within, bounds_hold_within_from, bounds_reach, bounds_reach_from,
+    bounds_reach_mail, bounds_reach_within, firings_land_within, one_start_within, rounds_settle,
+    settle_times_hold, start_times_hold, starts_hold_within, still_stays_within,
+    tables_grow_within, yes_leaves, yes_leaves_from,
 };
 pub use limits::{MOST_BOUND_FIRINGS, settle_cap};
 pub use settling::{Settled, settle, settle_time};

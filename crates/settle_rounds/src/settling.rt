@@ -4,6 +4,7 @@ ghost use Rattle.std.specs.Prelude.{◌≡◌, IfOk, OnOk, IsTrue, All, IsSome, 
 ghost use Rattle.std.specs.Prelude.{Option, None, option_map};
 ghost use Rattle.fc_nodes.specs.Program.{unfolding_of};
 ghost use Rattle.value_bounds.specs.References.{local_bound_in};
+ghost use Rattle.envelopes.specs.Exactly.{exact_envelope as envelope_in};
 ghost use Rattle.bound_rounds.specs.Rounds.{BoundTable};
 ghost use Rattle.bound_rounds.specs.Tables.{FitTable, Stand};
 ghost use Rattle.settle_rounds.specs.Rounds.{any_table};
@@ -13,6 +14,7 @@ ghost use Rattle.settle_rounds.specs.References.{settled_in, noted, AreNoted};
 
 use bound_firing::{ExportBound, any_export_bound};
 use bound_rounds::{RoundKind, round, table_of};
+use envelopes::{Envelope, exact_envelope};
 use fc_nodes::{Unfolded, Verdict};
 use fc_values::{Local, Memory};
 use std::alloc::Global;
@@ -36,34 +38,50 @@ pub fn settle(
 ) -> Result<Vec<Option<Settled>>, Memory>
     requires { network.now.declared ≡ program.now.declared }
     ensures { IfOk result (λ v. map (option_map settled_in) v.items
-        ≡ all_settle_to (unfolding_of program.now) network.now (any_table (unfolding_of program.now)) cap) }
+        ≡ all_settle_to (unfolding_of program.now) (envelope_in network.now) (any_table (unfolding_of program.now))
+        cap) }
 {
-    let start = any_bounds(alloc, program, network)?;
-    settle_over(alloc, program, network, &start, cap)
+    let envelope = exact_envelope(alloc, network)?;
+    settle_any(alloc, program, &envelope, cap)
+}
+
+// The same of the devices of an envelope.
+pub(crate) fn settle_any(
+    alloc: Global,
+    program: &Unfolded,
+    envelope: &Envelope,
+    cap: u32,
+) -> Result<Vec<Option<Settled>>, Memory>
+    requires { envelope.now.declared ≡ program.now.declared }
+    ensures { IfOk result (λ v. map (option_map settled_in) v.items
+        ≡ all_settle_to (unfolding_of program.now) envelope.now (any_table (unfolding_of program.now)) cap) }
+{
+    let start = any_bounds(alloc, program, envelope)?;
+    settle_over(alloc, program, envelope, &start, cap)
 }
 
 // The same from a table of bounds.
 pub(crate) fn settle_over(
     alloc: Global,
     program: &Unfolded,
-    network: &Network,
+    envelope: &Envelope,
     start: &[ExportBound],
     cap: u32,
 ) -> Result<Vec<Option<Settled>>, Memory>
-    requires declared { network.now.declared ≡ program.now.declared }
-    requires fits { FitTable (unfolding_of program.now) network.now start.now }
-    ensures { IfOk result (λ v. (table : BoundTable) → Stand (unfolding_of program.now) network.now table start.now
-        → map (option_map settled_in) v.items ≡ all_settle_to (unfolding_of program.now) network.now table cap) }
+    requires declared { envelope.now.declared ≡ program.now.declared }
+    requires fits { FitTable (unfolding_of program.now) envelope.now start.now }
+    ensures { IfOk result (λ v. (table : BoundTable) → Stand (unfolding_of program.now) envelope.now table start.now
+        → map (option_map settled_in) v.items ≡ all_settle_to (unfolding_of program.now) envelope.now table cap) }
 {
-    let mut table = table_of(alloc, program, network, start)?;
-    let mut settled = none_settled(alloc, network)?;
+    let mut table = table_of(alloc, program, envelope, start)?;
+    let mut settled = none_settled(alloc, envelope)?;
     let mut rounds = 0;
     note_reached(alloc, rounds, &table.bounds, &mut settled)?;
     while rounds < cap {
         if all_settled(&settled) {
             return Ok(settled);
         }
-        let changes = round(alloc, RoundKind::Firing, program, network, &mut table)?;
+        let changes = round(alloc, RoundKind::Firing, program, envelope, &mut table)?;
         if !changes {
             return Ok(settled);
         }
@@ -77,13 +95,13 @@ pub(crate) fn settle_over(
 fn any_bounds(
     alloc: Global,
     program: &Unfolded,
-    network: &Network,
+    envelope: &Envelope,
 ) -> Result<Vec<ExportBound>, Memory>
-    ensures fits { IfOk result (λ v. FitTable (unfolding_of program.now) network.now v.items) }
-    ensures any { IfOk result (λ v. Stand (unfolding_of program.now) network.now (any_table (unfolding_of program.now))
+    ensures fits { IfOk result (λ v. FitTable (unfolding_of program.now) envelope.now v.items) }
+    ensures any { IfOk result (λ v. Stand (unfolding_of program.now) envelope.now (any_table (unfolding_of program.now))
         v.items) }
 {
-    let count = network.devices().len();
+    let count = envelope.devices().len();
     let mut bounds = Vec::with_capacity(alloc, count)?;
     for _ in 0..count {
         bounds.push(any_export_bound(alloc, program)?)?;
@@ -117,11 +135,11 @@ fn greatest_round(settled: &[Option<Settled>]) -> Option<u32>
 }
 
 // No device has settled.
-fn none_settled(alloc: Global, network: &Network) -> Result<Vec<Option<Settled>>, Memory>
-    ensures many { IfOk result (λ v. length v.items ≡ length network.now.devices) }
+fn none_settled(alloc: Global, envelope: &Envelope) -> Result<Vec<Option<Settled>>, Memory>
+    ensures many { IfOk result (λ v. length v.items ≡ length envelope.now.devices) }
     ensures none { IfOk result (λ v. All (λ (o : Option Settled). o ≡ None) v.items) }
 {
-    let count = network.devices().len();
+    let count = envelope.devices().len();
     let mut settled = Vec::with_capacity(alloc, count)?;
     for _ in 0..count {
         settled.push(None)?;

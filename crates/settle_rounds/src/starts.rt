@@ -1,40 +1,47 @@
 //! Settle rounds from the exports of a core and its copies in flight.
 
-ghost use Rattle.std.specs.Prelude.{◌≡◌, IfOk, IfSome, OnOk, None, length, map, option_map, true};
+ghost use Rattle.std.specs.Prelude.{◌≡◌, ◌<◌, ◌≤◌, [], IfOk, IfSome, OnOk, None, false, length, map, option_map, true};
 ghost use Rattle.fc_nodes.specs.Program.{unfolding_of};
 ghost use Rattle.fc_nodes.specs.Terms.{kept};
 ghost use Rattle.value_trees.specs.Snaps.{IsExportOf, IsSnap, snap_copy, tree_of};
-ghost use Rattle.topology.specs.Networks.{lives};
+ghost use Rattle.topology.specs.Networks.{Network as PlainNetwork, lives};
 ghost use Rattle.firing_core.specs.Cores.{Core as PlainCore};
 ghost use Rattle.firing_core.specs.CoreViews.{IsSameCore, core_of, program_of};
-ghost use Rattle.bound_firing.specs.ExportReferences.{export_bound_in};
-ghost use Rattle.bound_rounds.specs.Tables.{FitTable};
-ghost use Rattle.settle_rounds.specs.Starts.{FirstBound};
+ghost use Rattle.value_bounds.specs.References.{local_bounds_in};
+ghost use Rattle.bound_firing.specs.Exports.{bound_export};
+ghost use Rattle.bound_firing.specs.ExportReferences.{export_bound_in, situation_for};
+ghost use Rattle.bound_firing.specs.Firing.{bound_of};
+ghost use Rattle.envelopes.specs.Envelopes.{Envelope as EnvelopeValue, is_sure};
+ghost use Rattle.envelopes.specs.Exactly.{exact_envelope as envelope_in};
+ghost use Rattle.bound_rounds.specs.Tables.{FitTable, device_at};
+ghost use Rattle.settle_rounds.specs.Starts.{growing_cap};
+ghost use Rattle.settle_rounds.specs.Within.{FirstWithin, no_seats};
 ghost use Rattle.settle_rounds.specs.References.{FirstBounds, GrowsOn, HasState, IsGrown, IsSettledFrom};
 ghost use Rattle.settle_rounds.specs.References.{LandingBound, SameButFlight, StateBound, settled_in};
 
 use crate::limits::growing_cap;
-use crate::settling::{Settled, settle, settle_over};
-use bound_firing::ExportBound;
+use crate::settling::{Settled, settle_any, settle_over};
+use bound_firing::{ExportBound, Seats, any_export_bound, fire_bounds};
 use bound_rounds::{RoundKind, round, table_of};
 use device_eval::evaluate;
+use envelopes::{DeviceBound, Envelope, exact_envelope};
 use export_bounds::{exact_export_bound, widen_bound};
 use fc_nodes::Unfolded;
 use fc_values::{Export, Memory};
 use firing_core::{Core, StepFault};
 use std::alloc::Global;
-use topology::Network;
 use value_trees::Snap;
 
 /// The settle round and the value of each device from the exports of a core and its copies in flight, by rising number;
 /// none where its value isn't known after so many rounds. A device that has neither begins a firing.
 pub fn settle_from(alloc: Global, core: &mut Core, cap: u32) -> Result<Vec<Option<Settled>>, Memory>
-    ensures settled { IfOk result (λ v. IsSettledFrom (program_of core.old) core.old.net cap (core_of core.old)
-        (map (option_map settled_in) v.items)) }
+    ensures settled { IfOk result (λ v. IsSettledFrom (program_of core.old) (envelope_in core.old.net) core.old.net
+        (growing_cap (length core.old.net.devices)) cap (core_of core.old) (map (option_map settled_in) v.items)) }
     ensures same { IsSameCore core.old core.new }
 {
-    let first = first_bounds(alloc, core)?;
-    let settled = settle_grown(alloc, core.program(), core.net(), &first, cap)?;
+    let envelope = exact_envelope(alloc, core.net())?;
+    let first = first_bounds(alloc, core, &envelope)?;
+    let settled = settle_grown(alloc, core.program(), &envelope, &first, cap)?;
     Ok(settled)
 }
 
@@ -42,19 +49,22 @@ pub fn settle_from(alloc: Global, core: &mut Core, cap: u32) -> Result<Vec<Optio
 fn settle_grown(
     alloc: Global,
     program: &Unfolded,
-    network: &Network,
+    envelope: &Envelope,
     first: &[ExportBound],
     cap: u32,
 ) -> Result<Vec<Option<Settled>>, Memory>
-    requires declared { network.now.declared ≡ program.now.declared }
-    requires fits { FitTable (unfolding_of program.now) network.now first.now }
-    ensures { IfOk result (λ v. (c : PlainCore) → FirstBounds (unfolding_of program.now) network.now c first.now
-        → IsSettledFrom (unfolding_of program.now) network.now cap c (map (option_map settled_in) v.items)) }
+    requires declared { envelope.now.declared ≡ program.now.declared }
+    requires some { 1 ≤ length envelope.now.devices }
+    requires fits { FitTable (unfolding_of program.now) envelope.now first.now }
+    ensures { IfOk result (λ v. (n : PlainNetwork) (c : PlainCore)
+        → FirstBounds (unfolding_of program.now) envelope.now n c first.now
+        → IsSettledFrom (unfolding_of program.now) envelope.now n (growing_cap (length envelope.now.devices)) cap c
+        (map (option_map settled_in) v.items)) }
 {
-    let most = growing_cap(network.devices().len());
-    let settled = match grow(alloc, program, network, first, most)? {
-        Some(start) => settle_over(alloc, program, network, &start, cap)?,
-        None => settle(alloc, program, network, cap)?,
+    let most = growing_cap(envelope.devices().len());
+    let settled = match grow(alloc, program, envelope, first, most)? {
+        Some(start) => settle_over(alloc, program, envelope, &start, cap)?,
+        None => settle_any(alloc, program, envelope, cap)?,
     };
     Ok(settled)
 }
@@ -63,20 +73,20 @@ fn settle_grown(
 fn grow(
     alloc: Global,
     program: &Unfolded,
-    network: &Network,
+    envelope: &Envelope,
     first: &[ExportBound],
     most: u32,
 ) -> Result<Option<Vec<ExportBound>>, Memory>
-    requires declared { network.now.declared ≡ program.now.declared }
-    requires fits { FitTable (unfolding_of program.now) network.now first.now }
-    ensures grown { IfOk result (λ o. IfSome o (λ v. IsGrown (unfolding_of program.now) network.now most first.now
+    requires declared { envelope.now.declared ≡ program.now.declared }
+    requires fits { FitTable (unfolding_of program.now) envelope.now first.now }
+    ensures grown { IfOk result (λ o. IfSome o (λ v. IsGrown (unfolding_of program.now) envelope.now most first.now
         v.items)) }
-    ensures longer { IfOk result (λ o. o ≡ None → GrowsOn (unfolding_of program.now) network.now most first.now) }
+    ensures longer { IfOk result (λ o. o ≡ None → GrowsOn (unfolding_of program.now) envelope.now most first.now) }
 {
-    let mut table = table_of(alloc, program, network, first)?;
+    let mut table = table_of(alloc, program, envelope, first)?;
     let mut rounds = 0;
     loop {
-        let grows = round(alloc, RoundKind::Growing, program, network, &mut table)?;
+        let grows = round(alloc, RoundKind::Growing, program, envelope, &mut table)?;
         if !grows {
             return Ok(Some(table.bounds));
         }
@@ -87,24 +97,56 @@ fn grow(
     }
 }
 
-// The first bound of each device.
-fn first_bounds(alloc: Global, core: &mut Core) -> Result<Vec<ExportBound>, Memory>
-    ensures first { IfOk result (λ v. FirstBounds (program_of core.old) core.old.net (core_of core.old) v.items) }
+// The first bound of each device that may be there.
+fn first_bounds(
+    alloc: Global,
+    core: &mut Core,
+    envelope: &Envelope,
+) -> Result<Vec<ExportBound>, Memory>
+    ensures first { IfOk result (λ v. FirstBounds (program_of core.old) envelope.now core.old.net (core_of core.old)
+        v.items) }
     ensures same { IsSameCore core.old core.new }
 {
-    let count = core.net().devices().len();
+    let count = envelope.devices().len();
     let mut bounds = Vec::with_capacity(alloc, count)?;
     for place in 0..count {
-        let device = core.net().devices()[place].id;
-        bounds.push(first_bound(alloc, core, device)?)?;
+        bounds.push(first_bound(alloc, core, envelope, place)?)?;
     }
     Ok(bounds)
 }
 
-// The first bound of a device. One that has neither an export nor a copy in flight begins a firing.
-fn first_bound(alloc: Global, core: &mut Core, device: u32) -> Result<ExportBound, Memory>
+// The first bound of the device at a place.
+fn first_bound(
+    alloc: Global,
+    core: &mut Core,
+    envelope: &Envelope,
+    place: usize,
+) -> Result<ExportBound, Memory>
+    requires { place < length envelope.now.devices }
+    ensures bound { IfOk result (λ b. FirstWithin (program_of core.old) envelope.now core.old.net (core_of core.old)
+        (device_at envelope.now place) (export_bound_in (program_of core.old) b)) }
+    ensures slots { IfOk result (λ b. length b.slots.items ≡ kept (program_of core.old).main) }
+    ensures same { SameButFlight core.old (device_at envelope.now place) core.new }
+{
+    let device = &envelope.devices()[place];
+    if core.net().place(device.id).is_some() {
+        let bound = standing_bound(alloc, core, device.id, device.sure)?;
+        return Ok(bound);
+    }
+    let bound = alone(alloc, core.program(), device)?;
+    Ok(bound)
+}
+
+// The first bound of a device that is there. One that has neither an export nor a copy in flight begins a firing.
+fn standing_bound(
+    alloc: Global,
+    core: &mut Core,
+    device: u32,
+    sure: bool,
+) -> Result<ExportBound, Memory>
     requires { lives core.old.net device ≡ true }
-    ensures bound { IfOk result (λ b. FirstBound (program_of core.old) core.old.net (core_of core.old) device
+    ensures bound { IfOk result (λ b. (e : EnvelopeValue) → is_sure e device ≡ sure
+        → FirstWithin (program_of core.old) e core.old.net (core_of core.old) device
         (export_bound_in (program_of core.old) b)) }
     ensures slots { IfOk result (λ b. length b.slots.items ≡ kept (program_of core.old).main) }
     ensures same { SameButFlight core.old device core.new }
@@ -115,6 +157,31 @@ fn first_bound(alloc: Global, core: &mut Core, device: u32) -> Result<ExportBoun
         core.program(),
         core.export(device),
         core.flying(device),
+        sure,
+    )?;
+    Ok(bound)
+}
+
+// What a device makes on its own, without an export before and without neighbours.
+fn alone(alloc: Global, program: &Unfolded, device: &DeviceBound) -> Result<ExportBound, Memory>
+    ensures bound { IfOk result (λ b. export_bound_in (unfolding_of program.now) b
+        ≡ bound_export false (bound_of (situation_for program.now.declared device.now.id
+        (local_bounds_in device.now.inputs.items)) 0 (unfolding_of program.now).main [] no_seats)) }
+    ensures slots { IfOk result (λ b. length b.slots.items ≡ kept (unfolding_of program.now).main) }
+{
+    let mut bound = any_export_bound(alloc, program)?;
+    let seats = Seats {
+        own: None,
+        near: Vec::new(alloc),
+    };
+    fire_bounds(
+        alloc,
+        program,
+        device.id,
+        &device.inputs,
+        &seats,
+        false,
+        &mut bound,
     )?;
     Ok(bound)
 }
@@ -141,11 +208,12 @@ fn state_bound(
     program: &Unfolded,
     export: Option<&Export>,
     flying: Option<&Snap>,
+    sure: bool,
 ) -> Result<ExportBound, Memory>
     requires export { IfSome export (λ e. IsExportOf (unfolding_of program.now) e.now) }
     requires flying { IfSome flying (λ s. IsSnap (unfolding_of program.now) s.now) }
     requires some { export ≡ None → flying ≡ None → ⊥ }
-    ensures bound { IfOk result (λ b. StateBound (unfolding_of program.now)
+    ensures bound { IfOk result (λ b. StateBound (unfolding_of program.now) sure
         (option_map (λ e. tree_of (unfolding_of program.now) e.now) export.entry)
         (option_map (λ s. snap_copy (unfolding_of program.now) s.now) flying.entry)
         (export_bound_in (unfolding_of program.now) b)) }
@@ -153,13 +221,13 @@ fn state_bound(
 {
     match (export, flying) {
         (Some(export), Some(snap)) => {
-            let stands = exact_export_bound(alloc, export, true)?;
-            let mut both = landing(alloc, program, snap, true)?;
+            let stands = exact_export_bound(alloc, export, sure)?;
+            let mut both = landing(alloc, program, snap, sure)?;
             widen_bound(alloc, program, &stands, &mut both)?;
             Ok(both)
         }
         (Some(export), None) => {
-            let stands = exact_export_bound(alloc, export, true)?;
+            let stands = exact_export_bound(alloc, export, sure)?;
             Ok(stands)
         }
         (None, Some(snap)) => {

@@ -4,7 +4,7 @@ use Rattle.std.proofs.lemmas.List.{length-map, length-set, get_or-set_same, get_
 use Rattle.std.proofs.lemmas.List.Elements.{All-get_or}
 use Rattle.fc_nodes.specs.Terms.{kept}
 use Rattle.fc_nodes.specs.Program.{unfolding_of}
-use Rattle.topology.specs.Networks.{device_of}
+use Rattle.envelopes.specs.Code.{maybe_device_of}
 use Rattle.bound_firing.specs.declared.firing.ExportBound.{ExportBound}
 use Rattle.bound_firing.specs.ExportReferences.{export_bound_in}
 use Rattle.bound_rounds.specs.Tables.{Stand, device_at, IsFired}
@@ -16,21 +16,21 @@ pub loop-place-preserved : goal.loop-place-preserved
 loop-place-preserved c =
     let m = c.args.kind in
     let U = unfolding_of c.args.program.now in
-    let N = c.args.network.now in
+    let E = c.args.envelope.now in
     let T = c.loop-place.table in
     let k = c.loop-place.place in
     let inv = c.loop-place.invariant in
-    let h : k < length N.devices = omega (
+    let h : k < length E.devices = omega (
       arith,
       c.loop-place-test.true,
       length-map c.devices-place-end.result.now
-          device_of,
+          maybe_device_of,
       ap length c.devices-place-end.ensures.value,
     ) in
     elim c.if-index.branch [
       | then-index+in_ok-changed w ↦ rw (w.table-is, w.changed-is) (record {
         bounds = inv.bounds;
-        drafts = fit_set U N T.drafts.items k w.renew.new.draft inv.drafts
+        drafts = fit_set U E T.drafts.items k w.renew.new.draft inv.drafts
             (w.in_ok-changed.ensures.slots ∙ ap (λ (b : ExportBound). length b.slots.items)
             w.index_mut-then-index.ensures.value
             ∙ All-get_or (λ (b : ExportBound). length b.slots.items ≡ kept (unfolding_of c.args.program.now).main)
@@ -40,15 +40,15 @@ loop-place-preserved c =
         due = length-set T.due.items k false ∙ inv.due;
         ahead = λ i l. get_or-set_other T.due.items k i false true (λ e. omega (arith, e, l))
             ∙ inv.ahead i (omega (arith, l));
-        fired = λ t s i x l. fired_more m U N t T.changed.items T.drafts.items
+        fired = λ t s i x l. fired_more m U E t T.changed.items T.drafts.items
             (slice_set T.drafts.items k w.renew.new.draft) k w.in_ok-changed.changed
             (omega (arith, h, inv.changed)) (inv.fired t s)
             (λ i x l. get_or-set_other T.drafts.items k i w.renew.new.draft x (λ e. omega (arith, e, l)))
             (λ x. let e = get_or-set_same T.drafts.items k w.renew.new.draft x (omega (arith, h, inv.drafts.many)) in
             let here = w.deref.ensures.value ∙ ap (λ v. v.items) inv.bounds in
-            subst (IsFired m U N t (device_at N k) w.in_ok-changed.changed) (sym e)
-            (is_fired m U N t c.args.table.now.bounds.items k w.in_ok-changed.changed w.renew.new.draft s h
-            (w.in_ok-changed.ensures.next t (subst (Stand U N t) (sym here) s))
+            subst (IsFired m U E t (device_at E k) w.in_ok-changed.changed) (sym e)
+            (is_fired m U E t c.args.table.now.bounds.items k w.in_ok-changed.changed w.renew.new.draft s h
+            (w.in_ok-changed.ensures.next t (subst (Stand U E t) (sym here) s))
             (λ e. w.in_ok-changed.ensures.same e ∙ ap (λ bs. export_bound_in U (get_or bs k w.renew.new.draft)) here)
             (λ e q. w.in_ok-changed.ensures.other e (q ∙ sym (ap (λ bs. export_bound_in U
             (get_or bs k w.renew.new.draft)) here))))) i x (omega (arith, l));
@@ -59,9 +59,9 @@ loop-place-preserved c =
         changed = length-set T.changed.items k false ∙ inv.changed;
         due = inv.due;
         ahead = λ i l. inv.ahead i (omega (arith, l));
-        fired = λ t s i x l. fired_more m U N t T.changed.items T.drafts.items T.drafts.items k false
+        fired = λ t s i x l. fired_more m U E t T.changed.items T.drafts.items T.drafts.items k false
             (omega (arith, h, inv.changed)) (inv.fired t s) (λ i x l. refl)
-            (λ x. stays_fired m U N t c.args.table.now.due.items k (c.requires.ready.due t s) h
+            (λ x. stays_fired m U E t c.args.table.now.due.items k (c.requires.ready.due t s) h
             (sym (inv.ahead k (omega arith))
             ∙ sym (get_or_read T.due.items k c.index.result.now (omega (arith, h, inv.due)) c.index.ensures true)
             ∙ w.if-index.false) (get_or T.drafts.items k x)) i x (omega (arith, l));

@@ -1,41 +1,53 @@
-use Rattle.std.proofs.Common.{ℕ, List, ◌<◌, ◌≤◌, ◌∙◌, length, ap, arith, add-one, get_or}
+use Rattle.std.proofs.Common.{ℕ, ◌<◌, ◌≤◌, ◌∙◌, length, ap, sym, subst, arith, add-one}
+use Rattle.envelopes.specs.Envelopes.{MaybeLink, MayLive, maybe_near}
 use Rattle.bound_rounds.specs.Tables.{device_at}
 use Rattle.bound_rounds.proofs.Marks.{mark_kept, marked_first, marked_next, marked_all, near_lives}
+use Rattle.bound_rounds.proofs.Places.{many_near, near_read}
 use Rattle.bound_rounds.proofs.rounds.mark_near.Goals as goal
 
-pub place_of-requires : goal.place_of-requires
-place_of-requires c =
-    let v = c.near_at-neighbour-items.ensures.near in
-    let h : c.loop-neighbour.neighbour-index < length c.near_at-neighbour-items.result.now =
-    c.loop-neighbour-test.true in
-    rw v (near_lives c.args.network.now c.near_at-neighbour-items.ensures.network
-    (device_at c.args.network.now c.args.place) c.loop-neighbour.neighbour-index (omega (arith, h, ap length v)))
+pub place-requires : goal.place-requires
+place-requires c =
+    let E = c.args.envelope.now in
+    let d = device_at E c.args.place in
+    let ns = c.neighbours_at-neighbour-items.result.now in
+    let k = c.loop-neighbour.neighbour-index in
+    let v = c.neighbours_at-neighbour-items.ensures.value in
+    let h : k < length ns = c.loop-neighbour-test.true in
+    let n = near_read ns (maybe_near d E.links) v k h in
+    subst (MayLive E) (sym (ap (λ (m : ℕ × MaybeLink). m.0) n))
+    (near_lives E c.neighbours_at-neighbour-items.ensures.envelope d k
+    (omega (arith, h, many_near ns (maybe_near d E.links) v)))
 
 pub loop-neighbour-init : goal.loop-neighbour-init
 loop-neighbour-init c = record {
-  marked = marked_first c.args.network.now c.args.due.now c.args.place;
-  kept =
-      λ i q. mark_kept c.args.due.now c.args.place i q;
+  marked = marked_first c.args.envelope.now c.args.due.now c.args.place;
+  kept = λ i q. mark_kept c.args.due.now c.args.place i q;
 }
 
 pub loop-neighbour-preserved : goal.loop-neighbour-preserved
 loop-neighbour-preserved c =
-    let v = c.near_at-neighbour-items.ensures.near in
-    let h : c.loop-neighbour.neighbour-index < length c.near_at-neighbour-items.result.now =
-    c.loop-neighbour-test.true in
-    let at = c.place_of.ensures.place ∙ ap (λ (ns : List (ℕ × ℕ)). (get_or ns c.loop-neighbour.neighbour-index
-    (0, 0)).0) v in record {
-      marked = rw add-one (marked_next c.args.network.now c.near_at-neighbour-items.ensures.network c.loop-neighbour.due
-          c.args.place c.loop-neighbour.neighbour-index c.place_of.result
-          (omega (arith, h, ap length v)) c.place_of.ensures.within at c.loop-neighbour.invariant.marked);
-      kept = λ i q. c.loop-neighbour.invariant.kept i (mark_kept c.loop-neighbour.due c.place_of.result i q);
+    let E = c.args.envelope.now in
+    let d = device_at E c.args.place in
+    let ns = c.neighbours_at-neighbour-items.result.now in
+    let k = c.loop-neighbour.neighbour-index in
+    let v = c.neighbours_at-neighbour-items.ensures.value in
+    let h : k < length ns = c.loop-neighbour-test.true in
+    let n = near_read ns (maybe_near d E.links) v k h in
+    let at = c.place.ensures.there ∙ ap (λ (m : ℕ × MaybeLink). m.0) n in
+    record {
+      marked = rw add-one (marked_next E c.neighbours_at-neighbour-items.ensures.envelope c.loop-neighbour.due
+          c.args.place k c.place.result (omega (arith, h, many_near ns (maybe_near d E.links) v)) c.place.ensures.within
+          at c.loop-neighbour.invariant.marked);
+      kept = λ i q. c.loop-neighbour.invariant.kept i (mark_kept c.loop-neighbour.due c.place.result i q);
     }
 
 pub returns-clause-marked : goal.returns-clause-marked
 returns-clause-marked c =
-    let v = c.near_at-neighbour-items.ensures.near in
-    let h : length c.near_at-neighbour-items.result.now ≤ c.loop-neighbour.neighbour-index =
-    c.loop-neighbour-test.false in
-    marked_all c.args.network.now c.near_at-neighbour-items.ensures.network c.loop-neighbour.due c.args.place
-    c.loop-neighbour.neighbour-index c.requires.within (omega (arith, h, ap length v))
+    let E = c.args.envelope.now in
+    let d = device_at E c.args.place in
+    let ns = c.neighbours_at-neighbour-items.result.now in
+    let h : length ns ≤ c.loop-neighbour.neighbour-index = c.loop-neighbour-test.false in
+    marked_all E c.neighbours_at-neighbour-items.ensures.envelope c.loop-neighbour.due c.args.place
+    c.loop-neighbour.neighbour-index c.requires.within
+    (omega (arith, h, many_near ns (maybe_near d E.links) c.neighbours_at-neighbour-items.ensures.value))
     c.loop-neighbour.invariant.marked

@@ -14,13 +14,13 @@ use Rattle.bound_rounds.proofs.rounds.renew.Goals as goal
 pub returns-clause-next : goal.returns-clause-next
 returns-clause-next c table s =
     let U = unfolding_of c.args.program.now in
-    let N = c.args.network.now in
-    let d = device_at N c.args.place in
+    let E = c.args.envelope.now in
+    let d = device_at E c.args.place in
     elim c.match-kind.branch [
       | in-Firing w ↦ rw (w.draft-is, w.in-Firing.is) (c.in_ok-fire.ensures.fired table s)
       | in-Growing+in_ok-widen_bound-in-Growing w ↦
           let had = ap (export_bound_in U) c.index-bounds-place.is
-          ∙ stand_at U N table c.args.bounds.now s c.args.place c.index-bounds-place.result c.requires.within in
+          ∙ stand_at U E table c.args.bounds.now s c.args.place c.index-bounds-place.result c.requires.within in
           rw (w.draft-is, w.in-Growing.is) (w.in_ok-widen_bound-in-Growing.ensures.bound
           ∙ ap (λ b. either_export U b (export_bound_in U c.fire.new.draft)) had
           ∙ ap (either_export U (table d)) (c.in_ok-fire.ensures.fired table s))

@@ -3,4 +3,4 @@ use Rattle.bound_rounds.proofs.Standing.{NearSeen}
 use Rattle.bound_rounds.proofs.rounds.seats_at.Given as goal
 
 abbrev pub invariant-loop-neighbour : goal.invariant-loop-neighbour
-invariant-loop-neighbour l = NearSeen l.network l.bounds (device_at l.network l.place) l.neighbour-index l.near.items
+invariant-loop-neighbour l = NearSeen l.envelope l.bounds (device_at l.envelope l.place) l.neighbour-index l.near.items

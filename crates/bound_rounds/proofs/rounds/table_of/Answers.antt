@@ -1,23 +1,23 @@
 use Rattle.std.proofs.Common.{◌≡◌, ◌∙◌, length, get_or, sym, ap, arith, true}
 use Rattle.std.proofs.lemmas.List.{length-map, get_or-replicate}
 use Rattle.fc_nodes.specs.Program.{unfolding_of}
-use Rattle.topology.specs.Networks.{device_of}
+use Rattle.envelopes.specs.Code.{maybe_device_of}
 use Rattle.bound_rounds.proofs.Tabled.{fit_copies}
 use Rattle.bound_rounds.proofs.rounds.table_of.Goals as goal
 
 pub returns-clause-ready : goal.returns-clause-ready
 returns-clause-ready c k =
     let U = unfolding_of c.args.program.now in
-    let N = c.args.network.now in
-    let count : length c.devices-count.result.now ≡ length N.devices =
-    sym (length-map c.devices-count.result.now device_of) ∙ ap length c.devices-count.ensures.value in
+    let E = c.args.envelope.now in
+    let count : length c.devices-count.result.now ≡ length E.devices =
+    sym (length-map c.devices-count.result.now maybe_device_of) ∙ ap length c.devices-count.ensures.value in
     let due = c.in_ok-due.ensures.items_if_clones_equal (λ y h. h) in
-    let many : length c.in_ok-due.due.items ≡ length N.devices = sym c.in_ok-due.due.ok.0 ∙ c.in_ok-due.ensures.len
+    let many : length c.in_ok-due.due.items ≡ length E.devices = sym c.in_ok-due.due.ok.0 ∙ c.in_ok-due.ensures.len
     ∙ count in
-    let bounds = fit_copies U N c.args.bounds.now c.in_ok-bounds.bounds.items c.in_ok-bounds.ensures.slots
+    let bounds = fit_copies U E c.args.bounds.now c.in_ok-bounds.bounds.items c.in_ok-bounds.ensures.slots
     c.requires in record {
       fits = bounds;
-      drafts = fit_copies U N c.args.bounds.now c.in_ok-drafts.drafts.items c.in_ok-drafts.ensures.slots c.requires;
+      drafts = fit_copies U E c.args.bounds.now c.in_ok-drafts.drafts.items c.in_ok-drafts.ensures.slots c.requires;
       changed = sym c.in_ok-changed.changed.ok.0 ∙ c.in_ok-changed.ensures.len ∙ count;
       many = many;
       due = λ t s. record {

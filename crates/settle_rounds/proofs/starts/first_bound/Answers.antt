@@ -1,34 +1,8 @@
-use Rattle.std.proofs.Common.{◌≡◌, ◌∙◌, sym, ap, subst, option_map}
-use Rattle.fc_nodes.specs.Program.{Program, unfolding_of}
-use Rattle.value_trees.specs.Snaps.{tree_of, snap_copy}
-use Rattle.firing_core.specs.CoreViews.{core_of}
+use Rattle.std.proofs.Common.{◌≡◌, ◌∙◌, sym, ap, subst}
+use Rattle.firing_core.specs.CoreViews.{core_of, program_of}
 use Rattle.bound_firing.specs.ExportReferences.{export_bound_in}
-use Rattle.settle_rounds.specs.References.{StateBound}
-use Rattle.settle_rounds.proofs.States.{has_some, has_bound}
+use Rattle.envelopes.specs.Envelopes.{is_sure}
+use Rattle.bound_rounds.specs.Tables.{device_at}
+use Rattle.bound_rounds.proofs.Places.{number_at, device_inputs, device_sure}
+use Rattle.settle_rounds.proofs.States.{first_of_none}
 use Rattle.settle_rounds.proofs.starts.first_bound.Goals as goal
-
-pub state_bound-requires-clause-some : goal.state_bound-requires-clause-some
-state_bound-requires-clause-some c p q =
-    let t = c.in_ok-take_off.ensures in
-    has_some c.args.core.now.net (core_of c.args.core.now) (core_of c.take_off.new.core) c.args.device t.same.exports
-    t.state (sym c.export.ensures.value ∙ ap (option_map _) p) (sym c.flying.ensures.value ∙ ap (option_map _) q)
-
-pub returns-clause-bound : goal.returns-clause-bound
-returns-clause-bound c =
-    let t = c.in_ok-take_off.ensures in
-    let b = c.in_ok-bound.bound in
-    let old = c.args.core.now in
-    let new = c.take_off.new.core in
-    let same : new.program ≡ old.program = t.same.same.program in
-    let read : c.deref.result.now ≡ new.program = c.deref.ensures ∙ c.program.ensures.value in
-    let h = subst (λ (P : Program). StateBound (unfolding_of P) (option_map (λ e. tree_of (unfolding_of P) e.now)
-    c.export.result) (option_map (λ s. snap_copy (unfolding_of P) s.now) c.flying.result)
-    (export_bound_in (unfolding_of P) b)) read c.in_ok-bound.ensures.bound in
-    let g = subst (λ o. StateBound (unfolding_of new.program) o ((core_of new).flying c.args.device)
-    (export_bound_in (unfolding_of new.program) b)) c.export.ensures.value
-    (subst (λ o. StateBound (unfolding_of new.program) (option_map (λ e. tree_of (unfolding_of new.program) e.now)
-    c.export.result) o (export_bound_in (unfolding_of new.program) b)) c.flying.ensures.value h) in
-    has_bound old.net (core_of old) (core_of new) c.args.device t.same.exports (unfolding_of old.program)
-    (export_bound_in (unfolding_of old.program) b) t.state
-    (subst (λ (P : Program). StateBound (unfolding_of P) ((core_of new).exports c.args.device)
-    ((core_of new).flying c.args.device) (export_bound_in (unfolding_of P) b)) same g)

@@ -5,36 +5,29 @@ use Rattle.std.proofs.lemmas.List.{length-map, length_push}
 use Rattle.std.proofs.lemmas.List.Elements.{All-push}
 use Rattle.fc_nodes.specs.Terms.{kept}
 use Rattle.fc_nodes.specs.Program.{unfolding_of}
-use Rattle.topology.specs.declared.types.Device.{Device}
-use Rattle.topology.specs.Networks.{Network, Lives, device_of, numbers}
 use Rattle.firing_core.specs.CoreViews.{core_of, program_of}
 use Rattle.bound_firing.specs.declared.firing.ExportBound.{ExportBound as FlatBound}
 use Rattle.bound_firing.specs.ExportReferences.{export_bound_in}
+use Rattle.envelopes.specs.declared.types.DeviceBound.{DeviceBound}
+use Rattle.envelopes.specs.Envelopes.{Envelope, ids}
+use Rattle.envelopes.specs.Code.{maybe_device_of}
 use Rattle.bound_rounds.specs.Tables.{HaveSlots, device_at, table_by}
 use Rattle.bound_rounds.proofs.Closeness.{stands_at}
 use Rattle.bound_rounds.proofs.Marks.{at_one_place}
-use Rattle.bound_rounds.proofs.Places.{number_at}
-use Rattle.bound_rounds.proofs.Rounding.{at_lives}
 use Rattle.bound_rounds.proofs.Standing.{stand_at}
 use Rattle.bound_rounds.proofs.Tabled.{by_stands}
-use Rattle.settle_rounds.specs.Starts.{FirstBound}
+use Rattle.settle_rounds.specs.Within.{FirstWithin}
 use Rattle.settle_rounds.proofs.States.{first_before}
 use Rattle.settle_rounds.proofs.starts.first_bounds.Goals as goal
 
-within : (N : Network) (k : ℕ) (ds : List Device) → map device_of ds ≡ N.devices → k < length ds
-    → k < length N.devices
-within N k ds e h = let l = length-map ds device_of in omega (arith, h, l, ap length e)
+-- a place of the loop is one of the envelope
+within : (E : Envelope) (k : ℕ) (ds : List DeviceBound) → map maybe_device_of ds ≡ E.devices → k < length ds
+    → k < length E.devices
+within E k ds e h = let l = length-map ds maybe_device_of in omega (arith, h, l, ap length e)
 
 pub first_bound-requires : goal.first_bound-requires
-first_bound-requires c =
-    let N = c.loop-place.core.net in
-    let k = c.loop-place.place in
-    let all = c.devices.ensures.value ∙ ap (λ (n : Network). n.devices) c.net-in-loop-place.ensures.value in
-    let count = c.devices-count.ensures.value ∙ ap (λ (n : Network). n.devices) c.net.ensures.value in
-    let h : k < length N.devices = within N k c.devices-count.result.now (count
-    ∙ ap (λ (n : Network). n.devices) (sym c.loop-place.invariant.same.net)) c.loop-place-test.true in
-    let at = number_at N c.devices.result.now k c.index-devices-place.result all h c.index-devices-place.is in
-    subst (Lives N) (at ∙ ap (λ d. d.id) c.index-devices-place.is) (at_lives N k h)
+first_bound-requires c = within c.args.envelope.now c.loop-place.place c.devices-count.result.now
+    c.devices-count.ensures.value c.loop-place-test.true
 
 push_before : (xs : List FlatBound) (b x : FlatBound) (i : ℕ) → i < length xs
     → get_or (xs ++ b ∷ []) i x ≡ get_or xs i x
@@ -53,28 +46,23 @@ loop-place-preserved c =
     let old = c.args.core.now in
     let now = c.loop-place.core in
     let U = program_of old in
+    let E = c.args.envelope.now in
     let N = old.net in
     let k = c.loop-place.place in
     let inv = c.loop-place.invariant in
     let f = c.in_ok-first_bound.ensures in
     let b = c.in_ok-first_bound.field-0 in
     let bs = c.loop-place.bounds.items in
-    let D = (get_or c.devices.result.now k c.index-devices-place.result).id in
-    let all = c.devices.ensures.value ∙ ap (λ (n : Network). n.devices) c.net-in-loop-place.ensures.value
-    ∙ ap (λ (n : Network). n.devices) inv.same.net in
-    let count = c.devices-count.ensures.value ∙ ap (λ (n : Network). n.devices) c.net.ensures.value in
-    let h : k < length N.devices = within N k c.devices-count.result.now count c.loop-place-test.true in
-    let at : device_at N k ≡ D = number_at N c.devices.result.now k c.index-devices-place.result all h
-    c.index-devices-place.is ∙ ap (λ d. d.id) c.index-devices-place.is in
+    let h : k < length E.devices =
+    within E k c.devices-count.result.now c.devices-count.ensures.value c.loop-place-test.true in
     let items : c.push.new.self.items ≡ bs ++ b ∷ [] = c.in_ok-push.ensures.items in
     let slots = f.slots ∙ ap (λ P. kept (unfolding_of P).main) inv.same.program in
-    let here = first_before old now D b inv.same inv.exports
-    (subst (λ d. (core_of now).flying d ≡ (core_of old).flying d) at (inv.ahead k (omega arith) h)) f.bound in
+    let here = first_before E old now (device_at E k) b inv.same inv.exports (inv.ahead k (omega arith) h) f.bound in
     record {
       same = record { program = f.same.same.program ∙ inv.same.program; net = f.same.same.net ∙ inv.same.net };
       exports = f.same.exports ∙ inv.exports;
-      ahead = λ i l m. f.same.flying (device_at N i) (ne_eqb (device_at N i) D (λ e.
-          let q = at_one_place N c.net.ensures.good.net i k m h (e ∙ sym at) in absurd (omega (arith, l, q))))
+      ahead = λ i l m. f.same.flying (device_at E i) (ne_eqb (device_at E i) (device_at E k) (λ e.
+          let q = at_one_place E c.devices-count.ensures.envelope i k m h e in absurd (omega (arith, l, q))))
           ∙ inv.ahead i (omega (arith, l)) m;
       many = ap length items ∙ length_push bs b ∙ ap (λ n. n + 1) inv.many;
       slots = subst (HaveSlots (kept U.main)) (sym items)
@@ -82,12 +70,12 @@ loop-place-preserved c =
       first = λ i x l. elim (cases_eq i k) [
         | inl q ↦
             let read = ap (λ xs. get_or xs i x) items ∙ push_here bs b x i (q ∙ sym inv.many) in
-            subst (λ y. FirstBound U N (core_of old) (device_at N i) (export_bound_in U y)) (sym read)
-            (subst (λ d. FirstBound U N (core_of old) d (export_bound_in U b)) (sym at ∙ ap (device_at N) (sym q)) here)
+            subst (λ y. FirstWithin U E N (core_of old) (device_at E i) (export_bound_in U y)) (sym read)
+            (subst (λ d. FirstWithin U E N (core_of old) d (export_bound_in U b)) (ap (device_at E) (sym q)) here)
         | inr q ↦
             let before : i < k = omega (arith, l, q) in
             let read = ap (λ xs. get_or xs i x) items ∙ push_before bs b x i (omega (arith, before, inv.many)) in
-            subst (λ y. FirstBound U N (core_of old) (device_at N i) (export_bound_in U y)) (sym read)
+            subst (λ y. FirstWithin U E N (core_of old) (device_at E i) (export_bound_in U y)) (sym read)
             (inv.first i x before)
       ];
     }
@@ -100,25 +88,25 @@ pub returns-clause-first : goal.returns-clause-first
 returns-clause-first c =
     let old = c.args.core.now in
     let U = program_of old in
+    let E = c.args.envelope.now in
     let N = old.net in
     let inv = c.loop-place.invariant in
-    let net = c.net.ensures.good.net in
     let bs = c.loop-place.bounds.items in
-    let count = c.devices-count.ensures.value ∙ ap (λ (n : Network). n.devices) c.net.ensures.value in
-    let l = length-map c.devices-count.result.now device_of in
+    let l = length-map c.devices-count.result.now maybe_device_of in
     let last : length c.devices-count.result.now ≤ c.loop-place.place = c.loop-place-test.false in
-    let many : length bs ≡ length N.devices =
-    omega (arith, inv.many, last, c.loop-place.auto.place-end, l, ap length count) in
-    let table = table_by U (numbers N.devices) bs in
-    let stands = by_stands U N net bs many in
+    let many : length bs ≡ length E.devices =
+    omega (arith, inv.many, last, c.loop-place.auto.place-end, l, ap length c.devices-count.ensures.value) in
+    let table = table_by U (ids E.devices) bs in
+    let stands = by_stands U E c.devices-count.ensures.envelope bs many in
     record {
       fits = record { many = many; slots = inv.slots };
       table = table;
       first = λ d v.
-          let p = stands_at N d v in
-          let x = some_bound bs (length N.devices) many p.place p.within in
-          subst (λ e. FirstBound U N (core_of old) e (table e)) p.is_there
-          (subst (FirstBound U N (core_of old) (device_at N p.place)) (stand_at U N table bs stands p.place x p.within)
+          let p = stands_at E d v in
+          let x = some_bound bs (length E.devices) many p.place p.within in
+          subst (λ e. FirstWithin U E N (core_of old) e (table e)) p.is_there
+          (subst (FirstWithin U E N (core_of old) (device_at E p.place))
+          (stand_at U E table bs stands p.place x p.within)
           (inv.first p.place x (omega (arith, p.within, many, inv.many))));
       stands = stands;
     }

@@ -24,8 +24,8 @@ returns-in_ok-widen_bound-in-Some-Some-clause-bound c =
     let l = c.in_ok-both-in-Some-Some.ensures.bound in
     let both = c.in_ok-widen_bound-in-Some-Some.ensures.bound
     ∙ ap (λ b. either_export U b (export_bound_in U c.in_ok-both-in-Some-Some.both)) first
-    ∙ ap (either_export U (exact_export U true e)) l.is in
-    rw (c.in-Some-Some.is-0, c.in-Some-Some.is-1) (subst (StateBound U (Some e) (Some s)) (sym both)
+    ∙ ap (either_export U (exact_export U c.args.sure e)) l.is in
+    rw (c.in-Some-Some.is-0, c.in-Some-Some.is-1) (subst (StateBound U c.args.sure (Some e) (Some s)) (sym both)
     (standing_and_landing e s l.export l.evaluates))
 
 pub returns-in_ok-stands-in-Some-None-clause-bound : goal.returns-in_ok-stands-in-Some-None-clause-bound
@@ -34,7 +34,8 @@ returns-in_ok-stands-in-Some-None-clause-bound c =
     let e = tree_of U c.in-Some-None.export.now in
     let first = c.in_ok-stands-in-Some-None.ensures.bound U
     (given _ c.args.export c.in-Some-None.export c.in-Some-None.is-0 c.requires.export) in
-    rw (c.in-Some-None.is-0, c.in-Some-None.is-1) (subst (StateBound U (Some e) None) (sym first) (standing e))
+    rw (c.in-Some-None.is-0, c.in-Some-None.is-1)
+    (subst (StateBound U c.args.sure (Some e) None) (sym first) (standing e))
 
 pub returns-in_ok-stands-in-Some-None-clause-slots : goal.returns-in_ok-stands-in-Some-None-clause-slots
 returns-in_ok-stands-in-Some-None-clause-slots c =
@@ -46,5 +47,5 @@ returns-in_ok-lands-in-None-Some-clause-bound c =
     let U = unfolding_of c.args.program.now in
     let s = snap_copy U c.in-None-Some.snap.now in
     let l = c.in_ok-lands-in-None-Some.ensures.bound in
-    rw (c.in-None-Some.is-0, c.in-None-Some.is-1) (subst (StateBound U None (Some s)) (sym l.is)
+    rw (c.in-None-Some.is-0, c.in-None-Some.is-1) (subst (StateBound U c.args.sure None (Some s)) (sym l.is)
     (landing s l.export l.evaluates))

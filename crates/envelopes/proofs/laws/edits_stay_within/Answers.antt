@@ -1,5 +1,0 @@
-use Rattle.envelopes.proofs.EditsStay.{edits_stay_within}
-use Rattle.envelopes.proofs.laws.edits_stay_within.Goals as goal
-
-pub returns : goal.returns
-returns c = edits_stay_within

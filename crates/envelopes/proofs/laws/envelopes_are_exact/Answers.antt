@@ -1,5 +1,0 @@
-use Rattle.envelopes.proofs.Exact.{envelopes_are_exact}
-use Rattle.envelopes.proofs.laws.envelopes_are_exact.Goals as goal
-
-pub returns : goal.returns
-returns c = envelopes_are_exact
