@@ -1,17 +1,19 @@
 -- Crates above cite this module: marks of the devices that hear of a change.
-use Rattle.std.proofs.Common.{◌≡◌, ℕ, zero, suc, ◌<◌, ◌≤◌, List, [], ◌∷◌, length, take, get_or, refl, sym, ◌∙◌, ap}
-use Rattle.std.proofs.Common.{subst, arith, Bool, true, false, ◌||◌, nat_eq, ◌⊎◌, inl, inr}
+use Rattle.std.proofs.Common.{◌≡◌, ℕ, zero, suc, ◌<◌, ◌≤◌, List, [], ◌∷◌, length, map, take, get_or, refl, sym}
+use Rattle.std.proofs.Common.{◌∙◌, ap, subst, arith, Bool, true, false, ◌||◌, nat_eq, ◌⊎◌, inl, inr}
 use Rattle.std.specs.Prelude.{slice_set}
 use Rattle.std.proofs.lemmas.Bool.{eq-eqb, ne_eqb, cases_order}
 use Rattle.std.proofs.lemmas.List.{length-map, take_all}
 use Rattle.fc_values.specs.Fields.{is_in, Rises}
 use Rattle.fc_values.proofs.Rising.{rises_at}
+use Rattle.envelopes.specs.declared.types.LinkBound.{LinkBound}
 use Rattle.envelopes.specs.Envelopes.{MaybeDevice, MaybeLink, Envelope, ids, MayLive, maybe_near, near_ids}
 use Rattle.envelopes.specs.Envelopes.{IsEnvelope}
+use Rattle.envelopes.specs.Code.{neighbour_of}
 use Rattle.envelopes.proofs.Within.{near_there}
 use Rattle.bound_rounds.specs.Tables.{device_at, AreMarked}
 use Rattle.bound_rounds.proofs.Closeness.{or_second}
-use Rattle.bound_rounds.proofs.Places.{no_near}
+use Rattle.bound_rounds.proofs.Places.{no_bound, no_near, many_near, near_read}
 
 -- one mark more
 pub marked_stays : (ms : List Bool) (p i : ℕ) → get_or ms i true ≡ true → get_or (slice_set ms p true) i true ≡ true
@@ -82,10 +84,17 @@ is_near (n ∷ ns) zero h = let t = eq-eqb n.0 n.0 refl in rw t refl
 is_near (n ∷ ns) (suc k) h =
     let m = (get_or ns k no_near).0 in or_second (nat_eq m n.0) (is_in m (near_ids ns)) (is_near ns k (omega arith))
 
-pub near_lives : (E : Envelope) → IsEnvelope E → (d : ℕ) (k : ℕ) → k < length (maybe_near d E.links)
+near_lives : (E : Envelope) → IsEnvelope E → (d : ℕ) (k : ℕ) → k < length (maybe_near d E.links)
     → MayLive E (get_or (maybe_near d E.links) k no_near).0
 near_lives E envelope d k h =
     near_there E envelope d (get_or (maybe_near d E.links) k no_near).0 (is_near (maybe_near d E.links) k h)
+
+-- a neighbour in code is a device that may be there
+pub neighbour_lives : (E : Envelope) → IsEnvelope E → (d : ℕ) (ns : List (ℕ × LinkBound))
+    → map neighbour_of ns ≡ maybe_near d E.links → (k : ℕ) → k < length ns → MayLive E (get_or ns k no_bound).0
+neighbour_lives E envelope d ns all k h =
+    subst (MayLive E) (sym (ap (λ (m : ℕ × MaybeLink). m.0) (near_read ns (maybe_near d E.links) all k h)))
+    (near_lives E envelope d k (let m = many_near ns (maybe_near d E.links) all in omega (arith, h, m)))
 
 -- ---- the marks of a device and of its first neighbours
 

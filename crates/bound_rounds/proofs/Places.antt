@@ -18,10 +18,6 @@ record IsLookedUp (ms : List MaybeDevice) (d : ℕ) (x : DeviceBound) : Type 0 w
   pub inputs : local_bounds_in x.inputs.items ≡ bounds_in d ms
   pub sure : x.sure ≡ sure_in d ms
 
-devices_long : (xs : List DeviceBound) → length (ids (map maybe_device_of xs)) ≡ length xs
-devices_long [] = refl
-devices_long (x ∷ xs) = ap suc (devices_long xs)
-
 looked_up : (xs : List DeviceBound) (p d : ℕ) (x : DeviceBound) → Distinct (ids (map maybe_device_of xs))
     → p < length xs → x ≡ get_or xs p x → get_or (ids (map maybe_device_of xs)) p 0 ≡ d
     → IsLookedUp (map maybe_device_of xs) d x
@@ -38,8 +34,9 @@ looked_up (y ∷ ys) (suc p) d x n h q e = by_test (nat_eq d y.id) refl (looked_
         → IsLookedUp (map maybe_device_of (y ∷ ys)) d x
     by_test true t ih =
         let same = eqb-true d y.id t in
-        let long = devices_long ys in
-        absurd (n.0 p (omega (arith, h, long)) (e ∙ same))
+        let long = length-map ys maybe_device_of in
+        let wide = length-map (map maybe_device_of ys) (λ (m : MaybeDevice). m.id) in
+        absurd (n.0 p (omega (arith, h, long, wide)) (e ∙ same))
     by_test false t ih = record { inputs = rw t ih.inputs; sure = rw t ih.sure }
 
 -- of an envelope whose devices are these

@@ -1,4 +1,5 @@
 pub mod Rounds
+pub mod Within
 pub mod Starts
 pub mod Settling
 pub mod Mail

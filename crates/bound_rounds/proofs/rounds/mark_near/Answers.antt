@@ -1,22 +1,15 @@
-use Rattle.std.proofs.Common.{ℕ, ◌<◌, ◌≤◌, ◌∙◌, length, ap, sym, subst, arith, add-one}
-use Rattle.envelopes.specs.Envelopes.{MaybeLink, MayLive, maybe_near}
+use Rattle.std.proofs.Common.{ℕ, ◌<◌, ◌≤◌, ◌∙◌, length, ap, arith, add-one}
+use Rattle.envelopes.specs.Envelopes.{MaybeLink, maybe_near}
 use Rattle.bound_rounds.specs.Tables.{device_at}
-use Rattle.bound_rounds.proofs.Marks.{mark_kept, marked_first, marked_next, marked_all, near_lives}
+use Rattle.bound_rounds.proofs.Marks.{mark_kept, marked_first, marked_next, marked_all, neighbour_lives}
 use Rattle.bound_rounds.proofs.Places.{many_near, near_read}
 use Rattle.bound_rounds.proofs.rounds.mark_near.Goals as goal
 
 pub place-requires : goal.place-requires
 place-requires c =
-    let E = c.args.envelope.now in
-    let d = device_at E c.args.place in
-    let ns = c.neighbours_at-neighbour-items.result.now in
-    let k = c.loop-neighbour.neighbour-index in
-    let v = c.neighbours_at-neighbour-items.ensures.value in
-    let h : k < length ns = c.loop-neighbour-test.true in
-    let n = near_read ns (maybe_near d E.links) v k h in
-    subst (MayLive E) (sym (ap (λ (m : ℕ × MaybeLink). m.0) n))
-    (near_lives E c.neighbours_at-neighbour-items.ensures.envelope d k
-    (omega (arith, h, many_near ns (maybe_near d E.links) v)))
+    neighbour_lives c.args.envelope.now c.neighbours_at-neighbour-items.ensures.envelope
+    (device_at c.args.envelope.now c.args.place) c.neighbours_at-neighbour-items.result.now
+    c.neighbours_at-neighbour-items.ensures.value c.loop-neighbour.neighbour-index c.loop-neighbour-test.true
 
 pub loop-neighbour-init : goal.loop-neighbour-init
 loop-neighbour-init c = record {

@@ -1,7 +1,7 @@
 use Rattle.std.proofs.Common.{ℕ, ◌≡◌, ◌<◌, ◌≤◌, ◌∙◌, ◌&&◌, List, length, get_or, refl, sym, ap, subst, arith, add-one}
 use Rattle.bound_firing.specs.declared.seats.NearSeat.{NearSeat}
-use Rattle.envelopes.specs.Envelopes.{MaybeLink, MayLive, maybe_near}
-use Rattle.bound_rounds.proofs.Marks.{near_lives}
+use Rattle.envelopes.specs.Envelopes.{MaybeLink, maybe_near}
+use Rattle.bound_rounds.proofs.Marks.{neighbour_lives}
 use Rattle.bound_rounds.proofs.Places.{no_bound, no_near, many_near, near_read}
 use Rattle.bound_rounds.proofs.Standing.{NearSeen, IsSeatOf, none_seen, seen_next, see_table}
 use Rattle.bound_rounds.specs.Tables.{device_at}
@@ -10,15 +10,9 @@ use Rattle.bound_rounds.proofs.rounds.seats_at.Goals as goal
 
 pub place-requires : goal.place-requires
 place-requires c =
-    let E = c.args.envelope.now in
-    let d = device_at E c.args.place in
-    let ns = c.neighbours_at-neighbours.result.now in
-    let k = c.loop-neighbour.neighbour-index in
-    let v = c.neighbours_at-neighbours.ensures.value in
-    let h : k < length ns = c.loop-neighbour-test.true in
-    let n = near_read ns (maybe_near d E.links) v k h in
-    subst (MayLive E) (sym (ap (λ (m : ℕ × MaybeLink). m.0) n))
-    (near_lives E c.neighbours_at-neighbours.ensures.envelope d k (omega (arith, h, many_near ns (maybe_near d E.links) v)))
+    neighbour_lives c.args.envelope.now c.neighbours_at-neighbours.ensures.envelope
+    (device_at c.args.envelope.now c.args.place) c.neighbours_at-neighbours.result.now
+    c.neighbours_at-neighbours.ensures.value c.loop-neighbour.neighbour-index c.loop-neighbour-test.true
 
 pub loop-neighbour-init : goal.loop-neighbour-init
 loop-neighbour-init c =
