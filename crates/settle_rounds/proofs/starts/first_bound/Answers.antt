@@ -39,16 +39,21 @@ returns-then-is_some-clause-bound c =
     let is = c.index-devices-place.is in
     let at = number_at E ds c.args.place x all c.requires is in
     let sure = device_sure E ds c.args.place x all c.devices.ensures.envelope c.requires is in
-    let b = export_bound_in (program_of old) c.in_ok-bound-then-is_some.bound in
+    let b = export_bound_in (program_of old) c.in_ok-bound.bound in
     subst (λ d. FirstWithin (program_of old) E old.net (core_of old) d b) (sym at)
-    (c.in_ok-bound-then-is_some.ensures.bound E (ap (is_sure E) (sym at) ∙ sym sure))
+    (c.in_ok-bound.ensures.bound E (ap (is_sure E) (sym at) ∙ sym sure))
 
 pub returns-then-is_some-clause-same : goal.returns-then-is_some-clause-same
 returns-then-is_some-clause-same c =
     let at = number_at c.args.envelope.now c.devices.result.now c.args.place c.index-devices-place.result
     c.devices.ensures.value c.requires c.index-devices-place.is in
-    subst (λ d. SameButFlight c.args.core.now d c.standing_bound.new.core) (sym at)
-    c.in_ok-bound-then-is_some.ensures.same
+    subst (λ d. SameButFlight c.args.core.now d c.standing_bound.new.core) (sym at) c.in_ok-bound.ensures.same
+
+pub returns-in_err-bound-clause-same : goal.returns-in_err-bound-clause-same
+returns-in_err-bound-clause-same c =
+    let at = number_at c.args.envelope.now c.devices.result.now c.args.place c.index-devices-place.result
+    c.devices.ensures.value c.requires c.index-devices-place.is in
+    subst (λ d. SameButFlight c.args.core.now d c.standing_bound.new.core) (sym at) c.in_err-bound.ensures.same
 
 pub returns-clause-bound : goal.returns-clause-bound
 returns-clause-bound c =
@@ -62,10 +67,10 @@ returns-clause-bound c =
     let at = number_at E ds k x all c.requires is in
     let inputs = device_inputs E ds k x all c.devices.ensures.envelope c.requires is in
     let read : c.deref.result.now ≡ old.program = c.deref.ensures ∙ c.program.ensures.value in
-    let b = c.in_ok-bound.bound in
+    let b = c.in_ok-bound-2.bound in
     let made = subst (λ (P : Program). export_bound_in (unfolding_of P) b ≡ bound_export false (bound_of
     (situation_for P.declared x.id (local_bounds_in x.inputs.items)) 0 (unfolding_of P).main [] no_seats)) read
-    c.in_ok-bound.ensures.bound in
+    c.in_ok-bound-2.ensures.bound in
     let gone : lives old.net (device_at E k) ≡ false = subst (λ d. lives old.net d ≡ false) (sym at)
     (subst (λ (n : Network). lives n x.id ≡ false) c.net.ensures.value
     (none_is c.place.result (lives c.net.result.now x.id ≡ false) c.place.ensures.none
