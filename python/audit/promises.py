@@ -108,7 +108,7 @@ CUTS = {
         "which settle rounds and values are found: those that are written are the ones of the promise",
     "settle_rounds/specs/SettleTimes.antt settle_time": "which settle time is found: as with settle rounds",
     "settle_rounds/specs/Rounds.antt any_table": "from which table of bounds they are counted: as with settle rounds",
-    "settle_rounds/specs/Starts.antt StartTable": "the same, from one start",
+    "settle_rounds/specs/Within.antt StartTable": "the same, from one start",
     "settle_rounds/specs/Starts.antt growing_cap": "the same",
     "bound_rounds/specs/Rounds.antt BoundTable": "the same",
     "fc_inputs/specs/Sources.antt IsNoProgram": "why a text is refused: where it is, nothing is promised of it",

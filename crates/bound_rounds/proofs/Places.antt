@@ -7,7 +7,7 @@ use Rattle.value_bounds.specs.References.{local_bounds_in}
 use Rattle.firing_core.proofs.Slots.{Distinct, rises_distinct}
 use Rattle.envelopes.specs.declared.types.DeviceBound.{DeviceBound}
 use Rattle.envelopes.specs.declared.types.LinkBound.{LinkBound}
-use Rattle.envelopes.specs.Envelopes.{MaybeDevice, MaybeLink, Envelope, ids, sure_in, is_sure, bounds_in, IsEnvelope}
+use Rattle.envelopes.specs.Envelopes.{MaybeDevice, MaybeLink, Envelope, ids, sure_in, surely_lives, bounds_in, IsEnvelope}
 use Rattle.envelopes.specs.Code.{maybe_device_of, neighbour_of}
 use Rattle.bound_rounds.specs.Tables.{device_at}
 
@@ -69,7 +69,7 @@ module _ (E : Envelope) (ds : List DeviceBound) (k : ℕ) (x : DeviceBound) (all
         → local_bounds_in x.inputs.items ≡ bounds_in (device_at E k) E.devices
     device_inputs envelope h q = (found envelope h q).inputs
 
-    pub device_sure : IsEnvelope E → k < length E.devices → x ≡ get_or ds k x → x.sure ≡ is_sure E (device_at E k)
+    pub device_sure : IsEnvelope E → k < length E.devices → x ≡ get_or ds k x → x.sure ≡ surely_lives E (device_at E k)
     device_sure envelope h q = (found envelope h q).sure
 
 -- ---- neighbours

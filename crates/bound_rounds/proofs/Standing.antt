@@ -20,7 +20,7 @@ use Rattle.bound_firing.specs.declared.seats.OwnSeat.{OwnSeat}
 use Rattle.bound_firing.specs.declared.seats.Seats.{Seats as CodeSeats}
 use Rattle.bound_firing.specs.FlatSeats.{seats_over}
 use Rattle.bound_firing.specs.References.{flat_seats_in}
-use Rattle.envelopes.specs.Envelopes.{MaybeDevice, MaybeLink, Envelope, ids, is_sure, bounds_in, maybe_near}
+use Rattle.envelopes.specs.Envelopes.{MaybeDevice, MaybeLink, Envelope, ids, surely_lives, bounds_in, maybe_near}
 use Rattle.bound_rounds.specs.Rounds.{BoundTable, seat_in, fired_within}
 use Rattle.bound_rounds.specs.Tables.{device_at, Stand, HaveSlots, SeeTable}
 use Rattle.bound_rounds.proofs.Places.{no_near}
@@ -152,7 +152,7 @@ module _ (E : Envelope) (xs : List FlatBound) (many : length xs ≡ length E.dev
 -- the firing over seats of a table is that over the table
 pub fired_over : (U : Unfolding) (E : Envelope) (table : BoundTable) (xs : List FlatBound) (d device : ℕ)
     (inputs : List BoundValue) (sure : Bool) (seats : CodeSeats) → device ≡ d → inputs ≡ bounds_in d E.devices
-    → sure ≡ is_sure E d → Stand U E table xs → SeeTable E xs d seats
+    → sure ≡ surely_lives E d → Stand U E table xs → SeeTable E xs d seats
     → bound_export sure (bound_of (situation_for U.declared device inputs) 0 U.main []
     (seats_over U.main 0 (flat_seats_in seats))) ≡ fired_within U E table d
 fired_over U E table xs d device inputs sure seats e q p t s = let r = s.seen U table t in rw (e, q, p, r) refl

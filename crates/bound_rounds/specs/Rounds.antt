@@ -7,7 +7,7 @@ use Rattle.bound_firing.specs.Exports.{ExportBound, bound_export}
 use Rattle.bound_firing.specs.Seats.{NearSeat, Seats}
 use Rattle.bound_firing.specs.Firing.{BoundSituation, bound_of}
 use Rattle.export_bounds.specs.Exports.{either_export}
-use Rattle.envelopes.specs.Envelopes.{MaybeLink, Envelope, MayLive, is_sure, bounds_in, maybe_near, near_ids}
+use Rattle.envelopes.specs.Envelopes.{MaybeLink, Envelope, MayLive, surely_lives, bounds_in, maybe_near, near_ids}
 use Rattle.envelopes.specs.Exactly.{exact_envelope}
 use Rattle.bound_rounds.specs.declared.rounds.RoundKind.{RoundKind}
 use Rattle.bound_rounds.specs.declared.rounds.RoundKind.TheVariants as kind
@@ -41,7 +41,7 @@ situation_in U E d = record {
 -- the firing of a device over a table of bounds: there for sure where the device is
 abbrev pub fired_within : Unfolding → Envelope → BoundTable → BoundTable
 fired_within U E table d =
-    bound_export (is_sure E d) (bound_of (situation_in U E d) 0 U.main [] (seats_in table E d))
+    bound_export (surely_lives E d) (bound_of (situation_in U E d) 0 U.main [] (seats_in table E d))
 
 -- what a round makes of a table: a device's firing, and where the table grows, what was there before as well
 abbrev pub next_within : RoundKind → Unfolding → Envelope → BoundTable → BoundTable

@@ -4,7 +4,7 @@ use Rattle.fc_values.specs.Trees.{TreeExport}
 use Rattle.fc_nodes.specs.Program.{Unfolding, unfolding_of}
 use Rattle.firing_core.specs.Cores.{Core}
 use Rattle.value_bounds.specs.BoundValues.{BoundValue, Lies}
-use Rattle.envelopes.specs.Envelopes.{Envelope, is_sure}
+use Rattle.envelopes.specs.Envelopes.{Envelope, surely_lives}
 use Rattle.bound_rounds.specs.Rounds.{BoundTable, rounds_within}
 use Rattle.settle_rounds.specs.Rounds.{any_table}
 use Rattle.settle_rounds.specs.Within.{StandsIn, BoundsHoldWithin, BoundsHoldWithinFrom, StartsHoldWithin}
@@ -18,7 +18,7 @@ bound_holds U E table r d b last h s = record {
   there = λ g. by_cases g h.there;
 }
   where
-    by_cases : is_sure E d ≡ true → ((rounds_within U E table r d).sure ≡ true) ⊎ (is_sure E d ≡ false)
+    by_cases : surely_lives E d ≡ true → ((rounds_within U E table r d).sure ≡ true) ⊎ (surely_lives E d ≡ false)
         → (e : TreeExport) × (last.exports d ≡ Some e)
     by_cases g (inl t) = s.sure t
     by_cases g (inr u) = let z : false ≡ true = sym u ∙ g in absurd cc

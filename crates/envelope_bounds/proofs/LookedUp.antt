@@ -9,7 +9,7 @@ use Rattle.topology.specs.Networks.{NetDevice, Edge, Network, IsNetwork, numbers
 use Rattle.topology.specs.Changes.{is_pair, has_pair}
 use Rattle.value_bounds.proofs.Values.{itself}
 use Rattle.bound_firing.specs.Firing.{InputsLie}
-use Rattle.envelopes.specs.Envelopes.{MaybeDevice, MaybeLink, Envelope, ids, sure_in, is_sure, bounds_in, least_edge}
+use Rattle.envelopes.specs.Envelopes.{MaybeDevice, MaybeLink, Envelope, ids, sure_in, surely_lives, bounds_in, least_edge}
 use Rattle.envelopes.specs.Envelopes.{IsEnvelope, DevicesWithin, no_device, is_there, is_away, LinkWithin, LinksWithin}
 use Rattle.envelopes.specs.Envelopes.{no_link, is_linked, is_unlinked, LiesWithin}
 use Rattle.envelope_bounds.specs.Edits.{is_pair_of, sure_link, MayLink}
@@ -332,9 +332,9 @@ module _ (E : Envelope) (N : Network) (envelope : IsEnvelope E) (net : IsNetwork
     sure_links = λ a b s. links_sure a b h.links s;
   }
     where
-      by_test : (d : ℕ) → is_sure E d ≡ true → (c : Bool) → lives N d ≡ c → lives N d ≡ true
+      by_test : (d : ℕ) → surely_lives E d ≡ true → (c : Bool) → lives N d ≡ c → lives N d ≡ true
       by_test d s true q = q
-      by_test d s false q = absurd (clash (is_sure E d) s (away_in d h.devices q))
+      by_test d s false q = absurd (clash (surely_lives E d) s (away_in d h.devices q))
 
 pub lookups_agree : LookupsAgree
 lookups_agree E N envelope net = (to_within E N envelope net, from_within E N envelope net)

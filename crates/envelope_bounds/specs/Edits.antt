@@ -5,7 +5,7 @@ use Rattle.firing_core.specs.Entries.{EditValue, LinkEdit, UnlinkEdit, SetEdit, 
 use Rattle.firing_core.specs.Entries.{EntryValue, BeginEntry, EndEntry, IdleEntry, EditEntry}
 use Rattle.value_bounds.specs.BoundValues.{Lies}
 use Rattle.bound_firing.specs.Firing.{InputsLie, input_bound}
-use Rattle.envelopes.specs.Envelopes.{MaybeDevice, MaybeLink, Envelope, MayLive, sure_in, is_sure, bounds_in}
+use Rattle.envelopes.specs.Envelopes.{MaybeDevice, MaybeLink, Envelope, MayLive, sure_in, surely_lives, bounds_in}
 
 abbrev pub is_pair_of : ℕ → ℕ → MaybeLink → Bool
 is_pair_of a b m = nat_eq m.a a && nat_eq m.b b
@@ -32,7 +32,7 @@ MayEdit E (UnlinkEdit a b) = sure_link (min a b) (max a b) E.links ≡ false
 MayEdit E (SetEdit d i v) = Lies (input_bound (slice_get (bounds_in d E.devices) i)) v
 MayEdit E (PokeEdit d e) = ⊥
 MayEdit E (JoinEdit x) = MayLive E x.id × InputsLie (bounds_in x.id E.devices) x.inputs
-MayEdit E (LeaveEdit d) = is_sure E d ≡ false
+MayEdit E (LeaveEdit d) = surely_lives E d ≡ false
 
 abbrev pub MayEnter : Envelope → EntryValue → Type 0
 MayEnter E (BeginEntry d) = Unit {0}

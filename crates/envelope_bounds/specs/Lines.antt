@@ -5,7 +5,7 @@ use Rattle.fc_nodes.specs.Program.{Program, Unfolding, unfolding_of, IsProgram}
 use Rattle.firing_core.specs.Cores.{Core, IsGood}
 use Rattle.value_bounds.specs.BoundValues.{BoundValue, Lies}
 use Rattle.bound_rounds.specs.Rounds.{BoundTable, rounds_within}
-use Rattle.envelopes.specs.Envelopes.{Envelope, MayLive, is_sure, IsEnvelope}
+use Rattle.envelopes.specs.Envelopes.{Envelope, MayLive, surely_lives, IsEnvelope}
 use Rattle.settle_rounds.specs.Rounds.{any_table}
 use Rattle.settle_rounds.specs.Within.{RoundsWithin, StartTableWithin}
 
@@ -13,12 +13,12 @@ use Rattle.settle_rounds.specs.Within.{RoundsWithin, StartTableWithin}
 -- away. In the text r is the first round with the last bound
 pub record HasBound (U : Unfolding) (E : Envelope) (start : BoundTable) (r d : ℕ) (b : BoundValue) : Type 0 where
   pub is : (rounds_within U E start r d).value ≡ b
-  pub there : ((rounds_within U E start r d).sure ≡ true) ⊎ (is_sure E d ≡ false)
+  pub there : ((rounds_within U E start r d).sure ≡ true) ⊎ (surely_lives E d ≡ false)
 
 -- where a device has an export its value lies in a bound, and a device that is always there has one
 pub record LiesAt (E : Envelope) (d : ℕ) (b : BoundValue) (last : Core) : Type 0 where
   pub value : (e : TreeExport) → last.exports d ≡ Some e → Lies b e.value
-  pub there : is_sure E d ≡ true → (e : TreeExport) × (last.exports d ≡ Some e)
+  pub there : surely_lives E d ≡ true → (e : TreeExport) × (last.exports d ≡ Some e)
 
 -- from a core and the table from which its rounds are counted
 abbrev pub LinesHold : Type 0

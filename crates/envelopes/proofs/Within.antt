@@ -11,7 +11,7 @@ use Rattle.topology.specs.Nearby.{near_numbers}
 use Rattle.topology.proofs.Lemmas.{AllNear, near_fits}
 use Rattle.value_bounds.proofs.Values.{nat_same}
 use Rattle.bound_firing.specs.Firing.{InputsLie}
-use Rattle.envelopes.specs.Envelopes.{MaybeDevice, MaybeLink, Envelope, ids, MayLive, sure_in, is_sure, bounds_in}
+use Rattle.envelopes.specs.Envelopes.{MaybeDevice, MaybeLink, Envelope, ids, MayLive, sure_in, surely_lives, bounds_in}
 use Rattle.envelopes.specs.Envelopes.{maybe_near, near_ids, least_edge, IsEnvelope, DevicesWithin, no_device}
 use Rattle.envelopes.specs.Envelopes.{is_there, is_away, LiesWithin}
 
@@ -92,7 +92,7 @@ module _ (E : Envelope) (N : Network) (w : LiesWithin E N) where
   pub may_live_of : (d : ℕ) → Lives N d → MayLive E d
   may_live_of d l = may_live_in d w.devices l
 
-  pub away_of : (d : ℕ) → lives N d ≡ false → is_sure E d ≡ false
+  pub away_of : (d : ℕ) → lives N d ≡ false → surely_lives E d ≡ false
   away_of d g = away_in d w.devices g
 
 -- ---- neighbours

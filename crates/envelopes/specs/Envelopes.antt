@@ -40,8 +40,8 @@ abbrev pub sure_in : ℕ → List MaybeDevice → Bool
 sure_in d [] = false
 sure_in d (m ∷ ms) = if nat_eq d m.id then m.sure else sure_in d ms
 
-abbrev pub is_sure : Envelope → ℕ → Bool
-is_sure E d = sure_in d E.devices
+abbrev pub surely_lives : Envelope → ℕ → Bool
+surely_lives E d = sure_in d E.devices
 
 -- the bounds of the inputs of a device
 abbrev pub bounds_in : ℕ → List MaybeDevice → List BoundValue

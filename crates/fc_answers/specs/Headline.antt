@@ -18,7 +18,8 @@ use Rattle.converge_laws.specs.Verdicts.{IsSettled}
 use Rattle.net_json.specs.Scenes.{SceneValue}
 use Rattle.bound_rounds.specs.Rounds.{BoundTable}
 use Rattle.settle_rounds.specs.Rounds.{any_table}
-use Rattle.settle_rounds.specs.Starts.{StartTable, growing_cap}
+use Rattle.settle_rounds.specs.Within.{StartTable}
+use Rattle.settle_rounds.specs.Starts.{growing_cap}
 use Rattle.settle_rounds.specs.SettleTimes.{SettlesWell}
 use Rattle.settle_rounds.specs.StartTimes.{SettlesFrom}
 use Rattle.report.specs.Settling.{settling_text}

@@ -8,7 +8,8 @@ use Rattle.topology.specs.Networks.{Network, numbers}
 use Rattle.fragment_check.specs.Verdicts.{verdict_of}
 use Rattle.bound_rounds.specs.Rounds.{BoundTable}
 use Rattle.settle_rounds.specs.Rounds.{any_table}
-use Rattle.settle_rounds.specs.Starts.{StartTable, growing_cap}
+use Rattle.settle_rounds.specs.Within.{StartTable}
+use Rattle.settle_rounds.specs.Starts.{growing_cap}
 use Rattle.settle_rounds.specs.SettleTimes.{settle_time, settled_from}
 use Rattle.net_json.specs.Scenes.{SceneValue}
 use Rattle.command_words.specs.declared.commands.Start.{Start}

@@ -13,7 +13,7 @@ use Rattle.bound_firing.specs.Exports.{ExportBound, any_export, ExportLies}
 use Rattle.export_bounds.specs.Exports.{exact_export, either_export}
 use Rattle.export_bounds.specs.Laws.{ExportsHold}
 use Rattle.bound_rounds.specs.Rounds.{BoundTable, fired_within, grown_within, IsFullWithin}
-use Rattle.envelopes.specs.Envelopes.{Envelope, may_live, MayLive, is_sure}
+use Rattle.envelopes.specs.Envelopes.{Envelope, may_live, MayLive, surely_lives}
 use Rattle.settle_rounds.specs.Within.{MaybeLies, IsClosedWithin, HoldsCoreWithin, alone, FirstWithin, stands}
 use Rattle.settle_rounds.specs.Within.{stands_and_lands, lands, begins, comes, FirstTableWithin, TablesGrowWithin}
 use Rattle.envelopes.proofs.Within.{and_right}
@@ -26,7 +26,7 @@ module _ (hold : ExportsHold) (U : Unfolding) (E : Envelope) where
   full_closed_within table full = record {
     fires = λ d l e typed h.
         subst (λ b. ExportLies U b e) (full d l) ((hold U).second (table d) (fired_within U E table d) e h);
-    away = λ d l g. sym (ap (λ (b : ExportBound). b.sure) (full d l)) ∙ and_right (table d).sure (is_sure E d) g;
+    away = λ d l g. sym (ap (λ (b : ExportBound). b.sure) (full d l)) ∙ and_right (table d).sure (surely_lives E d) g;
   }
 
   still_lies : (b c : ExportBound) (o : Option TreeExport) → MaybeLies U b o → MaybeLies U (either_export U b c) o
@@ -72,10 +72,10 @@ module _ (fit : CopiesFit) (P : Program) (E : Envelope) (program : IsProgram P) 
       by_there q k false g = (alone U E d, comes g q k)
 
       by_both : (o : Option TreeExport) → c.exports d ≡ o → (f : Option Copy) → c.flying d ≡ f → Some_first d
-      by_both (Some e) q None k = (exact_export U (is_sure E d) e, stands e q k)
+      by_both (Some e) q None k = (exact_export U (surely_lives E d) e, stands e q k)
       by_both (Some e) q (Some s) k =
           let one = landing d s k in (
-            either_export U (exact_export U (is_sure E d) e) (exact_export U (is_sure E d) one.export),
+            either_export U (exact_export U (surely_lives E d) e) (exact_export U (surely_lives E d) one.export),
             stands_and_lands e s one.export q k one.evaluates,
           )
       by_both None q (Some s) k =
@@ -102,11 +102,11 @@ module _ (fit : CopiesFit) (P : Program) (E : Envelope) (program : IsProgram P) 
 
     first_export : (b : ExportBound) → FirstWithin U E c.net c d b → MaybeLies U b (c.exports d)
     first_export b (stands e q k) =
-        subst (MaybeLies U (exact_export U (is_sure E d) e)) (sym q) (exact_there (is_sure E d) e q)
+        subst (MaybeLies U (exact_export U (surely_lives E d) e)) (sym q) (exact_there (surely_lives E d) e q)
     first_export b (stands_and_lands e s f q k v) =
-        subst (MaybeLies U (either_export U (exact_export U (is_sure E d) e) (exact_export U (is_sure E d) f))) (sym q)
-        ((hold U).first (exact_export U (is_sure E d) e) (exact_export U (is_sure E d) f) e
-        (exact_there (is_sure E d) e q))
+        subst (MaybeLies U (either_export U (exact_export U (surely_lives E d) e) (exact_export U (surely_lives E d) f))) (sym q)
+        ((hold U).first (exact_export U (surely_lives E d) e) (exact_export U (surely_lives E d) f) e
+        (exact_there (surely_lives E d) e q))
     first_export b (lands s f q k v) = subst (MaybeLies U (exact_export U false f)) (sym q) refl
     first_export b (begins f g q k v) = subst (MaybeLies U (exact_export U false f)) (sym q) refl
     first_export b (comes g q k) = subst (MaybeLies U (alone U E d)) (sym q) refl
@@ -127,8 +127,8 @@ module _ (fit : CopiesFit) (P : Program) (E : Envelope) (program : IsProgram P) 
         → IsWellTyped U x → EvaluatesCopy U s x → ExportLies U b x
     first_flight b (stands e q k) s p x typed w = absurd (no_flight s p k)
     first_flight b (stands_and_lands e r f q k v) s p x typed w =
-        (hold U).second (exact_export U (is_sure E d) e) (exact_export U (is_sure E d) f) x
-        (landing_lies (is_sure E d) r s f x k v p typed w)
+        (hold U).second (exact_export U (surely_lives E d) e) (exact_export U (surely_lives E d) f) x
+        (landing_lies (surely_lives E d) r s f x k v p typed w)
     first_flight b (lands r f q k v) s p x typed w = landing_lies false r s f x k v p typed w
     first_flight b (begins f g q k v) s p x typed w = absurd (no_flight s p k)
     first_flight b (comes g q k) s p x typed w = absurd (no_flight s p k)

@@ -14,7 +14,7 @@ use Rattle.converge_laws.specs.CoreLevels.{GoodTable}
 use Rattle.bound_firing.specs.Exports.{ExportBound, any_export, ExportLies}
 use Rattle.bound_firing.proofs.Anything.{lies_at_first}
 use Rattle.bound_rounds.specs.Rounds.{BoundTable, rounds_within}
-use Rattle.envelopes.specs.Envelopes.{Envelope, MayLive, is_sure, IsEnvelope, LiesWithin}
+use Rattle.envelopes.specs.Envelopes.{Envelope, MayLive, surely_lives, IsEnvelope, LiesWithin}
 use Rattle.converge_laws.specs.StartLevels.{MaybeLevel}
 use Rattle.moving_laws.specs.MovingLevels.{TableOf, MovingLevel, LiftsMoving}
 use Rattle.settle_rounds.specs.Rounds.{any_table}
@@ -56,7 +56,7 @@ module _ (fit : CopiesFit) (P : Program) (E : Envelope) (program : IsProgram P) 
       subst (IsWellTyped U) (sym (one.only e v)) one.typed
 
   -- of a device that may be away nothing is there for sure after any number of rounds
-  away_after : (i d : ℕ) → MayLive E d → is_sure E d ≡ false → (rounds_within U E table i d).sure ≡ false
+  away_after : (i d : ℕ) → MayLive E d → surely_lives E d ≡ false → (rounds_within U E table i d).sure ≡ false
   away_after zero d l g = closed.away d l g
   away_after (suc i) d l g = g
 

@@ -18,7 +18,7 @@ use Rattle.export_bounds.specs.Exports.{exact_export, either_export}
 use Rattle.export_bounds.specs.Laws.{ExportsHold}
 use Rattle.bound_rounds.specs.declared.rounds.RoundKind.TheVariants as kind
 use Rattle.bound_rounds.specs.Rounds.{BoundTable, next_within, grown_within, IsFullWithin}
-use Rattle.envelopes.specs.Envelopes.{Envelope, ids, MayLive, is_sure, IsEnvelope}
+use Rattle.envelopes.specs.Envelopes.{Envelope, ids, MayLive, surely_lives, IsEnvelope}
 use Rattle.settle_rounds.specs.Rounds.{any_table}
 use Rattle.settle_rounds.specs.Within.{FirstWithin, stands, stands_and_lands, lands, begins, comes, FirstTableWithin}
 use Rattle.settle_rounds.specs.Within.{StartTableWithin, grows, any_start, OneStartWithin, StartHoldsWithin}
@@ -48,16 +48,16 @@ module _ (U : Unfolding) (E : Envelope) (N : Network) (c : Core) (d : ℕ) where
 
   one_first : (a b : ExportBound) → FirstWithin U E N c d a → FirstWithin U E N c d b → a ≡ b
   one_first a b (stands e q k) (stands f q' k') =
-      ap (exact_export U (is_sure E d)) (same_some (c.exports d) e f q q')
+      ap (exact_export U (surely_lives E d)) (same_some (c.exports d) e f q q')
   one_first a b (stands e q k) (stands_and_lands e' s f q' k' w) = absurd (some_none (c.flying d) s k' k)
   one_first a b (stands e q k) (lands s f q' k' w) = absurd (some_none (c.exports d) e q q')
   one_first a b (stands e q k) (begins f l q' k' w) = absurd (some_none (c.exports d) e q q')
   one_first a b (stands e q k) (comes g q' k') = absurd (some_none (c.exports d) e q q')
   one_first a b (stands_and_lands e s f q k v) (stands e' q' k') = absurd (some_none (c.flying d) s k k')
   one_first a b (stands_and_lands e r f q k v) (stands_and_lands e' s f' q' k' w) =
-      ap (λ x. either_export U (exact_export U (is_sure E d) x) (exact_export U (is_sure E d) f))
+      ap (λ x. either_export U (exact_export U (surely_lives E d) x) (exact_export U (surely_lives E d) f))
       (same_some (c.exports d) e e' q q')
-      ∙ ap (λ x. either_export U (exact_export U (is_sure E d) e') (exact_export U (is_sure E d) x))
+      ∙ ap (λ x. either_export U (exact_export U (surely_lives E d) e') (exact_export U (surely_lives E d) x))
       (same_landing r s f f' k v k' w)
   one_first a b (stands_and_lands e r f q k v) (lands s f' q' k' w) = absurd (some_none (c.exports d) e q q')
   one_first a b (stands_and_lands e r f q k v) (begins f' l q' k' w) = absurd (some_none (c.exports d) e q q')

@@ -11,7 +11,7 @@ use Rattle.value_bounds.specs.BoundValues.{BoundValue}
 use Rattle.bound_firing.specs.Exports.{ExportBound, bound_export}
 use Rattle.bound_firing.specs.Firing.{bound_of}
 use Rattle.bound_firing.specs.ExportReferences.{export_bound_in, situation_for}
-use Rattle.envelopes.specs.Envelopes.{Envelope, bounds_in, is_sure}
+use Rattle.envelopes.specs.Envelopes.{Envelope, bounds_in, surely_lives}
 use Rattle.settle_rounds.specs.Within.{no_seats, alone, FirstWithin, stands, stands_and_lands, lands, begins, comes}
 use Rattle.settle_rounds.specs.References.{StateBound, standing, standing_and_landing, landing}
 use Rattle.settle_rounds.specs.References.{HasState, had, began}
@@ -19,14 +19,14 @@ use Rattle.settle_rounds.specs.References.{HasState, had, began}
 module _ (U : Unfolding) (E : Envelope) (N : Network) (c : Core) (d : ℕ) where
   -- of a device that has one of them
   pub first_of_state : (o : Option TreeExport) (s : Option Copy) (b : ExportBound) → c.exports d ≡ o → c.flying d ≡ s
-      → StateBound U (is_sure E d) o s b → FirstWithin U E N c d b
+      → StateBound U (surely_lives E d) o s b → FirstWithin U E N c d b
   first_of_state o s b p q (standing e) = stands e p q
   first_of_state o s b p q (standing_and_landing e x f v) = stands_and_lands e x f p q v
   first_of_state o s b p q (landing x f v) = lands x f p q v
 
   -- of one that had neither and has begun
   pub first_of_begun : Lives N d → (o : Option TreeExport) (s : Option Copy) (b : ExportBound) → c.exports d ≡ None
-      → c.flying d ≡ None → o ≡ None → s ≡ Some (copy_of N c.exports d) → StateBound U (is_sure E d) o s b
+      → c.flying d ≡ None → o ≡ None → s ≡ Some (copy_of N c.exports d) → StateBound U (surely_lives E d) o s b
       → FirstWithin U E N c d b
   first_of_begun l o s b p q h k (standing e) = absurd cc
   first_of_begun l o s b p q h k (standing_and_landing e x f v) = absurd cc
@@ -70,7 +70,7 @@ module _ (N : Network) (old new : Core) (d : ℕ) (same : new.exports ≡ old.ex
   has_some (began p q k) e f = absurd cc
 
   pub has_bound : (U : Unfolding) (E : Envelope) (b : ExportBound) → Lives N d → HasState N old new d
-      → StateBound U (is_sure E d) (new.exports d) (new.flying d) b → FirstWithin U E N old d b
+      → StateBound U (surely_lives E d) (new.exports d) (new.flying d) b → FirstWithin U E N old d b
   has_bound U E b l (had h q) s =
       first_of_state U E N old d (new.exports d) (new.flying d) b (sym (ap (λ t. t d) same)) (sym q) s
   has_bound U E b l (began p q k) s =

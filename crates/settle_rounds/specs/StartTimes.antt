@@ -6,7 +6,8 @@ use Rattle.topology.specs.Networks.{Network, IsNetwork}
 use Rattle.firing_core.specs.Cores.{Core, IsGood}
 use Rattle.fragment_check.specs.Verdicts.{verdict_of}
 use Rattle.bound_rounds.specs.Rounds.{BoundTable}
-use Rattle.settle_rounds.specs.Starts.{ReachedFrom, StartTable, growing_cap}
+use Rattle.settle_rounds.specs.Within.{StartTable}
+use Rattle.settle_rounds.specs.Starts.{ReachedFrom, growing_cap}
 use Rattle.settle_rounds.specs.SettleTimes.{settled_from, IsSettleTime, RoundsLead, ValuesSolve, TimeLeads, TimeIsLow}
 
 -- what `SettlesWell` says, but for the logs from this core alone

@@ -1,5 +1,5 @@
--- Rounds of bounds on a network that stands still, from one core: the tables of bounds that hold it, what is reached
--- from it, and the table that its exports and copies in flight grow to.
+-- Rounds of bounds on a network that stands still, from one core: the tables of bounds that hold it, and what is reached
+-- from it.
 use Rattle.std.specs.Prelude.{ℕ, true, ◌≡◌, ◌≤◌, ◌/◌, List, Some, length}
 use Rattle.fc_values.specs.Values.{LocalValue}
 use Rattle.fc_values.specs.Trees.{TreeExport}
@@ -16,7 +16,7 @@ use Rattle.envelopes.specs.Exactly.{exact_envelope}
 use Rattle.bound_rounds.specs.Rounds.{BoundTable, rounds_from}
 use Rattle.settle_rounds.specs.declared.limits.TheConstants.{MOST_BOUND_FIRINGS}
 use Rattle.settle_rounds.specs.Rounds.{is_reached}
-use Rattle.settle_rounds.specs.Within.{MaybeLies, IsClosedWithin, HoldsCoreWithin, StartTableWithin}
+use Rattle.settle_rounds.specs.Within.{MaybeLies, IsClosedWithin, HoldsCoreWithin}
 
 -- ---- tables that hold a core
 
@@ -70,13 +70,6 @@ YesLeavesFrom = (P : Program) (N : Network) (K : ℕ) → IsProgram P → IsNetw
     → (start : Core) → IsGood (unfolding_of P) start → start.net ≡ N → HoldsCore (unfolding_of P) N table start
     → LeftIsSolvedFrom (unfolding_of P) N table
 
--- ---- the table of a core
-
 -- at most so many rounds of growing are looked at, of so many devices
 abbrev pub growing_cap : ℕ → ℕ
 growing_cap n = MOST_BOUND_FIRINGS / n
-
--- the table from which settle rounds of a core are counted: its first bounds, grown until they are full; and where they
--- aren't after so many rounds, the one of any exports
-abbrev pub StartTable : Unfolding → Network → ℕ → Core → BoundTable → Type 0
-StartTable U N most c table = StartTableWithin U (exact_envelope N) N most c table

@@ -12,7 +12,8 @@ use Rattle.bound_firing.specs.Exports.{ExportBound, bound_export, ExportLies}
 use Rattle.bound_firing.specs.Seats.{Seats}
 use Rattle.bound_firing.specs.Firing.{bound_of}
 use Rattle.export_bounds.specs.Exports.{exact_export, either_export}
-use Rattle.envelopes.specs.Envelopes.{Envelope, MayLive, is_sure, IsEnvelope, LiesWithin}
+use Rattle.envelopes.specs.Envelopes.{Envelope, MayLive, surely_lives, IsEnvelope, LiesWithin}
+use Rattle.envelopes.specs.Exactly.{exact_envelope}
 use Rattle.net_moves.specs.Moves.{Stays, HasRoundsThere}
 use Rattle.bound_rounds.specs.Rounds.{BoundTable, situation_in, fired_within, rounds_within, grown_within, IsFullWithin}
 use Rattle.settle_rounds.specs.Rounds.{any_table}
@@ -53,7 +54,7 @@ pub record StandsIn (U : Unfolding) (b : ExportBound) (o : Option TreeExport) : 
 -- on a device that is always there has one
 pub record HoldsWithin (U : Unfolding) (E : Envelope) (m d : ℕ) (last : Core) : Type 0 where
   pub bounds : (i : ℕ) → i ≤ m → StandsIn U (rounds_within U E (any_table U) i d) (last.exports d)
-  pub there : 1 ≤ m → is_sure E d ≡ true → (e : TreeExport) × (last.exports d ≡ Some e)
+  pub there : 1 ≤ m → surely_lives E d ≡ true → (e : TreeExport) × (last.exports d ≡ Some e)
 
 abbrev pub BoundsHoldWithin : Type 0
 BoundsHoldWithin = (P : Program) (E : Envelope) → IsProgram P → IsEnvelope E
@@ -67,7 +68,7 @@ BoundsHoldWithin = (P : Program) (E : Envelope) → IsProgram P → IsEnvelope E
 pub record IsClosedWithin (U : Unfolding) (E : Envelope) (table : BoundTable) : Type 0 where
   pub fires : (d : ℕ) → MayLive E d → (e : TreeExport) → IsWellTyped U e → ExportLies U (fired_within U E table d) e
       → ExportLies U (table d) e
-  pub away : (d : ℕ) → MayLive E d → is_sure E d ≡ false → (table d).sure ≡ false
+  pub away : (d : ℕ) → MayLive E d → surely_lives E d ≡ false → (table d).sure ≡ false
 
 -- it holds the exports of a core, and those that its copies in flight evaluate to
 pub record HoldsCoreWithin (U : Unfolding) (E : Envelope) (table : BoundTable) (c : Core) : Type 0 where
@@ -107,10 +108,10 @@ alone U E d = bound_export false (bound_of (situation_in U E d) 0 U.main [] no_s
 -- own. There for sure is an export of a device that is always there.
 pub data FirstWithin (U : Unfolding) (E : Envelope) (N : Network) (c : Core) (d : ℕ) : ExportBound → Type 0 where
   stands : (e : TreeExport) → c.exports d ≡ Some e → c.flying d ≡ None
-      → FirstWithin U E N c d (exact_export U (is_sure E d) e)
+      → FirstWithin U E N c d (exact_export U (surely_lives E d) e)
   stands_and_lands : (e : TreeExport) (s : Copy) (f : TreeExport) → c.exports d ≡ Some e → c.flying d ≡ Some s
       → EvaluatesCopy U s f
-      → FirstWithin U E N c d (either_export U (exact_export U (is_sure E d) e) (exact_export U (is_sure E d) f))
+      → FirstWithin U E N c d (either_export U (exact_export U (surely_lives E d) e) (exact_export U (surely_lives E d) f))
   lands : (s : Copy) (f : TreeExport) → c.exports d ≡ None → c.flying d ≡ Some s → EvaluatesCopy U s f
       → FirstWithin U E N c d (exact_export U false f)
   begins : (f : TreeExport) → Lives N d → c.exports d ≡ None → c.flying d ≡ None
@@ -139,6 +140,10 @@ pub data StartTableWithin (U : Unfolding) (E : Envelope) (N : Network) (most : �
   any_start : (first : BoundTable) → FirstTableWithin U E N c first
       → ((i : ℕ) → i ≤ most → IsFullWithin U E (grown_within U E first i) → ⊥)
       → StartTableWithin U E N most c (any_table U)
+
+-- that of a core on a network that stands still
+abbrev pub StartTable : Unfolding → Network → ℕ → Core → BoundTable → Type 0
+StartTable U N most c table = StartTableWithin U (exact_envelope N) N most c table
 
 -- it is closed and holds the core
 pub record StartHoldsWithin (U : Unfolding) (E : Envelope) (c : Core) (table : BoundTable) : Type 0 where

@@ -11,7 +11,7 @@ ghost use Rattle.value_bounds.specs.References.{local_bounds_in};
 ghost use Rattle.bound_firing.specs.Exports.{bound_export};
 ghost use Rattle.bound_firing.specs.ExportReferences.{export_bound_in, situation_for};
 ghost use Rattle.bound_firing.specs.Firing.{bound_of};
-ghost use Rattle.envelopes.specs.Envelopes.{Envelope as EnvelopeValue, is_sure};
+ghost use Rattle.envelopes.specs.Envelopes.{Envelope as EnvelopeValue, surely_lives};
 ghost use Rattle.envelopes.specs.Exactly.{exact_envelope as envelope_in};
 ghost use Rattle.bound_rounds.specs.Tables.{FitTable, device_at};
 ghost use Rattle.settle_rounds.specs.Starts.{growing_cap};
@@ -145,7 +145,7 @@ fn standing_bound(
     sure: bool,
 ) -> Result<ExportBound, Memory>
     requires { lives core.old.net device ≡ true }
-    ensures bound { IfOk result (λ b. (e : EnvelopeValue) → is_sure e device ≡ sure
+    ensures bound { IfOk result (λ b. (e : EnvelopeValue) → surely_lives e device ≡ sure
         → FirstWithin (program_of core.old) e core.old.net (core_of core.old) device
         (export_bound_in (program_of core.old) b)) }
     ensures slots { IfOk result (λ b. length b.slots.items ≡ kept (program_of core.old).main) }

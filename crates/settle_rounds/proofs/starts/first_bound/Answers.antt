@@ -6,7 +6,7 @@ use Rattle.value_bounds.specs.References.{local_bounds_in}
 use Rattle.bound_firing.specs.Exports.{bound_export}
 use Rattle.bound_firing.specs.Firing.{bound_of}
 use Rattle.bound_firing.specs.ExportReferences.{export_bound_in, situation_for}
-use Rattle.envelopes.specs.Envelopes.{is_sure}
+use Rattle.envelopes.specs.Envelopes.{surely_lives}
 use Rattle.bound_rounds.specs.Tables.{device_at}
 use Rattle.bound_rounds.proofs.Places.{number_at, device_inputs, device_sure}
 use Rattle.settle_rounds.specs.References.{SameButFlight}
@@ -41,7 +41,7 @@ returns-then-is_some-clause-bound c =
     let sure = device_sure E ds c.args.place x all c.devices.ensures.envelope c.requires is in
     let b = export_bound_in (program_of old) c.in_ok-bound.bound in
     subst (λ d. FirstWithin (program_of old) E old.net (core_of old) d b) (sym at)
-    (c.in_ok-bound.ensures.bound E (ap (is_sure E) (sym at) ∙ sym sure))
+    (c.in_ok-bound.ensures.bound E (ap (surely_lives E) (sym at) ∙ sym sure))
 
 pub returns-then-is_some-clause-same : goal.returns-then-is_some-clause-same
 returns-then-is_some-clause-same c =
