@@ -1,6 +1,6 @@
--- Values as columns of words. Each leaf of a value, a whole number or a truth value, is one word: a truth value is 0 or 1.
--- What has several rows (a field, with one row for each of its devices) stands leaf by leaf: first the words of the first
--- leaf in all rows, then those of the next one.
+-- Values as columns of words. Each leaf of a value, a whole number or a truth value, is one word: a truth value is 0 or
+-- 1. What has several rows (a field, with one row for each of its devices) stands leaf by leaf: first the words of the
+-- first leaf in all rows, then those of the next one.
 use Rattle.std.specs.Prelude.{ℕ, Bool, not, nat_eq, ◌+◌, ◌*◌, ◌<◌, List, [], ◌∷◌, slice_index_or}
 use Rattle.fc_values.specs.Types.{LocalType, IntType, BoolType, PairType, leaves}
 use Rattle.fc_values.specs.Values.{LocalValue, IntValue, BoolValue, PairValue}

@@ -22,7 +22,8 @@ pub fn combine<F: Fn(u32, u32) -> u32>(words: &mut [u32], at: usize, rows: usize
 pub fn rise(words: &mut [u32], at: usize, rows: usize)
     requires { at + rows + rows + rows ≤ length words.old }
     ensures values { (i : ℕ) → i < rows → word_in words.new (at + i)
-        ≡ min (word_in words.old (at + i)) (word_in words.old (at + rows + i) + word_in words.old (at + rows + rows + i)) }
+        ≡ min (word_in words.old (at + i))
+        (word_in words.old (at + rows + i) + word_in words.old (at + rows + rows + i)) }
     ensures before { (p : ℕ) → p < at → word_in words.new p ≡ word_in words.old p }
 {
     for row in 0..rows {
@@ -39,6 +40,13 @@ pub fn negate(words: &mut [u32], at: usize, rows: usize)
     ensures before { (p : ℕ) → p < at → word_in words.new p ≡ word_in words.old p }
 {
     for row in 0..rows {
-        words[at + row] = u32::from(words[at + row] == 0);
+        words[at + row] = word_of(words[at + row] == 0);
     }
+}
+
+/// The word of a truth value.
+pub fn word_of(truth: bool) -> u32
+    ensures { truth_of result ≡ truth }
+{
+    u32::from(truth)
 }
