@@ -1,5 +1,5 @@
 -- The words that operators leave make the values that they have, by the types of their arguments.
-use Rattle.std.proofs.Common.{◌≡◌, ℕ, ◌+◌, ◌*◌, ◌<◌, ◌≤◌, min, List, [], ◌∷◌, ◌++◌, length, get_or, take, drop, Bool, if◌then◌else◌, Option, Some, Ordering, refl, sym, ap, subst, ◌∙◌, arith}
+use Rattle.std.proofs.Common.{◌≡◌, ℕ, ◌+◌, ◌*◌, ◌<◌, ◌≤◌, List, [], ◌∷◌, get_or, take, Bool, if◌then◌else◌, Option, Some, Ordering, refl, sym, ap, subst, ◌∙◌, arith}
 use Rattle.std.proofs.Math.Nat.{mul-le-mul_left, mul-le-mul_right}
 use Rattle.std.proofs.lemmas.List.{get_or-take}
 use Rattle.fc_values.specs.declared.builtins.Builtin.{Builtin}
@@ -7,13 +7,13 @@ use Rattle.fc_values.specs.declared.builtins.Builtin.TheVariants as op
 use Rattle.std.specs.Borrow.{Bor}
 use Rattle.fc_values.specs.declared.types.LocalTy.{LocalTy}
 use Rattle.fc_values.specs.Types.{local_type_of, LocalType, IntType, BoolType, PairType, leaves}
-use Rattle.fc_values.specs.Values.{LocalValue, IntValue, BoolValue, PairValue, compare_values}
+use Rattle.fc_values.specs.Values.{LocalValue, IntValue, BoolValue, compare_values}
 use Rattle.fc_values.specs.Builtins.{of_two_integers, of_three_integers, of_truth, of_two_truths, of_two, of_choice, of_pair, local_value}
 use Rattle.fc_values.specs.BuiltinTypes.{Takes, takes_add, takes_sub, takes_mul, takes_rise, takes_min, takes_max, takes_less, takes_equal, takes_and, takes_or, takes_not, takes_mux, takes_pair, takes_fst, takes_snd}
 use Rattle.value_columns.specs.Columns.{word_in, truth_of, row_in}
-use Rattle.value_columns.specs.Arguments.{arguments_in, leaves_of, types_in, Makes}
+use Rattle.value_columns.specs.Arguments.{leaves_of, types_in, Makes}
 use Rattle.value_columns.proofs.Rows.{same_word, some_leaf}
-use Rattle.value_columns.proofs.Standing.{row_stays, row_moves}
+use Rattle.value_columns.proofs.Standing.{row_stays}
 
 -- the types of an operator's arguments, by the type of its value
 abbrev pub Typed : Builtin → List LocalType → LocalType → Type 0

@@ -4,7 +4,7 @@ use Rattle.std.proofs.Math.Arith.{digits_mod}
 use Rattle.std.proofs.Math.Nat.{mul-le-mul_left}
 use Rattle.std.proofs.lemmas.List.{get_or_append_left, get_or-take, length-append, length-drop, length-take-le}
 use Rattle.fc_values.specs.Types.{LocalType, IntType, BoolType, PairType, leaves}
-use Rattle.fc_values.specs.Values.{LocalValue, IntValue, BoolValue, PairValue}
+use Rattle.fc_values.specs.Values.{LocalValue, IntValue, BoolValue}
 use Rattle.value_columns.specs.Columns.{word_in, truth_of, row_in, StandsBelow}
 
 pub same_word : (ws : List ℕ) (p q : ℕ) → p ≡ q → word_in ws p ≡ word_in ws q

@@ -15,8 +15,8 @@ use crate::widths::width;
 use fc_values::{Builtin, LocalTy, add_cut, multiply_cut};
 use std::cmp::Ordering;
 
-/// Puts the values of an operator in place of its arguments, in so many rows. The arguments, of these types, are the last
-/// on the stack, one after another from `at` on; `ty` is the type of the values. It takes no memory.
+/// Puts the values of an operator in place of its arguments, in so many rows. The arguments, of these types, are the
+/// last on the stack, one after another from `at` on; `ty` is the type of the values. It takes no memory.
 #[tactic(auto, using(crate::proofs::Operators::value_fits, crate::proofs::Operators::value_leaves))]
 pub fn apply_operator(
     words: &mut Vec<u32>,

@@ -1,4 +1,4 @@
-use Rattle.std.proofs.Common.{◌≡◌, ℕ, arith, ap, sym, ◌∙◌, length}
+use Rattle.std.proofs.Common.{ℕ, ap, sym, ◌∙◌, length}
 use Rattle.fc_values.specs.Types.{leaves, local_type_of}
 use Rattle.value_columns.specs.Columns.{row_in}
 use Rattle.value_columns.proofs.Rows.{copied_place, stands_below}

@@ -1,4 +1,4 @@
-use Rattle.std.proofs.Common.{◌≡◌, ◌≢◌, ℕ, ◌+◌, ◌*◌, ◌<◌, ◌≤◌, length, arith, ap, refl, ◌∙◌, Bool}
+use Rattle.std.proofs.Common.{◌≡◌, ℕ, ◌+◌, ◌*◌, arith, ap, refl, ◌∙◌, Bool}
 use Rattle.std.proofs.Math.Nat.{le-mul_of_pos_right}
 use Rattle.fc_values.specs.Types.{leaves, local_type_of}
 use Rattle.fc_values.specs.Values.{LocalValue}

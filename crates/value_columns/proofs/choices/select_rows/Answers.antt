@@ -1,6 +1,6 @@
-use Rattle.std.proofs.Common.{◌≡◌, ◌≢◌, ℕ, ◌+◌, ◌*◌, ◌<◌, ◌≤◌, length, arith, ap, refl, ◌∙◌, if◌then◌else◌}
+use Rattle.std.proofs.Common.{◌≡◌, ℕ, ◌+◌, ◌*◌, length, arith, ap, refl, ◌∙◌, if◌then◌else◌}
 use Rattle.std.proofs.Math.Nat.{le-mul_of_pos_right}
-use Rattle.fc_values.specs.Types.{leaves, local_type_of}
+use Rattle.fc_values.specs.Types.{local_type_of}
 use Rattle.value_columns.specs.Columns.{row_in, word_in, truth_of}
 use Rattle.value_columns.proofs.Rows.{some_leaf, same_word, row_stands, chosen_row, copied_place, values_more, before_more, rest_more}
 use Rattle.value_columns.proofs.choices.select_rows.Goals as goal

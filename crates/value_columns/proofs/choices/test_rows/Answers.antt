@@ -1,9 +1,9 @@
-use Rattle.std.proofs.Common.{◌≡◌, ◌≢◌, ℕ, ◌+◌, ◌*◌, ◌<◌, ◌≤◌, length, arith, ap, sym, subst, refl, ◌∙◌, below_more, get_or-set_other, get_or-set_same, length-set, set, Ordering, Bool}
+use Rattle.std.proofs.Common.{◌≡◌, ◌≢◌, ℕ, ◌+◌, ◌*◌, ◌<◌, length, arith, ap, sym, subst, refl, ◌∙◌, below_more, get_or-set_other, get_or-set_same, length-set, set}
 use Rattle.std.proofs.Math.Nat.{le-mul_of_pos_right}
-use Rattle.fc_values.specs.Types.{leaves, local_type_of}
-use Rattle.fc_values.specs.Values.{compare_values, greater, lesser}
-use Rattle.value_columns.specs.Columns.{StandsBelow, row_in, truth_of, word_in}
-use Rattle.value_columns.proofs.Rows.{some_leaf, row_stands, row_after}
+use Rattle.fc_values.specs.Types.{local_type_of}
+use Rattle.fc_values.specs.Values.{compare_values}
+use Rattle.value_columns.specs.Columns.{row_in, truth_of, word_in}
+use Rattle.value_columns.proofs.Rows.{some_leaf, row_after}
 use Rattle.value_columns.proofs.choices.test_rows.Goals as goal
 
 pub loop-row-init : goal.loop-row-init

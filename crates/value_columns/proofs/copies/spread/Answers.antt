@@ -1,4 +1,4 @@
-use Rattle.std.proofs.Common.{◌≡◌, ℕ, ◌+◌, ◌*◌, ◌<◌, ◌≤◌, List, length, ap, ◌∙◌, arith, below_more}
+use Rattle.std.proofs.Common.{◌≡◌, ℕ, ◌+◌, ◌*◌, ◌<◌, List, length, ap, ◌∙◌, arith, below_more}
 use Rattle.fc_values.specs.Types.{leaves, local_type_of}
 use Rattle.value_columns.specs.Columns.{word_in}
 use Rattle.value_columns.proofs.Rows.{same_row, same_word, word_before_gap, length_after_gap}

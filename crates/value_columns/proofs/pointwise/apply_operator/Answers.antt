@@ -1,7 +1,7 @@
 use Rattle.std.proofs.Common.{arith, ◌≡◌, ℕ, ◌+◌, ◌-◌, ◌*◌, ◌<◌, ◌≤◌, List, take, length, ap, subst, refl, ◌∙◌}
 use Rattle.std.proofs.lemmas.List.{with_items_is, length-take-le}
 use Rattle.fc_values.specs.declared.builtins.Builtin.TheVariants as op
-use Rattle.fc_values.specs.Types.{LocalType, leaves, local_type_of}
+use Rattle.fc_values.specs.Types.{leaves, local_type_of}
 use Rattle.fc_values.specs.Builtins.{local_value}
 use Rattle.value_columns.specs.Arguments.{leaves_of, types_in, Makes}
 use Rattle.value_columns.specs.Columns.{row_in, word_in}

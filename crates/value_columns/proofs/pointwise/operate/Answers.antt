@@ -1,7 +1,6 @@
-use Rattle.std.proofs.Common.{rules, arith, ◌≡◌, ℕ, ◌+◌, ◌-◌, ◌*◌, ◌<◌, ◌≤◌, min, not, ◌&&◌, ◌||◌, length, refl}
-use Rattle.fc_values.specs.declared.builtins.Builtin.{Builtin}
+use Rattle.std.proofs.Common.{rules, ◌≡◌, ℕ, ◌+◌, ◌-◌, ◌*◌, ◌<◌, min, not, ◌&&◌, ◌||◌, length, refl}
 use Rattle.fc_values.specs.declared.builtins.Builtin.TheVariants as op
-use Rattle.fc_values.specs.Types.{LocalType, IntType, BoolType, leaves, local_type_of}
+use Rattle.fc_values.specs.Types.{LocalType, leaves, local_type_of}
 use Rattle.fc_values.specs.Values.{compare_values, lesser, greater, is_less, is_equal}
 use Rattle.value_columns.specs.Arguments.{types_in}
 use Rattle.value_columns.specs.Columns.{row_in, truth_of, word_in}
