@@ -1,8 +1,10 @@
 -- Crates above cite this module: what the words of a local value read.
-use Rattle.std.proofs.Common.{◌≡◌, ℕ, ◌+◌, ◌-◌, ◌*◌, ◌<◌, ◌≤◌, List, [], ◌∷◌, ◌++◌, length, get_or, refl, sym, subst, ◌∙◌, ap, arith}
+use Rattle.std.proofs.Common.{◌≡◌, ℕ, ◌+◌, ◌-◌, ◌*◌, ◌<◌, ◌≤◌, List, [], ◌∷◌, ◌++◌, length, get_or}
+use Rattle.std.proofs.Common.{refl, sym, subst, ◌∙◌, ap, arith}
 use Rattle.std.proofs.Common.{true, false}
 use Rattle.std.specs.Borrow.{Bor}
-use Rattle.std.proofs.lemmas.List.{get_or-append-add, get_or_append_left, get_or-append_right, get_or-map, append_assoc, append-nil, length-append}
+use Rattle.std.proofs.lemmas.List.{get_or-append-add, get_or_append_left, get_or-append_right, get_or-map}
+use Rattle.std.proofs.lemmas.List.{append_assoc, append-nil, length-append}
 use Rattle.fc_values.specs.declared.values.Local.{Local}
 use Rattle.fc_values.specs.Types.{LocalType, leaves}
 use Rattle.fc_values.specs.Values.{LocalValue, IntValue, BoolValue, PairValue, form_of, local_of}
@@ -68,5 +70,6 @@ reads_row v t ws rows at i e =
     ∙ reads_back v [] [] (words_of v) 0 (sym (append-nil (words_of v))) refl)
 
 -- the value behind one of some references, as it is read
-pub local_read : (xs : List (Bor Local)) (i : ℕ) (d : Bor Local) → i < length xs → local_of (get_or xs i d).now ≡ local_at xs i
+pub local_read : (xs : List (Bor Local)) (i : ℕ) (d : Bor Local) → i < length xs
+    → local_of (get_or xs i d).now ≡ local_at xs i
 local_read xs i d h = sym (get_or-map (λ (r : Bor Local). local_of r.now) xs i d (IntValue 0) h)

@@ -4,6 +4,7 @@
 mod choices;
 mod copies;
 mod gaps;
+mod hoods;
 mod leaves;
 mod locals;
 mod order;
@@ -13,6 +14,7 @@ mod widths;
 
 pub use copies::spread;
 pub use gaps::close_gap;
+pub use hoods::{all_hood, any_hood, greatest_hood, least_hood, sum_hood};
 pub use locals::{leaf_at, push_rows, push_value, value_at};
 pub use pointwise::apply_operator;
 pub use restriction::choose_rows;

@@ -13,7 +13,8 @@ returns-then-leaf-many t c =
     let count : c.leaf_count-many.result ≡ leaves (form_of a) =
     c.leaf_count-many.ensures ∙ ap (λ (v : Local). leaves (form_of (local_of v))) c.deref.ensures in
     c.leaf_at.ensures ∙ (ap (λ (v : Local). word_in (words_of (local_of v)) c.args.leaf) c.deref-then-leaf-many.ensures
-    ∙ first_leaf (local_of c.args.value.now) a (local_of c.in-Pair.b.value) c.args.leaf (ap local_of c.in-Pair.is) (omega arith))
+    ∙ first_leaf (local_of c.args.value.now) a (local_of c.in-Pair.b.value) c.args.leaf (ap local_of c.in-Pair.is)
+    (omega arith))
 
 pub returns-else-leaf-many : goal.returns-else-leaf-many
 returns-else-leaf-many t c =
@@ -22,6 +23,7 @@ returns-else-leaf-many t c =
     let count : c.leaf_count-many.result ≡ leaves (form_of a) =
     c.leaf_count-many.ensures ∙ ap (λ (v : Local). leaves (form_of (local_of v))) c.deref.ensures in
     c.leaf_at-else-leaf-many.ensures
-    ∙ (ap (λ (v : Local). word_in (words_of (local_of v)) (c.args.leaf - c.leaf_count-many.result)) c.deref-else-leaf-many.ensures
+    ∙ (ap (λ (v : Local). word_in (words_of (local_of v)) (c.args.leaf - c.leaf_count-many.result))
+    c.deref-else-leaf-many.ensures
     ∙ (ap (λ n. word_in (words_of b) (c.args.leaf - n)) count
     ∙ second_leaf (local_of c.args.value.now) a b c.args.leaf (ap local_of c.in-Pair.is) (omega arith)))
