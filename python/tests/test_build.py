@@ -59,8 +59,8 @@ def build_itself() -> Any:
     return made
 
 
-# what is said of envelopes alone: no command leans on it yet
-LAWS = ("envelope_bounds",)
+# on what no command leans yet: laws of networks that change, and values as columns of words
+AHEAD = ("envelope_bounds", "value_columns")
 
 
 class Build(InFolder):
@@ -152,7 +152,7 @@ class Build(InFolder):
         made = build_itself()
         named = dict(line.split(":") for line in (TOP / "crates.txt").read_text().splitlines() if ":" in line)
         order = made.Crates(made.ROOF).order
-        others = {made.PROGRAM, *LAWS}
+        others = {made.PROGRAM, *AHEAD}
         self.assertEqual({name for name in named if not name.endswith("_tests")} - set(order), others)
         for at, name in enumerate(order):
             self.assertEqual({other for other in named[name].split() if other in named} - set(order[:at]), set(), name)
