@@ -199,11 +199,13 @@ class Ending(InFolder):
         slow.chmod(0o755)
         environment = dict(os.environ, FC=str(slow))
         for seconds in (0.0, 0.02, 0.05, 0.1, 0.2, 0.4, 1.5):
+            # a terminal interrupts all processes of a group, the shell of the launcher and what it waits for alike
             with subprocess.Popen(
-                [TOP / "fieldc", "gen", "3"], stdout=subprocess.PIPE, stderr=subprocess.PIPE, env=environment
-            ) as process:
+                [TOP / "fieldc", "gen", "3"], stdout=subprocess.PIPE, stderr=subprocess.PIPE, env=environment,
+                start_new_session=True,
+            ) as process:  # fmt: skip
                 time.sleep(seconds)
-                process.send_signal(signal.SIGINT)
+                os.killpg(process.pid, signal.SIGINT)
                 output, errors = process.communicate(timeout=600)
                 self.assertIn(process.returncode, (-signal.SIGINT, 130))
                 self.assertEqual((output, errors.strip()), (b"", b""), seconds)
