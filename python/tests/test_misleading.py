@@ -195,6 +195,8 @@ class Files(InFolder):
 
 class Ending(InFolder):
     def test_an_interrupt_at_any_time_is_no_traceback(self) -> None:
+        # where the tests run in the background, interrupts are ignored, and so would all be that they start
+        self.addCleanup(signal.signal, signal.SIGINT, signal.signal(signal.SIGINT, signal.default_int_handler))
         slow = Path(self.file("#!/bin/sh\nexec sleep 60\n", "fc"))
         slow.chmod(0o755)
         environment = dict(os.environ, FC=str(slow))
@@ -206,7 +208,7 @@ class Ending(InFolder):
             ) as process:  # fmt: skip
                 time.sleep(seconds)
                 os.killpg(process.pid, signal.SIGINT)
-                output, errors = process.communicate(timeout=600)
+                output, errors = process.communicate(timeout=50)
                 self.assertIn(process.returncode, (-signal.SIGINT, 130))
                 self.assertEqual((output, errors.strip()), (b"", b""), seconds)
 
