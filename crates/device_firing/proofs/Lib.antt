@@ -1,0 +1,14 @@
+pub mod Progress
+pub mod MaySteps
+pub mod NbrAt
+pub mod LetAt
+pub mod EvolveAt
+pub mod IfAt
+pub mod ApplyAt
+pub mod ReadySteps
+pub mod KindSteps
+pub mod LeafSteps
+pub mod NodeSteps
+pub mod OperatorSteps
+pub mod ColumnSteps
+pub mod RootSteps

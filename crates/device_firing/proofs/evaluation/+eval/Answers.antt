@@ -1,0 +1,404 @@
+use Rattle.std.proofs.Common.{◌∙◌, ℕ, List, [], ◌∷◌, arith, ap, sym, refl, get_or, false, true, not, nat_eq}
+use Rattle.fc_values.proofs.SlotReads.{slots_long}
+use Rattle.device_eval.specs.Evaluation.{pick}
+use Rattle.device_eval.proofs.Steps.{ready_at, kid_is}
+use Rattle.device_eval.proofs.LeafAt.{sense_there}
+use Rattle.device_firing.proofs.LetAt.{let_kids, let_value, let_may_value}
+use Rattle.device_firing.proofs.NbrAt.{one, nbr_kid, nbr_may, nbr_near}
+use Rattle.device_firing.proofs.EvolveAt.{evolve_kids, evolve_own, evolve_near, evolve_a, evolve_may_first}
+use Rattle.device_firing.proofs.IfAt.{if_kids, if_own, if_near, if_condition, if_may_condition}
+use Rattle.device_firing.proofs.MaySteps.{node_type}
+use Rattle.scope_columns.proofs.ScopeSteps.{bound_type, heads_as}
+use Rattle.device_firing.proofs.ReadySteps.{ready_as}
+use Rattle.device_firing.proofs.LeafSteps.{literal_evaluated, sense_evaluated, uid_evaluated, links_evaluated, variable_evaluated, variable_has, variables_aligned}
+use Rattle.device_firing.proofs.KindSteps.{node_here, begin_body, body_done}
+use Rattle.device_firing.proofs.NodeSteps.{nbr_within, nbr_room, nbr_forms, nbr_evaluated, first_within, let_ready, let_allowed, let_evaluated, branch_begins, branch_allowed, branch_vars, branch_below, if_room, if_evaluated, truth_within, rep_added, share_added, share_forms, start_ready, start_allowed, start_over, body_within, evolve_room, evolve_evaluated}
+use Rattle.device_firing.proofs.evaluation.+eval.Goals as goal
+
+pub eval-push_variable-requires-clause-bound : goal.eval-push_variable-requires-clause-bound
+eval-push_variable-requires-clause-bound t c =
+    variable_has c.requires (rw c.in-Var.is at c.node-node.ensures.node)
+
+pub eval-push_variable-requires-clause-aligned : goal.eval-push_variable-requires-clause-aligned
+eval-push_variable-requires-clause-aligned t c = variables_aligned c.requires
+
+pub eval-input_at-requires : goal.eval-input_at-requires
+eval-input_at-requires t c =
+    sense_there (ready_at c.requires.ready (rw c.in-Sense.is at c.node-node.ensures.node))
+
+pub eval-returns-in_ok-push_value-in-Lit : goal.eval-returns-in_ok-push_value-in-Lit
+eval-returns-in_ok-push_value-in-Lit t c =
+    literal_evaluated c.requires (rw c.in-Lit.is at c.node-node.ensures.node) c.in_ok-push_value-in-Lit.ensures.added
+
+pub eval-returns-in_ok-push_variable-in-Var : goal.eval-returns-in_ok-push_variable-in-Var
+eval-returns-in_ok-push_variable-in-Var t c =
+    variable_evaluated c.requires (rw c.in-Var.is at c.node-node.ensures.node) c.in_ok-push_variable-in-Var.ensures
+
+pub eval-returns-in_ok-push_value-in-Sense : goal.eval-returns-in_ok-push_value-in-Sense
+eval-returns-in_ok-push_value-in-Sense t c =
+    sense_evaluated c.requires (rw c.in-Sense.is at c.node-node.ensures.node) c.input_at.ensures c.in_ok-push_value-in-Sense.ensures.added
+
+pub eval-returns-in_ok-push-in-Uid : goal.eval-returns-in_ok-push-in-Uid
+eval-returns-in_ok-push-in-Uid t c =
+    uid_evaluated c.requires (rw c.in-Uid.is at c.node-node.ensures.node) c.uid.ensures c.in_ok-push-in-Uid.ensures.items
+
+pub eval-returns-in_ok-push_links-in-NbrLink : goal.eval-returns-in_ok-push_links-in-NbrLink
+eval-returns-in_ok-push_links-in-NbrLink t c =
+    links_evaluated c.requires (rw c.in-NbrLink.is at c.node-node.ensures.node) c.in_ok-push_links-in-NbrLink.ensures.added
+    (rw c.least_weight-least.ensures at c.in_ok-push_links-in-NbrLink.ensures.value)
+
+pub eval-eval_nbr-requires : goal.eval-eval_nbr-requires
+eval-eval_nbr-requires t c =
+    let d = c.decreases in
+    (omega (arith, d), record { here = c.requires; node = rw c.in-Nbr.is at c.node-node.ensures.node })
+
+pub eval-eval_rep-requires : goal.eval-eval_rep-requires
+eval-eval_rep-requires t c =
+    let d = c.decreases in
+    (omega (arith, d), record { here = c.requires; node = rw c.in-Rep.is at c.node-node.ensures.node })
+
+pub eval-eval_share-requires : goal.eval-eval_share-requires
+eval-eval_share-requires t c =
+    let d = c.decreases in
+    (omega (arith, d), record { here = c.requires; node = rw c.in-Share.is at c.node-node.ensures.node })
+
+pub eval-eval_if-requires : goal.eval-eval_if-requires
+eval-eval_if-requires t c =
+    let d = c.decreases in
+    (omega (arith, d), record { here = c.requires; node = rw c.in-If.is at c.node-node.ensures.node })
+
+pub eval-eval_let-requires : goal.eval-eval_let-requires
+eval-eval_let-requires t c =
+    let d = c.decreases in
+    (omega (arith, d), record { here = c.requires; node = rw c.in-Let.is at c.node-node.ensures.node })
+
+pub eval_let-index-start-requires : goal.eval_let-index-start-requires
+eval_let-index-start-requires t c =
+    let o = let_kids (node_here c.requires) in
+    let l = o.long in
+    omega (arith, l)
+
+pub eval_let-eval-requires : goal.eval_let-eval-requires
+eval_let-eval-requires t c =
+    let d = c.decreases in
+    let r = let_value (node_here c.requires) c.index-start.ensures in
+    let m = r.0 in
+    let w = c.requires.here.ready.stands.within in
+    (omega (arith, d, m, w), record { ready = r.2; may = let_may_value (node_here c.requires) c.requires.here.may c.index-start.ensures; sees = c.requires.here.sees })
+
+pub eval_let-node-bound-requires : goal.eval_let-node-bound-requires
+eval_let-node-bound-requires t c =
+    let r = let_value (node_here c.requires) c.index-start.ensures in
+    r.1
+
+pub eval_let-index-next-requires : goal.eval_let-index-next-requires
+eval_let-index-next-requires t c =
+    let o = let_kids (node_here c.requires) in
+    let l = o.long in
+    omega (arith, l)
+
+pub eval_let-eval_body-requires : goal.eval_let-eval_body-requires
+eval_let-eval_body-requires t c =
+    let d = c.decreases in
+    let r = let_ready c.requires c.index-start.ensures c.index-next.ensures c.in_ok-eval.ensures in
+    let m = r.0 in
+    let w = c.requires.here.ready.stands.within in
+    let type = node_type _ c.requires.here.ready.stands.formed c.node-bound.ensures.node in
+    let l = c.in_ok-eval.ensures.added.long in
+    let at = c.len-at.ensures in
+    (omega (arith, d, m, w), begin_body _ _ r.2 (let_allowed c.requires c.index-start.ensures c.index-next.ensures c.in_ok-eval.ensures) c.requires.here.sees c.in_ok-eval.ensures.added
+    (bound_type c.is_field.ensures c.inner.ensures ∙ sym type) c.len-at.ensures refl refl (λ b o. (b, o)) c.requires.here.sees.own, omega (arith, l, at))
+
+pub eval_let-returns : goal.eval_let-returns
+eval_let-returns t c =
+    let type = bound_type c.is_field.ensures c.inner.ensures ∙ sym (node_type _ c.requires.here.ready.stands.formed c.node-bound.ensures.node) in
+    let_evaluated c.requires c.index-start.ensures c.index-next.ensures c.in_ok-eval.ensures c.len-at.ensures c.in_ok-eval_body.ensures (heads_as _ _ _ type) refl refl
+
+pub eval_body-returns : goal.eval_body-returns
+eval_body-returns t c =
+    let w = c.requires.within in
+    body_done _ c.in_ok-eval.ensures c.close_gap.ensures (omega (arith, w))
+
+pub eval_nbr-index-requires : goal.eval_nbr-index-requires
+eval_nbr-index-requires t c =
+    let o = one (node_here c.requires) in
+    let l = o.long in
+    omega (arith, l)
+
+pub eval_nbr-eval-requires : goal.eval_nbr-eval-requires
+eval_nbr-eval-requires t c =
+    let d = c.decreases in
+    let r = nbr_kid (node_here c.requires) c.index.ensures in
+    let m = r.0 in
+    let w = c.requires.here.ready.stands.within in
+    (omega (arith, d, m, w), record { ready = r.2; may = nbr_may (node_here c.requires) c.requires.here.may c.index.ensures; sees = c.requires.here.sees })
+
+pub eval_nbr-value_at-requires-clause-within : goal.eval_nbr-value_at-requires-clause-within
+eval_nbr-value_at-requires-clause-within t c =
+    rw c.deref.ensures.value (nbr_within c.requires c.index.ensures c.in_ok-eval.ensures c.inner-ty.ensures c.len-at.ensures)
+
+pub eval_nbr-push_heard-requires-clause-near : goal.eval_nbr-push_heard-requires-clause-near
+eval_nbr-push_heard-requires-clause-near t c =
+    nbr_near (node_here c.requires) c.slot_of-slot.ensures
+
+pub eval_nbr-push_heard-requires-clause-forms : goal.eval_nbr-push_heard-requires-clause-forms
+eval_nbr-push_heard-requires-clause-forms t c =
+    nbr_forms c.requires c.index.ensures c.in_ok-eval.ensures c.inner-ty.ensures c.len-at.ensures (rw c.deref.ensures.value at c.in_ok-own.ensures) c.slot_of-slot.ensures
+
+pub eval_nbr-put-requires : goal.eval_nbr-put-requires
+eval_nbr-put-requires t c =
+    slots_long c.eval.new.draft c.slot_of-slot.result (nbr_room c.requires c.index.ensures c.in_ok-eval.ensures c.inner-ty.ensures c.len-at.ensures (rw c.deref.ensures.value at c.in_ok-own.ensures) c.slot_of-slot.ensures)
+
+pub eval_nbr-returns : goal.eval_nbr-returns
+eval_nbr-returns t c =
+    nbr_evaluated c.requires c.index.ensures c.in_ok-eval.ensures c.inner-ty.ensures c.len-at.ensures (rw c.deref.ensures.value at c.in_ok-own.ensures) c.slot_of-slot.ensures
+    c.truncate.ensures c.in_ok-push_heard.ensures.added c.in_ok-push_heard.ensures.value c.put.ensures
+
+pub eval_if-index-requires : goal.eval_if-index-requires
+eval_if-index-requires t c =
+    let o = if_kids (node_here c.requires) in
+    let l = o.long in
+    omega (arith, l)
+
+pub eval_if-eval-requires : goal.eval_if-eval-requires
+eval_if-eval-requires t c =
+    let d = c.decreases in
+    let r = if_condition (node_here c.requires) c.index.ensures in
+    let m = r.0 in
+    let w = c.requires.here.ready.stands.within in
+    (omega (arith, d, m, w), record { ready = r.2; may = if_may_condition (node_here c.requires) c.requires.here.may c.index.ensures; sees = c.requires.here.sees })
+
+pub eval_if-same_branch-requires-clause-own : goal.eval_if-same_branch-requires-clause-own
+eval_if-same_branch-requires-clause-own t c =
+    if_own (node_here c.requires) c.slot_of-slot.ensures
+
+pub eval_if-same_branch-requires-clause-near : goal.eval_if-same_branch-requires-clause-near
+eval_if-same_branch-requires-clause-near t c =
+    if_near (node_here c.requires) c.slot_of-slot.ensures
+
+pub eval_if-branch_of-kid-requires : goal.eval_if-branch_of-kid-requires
+eval_if-branch_of-kid-requires t c =
+    let o = if_kids (node_here c.requires) in
+    rw c.deref.ensures.value o.long
+
+pub eval_if-index-requires-2 : goal.eval_if-index-requires-2
+eval_if-index-requires-2 t c =
+    truth_within c.requires c.index.ensures c.in_ok-eval.ensures c.len-at.ensures
+
+pub eval_if-eval-requires-2 : goal.eval_if-eval-requires-2
+eval_if-eval-requires-2 t c =
+    let d = c.decreases in
+    let truth = ap (λ w. not (nat_eq w 0)) (kid_is c.eval.new.words.items c.len-at.result c.index-2.result c.index-2.ensures (truth_within c.requires c.index.ensures c.in_ok-eval.ensures c.len-at.ensures)) in
+    let kid = c.branch_of-kid.ensures ∙ ap (λ (xs : List ℕ). get_or xs (pick (not (nat_eq c.index-2.result 0)) 1 2) 0) c.deref.ensures.value in
+    let r = branch_begins c.requires c.index.ensures c.in_ok-eval.ensures c.len-at.ensures truth c.slot_of-slot.ensures c.truncate.ensures c.in_ok-branch.ensures kid in
+    let m = r.0 in
+    let w = c.requires.here.ready.stands.within in
+    (omega (arith, d, m, w), ready_as r.2 (branch_allowed c.requires c.index.ensures c.in_ok-eval.ensures c.len-at.ensures truth c.slot_of-slot.ensures c.truncate.ensures c.in_ok-branch.ensures kid)
+    (branch_vars c.requires c.index.ensures c.in_ok-eval.ensures c.len-at.ensures truth c.slot_of-slot.ensures c.truncate.ensures c.in_ok-branch.ensures kid) refl
+    (branch_below c.requires c.index.ensures c.in_ok-eval.ensures c.len-at.ensures truth c.slot_of-slot.ensures c.truncate.ensures c.in_ok-branch.ensures kid) c.own_row.ensures)
+
+pub eval_if-put-requires : goal.eval_if-put-requires
+eval_if-put-requires t c =
+    let truth = ap (λ w. not (nat_eq w 0)) (kid_is c.eval.new.words.items c.len-at.result c.index-2.result c.index-2.ensures (truth_within c.requires c.index.ensures c.in_ok-eval.ensures c.len-at.ensures)) in
+    let kid = c.branch_of-kid.ensures ∙ ap (λ (xs : List ℕ). get_or xs (pick (not (nat_eq c.index-2.result 0)) 1 2) 0) c.deref.ensures.value in
+    slots_long c.eval-2.new.draft c.slot_of-slot.result (if_room c.requires c.index.ensures c.in_ok-eval.ensures c.len-at.ensures truth c.slot_of-slot.ensures c.truncate.ensures c.in_ok-branch.ensures kid c.in_ok-eval-2.ensures refl refl)
+
+pub eval_if-returns : goal.eval_if-returns
+eval_if-returns t c =
+    let truth = ap (λ w. not (nat_eq w 0)) (kid_is c.eval.new.words.items c.len-at.result c.index-2.result c.index-2.ensures (truth_within c.requires c.index.ensures c.in_ok-eval.ensures c.len-at.ensures)) in
+    let kid = c.branch_of-kid.ensures ∙ ap (λ (xs : List ℕ). get_or xs (pick (not (nat_eq c.index-2.result 0)) 1 2) 0) c.deref.ensures.value in
+    if_evaluated c.requires c.index.ensures c.in_ok-eval.ensures c.len-at.ensures truth c.slot_of-slot.ensures c.truncate.ensures c.in_ok-branch.ensures kid c.in_ok-eval-2.ensures refl refl c.put.ensures
+
+pub eval_rep-index-start-requires : goal.eval_rep-index-start-requires
+eval_rep-index-start-requires t c =
+    let o = evolve_kids (node_here c.requires) in
+    let l = o.long in
+    omega (arith, l)
+
+pub eval_rep-index-next-requires : goal.eval_rep-index-next-requires
+eval_rep-index-next-requires t c =
+    let o = evolve_kids (node_here c.requires) in
+    let l = o.long in
+    omega (arith, l)
+
+pub eval_rep-eval-requires : goal.eval_rep-eval-requires
+eval_rep-eval-requires t c =
+    let d = c.decreases in
+    let r = evolve_a (node_here c.requires) c.index-start.ensures in
+    let m = r.0 in
+    let w = c.requires.here.ready.stands.within in
+    (omega (arith, d, m, w), record { ready = r.2; may = evolve_may_first (node_here c.requires) c.requires.here.may c.index-start.ensures; sees = c.requires.here.sees })
+
+pub eval_rep-value_at-requires-clause-within : goal.eval_rep-value_at-requires-clause-within
+eval_rep-value_at-requires-clause-within t c =
+    rw c.deref.ensures.value (first_within c.requires c.index-start.ensures c.index-next.ensures c.in_ok-eval.ensures c.inner-ty.ensures c.len-at.ensures)
+
+pub eval_rep-own_or-requires : goal.eval_rep-own_or-requires
+eval_rep-own_or-requires t c =
+    evolve_own (node_here c.requires) c.slot_of-slot.ensures
+
+pub eval_rep-eval_body-requires : goal.eval_rep-eval_body-requires
+eval_rep-eval_body-requires t c =
+    let d = c.decreases in
+    let r = c.requires in
+    let e = c.index-start.ensures in
+    let e' = c.index-next.ensures in
+    let done = c.in_ok-eval.ensures in
+    let type = c.inner-ty.ensures in
+    let first = rw c.deref.ensures.value at c.in_ok-first.ensures in
+    let number = c.slot_of-slot.ensures in
+    let cut = c.truncate.ensures in
+    let a = rep_added r e e' done type c.len-at.ensures first number c.own_or.ensures c.in_ok-push_value.ensures.added in
+    let s = start_ready r e e' done type c.len-at.ensures first number cut a.0 a.1 in
+    let m = s.0 in
+    let w = r.here.ready.stands.within in
+    let o = start_over r e e' done type c.len-at.ensures first number cut a.0 a.1 in
+    let l = o.long in
+    let at = c.len-at.ensures in
+    (omega (arith, d, m, w), begin_body _ _ s.2 (start_allowed r e e' done type c.len-at.ensures first number cut a.0 a.1) r.here.sees (start_over r e e' done type c.len-at.ensures first number cut a.0 a.1) refl c.len-at.ensures refl refl (λ b o. (b, o)) r.here.sees.own, omega (arith, l, at))
+
+pub eval_rep-value_at-requires-2-clause-within : goal.eval_rep-value_at-requires-2-clause-within
+eval_rep-value_at-requires-2-clause-within t c =
+    let r = c.requires in
+    let e = c.index-start.ensures in
+    let e' = c.index-next.ensures in
+    let done = c.in_ok-eval.ensures in
+    let type = c.inner-ty.ensures in
+    let first = rw c.deref.ensures.value at c.in_ok-first.ensures in
+    let number = c.slot_of-slot.ensures in
+    let cut = c.truncate.ensures in
+    let a = rep_added r e e' done type c.len-at.ensures first number c.own_or.ensures c.in_ok-push_value.ensures.added in
+    rw c.deref-2.ensures.value (body_within r e e' done type c.len-at.ensures first number cut a.0 a.1 c.in_ok-eval_body.ensures refl refl refl)
+
+pub eval_rep-put-requires : goal.eval_rep-put-requires
+eval_rep-put-requires t c =
+    let r = c.requires in
+    let e = c.index-start.ensures in
+    let e' = c.index-next.ensures in
+    let done = c.in_ok-eval.ensures in
+    let type = c.inner-ty.ensures in
+    let first = rw c.deref.ensures.value at c.in_ok-first.ensures in
+    let number = c.slot_of-slot.ensures in
+    let cut = c.truncate.ensures in
+    let a = rep_added r e e' done type c.len-at.ensures first number c.own_or.ensures c.in_ok-push_value.ensures.added in
+    slots_long c.eval_body.new.draft c.slot_of-slot.result (evolve_room r e e' done type c.len-at.ensures first number cut a.0 a.1 c.in_ok-eval_body.ensures refl refl refl (rw c.deref-2.ensures.value at c.in_ok-kept.ensures))
+
+pub eval_rep-returns : goal.eval_rep-returns
+eval_rep-returns t c =
+    let r = c.requires in
+    let e = c.index-start.ensures in
+    let e' = c.index-next.ensures in
+    let done = c.in_ok-eval.ensures in
+    let type = c.inner-ty.ensures in
+    let first = rw c.deref.ensures.value at c.in_ok-first.ensures in
+    let number = c.slot_of-slot.ensures in
+    let cut = c.truncate.ensures in
+    let a = rep_added r e e' done type c.len-at.ensures first number c.own_or.ensures c.in_ok-push_value.ensures.added in
+    evolve_evaluated r e e' done type c.len-at.ensures first number cut a.0 a.1 c.in_ok-eval_body.ensures refl refl refl (rw c.deref-2.ensures.value at c.in_ok-kept.ensures) c.put.ensures
+
+pub eval_share-index-start-requires : goal.eval_share-index-start-requires
+eval_share-index-start-requires t c =
+    let o = evolve_kids (node_here c.requires) in
+    let l = o.long in
+    omega (arith, l)
+
+pub eval_share-index-next-requires : goal.eval_share-index-next-requires
+eval_share-index-next-requires t c =
+    let o = evolve_kids (node_here c.requires) in
+    let l = o.long in
+    omega (arith, l)
+
+pub eval_share-eval-requires : goal.eval_share-eval-requires
+eval_share-eval-requires t c =
+    let d = c.decreases in
+    let r = evolve_a (node_here c.requires) c.index-start.ensures in
+    let m = r.0 in
+    let w = c.requires.here.ready.stands.within in
+    (omega (arith, d, m, w), record { ready = r.2; may = evolve_may_first (node_here c.requires) c.requires.here.may c.index-start.ensures; sees = c.requires.here.sees })
+
+pub eval_share-value_at-requires-clause-within : goal.eval_share-value_at-requires-clause-within
+eval_share-value_at-requires-clause-within t c =
+    rw c.deref.ensures.value (first_within c.requires c.index-start.ensures c.index-next.ensures c.in_ok-eval.ensures c.inner-ty.ensures c.len-at.ensures)
+
+pub eval_share-own_or-requires : goal.eval_share-own_or-requires
+eval_share-own_or-requires t c =
+    evolve_own (node_here c.requires) c.slot_of-slot.ensures
+
+pub eval_share-push_heard-requires-clause-near : goal.eval_share-push_heard-requires-clause-near
+eval_share-push_heard-requires-clause-near t c =
+    evolve_near (node_here c.requires) c.slot_of-slot.ensures
+
+pub eval_share-push_heard-requires-clause-forms : goal.eval_share-push_heard-requires-clause-forms
+eval_share-push_heard-requires-clause-forms t c =
+    share_forms c.requires c.index-start.ensures c.index-next.ensures c.in_ok-eval.ensures c.inner-ty.ensures c.len-at.ensures (rw c.deref.ensures.value at c.in_ok-first.ensures) c.slot_of-slot.ensures c.own_or.ensures
+
+pub eval_share-eval_body-requires : goal.eval_share-eval_body-requires
+eval_share-eval_body-requires t c =
+    let d = c.decreases in
+    let r = c.requires in
+    let e = c.index-start.ensures in
+    let e' = c.index-next.ensures in
+    let done = c.in_ok-eval.ensures in
+    let type = c.inner-ty.ensures in
+    let first = rw c.deref.ensures.value at c.in_ok-first.ensures in
+    let number = c.slot_of-slot.ensures in
+    let cut = c.truncate.ensures in
+    let a = share_added r e e' done type c.len-at.ensures first number c.own_or.ensures c.in_ok-push_heard.ensures.added c.in_ok-push_heard.ensures.value in
+    let s = start_ready r e e' done type c.len-at.ensures first number cut a.0 a.1 in
+    let m = s.0 in
+    let w = r.here.ready.stands.within in
+    let o = start_over r e e' done type c.len-at.ensures first number cut a.0 a.1 in
+    let l = o.long in
+    let at = c.len-at.ensures in
+    (omega (arith, d, m, w), begin_body _ _ s.2 (start_allowed r e e' done type c.len-at.ensures first number cut a.0 a.1) r.here.sees (start_over r e e' done type c.len-at.ensures first number cut a.0 a.1) refl c.len-at.ensures refl refl (λ b o. (b, o)) r.here.sees.own, omega (arith, l, at))
+
+pub eval_share-value_at-requires-2-clause-within : goal.eval_share-value_at-requires-2-clause-within
+eval_share-value_at-requires-2-clause-within t c =
+    let r = c.requires in
+    let e = c.index-start.ensures in
+    let e' = c.index-next.ensures in
+    let done = c.in_ok-eval.ensures in
+    let type = c.inner-ty.ensures in
+    let first = rw c.deref.ensures.value at c.in_ok-first.ensures in
+    let number = c.slot_of-slot.ensures in
+    let cut = c.truncate.ensures in
+    let a = share_added r e e' done type c.len-at.ensures first number c.own_or.ensures c.in_ok-push_heard.ensures.added c.in_ok-push_heard.ensures.value in
+    rw c.deref-2.ensures.value (body_within r e e' done type c.len-at.ensures first number cut a.0 a.1 c.in_ok-eval_body.ensures refl refl refl)
+
+pub eval_share-put-requires : goal.eval_share-put-requires
+eval_share-put-requires t c =
+    let r = c.requires in
+    let e = c.index-start.ensures in
+    let e' = c.index-next.ensures in
+    let done = c.in_ok-eval.ensures in
+    let type = c.inner-ty.ensures in
+    let first = rw c.deref.ensures.value at c.in_ok-first.ensures in
+    let number = c.slot_of-slot.ensures in
+    let cut = c.truncate.ensures in
+    let a = share_added r e e' done type c.len-at.ensures first number c.own_or.ensures c.in_ok-push_heard.ensures.added c.in_ok-push_heard.ensures.value in
+    slots_long c.eval_body.new.draft c.slot_of-slot.result (evolve_room r e e' done type c.len-at.ensures first number cut a.0 a.1 c.in_ok-eval_body.ensures refl refl refl (rw c.deref-2.ensures.value at c.in_ok-kept.ensures))
+
+pub eval_share-returns : goal.eval_share-returns
+eval_share-returns t c =
+    let r = c.requires in
+    let e = c.index-start.ensures in
+    let e' = c.index-next.ensures in
+    let done = c.in_ok-eval.ensures in
+    let type = c.inner-ty.ensures in
+    let first = rw c.deref.ensures.value at c.in_ok-first.ensures in
+    let number = c.slot_of-slot.ensures in
+    let cut = c.truncate.ensures in
+    let a = share_added r e e' done type c.len-at.ensures first number c.own_or.ensures c.in_ok-push_heard.ensures.added c.in_ok-push_heard.ensures.value in
+    evolve_evaluated r e e' done type c.len-at.ensures first number cut a.0 a.1 c.in_ok-eval_body.ensures refl refl refl (rw c.deref-2.ensures.value at c.in_ok-kept.ensures) c.put.ensures
+
+pub eval_nbr-push_heard-requires-clause-width : goal.eval_nbr-push_heard-requires-clause-width
+eval_nbr-push_heard-requires-clause-width t c =
+    let w = nbr_within c.requires c.index.ensures c.in_ok-eval.ensures c.inner-ty.ensures c.len-at.ensures in
+    let b = c.eval.new.words.ok.0 in
+    omega (arith, w, b)
+
+pub eval_share-push_heard-requires-clause-width : goal.eval_share-push_heard-requires-clause-width
+eval_share-push_heard-requires-clause-width t c =
+    let w = first_within c.requires c.index-start.ensures c.index-next.ensures c.in_ok-eval.ensures c.inner-ty.ensures c.len-at.ensures in
+    let b = c.eval.new.words.ok.0 in
+    omega (arith, w, b)

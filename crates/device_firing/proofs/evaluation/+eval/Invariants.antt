@@ -1,0 +1,23 @@
+use Rattle.std.proofs.Common.{◌+◌, ◌-◌, ◌*◌, length}
+use Rattle.device_firing.proofs.evaluation.+eval.Given as goal
+
+abbrev pub decreases-eval : goal.decreases-eval
+decreases-eval l = 3 * (length l.context.now.program.now.nodes - l.place) + 2
+
+abbrev pub decreases-eval_nbr : goal.decreases-eval_nbr
+decreases-eval_nbr l = 3 * (length l.context.now.program.now.nodes - l.place) + 1
+
+abbrev pub decreases-eval_rep : goal.decreases-eval_rep
+decreases-eval_rep l = 3 * (length l.context.now.program.now.nodes - l.place) + 1
+
+abbrev pub decreases-eval_share : goal.decreases-eval_share
+decreases-eval_share l = 3 * (length l.context.now.program.now.nodes - l.place) + 1
+
+abbrev pub decreases-eval_if : goal.decreases-eval_if
+decreases-eval_if l = 3 * (length l.context.now.program.now.nodes - l.place) + 1
+
+abbrev pub decreases-eval_let : goal.decreases-eval_let
+decreases-eval_let l = 3 * (length l.context.now.program.now.nodes - l.place) + 1
+
+abbrev pub decreases-eval_body : goal.decreases-eval_body
+decreases-eval_body l = 3 * (length l.context.now.program.now.nodes - l.place) + 3

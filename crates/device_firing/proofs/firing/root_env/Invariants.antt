@@ -1,0 +1,7 @@
+use Rattle.std.proofs.Common.{◌≡◌, drop, map, ◌++◌}
+use Rattle.scope_columns.specs.References.{nears_of}
+use Rattle.device_eval.specs.References.{snap_near}
+use Rattle.device_firing.proofs.firing.root_env.Given as goal
+
+abbrev pub invariant-loop-n : goal.invariant-loop-n
+invariant-loop-n l = nears_of l.near.items ++ map snap_near (drop l.n-index l.n-items) ≡ map snap_near l.snap.near.items

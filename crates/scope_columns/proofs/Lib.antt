@@ -1,0 +1,6 @@
+pub mod WordSteps
+pub mod ScopeSteps
+pub mod OwnRow
+pub mod KeptRows
+pub mod VariableSteps
+pub mod HeardColumns

@@ -1,0 +1,8 @@
+use Rattle.std.proofs.Common.{◌≡◌, ◌+◌, drop}
+use Rattle.alignment.specs.Environments.{near_numbers}
+use Rattle.scope_columns.specs.References.{nears_of}
+use Rattle.scope_columns.specs.Words.{row_of}
+use Rattle.scope_columns.proofs.scopes.own_row.Given as goal
+
+abbrev pub invariant-loop-n : goal.invariant-loop-n
+invariant-loop-n l = l.row + row_of l.device (near_numbers (nears_of (drop l.n-index l.near))) ≡ row_of l.device (near_numbers (nears_of l.near))

@@ -1,0 +1,3 @@
+pub mod References
+pub mod Words
+pub mod Scopes

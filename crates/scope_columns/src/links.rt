@@ -1,0 +1,40 @@
+//! The weights of the links, added behind the words.
+
+ghost use Rattle.std.specs.Prelude.{◌≡◌, ◌++◌, IfOk, OnOk, length};
+ghost use Rattle.fc_values.specs.Fields.{ValueField, with_entry};
+ghost use Rattle.fc_values.specs.Types.{IntType, TypeField};
+ghost use Rattle.fc_values.specs.Values.{IntValue};
+ghost use Rattle.device_eval.specs.Neighbours.{weights};
+ghost use Rattle.scope_columns.specs.References.{flat_of, nears_of, numbers_in};
+ghost use Rattle.scope_columns.specs.Scopes.{devices_in};
+ghost use Rattle.scope_columns.specs.Words.{Added, row_of, value_in, weights_of};
+
+use crate::environments::NearRef;
+use crate::scopes::Sight;
+use fc_values::Memory;
+
+/// Adds the weights of the links, and the least weight at the device itself.
+pub fn push_links(words: &mut Vec<u32>, sight: &Sight<'_, '_>, device: u32, least: u32) -> Result<(), Memory>
+    requires { sight.now.own ≡ row_of device (numbers_in sight.now.env.now) }
+    ensures added { OnOk result (Added (TypeField IntType) (devices_in device sight.now.env.now) words.old.items
+        words.new.items) }
+    ensures value { IfOk result (λ _.
+        value_in words.new.items (TypeField IntType) (devices_in device sight.now.env.now) (length words.old.items)
+        ≡ ValueField (with_entry device (IntValue least) (weights (flat_of sight.now.env.now).near))) }
+{
+    let near = sight.env.near.as_slice();
+    push_weights(words, &near[..sight.own])?;
+    words.push(least)?;
+    push_weights(words, &near[sight.own..])?;
+    Ok(())
+}
+
+// Adds the weights of some links.
+fn push_weights(words: &mut Vec<u32>, near: &[NearRef<'_>]) -> Result<(), Memory>
+    ensures { IfOk result (λ _. words.new.items ≡ words.old.items ++ weights_of (nears_of near.now)) }
+{
+    for n in near {
+        words.push(n.weight)?;
+    }
+    Ok(())
+}
