@@ -1,5 +1,6 @@
 -- The binders in scope while words are added.
-use Rattle.std.proofs.Common.{◌≡◌, ℕ, ◌≤◌, ◌+◌, List, [], ◌∷◌, length, refl, sym, ◌∙◌, ap, subst, arith, Bool, true, false}
+use Rattle.std.proofs.Common.{◌≡◌, ℕ, ◌≤◌, ◌+◌, List, [], ◌∷◌, length, refl, sym, ◌∙◌, ap, subst, arith}
+use Rattle.std.proofs.Common.{Bool, true, false}
 use Rattle.fc_values.specs.Types.{LocalType, ValueType, TypeLocal, TypeField}
 use Rattle.fc_values.specs.BuiltinTypes.{lifted, inner, is_field}
 use Rattle.fc_values.specs.Fields.{AnyValue}
@@ -16,7 +17,8 @@ lifted_again (TypeLocal t) = refl
 lifted_again (TypeField t) = refl
 
 -- binders whose values stay
-pub vars_stay : (d n : ℕ) (xs ys : List ℕ) (s : Scope) → StandBelow d n s → SameBelow n xs ys → vars_in d ys s ≡ vars_in d xs s
+pub vars_stay : (d n : ℕ) (xs ys : List ℕ) (s : Scope) → StandBelow d n s → SameBelow n xs ys
+    → vars_in d ys s ≡ vars_in d xs s
 vars_stay d n xs ys scope.Empty h same = refl
 vars_stay d n xs ys (scope.Bind' b p rest) h same =
     let first = value_stays (binder_type b) (devices_in d b.env.now) xs ys n b.at same h.0 in
@@ -32,5 +34,6 @@ pub bound_type : {t : ValueType} {f : Bool} {u : LocalType} → f ≡ is_field t
 bound_type {t} {f} {u} e g = ap (λ b. lifted b u) e ∙ ap (lifted (is_field t)) g ∙ lifted_again t
 
 -- a binder whose type is known in another way
-pub heads_as : {p : ℕ} (at : ℕ) (ws ds : List ℕ) {vs : Vars} {t u : ValueType} → t ≡ u → ((p, value_in ws t ds at) ∷ vs) ≡ ((p, value_in ws u ds at) ∷ vs)
+pub heads_as : {p : ℕ} (at : ℕ) (ws ds : List ℕ) {vs : Vars} {t u : ValueType} → t ≡ u
+    → ((p, value_in ws t ds at) ∷ vs) ≡ ((p, value_in ws u ds at) ∷ vs)
 heads_as {p} at ws ds {vs} e = ap (λ u. (p, value_in ws u ds at) ∷ vs) e

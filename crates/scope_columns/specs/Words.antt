@@ -1,5 +1,6 @@
 -- How the values of nodes stand among the words of an evaluation.
-use Rattle.std.specs.Prelude.{ℕ, Bool, suc, ◌≡◌, ◌<◌, ◌+◌, ◌*◌, ◌||◌, List, [], ◌∷◌, length, map, nat_eq, nat_lt, if◌then◌else◌}
+use Rattle.std.specs.Prelude.{ℕ, suc, ◌≡◌, ◌<◌, ◌+◌, ◌*◌, List, [], ◌∷◌, length, map}
+use Rattle.std.specs.Prelude.{Bool, ◌||◌, nat_eq, nat_lt, if◌then◌else◌}
 use Rattle.fc_values.specs.Types.{LocalType, ValueType, TypeLocal, TypeField, leaves}
 use Rattle.fc_values.specs.Values.{LocalValue, form_of}
 use Rattle.fc_values.specs.Exports.{slot_at}

@@ -58,8 +58,8 @@ fn push_field(
     sight: &Sight<'_, '_>,
     device: u32,
 ) -> Result<(), Memory>
-    requires within { bound.now.at + length (devices_in device bound.now.env.now) * leaves (local_type_of bound.now.ty.now)
-        ≤ length words.old.items }
+    requires within { let rows = length (devices_in device bound.now.env.now) in
+        bound.now.at + rows * leaves (local_type_of bound.now.ty.now) ≤ length words.old.items }
     requires aligned { IsAligned device (numbers_in sight.now.env.now) (TypeField (local_type_of bound.now.ty.now))
         (devices_in device bound.now.env.now) }
     ensures added { OnOk result (Added (TypeField (local_type_of bound.now.ty.now))

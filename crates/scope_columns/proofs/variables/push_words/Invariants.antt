@@ -2,4 +2,7 @@ use Rattle.std.proofs.Common.{◌≡◌, ◌++◌, ◌-◌, ◌≤◌, drop, tak
 use Rattle.scope_columns.proofs.variables.push_words.Given as goal
 
 abbrev pub invariant-loop-i : goal.invariant-loop-i
-invariant-loop-i l = (l.at ≤ l.i) × (l.words.items ≡ l.initial.words.items ++ take (l.i - l.at) (drop l.at l.initial.words.items))
+invariant-loop-i l = record {
+  from : l.at ≤ l.i;
+  so_far : l.words.items ≡ l.initial.words.items ++ take (l.i - l.at) (drop l.at l.initial.words.items);
+}

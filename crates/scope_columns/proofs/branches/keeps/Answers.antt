@@ -1,6 +1,6 @@
 use Rattle.std.proofs.Common.{refl}
 use Rattle.fc_values.proofs.SlotReads.{slot_read, slots_long}
-use Rattle.scope_columns.proofs.environments.keeps.Goals as goal
+use Rattle.scope_columns.proofs.branches.keeps.Goals as goal
 
 pub returns-then-s : goal.returns-then-s
 returns-then-s c =
