@@ -1,101 +1,177 @@
--- The arguments of an operator in columns, and its value in their place.
-use Rattle.std.proofs.Common.{◌≡◌, ℕ, ◌<◌, ◌≤◌, ◌+◌, ◌*◌, List, [], ◌∷◌, ◌++◌, length, refl, sym, ◌∙◌, ap, subst, arith, Bool, true, false, Some}
-use Rattle.fc_values.specs.declared.builtins.Builtin.{Builtin}
+-- Values in columns: what is added by the evaluation of a builtin's arguments.
+use Rattle.std.proofs.Common.{◌≡◌, ℕ, ◌<◌, ◌≤◌, ◌+◌, ◌*◌, List, [], ◌∷◌, ◌++◌, length, refl, sym, ◌∙◌, ap, subst, arith, get_or}
 use Rattle.fc_values.specs.declared.exports.Slot.{Slot}
 use Rattle.fc_values.specs.Types.{LocalType, ValueType, TypeLocal, TypeField, leaves}
-use Rattle.fc_values.specs.BuiltinTypes.{Lifts, lifted, inner, inners, has_field}
-use Rattle.fc_values.specs.Values.{LocalValue}
-use Rattle.fc_values.specs.Fields.{AnyValue, FitEachOver, rises}
-use Rattle.fc_values.specs.Builtins.{is_hood, local_value, builtin_value}
+use Rattle.fc_values.specs.BuiltinTypes.{inner}
+use Rattle.fc_values.specs.Fields.{AnyValue, ValueLocal}
 use Rattle.fc_values.specs.Exports.{SlotValue, slots_of}
-use Rattle.fc_values.specs.Positions.{argument_nth, arguments_nth}
 use Rattle.fc_nodes.specs.declared.nodes.Node.{Node}
 use Rattle.fc_nodes.specs.Terms.{term_at, type_of as term_type}
-use Rattle.value_columns.specs.Columns.{word_in, row_in}
-use Rattle.value_columns.specs.Arguments.{leaves_of, arguments_in}
+use Rattle.value_columns.specs.Columns.{row_in, local_in}
 use Rattle.value_columns.proofs.Standing.{row_stays}
 use Rattle.alignment.specs.Slots.{FlatEnv}
-use Rattle.scope_columns.specs.References.{flat_of}
-use Rattle.device_firing.specs.declared.evaluation.Context.{Context}
-use Rattle.scope_columns.specs.declared.scopes.Sight.{Sight}
 use Rattle.device_eval.specs.Evaluation.{Situation, Vars}
-use Rattle.device_eval.specs.Walks.{DidAt}
-use Rattle.device_eval.specs.Rows.{DidEach}
-use Rattle.scope_columns.specs.Words.{words_for, rows_for, value_in, SameBelow, Added}
-use Rattle.scope_columns.specs.Scopes.{devices_in, vars_in}
-use Rattle.device_firing.specs.Contexts.{situation_in, Evaluated}
-use Rattle.device_firing.specs.Kids.{kid_types, ReadyKids, Spread, EvaluatedColumns}
+use Rattle.device_eval.specs.Rows.{DidEach, ReadyEach}
+use Rattle.device_eval.proofs.RowSteps.{none_done, kid_ready, rest_ready, each_done}
+use Rattle.scope_columns.specs.declared.scopes.Sight.{Sight}
+use Rattle.scope_columns.specs.References.{flat_of}
+use Rattle.scope_columns.specs.Words.{words_for, value_in, SameBelow}
+use Rattle.scope_columns.specs.Scopes.{devices_in, vars_in, types_in}
+use Rattle.scope_columns.proofs.WordSteps.{below_then, value_stays}
+use Rattle.scope_columns.proofs.ScopeSteps.{vars_stay, below_more}
+use Rattle.device_firing.specs.declared.evaluation.Context.{Context}
+use Rattle.device_firing.specs.Contexts.{situation_in, ReadyIn, Evaluated}
+use Rattle.device_firing.specs.Kids.{kid_types, rows_for, words_of_all, StandsIn, StandIn, EndsWith, Filled, ReadyKids, EvaluatedKids}
+use Rattle.device_firing.specs.Places.{MayEach}
 use Rattle.device_firing.proofs.MaySteps.{may_value}
-use Rattle.device_eval.proofs.RowSteps.{none_done, each_done}
-use Rattle.scope_columns.proofs.WordSteps.{below_then}
-use Rattle.scope_columns.proofs.ScopeSteps.{vars_stay}
-use Rattle.device_firing.proofs.OperatorSteps.{operator_local, operator_field}
 
--- arguments that stand below other words stay
-pub arguments_stay : (ts : List LocalType) (rows at i n : ℕ) (xs ys : List ℕ) → i < rows → at + rows * leaves_of ts ≤ n → SameBelow n xs ys → arguments_in ys ts rows at i ≡ arguments_in xs ts rows at i
-arguments_stay [] rows at i n xs ys h l s = refl
-arguments_stay (t ∷ ts) rows at i n xs ys h l s =
-    let first = row_stays xs ys t rows at i n h (omega (arith, l)) s.same in
-    let rest = arguments_stay ts rows (at + rows * leaves t) i n xs ys h (omega (arith, l)) s in
-    rw (first, rest) refl
+-- ---- a value that was the last of the words
 
--- no argument
-pub columns_none : {c : Context} {s : Sight} {rows : ℕ} {ws : List ℕ} {xs : List Slot} (ks : List ℕ) → length ks ≡ 0 → EvaluatedColumns c ks s rows ws xs ws xs
-columns_none [] e = record {
+same_below : (n : ℕ) (ws : List ℕ) → SameBelow n ws ws
+same_below n ws = record { same = λ p h. refl }
+
+filled_as : {t u : ValueType} {rows at : ℕ} {old new : List ℕ} → t ≡ u → Filled u rows at old new → Filled t rows at old new
+filled_as {t} {u} {rows} {at} {old} {new} e f = subst (λ v. Filled v rows at old new) (sym e) f
+
+pub field_filled : {t : ValueType} {u : LocalType} (rows at : ℕ) (ws : List ℕ) → t ≡ TypeField u → Filled t rows at ws ws
+field_filled {t} {u} rows at ws e =
+    filled_as {u = TypeField u} e (record { kept = same_below at ws; long = λ n l. l; stands = λ ds. refl })
+
+pub one_filled : {t : ValueType} {u : LocalType} (rows at : ℕ) (ws : List ℕ) → t ≡ TypeLocal u → rows ≡ 1 → Filled t rows at ws ws
+one_filled {t} {u} rows at ws e one =
+    let size : rows * leaves u ≡ leaves u = ap (λ k. k * leaves u) one ∙ omega arith in
+    filled_as {u = TypeLocal u} e (record {
+      kept = same_below at ws;
+      long = λ n l. l ∙ ap (λ k. at + k) (sym size);
+      stands = λ ds i h.
+          let row : 0 ≡ i = omega (arith, h, one) in
+          ap (λ k. ValueLocal (row_in ws u k at 0)) (sym one) ∙ ap (λ k. ValueLocal (row_in ws u rows at k)) row;
+    })
+
+pub rows_filled : {t : ValueType} {u : LocalType} (rows at : ℕ) (old new : List ℕ) → t ≡ TypeLocal u
+    → ((p : ℕ) → p < at → get_or new p 0 ≡ get_or old p 0) → length new ≡ at + rows * leaves u
+    → ((i : ℕ) → i < rows → row_in new u rows at i ≡ local_in old u at) → Filled t rows at old new
+rows_filled {t} {u} rows at old new e before long values = filled_as {u = TypeLocal u} e (record {
+  kept = record { same = before };
+  long = λ n l. long;
+  stands = λ ds i h. ap ValueLocal (sym (values i h));
+})
+
+-- the words of a local value
+pub ends_local : {t : ValueType} {u : LocalType} {at : ℕ} {ws : List ℕ} → EndsWith t at ws → t ≡ TypeLocal u → length ws ≡ at + leaves u
+ends_local {t} {u} {at} {ws} h e = h.long ∙ ap (λ v. at + words_for v h.devices) e
+
+-- ---- a value that stands below other words stays
+
+stands_stay : (t : ValueType) (ds : List ℕ) (rows at n : ℕ) (xs ys : List ℕ) (v : AnyValue)
+    → at + rows_for t rows (length ds) * leaves (inner t) ≤ n → SameBelow n xs ys → StandsIn xs ds rows at t v
+    → StandsIn ys ds rows at t v
+stands_stay (TypeLocal t) ds rows at n xs ys v l same s =
+    λ i h. s i h ∙ ap ValueLocal (sym (row_stays xs ys t rows at i n h l same.same))
+stands_stay (TypeField t) ds rows at n xs ys v l same s = s ∙ sym (value_stays (TypeField t) ds xs ys n at same l)
+
+-- ---- no argument
+
+none_evaluated : {c : Context} {s : Sight} {rows : ℕ} {ws : List ℕ} {xs : List Slot} → EvaluatedKids c [] s rows ws xs ws xs
+none_evaluated {c} {s} {rows} {ws} {xs} = record {
   values = [];
   did = none_done [] refl;
   fit = tt;
-  kept = record { same = λ p h. refl };
+  kept = same_below (length ws) ws;
   long = omega arith;
-  columns = λ i h. refl;
+  stand = tt;
 }
-columns_none (k ∷ ks) e = absurd (omega (arith, e))
+
+pub kids_none : {c : Context} {s : Sight} {rows : ℕ} {ws : List ℕ} {xs : List Slot} (ks : List ℕ) → length ks ≡ 0
+    → EvaluatedKids c ks s rows ws xs ws xs
+kids_none [] e = none_evaluated
+kids_none (k ∷ ks) e = absurd (omega (arith, e))
+
+-- ---- one more argument before others
 
 -- values behind one that comes first
-based : {S : Situation} {ns : List Node} {ks : List ℕ} {vars : Vars} {env : FlatEnv} {xs ys : List SlotValue} {vs : List AnyValue} (v : AnyValue) → DidEach S ns ks vars env xs [] vs ys → DidEach S ns ks vars env xs (v ∷ []) (v ∷ vs) ys
-based v r = record { vs = r.vs; added = ap (λ us. v ∷ us) r.added; gives = r.gives; marked = r.marked; out = r.out; still = r.still }
+behind : {S : Situation} {ns : List Node} {ks : List ℕ} {vars : Vars} {env : FlatEnv} {xs ys : List SlotValue} {vs : List AnyValue} (v : AnyValue)
+    → DidEach S ns ks vars env xs [] vs ys → DidEach S ns ks vars env xs (v ∷ []) (v ∷ vs) ys
+behind v r = record {
+  vs = r.vs;
+  added = ap (λ us. v ∷ us) r.added;
+  gives = r.gives;
+  marked = r.marked;
+  out = r.out;
+  still = r.still;
+}
 
--- one more argument before others
-module _ {c : Context} {k : ℕ} {rest : List ℕ} {s : Sight} {rows : ℕ} {ws : List ℕ} {xs : List Slot} (h : ReadyKids c (k ∷ rest) s ws xs) {mid wide : List ℕ} {ys : List Slot} (done : Evaluated c k s ws xs mid ys)
-    (spread : Spread (term_type (term_at c.program.now.nodes k)) (devices_in c.device s.env.now) rows (length ws) mid wide) where
-  mid_kept : SameBelow (length ws) ws wide
-  mid_kept = below_then (length ws) (length ws) (omega arith) done.added.kept spread.kept
+module _ {c : Context} {ks : List ℕ} {k : ℕ} {rest : List ℕ} (e : ks ≡ k ∷ rest) {s : Sight} {ws : List ℕ} {xs : List Slot} (begins : ReadyKids c ks s ws xs) where
+  abbrev MayKids : List ℕ → List ℕ → Type 0
+  MayKids qs us = MayEach c.program.now.declared (situation_in c) c.program.now.nodes (types_in s.vars.now) qs (vars_in c.device us s.vars.now) (flat_of s.env.now)
 
-  mid_vars : vars_in c.device wide s.vars.now ≡ vars_in c.device ws s.vars.now
-  mid_vars = vars_stay c.device (length ws) ws wide s.vars.now h.sees.below mid_kept
+  may_kids : MayKids (k ∷ rest) ws
+  may_kids = subst (λ qs. MayKids qs ws) e begins.may
 
-  pub columns_more : {new : List ℕ} {zs : List Slot} → EvaluatedColumns c rest s rows wide ys new zs → EvaluatedColumns c (k ∷ rest) s rows ws xs new zs
-  columns_more {new} {zs} r =
-      let ns = c.program.now.nodes in
-      let T = term_type (term_at ns k) in
-      let va = value_in mid T (devices_in c.device s.env.now) (length ws) in
-      let l = spread.long in
-      let m = r.long in
-      let others = subst (λ vs. DidEach (situation_in c) ns rest vs (flat_of s.env.now) (slots_of ys) [] r.values (slots_of zs)) mid_vars r.did in
-      let low : length ws ≤ length wide = omega (arith, l) in
-      record {
-        values = va ∷ r.values;
-        did = each_done refl h.ready done.did refl (based va others);
-        fit = (may_value h.may.0 done.did.gives, r.fit);
-        kept = below_then (length ws) (length wide) low mid_kept r.kept;
-        long = omega (arith, m, l);
-        columns = λ i b.
-            let first = spread.each i b ∙ sym (row_stays wide new (inner T) rows (length ws) i (length wide) b (omega (arith, l)) r.kept.same) in
-            let after = r.columns i b ∙ ap (λ at. arguments_in new (inners (kid_types ns rest)) rows at i) l in
-            rw (first, after) refl;
-      }
+  pub first_begins : (k < length c.program.now.nodes) × (get_or ks 0 (length c.program.now.nodes) ≡ k) × ReadyIn c k s ws xs
+  first_begins =
+      let r = kid_ready e begins.ready in
+      let m = may_kids in
+      (r.0, r.1, record { ready = r.2; may = m.0; sees = begins.sees })
 
--- an operator gives a field where one of its arguments is one
-lifted_local : (b : Bool) (t : LocalType) → TypeLocal t ≡ lifted b t → b ≡ false
-lifted_local true t e = absurd cc
-lifted_local false t e = refl
+  module _ {mid : List ℕ} {ys : List Slot} (done : Evaluated c k s ws xs mid ys) {t : ValueType} (type : term_type (term_at c.program.now.nodes k) ≡ t) {at : ℕ} (place : at ≡ length ws) where
+    -- the value is the last of the words
+    pub kid_ends : EndsWith t at mid
+    kid_ends =
+        let ds = devices_in c.device s.env.now in
+        record {
+          devices = length ds;
+          long = done.added.long ∙ ap (λ u. length ws + words_for u (length ds)) type ∙ ap (λ p. p + words_for t (length ds)) (sym place);
+        }
 
-lifted_field : (b : Bool) (t : LocalType) → TypeField t ≡ lifted b t → b ≡ true
-lifted_field true t e = refl
-lifted_field false t e = absurd cc
+    module _ {rows : ℕ} {wide : List ℕ} (filled : Filled t rows at mid wide) where
+      filled_here : Filled (term_type (term_at c.program.now.nodes k)) rows (length ws) mid wide
+      filled_here = filled_as type (subst (λ p. Filled t rows p mid wide) place filled)
 
--- In each row the operator has its value: so the builtin has the value that stands there.
-pub operator_value : (o : Builtin) (ceiling device : ℕ) → is_hood o ≡ false → (ds : List ℕ) (ts : List ValueType) (vs : List AnyValue) → FitEachOver ceiling ds ts vs → rises ds ≡ true → (t : ValueType) (ws : List ℕ) (at : ℕ) → t ≡ lifted (has_field ts) (inner t)
-    → ((i : ℕ) → i < rows_for t (length ds) → local_value o ceiling (arguments_nth i vs) ≡ Some (row_in ws (inner t) (rows_for t (length ds)) at i)) → builtin_value o ceiling device vs ≡ Some (value_in ws t ds at)
-operator_value o ceiling device plain ds ts vs fit r (TypeLocal t) ws at e h = operator_local o ceiling device plain ds ts vs fit (lifted_local (has_field ts) t e) (h 0 (omega arith))
-operator_value o ceiling device plain ds ts vs fit r (TypeField t) ws at e h = operator_field o ceiling device plain ds ts vs fit ws t (length ds) at (lifted_field (has_field ts) t e) r h
+      wide_kept : SameBelow (length ws) ws wide
+      wide_kept = let f = filled_here in below_then (length ws) (length ws) (omega arith) done.added.kept f.kept
+
+      wide_long : length wide ≡ length ws
+          + rows_for (term_type (term_at c.program.now.nodes k)) rows (length (devices_in c.device s.env.now)) * leaves (inner (term_type (term_at c.program.now.nodes k)))
+      wide_long = let f = filled_here in f.long (length (devices_in c.device s.env.now)) done.added.long
+
+      wide_low : length ws ≤ length wide
+      wide_low = omega (arith, wide_long)
+
+      wide_vars : vars_in c.device wide s.vars.now ≡ vars_in c.device ws s.vars.now
+      wide_vars = vars_stay c.device (length ws) ws wide s.vars.now begins.sees.below wide_kept
+
+      pub rest_begins : (k < get_or rest 0 (length c.program.now.nodes)) × ReadyKids c rest s wide ys
+      rest_begins =
+          let r = rest_ready e begins.ready done.did in
+          let m = may_kids in (
+            r.0,
+            record {
+              ready = subst (λ vs. ReadyEach (situation_in c) c.program.now.nodes c.layout.now rest vs (flat_of s.env.now) (slots_of ys)) (sym wide_vars) r.1;
+              may = subst (λ vs. MayEach c.program.now.declared (situation_in c) c.program.now.nodes (types_in s.vars.now) rest vs (flat_of s.env.now)) (sym wide_vars) m.1;
+              sees = record { below = below_more c.device (length ws) (length wide) s.vars.now wide_low begins.sees.below; own = begins.sees.own };
+            },
+          )
+
+      pub kids_more : {new : List ℕ} {zs : List Slot} → EvaluatedKids c rest s rows wide ys new zs → EvaluatedKids c ks s rows ws xs new zs
+      kids_more {new} {zs} r =
+          let ns = c.program.now.nodes in
+          let ds = devices_in c.device s.env.now in
+          let T = term_type (term_at ns k) in
+          let va = value_in mid T ds (length ws) in
+          let f = filled_here in
+          let m = may_kids in
+          let others = subst (λ vs. DidEach (situation_in c) ns rest vs (flat_of s.env.now) (slots_of ys) [] r.values (slots_of zs)) wide_vars r.did in
+          let ready = subst (λ qs. ReadyEach (situation_in c) ns c.layout.now qs (vars_in c.device ws s.vars.now) (flat_of s.env.now) (slots_of xs)) e begins.ready in
+          let first = stands_stay T ds rows (length ws) (length wide) wide new va (omega (arith, wide_long)) r.kept (f.stands ds) in
+          let after = subst (λ p. StandIn new ds rows p (kid_types ns rest) r.values) wide_long r.stand in
+          let l = r.long in
+          let all : EvaluatedKids c (k ∷ rest) s rows ws xs new zs = record {
+            values = va ∷ r.values;
+            did = each_done refl ready done.did refl (behind va others);
+            fit = (may_value m.0 done.did.gives, r.fit);
+            kept = below_then (length ws) (length wide) wide_low wide_kept r.kept;
+            long = l ∙ ap (λ p. p + words_of_all (kid_types ns rest) rows (length ds)) wide_long ∙ omega arith;
+            stand = (first, after);
+          } in
+          subst (λ qs. EvaluatedKids c qs s rows ws xs new zs) (sym e) all

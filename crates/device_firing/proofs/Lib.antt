@@ -10,5 +10,8 @@ pub mod KindSteps
 pub mod LeafSteps
 pub mod NodeSteps
 pub mod OperatorSteps
+pub mod BuiltinSteps
+pub mod KidSteps
 pub mod ColumnSteps
+pub mod ApplySteps
 pub mod RootSteps

@@ -5,7 +5,9 @@ ghost use Rattle.fc_values.specs.Values.{local_of};
 ghost use Rattle.fc_nodes.specs.Terms.{OfApply, OfNbr, OfEvolve, ByRep, ByShare, OfIf, OfLet};
 ghost use Rattle.device_eval.specs.Evaluation.{pick};
 ghost use Rattle.device_firing.specs.Contexts.{ReadyIn, ReadyFor, Evaluated, EvaluatedBody};
+ghost use Rattle.device_firing.specs.Kids.{EvaluatedKids, ReadyKids};
 
+use crate::builtins::{apply_builtin, fill_rows, rows_of};
 use crate::drafts::Draft;
 use fc_nodes::{Layout, Node, Op, Unfolded, ceiling_of, least_weight, slot_of};
 use fc_values::{Builtin, Local, Memory, inner};
@@ -68,6 +70,8 @@ pub fn eval(
     }
 }
 
+#[cycle(eval)]
+#[tactic(none)]
 fn eval_apply(
     alloc: Global,
     words: &mut Vec<u32>,
@@ -81,7 +85,38 @@ fn eval_apply(
     requires { ReadyFor context.now place sight.now node.now (OfApply builtin) words.old.items draft.old }
     ensures { OnOk result (Evaluated context.now place sight.now words.old.items draft.old words.new.items draft.new) }
 {
-    unreachable!()
+    let at = words.len();
+    let devices = sight.env.near.len() + 1;
+    let rows = rows_of(&node.ty, devices);
+    eval_kids(alloc, words, context, &node.kids, rows, sight, draft)?;
+    apply_builtin(words, context.program, node, builtin, devices, sight.own, at);
+    Ok(())
+}
+
+// Evaluates nodes one after another: their values stand behind the words, a local value in each of so many rows.
+#[cycle(eval)]
+#[tactic(none)]
+fn eval_kids(
+    alloc: Global,
+    words: &mut Vec<u32>,
+    context: &Context<'_>,
+    kids: &[u32],
+    rows: usize,
+    sight: &Sight<'_, '_>,
+    draft: &mut Draft,
+) -> Result<(), Memory>
+    requires { ReadyKids context.now kids.now sight.now words.old.items draft.old }
+    ensures { OnOk result (EvaluatedKids context.now kids.now sight.now rows words.old.items draft.old words.new.items
+        draft.new) }
+{
+    let Some((first, rest)) = kids.split_first() else {
+        return Ok(());
+    };
+    let at = words.len();
+    eval(alloc, words, context, *first, sight, draft)?;
+    fill_rows(words, &context.program.node(*first).ty, at, rows)?;
+    eval_kids(alloc, words, context, rest, rows, sight, draft)?;
+    Ok(())
 }
 
 #[cycle(eval)]

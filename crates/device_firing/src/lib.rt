@@ -1,6 +1,7 @@
 //! The firing of a device: its copy is evaluated, and gives an export.
 #![tactic(auto)]
 
+mod builtins;
 mod drafts;
 mod evaluation;
 mod firing;

@@ -1,4 +1,4 @@
-use Rattle.std.proofs.Common.{◌+◌, ◌-◌, ◌*◌, length}
+use Rattle.std.proofs.Common.{◌+◌, ◌-◌, ◌*◌, length, get_or}
 use Rattle.device_firing.proofs.evaluation.+eval.Given as goal
 
 abbrev pub decreases-eval : goal.decreases-eval
@@ -21,3 +21,9 @@ decreases-eval_let l = 3 * (length l.context.now.program.now.nodes - l.place) + 
 
 abbrev pub decreases-eval_body : goal.decreases-eval_body
 decreases-eval_body l = 3 * (length l.context.now.program.now.nodes - l.place) + 3
+
+abbrev pub decreases-eval_apply : goal.decreases-eval_apply
+decreases-eval_apply l = 3 * (length l.context.now.program.now.nodes - l.place) + 1
+
+abbrev pub decreases-eval_kids : goal.decreases-eval_kids
+decreases-eval_kids l = 3 * (length l.context.now.program.now.nodes - get_or l.kids.now 0 (length l.context.now.program.now.nodes)) + 3
