@@ -35,12 +35,12 @@ folds_as folds_sum = (refl, refl)
 folds_as folds_any = (refl, refl)
 folds_as folds_all = (refl, refl)
 
-rule_of : {o b : Builtin} {ts : List ValueType} {t : ValueType} → o ≡ b → HasRule o ts t → HasRule b ts t
-rule_of {o} {b} {ts} {t} e rule = subst (λ x. HasRule x ts t) e rule
+rule_of : (o b : Builtin) (ts : List ValueType) (t : ValueType) → o ≡ b → HasRule o ts t → HasRule b ts t
+rule_of o b ts t e rule = subst (λ x. HasRule x ts t) e rule
 
 -- the rule of an operator
-pub lifts : {o : Builtin} {ts : List ValueType} {t : ValueType} → is_hood o ≡ false → HasRule o ts t → Lifts o ts t
-lifts {o} {ts} {t} plain rule = subst (λ b. rule_by b o ts t) plain rule
+pub lifts : (o : Builtin) (ts : List ValueType) (t : ValueType) → is_hood o ≡ false → HasRule o ts t → Lifts o ts t
+lifts o ts t plain rule = subst (λ b. rule_by b o ts t) plain rule
 
 -- what is none of the hoods
 pub is_plain : (o : Builtin) → o ≢ op.SumHood → o ≢ op.AnyHood → o ≢ op.AllHood → o ≢ op.MinHoodLoc → o ≢ op.MaxHoodLoc → is_hood o ≡ false
@@ -58,21 +58,24 @@ field_room {ts} s rows n at count e long =
     let size : words_of_all ts rows n ≡ n * leaves s + 0 = ap (λ us. words_of_all us rows n) e in
     omega (arith, long, size)
 
-pub sum_room : {o : Builtin} {ts : List ValueType} {t : ValueType} (rows n at count : ℕ) → o ≡ op.SumHood → HasRule o ts t → count ≡ at + words_of_all ts rows n → at + n ≤ count
-sum_room rows n at count e rule long =
-    let f : FoldsAs op.SumHood _ _ = folds_as (rule_of e rule) in
+pub sum_room : (o : Builtin) (ts : List ValueType) (t : ValueType) (rows n at count : ℕ) → o ≡ op.SumHood → HasRule o ts t
+    → count ≡ at + words_of_all ts rows n → at + n ≤ count
+sum_room o ts t rows n at count e rule long =
+    let f : FoldsAs op.SumHood ts t = folds_as (rule_of o op.SumHood ts t e rule) in
     let h = field_room IntType rows n at count f.0 long in
     omega (arith, h)
 
-pub any_room : {o : Builtin} {ts : List ValueType} {t : ValueType} (rows n at count : ℕ) → o ≡ op.AnyHood → HasRule o ts t → count ≡ at + words_of_all ts rows n → at + n ≤ count
-any_room rows n at count e rule long =
-    let f : FoldsAs op.AnyHood _ _ = folds_as (rule_of e rule) in
+pub any_room : (o : Builtin) (ts : List ValueType) (t : ValueType) (rows n at count : ℕ) → o ≡ op.AnyHood → HasRule o ts t
+    → count ≡ at + words_of_all ts rows n → at + n ≤ count
+any_room o ts t rows n at count e rule long =
+    let f : FoldsAs op.AnyHood ts t = folds_as (rule_of o op.AnyHood ts t e rule) in
     let h = field_room BoolType rows n at count f.0 long in
     omega (arith, h)
 
-pub all_room : {o : Builtin} {ts : List ValueType} {t : ValueType} (rows n at count : ℕ) → o ≡ op.AllHood → HasRule o ts t → count ≡ at + words_of_all ts rows n → at + n ≤ count
-all_room rows n at count e rule long =
-    let f : FoldsAs op.AllHood _ _ = folds_as (rule_of e rule) in
+pub all_room : (o : Builtin) (ts : List ValueType) (t : ValueType) (rows n at count : ℕ) → o ≡ op.AllHood → HasRule o ts t
+    → count ≡ at + words_of_all ts rows n → at + n ≤ count
+all_room o ts t rows n at count e rule long =
+    let f : FoldsAs op.AllHood ts t = folds_as (rule_of o op.AllHood ts t e rule) in
     let h = field_room BoolType rows n at count f.0 long in
     omega (arith, h)
 
@@ -86,16 +89,16 @@ two_room {ts} {t} s u n at count e f g long =
     let many : n * leaves u ≡ n * leaves s = ap (λ k. n * k) one in
     omega (arith, long, size, one, many)
 
-pub least_room : {o : Builtin} {ts : List ValueType} {t : ValueType} (u : LocalType) (n at count : ℕ) → o ≡ op.MinHoodLoc → HasRule o ts t → u ≡ inner t
-    → count ≡ at + words_of_all ts (rows_for t 1 n) n → at + n * leaves u + leaves u ≤ count
-least_room u n at count e rule g long =
-    let f : FoldsAs op.MinHoodLoc _ _ = folds_as (rule_of e rule) in
+pub least_room : (o : Builtin) (ts : List ValueType) (t : ValueType) (u : LocalType) (n at count : ℕ) → o ≡ op.MinHoodLoc → HasRule o ts t
+    → u ≡ inner t → count ≡ at + words_of_all ts (rows_for t 1 n) n → at + n * leaves u + leaves u ≤ count
+least_room o ts t u n at count e rule g long =
+    let f : FoldsAs op.MinHoodLoc ts t = folds_as (rule_of o op.MinHoodLoc ts t e rule) in
     two_room f.0 u n at count f.1 f.2 g long
 
-pub greatest_room : {o : Builtin} {ts : List ValueType} {t : ValueType} (u : LocalType) (n at count : ℕ) → o ≡ op.MaxHoodLoc → HasRule o ts t → u ≡ inner t
-    → count ≡ at + words_of_all ts (rows_for t 1 n) n → at + n * leaves u + leaves u ≤ count
-greatest_room u n at count e rule g long =
-    let f : FoldsAs op.MaxHoodLoc _ _ = folds_as (rule_of e rule) in
+pub greatest_room : (o : Builtin) (ts : List ValueType) (t : ValueType) (u : LocalType) (n at count : ℕ) → o ≡ op.MaxHoodLoc → HasRule o ts t
+    → u ≡ inner t → count ≡ at + words_of_all ts (rows_for t 1 n) n → at + n * leaves u + leaves u ≤ count
+greatest_room o ts t u n at count e rule g long =
+    let f : FoldsAs op.MaxHoodLoc ts t = folds_as (rule_of o op.MaxHoodLoc ts t e rule) in
     two_room f.0 u n at count f.1 f.2 g long
 
 -- ---- the value of a hood
@@ -159,26 +162,26 @@ module _ {ceiling devices own at : ℕ} {old new : List ℕ} (inside : own < dev
       value = λ device ds vs l r d fit s. two_value device ds vs l r d s;
     }
 
-  module _ {o : Builtin} {ts : List ValueType} {t : ValueType} (rule : HasRule o ts t) where
+  module _ (o : Builtin) (ts : List ValueType) (t : ValueType) (rule : HasRule o ts t) where
     pub sum_applied : o ≡ op.SumHood → length new ≡ at + 1
         → option_map (λ n. IntValue (min ceiling n)) (sum_of (other_rows old IntType devices at own)) ≡ Some (local_in new IntType at)
         → Applied o ceiling ts t devices own at old new
     sum_applied e long made =
-        let f : FoldsAs op.SumHood ts t = folds_as (rule_of e rule) in
+        let f : FoldsAs op.SumHood ts t = folds_as (rule_of o op.SumHood ts t e rule) in
         applied_as e f.0 f.1 (of_field op.SumHood IntType (λ vs. option_map (λ n. IntValue (min ceiling n)) (sum_of vs)) (λ d es. refl) long made)
 
     pub any_applied : o ≡ op.AnyHood → length new ≡ at + 1
         → option_map BoolValue (any_of (other_rows old BoolType devices at own)) ≡ Some (local_in new BoolType at)
         → Applied o ceiling ts t devices own at old new
     any_applied e long made =
-        let f : FoldsAs op.AnyHood ts t = folds_as (rule_of e rule) in
+        let f : FoldsAs op.AnyHood ts t = folds_as (rule_of o op.AnyHood ts t e rule) in
         applied_as e f.0 f.1 (of_field op.AnyHood BoolType (λ vs. option_map BoolValue (any_of vs)) (λ d es. refl) long made)
 
     pub all_applied : o ≡ op.AllHood → length new ≡ at + 1
         → option_map BoolValue (all_of (other_rows old BoolType devices at own)) ≡ Some (local_in new BoolType at)
         → Applied o ceiling ts t devices own at old new
     all_applied e long made =
-        let f : FoldsAs op.AllHood ts t = folds_as (rule_of e rule) in
+        let f : FoldsAs op.AllHood ts t = folds_as (rule_of o op.AllHood ts t e rule) in
         applied_as e f.0 f.1 (of_field op.AllHood BoolType (λ vs. option_map BoolValue (all_of vs)) (λ d es. refl) long made)
 
     module _ (u : LocalType) (type : u ≡ inner t) (long : length new ≡ at + leaves u) where
@@ -192,7 +195,7 @@ module _ {ceiling devices own at : ℕ} {old new : List ℕ} (inside : own < dev
           → local_in new u at ≡ least_of (local_in old u (at + devices * leaves u)) (other_rows old u devices at own)
           → Applied o ceiling ts t devices own at old new
       least_applied e made =
-          let f : FoldsAs op.MinHoodLoc ts t = folds_as (rule_of e rule) in
+          let f : FoldsAs op.MinHoodLoc ts t = folds_as (rule_of o op.MinHoodLoc ts t e rule) in
           let types = two_types f.0 f.2 f.1 in
           applied_as e types.0 types.1 (of_two op.MinHoodLoc u least_of (λ d es v. refl) long made)
 
@@ -200,7 +203,7 @@ module _ {ceiling devices own at : ℕ} {old new : List ℕ} (inside : own < dev
           → local_in new u at ≡ greatest_of (local_in old u (at + devices * leaves u)) (other_rows old u devices at own)
           → Applied o ceiling ts t devices own at old new
       greatest_applied e made =
-          let f : FoldsAs op.MaxHoodLoc ts t = folds_as (rule_of e rule) in
+          let f : FoldsAs op.MaxHoodLoc ts t = folds_as (rule_of o op.MaxHoodLoc ts t e rule) in
           let types = two_types f.0 f.2 f.1 in
           applied_as e types.0 types.1 (of_two op.MaxHoodLoc u greatest_of (λ d es v. refl) long made)
 

@@ -13,6 +13,8 @@ use Rattle.device_firing.proofs.ReadySteps.{ready_as}
 use Rattle.device_firing.proofs.LeafSteps.{literal_evaluated, sense_evaluated, uid_evaluated, links_evaluated, variable_evaluated, variable_has, variables_aligned}
 use Rattle.device_firing.proofs.KindSteps.{node_here, begin_body, body_done}
 use Rattle.device_firing.proofs.NodeSteps.{nbr_within, nbr_room, nbr_forms, nbr_evaluated, first_within, let_ready, let_allowed, let_evaluated, branch_begins, branch_allowed, branch_vars, branch_below, if_room, if_evaluated, truth_within, rep_added, share_added, share_forms, start_ready, start_allowed, start_over, body_within, evolve_room, evolve_evaluated}
+use Rattle.device_firing.proofs.ApplySteps.{apply_begins, apply_rule, apply_within, apply_own, apply_long, apply_evaluated}
+use Rattle.device_firing.proofs.ColumnSteps.{kids_none, first_begins, kid_ends, rest_begins, kids_more}
 use Rattle.device_firing.proofs.evaluation.+eval.Goals as goal
 
 pub eval-push_variable-requires-clause-bound : goal.eval-push_variable-requires-clause-bound
@@ -402,3 +404,72 @@ eval_share-push_heard-requires-clause-width t c =
     let w = first_within c.requires c.index-start.ensures c.index-next.ensures c.in_ok-eval.ensures c.inner-ty.ensures c.len-at.ensures in
     let b = c.eval.new.words.ok.0 in
     omega (arith, w, b)
+
+-- ---- builtins
+
+pub eval-eval_apply-requires : goal.eval-eval_apply-requires
+eval-eval_apply-requires t c =
+    let d = c.decreases in
+    (omega (arith, d), record { here = c.requires; node = rw c.in-Apply.is at c.node-node.ensures.node })
+
+pub eval_apply-eval_kids-requires : goal.eval_apply-eval_kids-requires
+eval_apply-eval_kids-requires t c =
+    let d = c.decreases in
+    let k = apply_begins c.requires c.deref.ensures.value in
+    let l = k.0 in
+    let w = c.requires.here.ready.stands.within in
+    (omega (arith, d, l, w), k.1)
+
+pub eval_apply-apply_builtin-requires-clause-rule : goal.eval_apply-apply_builtin-requires-clause-rule
+eval_apply-apply_builtin-requires-clause-rule t c = apply_rule c.requires
+
+pub eval_apply-apply_builtin-requires-clause-kids : goal.eval_apply-apply_builtin-requires-clause-kids
+eval_apply-apply_builtin-requires-clause-kids t c = apply_within c.requires
+
+pub eval_apply-apply_builtin-requires-clause-own : goal.eval_apply-apply_builtin-requires-clause-own
+eval_apply-apply_builtin-requires-clause-own t c = apply_own c.requires c.len.ensures
+
+pub eval_apply-apply_builtin-requires-clause-length : goal.eval_apply-apply_builtin-requires-clause-length
+eval_apply-apply_builtin-requires-clause-length t c =
+    apply_long c.requires c.len.ensures c.rows_of-rows.ensures c.len-at.ensures c.deref.ensures.value c.in_ok-eval_kids.ensures
+
+pub eval_apply-returns : goal.eval_apply-returns
+eval_apply-returns t c =
+    apply_evaluated c.requires c.len.ensures c.rows_of-rows.ensures c.len-at.ensures c.deref.ensures.value
+    c.in_ok-eval_kids.ensures c.apply_builtin.ensures
+
+pub eval_kids-returns-in_default : goal.eval_kids-returns-in_default
+eval_kids-returns-in_default t c = kids_none c.args.kids.now c.in_default.ensures.cases
+
+pub eval_kids-eval-requires : goal.eval_kids-eval-requires
+eval_kids-eval-requires t c =
+    let d = c.decreases in
+    let k = first_begins c.in-Some.ensures.cases.0 c.requires in
+    let w = k.0 in
+    let e = k.1 in
+    (omega (arith, d, w, e), k.2)
+
+pub eval_kids-node-requires : goal.eval_kids-node-requires
+eval_kids-node-requires t c = let k = first_begins c.in-Some.ensures.cases.0 c.requires in k.0
+
+pub eval_kids-fill_rows-requires : goal.eval_kids-fill_rows-requires
+eval_kids-fill_rows-requires t c =
+    let type = node_type _ c.requires.ready.formed c.node.ensures.node in
+    kid_ends c.in-Some.ensures.cases.0 c.requires c.in_ok-eval.ensures type c.len-at.ensures
+
+pub eval_kids-eval_kids-requires : goal.eval_kids-eval_kids-requires
+eval_kids-eval_kids-requires t c =
+    let d = c.decreases in
+    let k = first_begins c.in-Some.ensures.cases.0 c.requires in
+    let w = k.0 in
+    let e = k.1 in
+    let type = node_type _ c.requires.ready.formed c.node.ensures.node in
+    let r = rest_begins c.in-Some.ensures.cases.0 c.requires c.in_ok-eval.ensures type c.len-at.ensures c.in_ok-fill_rows.ensures in
+    let l = r.0 in
+    (omega (arith, d, w, e, l), r.1)
+
+pub eval_kids-returns : goal.eval_kids-returns
+eval_kids-returns t c =
+    let type = node_type _ c.requires.ready.formed c.node.ensures.node in
+    kids_more c.in-Some.ensures.cases.0 c.requires c.in_ok-eval.ensures type c.len-at.ensures c.in_ok-fill_rows.ensures
+    c.in_ok-eval_kids.ensures
