@@ -20,8 +20,8 @@ use Rattle.scope_columns.specs.Scopes.{devices_in, types_in, vars_in}
 use Rattle.scope_columns.proofs.WordSteps.{below_then}
 use Rattle.alignment.specs.Environments.{near_numbers}
 use Rattle.device_firing.specs.declared.evaluation.Context.{Context}
-use Rattle.device_firing.specs.Contexts.{situation_in, ReadyFor, Evaluated}
-use Rattle.device_firing.specs.Kids.{kid_types, AreWithin, rows_for, words_of_all, StandIn, Applied, ReadyKids, EvaluatedKids}
+use Rattle.device_firing.specs.Contexts.{situation_in, ReadyFor, Evaluated, ReadyKids, EvaluatedKids}
+use Rattle.device_firing.specs.Kids.{kid_types, AreWithin, rows_for, words_of_all, StandIn, Applied}
 use Rattle.device_firing.proofs.ApplyAt.{apply_can, apply_may_each, apply_later, apply_done}
 use Rattle.device_firing.proofs.KidSteps.{types_are, row_within}
 use Rattle.device_firing.proofs.KindSteps.{node_here, evaluated_as}

@@ -110,7 +110,7 @@ applied_as {a} {b} {ceiling} {ts} {us} {t} {u} {devices} {own} {at} {old} {new} 
     (subst (λ x. Applied b ceiling x t devices own at old new) (sym f)
     (subst (λ x. Applied b ceiling us x devices own at old new) (sym g) h))
 
-module _ {ceiling devices own at : ℕ} {old new : List ℕ} (inside : own < devices) (before : (p : ℕ) → p < at → word_in new p ≡ word_in old p) where
+module _ (ceiling devices own at : ℕ) (old new : List ℕ) (inside : own < devices) (before : (p : ℕ) → p < at → word_in new p ≡ word_in old p) where
   -- the values of a field at the devices other than the firing one
   others_here : (u : LocalType) (device : ℕ) (ds : List ℕ) → length ds ≡ devices → Rises ds → device ≡ word_in ds own
       → others device (entries_in old u (length ds) at 0 ds) ≡ other_rows old u devices at own
@@ -247,13 +247,13 @@ row_arguments ws ds (TypeField t ∷ ts) (v ∷ vs) rows at i f h s =
     rw (first, rest) refl
 
 -- an operator gives a field where one of its arguments is one
-lifted_local : (b : Bool) (t : LocalType) {u : LocalType} → TypeLocal t ≡ lifted b u → b ≡ false
-lifted_local true t e = absurd cc
-lifted_local false t e = refl
+lifted_local : (b : Bool) (t u : LocalType) → TypeLocal t ≡ lifted b u → b ≡ false
+lifted_local true t u e = absurd cc
+lifted_local false t u e = refl
 
-lifted_field : (b : Bool) (t : LocalType) {u : LocalType} → TypeField t ≡ lifted b u → b ≡ true
-lifted_field true t e = refl
-lifted_field false t e = absurd cc
+lifted_field : (b : Bool) (t u : LocalType) → TypeField t ≡ lifted b u → b ≡ true
+lifted_field true t u e = refl
+lifted_field false t u e = absurd cc
 
 -- In each row the operator has its value: so the builtin has the value that stands there.
 operator_value : (o : Builtin) (ceiling device : ℕ) → is_hood o ≡ false → (ds : List ℕ) (ts : List ValueType) (vs : List AnyValue)
@@ -262,13 +262,13 @@ operator_value : (o : Builtin) (ceiling device : ℕ) → is_hood o ≡ false �
     → local_value o ceiling (arguments_nth i vs) ≡ Some (row_in ws (inner t) (rows_for t 1 (length ds)) at i))
     → builtin_value o ceiling device vs ≡ Some (value_in ws t ds at)
 operator_value o ceiling device plain ds ts vs fit r (TypeLocal t) u ws at e h =
-    operator_local o ceiling device plain ds ts vs fit (lifted_local (has_field ts) t e) (h 0 (omega arith))
+    operator_local o ceiling device plain ds ts vs fit (lifted_local (has_field ts) t u e) (h 0 (omega arith))
 operator_value o ceiling device plain ds ts vs fit r (TypeField t) u ws at e h =
-    operator_field o ceiling device plain ds ts vs fit ws t (length ds) at (lifted_field (has_field ts) t e) (rises_test ds r) h
+    operator_field o ceiling device plain ds ts vs fit ws t (length ds) at (lifted_field (has_field ts) t u e) (rises_test ds r) h
 
-module _ {o : Builtin} {ts : List ValueType} {t : ValueType} (l : Lifts o ts t) {devices rows : ℕ} (is_rows : rows ≡ rows_for t 1 devices) where
-  pub operator_takes : {u : LocalType} → u ≡ inner t → Takes o (inners ts) u
-  operator_takes {u} type =
+module _ {o : Builtin} {ts : List ValueType} {t : ValueType} (l : Lifts o ts t) (devices rows : ℕ) (is_rows : rows ≡ rows_for t 1 devices) where
+  pub operator_takes : (u : LocalType) → u ≡ inner t → Takes o (inners ts) u
+  operator_takes u type =
       let local : l.local ≡ u = sym (type ∙ ap inner l.value ∙ inner_lifted (has_field ts) l.local) in
       subst (Takes o (inners ts)) local l.takes
     where
@@ -286,11 +286,11 @@ module _ {o : Builtin} {ts : List ValueType} {t : ValueType} (l : Lifts o ts t) 
       some (TypeLocal u) = omega arith
       some (TypeField u) = h
 
-  pub operator_long : {count at : ℕ} → count ≡ at + words_of_all ts (rows_for t 1 devices) devices → count ≡ at + rows * leaves_of (inners ts)
-  operator_long {count} {at} long =
+  pub operator_long : (count at : ℕ) → count ≡ at + words_of_all ts (rows_for t 1 devices) devices → count ≡ at + rows * leaves_of (inners ts)
+  operator_long count at long =
       long ∙ ap (λ k. at + words_of_all ts k devices) (sym is_rows) ∙ ap (λ k. at + k) (all_words ts rows devices rows_over)
 
-  module _ {ceiling own at : ℕ} {old new : List ℕ} (plain : is_hood o ≡ false) (u : LocalType) (type : u ≡ inner t)
+  module _ (ceiling own at : ℕ) (old new : List ℕ) (plain : is_hood o ≡ false) (u : LocalType) (type : u ≡ inner t)
       (values : (i : ℕ) → i < rows → local_value o ceiling (arguments_in old (inners ts) rows at i) ≡ Some (row_in new u rows at i)) where
     row_value : (ds : List ℕ) (vs : List AnyValue) → length ds ≡ devices → StandIn old ds rows at ts vs → (i : ℕ) → i < rows_for t 1 (length ds)
         → local_value o ceiling (arguments_nth i vs) ≡ Some (row_in new (inner t) (rows_for t 1 (length ds)) at i)

@@ -1,13 +1,12 @@
 -- Values in columns: what is added by the evaluation of a builtin's arguments.
 use Rattle.std.proofs.Common.{◌≡◌, ℕ, ◌<◌, ◌≤◌, ◌+◌, ◌*◌, List, [], ◌∷◌, ◌++◌, length, refl, sym, ◌∙◌, ap, subst, arith, get_or}
 use Rattle.fc_values.specs.declared.exports.Slot.{Slot}
-use Rattle.fc_values.specs.Types.{LocalType, ValueType, TypeLocal, TypeField, leaves}
+use Rattle.fc_values.specs.Types.{ValueType, TypeLocal, TypeField, leaves}
 use Rattle.fc_values.specs.BuiltinTypes.{inner}
 use Rattle.fc_values.specs.Fields.{AnyValue, ValueLocal}
 use Rattle.fc_values.specs.Exports.{SlotValue, slots_of}
 use Rattle.fc_nodes.specs.declared.nodes.Node.{Node}
 use Rattle.fc_nodes.specs.Terms.{term_at, type_of as term_type}
-use Rattle.value_columns.specs.Columns.{row_in, local_in}
 use Rattle.value_columns.proofs.Standing.{row_stays}
 use Rattle.alignment.specs.Slots.{FlatEnv}
 use Rattle.device_eval.specs.Evaluation.{Situation, Vars}
@@ -20,46 +19,16 @@ use Rattle.scope_columns.specs.Scopes.{devices_in, vars_in, types_in}
 use Rattle.scope_columns.proofs.WordSteps.{below_then, value_stays}
 use Rattle.scope_columns.proofs.ScopeSteps.{vars_stay, below_more}
 use Rattle.device_firing.specs.declared.evaluation.Context.{Context}
-use Rattle.device_firing.specs.Contexts.{situation_in, ReadyIn, Evaluated}
-use Rattle.device_firing.specs.Kids.{kid_types, rows_for, words_of_all, StandsIn, StandIn, EndsWith, Filled, ReadyKids, EvaluatedKids}
+use Rattle.device_firing.specs.Contexts.{situation_in, ReadyIn, Evaluated, ReadyKids, EvaluatedKids}
+use Rattle.device_firing.specs.Kids.{kid_types, rows_for, words_of_all, StandsIn, StandIn, EndsWith, Filled}
 use Rattle.device_firing.specs.Places.{MayEach}
 use Rattle.device_firing.proofs.MaySteps.{may_value}
-
--- ---- a value that was the last of the words
 
 same_below : (n : ℕ) (ws : List ℕ) → SameBelow n ws ws
 same_below n ws = record { same = λ p h. refl }
 
 filled_as : {t u : ValueType} {rows at : ℕ} {old new : List ℕ} → t ≡ u → Filled u rows at old new → Filled t rows at old new
 filled_as {t} {u} {rows} {at} {old} {new} e f = subst (λ v. Filled v rows at old new) (sym e) f
-
-pub field_filled : {t : ValueType} {u : LocalType} (rows at : ℕ) (ws : List ℕ) → t ≡ TypeField u → Filled t rows at ws ws
-field_filled {t} {u} rows at ws e =
-    filled_as {u = TypeField u} e (record { kept = same_below at ws; long = λ n l. l; stands = λ ds. refl })
-
-pub one_filled : {t : ValueType} {u : LocalType} (rows at : ℕ) (ws : List ℕ) → t ≡ TypeLocal u → rows ≡ 1 → Filled t rows at ws ws
-one_filled {t} {u} rows at ws e one =
-    let size : rows * leaves u ≡ leaves u = ap (λ k. k * leaves u) one ∙ omega arith in
-    filled_as {u = TypeLocal u} e (record {
-      kept = same_below at ws;
-      long = λ n l. l ∙ ap (λ k. at + k) (sym size);
-      stands = λ ds i h.
-          let row : 0 ≡ i = omega (arith, h, one) in
-          ap (λ k. ValueLocal (row_in ws u k at 0)) (sym one) ∙ ap (λ k. ValueLocal (row_in ws u rows at k)) row;
-    })
-
-pub rows_filled : {t : ValueType} {u : LocalType} (rows at : ℕ) (old new : List ℕ) → t ≡ TypeLocal u
-    → ((p : ℕ) → p < at → get_or new p 0 ≡ get_or old p 0) → length new ≡ at + rows * leaves u
-    → ((i : ℕ) → i < rows → row_in new u rows at i ≡ local_in old u at) → Filled t rows at old new
-rows_filled {t} {u} rows at old new e before long values = filled_as {u = TypeLocal u} e (record {
-  kept = record { same = before };
-  long = λ n l. long;
-  stands = λ ds i h. ap ValueLocal (sym (values i h));
-})
-
--- the words of a local value
-pub ends_local : {t : ValueType} {u : LocalType} {at : ℕ} {ws : List ℕ} → EndsWith t at ws → t ≡ TypeLocal u → length ws ≡ at + leaves u
-ends_local {t} {u} {at} {ws} h e = h.long ∙ ap (λ v. at + words_for v h.devices) e
 
 -- ---- a value that stands below other words stays
 

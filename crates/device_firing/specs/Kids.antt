@@ -2,23 +2,14 @@
 -- local value stands in each of so many rows.
 use Rattle.std.specs.Prelude.{ℕ, ◌≡◌, ◌<◌, ◌+◌, ◌*◌, List, [], ◌∷◌, length, Some, slice_index_or}
 use Rattle.fc_values.specs.declared.builtins.Builtin.{Builtin}
-use Rattle.fc_values.specs.declared.exports.Slot.{Slot}
 use Rattle.fc_values.specs.Types.{ValueType, TypeLocal, TypeField, leaves}
 use Rattle.fc_values.specs.BuiltinTypes.{inner}
 use Rattle.fc_values.specs.Builtins.{builtin_value}
 use Rattle.fc_values.specs.Fields.{AnyValue, ValueLocal, ValueField, FitEachOver, Rises}
-use Rattle.fc_values.specs.Exports.{slots_of}
 use Rattle.fc_nodes.specs.declared.nodes.Node.{Node}
 use Rattle.fc_nodes.specs.Terms.{term_at, type_of}
 use Rattle.value_columns.specs.Columns.{row_in, entries_in}
-use Rattle.device_eval.specs.Rows.{DidEach, ReadyEach}
-use Rattle.scope_columns.specs.declared.scopes.Sight.{Sight}
-use Rattle.scope_columns.specs.References.{flat_of}
 use Rattle.scope_columns.specs.Words.{SameBelow, value_in, words_for}
-use Rattle.scope_columns.specs.Scopes.{devices_in, vars_in, types_in, Fits}
-use Rattle.device_firing.specs.declared.evaluation.Context.{Context}
-use Rattle.device_firing.specs.Contexts.{situation_in}
-use Rattle.device_firing.specs.Places.{MayEach}
 
 -- the types of the nodes at some places
 abbrev pub kid_types : List Node → List ℕ → List ValueType
@@ -72,23 +63,3 @@ pub record Applied (builtin : Builtin) (ceiling : ℕ) (ts : List ValueType) (t 
   pub value : (device : ℕ) (ds : List ℕ) (vs : List AnyValue) → length ds ≡ devices → Rises ds
       → device ≡ slice_index_or ds own 0 → FitEachOver ceiling ds ts vs
       → StandIn old ds (rows_for t 1 devices) at ts vs → builtin_value builtin ceiling device vs ≡ Some (value_in new t ds at)
-
--- places at which evaluation may begin, one after another
-pub record ReadyKids (c : Context) (ks : List ℕ) (s : Sight) (ws : List ℕ) (xs : List Slot) : Type 0 where
-  pub ready : ReadyEach (situation_in c) c.program.now.nodes c.layout.now ks (vars_in c.device ws s.vars.now)
-      (flat_of s.env.now) (slots_of xs)
-  pub may : MayEach c.program.now.declared (situation_in c) c.program.now.nodes (types_in s.vars.now) ks
-      (vars_in c.device ws s.vars.now) (flat_of s.env.now)
-  pub sees : Fits c.device (length ws) s
-
--- what it gives: their values stand behind the words, a local value in each of so many rows
-pub record EvaluatedKids (c : Context) (ks : List ℕ) (s : Sight) (rows : ℕ) (ws : List ℕ) (xs : List Slot)
-    (new : List ℕ) (ys : List Slot) : Type 0 where
-  pub values : List AnyValue
-  pub did : DidEach (situation_in c) c.program.now.nodes ks (vars_in c.device ws s.vars.now) (flat_of s.env.now)
-      (slots_of xs) [] values (slots_of ys)
-  pub fit : FitEachOver (situation_in c).ceiling (devices_in c.device s.env.now) (kid_types c.program.now.nodes ks) values
-  pub kept : SameBelow (length ws) ws new
-  pub long : length new
-      ≡ length ws + words_of_all (kid_types c.program.now.nodes ks) rows (length (devices_in c.device s.env.now))
-  pub stand : StandIn new (devices_in c.device s.env.now) rows (length ws) (kid_types c.program.now.nodes ks) values

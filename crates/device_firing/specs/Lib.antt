@@ -1,3 +1,3 @@
 pub mod Places
-pub mod Contexts
 pub mod Kids
+pub mod Contexts

@@ -4,8 +4,7 @@ ghost use Rattle.std.specs.Prelude.{◌≡◌, ◌<◌, ◌≤◌, IfOk, OnOk, I
 ghost use Rattle.fc_values.specs.Values.{local_of};
 ghost use Rattle.fc_nodes.specs.Terms.{OfApply, OfNbr, OfEvolve, ByRep, ByShare, OfIf, OfLet};
 ghost use Rattle.device_eval.specs.Evaluation.{pick};
-ghost use Rattle.device_firing.specs.Contexts.{ReadyIn, ReadyFor, Evaluated, EvaluatedBody};
-ghost use Rattle.device_firing.specs.Kids.{EvaluatedKids, ReadyKids};
+ghost use Rattle.device_firing.specs.Contexts.{ReadyIn, ReadyFor, Evaluated, EvaluatedBody, EvaluatedKids, ReadyKids};
 
 use crate::builtins::{apply_builtin, fill_rows, rows_of};
 use crate::drafts::Draft;

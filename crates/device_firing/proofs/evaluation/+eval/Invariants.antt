@@ -26,4 +26,5 @@ abbrev pub decreases-eval_apply : goal.decreases-eval_apply
 decreases-eval_apply l = 3 * (length l.context.now.program.now.nodes - l.place) + 1
 
 abbrev pub decreases-eval_kids : goal.decreases-eval_kids
-decreases-eval_kids l = 3 * (length l.context.now.program.now.nodes - get_or l.kids.now 0 (length l.context.now.program.now.nodes)) + 3
+decreases-eval_kids l =
+    3 * (length l.context.now.program.now.nodes - get_or l.kids.now 0 (length l.context.now.program.now.nodes)) + 3
