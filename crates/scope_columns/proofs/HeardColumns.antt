@@ -1,20 +1,18 @@
 -- The field of what the neighbours have in a slot, pushed leaf by leaf.
-use Rattle.std.proofs.Common.{◌≡◌, ℕ, zero, suc, ◌<◌, ◌≤◌, ◌+◌, ◌*◌, List, [], ◌∷◌, ◌++◌, length, map, take, drop, refl, sym, ◌∙◌, ap, subst, arith, get_or, Bool, true, false, nat_lt, ◌⊎◌, inl, inr}
+use Rattle.std.proofs.Common.{◌≡◌, ℕ, zero, suc, ◌<◌, ◌≤◌, ◌+◌, ◌*◌, List, [], ◌∷◌, ◌++◌, length, map, take, drop, refl, sym, ◌∙◌, ap, subst, arith, get_or, ◌⊎◌, inl, inr}
 use Rattle.std.proofs.lemmas.Nat.{mul-add-lt}
-use Rattle.std.proofs.lemmas.Bool.{ltb-true}
-use Rattle.std.proofs.lemmas.Bool.Decides.{nat_tests}
+use Rattle.std.proofs.lemmas.Bool.{cases_lt}
 use Rattle.fc_values.specs.Exports.{slot_at}
-use Rattle.std.proofs.lemmas.List.{get_or_append_left, get_or-append-add, length-append, length-map, append-nil}
+use Rattle.std.proofs.lemmas.List.{get_or_append_left, get_or-append-add, length-append, length-map}
 use Rattle.fc_values.specs.Types.{LocalType, TypeField, leaves}
 use Rattle.fc_values.specs.Values.{LocalValue, IntValue, form_of}
 use Rattle.fc_values.specs.Fields.{Entries, AnyValue, ValueField, device_of, devices, with_number}
 use Rattle.alignment.specs.Environments.{near_numbers}
 use Rattle.alignment.specs.Slots.{NearSlots, FlatEnv}
 use Rattle.alignment.specs.Hearing.{slot_entries, field_with}
-use Rattle.value_columns.specs.Columns.{word_in, row_in, local_in, entries_in}
-use Rattle.value_columns.proofs.Rows.{same_word, same_row}
-use Rattle.value_columns.specs.LocalWords.{words_of}
-use Rattle.value_columns.proofs.LocalReads.{reads_back}
+use Rattle.value_columns.specs.Columns.{word_in, row_in, entries_in}
+use Rattle.value_columns.proofs.Rows.{same_word}
+use Rattle.value_columns.proofs.LocalReads.{reads_row}
 use Rattle.scope_columns.specs.Words.{value_in, SameBelow, Added, AllForm, row_of, leaf_word, slot_column, values_in}
 use Rattle.device_eval.proofs.Sights.{devices_with}
 use Rattle.scope_columns.proofs.OwnRow.{with_row, entry_row, entries_are, value_nth, values_row, map_row, long_row}
@@ -47,28 +45,18 @@ one_column {old} {mid} {new} {vs} many h e =
     by_size : {m n : ℕ} → m ≡ length old + length vs * many → n ≡ length vs → m + n ≡ length old + length vs * (many + 1)
     by_size f g = omega (arith, f, g)
 
-    by_test : (t : Bool) (k : ℕ) → nat_lt k many ≡ t → k < many + 1 → (k < many) ⊎ (k ≡ many)
-    by_test true k e b = inl (ltb-true k many e)
-    by_test false k e b = inr (grind (arith, nat_tests))
-
     k_cases : (k : ℕ) → k < many + 1 → (k < many) ⊎ (k ≡ many)
-    k_cases k b = by_test (nat_lt k many) k refl b
+    k_cases k b = elim (cases_lt k many) [ inl h ↦ inl h | inr h ↦ inr (omega arith) ]
 
     by_column : (k i : ℕ) → k < many + 1 → i < length vs → (k < many) ⊎ (k ≡ many) → word_in new (length old + length vs * k + i) ≡ leaf_word k (get_or vs i (IntValue 0))
     by_column k i b c (inl f) =
         let l = h.long in
-        let inside : length vs * k + i < length vs * many = omega (arith, mul-add-lt k (length vs) i many c f) in
+        let inside : length vs * k + i < length vs * many = omega (arith, mul-add-lt k (length vs) i many f c) in
         ap (λ us. word_in us (length old + length vs * k + i)) e ∙ get_or_append_left mid (map (leaf_word many) vs) 0 (length old + length vs * k + i) (omega (arith, l, inside)) ∙ h.each k i f c
     by_column k i b c (inr f) =
         let l = h.long in
         let place : length old + length vs * k + i ≡ length mid + i = ap (λ j. length old + length vs * j + i) f ∙ omega (arith, l) in
         same_word new (length old + length vs * k + i) (length mid + i) place ∙ ap (λ us. word_in us (length mid + i)) e ∙ get_or-append-add mid (map (leaf_word many) vs) i 0 ∙ leaf_nth many vs i c ∙ ap (λ j. leaf_word j (get_or vs i (IntValue 0))) (sym f)
-
--- a row of whose value each leaf stands there
-row_reads : (t : LocalType) (v : LocalValue) (ws : List ℕ) (m at i : ℕ) → form_of v ≡ t → ((k : ℕ) → k < leaves t → word_in ws (at + m * k + i) ≡ leaf_word k v) → row_in ws t m at i ≡ v
-row_reads t v ws m at i f h =
-    same_row t ws (words_of v) m 1 at 0 i 0 (λ k b. h k b ∙ same_word (words_of v) k (0 + 1 * k + 0) (omega arith))
-    ∙ ap (λ u. local_in (words_of v) u 0) (sym f) ∙ reads_back v [] [] (words_of v) 0 (sym (append-nil (words_of v))) refl
 
 form_nth : (t : LocalType) (es : Entries) (i : ℕ) → AllForm t es → i < length es → form_of (get_or (values_in es) i (IntValue 0)) ≡ t
 form_nth t [] i h b = absurd (omega arith)
@@ -88,7 +76,7 @@ module _ (t : LocalType) (es : Entries) (ds : List ℕ) (over : devices es ≡ d
       let n = length (values_in es) in
       let rows : (i : ℕ) → i < length es → row_in new t n (length old) (0 + i) ≡ (get_or es i (0, IntValue 0)).1 = λ i b.
           let c : i < n = omega (arith, b, length-map es (λ (e : ℕ × LocalValue). e.1)) in
-          ap (row_in new t n (length old)) (omega arith) ∙ row_reads t (get_or (values_in es) i (IntValue 0)) new n (length old) i (form_nth t es i forms b) (λ k l. h.each k i l c) ∙ sym (value_nth es i b) in
+          ap (row_in new t n (length old)) (omega arith) ∙ reads_row (get_or (values_in es) i (IntValue 0)) t new n (length old) i (form_nth t es i forms b) (λ k l. h.each k i l c) ∙ sym (value_nth es i b) in
       ap ValueField (ap (λ m. entries_in new t m (length old) 0 ds) (sym same_long) ∙ ap (entries_in new t n (length old) 0) (sym over) ∙ entries_are new t n (length old) 0 es rows)
 
 -- the field of what the neighbours have in a slot

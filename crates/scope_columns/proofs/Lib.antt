@@ -4,4 +4,5 @@ pub mod OwnRow
 pub mod DeviceRows
 pub mod KeptRows
 pub mod VariableSteps
+pub mod ColumnParts
 pub mod HeardColumns

@@ -72,10 +72,10 @@ weights_long [] = refl
 weights_long (n ∷ ns) = ap suc (weights_long ns)
 
 module _ (d least row : ℕ) (ns : List NearSlots) (is_row : row ≡ row_of d (near_numbers ns)) where
-  abbrev links_field : Entries
+  abbrev pub links_field : Entries
   links_field = with_entry d (IntValue least) (weights ns)
 
-  abbrev links_words : List ℕ
+  abbrev pub links_words : List ℕ
   links_words = with_row row least (weights_of ns)
 
   links_values : values_in links_field ≡ map IntValue links_words

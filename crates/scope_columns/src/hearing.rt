@@ -78,10 +78,10 @@ fn push_column(
     ensures { IfOk result (λ _. words.new.items ≡ words.old.items
         ++ map (leaf_word leaf) (values_in (field_with slot device (local_of own.now) (flat_of sight.now.env.now)))) }
 {
-    let near = sight.env.near.as_slice();
-    push_slots(words, ty, &near[..sight.own], slot, leaf)?;
+    let (before, behind) = sight.env.near.as_slice().split_at(sight.own);
+    push_slots(words, ty, before, slot, leaf)?;
     words.push(leaf_at(own, leaf))?;
-    push_slots(words, ty, &near[sight.own..], slot, leaf)?;
+    push_slots(words, ty, behind, slot, leaf)?;
     Ok(())
 }
 

@@ -22,10 +22,10 @@ pub fn push_links(words: &mut Vec<u32>, sight: &Sight<'_, '_>, device: u32, leas
         value_in words.new.items (TypeField IntType) (devices_in device sight.now.env.now) (length words.old.items)
         ≡ ValueField (with_entry device (IntValue least) (weights (flat_of sight.now.env.now).near))) }
 {
-    let near = sight.env.near.as_slice();
-    push_weights(words, &near[..sight.own])?;
+    let (before, behind) = sight.env.near.as_slice().split_at(sight.own);
+    push_weights(words, before)?;
     words.push(least)?;
-    push_weights(words, &near[sight.own..])?;
+    push_weights(words, behind)?;
     Ok(())
 }
 
