@@ -1,12 +1,12 @@
 -- The field of what the neighbours have in a slot, pushed leaf by leaf.
-use Rattle.std.proofs.Common.{◌≡◌, ℕ, zero, suc, ◌<◌, ◌≤◌, ◌+◌, ◌*◌, List, [], ◌∷◌, ◌++◌, length, map, take, drop, refl, sym, ◌∙◌, ap, subst, arith, get_or, ◌⊎◌, inl, inr}
+use Rattle.std.proofs.Common.{◌≡◌, ℕ, zero, suc, ◌<◌, ◌+◌, ◌*◌, List, [], ◌∷◌, ◌++◌, length, map, refl, sym, ◌∙◌, ap, arith, get_or, ◌⊎◌, inl, inr}
 use Rattle.std.proofs.lemmas.Nat.{mul-add-lt}
 use Rattle.std.proofs.lemmas.Bool.{cases_lt}
 use Rattle.fc_values.specs.Exports.{slot_at}
 use Rattle.std.proofs.lemmas.List.{get_or_append_left, get_or-append-add, length-append, length-map}
 use Rattle.fc_values.specs.Types.{LocalType, TypeField, leaves}
 use Rattle.fc_values.specs.Values.{LocalValue, IntValue, form_of}
-use Rattle.fc_values.specs.Fields.{Entries, AnyValue, ValueField, device_of, devices, with_number}
+use Rattle.fc_values.specs.Fields.{Entries, ValueField, device_of, devices, with_number}
 use Rattle.alignment.specs.Environments.{near_numbers}
 use Rattle.alignment.specs.Slots.{NearSlots, FlatEnv}
 use Rattle.alignment.specs.Hearing.{slot_entries, field_with}
@@ -15,7 +15,7 @@ use Rattle.value_columns.proofs.Rows.{same_word}
 use Rattle.value_columns.proofs.LocalReads.{reads_row}
 use Rattle.scope_columns.specs.Words.{value_in, SameBelow, Added, AllForm, row_of, leaf_word, slot_column, values_in}
 use Rattle.device_eval.proofs.Sights.{devices_with}
-use Rattle.scope_columns.proofs.OwnRow.{with_row, entry_row, entries_are, value_nth, values_row, map_row, long_row}
+use Rattle.scope_columns.proofs.OwnRow.{with_row, entry_row, entries_are, value_nth, values_row, map_row}
 
 -- so many columns of some values were added
 pub record Columns (old : List ℕ) (vs : List LocalValue) (many : ℕ) (new : List ℕ) : Type 0 where

@@ -1,9 +1,9 @@
 -- A field with the device's own entry in its row.
-use Rattle.std.proofs.Common.{◌≡◌, ℕ, zero, suc, ◌<◌, ◌+◌, List, [], ◌∷◌, ◌++◌, length, map, take, drop, refl, sym, ◌∙◌, ap, subst, arith, Bool, true, false, nat_lt, get_or}
+use Rattle.std.proofs.Common.{◌≡◌, ℕ, zero, suc, ◌<◌, ◌+◌, List, [], ◌∷◌, ◌++◌, length, map, take, drop, refl, sym, ◌∙◌, ap, arith, Bool, true, false, nat_lt, get_or}
 use Rattle.std.proofs.lemmas.List.{get_or_append_left, get_or-append-add, length-append, length-map}
 use Rattle.fc_values.specs.Types.{LocalType, IntType, TypeField}
 use Rattle.fc_values.specs.Values.{LocalValue, IntValue}
-use Rattle.fc_values.specs.Fields.{Entries, AnyValue, ValueField, device_of, devices, with_entry, with_number}
+use Rattle.fc_values.specs.Fields.{Entries, ValueField, device_of, devices, with_entry, with_number}
 use Rattle.alignment.specs.Environments.{near_numbers}
 use Rattle.alignment.specs.Slots.{NearSlots}
 use Rattle.value_columns.specs.Columns.{word_in, row_in, entries_in}
@@ -72,10 +72,10 @@ weights_long [] = refl
 weights_long (n ∷ ns) = ap suc (weights_long ns)
 
 module _ (d least row : ℕ) (ns : List NearSlots) (is_row : row ≡ row_of d (near_numbers ns)) where
-  abbrev pub links_field : Entries
+  abbrev links_field : Entries
   links_field = with_entry d (IntValue least) (weights ns)
 
-  abbrev pub links_words : List ℕ
+  abbrev links_words : List ℕ
   links_words = with_row row least (weights_of ns)
 
   links_values : values_in links_field ≡ map IntValue links_words

@@ -1,7 +1,7 @@
-use Rattle.std.proofs.Common.{◌≡◌, ℕ, List, subst, arith}
+use Rattle.std.proofs.Common.{◌≡◌, ℕ, subst, arith}
 use Rattle.fc_values.specs.Fields.{Entries}
 use Rattle.fc_values.specs.Types.{LocalType, leaves, local_type_of}
-use Rattle.fc_values.specs.Values.{LocalValue, local_of}
+use Rattle.fc_values.specs.Values.{local_of}
 use Rattle.alignment.specs.Hearing.{field_with}
 use Rattle.scope_columns.specs.References.{flat_of}
 use Rattle.scope_columns.specs.Scopes.{devices_in}

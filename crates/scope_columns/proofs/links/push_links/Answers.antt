@@ -1,4 +1,4 @@
-use Rattle.std.proofs.Common.{◌≡◌, ◌≤◌, List, ◌++◌, length, sym, subst}
+use Rattle.std.proofs.Common.{◌≤◌, List, length, sym, subst}
 use Rattle.alignment.specs.Slots.{NearSlots}
 use Rattle.scope_columns.specs.declared.environments.NearRef.{NearRef}
 use Rattle.scope_columns.specs.References.{near_of, nears_of}
