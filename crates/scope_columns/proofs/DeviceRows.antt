@@ -1,18 +1,20 @@
 -- The devices in the rows of a field over a device and its aligned neighbours.
-use Rattle.std.proofs.Common.{◌≡◌, ℕ, zero, suc, ◌<◌, ◌≤◌, List, [], ◌∷◌, length, get_or, refl, ap, arith}
-use Rattle.std.proofs.Common.{Bool, true, false, nat_lt}
+use Rattle.std.proofs.Common.{◌≡◌, ℕ, zero, suc, ◌<◌, ◌≤◌, ◌+◌, List, [], ◌∷◌, length, get_or, refl, ap}
+use Rattle.std.proofs.Common.{arith, Bool, true, false, nat_lt}
 use Rattle.fc_values.specs.Fields.{with_number}
 use Rattle.alignment.specs.Environments.{near_numbers}
 use Rattle.scope_columns.specs.declared.environments.NearRef.{NearRef}
-use Rattle.scope_columns.specs.References.{nears_of}
+use Rattle.scope_columns.specs.declared.environments.Env.{Env}
+use Rattle.scope_columns.specs.References.{nears_of, numbers_in}
+use Rattle.scope_columns.specs.Scopes.{devices_in}
 use Rattle.scope_columns.specs.Words.{row_of}
 
--- a neighbour, as it is read
-pub number_nth : (ns : List NearRef) (i : ℕ) (n : NearRef) → i < length ns → n ≡ get_or ns i n
-    → n.device ≡ get_or (near_numbers (nears_of ns)) i 0
-number_nth [] i n h e = absurd (omega arith)
-number_nth (x ∷ xs) zero n h e = ap (λ (z : NearRef). z.device) e
-number_nth (x ∷ xs) (suc i) n h e = number_nth xs i n (omega arith) e
+-- the number of a neighbour, as it is read
+pub number_nth : (ns : List NearRef) (i : ℕ) (n : NearRef) → i < length ns
+    → (get_or ns i n).device ≡ get_or (near_numbers (nears_of ns)) i 0
+number_nth [] i n h = absurd (omega arith)
+number_nth (x ∷ xs) zero n h = refl
+number_nth (x ∷ xs) (suc i) n h = number_nth xs i n (omega arith)
 
 pub numbers_long : (ns : List NearRef) → length (near_numbers (nears_of ns)) ≡ length ns
 numbers_long [] = refl
@@ -28,6 +30,9 @@ module _ (d : ℕ) where
           → length (with_number d (n ∷ ns)) ≡ suc (suc (length ns))
       by_test true t h = rw t refl
       by_test false t h = rw t (ap suc h)
+
+  pub rows_many : (env : Env) {n : ℕ} → n ≡ length env.near.items → length (devices_in d env) ≡ n + 1
+  rows_many env {n} h = omega (arith, rows_long (numbers_in env), numbers_long env.near.items, h)
 
   -- the device's own row is one of them
   pub own_within : (ns : List ℕ) → row_of d ns ≤ length ns

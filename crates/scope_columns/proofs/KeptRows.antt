@@ -76,9 +76,9 @@ module _ (q : ℕ → Bool) where
           let l : suc j < suc (length (kept_rows q (i + 1) ds)) = rw t at h in rw t (f j (omega arith))
       by_test false t j h f = rw t (f j (rw t at h))
 
-  pub kept_within : {n : ℕ} {ks ds : List ℕ} → ks ≡ kept_rows q 0 ds → length ds ≤ n
+  pub kept_within : {n : ℕ} {ks : List ℕ} (ds : List ℕ) → ks ≡ kept_rows q 0 ds → length ds ≤ n
       → (j : ℕ) → j < length ks → word_in ks j < n
-  kept_within {n} {ks} {ds} e b =
+  kept_within {n} {ks} ds e b =
       subst (λ us. (j : ℕ) → j < length us → word_in us j < n) (sym e) (kept_below 0 n ds (omega (arith, b)))
 
   -- where as many devices stay as there are, all stay
@@ -112,7 +112,7 @@ module _ (q : ℕ → Bool) where
           absurd (omega (arith, l', s))
 
   -- the kept rows so far, with those that are still to come: one row more, and at the end
-  module _ {xs zs : List ℕ} (i : ℕ) (ds : List ℕ) (so_far : xs ++ kept_rows q i (drop i ds) ≡ zs) where
+  module _ (xs zs : List ℕ) (i : ℕ) (ds : List ℕ) (so_far : xs ++ kept_rows q i (drop i ds) ≡ zs) where
     pub row_kept : {d : ℕ} {ys : List ℕ} → i < length ds → d ≡ get_or ds i 0 → q d ≡ true → ys ≡ xs ++ (i ∷ [])
         → ys ++ kept_rows q (i + 1) (drop (i + 1) ds) ≡ zs
     row_kept {d} {ys} h e t f =

@@ -20,10 +20,10 @@ use Rattle.scope_columns.proofs.WordSteps.{value_moved}
 use Rattle.scope_columns.proofs.KeptRows.{chosen_rows, kept_long, all_kept}
 
 -- one word more that is added once more
-pub word_again : {ws mid new : List ℕ} {w : ℕ} (at i : ℕ) → at ≤ i → i < length ws
+pub word_again : (ws : List ℕ) {mid new : List ℕ} {w : ℕ} (at i : ℕ) → at ≤ i → i < length ws
     → mid ≡ ws ++ take (i - at) (drop at ws) → w ≡ word_in mid i → new ≡ mid ++ (w ∷ [])
     → new ≡ ws ++ take (i + 1 - at) (drop at ws)
-word_again {ws} {mid} {new} {w} at i low high so_far read e =
+word_again ws {mid} {new} {w} at i low high so_far read e =
     let behind = drop at ws in
     let many = i - at in
     let size : length behind ≡ length ws - at = length-drop at ws in
@@ -36,7 +36,7 @@ word_again {ws} {mid} {new} {w} at i low high so_far read e =
     ∙ ap (λ us. ws ++ us) (
       ap (λ u. take many behind ++ (u ∷ [])) word
       ∙ sym (take_more behind many 0 (omega (arith, size)))
-      ∙ ap (λ m. take m behind) (sym next),
+      ∙ ap (λ m. take m behind) (sym next)
     )
 
 -- words that were added once more

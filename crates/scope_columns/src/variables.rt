@@ -93,7 +93,7 @@ fn aligned_rows(
     let mut rows = SmallVec::new(alloc);
     for row in 0..env.near.len() + 1 {
         let other = device_in_row(env, own, device, row);
-        if other == device || is_near(&inner.near, other) {
+        if is_aligned(inner, device, other) {
             rows.push(row as u32)?;
         }
     }
@@ -114,6 +114,13 @@ fn device_in_row(env: &Env<'_>, own: usize, device: u32, row: usize) -> u32
     } else {
         near[row - 1].device
     }
+}
+
+// Whether a device is the given one, or one of its aligned neighbours.
+fn is_aligned(env: &Env<'_>, device: u32, other: u32) -> bool
+    ensures { result ≡ stays device (numbers_in env.now) other }
+{
+    other == device || is_near(&env.near, other)
 }
 
 // Whether a device is among the neighbours.

@@ -1,0 +1,49 @@
+use Rattle.std.proofs.Common.{◌≡◌, ℕ, suc, ◌<◌, ◌-◌, length, get_or, sym, ap, ◌∙◌, arith}
+use Rattle.scope_columns.specs.declared.environments.NearRef.{NearRef}
+use Rattle.scope_columns.specs.References.{numbers_in}
+use Rattle.scope_columns.specs.Scopes.{devices_in}
+use Rattle.scope_columns.proofs.DeviceRows.{number_nth, numbers_long, own_within, device_before, device_there, device_behind}
+use Rattle.scope_columns.proofs.variables.device_in_row.Goals as goal
+
+pub bounds-near-row : goal.bounds-near-row
+bounds-near-row c =
+    let own = own_within c.args.device (numbers_in c.args.env.now) in
+    let many = numbers_long c.args.env.now.near.items in
+    let same = ap length c.as_slice-near.ensures in
+    omega (arith, own, many, same, c.requires.own)
+
+pub bounds-near-row-then-row-own : goal.bounds-near-row-then-row-own
+bounds-near-row-then-row-own c =
+    let own = own_within c.args.device (numbers_in c.args.env.now) in
+    let many = numbers_long c.args.env.now.near.items in
+    let same = ap length c.as_slice-near.ensures in
+    omega (arith, own, many, same, c.requires.own)
+
+pub returns-then-row-own : goal.returns-then-row-own
+returns-then-row-own c =
+    let row : ℕ = c.args.row in
+    let near = c.args.env.now.near.items in
+    let ns = numbers_in c.args.env.now in
+    let own = own_within c.args.device ns in
+    let many = numbers_long near in
+    let inside : row < length near = omega (arith, own, many, c.requires.own) in
+    ap (λ xs. (get_or xs row c.index-near-row.result).device) c.as_slice-near.ensures
+    ∙ number_nth near row c.index-near-row.result inside
+    ∙ sym (device_before c.args.device ns row (omega (arith, c.requires.own)))
+
+pub returns-then-row-own-2 : goal.returns-then-row-own-2
+returns-then-row-own-2 c =
+    sym (device_there c.args.device (numbers_in c.args.env.now))
+    ∙ ap (λ i. get_or (devices_in c.args.device c.args.env.now) i 0) (sym c.requires.own ∙ sym c.if-row-own-2.true)
+
+pub returns-else-row-own-2 : goal.returns-else-row-own-2
+returns-else-row-own-2 c =
+    let row : ℕ = c.args.row in
+    let i : ℕ = row - 1 in
+    let near = c.args.env.now.near.items in
+    let ns = numbers_in c.args.env.now in
+    let next : suc i ≡ row = omega arith in
+    ap (λ xs. (get_or xs i c.index-near-row-else-row-own-2.result).device) c.as_slice-near.ensures
+    ∙ number_nth near i c.index-near-row-else-row-own-2.result (omega (arith, c.requires.within))
+    ∙ sym (device_behind c.args.device ns i (omega (arith, c.requires.own)))
+    ∙ ap (λ j. get_or (devices_in c.args.device c.args.env.now) j 0) next
