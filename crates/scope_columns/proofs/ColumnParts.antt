@@ -17,17 +17,21 @@ use Rattle.scope_columns.proofs.OwnRow.{with_row}
 -- a column of some rows, with one more word between those before a row and those behind
 pub row_between : {A B : Type 0} (g : A → B) (f : B → ℕ) (k x : ℕ) (xs : List A) (old : List ℕ)
     {all before behind : List A} {low own high : List ℕ} → all ≡ xs → before ≡ take k all → behind ≡ drop k all
-    → low ≡ old ++ map f (map g before) → own ≡ low ++ x ∷ [] → high ≡ own ++ map f (map g behind) → high ≡ old ++ with_row k x (map f (map g xs))
+    → low ≡ old ++ map f (map g before) → own ≡ low ++ x ∷ [] → high ≡ own ++ map f (map g behind)
+    → high ≡ old ++ with_row k x (map f (map g xs))
 row_between g f k x xs old {all} {before} {behind} {low} {own} {high} e p q l o h =
     let column : List ℕ = map f (map g xs) in
     let front : map f (map g before) ≡ take k column =
-        ap (λ ys. map f (map g ys)) (p ∙ ap (take k) e) ∙ sym (take-map f k (map g xs) ∙ ap (map f) (take-map g k xs)) in
+        ap (λ ys. map f (map g ys)) (p ∙ ap (take k) e)
+        ∙ sym (take-map f k (map g xs) ∙ ap (map f) (take-map g k xs)) in
     let back : map f (map g behind) ≡ drop k column =
-        ap (λ ys. map f (map g ys)) (q ∙ ap (drop k) e) ∙ sym (drop-map f k (map g xs) ∙ ap (map f) (drop-map g k xs)) in
+        ap (λ ys. map f (map g ys)) (q ∙ ap (drop k) e)
+        ∙ sym (drop-map f k (map g xs) ∙ ap (map f) (drop-map g k xs)) in
     let first : low ≡ old ++ take k column = l ∙ ap (λ ws. old ++ ws) front in
     let with : own ≡ (old ++ take k column) ++ x ∷ [] = o ∙ ap (λ ws. ws ++ x ∷ []) first in
     h ∙ ap (λ ws. own ++ ws) back ∙ ap (λ ws. ws ++ drop k column) with
-    ∙ append_assoc (old ++ take k column) (x ∷ []) (drop k column) ∙ append_assoc old (take k column) (x ∷ drop k column)
+    ∙ append_assoc (old ++ take k column) (x ∷ []) (drop k column)
+    ∙ append_assoc old (take k column) (x ∷ drop k column)
 
 -- the device's own row is one of the rows
 pub row_within : (d : ℕ) (ns : List ℕ) → row_of d ns ≤ length ns
@@ -75,12 +79,14 @@ forms_dropped t slot zero xs h = h
 forms_dropped t slot (suc k) [] h = tt
 forms_dropped t slot (suc k) (x ∷ xs) h = forms_dropped t slot k xs h.1
 
-pub forms_before : (t : LocalType) (slot k : ℕ) (xs : List NearRef) {all before : List NearRef} → all ≡ xs → before ≡ take k all
+pub forms_before : (t : LocalType) (slot k : ℕ) (xs : List NearRef) {all before : List NearRef} → all ≡ xs
+    → before ≡ take k all
     → AllForm t (slot_entries slot (nears_of xs)) → AllForm t (slot_entries slot (nears_of before))
 forms_before t slot k xs e p h =
     subst (λ ys. AllForm t (slot_entries slot (nears_of ys))) (sym (p ∙ ap (take k) e)) (forms_taken t slot k xs h)
 
-pub forms_behind : (t : LocalType) (slot k : ℕ) (xs : List NearRef) {all behind : List NearRef} → all ≡ xs → behind ≡ drop k all
+pub forms_behind : (t : LocalType) (slot k : ℕ) (xs : List NearRef) {all behind : List NearRef} → all ≡ xs
+    → behind ≡ drop k all
     → AllForm t (slot_entries slot (nears_of xs)) → AllForm t (slot_entries slot (nears_of behind))
 forms_behind t slot k xs e p h =
     subst (λ ys. AllForm t (slot_entries slot (nears_of ys))) (sym (p ∙ ap (drop k) e)) (forms_dropped t slot k xs h)

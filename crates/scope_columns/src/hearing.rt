@@ -47,7 +47,8 @@ pub fn push_heard(
     requires width { leaves (local_type_of ty.now) ≤ usize.MAX }
     requires near { NearHave slot (flat_of sight.now.env.now).near }
     requires row { sight.now.own ≡ row_of device (numbers_in sight.now.env.now) }
-    requires forms { AllForm (local_type_of ty.now) (field_with slot device (local_of own.now) (flat_of sight.now.env.now)) }
+    requires forms { AllForm (local_type_of ty.now)
+        (field_with slot device (local_of own.now) (flat_of sight.now.env.now)) }
     ensures added { OnOk result (Added (TypeField (local_type_of ty.now)) (devices_in device sight.now.env.now)
         words.old.items words.new.items) }
     ensures value { IfOk result (λ _. value_in words.new.items (TypeField (local_type_of ty.now))
@@ -74,7 +75,8 @@ fn push_column(
     requires leaf { leaf < leaves (local_type_of ty.now) }
     requires near { NearHave slot (flat_of sight.now.env.now).near }
     requires row { sight.now.own ≡ row_of device (numbers_in sight.now.env.now) }
-    requires forms { AllForm (local_type_of ty.now) (field_with slot device (local_of own.now) (flat_of sight.now.env.now)) }
+    requires forms { AllForm (local_type_of ty.now)
+        (field_with slot device (local_of own.now) (flat_of sight.now.env.now)) }
     ensures { IfOk result (λ _. words.new.items ≡ words.old.items
         ++ map (leaf_word leaf) (values_in (field_with slot device (local_of own.now) (flat_of sight.now.env.now)))) }
 {

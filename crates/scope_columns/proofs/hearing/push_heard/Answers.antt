@@ -6,7 +6,8 @@ use Rattle.alignment.specs.Hearing.{field_with}
 use Rattle.scope_columns.specs.References.{flat_of}
 use Rattle.scope_columns.specs.Scopes.{devices_in}
 use Rattle.scope_columns.specs.Words.{values_in}
-use Rattle.scope_columns.proofs.HeardColumns.{Columns, no_columns, one_column, columns_added, columns_value, heard_devices}
+use Rattle.scope_columns.proofs.HeardColumns.{Columns, no_columns, one_column, columns_added, columns_value}
+use Rattle.scope_columns.proofs.HeardColumns.{heard_devices}
 use Rattle.scope_columns.proofs.hearing.push_heard.Goals as goal
 use Rattle.scope_columns.proofs.hearing.push_heard.Goals.{After-loop-leaf}
 

@@ -10,5 +10,6 @@ abbrev pub invariant-loop-n : goal.invariant-loop-n
 invariant-loop-n l = record {
   have : NearHave l.slot (nears_of (drop l.n-index l.near));
   forms : AllForm (local_type_of l.ty) (slot_entries l.slot (nears_of (drop l.n-index l.near)));
-  so_far : l.words.items ++ slot_column l.leaf l.slot (nears_of (drop l.n-index l.near)) ≡ l.initial.words.items ++ slot_column l.leaf l.slot (nears_of l.near);
+  so_far : l.words.items ++ slot_column l.leaf l.slot (nears_of (drop l.n-index l.near))
+      ≡ l.initial.words.items ++ slot_column l.leaf l.slot (nears_of l.near);
 }

@@ -10,4 +10,5 @@ returns c =
     let xs = c.args.slots.now in
     let read = c.index-slots-slot in
     let e = slot_read xs c.args.slot read.result read.is (slots_long xs c.args.slot c.requires) in
-    subst (λ (z : Slot). local_of z.value ≡ (slot_at c.args.slot (slots_of xs)).1) read.is (ap (λ (z : SlotValue). z.1) (sym e))
+    subst (λ (z : Slot). local_of z.value ≡ (slot_at c.args.slot (slots_of xs)).1) read.is
+    (ap (λ (z : SlotValue). z.1) (sym e))
