@@ -22,11 +22,11 @@ pub row_between : {A B : Type 0} (g : A → B) (f : B → ℕ) (k x : ℕ) (xs :
 row_between g f k x xs old {all} {before} {behind} {low} {own} {high} e p q l o h =
     let column : List ℕ = map f (map g xs) in
     let front : map f (map g before) ≡ take k column =
-        ap (λ ys. map f (map g ys)) (p ∙ ap (take k) e)
-        ∙ sym (take-map f k (map g xs) ∙ ap (map f) (take-map g k xs)) in
+    ap (λ ys. map f (map g ys)) (p ∙ ap (take k) e)
+    ∙ sym (take-map f k (map g xs) ∙ ap (map f) (take-map g k xs)) in
     let back : map f (map g behind) ≡ drop k column =
-        ap (λ ys. map f (map g ys)) (q ∙ ap (drop k) e)
-        ∙ sym (drop-map f k (map g xs) ∙ ap (map f) (drop-map g k xs)) in
+    ap (λ ys. map f (map g ys)) (q ∙ ap (drop k) e)
+    ∙ sym (drop-map f k (map g xs) ∙ ap (map f) (drop-map g k xs)) in
     let first : low ≡ old ++ take k column = l ∙ ap (λ ws. old ++ ws) front in
     let with : own ≡ (old ++ take k column) ++ x ∷ [] = o ∙ ap (λ ws. ws ++ x ∷ []) first in
     h ∙ ap (λ ws. own ++ ws) back ∙ ap (λ ws. ws ++ drop k column) with

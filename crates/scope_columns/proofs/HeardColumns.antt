@@ -71,7 +71,7 @@ one_column {old} {mid} {new} {vs} many h e =
     by_column k i b c (inr f) =
         let l = h.long in
         let place : length old + length vs * k + i ≡ length mid + i =
-            ap (λ j. length old + length vs * j + i) f ∙ omega (arith, l) in
+        ap (λ j. length old + length vs * j + i) f ∙ omega (arith, l) in
         same_word new (length old + length vs * k + i) (length mid + i) place
         ∙ ap (λ us. word_in us (length mid + i)) e ∙ get_or-append-add mid (map (leaf_word many) vs) i 0
         ∙ leaf_nth many vs i c ∙ ap (λ j. leaf_word j (get_or vs i (IntValue 0))) (sym f)
@@ -95,11 +95,11 @@ module _ (t : LocalType) (es : Entries) (ds : List ℕ) (over : devices es ≡ d
   columns_value =
       let n = length (values_in es) in
       let rows : (i : ℕ) → i < length es
-          → row_in new t n (length old) (0 + i) ≡ (get_or es i (0, IntValue 0)).1 = λ i b.
-          let c : i < n = omega (arith, b, length-map es (λ (e : ℕ × LocalValue). e.1)) in
-          ap (row_in new t n (length old)) (omega arith)
-          ∙ reads_row (get_or (values_in es) i (IntValue 0)) t new n (length old) i (form_nth t es i forms b)
-          (λ k l. h.each k i l c) ∙ sym (value_nth es i b) in
+      → row_in new t n (length old) (0 + i) ≡ (get_or es i (0, IntValue 0)).1 = λ i b.
+      let c : i < n = omega (arith, b, length-map es (λ (e : ℕ × LocalValue). e.1)) in
+      ap (row_in new t n (length old)) (omega arith)
+      ∙ reads_row (get_or (values_in es) i (IntValue 0)) t new n (length old) i (form_nth t es i forms b)
+      (λ k l. h.each k i l c) ∙ sym (value_nth es i b) in
       ap ValueField (ap (λ m. entries_in new t m (length old) 0 ds) (sym same_long)
       ∙ ap (entries_in new t n (length old) 0) (sym over) ∙ entries_are new t n (length old) 0 es rows)
 

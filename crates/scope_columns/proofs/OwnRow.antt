@@ -32,7 +32,7 @@ entries_are ws t n at j [] h = refl
 entries_are ws t n at j (e ∷ es) h =
     let first : row_in ws t n at j ≡ e.1 = ap (row_in ws t n at) (omega arith) ∙ h 0 (omega arith) in
     let rest = entries_are ws t n at (j + 1) es
-        (λ i l. ap (row_in ws t n at) (omega arith) ∙ h (suc i) (omega arith)) in
+    (λ i l. ap (row_in ws t n at) (omega arith) ∙ h (suc i) (omega arith)) in
     rw (first, rest) refl
 
 pub value_nth : (es : Entries) (i : ℕ) → i < length es
@@ -108,14 +108,14 @@ module _ (d least row : ℕ) (ns : List NearSlots) (is_row : row ≡ row_of d (n
     links_word n i h =
         let inside : i < length links_words = omega (arith, h, links_long) in
         let word : word_in new (length old + (0 + i)) ≡ get_or links_words i 0 =
-            ap (λ k. word_in new (length old + k)) (omega arith) ∙ ap (λ us. word_in us (length old + i)) e ∙ get_or-append-add old links_words i 0 in
+        ap (λ k. word_in new (length old + k)) (omega arith) ∙ ap (λ us. word_in us (length old + i)) e ∙ get_or-append-add old links_words i 0 in
         ap IntValue word ∙ sym (int_nth links_words i inside) ∙ ap (λ vs. get_or vs i (IntValue 0)) (sym links_values)
         ∙ sym (value_nth links_field i h)
 
     pub links_added : Added (TypeField IntType) (with_number d (near_numbers ns)) old new
     links_added =
         let size : length links_words ≡ length (with_number d (near_numbers ns)) =
-            links_long ∙ sym (length-map links_field device_of) ∙ ap length links_devices in
+        links_long ∙ sym (length-map links_field device_of) ∙ ap length links_devices in
         record {
           kept = record { same = λ p h. ap (λ us. word_in us p) e ∙ get_or_append_left old links_words 0 p h };
           long = ap length e ∙ length-append old links_words ∙ ap (λ k. length old + k) (size ∙ omega arith);

@@ -14,7 +14,12 @@ use crate::scopes::Sight;
 use fc_values::Memory;
 
 /// Adds the weights of the links, and the least weight at the device itself.
-pub fn push_links(words: &mut Vec<u32>, sight: &Sight<'_, '_>, device: u32, least: u32) -> Result<(), Memory>
+pub fn push_links(
+    words: &mut Vec<u32>,
+    sight: &Sight<'_, '_>,
+    device: u32,
+    least: u32,
+) -> Result<(), Memory>
     requires { sight.now.own ≡ row_of device (numbers_in sight.now.env.now) }
     ensures added { OnOk result (Added (TypeField IntType) (devices_in device sight.now.env.now) words.old.items
         words.new.items) }
