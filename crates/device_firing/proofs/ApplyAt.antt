@@ -70,12 +70,12 @@ module _ (ns : List Node) (ab : AllAbove ns) where
         let en = env_child i (Apply t o all) x k0 k (from_here i x xs k f) env in
         rw (en, ih, tx, ← e) refl
 
-    may_row : {D : Declarations} {scope : Scope} (xs : Terms) (q i k : ℕ) → AllLaid ns q xs → k ≡ kept_before ns q → From i xs k → MayAll D S scope q i xs (near_numbers env.near) vars (env_at (Apply t o all) k0 env) → MayEach D S ns scope (places q xs) vars env
-    may_row NoMore q i k l e f m = tt
-    may_row {D} {scope} (More x xs) q i k l e f m =
+    may_row : (D : Declarations) (scope : Scope) (xs : Terms) (q i k : ℕ) → AllLaid ns q xs → k ≡ kept_before ns q → From i xs k → MayAll D S scope q i xs (near_numbers env.near) vars (env_at (Apply t o all) k0 env) → MayEach D S ns scope (places q xs) vars env
+    may_row D scope NoMore q i k l e f m = tt
+    may_row D scope (More x xs) q i k l e f m =
         let tx = laid_term ns ab x q l.0 in
         let s = kept_size ns x q (q + size x) l.0 refl in
-        let rest = may_row xs (q + size x) (suc i) (k + kept x) l.1 (omega (arith, e, s)) (from_rest i x xs k f) m.1 in
+        let rest = may_row D scope xs (q + size x) (suc i) (k + kept x) l.1 (omega (arith, e, s)) (from_rest i x xs k f) m.1 in
         let en = env_child i (Apply t o all) x k0 k (from_here i x xs k f) env in
         (may_at env refl (sym tx) e (subst (λ n. May D S scope q x (near_numbers env.near) vars n) en m.0), rest)
 
@@ -145,7 +145,7 @@ module _ {S : Situation} {ns : List Node} {lay : LayoutValue} {p : ℕ} {o : Bui
   pub apply_may_each : {D : Declarations} {scope : Scope} → MayAt D S ns scope p vars env → {qs : List ℕ} → qs ≡ ks → MayEach D S ns scope qs vars env
   apply_may_each {D} {scope} may {qs} e =
       let here' : May D S scope p (Apply t o all) (near_numbers env.near) vars (env_at (Apply t o all) (kept_before ns p) env) = subst (λ u. May D S scope p u (near_numbers env.near) vars (env_at u (kept_before ns p) env)) term_is may in
-      let each = may_row ns ab S t o all (kept_before ns p) vars env all (suc p) 0 (kept_before ns p) kids_laid slot_next (λ j zs. let e' : 0 + j ≡ j = omega arith in ap (λ n. nth_tree n (trees_at all (kept_before ns p) zs)) e') (may_apply here') in
+      let each = may_row ns ab S t o all (kept_before ns p) vars env D scope all (suc p) 0 (kept_before ns p) kids_laid slot_next (λ j zs. let e' : 0 + j ≡ j = omega arith in ap (λ n. nth_tree n (trees_at all (kept_before ns p) zs)) e') (may_apply here') in
       subst (λ js. MayEach D S ns scope js vars env) (sym (e ∙ kids_are)) each
 
   pub apply_can : {qs : List ℕ} → qs ≡ ks → ReadyEach S ns lay qs vars env xs

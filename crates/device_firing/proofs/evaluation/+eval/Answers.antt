@@ -1,4 +1,4 @@
-use Rattle.std.proofs.Common.{◌∙◌, ℕ, List, [], ◌∷◌, arith, ap, sym, refl, get_or, false, true, not, nat_eq}
+use Rattle.std.proofs.Common.{◌≡◌, ◌∙◌, ◌+◌, ℕ, List, length, [], ◌∷◌, arith, ap, sym, refl, get_or, false, true, not, nat_eq}
 use Rattle.fc_values.proofs.SlotReads.{slots_long}
 use Rattle.device_eval.specs.Evaluation.{pick}
 use Rattle.device_eval.proofs.Steps.{ready_at, kid_is}
@@ -427,15 +427,21 @@ pub eval_apply-apply_builtin-requires-clause-kids : goal.eval_apply-apply_builti
 eval_apply-apply_builtin-requires-clause-kids t c = apply_within c.requires
 
 pub eval_apply-apply_builtin-requires-clause-own : goal.eval_apply-apply_builtin-requires-clause-own
-eval_apply-apply_builtin-requires-clause-own t c = apply_own c.requires c.len.ensures
+eval_apply-apply_builtin-requires-clause-own t c =
+    let many : c.len-devices.result + 1 ≡ length c.args.sight.now.env.now.near.items + 1 = omega (arith, c.len-devices.ensures) in
+    apply_own c.requires many
 
 pub eval_apply-apply_builtin-requires-clause-length : goal.eval_apply-apply_builtin-requires-clause-length
 eval_apply-apply_builtin-requires-clause-length t c =
-    apply_long c.requires c.len.ensures c.rows_of-rows.ensures c.len-at.ensures c.deref.ensures.value c.in_ok-eval_kids.ensures
+    let at : c.len-at.result ≡ length c.args.words.now.items = omega (arith, c.len-at.ensures, c.args.words.now.ok.0) in
+    let many : c.len-devices.result + 1 ≡ length c.args.sight.now.env.now.near.items + 1 = omega (arith, c.len-devices.ensures) in
+    apply_long c.requires many c.rows_of-rows.ensures at c.deref.ensures.value c.in_ok-eval_kids.ensures
 
 pub eval_apply-returns : goal.eval_apply-returns
 eval_apply-returns t c =
-    apply_evaluated c.requires c.len.ensures c.rows_of-rows.ensures c.len-at.ensures c.deref.ensures.value
+    let at : c.len-at.result ≡ length c.args.words.now.items = omega (arith, c.len-at.ensures, c.args.words.now.ok.0) in
+    let many : c.len-devices.result + 1 ≡ length c.args.sight.now.env.now.near.items + 1 = omega (arith, c.len-devices.ensures) in
+    apply_evaluated c.requires many c.rows_of-rows.ensures at c.deref.ensures.value
     c.in_ok-eval_kids.ensures c.apply_builtin.ensures
 
 pub eval_kids-returns-in_default : goal.eval_kids-returns-in_default
@@ -455,7 +461,8 @@ eval_kids-node-requires t c = let k = first_begins c.in-Some.ensures.cases.0 c.r
 pub eval_kids-fill_rows-requires : goal.eval_kids-fill_rows-requires
 eval_kids-fill_rows-requires t c =
     let type = node_type _ c.requires.ready.formed c.node.ensures.node in
-    kid_ends c.in-Some.ensures.cases.0 c.requires c.in_ok-eval.ensures type c.len-at.ensures
+    let at : c.len-at.result ≡ length c.args.words.now.items = omega (arith, c.len-at.ensures, c.args.words.now.ok.0) in
+    kid_ends c.in-Some.ensures.cases.0 c.requires c.in_ok-eval.ensures type at
 
 pub eval_kids-eval_kids-requires : goal.eval_kids-eval_kids-requires
 eval_kids-eval_kids-requires t c =
@@ -464,12 +471,14 @@ eval_kids-eval_kids-requires t c =
     let w = k.0 in
     let e = k.1 in
     let type = node_type _ c.requires.ready.formed c.node.ensures.node in
-    let r = rest_begins c.in-Some.ensures.cases.0 c.requires c.in_ok-eval.ensures type c.len-at.ensures c.in_ok-fill_rows.ensures in
+    let at : c.len-at.result ≡ length c.args.words.now.items = omega (arith, c.len-at.ensures, c.args.words.now.ok.0) in
+    let r = rest_begins c.in-Some.ensures.cases.0 c.requires c.in_ok-eval.ensures type at c.in_ok-fill_rows.ensures in
     let l = r.0 in
     (omega (arith, d, w, e, l), r.1)
 
 pub eval_kids-returns : goal.eval_kids-returns
 eval_kids-returns t c =
     let type = node_type _ c.requires.ready.formed c.node.ensures.node in
-    kids_more c.in-Some.ensures.cases.0 c.requires c.in_ok-eval.ensures type c.len-at.ensures c.in_ok-fill_rows.ensures
+    let at : c.len-at.result ≡ length c.args.words.now.items = omega (arith, c.len-at.ensures, c.args.words.now.ok.0) in
+    kids_more c.in-Some.ensures.cases.0 c.requires c.in_ok-eval.ensures type at c.in_ok-fill_rows.ensures
     c.in_ok-eval_kids.ensures
