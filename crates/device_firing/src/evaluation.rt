@@ -70,7 +70,6 @@ pub fn eval(
 }
 
 #[cycle(eval)]
-#[tactic(none)]
 fn eval_apply(
     alloc: Global,
     words: &mut Vec<u32>,
@@ -94,7 +93,6 @@ fn eval_apply(
 
 // Evaluates nodes one after another: their values stand behind the words, a local value in each of so many rows.
 #[cycle(eval)]
-#[tactic(none)]
 fn eval_kids(
     alloc: Global,
     words: &mut Vec<u32>,
