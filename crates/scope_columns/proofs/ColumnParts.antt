@@ -1,8 +1,7 @@
 -- A column that is added in parts: the words before the device's own row, its own word, and the words behind.
 use Rattle.std.proofs.Common.{◌≡◌, ℕ, zero, suc, ◌≤◌, List, [], ◌∷◌, ◌++◌, length, map, take, drop, sym, ◌∙◌, ap}
 use Rattle.std.proofs.Common.{refl, subst, arith, Bool, true, false, nat_lt, append_assoc}
-use Rattle.std.proofs.lemmas.Bool.{cond_both}
-use Rattle.std.proofs.lemmas.List.{take-map, drop-map, length-map}
+use Rattle.std.proofs.lemmas.List.{take-map, drop-map}
 use Rattle.fc_values.specs.Types.{LocalType}
 use Rattle.fc_values.specs.Values.{LocalValue, form_of}
 use Rattle.fc_values.specs.Fields.{Entries, with_entry}
@@ -12,6 +11,7 @@ use Rattle.alignment.specs.Slots.{NearHave}
 use Rattle.scope_columns.specs.declared.environments.NearRef.{NearRef}
 use Rattle.scope_columns.specs.References.{nears_of}
 use Rattle.scope_columns.specs.Words.{AllForm, row_of}
+use Rattle.scope_columns.proofs.DeviceRows.{numbers_long, own_within}
 use Rattle.scope_columns.proofs.OwnRow.{with_row}
 
 -- a column of some rows, with one more word between those before a row and those behind
@@ -33,18 +33,11 @@ row_between g f k x xs old {all} {before} {behind} {low} {own} {high} e p q l o 
     ∙ append_assoc (old ++ take k column) (x ∷ []) (drop k column)
     ∙ append_assoc old (take k column) (x ∷ drop k column)
 
--- the device's own row is one of the rows
-pub row_within : (d : ℕ) (ns : List ℕ) → row_of d ns ≤ length ns
-row_within d [] = omega arith
-row_within d (n ∷ ns) =
-    cond_both (nat_lt d n) 0 (suc (row_of d ns)) (λ k. k ≤ suc (length ns)) (λ e. omega arith)
-    (λ e. omega (arith, row_within d ns))
-
-pub own_within : {own : ℕ} (d : ℕ) (xs : List NearRef) → own ≡ row_of d (near_numbers (nears_of xs)) → own ≤ length xs
-own_within {own} d xs e = omega (arith, e, row_within d (near_numbers (nears_of xs)), near_long)
-  where
-    near_long : length (near_numbers (nears_of xs)) ≡ length xs
-    near_long = length-map (nears_of xs) _ ∙ length-map xs _
+-- neighbours can be parted at the device's own row
+pub parts_at : (d own : ℕ) (xs : List NearRef) {all : List NearRef} → all ≡ xs
+    → own ≡ row_of d (near_numbers (nears_of xs)) → own ≤ length all
+parts_at d own xs e h =
+    omega (arith, ap length e, h, own_within d (near_numbers (nears_of xs)), numbers_long xs)
 
 -- what holds of all neighbours holds of those before a row, and of those behind
 have_taken : (slot k : ℕ) (xs : List NearRef) → NearHave slot (nears_of xs) → NearHave slot (nears_of (take k xs))

@@ -1,21 +1,19 @@
-use Rattle.std.proofs.Common.{◌≡◌, ℕ, ◌≤◌, List, [], ◌∷◌, ◌++◌, length, sym, ◌∙◌, ap, subst, arith}
+use Rattle.std.proofs.Common.{◌≡◌, ℕ, [], ◌∷◌, ◌++◌, sym, ◌∙◌, ap, subst, arith}
 use Rattle.fc_values.specs.Exports.{slot_at}
 use Rattle.fc_values.specs.Types.{leaves, local_type_of}
 use Rattle.fc_values.specs.Values.{local_of}
 use Rattle.alignment.specs.Hearing.{slot_entries}
 use Rattle.alignment.specs.Slots.{NearSlots}
-use Rattle.scope_columns.specs.declared.environments.NearRef.{NearRef}
 use Rattle.scope_columns.specs.References.{flat_of, near_of, nears_of}
 use Rattle.scope_columns.specs.Words.{leaf_word}
 use Rattle.scope_columns.proofs.ColumnParts.{forms_apart, forms_before, forms_behind, have_before, have_behind}
-use Rattle.scope_columns.proofs.ColumnParts.{own_within, row_between}
+use Rattle.scope_columns.proofs.ColumnParts.{parts_at, row_between}
 use Rattle.scope_columns.proofs.HeardColumns.{heard_leaves}
 use Rattle.scope_columns.proofs.hearing.push_column.Goals as goal
 
 pub split_at-requires : goal.split_at-requires
 split_at-requires c =
-    subst (λ (ns : List NearRef). c.args.sight.now.own ≤ length ns) (sym c.as_slice.ensures)
-    (own_within c.args.device c.args.sight.now.env.now.near.items c.requires.row)
+    parts_at c.args.device c.args.sight.now.own c.args.sight.now.env.now.near.items c.as_slice.ensures c.requires.row
 
 pub push_slots-requires-clause-near : goal.push_slots-requires-clause-near
 push_slots-requires-clause-near c =

@@ -1,15 +1,12 @@
-use Rattle.std.proofs.Common.{◌≤◌, List, length, sym, subst}
 use Rattle.alignment.specs.Slots.{NearSlots}
-use Rattle.scope_columns.specs.declared.environments.NearRef.{NearRef}
 use Rattle.scope_columns.specs.References.{near_of, nears_of}
-use Rattle.scope_columns.proofs.ColumnParts.{own_within, row_between}
+use Rattle.scope_columns.proofs.ColumnParts.{parts_at, row_between}
 use Rattle.scope_columns.proofs.OwnRow.{links_added, links_value}
 use Rattle.scope_columns.proofs.links.push_links.Goals as goal
 
 pub split_at-requires : goal.split_at-requires
 split_at-requires c =
-    subst (λ (ns : List NearRef). c.args.sight.now.own ≤ length ns) (sym c.as_slice.ensures)
-    (own_within c.args.device c.args.sight.now.env.now.near.items c.requires)
+    parts_at c.args.device c.args.sight.now.own c.args.sight.now.env.now.near.items c.as_slice.ensures c.requires
 
 pub returns : goal.returns
 returns c =
