@@ -83,6 +83,10 @@ module _ {c : Context} {p : ℕ} {s : Sight} {ws : List ℕ} {xs : List Slot} wh
         subst (λ u. DidAt (situation_in c) c.program.now.nodes p (vars_in c.device ws s.vars.now) (flat_of s.env.now) (slots_of xs) (value_in new u ds (length ws)) (slots_of ys)) e h.did,
       )
 
+-- a binder whose place and type are known in another way
+pub heads_at : {p at to : ℕ} (ws ds : List ℕ) {vs : Vars} {t u : ValueType} → t ≡ u → at ≡ to → ((p, value_in ws t ds at) ∷ vs) ≡ ((p, value_in ws u ds to) ∷ vs)
+heads_at {p} {at} {to} ws ds {vs} {t} {u} e f = ap (λ v. (p, value_in ws v ds at) ∷ vs) e ∙ ap (λ k. (p, value_in ws u ds k) ∷ vs) f
+
 -- The body of a binder whose value was added behind the words may be evaluated.
 pub begin_body : {c : Context} {p q at : ℕ} {s s' : Sight} {ws mid : List ℕ} {ys : List Slot} {T : ValueType} (f : Bool) (u : LocalType) →
     Ready (situation_in c) c.program.now.nodes c.layout.now q ((p, value_in mid T (devices_in c.device s.env.now) (length ws)) ∷ vars_in c.device ws s.vars.now) (flat_of s'.env.now) (slots_of ys) →
