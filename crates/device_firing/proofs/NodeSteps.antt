@@ -108,7 +108,9 @@ module _ {c : Context} {p : ℕ} {s : Sight} {n : Node} {v : Evolution} {ws : Li
         start_allowed =
             subst (λ t. MayAt c.program.now.declared (situation_in c) c.program.now.nodes ((p, evolving_type v t) ∷ types_in s.vars.now) q' ((p, started_value) ∷ vars_in c.device ws s.vars.now) (flat_of s.env.now)) (sym type) (start_may start_is)
 
-        module _ {s' : Sight} {new : List ℕ} {zs : List Slot} (body : EvaluatedBody c q' at s' start ys new zs) (heads : vars_in c.device start s'.vars.now ≡ (p, started_value) ∷ vars_in c.device start s.vars.now) (sees : flat_of s'.env.now ≡ flat_of s.env.now) (over : devices_in c.device s'.env.now ≡ devices_in c.device s.env.now) where
+        module _ {s' : Sight} {new : List ℕ} {zs : List Slot} (body : EvaluatedBody c q' at s' start ys new zs)
+            (heads : vars_in c.device start s'.vars.now ≡ (p, value_in start (evolving_type v u) (devices_in c.device s.env.now) at) ∷ vars_in c.device start s.vars.now)
+            (sees : flat_of s'.env.now ≡ flat_of s.env.now) (over : devices_in c.device s'.env.now ≡ devices_in c.device s.env.now) where
           body_added : Added (TypeLocal u) (devices_in c.device s.env.now) (take at start) new
           body_added =
               let types = evolve_types (node_here r) r.here.may e e' in
@@ -128,7 +130,8 @@ module _ {c : Context} {p : ℕ} {s : Sight} {n : Node} {v : Evolution} {ws : Li
           body_did =
               let stay = vars_stay c.device (length ws) ws start s.vars.now r.here.sees.below start_over.kept in
               subst (λ f. DidAt (situation_in c) c.program.now.nodes q' ((p, started_value) ∷ vars_in c.device ws s.vars.now) f (slots_of ys) body_value (slots_of zs)) sees
-              (subst (λ vs. DidAt (situation_in c) c.program.now.nodes q' vs (flat_of s'.env.now) (slots_of ys) body_value (slots_of zs)) (heads ∙ ap (λ vs. (p, started_value) ∷ vs) stay) body.did)
+              (subst (λ vs. DidAt (situation_in c) c.program.now.nodes q' vs (flat_of s'.env.now) (slots_of ys) body_value (slots_of zs)) (heads ∙ ap (λ i. (p, value_in start (evolving_type v u) (devices_in c.device s.env.now) i) ∷ vars_in c.device start s.vars.now) place
+              ∙ ap (λ vs. (p, started_value) ∷ vs) stay) body.did)
 
           pub body_within : at + 1 * leaves u ≤ length new
           body_within =

@@ -25,7 +25,6 @@ pub struct Context<'a> {
 
 /// Evaluates a node: its value behind the words, and its slots in the draft.
 #[cycle(eval)]
-#[tactic(none)]
 pub fn eval(
     alloc: Global,
     words: &mut Vec<u32>,
@@ -117,7 +116,6 @@ fn eval_kids(
 }
 
 #[cycle(eval)]
-#[tactic(none)]
 fn eval_nbr(
     alloc: Global,
     words: &mut Vec<u32>,
@@ -142,7 +140,6 @@ fn eval_nbr(
 }
 
 #[cycle(eval)]
-#[tactic(none)]
 fn eval_rep(
     alloc: Global,
     words: &mut Vec<u32>,
@@ -186,7 +183,6 @@ fn eval_rep(
 }
 
 #[cycle(eval)]
-#[tactic(none)]
 fn eval_share(
     alloc: Global,
     words: &mut Vec<u32>,
@@ -230,7 +226,6 @@ fn eval_share(
 }
 
 #[cycle(eval)]
-#[tactic(none)]
 fn eval_let(
     alloc: Global,
     words: &mut Vec<u32>,
@@ -269,7 +264,6 @@ fn eval_let(
 
 // Evaluates the body of a binder whose value stands from a place on as the last of the words, and takes that value out.
 #[cycle(eval)]
-#[tactic(none)]
 fn eval_body(
     alloc: Global,
     words: &mut Vec<u32>,
@@ -291,7 +285,6 @@ fn eval_body(
 }
 
 #[cycle(eval)]
-#[tactic(none)]
 fn eval_if(
     alloc: Global,
     words: &mut Vec<u32>,

@@ -86,7 +86,7 @@ eval_let-eval-requires t c =
     let r = let_value (node_here c.requires) c.index-start.ensures in
     let m = r.0 in
     let w = c.requires.here.ready.stands.within in
-    (omega (arith, d, m, w), (r.2; may = let_may_value (node_here c.requires) c.requires.here.may c.index-start.ensures; sees = c.requires.here.sees })
+    (omega (arith, d, m, w), record { ready = r.2; may = let_may_value (node_here c.requires) c.requires.here.may c.index-start.ensures; sees = c.requires.here.sees })
 
 pub eval_let-node-bound-requires : goal.eval_let-node-bound-requires
 eval_let-node-bound-requires t c =
@@ -108,7 +108,7 @@ eval_let-eval_body-requires t c =
     let w = c.requires.here.ready.stands.within in
     let type = node_type _ c.requires.here.ready.stands.formed c.node-bound.ensures.node in
     let l = c.in_ok-eval.ensures.added.long in
-        (omega (arith, d, m, w), record { ready = begin_body _ _ r.2 (let_allowed c.requires c.index-start.ensures c.index-next.ensures c.in_ok-eval.ensures) c.requires.here.sees c.in_ok-eval.ensures.added
+    (omega (arith, d, m, w), (begin_body _ _ r.2 (let_allowed c.requires c.index-start.ensures c.index-next.ensures c.in_ok-eval.ensures) c.requires.here.sees c.in_ok-eval.ensures.added
     (bound_type c.is_field.ensures c.inner.ensures ∙ sym type) place refl refl (λ b o. (b, o)) c.requires.here.sees.own, omega (arith, l, place)))
 
 pub eval_let-returns : goal.eval_let-returns
@@ -134,7 +134,7 @@ eval_nbr-eval-requires t c =
     let r = nbr_kid (node_here c.requires) c.index.ensures in
     let m = r.0 in
     let w = c.requires.here.ready.stands.within in
-    (omega (arith, d, m, w), (r.2; may = nbr_may (node_here c.requires) c.requires.here.may c.index.ensures; sees = c.requires.here.sees })
+    (omega (arith, d, m, w), record { ready = r.2; may = nbr_may (node_here c.requires) c.requires.here.may c.index.ensures; sees = c.requires.here.sees })
 
 pub eval_nbr-value_at-requires-clause-within : goal.eval_nbr-value_at-requires-clause-within
 eval_nbr-value_at-requires-clause-within t c =
@@ -269,7 +269,7 @@ eval_rep-eval_body-requires t c =
     let w = r.here.ready.stands.within in
     let o = start_over r e e' done type place first number cut a.0 a.1 in
     let l = o.long in
-        (omega (arith, d, m, w), record { ready = begin_body _ _ s.2 (start_allowed r e e' done type place first number cut a.0 a.1) r.here.sees (start_over r e e' done type place first number cut a.0 a.1) refl place refl refl (λ b o. (b, o)) r.here.sees.own, omega (arith, l, place)))
+    (omega (arith, d, m, w), (begin_body false _ s.2 (start_allowed r e e' done type place first number cut a.0 a.1) r.here.sees (start_over r e e' done type place first number cut a.0 a.1) refl place refl refl (λ b o. (b, o)) r.here.sees.own, omega (arith, l, place)))
 
 pub eval_rep-value_at-requires-2-clause-within : goal.eval_rep-value_at-requires-2-clause-within
 eval_rep-value_at-requires-2-clause-within t c =
@@ -331,7 +331,7 @@ eval_share-eval-requires t c =
     let r = evolve_a (node_here c.requires) c.index-start.ensures in
     let m = r.0 in
     let w = c.requires.here.ready.stands.within in
-    (omega (arith, d, m, w), (r.2; may = evolve_may_first (node_here c.requires) c.requires.here.may c.index-start.ensures; sees = c.requires.here.sees })
+    (omega (arith, d, m, w), record { ready = r.2; may = evolve_may_first (node_here c.requires) c.requires.here.may c.index-start.ensures; sees = c.requires.here.sees })
 
 pub eval_share-value_at-requires-clause-within : goal.eval_share-value_at-requires-clause-within
 eval_share-value_at-requires-clause-within t c =
@@ -369,7 +369,7 @@ eval_share-eval_body-requires t c =
     let w = r.here.ready.stands.within in
     let o = start_over r e e' done type place first number cut a.0 a.1 in
     let l = o.long in
-        (omega (arith, d, m, w), record { ready = begin_body _ _ s.2 (start_allowed r e e' done type place first number cut a.0 a.1) r.here.sees (start_over r e e' done type place first number cut a.0 a.1) refl place refl refl (λ b o. (b, o)) r.here.sees.own, omega (arith, l, place)))
+    (omega (arith, d, m, w), (begin_body true _ s.2 (start_allowed r e e' done type place first number cut a.0 a.1) r.here.sees (start_over r e e' done type place first number cut a.0 a.1) refl place refl refl (λ b o. (b, o)) r.here.sees.own, omega (arith, l, place)))
 
 pub eval_share-value_at-requires-2-clause-within : goal.eval_share-value_at-requires-2-clause-within
 eval_share-value_at-requires-2-clause-within t c =
