@@ -49,7 +49,7 @@ module _ (q : ℕ → Bool) where
   rows_are f vs t m to j (d ∷ ds) (k ∷ ks) e h =
       let first : row_in vs t m to j ≡ f k = ap (row_in vs t m to) (omega arith) ∙ h 0 (omega arith) in
       let rest = rows_are f vs t m to (j + 1) ds ks (omega (arith, e))
-          (λ i l. ap (row_in vs t m to) (omega arith) ∙ h (suc i) (omega arith)) in
+      (λ i l. ap (row_in vs t m to) (omega arith) ∙ h (suc i) (omega arith)) in
       rw (first, rest) refl
 
   -- rows that were chosen hold the restricted field

@@ -1,14 +1,13 @@
--- The binders in scope while words are added.
-use Rattle.std.proofs.Common.{◌≡◌, ℕ, ◌≤◌, ◌+◌, List, [], ◌∷◌, length, refl, sym, ◌∙◌, ap, subst, arith}
-use Rattle.std.proofs.Common.{Bool, true, false}
+-- Crates above cite this module: the binders in scope while words are added.
+use Rattle.std.proofs.Common.{◌≡◌, ℕ, ◌≤◌, List, ◌∷◌, refl, ◌∙◌, ap, arith}
+use Rattle.std.proofs.Common.{Bool}
 use Rattle.fc_values.specs.Types.{LocalType, ValueType, TypeLocal, TypeField}
 use Rattle.fc_values.specs.BuiltinTypes.{lifted, inner, is_field}
-use Rattle.fc_values.specs.Fields.{AnyValue}
 use Rattle.scope_columns.specs.declared.scopes.Scope.{Scope}
 use Rattle.scope_columns.specs.declared.scopes.Scope.TheVariants as scope
-use Rattle.device_eval.specs.Evaluation.{Situation, Vars}
-use Rattle.scope_columns.specs.Words.{words_for, value_in, SameBelow, Added, row_of}
-use Rattle.scope_columns.specs.Scopes.{devices_in, binder_type, binder_words, vars_in, types_in, StandBelow, Fits}
+use Rattle.device_eval.specs.Evaluation.{Vars}
+use Rattle.scope_columns.specs.Words.{value_in, SameBelow}
+use Rattle.scope_columns.specs.Scopes.{devices_in, binder_type, vars_in, StandBelow}
 use Rattle.scope_columns.proofs.WordSteps.{value_stays}
 
 -- a type, from its local type and whether it is one of fields

@@ -1,12 +1,12 @@
 -- A variable that is added behind the words.
 use Rattle.std.proofs.Common.{◌≡◌, ℕ, ◌<◌, ◌≤◌, ◌+◌, ◌-◌, ◌*◌, List, [], ◌∷◌, ◌++◌, length, take, drop}
-use Rattle.std.proofs.Common.{refl, sym, ◌∙◌, ap, subst, arith, Bool, true, false, Some}
-use Rattle.std.specs.Prelude.{filter, nat_eq, ◌||◌}
+use Rattle.std.proofs.Common.{sym, ◌∙◌, ap, subst, arith, true, false, Some}
+use Rattle.std.specs.Prelude.{filter}
 use Rattle.std.proofs.lemmas.List.{get_or_append_left, get_or-append-add, get_or-take, get_or-drop}
 use Rattle.std.proofs.lemmas.List.{take_more, append_assoc, length-append, length-take-le, length-drop}
 use Rattle.fc_values.specs.Types.{LocalType, ValueType, TypeLocal, TypeField, local_type_of, leaves}
 use Rattle.fc_values.specs.BuiltinTypes.{lifted}
-use Rattle.fc_values.specs.Fields.{AnyValue, ValueField, restricted, with_number}
+use Rattle.fc_values.specs.Fields.{ValueField, restricted, with_number}
 use Rattle.fc_nodes.specs.Typing.{type_at}
 use Rattle.scope_columns.specs.References.{numbers_in}
 use Rattle.value_columns.specs.Columns.{word_in, row_in, entries_in}
@@ -34,9 +34,9 @@ word_again ws {mid} {new} {w} at i low high so_far read e =
     ∙ ap (word_in ws) (sym place) ∙ sym (get_or-drop at ws many 0) in
     e ∙ ap (λ us. us ++ (w ∷ [])) so_far ∙ append_assoc ws (take many behind) (w ∷ [])
     ∙ ap (λ us. ws ++ us) (
-      ap (λ u. take many behind ++ (u ∷ [])) word
-      ∙ sym (take_more behind many 0 (omega (arith, size)))
-      ∙ ap (λ m. take m behind) (sym next)
+    ap (λ u. take many behind ++ (u ∷ [])) word
+    ∙ sym (take_more behind many 0 (omega (arith, size)))
+    ∙ ap (λ m. take m behind) (sym next)
     )
 
 -- words that were added once more
@@ -52,8 +52,8 @@ copied {ws} {new} t ds at many m h e =
         long = ap length e ∙ length-append ws again ∙ ap (λ k. length ws + k) (size ∙ m);
       },
       value_moved t ds new ws (length ws) at (λ p l.
-      ap (λ us. word_in us (length ws + p)) e ∙ get_or-append-add ws again p 0
-      ∙ get_or-take many (drop at ws) p 0 (omega (arith, l, m)) ∙ get_or-drop at ws p 0),
+          ap (λ us. word_in us (length ws + p)) e ∙ get_or-append-add ws again p 0
+          ∙ get_or-take many (drop at ws) p 0 (omega (arith, l, m)) ∙ get_or-drop at ws p 0),
     )
 
 -- what is known of a binder, by whether its value is a field
@@ -134,11 +134,11 @@ module _ (d : ℕ) (ns ds : List ℕ) (t : LocalType) (aligned : filter (stays d
       let es = with_number d ns in
       let many : length kept ≡ length es = ap length k ∙ kept_long (stays d ns) 0 ds ∙ ap length aligned in
       let rows : (i : ℕ) → i < length (kept_rows (stays d ns) 0 ds) → row_in new t (length kept) (length ws) i
-          ≡ row_in ws t (length ds) at (word_in (kept_rows (stays d ns) 0 ds) i) =
-          subst (λ ks. (i : ℕ) → i < length ks
-          → row_in new t (length kept) (length ws) i ≡ row_in ws t (length ds) at (word_in ks i)) k h in
+      ≡ row_in ws t (length ds) at (word_in (kept_rows (stays d ns) 0 ds) i) =
+      subst (λ ks. (i : ℕ) → i < length ks
+      → row_in new t (length kept) (length ws) i ≡ row_in ws t (length ds) at (word_in ks i)) k h in
       let is = chosen_rows (stays d ns) ws new t (length ds) at (length kept) (length ws) ds rows in (
         record { kept = s; long = l ∙ ap (λ m. length ws + m * leaves t) many },
         ap ValueField (ap (λ m. entries_in new t m (length ws) 0 es) (sym many)
-        ∙ ap (entries_in new t (length kept) (length ws) 0) (sym aligned) ∙ is),
+            ∙ ap (entries_in new t (length kept) (length ws) 0) (sym aligned) ∙ is),
       )

@@ -1,11 +1,12 @@
--- A value among words depends on its own words alone: it stays where words are added, and moves down with a gap.
+-- Crates above cite this module: a value among words depends on its own words alone. It stays where words are added,
+-- and moves down with a gap.
 use Rattle.std.proofs.Common.{◌≡◌, ℕ, ◌<◌, ◌≤◌, ◌+◌, ◌*◌, List, [], ◌∷◌, ◌++◌, length, take, drop, refl, sym, ◌∙◌}
-use Rattle.std.proofs.Common.{ap, subst, arith}
+use Rattle.std.proofs.Common.{ap, arith}
 use Rattle.std.proofs.lemmas.Nat.{mul-add-lt}
 use Rattle.std.proofs.lemmas.List.{get_or_append_left, get_or-append-add, get_or-take, get_or-drop}
 use Rattle.std.proofs.lemmas.List.{length-take-le, length-append, length-drop}
 use Rattle.fc_values.specs.Types.{LocalType, ValueType, TypeLocal, TypeField, leaves}
-use Rattle.fc_values.specs.Fields.{AnyValue, ValueLocal, ValueField, devices}
+use Rattle.fc_values.specs.Fields.{ValueLocal, ValueField, devices}
 use Rattle.value_columns.specs.Columns.{word_in, row_in, entries_in}
 use Rattle.value_columns.proofs.Rows.{same_word, same_row}
 use Rattle.scope_columns.specs.Words.{words_for, value_in, SameBelow, Added}

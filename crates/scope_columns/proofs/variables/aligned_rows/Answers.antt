@@ -18,10 +18,10 @@ loop-row-preserved c =
     let inside : row < length ds = omega (arith, rows) in
     let tested = c.is_aligned.ensures in
     elim c.if-is_aligned.branch [
-      then-is_aligned+in_ok-push w ↦ row_kept q c.loop-row.rows.items zs row ds c.loop-row.invariant inside
+      | then-is_aligned+in_ok-push w ↦ row_kept q c.loop-row.rows.items zs row ds c.loop-row.invariant inside
           c.device_in_row-other.ensures (sym tested ∙ w.if-is_aligned.true)
           (ap (λ v. v.items) w.rows-is ∙ w.in_ok-push.ensures.ok)
-    | else-is_aligned w ↦ ap (λ v. v.items ++ kept_rows q (row + 1) (drop (row + 1) ds)) w.rows-is
+      | else-is_aligned w ↦ ap (λ v. v.items ++ kept_rows q (row + 1) (drop (row + 1) ds)) w.rows-is
           ∙ row_left q c.loop-row.rows.items zs row ds c.loop-row.invariant inside
           c.device_in_row-other.ensures (sym tested ∙ w.if-is_aligned.false)
     ]

@@ -1,4 +1,4 @@
-use Rattle.std.proofs.Common.{◌≡◌, ℕ, ◌+◌, ◌*◌, ◌<◌, ◌≤◌, length, sym, ap, ◌∙◌, arith}
+use Rattle.std.proofs.Common.{◌≡◌, ℕ, ◌+◌, ◌*◌, length, sym, ap, ◌∙◌, arith}
 use Rattle.fc_values.specs.Types.{leaves, local_type_of}
 use Rattle.value_columns.specs.Columns.{row_in, word_in}
 use Rattle.value_columns.proofs.Standing.{leaves_below}
@@ -46,14 +46,15 @@ returns-then-rows-len c =
     let now = rows_many d c.args.sight.now.env.now c.len.ensures.value in
     let long = field_long (c.len-rows.result + 1) c.width.result (length ds) (leaves t) rows c.width.ensures in
     let same = same_field d (numbers_in c.args.sight.now.env.now) ds t c.requires.aligned c.args.bound.now.at
-        (omega (arith, rows, now)) long (omega (arith, long, c.requires.within)) c.in_ok-push_words.ensures in
+    (omega (arith, rows, now)) long (omega (arith, long, c.requires.within)) c.in_ok-push_words.ensures in
     record { added = same.0; value = same.1 }
 
 pub choose_rows-requires-clause-below : goal.choose_rows-requires-clause-below
 choose_rows-requires-clause-below c =
     let rows = rows_many c.args.device c.args.bound.now.env.now c.len-rows.ensures.value in
     kept_within (stays c.args.device (numbers_in c.args.sight.now.env.now))
-    (devices_in c.args.device c.args.bound.now.env.now) (c.as_slice.ensures ∙ c.in_ok-kept.ensures) (omega (arith, rows))
+    (devices_in c.args.device c.args.bound.now.env.now) (c.as_slice.ensures ∙ c.in_ok-kept.ensures)
+    (omega (arith, rows))
 
 pub choose_rows-requires-clause-within : goal.choose_rows-requires-clause-within
 choose_rows-requires-clause-within c =
@@ -72,6 +73,6 @@ returns c =
     let rows = rows_many d c.args.bound.now.env.now c.len-rows.ensures.value in
     let chosen = c.in_ok-choose_rows.ensures in
     let field = chosen_field d (numbers_in c.args.sight.now.env.now) ds t c.requires.aligned at
-        (c.as_slice.ensures ∙ c.in_ok-kept.ensures) (record { same = chosen.stay }) chosen.long
-        (λ j h. chosen.chosen j h ∙ ap (λ n. row_in ws t n at (word_in kept j)) (sym rows)) in
+    (c.as_slice.ensures ∙ c.in_ok-kept.ensures) (record { same = chosen.stay }) chosen.long
+    (λ j h. chosen.chosen j h ∙ ap (λ n. row_in ws t n at (word_in kept j)) (sym rows)) in
     record { added = field.0; value = field.1 }

@@ -1,4 +1,4 @@
-use Rattle.std.proofs.Common.{ℕ, length, arith}
+use Rattle.std.proofs.Common.{length, arith}
 use Rattle.scope_columns.specs.References.{numbers_in}
 use Rattle.scope_columns.specs.Scopes.{devices_in}
 use Rattle.scope_columns.proofs.VariableSteps.{local_words, field_words, field_aligned, local_variable, field_variable}
