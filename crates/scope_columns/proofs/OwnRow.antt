@@ -108,7 +108,8 @@ module _ (d least row : ℕ) (ns : List NearSlots) (is_row : row ≡ row_of d (n
     links_word n i h =
         let inside : i < length links_words = omega (arith, h, links_long) in
         let word : word_in new (length old + (0 + i)) ≡ get_or links_words i 0 =
-        ap (λ k. word_in new (length old + k)) (omega arith) ∙ ap (λ us. word_in us (length old + i)) e ∙ get_or-append-add old links_words i 0 in
+        ap (λ k. word_in new (length old + k)) (omega arith) ∙ ap (λ us. word_in us (length old + i)) e
+        ∙ get_or-append-add old links_words i 0 in
         ap IntValue word ∙ sym (int_nth links_words i inside) ∙ ap (λ vs. get_or vs i (IntValue 0)) (sym links_values)
         ∙ sym (value_nth links_field i h)
 

@@ -1,32 +1,27 @@
-use Rattle.std.proofs.Common.{◌≡◌, ℕ, suc, ◌<◌, ◌-◌, length, get_or, sym, ap, ◌∙◌, arith}
-use Rattle.scope_columns.specs.declared.environments.NearRef.{NearRef}
+use Rattle.std.proofs.Common.{◌≡◌, ℕ, suc, ◌<◌, ◌-◌, length, get_or, refl, sym, ap, ◌∙◌, arith}
 use Rattle.scope_columns.specs.References.{numbers_in}
 use Rattle.scope_columns.specs.Scopes.{devices_in}
-use Rattle.scope_columns.proofs.DeviceRows.{number_nth, numbers_long, own_within, device_before, device_there, device_behind}
+use Rattle.scope_columns.proofs.ColumnParts.{parts_at}
+use Rattle.scope_columns.proofs.DeviceRows.{number_nth, device_before, device_there, device_behind}
 use Rattle.scope_columns.proofs.variables.device_in_row.Goals as goal
 
 pub bounds-near-row : goal.bounds-near-row
 bounds-near-row c =
-    let own = own_within c.args.device (numbers_in c.args.env.now) in
-    let many = numbers_long c.args.env.now.near.items in
-    let same = ap length c.as_slice-near.ensures in
-    omega (arith, own, many, same, c.requires.own)
+    let own = parts_at c.args.device c.args.own c.args.env.now.near.items c.as_slice-near.ensures c.requires.own in
+    omega (arith, own)
 
 pub bounds-near-row-then-row-own : goal.bounds-near-row-then-row-own
 bounds-near-row-then-row-own c =
-    let own = own_within c.args.device (numbers_in c.args.env.now) in
-    let many = numbers_long c.args.env.now.near.items in
-    let same = ap length c.as_slice-near.ensures in
-    omega (arith, own, many, same, c.requires.own)
+    let own = parts_at c.args.device c.args.own c.args.env.now.near.items c.as_slice-near.ensures c.requires.own in
+    omega (arith, own)
 
 pub returns-then-row-own : goal.returns-then-row-own
 returns-then-row-own c =
     let row : ℕ = c.args.row in
     let near = c.args.env.now.near.items in
     let ns = numbers_in c.args.env.now in
-    let own = own_within c.args.device ns in
-    let many = numbers_long near in
-    let inside : row < length near = omega (arith, own, many, c.requires.own) in
+    let own = parts_at c.args.device c.args.own near refl c.requires.own in
+    let inside : row < length near = omega (arith, own) in
     ap (λ xs. (get_or xs row c.index-near-row.result).device) c.as_slice-near.ensures
     ∙ number_nth near row c.index-near-row.result inside
     ∙ sym (device_before c.args.device ns row (omega (arith, c.requires.own)))
