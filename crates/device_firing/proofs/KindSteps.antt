@@ -132,8 +132,15 @@ module _ {c : Context} {s : Sight} (n : Node) {o : Sort} {ws mid : List ℕ} {xs
       let t = node_type 0 program.formed node in
       program.root.1 ∙ ap TypeLocal (sym (type ∙ ap inner (sym t ∙ program.root.1)))
 
-  pub root_within : length ws + 1 * leaves u ≤ length mid
-  root_within = let l = done.added.long in let size = ap (λ t. words_for t (length (devices_in c.device s.env.now))) root_type in omega (arith, l, size)
+  module _ {at : ℕ} (place : at ≡ length ws) where
+    pub root_within : at + 1 * leaves u ≤ length mid
+    root_within =
+        let l = done.added.long in
+        let size = ap (λ t. words_for t (length (devices_in c.device s.env.now))) root_type in
+        omega (arith, l, size, place)
 
-  pub root_value : {w : LocalValue} → w ≡ local_in mid u (length ws) → value_in mid (term_type (term_at c.program.now.nodes 0)) (devices_in c.device s.env.now) (length ws) ≡ ValueLocal w
-  root_value {w} e = ap (λ t. value_in mid t (devices_in c.device s.env.now) (length ws)) root_type ∙ ap ValueLocal (sym e)
+    pub root_value : {w : LocalValue} → w ≡ local_in mid u at
+        → value_in mid (term_type (term_at c.program.now.nodes 0)) (devices_in c.device s.env.now) (length ws) ≡ ValueLocal w
+    root_value {w} e =
+        ap (λ t. value_in mid t (devices_in c.device s.env.now) (length ws)) root_type
+        ∙ ap (λ i. ValueLocal (local_in mid u i)) (sym place) ∙ ap ValueLocal (sym e)

@@ -1,6 +1,7 @@
 //! The evaluation of a copy.
 
-ghost use Rattle.std.specs.Prelude.{◌≡◌, IfOk, IfErr};
+ghost use Rattle.std.specs.Prelude.{◌≡◌, ◌≤◌, IfErr, IfOk, length};
+ghost use Rattle.fc_values.specs.declared.limits.TheConstants.{MOST_LINKS};
 ghost use Rattle.fc_nodes.specs.Program.{unfolding_of};
 ghost use Rattle.scope_columns.specs.References.{flat_of};
 ghost use Rattle.device_eval.specs.References.{snap_env};
@@ -161,6 +162,7 @@ pub fn evaluate(
 
 // What the root sees of a copy.
 fn root_env<'a>(alloc: Global, snap: &'a Snap) -> Result<Env<'a>, Memory>
+    requires { length snap.now.near.items ≤ MOST_LINKS }
     ensures { IfOk result (λ env. flat_of env ≡ snap_env snap.now) }
 {
     let mut near = SmallVec::new(alloc);
