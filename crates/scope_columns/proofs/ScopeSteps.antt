@@ -1,12 +1,11 @@
 -- Crates above cite this module: the binders in scope while words are added.
-use Rattle.std.proofs.Common.{◌≡◌, ℕ, ◌≤◌, List, ◌∷◌, refl, ◌∙◌, ap, arith}
+use Rattle.std.proofs.Common.{◌≡◌, ℕ, ◌≤◌, List, refl, ◌∙◌, ap, arith}
 use Rattle.std.proofs.Common.{Bool}
 use Rattle.fc_values.specs.Types.{LocalType, ValueType, TypeLocal, TypeField}
 use Rattle.fc_values.specs.BuiltinTypes.{lifted, inner, is_field}
 use Rattle.scope_columns.specs.declared.scopes.Scope.{Scope}
 use Rattle.scope_columns.specs.declared.scopes.Scope.TheVariants as scope
-use Rattle.device_eval.specs.Evaluation.{Vars}
-use Rattle.scope_columns.specs.Words.{value_in, SameBelow}
+use Rattle.scope_columns.specs.Words.{SameBelow}
 use Rattle.scope_columns.specs.Scopes.{devices_in, binder_type, vars_in, StandBelow}
 use Rattle.scope_columns.proofs.WordSteps.{value_stays}
 
@@ -31,8 +30,3 @@ below_more d n m (scope.Bind' b p rest) l h = (omega (arith, l, h.0), below_more
 -- the type of a binder for a value of a type
 pub bound_type : {t : ValueType} {f : Bool} {u : LocalType} → f ≡ is_field t → u ≡ inner t → lifted f u ≡ t
 bound_type {t} {f} {u} e g = ap (λ b. lifted b u) e ∙ ap (lifted (is_field t)) g ∙ lifted_again t
-
--- a binder whose type is known in another way
-pub heads_as : {p : ℕ} (at : ℕ) (ws ds : List ℕ) {vs : Vars} {t u : ValueType} → t ≡ u
-    → ((p, value_in ws t ds at) ∷ vs) ≡ ((p, value_in ws u ds at) ∷ vs)
-heads_as {p} at ws ds {vs} e = ap (λ u. (p, value_in ws u ds at) ∷ vs) e
