@@ -1,5 +1,6 @@
--- Values in columns: what is added by the evaluation of a builtin's arguments.
-use Rattle.std.proofs.Common.{◌≡◌, ℕ, ◌<◌, ◌≤◌, ◌+◌, ◌*◌, List, [], ◌∷◌, ◌++◌, length, refl, sym, ◌∙◌, ap, subst, arith, get_or}
+-- The evaluation of a builtin's arguments: what each kid needs, and what stands behind the words afterwards.
+use Rattle.std.proofs.Common.{◌≡◌, ℕ, ◌<◌, ◌≤◌, ◌+◌, ◌*◌, List, [], ◌∷◌, ◌++◌, length, refl, sym, ◌∙◌, ap, subst}
+use Rattle.std.proofs.Common.{arith, get_or}
 use Rattle.fc_values.specs.declared.exports.Slot.{Slot}
 use Rattle.fc_values.specs.Types.{ValueType, TypeLocal, TypeField, leaves}
 use Rattle.fc_values.specs.BuiltinTypes.{inner}
@@ -16,22 +17,35 @@ use Rattle.scope_columns.specs.declared.scopes.Sight.{Sight}
 use Rattle.scope_columns.specs.References.{flat_of}
 use Rattle.scope_columns.specs.Words.{words_for, value_in, SameBelow}
 use Rattle.scope_columns.specs.Scopes.{devices_in, vars_in, types_in}
-use Rattle.scope_columns.proofs.WordSteps.{below_then, value_stays}
 use Rattle.scope_columns.proofs.ScopeSteps.{vars_stay, below_more}
+use Rattle.scope_columns.proofs.WordSteps.{below_then, value_stays}
 use Rattle.device_firing.specs.declared.evaluation.Context.{Context}
 use Rattle.device_firing.specs.Contexts.{situation_in, ReadyIn, Evaluated, ReadyKids, EvaluatedKids}
 use Rattle.device_firing.specs.Kids.{kid_types, rows_for, words_of_all, StandsIn, StandIn, EndsWith, Filled}
 use Rattle.device_firing.specs.Places.{MayEach}
 use Rattle.device_firing.proofs.MaySteps.{may_value}
 
-same_below : (n : ℕ) (ws : List ℕ) → SameBelow n ws ws
-same_below n ws = record { same = λ p h. refl }
+-- ---- no argument
 
-filled_as : {t u : ValueType} {rows at : ℕ} {old new : List ℕ} → t ≡ u → Filled u rows at old new → Filled t rows at old new
-filled_as {t} {u} {rows} {at} {old} {new} e f = subst (λ v. Filled v rows at old new) (sym e) f
+none_evaluated : (c : Context) (s : Sight) (rows : ℕ) (ws : List ℕ) (xs : List Slot)
+    → EvaluatedKids c [] s rows ws xs ws xs
+none_evaluated c s rows ws xs = record {
+  values = [];
+  did = none_done [] refl;
+  fit = tt;
+  kept = record { same = λ p h. refl };
+  long = omega arith;
+  stand = tt;
+}
 
--- ---- a value that stands below other words stays
+pub kids_none : {c : Context} {s : Sight} {rows : ℕ} {ws : List ℕ} {xs : List Slot} (ks : List ℕ) → length ks ≡ 0
+    → EvaluatedKids c ks s rows ws xs ws xs
+kids_none {c} {s} {rows} {ws} {xs} [] e = none_evaluated c s rows ws xs
+kids_none (k ∷ ks) e = absurd (omega (arith, e))
 
+-- ---- one more argument before others
+
+-- a value that stands below other words stays
 stands_stay : (t : ValueType) (ds : List ℕ) (rows at n : ℕ) (xs ys : List ℕ) (v : AnyValue)
     → at + rows_for t rows (length ds) * leaves (inner t) ≤ n → SameBelow n xs ys → StandsIn xs ds rows at t v
     → StandsIn ys ds rows at t v
@@ -39,28 +53,10 @@ stands_stay (TypeLocal t) ds rows at n xs ys v l same s =
     λ i h. s i h ∙ ap ValueLocal (sym (row_stays xs ys t rows at i n h l same.same))
 stands_stay (TypeField t) ds rows at n xs ys v l same s = s ∙ sym (value_stays (TypeField t) ds xs ys n at same l)
 
--- ---- no argument
-
-none_evaluated : {c : Context} {s : Sight} {rows : ℕ} {ws : List ℕ} {xs : List Slot} → EvaluatedKids c [] s rows ws xs ws xs
-none_evaluated {c} {s} {rows} {ws} {xs} = record {
-  values = [];
-  did = none_done [] refl;
-  fit = tt;
-  kept = same_below (length ws) ws;
-  long = omega arith;
-  stand = tt;
-}
-
-pub kids_none : {c : Context} {s : Sight} {rows : ℕ} {ws : List ℕ} {xs : List Slot} (ks : List ℕ) → length ks ≡ 0
-    → EvaluatedKids c ks s rows ws xs ws xs
-kids_none [] e = none_evaluated
-kids_none (k ∷ ks) e = absurd (omega (arith, e))
-
--- ---- one more argument before others
-
 -- values behind one that comes first
-behind : {S : Situation} {ns : List Node} {ks : List ℕ} {vars : Vars} {env : FlatEnv} {xs ys : List SlotValue} {vs : List AnyValue} (v : AnyValue)
-    → DidEach S ns ks vars env xs [] vs ys → DidEach S ns ks vars env xs (v ∷ []) (v ∷ vs) ys
+behind : {S : Situation} {ns : List Node} {ks : List ℕ} {vars : Vars} {env : FlatEnv} {xs ys : List SlotValue}
+    {vs : List AnyValue} (v : AnyValue) → DidEach S ns ks vars env xs [] vs ys
+    → DidEach S ns ks vars env xs (v ∷ []) (v ∷ vs) ys
 behind v r = record {
   vs = r.vs;
   added = ap (λ us. v ∷ us) r.added;
@@ -70,39 +66,58 @@ behind v r = record {
   still = r.still;
 }
 
-module _ {c : Context} {ks : List ℕ} {k : ℕ} {rest : List ℕ} (e : ks ≡ k ∷ rest) {s : Sight} {ws : List ℕ} {xs : List Slot} (begins : ReadyKids c ks s ws xs) where
-  abbrev MayKids : List ℕ → List ℕ → Type 0
-  MayKids qs us = MayEach c.program.now.declared (situation_in c) c.program.now.nodes (types_in s.vars.now) qs (vars_in c.device us s.vars.now) (flat_of s.env.now)
+-- places that are ready, and may be evaluated, where the variables have these values
+abbrev Prepared : Context → Sight → List ℕ → Vars → List Slot → Type 0
+Prepared c s ks vars xs =
+    ReadyEach (situation_in c) c.program.now.nodes c.layout.now ks vars (flat_of s.env.now) (slots_of xs)
 
-  may_kids : MayKids (k ∷ rest) ws
-  may_kids = subst (λ qs. MayKids qs ws) e begins.may
+abbrev Allowed : Context → Sight → List ℕ → Vars → Type 0
+Allowed c s ks vars =
+    MayEach c.program.now.declared (situation_in c) c.program.now.nodes (types_in s.vars.now) ks vars
+    (flat_of s.env.now)
 
-  pub first_begins : (k < length c.program.now.nodes) × (get_or ks 0 (length c.program.now.nodes) ≡ k) × ReadyIn c k s ws xs
+module _ {c : Context} {ks : List ℕ} {k : ℕ} {rest : List ℕ} (e : ks ≡ k ∷ rest) {s : Sight} {ws : List ℕ}
+    {xs : List Slot} (begins : ReadyKids c ks s ws xs) where
+  allowed : Allowed c s (k ∷ rest) (vars_in c.device ws s.vars.now)
+  allowed = subst (λ qs. Allowed c s qs (vars_in c.device ws s.vars.now)) e begins.may
+
+  pub first_begins : (k < length c.program.now.nodes) × (get_or ks 0 (length c.program.now.nodes) ≡ k)
+      × ReadyIn c k s ws xs
   first_begins =
       let r = kid_ready e begins.ready in
-      let m = may_kids in
+      let m = allowed in
       (r.0, r.1, record { ready = r.2; may = m.0; sees = begins.sees })
 
-  module _ {mid : List ℕ} {ys : List Slot} (done : Evaluated c k s ws xs mid ys) {t : ValueType} (type : term_type (term_at c.program.now.nodes k) ≡ t) {at : ℕ} (place : at ≡ length ws) where
+  module _ {mid : List ℕ} {ys : List Slot} (done : Evaluated c k s ws xs mid ys) {t : ValueType}
+      (type : term_type (term_at c.program.now.nodes k) ≡ t) {at : ℕ} (place : at ≡ length ws) where
     -- the value is the last of the words
     pub kid_ends : EndsWith t at mid
     kid_ends =
-        let ds = devices_in c.device s.env.now in
+        let n = length (devices_in c.device s.env.now) in
         record {
-          devices = length ds;
-          long = done.added.long ∙ ap (λ u. length ws + words_for u (length ds)) type ∙ ap (λ p. p + words_for t (length ds)) (sym place);
+          devices = n;
+          long = done.added.long ∙ ap (λ u. length ws + words_for u n) type ∙ ap (λ p. p + words_for t n) (sym place);
         }
 
     module _ {rows : ℕ} {wide : List ℕ} (filled : Filled t rows at mid wide) where
-      filled_here : Filled (term_type (term_at c.program.now.nodes k)) rows (length ws) mid wide
-      filled_here = filled_as type (subst (λ p. Filled t rows p mid wide) place filled)
+      abbrev ds : List ℕ
+      ds = devices_in c.device s.env.now
+
+      abbrev T : ValueType
+      T = term_type (term_at c.program.now.nodes k)
+
+      filled_here : Filled T rows (length ws) mid wide
+      filled_here =
+          let f = subst (λ p. Filled t rows p mid wide) place filled in
+          subst (λ u. Filled u rows (length ws) mid wide) (sym type) f
 
       wide_kept : SameBelow (length ws) ws wide
-      wide_kept = let f = filled_here in below_then (length ws) (length ws) (omega arith) done.added.kept f.kept
+      wide_kept =
+          let f = filled_here in
+          below_then (length ws) (length ws) (omega arith) done.added.kept f.kept
 
-      wide_long : length wide ≡ length ws
-          + rows_for (term_type (term_at c.program.now.nodes k)) rows (length (devices_in c.device s.env.now)) * leaves (inner (term_type (term_at c.program.now.nodes k)))
-      wide_long = let f = filled_here in f.long (length (devices_in c.device s.env.now)) done.added.long
+      wide_long : length wide ≡ length ws + rows_for T rows (length ds) * leaves (inner T)
+      wide_long = let f = filled_here in f.long (length ds) done.added.long
 
       wide_low : length ws ≤ length wide
       wide_low = omega (arith, wide_long)
@@ -113,34 +128,44 @@ module _ {c : Context} {ks : List ℕ} {k : ℕ} {rest : List ℕ} (e : ks ≡ k
       pub rest_begins : (k < get_or rest 0 (length c.program.now.nodes)) × ReadyKids c rest s wide ys
       rest_begins =
           let r = rest_ready e begins.ready done.did in
-          let m = may_kids in (
+          let m = allowed in
+          let below = below_more c.device (length ws) (length wide) s.vars.now wide_low begins.sees.below in (
             r.0,
             record {
-              ready = subst (λ vs. ReadyEach (situation_in c) c.program.now.nodes c.layout.now rest vs (flat_of s.env.now) (slots_of ys)) (sym wide_vars) r.1;
-              may = subst (λ vs. MayEach c.program.now.declared (situation_in c) c.program.now.nodes (types_in s.vars.now) rest vs (flat_of s.env.now)) (sym wide_vars) m.1;
-              sees = record { below = below_more c.device (length ws) (length wide) s.vars.now wide_low begins.sees.below; own = begins.sees.own };
+              ready = subst (λ vs. Prepared c s rest vs ys) (sym wide_vars) r.1;
+              may = subst (λ vs. Allowed c s rest vs) (sym wide_vars) m.1;
+              sees = record { below = below; own = begins.sees.own };
             },
           )
 
-      pub kids_more : {new : List ℕ} {zs : List Slot} → EvaluatedKids c rest s rows wide ys new zs → EvaluatedKids c ks s rows ws xs new zs
-      kids_more {new} {zs} r =
-          let ns = c.program.now.nodes in
-          let ds = devices_in c.device s.env.now in
-          let T = term_type (term_at ns k) in
-          let va = value_in mid T ds (length ws) in
-          let f = filled_here in
-          let m = may_kids in
-          let others = subst (λ vs. DidEach (situation_in c) ns rest vs (flat_of s.env.now) (slots_of ys) [] r.values (slots_of zs)) wide_vars r.did in
-          let ready = subst (λ qs. ReadyEach (situation_in c) ns c.layout.now qs (vars_in c.device ws s.vars.now) (flat_of s.env.now) (slots_of xs)) e begins.ready in
-          let first = stands_stay T ds rows (length ws) (length wide) wide new va (omega (arith, wide_long)) r.kept (f.stands ds) in
-          let after = subst (λ p. StandIn new ds rows p (kid_types ns rest) r.values) wide_long r.stand in
-          let l = r.long in
-          let all : EvaluatedKids c (k ∷ rest) s rows ws xs new zs = record {
-            values = va ∷ r.values;
-            did = each_done refl ready done.did refl (behind va others);
-            fit = (may_value m.0 done.did.gives, r.fit);
-            kept = below_then (length ws) (length wide) wide_low wide_kept r.kept;
-            long = l ∙ ap (λ p. p + words_of_all (kid_types ns rest) rows (length ds)) wide_long ∙ omega arith;
-            stand = (first, after);
-          } in
-          subst (λ qs. EvaluatedKids c qs s rows ws xs new zs) (sym e) all
+      module _ {new : List ℕ} {zs : List Slot} (r : EvaluatedKids c rest s rows wide ys new zs) where
+        abbrev DidRest : Vars → Type 0
+        DidRest vars =
+            DidEach (situation_in c) c.program.now.nodes rest vars (flat_of s.env.now) (slots_of ys) [] r.values
+            (slots_of zs)
+
+        all_more : EvaluatedKids c (k ∷ rest) s rows ws xs new zs
+        all_more =
+            let f = filled_here in
+            let m = allowed in
+            let l = r.long in
+            let v = value_in mid T ds (length ws) in
+            let types = kid_types c.program.now.nodes rest in
+            let ready = subst (λ qs. Prepared c s qs (vars_in c.device ws s.vars.now) xs) e begins.ready in
+            let others = subst DidRest wide_vars r.did in
+            let within : length ws + rows_for T rows (length ds) * leaves (inner T) ≤ length wide =
+            omega (arith, wide_long) in
+            record {
+              values = v ∷ r.values;
+              did = each_done refl ready done.did refl (behind v others);
+              fit = (may_value m.0 done.did.gives, r.fit);
+              kept = below_then (length ws) (length wide) wide_low wide_kept r.kept;
+              long = l ∙ ap (λ p. p + words_of_all types rows (length ds)) wide_long ∙ omega arith;
+              stand = (
+                stands_stay T ds rows (length ws) (length wide) wide new v within r.kept (f.stands ds),
+                subst (λ p. StandIn new ds rows p types r.values) wide_long r.stand,
+              );
+            }
+
+        pub kids_more : EvaluatedKids c ks s rows ws xs new zs
+        kids_more = subst (λ qs. EvaluatedKids c qs s rows ws xs new zs) (sym e) all_more

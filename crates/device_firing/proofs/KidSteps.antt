@@ -2,7 +2,9 @@
 use Rattle.std.proofs.Common.{◌≡◌, ℕ, suc, ◌<◌, ◌+◌, List, [], ◌∷◌, length, refl, ap, arith}
 use Rattle.fc_values.specs.declared.builtins.Builtin.{Builtin}
 use Rattle.fc_values.specs.Types.{LocalType}
-use Rattle.fc_values.specs.BuiltinTypes.{Takes, takes_add, takes_sub, takes_mul, takes_rise, takes_min, takes_max, takes_less, takes_equal, takes_and, takes_or, takes_not, takes_mux, takes_pair, takes_fst, takes_snd, inners}
+use Rattle.fc_values.specs.BuiltinTypes.{Takes, takes_add, takes_sub, takes_mul, takes_rise, takes_min, takes_max}
+use Rattle.fc_values.specs.BuiltinTypes.{takes_less, takes_equal, takes_and, takes_or, takes_not, takes_mux, takes_pair}
+use Rattle.fc_values.specs.BuiltinTypes.{takes_fst, takes_snd, inners}
 use Rattle.fc_nodes.specs.declared.nodes.Node.{Node}
 use Rattle.fc_nodes.specs.Terms.{size, term_at, terms_by, type_of as term_type}
 use Rattle.fc_nodes.specs.Typing.{types_of}
@@ -41,7 +43,8 @@ types_long : (ns : List Node) (ks : List ℕ) → length (inners (kid_types ns k
 types_long ns [] = refl
 types_long ns (k ∷ ks) = ap suc (types_long ns ks)
 
-pub few_kids : {b : Builtin} {t : LocalType} (ns : List Node) (ks : List ℕ) → Takes b (inners (kid_types ns ks)) t → (0 < length ks) × (length ks < 4)
+pub few_kids : {b : Builtin} {t : LocalType} (ns : List Node) (ks : List ℕ) → Takes b (inners (kid_types ns ks)) t
+    → (0 < length ks) × (length ks < 4)
 few_kids ns ks takes =
     let f = few_types takes in
     let a = f.0 in

@@ -10,7 +10,7 @@ pub mod KindSteps
 pub mod LeafSteps
 pub mod NodeSteps
 pub mod OperatorSteps
-pub mod BuiltinSteps
+pub mod HoodSteps
 pub mod KidSteps
 pub mod ColumnSteps
 pub mod ApplySteps

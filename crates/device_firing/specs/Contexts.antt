@@ -69,7 +69,8 @@ pub record EvaluatedKids (c : Context) (ks : List ℕ) (s : Sight) (rows : ℕ) 
   pub values : List AnyValue
   pub did : DidEach (situation_in c) c.program.now.nodes ks (vars_in c.device ws s.vars.now) (flat_of s.env.now)
       (slots_of xs) [] values (slots_of ys)
-  pub fit : FitEachOver (situation_in c).ceiling (devices_in c.device s.env.now) (kid_types c.program.now.nodes ks) values
+  pub fit : FitEachOver c.program.now.declared.ceiling (devices_in c.device s.env.now)
+      (kid_types c.program.now.nodes ks) values
   pub kept : SameBelow (length ws) ws new
   pub long : length new
       ≡ length ws + words_of_all (kid_types c.program.now.nodes ks) rows (length (devices_in c.device s.env.now))

@@ -62,4 +62,5 @@ pub record Applied (builtin : Builtin) (ceiling : ℕ) (ts : List ValueType) (t 
   pub long : length new ≡ at + words_for t devices
   pub value : (device : ℕ) (ds : List ℕ) (vs : List AnyValue) → length ds ≡ devices → Rises ds
       → device ≡ slice_index_or ds own 0 → FitEachOver ceiling ds ts vs
-      → StandIn old ds (rows_for t 1 devices) at ts vs → builtin_value builtin ceiling device vs ≡ Some (value_in new t ds at)
+      → StandIn old ds (rows_for t 1 devices) at ts vs
+      → builtin_value builtin ceiling device vs ≡ Some (value_in new t ds at)

@@ -1,7 +1,8 @@
 use Rattle.std.proofs.Common.{rules, arith}
 use Rattle.device_firing.proofs.KidSteps.{few_kids}
 use Rattle.device_firing.proofs.builtins.operate.Goals as goal
-use Rattle.device_firing.proofs.builtins.operate.Goals.{in_default-via-then-kids-lt1, in_default-via-else-kids-lt1+else-kids-lt2+else-kids-lt3+else-kids-lt4}
+use Rattle.device_firing.proofs.builtins.operate.Goals.{in_default-via-then-kids-lt1}
+use Rattle.device_firing.proofs.builtins.operate.Goals.{in_default-via-else-kids-lt1+else-kids-lt2+else-kids-lt3+else-kids-lt4}
 
 pub unreachable-requires : goal.unreachable-requires
 unreachable-requires c =

@@ -450,19 +450,22 @@ eval_apply-apply_builtin-requires-clause-kids t c = apply_within c.requires
 
 pub eval_apply-apply_builtin-requires-clause-own : goal.eval_apply-apply_builtin-requires-clause-own
 eval_apply-apply_builtin-requires-clause-own t c =
-    let many : c.len-devices.result + 1 ≡ length c.args.sight.now.env.now.near.items + 1 = omega (arith, c.len-devices.ensures) in
+    let many : c.len-devices.result + 1 ≡ length c.args.sight.now.env.now.near.items + 1 =
+    omega (arith, c.len-devices.ensures) in
     apply_own c.requires many
 
 pub eval_apply-apply_builtin-requires-clause-length : goal.eval_apply-apply_builtin-requires-clause-length
 eval_apply-apply_builtin-requires-clause-length t c =
     let at : c.len-at.result ≡ length c.args.words.now.items = omega (arith, c.len-at.ensures, c.args.words.now.ok.0) in
-    let many : c.len-devices.result + 1 ≡ length c.args.sight.now.env.now.near.items + 1 = omega (arith, c.len-devices.ensures) in
+    let many : c.len-devices.result + 1 ≡ length c.args.sight.now.env.now.near.items + 1 =
+    omega (arith, c.len-devices.ensures) in
     apply_long c.requires many c.rows_of-rows.ensures at c.deref.ensures.value c.in_ok-eval_kids.ensures
 
 pub eval_apply-returns : goal.eval_apply-returns
 eval_apply-returns t c =
     let at : c.len-at.result ≡ length c.args.words.now.items = omega (arith, c.len-at.ensures, c.args.words.now.ok.0) in
-    let many : c.len-devices.result + 1 ≡ length c.args.sight.now.env.now.near.items + 1 = omega (arith, c.len-devices.ensures) in
+    let many : c.len-devices.result + 1 ≡ length c.args.sight.now.env.now.near.items + 1 =
+    omega (arith, c.len-devices.ensures) in
     apply_evaluated c.requires many c.rows_of-rows.ensures at c.deref.ensures.value
     c.in_ok-eval_kids.ensures c.apply_builtin.ensures
 
