@@ -254,8 +254,8 @@ module _ {S : Situation} {ns : List Node} {lay : LayoutValue} {p : ℕ} {t : Val
           let i = may_i may in
           let ds = those_taking S.ceiling S.device (near_numbers env.near) (env_at (If t X A B) K env) t X A B i.env r in
           let there : May D S scope (arm_place S p t X A B K vars env xs can_if r) (arm t X A B K r) ds vars (env_at (arm t X A B K r) (arm_slot t X A B K r) env') =
-              subst (λ n. May D S scope (arm_place S p t X A B K vars env xs can_if r) (arm t X A B K r) ds vars (env_at (arm t X A B K r) (arm_slot t X A B K r) n)) branch_is
-              (subst (λ n. May D S scope (arm_place S p t X A B K vars env xs can_if r) (arm t X A B K r) ds vars n) (env_branch t X A B K r env can'.fits) (may_if_branch i r)) in
+          subst (λ n. May D S scope (arm_place S p t X A B K vars env xs can_if r) (arm t X A B K r) ds vars (env_at (arm t X A B K r) (arm_slot t X A B K r) n)) branch_is
+          (subst (λ n. May D S scope (arm_place S p t X A B K vars env xs can_if r) (arm t X A B K r) ds vars n) (env_branch t X A B K r env can'.fits) (may_if_branch i r)) in
           may_at env' (a.0 ∙ sym e') (a.2 ∙ ap (term_at ns) (sym e')) (a.1 ∙ ap (kept_before ns) (sym e')) (may_near (arm_slot t X A B K r) env' there)
 
       pub if_done : {vb : AnyValue} {zs final : List SlotValue} → DidAt S ns q' vars env' ys vb zs → final ≡ slice_set zs k (true, BoolValue r) → (k < length zs) × DidAt S ns p vars env xs vb final

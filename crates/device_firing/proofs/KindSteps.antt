@@ -1,11 +1,10 @@
 -- What each kind of node adds to the words.
-use Rattle.std.proofs.Common.{◌≡◌, ℕ, ◌<◌, ◌≤◌, ◌+◌, ◌*◌, List, [], ◌∷◌, ◌++◌, length, take, drop, refl, sym, ◌∙◌, ap, subst, arith, Bool, true, false, Some, get_or}
-use Rattle.std.specs.Prelude.{slice_set}
+use Rattle.std.proofs.Common.{◌≡◌, ℕ, ◌≤◌, ◌+◌, ◌*◌, List, [], ◌∷◌, ◌++◌, length, take, drop, sym, ◌∙◌, ap, subst, arith, Bool}
 use Rattle.std.proofs.lemmas.List.{get_or_append_left, length-append}
 use Rattle.fc_values.specs.declared.exports.Slot.{Slot}
-use Rattle.fc_values.specs.Types.{LocalType, IntType, BoolType, ValueType, TypeLocal, TypeField, type_of, leaves}
+use Rattle.fc_values.specs.Types.{LocalType, ValueType, TypeLocal, TypeField, type_of, leaves}
 use Rattle.fc_values.specs.BuiltinTypes.{lifted, inner}
-use Rattle.fc_values.specs.Values.{LocalValue, IntValue, BoolValue, PairValue, Fits as FitsType, form_of}
+use Rattle.fc_values.specs.Values.{LocalValue, form_of}
 use Rattle.fc_values.specs.Fields.{AnyValue, ValueLocal, ValueField, Entries, AllFit, FitsOver}
 use Rattle.fc_values.specs.Exports.{slots_of}
 use Rattle.fc_nodes.specs.declared.nodes.Node.{Node}
@@ -21,12 +20,12 @@ use Rattle.scope_columns.specs.declared.scopes.Sight.{Sight}
 use Rattle.device_eval.specs.Evaluation.{Vars}
 use Rattle.device_eval.specs.Walks.{DidAt, Ready, ReadyAt}
 use Rattle.device_firing.specs.Places.{MayAt}
-use Rattle.scope_columns.specs.Words.{words_for, value_in, SameBelow, Added, row_of, AllForm}
+use Rattle.scope_columns.specs.Words.{words_for, value_in, Added, row_of, AllForm}
 use Rattle.scope_columns.specs.Scopes.{devices_in, vars_in, types_in, StandBelow, Fits}
 use Rattle.device_firing.specs.Contexts.{situation_in, ReadyIn, ReadyFor, Evaluated, EvaluatedBody}
 use Rattle.device_eval.proofs.Steps.{ready_at}
 use Rattle.device_firing.proofs.MaySteps.{node_type}
-use Rattle.scope_columns.proofs.WordSteps.{value_moved, below_then, added_over, cut_same, taken_same, gap_closed}
+use Rattle.scope_columns.proofs.WordSteps.{taken_same, gap_closed}
 use Rattle.scope_columns.proofs.ScopeSteps.{vars_stay, below_more}
 use Rattle.device_firing.proofs.ReadySteps.{ready_as}
 

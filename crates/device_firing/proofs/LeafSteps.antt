@@ -1,11 +1,11 @@
 -- What a node without kids adds to the words.
-use Rattle.std.proofs.Common.{◌≡◌, ℕ, List, [], ◌∷◌, ◌++◌, length, refl, sym, ◌∙◌, ap, subst, min, Some, IsSome}
+use Rattle.std.proofs.Common.{◌≡◌, ℕ, List, [], ◌∷◌, ◌++◌, length, refl, sym, ◌∙◌, subst, min, Some, IsSome}
 use Rattle.std.specs.Prelude.{slice_get, filter}
 use Rattle.fc_values.specs.declared.exports.Slot.{Slot}
-use Rattle.fc_values.specs.Types.{LocalType, IntType, BoolType, ValueType, TypeLocal, TypeField}
+use Rattle.fc_values.specs.Types.{IntType, ValueType, TypeLocal, TypeField}
 use Rattle.fc_values.specs.Values.{LocalValue, IntValue, BoolValue, PairValue, Fits as FitsType, form_of}
 use Rattle.fc_values.specs.Fields.{ValueField, with_entry, with_number}
-use Rattle.fc_nodes.specs.Terms.{Leaf, Literal, Variable, Sense, Uid, NbrLink, Plain, OfLeaf, HasNode}
+use Rattle.fc_nodes.specs.Terms.{Leaf, Literal, Variable, Sense, Uid, NbrLink, OfLeaf, HasNode}
 use Rattle.fc_nodes.specs.Typing.{type_at, HasType, IsLiteral, LeafHasType}
 use Rattle.fc_nodes.proofs.Places.{formed_above, term_is}
 use Rattle.value_columns.specs.LocalWords.{words_of}

@@ -1,7 +1,7 @@
 -- Crates above cite this module: where a node may be evaluated, so may its kids, and the value fits.
-use Rattle.std.proofs.Common.{◌≡◌, ℕ, suc, ◌+◌, List, [], ◌∷◌, refl, sym, ◌∙◌, ap, subst, Bool, true, false, Option, Some, None}
+use Rattle.std.proofs.Common.{◌≡◌, ℕ, suc, ◌+◌, List, [], ◌∷◌, refl, sym, ◌∙◌, ap, subst, Bool, true, false, Some, None}
 use Rattle.fc_values.specs.declared.builtins.Builtin.{Builtin}
-use Rattle.fc_values.specs.Types.{LocalType, ValueType, TypeLocal, Declarations}
+use Rattle.fc_values.specs.Types.{LocalType, ValueType, Declarations}
 use Rattle.fc_values.specs.Values.{LocalValue, Fits}
 use Rattle.fc_values.specs.Fields.{AnyValue, ValueLocal, ValueField, FitsOver, with_number}
 use Rattle.fc_values.specs.BuiltinTypes.{inner}

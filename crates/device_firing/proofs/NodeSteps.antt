@@ -3,7 +3,7 @@ use Rattle.std.proofs.Common.{◌≡◌, ℕ, ◌<◌, ◌≤◌, ◌+◌, ◌*�
 use Rattle.std.specs.Prelude.{slice_set}
 use Rattle.fc_values.specs.declared.exports.Slot.{Slot}
 use Rattle.fc_values.specs.Types.{LocalType, BoolType, ValueType, TypeLocal, TypeField, type_of, leaves}
-use Rattle.fc_values.specs.BuiltinTypes.{lifted, inner}
+use Rattle.fc_values.specs.BuiltinTypes.{inner}
 use Rattle.fc_values.specs.Values.{LocalValue, BoolValue, form_of}
 use Rattle.fc_values.specs.Fields.{AnyValue, ValueLocal, ValueField}
 use Rattle.fc_values.specs.Exports.{SlotValue, slots_of}
@@ -16,16 +16,16 @@ use Rattle.value_columns.specs.LocalWords.{words_of}
 use Rattle.value_trees.proofs.Forms.{fits_form}
 use Rattle.alignment.specs.Slots.{FlatEnv, flat_branch}
 use Rattle.alignment.specs.Hearing.{field_with, own_slot_or, heard_field}
-use Rattle.scope_columns.specs.References.{flat_of, numbers_in}
+use Rattle.scope_columns.specs.References.{flat_of}
 use Rattle.device_firing.specs.declared.evaluation.Context.{Context}
 use Rattle.scope_columns.specs.declared.scopes.Sight.{Sight}
-use Rattle.device_eval.specs.Evaluation.{Situation, Vars, pick}
+use Rattle.device_eval.specs.Evaluation.{pick}
 use Rattle.device_eval.specs.Starts.{started}
-use Rattle.device_eval.specs.Walks.{DidAt, Ready, ReadyAt}
+use Rattle.device_eval.specs.Walks.{DidAt, Ready}
 use Rattle.device_firing.specs.Places.{MayAt}
-use Rattle.scope_columns.specs.Words.{words_for, value_in, SameBelow, Added, row_of, AllForm}
+use Rattle.scope_columns.specs.Words.{value_in, SameBelow, Added, AllForm}
 use Rattle.scope_columns.specs.Scopes.{devices_in, vars_in, types_in, StandBelow}
-use Rattle.device_firing.specs.Contexts.{situation_in, ReadyIn, ReadyFor, Evaluated, EvaluatedBody}
+use Rattle.device_firing.specs.Contexts.{situation_in, ReadyFor, Evaluated, EvaluatedBody}
 use Rattle.device_firing.proofs.MaySteps.{may_value, node_type}
 use Rattle.device_firing.proofs.LetAt.{let_body, let_may_body, let_type, let_done}
 use Rattle.device_firing.proofs.NbrAt.{nbr_done, nbr_types}
@@ -243,8 +243,8 @@ module _ {c : Context} {p : ℕ} {s : Sight} {n : Node} {ws : List ℕ} {xs : Li
       let vars = heads ∙ ap (λ vs. (p, bound_value) ∷ vs) stay in
       let value = value_in new T (devices_in c.device s'.env.now) at in
       let did : DidAt (situation_in c) c.program.now.nodes q' ((p, bound_value) ∷ vars_in c.device ws s.vars.now) (flat_of s.env.now) (slots_of ys) value (slots_of zs) =
-          subst (λ f. DidAt (situation_in c) c.program.now.nodes q' ((p, bound_value) ∷ vars_in c.device ws s.vars.now) f (slots_of ys) value (slots_of zs)) sees
-          (subst (λ vs. DidAt (situation_in c) c.program.now.nodes q' vs (flat_of s'.env.now) (slots_of ys) value (slots_of zs)) vars body.did) in
+      subst (λ f. DidAt (situation_in c) c.program.now.nodes q' ((p, bound_value) ∷ vars_in c.device ws s.vars.now) f (slots_of ys) value (slots_of zs)) sees
+      (subst (λ vs. DidAt (situation_in c) c.program.now.nodes q' vs (flat_of s'.env.now) (slots_of ys) value (slots_of zs)) vars body.did) in
       let o = over_cut place done.added refl (subst (λ es. Added T es (take at mid) new) over body.added) in
       evaluated_as (node_type p r.here.ready.stands.formed r.node ∙ let_type (node_here r) r.here.may e') o.0
       (ap (value_in new T ds) (sym place) ∙ ap (λ es. value_in new T es at) (sym over)) (let_done (node_here r) e done.did e' did)

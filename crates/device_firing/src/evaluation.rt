@@ -10,7 +10,10 @@ use crate::builtins::{apply_builtin, fill_rows, rows_of};
 use crate::drafts::Draft;
 use fc_nodes::{Layout, Node, Op, Unfolded, ceiling_of, least_weight, slot_of};
 use fc_values::{Builtin, Local, Memory, inner};
-use scope_columns::{Binder, Scope, Sight, is_field, own_or, own_row, push_heard, push_links, push_variable, same_branch};
+use scope_columns::{
+    Binder, Scope, Sight, is_field, own_or, own_row, push_heard, push_links, push_variable,
+    same_branch,
+};
 use std::alloc::Global;
 use value_columns::{close_gap, push_value, value_at};
 
@@ -59,7 +62,9 @@ pub fn eval(
             push_links(words, sight, context.device, least)?;
             Ok(())
         }
-        Op::Apply(builtin) => eval_apply(alloc, words, context, place, node, *builtin, sight, draft),
+        Op::Apply(builtin) => eval_apply(
+            alloc, words, context, place, node, *builtin, sight, draft,
+        ),
         Op::Nbr => eval_nbr(alloc, words, context, place, node, sight, draft),
         Op::Rep => eval_rep(alloc, words, context, place, node, sight, draft),
         Op::Share => eval_share(alloc, words, context, place, node, sight, draft),
@@ -86,7 +91,15 @@ fn eval_apply(
     let devices = sight.env.near.len() + 1;
     let rows = rows_of(&node.ty, devices);
     eval_kids(alloc, words, context, &node.kids, rows, sight, draft)?;
-    apply_builtin(words, context.program, node, builtin, devices, sight.own, at);
+    apply_builtin(
+        words,
+        context.program,
+        node,
+        builtin,
+        devices,
+        sight.own,
+        at,
+    );
     Ok(())
 }
 
@@ -203,7 +216,14 @@ fn eval_share(
     let ty = inner(&node.ty);
     let first = value_at(alloc, words, ty, 1, at, 0)?;
     words.truncate(at);
-    push_heard(words, ty, sight, slot, context.device, own_or(sight.env, slot, &first))?;
+    push_heard(
+        words,
+        ty,
+        sight,
+        slot,
+        context.device,
+        own_or(sight.env, slot, &first),
+    )?;
     let hearing = Scope::Bind(
         Binder {
             place,

@@ -1,4 +1,4 @@
-use Rattle.std.proofs.Common.{◌≡◌, ◌∙◌, ◌+◌, ℕ, List, length, [], ◌∷◌, arith, ap, sym, refl, get_or, false, true, not, nat_eq}
+use Rattle.std.proofs.Common.{◌≡◌, ◌∙◌, ◌+◌, ℕ, List, length, arith, ap, sym, refl, get_or, false, true, not, nat_eq}
 use Rattle.fc_values.proofs.SlotReads.{slots_long}
 use Rattle.device_eval.specs.Evaluation.{pick}
 use Rattle.device_eval.proofs.Steps.{ready_at, kid_is}
@@ -107,9 +107,14 @@ eval_let-eval_body-requires t c =
     let m = r.0 in
     let w = c.requires.here.ready.stands.within in
     let type = node_type _ c.requires.here.ready.stands.formed c.node-bound.ensures.node in
-    let l = c.in_ok-eval.ensures.added.long in
-    (omega (arith, d, m, w), (begin_body _ _ r.2 (let_allowed c.requires c.index-start.ensures c.index-next.ensures c.in_ok-eval.ensures) c.requires.here.sees c.in_ok-eval.ensures.added
-    (bound_type c.is_field.ensures c.inner.ensures ∙ sym type) place refl refl (λ b o. (b, o)) c.requires.here.sees.own, omega (arith, l, place)))
+    let l = c.in_ok-eval.ensures.added.long in (
+      omega (arith, d, m, w),
+      (
+        begin_body _ _ r.2 (let_allowed c.requires c.index-start.ensures c.index-next.ensures c.in_ok-eval.ensures) c.requires.here.sees c.in_ok-eval.ensures.added
+            (bound_type c.is_field.ensures c.inner.ensures ∙ sym type) place refl refl (λ b o. (b, o)) c.requires.here.sees.own,
+        omega (arith, l, place),
+      ),
+    )
 
 pub eval_let-returns : goal.eval_let-returns
 eval_let-returns t c =
@@ -203,10 +208,12 @@ eval_if-eval-requires-2 t c =
     let kid = c.branch_of-kid.ensures ∙ ap (λ (xs : List ℕ). get_or xs (pick (not (nat_eq c.index-2.result.now 0)) 1 2) 0) c.deref.ensures.value in
     let r = branch_begins c.requires c.index.ensures c.in_ok-eval.ensures place truth c.slot_of-slot.ensures c.truncate.ensures.items c.in_ok-branch.ensures kid in
     let m = r.0 in
-    let w = c.requires.here.ready.stands.within in
-    (omega (arith, d, m, w), ready_as r.2 (branch_allowed c.requires c.index.ensures c.in_ok-eval.ensures place truth c.slot_of-slot.ensures c.truncate.ensures.items c.in_ok-branch.ensures kid)
-    (branch_vars c.requires c.index.ensures c.in_ok-eval.ensures place truth c.slot_of-slot.ensures c.truncate.ensures.items c.in_ok-branch.ensures kid) refl
-    (branch_below c.requires c.index.ensures c.in_ok-eval.ensures place truth c.slot_of-slot.ensures c.truncate.ensures.items c.in_ok-branch.ensures kid) c.own_row.ensures)
+    let w = c.requires.here.ready.stands.within in (
+      omega (arith, d, m, w),
+      ready_as r.2 (branch_allowed c.requires c.index.ensures c.in_ok-eval.ensures place truth c.slot_of-slot.ensures c.truncate.ensures.items c.in_ok-branch.ensures kid)
+          (branch_vars c.requires c.index.ensures c.in_ok-eval.ensures place truth c.slot_of-slot.ensures c.truncate.ensures.items c.in_ok-branch.ensures kid) refl
+          (branch_below c.requires c.index.ensures c.in_ok-eval.ensures place truth c.slot_of-slot.ensures c.truncate.ensures.items c.in_ok-branch.ensures kid) c.own_row.ensures,
+    )
 
 pub eval_if-put-requires : goal.eval_if-put-requires
 eval_if-put-requires t c =

@@ -1,8 +1,6 @@
-use Rattle.std.proofs.Common.{ℕ, ◌≡◌, arith, ap, length, subst, sym}
+use Rattle.std.proofs.Common.{ℕ, arith, ap, length, subst, sym}
 use Rattle.std.proofs.lemmas.List.{length-map}
 use Rattle.fc_values.specs.Values.{local_of}
-use Rattle.fc_values.specs.BuiltinTypes.{inner}
-use Rattle.fc_values.specs.Types.{TypeLocal, leaves}
 use Rattle.fc_values.specs.Exports.{slots_of}
 use Rattle.fc_nodes.specs.Program.{unfolding_of}
 use Rattle.fc_nodes.specs.Flat.{IsExport, tree_export}
@@ -40,7 +38,7 @@ returns c =
     let S = situation_as P c.args.snap.now c.as_slice-inputs.result.now c.as_slice-inputs.ensures.value in
     let place = sym (ap (length {A = ℕ}) c.take-words.ensures) in
     let is = root_value c.node.result.now c.layout-layout.ensures.program c.node.ensures.node c.inner.ensures c.in_ok-eval.ensures place
-        (rw c.deref.ensures.value at c.in_ok-value.ensures) in
+    (rw c.deref.ensures.value at c.in_ok-value.ensures) in
     let export = root_export P c.layout-layout.ensures.program c.args.snap.now c.requires c.layout-layout.result.now c.layout-layout.ensures.layout (flat_of c.in_ok-env.env) c.in_ok-env.ensures (slots_of c.in_ok-draft.draft) c.in_ok-draft.ensures
     _ S _ (slots_of c.eval.new.draft) c.in_ok-eval.ensures.did (local_of c.in_ok-value.value) is in
     let evaluates = root_evaluates P c.layout-layout.ensures.program c.args.snap.now c.requires c.layout-layout.result.now c.layout-layout.ensures.layout (flat_of c.in_ok-env.env) c.in_ok-env.ensures (slots_of c.in_ok-draft.draft) c.in_ok-draft.ensures
