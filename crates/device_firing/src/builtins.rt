@@ -11,7 +11,9 @@ ghost use Rattle.device_firing.specs.Kids.{Applied, AreWithin, EndsWith, Filled,
 
 use fc_nodes::{Node, Unfolded, ceiling_of};
 use fc_values::{Builtin, LocalTy, Memory, Ty, inner};
-use value_columns::{all_hood, any_hood, apply_operator, greatest_hood, least_hood, spread, sum_hood};
+use value_columns::{
+    all_hood, any_hood, apply_operator, greatest_hood, least_hood, spread, sum_hood,
+};
 
 /// How many rows a value of a type has, where a field is over so many devices.
 pub fn rows_of(ty: &Ty, devices: usize) -> usize
@@ -103,7 +105,11 @@ fn operate(
             apply_operator(words, builtin, &types, ty, at, rows, ceiling);
         }
         [a, b, c] => {
-            let types = [kid_type(program, *a), kid_type(program, *b), kid_type(program, *c)];
+            let types = [
+                kid_type(program, *a),
+                kid_type(program, *b),
+                kid_type(program, *c),
+            ];
             apply_operator(words, builtin, &types, ty, at, rows, ceiling);
         }
         _ => unreachable!(),
