@@ -1,5 +1,5 @@
 -- A builtin at a node: what it needs among the words, and what is added in the end.
-use Rattle.std.proofs.Common.{◌≡◌, ℕ, ◌<◌, ◌≤◌, ◌+◌, List, length, get_or, refl, sym, ◌∙◌, ap, subst, arith}
+use Rattle.std.proofs.Common.{◌≡◌, ℕ, ◌<◌, ◌+◌, List, length, get_or, refl, sym, ◌∙◌, ap, subst, arith}
 use Rattle.fc_values.specs.declared.builtins.Builtin.{Builtin}
 use Rattle.fc_values.specs.declared.exports.Slot.{Slot}
 use Rattle.fc_values.specs.Types.{ValueType, type_of}

@@ -1,5 +1,5 @@
 -- The evaluation of a builtin's arguments: what each kid needs, and what stands behind the words afterwards.
-use Rattle.std.proofs.Common.{◌≡◌, ℕ, ◌<◌, ◌≤◌, ◌+◌, ◌*◌, List, [], ◌∷◌, ◌++◌, length, refl, sym, ◌∙◌, ap, subst}
+use Rattle.std.proofs.Common.{◌≡◌, ℕ, ◌<◌, ◌≤◌, ◌+◌, ◌*◌, List, [], ◌∷◌, length, refl, sym, ◌∙◌, ap, subst}
 use Rattle.std.proofs.Common.{arith, get_or}
 use Rattle.fc_values.specs.declared.exports.Slot.{Slot}
 use Rattle.fc_values.specs.Types.{ValueType, TypeLocal, TypeField, leaves}

@@ -5,7 +5,7 @@ use Rattle.fc_values.specs.declared.builtins.Builtin.{Builtin}
 use Rattle.fc_values.specs.declared.builtins.Builtin.TheVariants as op
 use Rattle.fc_values.specs.Types.{LocalType, ValueType, TypeLocal, TypeField, leaves}
 use Rattle.fc_values.specs.BuiltinTypes.{Takes, Lifts, HasRule, rule_by, lifted, inner, inners, has_field}
-use Rattle.fc_values.specs.Values.{LocalValue, IntValue}
+use Rattle.fc_values.specs.Values.{LocalValue}
 use Rattle.fc_values.specs.Fields.{AnyValue, ValueLocal, ValueField, FitEachOver, Rises, rises}
 use Rattle.fc_values.specs.Builtins.{is_hood, local_value, builtin_value, field_over}
 use Rattle.fc_values.specs.Positions.{argument_nth, arguments_nth, value_over}

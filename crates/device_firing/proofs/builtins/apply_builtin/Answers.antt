@@ -1,7 +1,6 @@
-use Rattle.std.proofs.Common.{◌<◌, List, length, refl, arith, false, ◌≡◌}
+use Rattle.std.proofs.Common.{◌<◌, length, refl, arith}
 use Rattle.fc_values.specs.declared.builtins.Builtin.TheVariants as op
 use Rattle.fc_values.specs.Types.{IntType, BoolType, local_type_of, type_of}
-use Rattle.fc_values.specs.Builtins.{is_hood}
 use Rattle.device_firing.specs.Kids.{kid_types}
 use Rattle.device_firing.proofs.HoodSteps.{hood_types, field_room, two_room}
 use Rattle.device_firing.proofs.HoodSteps.{sum_applied, any_applied, all_applied, least_applied, greatest_applied}
