@@ -8,7 +8,8 @@ from dataclasses import dataclass
 from typing import Any
 
 from .columns import DIGITS, TRUTHS
-from .networks import Network, Pair, in_range, numbered, plain, weight_of
+from .envelopes import envelope_of
+from .networks import Declared, Network, Pair, in_range, numbered, plain, weight_of
 from .refusals import Fault
 
 MOST_PAIRS = 128
@@ -86,6 +87,15 @@ def _within_limit(network: Network, near: Mapping[int, int]) -> None:
             f"{MOST_PAIRS}: choose a smaller range, or a smaller move",
             4,
         )
+
+
+def judged(lines: list[str], network: Network, wanted: Declared) -> list[str]:
+    """The lines, where all weights that links may have are in the metric of a program. Raises Fault, of status 3."""
+    for (a, b), weights in envelope_of(network, "\n".join(lines), wanted).links.items():
+        where = f"the link that may be of {network.called(a)} and {network.called(b)}"
+        for weight in weights:
+            weight_of(weight, where, span=wanted.metric)
+    return lines
 
 
 # ---- the columns of links ------------------------------------------------------------------------------------------

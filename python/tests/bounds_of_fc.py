@@ -113,6 +113,10 @@ OTHERS = (NOTHING, LINK_GOES, LINK_COMES, MIDDLE_AWAY, ONE_COMES, ANY_SOURCE)
 PLAYER = """#!{python}
 import json, os, sys
 
+def line_of(text):
+    words = text.split()
+    return words[:1] + sorted(words[1:3]) + words[3:] if words[:1] in (["link"], ["unlink"]) else words
+
 def key(words, text):
     program, network, changes = [*text.split("%%\\n"), "", ""][:3]
     try:
@@ -120,8 +124,8 @@ def key(words, text):
     except ValueError:
         return ""
     links = sorted([min(a, b), max(a, b), w] for a, b, w in found["links"])
-    parts = [sorted(words), program.split(), found["devices"], links, found.get("table"), sorted(changes.split("\\n"))]
-    return json.dumps(parts)
+    lines = sorted(map(line_of, changes.split("\\n")))
+    return json.dumps([sorted(words), program.split(), found["devices"], links, found.get("table"), lines])
 
 if "--changes" not in sys.argv:
     os.execv({real!r}, [{real!r}, *sys.argv[1:]])

@@ -134,14 +134,17 @@ class Points(InFolder):
 
     def test_refusals(self) -> None:
         rows = "id,x,y\n0,0,0\n1,6,0\n"
+        program = self.file("ceiling 9; metric 1..9; main = minHoodLoc(nbrLink, 9);\n", "p.fc")
         wanted: dict[str, tuple[int, str, tuple[object, ...]]] = {
             "--changes needs a --move": (2, rows, ()),
             "--move 1 is of all devices, and at.csv has a column move": (2, "id,x,y,move\n0,0,0,1\n", ("--move", 1)),
             "at.csv line 2: move is -1, and a device moves at least 0": (3, "id,x,y,move\n0,0,0,-1\n", ()),
             "at.csv line 2: move is 'far', which is no number": (3, "id,x,y,move\n0,0,0,far\n", ()),
             "--max-degree: which links are the nearest changes": (2, rows, ("--move", 1, "--max-degree", 3)),
+            "the link that may be of 0 and 1 weighs 10, and a weight is from 1 to 9":
+                (3, "0,0,0\n1,9,0\n", ("--move", 1, "--metric", "1..20", "--program", program)),
             "none/may.txt: there is no folder none": (6, rows, ("--move", 1, "--changes", "none/may.txt")),
-        }
+        }  # fmt: skip
         for said, (status, text, words) in wanted.items():
             found = self.made(text, *words)
             self.assertEqual((found[0], found[2].count("\n")), (status, 1), found)

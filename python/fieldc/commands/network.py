@@ -228,13 +228,20 @@ def changing(options: argparse.Namespace, program: str | None, found: Network) -
     if options.max_degree is not None:
         raise Fault("--max-degree: which links are the nearest changes where devices move; choose a smaller --range")
     if options.edges:
-        given = next((name for name in ("metric", "weight", "move") if getattr(options, name) is not None), None)
-        if given is not None:
-            raise Fault(f"--{given}: beside --edges and --changes weights are those of the file")
-        return movement.of_graph(files.graph(options.edges), found, options.round)
-    if not (options.points or options.disk):
+        lines = by_columns(options, found)
+    elif options.points or options.disk:
+        lines = movement.of_moves(found, moves_of(options, program, found), options.range, weight_by_length(options))
+    else:
         raise Fault("--changes is of --points, --disk and --edges")
-    return movement.of_moves(found, moves_of(options, program, found), options.range, weight_by_length(options))
+    return lines if program is None else movement.judged(lines, found, network.declared(program))
+
+
+def by_columns(options: argparse.Namespace, found: Network) -> list[str]:
+    """What may change by the columns of a file of links."""
+    given = next((name for name in ("metric", "weight", "move") if getattr(options, name) is not None), None)
+    if given is not None:
+        raise Fault(f"--{given}: beside --edges and --changes weights are those of the file")
+    return movement.of_graph(files.graph(options.edges), found, options.round)
 
 
 def weight_by_length(options: argparse.Namespace) -> movement.Weight:
