@@ -16,6 +16,14 @@ from .elsewhere import similar
 from .networks import Declared, Input, Network, Pair, declared, kind_of, read_scene
 from .refusals import Fault, Section
 
+FORMS = {
+    "set": "set DEVICES NAME VALUE",
+    "link": "link DEVICES DEVICES VALUE",
+    "links": "links DEVICES VALUE",
+    "unlink": "unlink DEVICES [DEVICES]",
+    "leave": "leave DEVICES",
+    "join": "join DEVICE VALUE ..",
+}
 NUMBERS = re.compile(r"([0-9]{1,7})\.\.([0-9]{1,7})")
 WITH_INPUT = re.compile(r"([A-Za-z][A-Za-z0-9_]*)=(true|false|[0-9]{1,7})")
 AROUND = re.compile(r"\+-([0-9]{1,7})(%?)")
@@ -97,12 +105,23 @@ def written_out(section: Section, network: Network, wanted: Declared) -> Section
     return Section(section.kind, section.name, section.first_line, "\n".join(written), section.text, tuple(rows))
 
 
+def check_forms(section: Section) -> None:
+    """Raises Fault, of status 3, with the line of the file, where one is of none of the forms, as `fc` would say it."""
+    for place, line in enumerate(section.text.split("\n")):
+        verb, *rest = line.removesuffix("\r").split(" ")
+        where = f"{section.name or section.kind} line {place + section.first_line}"
+        if verb not in FORMS and line.strip():
+            raise Fault(f"{where}: {verb[:40]} begins no line of changes; {', '.join(FORMS)} do", 3)
+        if verb in FORMS and (verb, len(rest)) not in RULES and ((verb, None) not in RULES or not rest):
+            raise Fault(f"{where}: it is written {FORMS[verb]}", 3)
+
+
 def lines_of(words: Sequence[str], known: Known, where: str) -> Iterator[str]:
     """The lines of `fc` for a line of a user's file. Raises Fault."""
     verb, rest = words[0], list(words[1:])
     rule = RULES.get((verb, len(rest)), RULES.get((verb, None)))
     if rule is None and verb == "links":
-        raise Fault(f"{where}: behind links stand devices and a weight, as in `links * +-2`", 3)
+        raise Fault(f"{where}: it is written {FORMS[verb]}", 3)
     if rule is None or (verb != "links" and (verb, len(rest)) != ("unlink", 1) and _is_plain(words, known)):
         yield " ".join(_with_numbers(words, known))
     else:

@@ -16,6 +16,7 @@ from .networks import Position
 from .picture import Picture, everywhere
 from .results import Drawn
 
+BOUNDED = "Between which values devices stay while the network changes"
 SIGNS = "\u25a1\u25c7\u25b3\u2b21"
 CORNERS = (
     ((-1.15, -1.15), (1.15, -1.15), (1.15, 1.15), (-1.15, 1.15)),
@@ -155,7 +156,7 @@ def page(picture: Picture) -> str:
     looks, gone, shows = _shows(picture, scales, screen)
     moving = any(frame.places for frame in picture.frames)
     return PAGE.format(
-        title=html.escape(picture.title or "A run of fc"),
+        title=html.escape(picture.title or (BOUNDED if picture.meaning.bounds else "A run of fc")),
         verdict=html.escape(picture.verdict),
         last=len(picture.frames) - 1,
         numbered=" checked" if picture.numbers else "",
@@ -216,7 +217,7 @@ def _network(picture: Picture, sectors: int, screen: Screen) -> tuple[str, float
     loose = set().union(*(frame.loose for frame in picture.frames))
     leaving = set().union(*(frame.away for frame in picture.frames))
     wider = f'<circle class="ring" pathLength="100" transform="rotate(-90)" r="{radius * WIDER:.1f}"/>'
-    ring = wider if picture.meaning.bounds else ""
+    ring, out = (wider, radius * WIDER) if picture.meaning.bounds else ("", radius)
     parts = [f'<svg viewBox="0 0 {screen.width:.0f} {screen.height:.0f}" xmlns="http://www.w3.org/2000/svg">']
     for a, b in links:
         (x1, y1), (x2, y2) = at[a], at[b]
@@ -234,7 +235,7 @@ def _network(picture: Picture, sectors: int, screen: Screen) -> tuple[str, float
             f'<g class="device{last}" data-id="{device}" transform="translate({x:.1f},{y:.1f})">'
             f"<title>device {html.escape(names[device])}</title>{''.join(paths)}"
             f'<circle class="border" r="{radius:.1f}"/>{ring}{outlines.get(device, "")}<text class="value"></text>'
-            f'<text class="number" x="{radius * 0.8:.1f}" y="{-radius * 0.9:.1f}" '
+            f'<text class="number" x="{out * 0.8:.1f}" y="{-out * 0.9:.1f}" '
             f'font-size="{max(radius * 0.6, 5):.1f}">'
             f"{html.escape(names[device])}</text></g>"
         )

@@ -103,7 +103,7 @@ class Patterns(unittest.TestCase):
             "set 9 temp +-1": "device 9 has no temp",
             "link 0 3 +-1": r"gate and 3 aren't linked, so there is no weight that \+-1",
             "link 1..1 mill 2": "1..1 and mill mean one device alone",
-            "links 0 1 2": "behind links stand devices and a weight",
+            "links 0 1 2": "it is written links DEVICES VALUE",
             "links temp=21 2": "temp=21 means no device",
             "unlink 0 2..4": "0 2..4 means no link of the network",
             "join 7..9 any +-2": r"a device that joins has no value yet that \+-2",
@@ -162,12 +162,19 @@ class Command(InFolder):
 
     def test_refusals(self) -> None:
         self.file("unlink *\nleave roof\n", "may.txt")
+        self.file("unlink *\n", "lines.txt")
+        self.file("unlink *\n\nleave 1 2\n", "short.txt")
+        self.file("join\n", "joins.txt")
         rows: dict[str, tuple[int, tuple[str, ...]]] = {
             "may.txt line 2: no device is called roof": (3, ("may.txt", "line.json", "hops.fc")),
             "2 sections: CHANGES NETWORK PROGRAM are three": (2, ("may.txt", "line.json")),
-            "hops.fc is no scene: line 1, column 1 is no JSON": (3, ("may.txt", "hops.fc", "line.json")),
+            "hops.fc is no scene: line 1, column 1 is no JSON": (3, ("lines.txt", "hops.fc", "line.json")),
+            "hops.fc line 1: ceiling begins no line of changes; set, link, links,":
+                (3, ("hops.fc", "line.json", "may.txt")),
+            "short.txt line 3: it is written leave DEVICES": (3, ("short.txt", "line.json", "hops.fc")),
+            "joins.txt line 1: it is written join DEVICE VALUE ..": (3, ("joins.txt", "line.json", "hops.fc")),
             "none.txt can't be read": (5, ("none.txt", "line.json", "hops.fc")),
-        }
+        }  # fmt: skip
         for said, (status, words) in rows.items():
             done = fieldc("changes", *words, folder=self.folder)
             self.assertEqual((done.status, done.output, done.errors.count("\n")), (status, "", 1), done.errors)

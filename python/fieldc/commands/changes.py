@@ -6,7 +6,7 @@ import argparse
 from dataclasses import replace
 
 from ..asking import add_files
-from ..changes import written_out
+from ..changes import check_forms, written_out
 from ..files import names_from
 from ..networks import declared, read_scene
 from ..refusals import Fault
@@ -41,6 +41,7 @@ def perform(options: argparse.Namespace) -> int:
     if len(parts) != len(KINDS):
         raise Fault(f"{len(parts)} sections: CHANGES NETWORK PROGRAM are three")
     changes, network, program = parts
+    check_forms(changes)
     found = read_scene(network.text, network.name, network.first_line)
     names = names_from(options.names) if options.names else {}
     write("-", written_out(changes, replace(found, names=names), declared(program.text)).text)
