@@ -20,16 +20,21 @@ _fieldc_words() {
         fi
     done
     case "$command $before" in
-        "check --names")
+        "check --changes" | "check --names")
+            return ;;
+        "check --confirm" | "check --period" | "check --lasts" | "check --delivery")
+            compopt +o bashdefault +o default 2>/dev/null
             return ;;
         "check --format")
             compopt +o bashdefault +o default 2>/dev/null
             COMPREPLY=($(compgen -W "text gcc" -- "$current"))
             return ;;
-        "settle --names")
+        "settle --changes" | "settle --names")
             return ;;
-        "settle --kinds")
+        "settle --confirm" | "settle --period" | "settle --lasts" | "settle --delivery" | "settle --kinds")
             compopt +o bashdefault +o default 2>/dev/null
+            return ;;
+        "changes --names")
             return ;;
         "stable --names")
             return ;;
@@ -68,9 +73,9 @@ _fieldc_words() {
             compopt +o bashdefault +o default 2>/dev/null
             COMPREPLY=($(compgen -W "anywhere away broadcast channel collectAll collectAny collectMax collectMin collectSum colour countDown crowdWarning crowding density dispersal distance distanceAround distanceBetween distanceBy distanceSlow div eccentricity evacuate everywhere fadingMax forecast greatestAlong greatestOf64 heads hops hopsAround leader leaderPacked leastOf1024 leastOf64 majority mean nearest nearestByDistance nearestByHops nextHop onWay parent parentIn recently regionMean regionSum rest ruling rulingOf1024 size sparse sumAlong summariseMax summariseSum timer widest8" -- "$current"))
             return ;;
-        "network --points" | "network --edges" | "network --scene" | "network --moves" | "network -o" | "network --output" | "network --program" | "network --table" | "network --positions" | "network --names")
+        "network --points" | "network --edges" | "network --scene" | "network --moves" | "network -o" | "network --output" | "network --changes" | "network --program" | "network --table" | "network --positions" | "network --names")
             return ;;
-        "network --line" | "network --ring" | "network --grid" | "network --torus" | "network --disk" | "network --every" | "network --run" | "network --gone-after" | "network --range" | "network --scale" | "network --side" | "network --seed" | "network --weight" | "network --metric" | "network --unit" | "network --max-degree" | "network --set" | "network --inputs")
+        "network --line" | "network --ring" | "network --grid" | "network --torus" | "network --disk" | "network --every" | "network --run" | "network --gone-after" | "network --move" | "network --range" | "network --scale" | "network --side" | "network --seed" | "network --weight" | "network --metric" | "network --unit" | "network --max-degree" | "network --set" | "network --inputs")
             compopt +o bashdefault +o default 2>/dev/null
             return ;;
         "picture -o" | "picture --output" | "picture --values" | "picture --positions" | "picture --names")
@@ -80,7 +85,7 @@ _fieldc_words() {
             return ;;
         "picture --of")
             compopt +o bashdefault +o default 2>/dev/null
-            COMPREPLY=($(compgen -W "stable settle from-table trace run replay mail" -- "$current"))
+            COMPREPLY=($(compgen -W "stable settle from-table trace run replay mail changes changes-from-table" -- "$current"))
             return ;;
         "rounds -o" | "rounds --output" | "rounds --csv" | "rounds --names")
             return ;;
@@ -99,9 +104,10 @@ _fieldc_words() {
             return ;;
     esac
     case $command in
-        "") words="check settle stable trace run replay mail gen format compose network picture rounds sweep firmware -h --help --version" ;;
-        check) files=yes words="--facts --settle --from-table --why --no-cut-check --format --json --names -h --help" ;;
-        settle) files=yes words="--facts --from-table --why --no-cut-check --json --csv --names --kinds -h --help" ;;
+        "") words="check settle changes stable trace run replay mail gen format compose network picture rounds sweep firmware -h --help --version" ;;
+        check) files=yes words="--facts --settle --from-table --why --changes --confirm --period --lasts --delivery --no-cut-check --format --json --names -h --help" ;;
+        settle) files=yes words="--facts --from-table --why --changes --confirm --period --lasts --delivery --no-cut-check --json --csv --names --kinds -h --help" ;;
+        changes) files=yes words="--names -h --help" ;;
         stable) files=yes words="--no-cut-check --json --csv --names --kinds -h --help" ;;
         trace) files=yes words="--no-cut-check --json --csv --names --kinds -h --help" ;;
         run) files=yes words="--workers --log --table --no-cut-check --json --csv --names --kinds -h --help" ;;
@@ -110,8 +116,8 @@ _fieldc_words() {
         gen) words="--devices --workers --json -h --help" ;;
         format) files=yes words="--json -h --help" ;;
         compose) files=yes words="--network --library --no-cut-check --unjudged -o --output --list --show -h --help" ;;
-        network) words="--line --ring --grid --torus --disk --points --edges --scene --moves -o --output --every --run --gone-after --range --scale --side --seed --undirected --weight --metric --unit --round --max-degree --set --inputs --program --table --positions --names -h --help" ;;
-        picture) files=yes words="-o --output --values --of --show --page --positions --names --numbers --mark --kinds --arrows --title --no-cut-check -h --help" ;;
+        network) words="--line --ring --grid --torus --disk --points --edges --scene --moves -o --output --every --run --gone-after --changes --move --range --scale --side --seed --undirected --weight --metric --unit --round --max-degree --set --inputs --program --table --positions --names -h --help" ;;
+        picture) files=yes words="-o --output --values --of --show --page --rounds --positions --names --numbers --mark --kinds --arrows --title --no-cut-check -h --help" ;;
         rounds) files=yes words="-o --output --number --rounds --workers --title --csv --names --no-cut-check -h --help" ;;
         sweep) words="--line --ring --grid --torus --disk --points --edges --range --side --density --jitter --fail --weight --metric --unit --max-degree --set --count --seed --values -o --output --report --title --workers --scheduler --no-cut-check --again --positions -h --help" ;;
         firmware) words="--name --neighbours -o --output --cost --layout --network --library --unjudged -h --help" ;;

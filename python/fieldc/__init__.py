@@ -16,14 +16,17 @@ from __future__ import annotations
 
 from .cuts import Cut, Untold
 from .errors import Error
-from .library import check, compose, cut, format, generate, mail, replay, run, settle, stable, trace
+from .library import bounds, check, compose, cut, format, generate, mail, replay, run, settle, stable, trace
 from .networks import Network, from_graph, read_scene
 from .plots import draw
 from .refusals import Call, Explanation, Fault, Refusal, Section
 from .results import (
+    Bound,
+    Bounds,
     Checked,
     Fact,
     Generated,
+    Held,
     Mailed,
     Ran,
     Replayed,
@@ -37,6 +40,8 @@ from .shapes import network
 from .version import VERSION as __version__
 
 __all__ = [
+    "Bound",
+    "Bounds",
     "Call",
     "Checked",
     "Cut",
@@ -45,6 +50,7 @@ __all__ = [
     "Fact",
     "Fault",
     "Generated",
+    "Held",
     "Mailed",
     "Network",
     "Ran",
@@ -58,6 +64,7 @@ __all__ = [
     "Untold",
     "Verdict",
     "__version__",
+    "bounds",
     "check",
     "compose",
     "cut",

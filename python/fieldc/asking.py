@@ -9,16 +9,17 @@ from collections.abc import Callable, Mapping, Sequence
 from dataclasses import replace
 from typing import TypeVar, Union
 
-from . import cuts, results
+from . import changes, cuts, results
 from . import program as fc
 from .edits import by_numbers
 from .files import names_from
 from .json_results import written
 from .kinds import Kinds, by_names, kinds_of, values_of, with_names
+from .pace import pace_of, timed
 from .progress import Progress, described
 from .refusals import Call, Explanation, Fault, Refusal, Section, explained, warned
 from .results import value_of, word_of
-from .sections import sections, write
+from .sections import read, sections, write
 from .streams import pour, say
 from .tables import table_of
 from .telling import place_of, rest_of
@@ -72,10 +73,10 @@ def ask(
 
     Raises Refusal and Fault.
     """
-    names = names_from(options.names) if getattr(options, "names", None) else {}
+    names, pace = names_from(options.names) if getattr(options, "names", None) else {}, pace_of(options)
     if getattr(options, "kinds", None) and not options.names:
         raise Fault("--kinds writes devices by their names: give --names too")
-    call = Call(tuple(words), tuple(numbered(section, names) for section in sections(options.files, kinds)))
+    call = Call(tuple(words), parts_of(options, kinds, names))
     start = time.monotonic()
     with Progress(lambda: described(call)) as waiting:
         reply = fc.answered(call, waiting)
@@ -86,17 +87,29 @@ def ask(
     why, warnings = why_no(call, reply.text) if reply.status == 1 else None, warned(call)
     if options.json:
         warnings += cuts_of(result)
-        write("-", written(shown, names, why, warnings))
+        write("-", written(shown, names, why, warnings, pace))
         return call, result, reply.status
     if getattr(options, "csv", False):
-        write("-", table_of(shown, names))
-    elif names:
-        write("-", named(reply.text, names, "settle" if "--settle" in words else words[0], parts))
+        write("-", table_of(shown, names, pace))
+    elif names or pace is not None:
+        text = reply.text if pace is None else timed(reply.text, pace)
+        write("-", named(text, names, "settle" if "--settle" in words else words[0], parts))
     else:
         pour(reply.output)
+    if pace is not None:
+        say(f"fieldc: {pace.premise}\n")
     tell(why, warnings)
     tell(None, cuts_of(result))
     return call, result, reply.status
+
+
+def parts_of(options: argparse.Namespace, kinds: Sequence[str], names: Mapping[int, str]) -> tuple[Section, ...]:
+    """The sections of the files, and behind them that of the changes, where there are some. Raises Fault."""
+    given = getattr(options, "changes", None)
+    if given == "-" and "-" in options.files:
+        raise Fault("standard input can be read once: name it by one -")
+    parts = tuple(numbered(section, names) for section in sections(options.files, kinds))
+    return parts if given is None else (*parts, changes.for_fc(Section("changes", given, 1, read(given)), parts, names))
 
 
 def cut_warnings(
@@ -130,7 +143,7 @@ def named(text: str, names: Mapping[int, str], command: str, kinds: Kinds | None
     if command not in OF_DEVICES:
         return text
     lines = text.splitlines()
-    first = next((i + 1 for i, line in enumerate(lines) if line == "open" or line.startswith("settles ")), 0)
+    first = next((i + 1 for i, line in enumerate(lines) if line.split(" ")[0] in ("open", "settles", "within")), 0)
     last = lines.index("log") if "log" in lines else len(lines)
 
     def call(word: str) -> str:
@@ -140,7 +153,7 @@ def named(text: str, names: Mapping[int, str], command: str, kinds: Kinds | None
         device, *rest = lines[place].split(" ")
         if device.isdigit():
             walk = [call(word) for word in rest[1:]] if command == "trace" else rest[1:]
-            rest, at = [*rest[:1], *walk], 1 if command == "settle" else 0
+            rest, at = [*rest[:1], *walk], len(rest) - 1 if command == "settle" else 0
             if kinds is not None and at < len(rest):
                 rest[at] = word_of(by_names(value_of(rest[at]), kinds))
             lines[place] = " ".join([call(device), *rest])

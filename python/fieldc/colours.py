@@ -3,11 +3,11 @@
 from __future__ import annotations
 
 import math
-from collections.abc import Iterable, Sequence
+from collections.abc import Iterable, Iterator, Sequence
 from dataclasses import dataclass, replace
 
 from .kinds import Kinds, by_names, parts_of
-from .results import Value, word_of
+from .results import Bound, Drawn, Value, word_of
 
 GREY, WHITE, FALSE, TRUE, APART, LAST, MARK, LINK = (
     "#c9c9c9", "#ffffff", "#d9d9d9", "#1b7837", "#f29ac0", "#d6381e", "#111111", "#b5b5b5",
@@ -35,7 +35,7 @@ class Meaning:
 
     `scale` names the scale, `none` what a device without a value is, which has the colour `bare`; with `resting` a 0
     has the colour grey and this meaning. `ceiling` is that of the program, where it is known: it has a colour of its
-    own.
+    own. With `bounds` a device has a bound in the place of a value.
     """
 
     scale: str = "value"
@@ -44,6 +44,7 @@ class Meaning:
     resting: str = ""
     ceiling: int | None = None
     kinds: Kinds | None = None
+    bounds: bool = False
 
 
 @dataclass(frozen=True)
@@ -92,6 +93,22 @@ class Scale:
             return WHITE
         return shade((part - self.low) / max(self.high - self.low, 1))
 
+    def of_bound(self, low: int | bool, high: int | bool) -> str:
+        """The colour of a part of a bound: that of its middle; white for a truth value that may be either."""
+        if low == high:
+            return self.colour(low)
+        if isinstance(low, bool) or self.low is None or self.high is None:
+            return WHITE
+        middle = (min(max(low, self.low), self.high) + min(max(high, self.low), self.high)) / 2
+        return shade((middle - self.low) / max(self.high - self.low, 1))
+
+    def width(self, low: int | bool, high: int | bool) -> float:
+        """How wide a part of a bound is, from 0 to 1, which is as wide as all numbers of the picture."""
+        if isinstance(low, bool) or self.low is None or self.high is None:
+            return float(low != high)
+        whole = max(self.high, self.apart or 0) - self.low
+        return (high - low) / max(whole, 1)
+
 
 def shade(place: float) -> str:
     """The colour at a place of a scale, which goes from 0 to 1."""
@@ -101,7 +118,7 @@ def shade(place: float) -> str:
 
 
 def scales_of(
-    values: Iterable[Value | None], meaning: Meaning, settled: Iterable[Value | None] | None = None
+    values: Iterable[Drawn | None], meaning: Meaning, settled: Iterable[Drawn | None] | None = None
 ) -> tuple[Scale, ...]:
     """A scale for each part of the values, so that one colour is one number in all of them.
 
@@ -132,13 +149,13 @@ def _with_kinds(
     )
 
 
-def rungs(scales: Sequence[Scale], values: Iterable[Value | None]) -> list[tuple[float, str]]:
+def rungs(scales: Sequence[Scale], values: Iterable[Drawn | None]) -> list[tuple[float, str]]:
     """One scale for all parts of pairs: places from 0 to 1 on it, each with the value whose parts have that place on
     scales of their own, written as the values are.
 
     A dot stands for a part that has no number about there.
     """
-    form = next((value for value in values if value is not None), None)
+    form = next(iter(ends_of(values)), None)
     if form is None or not any(scale.has_numbers for scale in scales):
         return []
     places = [number / (RUNGS - 1) for number in range(RUNGS)]
@@ -156,9 +173,18 @@ def shaped(form: Value, words: Sequence[str]) -> str:
     return said(form)
 
 
-def _columns(values: Iterable[Value | None]) -> list[tuple[int | bool, ...]]:
+def ends_of(values: Iterable[Drawn | None]) -> Iterator[Value]:
+    """The values that are there, and both ends of bounds."""
+    for value in values:
+        if isinstance(value, Bound):
+            yield from (value.low, value.high)
+        elif value is not None:
+            yield value
+
+
+def _columns(values: Iterable[Drawn | None]) -> list[tuple[int | bool, ...]]:
     """The parts of some values, by their places."""
-    return list(zip(*(parts_of(value) for value in values if value is not None)))
+    return list(zip(*map(parts_of, ends_of(values))))
 
 
 def _clipped(scale: Scale, column: Sequence[int | bool]) -> Scale:
@@ -190,11 +216,22 @@ def _apart(numbers: Sequence[int], ceiling: int | None) -> int | None:
     return None
 
 
-def colours_of(value: Value | None, scales: Sequence[Scale], meaning: Meaning) -> tuple[str, ...]:
-    """The colours of a device: one for each part of its value."""
+def colours_of(value: Drawn | None, scales: Sequence[Scale], meaning: Meaning) -> tuple[str, ...]:
+    """The colours of a device: one for each part of its value, or of its bound."""
     if value is None:
         return (meaning.bare,)
+    if isinstance(value, Bound):
+        parts = zip(scales, parts_of(value.low), parts_of(value.high))
+        return tuple(scale.of_bound(low, high) for scale, low, high in parts)
     return tuple(scale.colour(part) for scale, part in zip(scales, parts_of(value)))
+
+
+def width_of(value: Drawn | None, scales: Sequence[Scale]) -> float:
+    """How wide a bound is, from 0 to 1: that of its widest part; 0 for a value."""
+    if not isinstance(value, Bound):
+        return 0.0
+    parts = zip(scales, parts_of(value.low), parts_of(value.high))
+    return max(scale.width(low, high) for scale, low, high in parts)
 
 
 def is_dark(colours: Sequence[str]) -> bool:
@@ -210,7 +247,7 @@ def entries(scales: Sequence[Scale], some_none: bool, meaning: Meaning) -> list[
     """The legend beside the scales: colours, and what they mean."""
     found = kinds_shown(scales, meaning)
     if any(scale.truths for scale in scales):
-        found += [(TRUE, "true"), (FALSE, "false")]
+        found += [(TRUE, "true"), (FALSE, "false"), *[(WHITE, "true or false")] * meaning.bounds]
     for number in dict.fromkeys(scale.apart for scale in scales if scale.apart is not None):
         name = "the ceiling" if number == meaning.ceiling else "apart from the scale"
         found.append((APART, f"{number:,}, {name}"))
@@ -233,8 +270,10 @@ def kinds_shown(scales: Sequence[Scale], meaning: Meaning) -> list[tuple[str, st
     return [*rows, *[(WHITE, "no device")] * any(one.kinds and one.clipped for one in scales)]
 
 
-def label_of(value: Value | None, scales: Sequence[Scale] = (), meaning: Meaning = Meaning()) -> str:
-    """What is written in a device: its whole value, with kinds by their names."""
+def label_of(value: Drawn | None, scales: Sequence[Scale] = (), meaning: Meaning = Meaning()) -> str:
+    """What is written in a device: its whole value, with kinds by their names, or its bound."""
+    if isinstance(value, Bound):
+        return str(value)
     if value is None or meaning.kinds is None:
         return word_of(value)
     known = {number for scale in scales for number in scale.kinds}

@@ -23,6 +23,7 @@ if TYPE_CHECKING:
 COMMANDS = {
     "check": "fieldc.commands.check",
     "settle": "fieldc.commands.settle",
+    "changes": "fieldc.commands.changes",
     "stable": "fieldc.commands.stable",
     "trace": "fieldc.commands.trace",
     "run": "fieldc.commands.run",

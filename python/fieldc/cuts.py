@@ -224,7 +224,7 @@ def warned(
 
     Of a run it is the values to which its program settles on the networks of its last shows; of a log those after it.
     """
-    if isinstance(result, (str, results.Checked, results.Generated)):
+    if isinstance(result, (str, results.Checked, results.Generated, results.Bounds)):
         return ()
     program, network, *log = call.sections
     words = words_of(call, result)

@@ -8,14 +8,25 @@ import sys
 from collections.abc import Sequence
 from typing import Any
 
-from .colours import LAST, LINK, MAP, OUTLINES, Scale, colours_of, entries, is_dark, label_of, rungs, scales_of
+from .colours import (
+    LAST, LINK, MAP, OUTLINES, Scale, colours_of, entries, is_dark, label_of, rungs, scales_of, width_of,
+)  # fmt: skip
+from .networks import Position
 from .picture import Frame, Picture
 from .refusals import Fault
+from .results import Bound
 
 WALK = LAST
 BORDER = "#555555"
 ARROW = "#222222"
-MOST_LABELS = 120
+RING, WIDER, STEPS = "#222222", 1.3, 48
+"""The ring around a device that is as long as its bound is wide: its colour, how much wider it is than the circle, and
+how many lengths are told apart."""
+
+MOST_LABELS, MOST_INSIDE = 120, 6
+WIDTH = "ring: how wide the bound is"
+AWAY = "dashed border: may be away"
+LOOSE = "dashed link: may be missing"
 
 
 def pyplot_ready() -> Any:
@@ -59,12 +70,13 @@ def paint(axes: Any, picture: Picture) -> None:
     _links(axes, picture, frame)
     _arrows(axes, picture, frame)
     _devices(axes, picture, frame, scales)
+    _rings(axes, picture, frame, scales)
     _labels(axes, picture, frame, scales)
     _legend(axes, picture, frame, scales)
     _bar(axes.figure, axes, scales, picture)
     axes.set_title(" ".join(filter(None, (picture.title, frame.title))))
     axes.set_aspect("equal", adjustable="datalim")
-    axes.margins(0.06)
+    axes.margins(0.12 if picture.meaning.bounds else 0.06)
     axes.axis("off")
 
 
@@ -80,9 +92,9 @@ def _links(axes: Any, picture: Picture, frame: Frame) -> None:
     on_walk = [(min(a, b), max(a, b)) in thick for a, b, _ in frame.network.links]
     rows = [(at[a], at[b]) for a, b, _ in frame.network.links]
     colours = [WALK if one else LINK for one in on_walk]
-    axes.add_collection(
-        LineCollection(rows, colors=colours, linewidths=[3 if one else 0.8 for one in on_walk], zorder=1)
-    )
+    styles = ["--" if (min(a, b), max(a, b)) in frame.loose else "-" for a, b, _ in frame.network.links]
+    widths = [3 if one else 0.8 for one in on_walk]
+    axes.add_collection(LineCollection(rows, colors=colours, linewidths=widths, linestyles=styles, zorder=1))
 
 
 def _arrows(axes: Any, picture: Picture, frame: Frame) -> None:
@@ -119,12 +131,32 @@ def _devices(axes: Any, picture: Picture, frame: Frame, scales: Sequence[Scale])
         axes.scatter(*places, s=size * reach**2, c=shades, marker=corners, linewidths=0, zorder=2)
     edges = [LAST if d in picture.last else BORDER for d in devices]
     widths = [2.5 if d in picture.last else 0.5 for d in devices]
-    axes.scatter(xs, ys, s=size, facecolors="none", edgecolors=edges, linewidths=widths, zorder=3)
+    styles = ["--" if d in frame.away else "-" for d in devices]
+    widths = [1.5 if d in frame.away else width for d, width in zip(devices, widths)]
+    axes.scatter(xs, ys, s=size, facecolors="none", edgecolors=edges, linewidths=widths, linestyles=styles, zorder=3)
     for found, (shape, colour, wide) in zip(picture.marked_by(frame), OUTLINES):
         places = [picture.places[device] for device in sorted(found - (set(picture.last) if shape == "o" else set()))]
         if places:
             look = {"marker": shape, "facecolors": "none", "edgecolors": colour, "linewidths": 2.5, "zorder": 6}
             axes.scatter(*zip(*places), s=size * wide, **look)
+
+
+def _rings(axes: Any, picture: Picture, frame: Frame, scales: Sequence[Scale]) -> None:
+    """Around each device whose value isn't known a part of a ring, as long as its bound is wide, clockwise from
+    above."""
+    from matplotlib.path import Path
+
+    by_steps: dict[int, list[Position]] = {}
+    for device in frame.network.devices:
+        steps = math.ceil(width_of(frame.values.get(device), scales) * STEPS)
+        by_steps.setdefault(steps, []).append(picture.places[device])
+    size = area(len(frame.network.devices)) * WIDER**2
+    for steps, places in by_steps.items():
+        if steps:
+            angles = [2 * math.pi * step / STEPS for step in range(steps + 1)]
+            arc = Path([(math.sin(angle), math.cos(angle)) for angle in angles])
+            look = {"marker": arc, "facecolors": "none", "edgecolors": RING, "linewidths": 3, "zorder": 2.5}
+            axes.scatter(*zip(*places), s=size, **look)
 
 
 def sector(place: int, count: int) -> list[tuple[float, float]]:
@@ -141,11 +173,14 @@ def _labels(axes: Any, picture: Picture, frame: Frame, scales: Sequence[Scale]) 
     from matplotlib.patheffects import withStroke
 
     devices = frame.network.devices
-    across = math.sqrt(area(len(devices)))
+    across, wider = math.sqrt(area(len(devices))), WIDER if picture.meaning.bounds else 1.0
     for device in devices:
         value, at = frame.values.get(device), picture.places[device]
-        if frame.values and len(devices) <= MOST_LABELS:
-            text = label_of(value, scales, picture.meaning)
+        text = label_of(value, scales, picture.meaning)
+        if isinstance(value, Bound) and MOST_INSIDE < len(text) and len(devices) <= MOST_LABELS:
+            below = {"xytext": (0, -across * 0.85), "textcoords": "offset points", "fontsize": 8, "zorder": 5}
+            axes.annotate(text, at, ha="center", va="top", **below).set_in_layout(False)
+        elif frame.values and len(devices) <= MOST_LABELS:
             colours = colours_of(value, scales, picture.meaning)
             ink, halo = ("white", "black") if is_dark(colours) else ("black", "white")
             font = min(8 if len(devices) <= 60 else 6, across / (0.55 * len(text)))
@@ -155,7 +190,7 @@ def _labels(axes: Any, picture: Picture, frame: Frame, scales: Sequence[Scale]) 
                 *at, text, ha="center", va="center", fontsize=font, color=ink, zorder=4, path_effects=round_it
             ).set_in_layout(False)
         if picture.numbers:
-            away = (across * 0.38, across * 0.38)
+            away = (across * 0.38 * wider, across * 0.38 * wider)
             axes.annotate(
                 frame.network.called(device),
                 at,
@@ -180,12 +215,24 @@ def _legend(axes: Any, picture: Picture, frame: Frame, scales: Sequence[Scale]) 
         handles.append(Line2D([], [], marker=shape, ls="", color="white", mec=colour, mew=2, ms=9, label=name))
     if picture.last:
         handles.append(dot("white", picture.said.partition("; ")[0], LAST))
+    handles += [Line2D([], [], marker=shape, ls=line, label=label, **look) for shape, line, label, look in signs(frame)]
     if frame.walks:
         handles.append(Line2D([], [], color=WALK, lw=3, label="least walks"))
+    columns = min(len(handles), 3 if picture.meaning.bounds else 4)
     if handles:
-        axes.legend(
-            handles=handles, loc="upper left", bbox_to_anchor=(0, -0.01), ncols=min(len(handles), 4), frameon=False
-        )
+        axes.legend(handles=handles, loc="upper left", bbox_to_anchor=(0, -0.01), ncols=columns, frameon=False)
+
+
+def signs(frame: Frame) -> list[tuple[str, str, str, dict[str, Any]]]:
+    """The signs of bounds in the legend: of each its marker, its line, what it means, and its look."""
+    found: list[tuple[str, str, str, dict[str, Any]]] = []
+    if any(isinstance(value, Bound) and not value.known for value in frame.values.values()):
+        found.append(("o", "", WIDTH, {"color": "white", "mec": RING, "mew": 3, "ms": 9}))
+    if frame.away:
+        found.append(("", "--", AWAY, {"color": BORDER, "lw": 1.5}))
+    if frame.loose:
+        found.append(("", "--", LOOSE, {"color": LINK, "lw": 0.8}))
+    return found
 
 
 def _bar(figure: Any, axes: Any, scales: Sequence[Scale], picture: Picture) -> None:

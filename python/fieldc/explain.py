@@ -9,7 +9,7 @@ from __future__ import annotations
 
 from collections.abc import Callable
 
-from . import explain_network, explain_script
+from . import explain_changes, explain_network, explain_script
 from .explain_script import with_words
 from .explain_verdict import Verdict, no_walks
 from .explain_words import usage, wrong_sections
@@ -119,6 +119,13 @@ def _line(call: Call, words: list[str]) -> tuple[Section | None, Said | None]:
     return section, explain_script.line_fault(section, kind, int(words[1]), words[2], scene, program)
 
 
+def _changes(call: Call, words: list[str]) -> tuple[Section | None, Said | None]:
+    section, scene, program = section_of(call, "changes"), scene_of(call), program_of(call).unfolded
+    if section is None or not isinstance(scene, Json) or program is None:
+        return None, None
+    return section, explain_changes.line_fault(section, int(words[1]), words[2], scene, program)
+
+
 def _limit(call: Call, words: list[str]) -> tuple[Section | None, Said | None]:
     name, count = words[1], int(words[2])
     if name in PROGRAM_LIMITS:
@@ -149,6 +156,9 @@ def _network_limit(call: Call, name: str, count: int) -> tuple[Section | None, S
     said = explain_network.degree(scene) if name == "degree" else explain_network.too_many(scene, count)
     if said is not None:
         return section_of(call, "network"), said
+    section = section_of(call, "changes")
+    if section is not None:
+        return section, explain_changes.limit(section, name, scene)
     section, kind = _lines(call)
     if section is None:
         return None, None
@@ -199,6 +209,7 @@ RULES: dict[str, Callable[[Call, list[str]], tuple[Section | None, Said | None]]
     "kept": _scene,
     "script": _line,
     "log": _line,
+    "changes": _changes,
     "no": _no,
     "open": _open,
 }
@@ -222,7 +233,10 @@ def warnings(call: Call) -> tuple[Explanation, ...]:
 
 
 def _joining(call: Call) -> list[int]:
-    """The numbers of the devices that join in a script or log."""
+    """The numbers of the devices that join in a script or log, or may come by changes."""
+    changes = section_of(call, "changes")
+    if changes is not None:
+        return list(explain_changes.joining(changes))
     section, kind = _lines(call)
     if section is None or kind == "mail":
         return []

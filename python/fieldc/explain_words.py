@@ -12,7 +12,7 @@ from .telling import counted
 CALLS = COMMANDS + "#the-calls"
 FLAGS = {
     "format": (),
-    "check": ("--facts", "--settle", "--from-table"),
+    "check": ("--facts", "--settle", "--from-table", "--changes"),
     "stable": (),
     "trace": (),
     "run": ("--workers", "--log", "--table"),
@@ -65,9 +65,14 @@ def usage(words: tuple[str, ...]) -> Said | None:
             return _strange_word(command, words[place - 1])
     if command == "gen" and not numbers:
         return Said("`gen` needs the number of a scenario.", None, "gen", "Write `gen 7`.", CALLS)
-    if "--from-table" in seen and "--settle" not in seen:
-        hint = "Write `check --settle --from-table`."
-        return Said("`--from-table` stands beside `--settle` alone.", None, "--from-table", hint, CALLS)
+    for flag in ("--from-table", "--changes"):
+        if flag in seen and "--settle" not in seen:
+            return Said(
+                f"`{flag}` stands beside `--settle` alone.", None, flag, f"Write `check --settle {flag}`.", CALLS
+            )
+    if "--changes" in seen:
+        hint = "It is an older one: build it anew with `./build`."
+        return Said("This fc has no flag `--changes`.", None, "--changes", hint, CALLS)
     return None
 
 
@@ -119,6 +124,8 @@ def wrong_sections(words: tuple[str, ...], count: int) -> Said | None:
     wanted = SECTIONS.get(command)
     if command == "mail" and any(word.partition("=")[0] == "--number" for word in words):
         wanted = SECTIONS["check"]
+    if "--changes" in words:
+        wanted = (*SECTIONS["check"], "changes")
     if wanted is None:
         return None
     names = " and ".join(", ".join(wanted).rsplit(", ", 1))

@@ -8,7 +8,7 @@ import io
 import json
 import re
 from collections.abc import Mapping, Sequence
-from dataclasses import dataclass
+from dataclasses import dataclass, field
 from pathlib import Path
 from types import MappingProxyType
 from typing import Any
@@ -20,16 +20,19 @@ from .sections import read
 from .separated import Columns, columns_of, is_number, text_of_file
 
 ENDS = {"source", "target", "from", "to", "weight", "u", "v", "a", "b", "node1", "node2"}
+OF_LINKS = ("weight", "least", "greatest", "goes")
 
 
 @dataclass(frozen=True)
 class Points:
-    """Positions of devices, rising, with the names that were no numbers, and inputs from further columns."""
+    """Positions of devices, rising, with the names that were no numbers, and inputs from further columns; and how far
+    each may move, where a column says it."""
 
     positions: Mapping[int, Position]
     names: Mapping[int, str]
     inputs: Mapping[int, Mapping[str, Input]]
     left_out: tuple[str, ...] = ()
+    moves: Mapping[int, float] = field(default_factory=dict)
 
 
 # ---- positions -----------------------------------------------------------------------------------------------------
@@ -40,23 +43,31 @@ def points(
     program: str | None = None,
     inputs: Sequence[str] | None = None,
     scale: Mapping[str, float] = MappingProxyType({}),
+    moving: bool = False,
 ) -> Points:
     """The positions of a file of rows `id x y` and further columns, parted by semicolons, tabs, bars, commas, colons or
     spaces, or of points in GeoJSON. Where the names of the columns have no id, rows are numbered.
 
     A row of names may stand first; with it the columns may stand in any order, and further ones are inputs: those that
     `program` declares or `inputs` names, else all. Columns `lat` and `lon` in the place of `x` and `y` are degrees, of
-    which metres are made. Numbers of inputs are multiplied by what `scale` has for them, and rounded. Raises Fault, of
-    status 3, with the line that is at fault.
+    which metres are made. Numbers of inputs are multiplied by what `scale` has for them, and rounded. With `moving` a
+    column `move`, unless it is an input that is asked for, says how far each device may move. Raises Fault, of status
+    3, with the line that is at fault.
     """
-    columns = columns_of(name, program, inputs, scale)
+    columns = columns_of(name, program, inputs, scale, moving=moving)
     number, names = _numbered_rows(columns)
-    places, found, lines = {}, {}, {}
+    places, found, lines, moves = {}, {}, {}, {}
     for place, row in enumerate(columns.rows):
         device = place if columns.id is None else number[columns.id_of(row)]
         places[device], found[device], lines[device] = columns.place(row), columns.inputs(row), columns.where(row)
+        moves[device] = columns.may_move(row)
     positions = in_metres(places, lines) if columns.in_degrees else places
-    return Points(dict(sorted(positions.items())), names, dict(sorted(found.items())), columns.left_out)
+    return Points(dict(sorted(positions.items())), names, dict(sorted(found.items())), columns.left_out, _there(moves))
+
+
+def _there(moves: Mapping[int, float | None]) -> dict[int, float]:
+    """How far devices may move, of those of which it is known."""
+    return {device: move for device, move in moves.items() if move is not None}
 
 
 def _numbered_rows(columns: Columns) -> tuple[dict[str, int], dict[int, str]]:
@@ -151,7 +162,9 @@ def listed(name: str, text: str) -> Any:
     """The graph of a list of links: lines `a b`, `a b weight` or `a b {'weight': 2}`, as networkx writes them.
 
     Words may be parted by spaces, tabs, commas or semicolons. Lines that begin with `#`, and a first line of names such
-    as `source,target,weight`, are skipped. Raises Fault, of status 3, with the line that is at fault.
+    as `source,target,weight`, are skipped. Behind a first line of more names, such as
+    `source,target,weight,least,greatest,goes`, rows have these columns. Raises Fault, of status 3, with the line that
+    is at fault.
     """
     import networkx
 
@@ -160,11 +173,14 @@ def listed(name: str, text: str) -> Any:
     rows = [(number, line) for number, line in rows if line and not line.startswith("#")]
     if not rows:
         raise Fault(f"{name} has no links", 3)
+    columns: list[str] = []
     if _names_columns(*(re.split(r"[\s,;]+", line) for _, line in rows)):
+        columns = re.split(r"[\s,;]+", rows[0][1].lower())[2:]
         rows = rows[1:]
     delimiter = next((mark for mark in ",;" if mark in rows[0][1].split("{")[0]), None)
     for number, line in rows:
-        one = _link(f"{name} line {number}", line, delimiter)
+        where = f"{name} line {number}"
+        one = _row(where, line, delimiter, columns) if {*columns} - {"weight"} else _link(where, line, delimiter)
         ((a, b),) = one.edges
         if found.has_edge(a, b):
             raise Fault(f"{name} line {number}: {a} and {b} are linked already", 3)
@@ -177,7 +193,8 @@ def _names_columns(first: Sequence[str], *others: Sequence[str]) -> bool:
     letters where all other ends are numbers."""
     ends = {end for row in others for end in row[:2]}
     by_letters = any(len(word) == 1 for word in first)
-    if not others or not ENDS.issuperset(word.lower() for word in first) or not ends.isdisjoint(first[:2]):
+    are_names = {*ENDS, *OF_LINKS}.issuperset(word.lower() for word in first)
+    if not others or not are_names or not ends.isdisjoint(first[:2]):
         return False
     return not by_letters or all(is_number(end) for end in ends)
 
@@ -201,6 +218,18 @@ def _link(where: str, line: str, delimiter: str | None) -> Any:
     if one.number_of_edges() != 1:
         raise Fault(f"{where}: not a link 'a b' or 'a b weight'", 3)
     return networkx.relabel_nodes(one, {node: node.strip() for node in one})
+
+
+def _row(where: str, line: str, delimiter: str | None, columns: Sequence[str]) -> Any:
+    """The graph of one line of a list that has these columns behind the ends; an empty field says nothing."""
+    import networkx
+
+    words = [word.strip() for word in line.split(delimiter)]
+    if len(words) != len(columns) + 2 or not all(words[:2]):
+        raise Fault(f"{where}: not a link {' '.join(['a', 'b', *columns])}", 3)
+    found = networkx.Graph()
+    found.add_edge(*words[:2], **{column: word for column, word in zip(columns, words[2:]) if word})
+    return found
 
 
 def truths_of_gml(found: Any, wanted: Mapping[str, Pair | None]) -> None:

@@ -28,6 +28,8 @@ def columns_of(result: Answer) -> tuple[list[Hashable], dict[str, list[Any]]]:
         return [fact.place for fact in result.facts], facts
     if isinstance(result, results.Settled):
         return list(result.values), {"value": list(result.values.values()), "rounds": list(result.by_device.values())}
+    if isinstance(result, results.Bounds):
+        return list(result.by_device), columns_of_bounds(list(result.by_device.values()))
     if isinstance(result, results.Traced) and result.walks is not None:
         return list(result.values), {"value": list(result.values.values()), "walk": list(result.walks.values())}
     if isinstance(result, results.Ran):
@@ -41,6 +43,15 @@ def columns_of(result: Answer) -> tuple[list[Hashable], dict[str, list[Any]]]:
         return [result.number], {**{key: [getattr(result, key)] for key in keys}, **rounds}
     values: results.Values = getattr(result, "values")
     return list(values), {"value": list(values.values())}
+
+
+def columns_of_bounds(held: Sequence[results.Held]) -> dict[str, list[Any]]:
+    """The columns of bounds; those from now on are there where rounds are counted from a table."""
+    found: dict[str, list[Any]] = {"rounds": [one.rounds for one in held]}
+    found |= {"low": [one.bound.low for one in held], "high": [one.bound.high for one in held]}
+    now = [one.now for one in held if one.now is not None]
+    found |= {"low_now": [one.low for one in now], "high_now": [one.high for one in now]} if now else {}
+    return {**found, "away": [one.away for one in held]}
 
 
 def index_name(result: Answer) -> str | None:
@@ -80,6 +91,8 @@ def headline(result: Answer) -> str:
     words = [verdict.line] if verdict is not None else []
     if isinstance(result, results.Settled):
         words.append("open" if result.open else f"settles {result.rounds}")
+    if isinstance(result, results.Bounds):
+        words.append(f"within {result.within}")
     if isinstance(result, results.Traced) and result.walks is None:
         words.append("no walks")
     if isinstance(result, (results.Replayed, results.Mailed)) and result.rounds is not None:

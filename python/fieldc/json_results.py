@@ -7,6 +7,7 @@ from collections.abc import Mapping, Sequence
 from typing import Any
 
 from . import results
+from .pace import Pace, with_seconds
 from .refusals import Explanation, Fault, Refusal
 
 
@@ -15,14 +16,17 @@ def written(
     names: Mapping[int, str],
     why: Explanation | None = None,
     warnings: Sequence[Explanation] = (),
+    pace: Pace | None = None,
 ) -> str:
     """A result as a text of JSON that ends with a line feed. Devices with a name have it beside their number.
 
-    `why` explains a no, and stands in the member `explanation`, where it is there; so do `warnings`.
+    `why` explains a no, and stands in the member `explanation`, where it is there; so do `warnings`. With a `pace`
+    there are seconds beside rounds.
     """
     beside: dict[str, Any] = {} if why is None else {"explanation": explained(why)}
     beside |= {"warnings": [explained(one) for one in warnings]} if warnings else {}
-    return json.dumps(plain(result, names) | beside, indent=1) + "\n"
+    found = plain(result, names) if pace is None else with_seconds(plain(result, names), pace)
+    return json.dumps(found | beside, indent=1) + "\n"
 
 
 def plain(result: results.Result | str, names: Mapping[int, str]) -> dict[str, Any]:
@@ -33,6 +37,8 @@ def plain(result: results.Result | str, names: Mapping[int, str]) -> dict[str, A
         return {**verdict(result.verdict), **_facts(result.facts)}
     if isinstance(result, results.Settled):
         return _settled(result, names)
+    if isinstance(result, results.Bounds):
+        return _bounds(result, names)
     if isinstance(result, results.Stable):
         own = verdict(result.verdict) if result.verdict is not None else {}
         return {**own, "devices": devices(result.values, names)}
@@ -75,6 +81,17 @@ def _settled(result: results.Settled, names: Mapping[int, str]) -> dict[str, Any
     rows = devices(result.values, names, rounds=results.by_number(result.by_device))
     settling = {"open": result.open, "settles": result.rounds, "from_table": result.from_table}
     return {**verdict(result.verdict), **settling, "devices": rows, **_facts(result.facts)}
+
+
+def _bounds(result: results.Bounds, names: Mapping[int, str]) -> dict[str, Any]:
+    rows = []
+    for device, held in results.by_number(result.by_device).items():
+        own: dict[str, Any] = {"id": device, **({"name": names[device]} if device in names else {})}
+        own |= {"rounds": held.rounds, "low": held.bound.low, "high": held.bound.high}
+        own |= {} if held.now is None else {"low_now": held.now.low, "high_now": held.now.high}
+        rows.append({**own, "away": held.away})
+    whole = {"within": result.within, "from_table": result.from_table}
+    return {**verdict(result.verdict), **whole, "devices": rows, **_facts(result.facts)}
 
 
 def _traced(result: results.Traced, names: Mapping[int, str]) -> dict[str, Any]:

@@ -3,7 +3,7 @@
 from __future__ import annotations
 
 from collections.abc import Callable, Hashable, Iterable, Mapping
-from dataclasses import replace
+from dataclasses import fields, replace
 from pathlib import Path
 from typing import TypeVar, Union
 
@@ -11,7 +11,9 @@ from . import composing, cuts, results
 from . import program as fc
 from .answers import Answer, Origin
 from .blocks import own_library, read_library
+from .changes import for_fc as written_changes
 from .edits import moments, rounds_at_shows
+from .envelopes import envelope_of, widest
 from .given import Given, Inputs, Networks, Weight, given
 from .kept import Kept
 from .networks import Json, Network, declared
@@ -74,8 +76,9 @@ def about(found: Found, program: str, asked: Given, behind: Network | None = Non
         return found
     changes: dict[str, object] = {"of": Origin(program, behind or asked.network)}
     nodes = asked.network.nodes
+    own = {field.name for field in fields(found)}
     for name in ("values", "by_device", "walks", "shows") if nodes else ():
-        if getattr(found, name, None) is not None:
+        if name in own and getattr(found, name) is not None:
             changes[name] = by_nodes(name, getattr(found, name), nodes)
     return replace(found, **changes)
 
@@ -141,6 +144,36 @@ def settle(
     words = ["check", *flags(facts=facts), "--settle", *flags(from_table=from_table is not False)]
     found = results.settled(_answer(words, program=text, network=asked.scene), from_table is not False)
     return about(found, text, asked)
+
+
+def bounds(
+    program: Program,
+    network: Networks,
+    changes: Lines,
+    *,
+    from_table: bool | Mapping[str, Json] = False,
+    facts: bool = False,
+    weight: Weight = "weight",
+    inputs: Inputs | None = None,
+) -> results.Bounds:
+    """Between which values each device stays while the network changes within lines, given as a text or as lines, in
+    which patterns may stand; and after how many rounds.
+
+    With `from_table` it is from the table and the pending firings of the network, or from the table that is given.
+    Raises Refusal, and Fault where a pattern means nothing.
+    """
+    text = text_of_program(program)
+    asked = given(network, text, weight, inputs)
+    if not isinstance(from_table, bool):
+        asked = with_table(asked, from_table)
+    own, scene = call_of([], program=text, network=asked.scene).sections
+    names = asked.network.names if asked.network is not None else {}
+    lines = written_changes(Section("changes", "", 1, text_of(changes)), (own, scene), names)
+    words = ("check", *flags(facts=facts), "--settle", *flags(from_table=from_table is not False, changes=True))
+    found = results.bounded(fc.answered(Call(words, (own, scene, lines))).text)
+    if asked.network is None:
+        return found
+    return about(found, text, asked, widest(asked.network, envelope_of(asked.network, lines.text, declared(text))))
 
 
 def cut(

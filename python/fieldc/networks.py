@@ -487,8 +487,13 @@ def weighed(network: Network, low: int, high: int, unit: float = 1.0) -> Network
     if not math.isfinite(unit) or unit <= 0:
         raise Fault(f"a unit of {unit:g}: it has to be above 0")
     at = network.positions
-    links = [(a, b, min(max(round(math.dist(at[a], at[b]) / unit), low), high)) for a, b, _ in network.links]
+    links = [(a, b, weight_at(math.dist(at[a], at[b]), low, high, unit)) for a, b, _ in network.links]
     return replace(network, links=tuple(links))
+
+
+def weight_at(length: float, low: int, high: int, unit: float = 1.0) -> int:
+    """The weight of a link of so great a length, in units of so long, rounded into `low` to `high`."""
+    return min(max(round(length / unit), low), high)
 
 
 def with_weight(network: Network, weight: int) -> Network:

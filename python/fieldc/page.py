@@ -10,12 +10,13 @@ from collections.abc import Sequence
 from dataclasses import dataclass
 from typing import Any
 
-from .colours import OUTLINES, Scale, colours_of, entries, is_dark, label_of, rungs, scales_of, shade
-from .drawing import sector, walked
+from .colours import OUTLINES, Scale, colours_of, entries, is_dark, label_of, rungs, scales_of, shade, width_of
+from .drawing import AWAY, LOOSE, WIDER, WIDTH, sector, walked
 from .networks import Position
 from .picture import Picture, everywhere
-from .results import Value
+from .results import Drawn
 
+BOUNDED = "Between which values devices stay while the network changes"
 SIGNS = "\u25a1\u25c7\u25b3\u2b21"
 CORNERS = (
     ((-1.15, -1.15), (1.15, -1.15), (1.15, 1.15), (-1.15, 1.15)),
@@ -37,8 +38,10 @@ PAGE = """<!doctype html>
  body {{ font: 15px sans-serif; margin: 1em auto; padding: 0 1em; max-width: 60em; color: #222 }}
  svg {{ width: 100%; height: auto; border: 1px solid #ddd }}
  line {{ stroke: #b5b5b5 }} line.walk {{ stroke: #d6381e; stroke-width: 3 }}
- circle {{ stroke: #555; fill: none }} .marked circle {{ stroke: #111; stroke-width: 3 }}
- .last circle {{ stroke: #d6381e; stroke-width: 3 }}
+ line.loose {{ stroke-dasharray: 7 5 }} .leaves circle.border {{ stroke-dasharray: 4 3; stroke-width: 2 }}
+ circle.ring {{ stroke: #222; stroke-width: 4 }}
+ circle {{ stroke: #555; fill: none }} .marked circle.border {{ stroke: #111; stroke-width: 3 }}
+ .last circle.border {{ stroke: #d6381e; stroke-width: 3 }}
  path.mark {{ display: none; fill: none; stroke-width: 3 }} path.mark.shown {{ display: inline }}
  text {{ text-anchor: middle; stroke-width: 0; dominant-baseline: central; pointer-events: none }}
  .mixed text.value {{ paint-order: stroke; stroke-width: 1.5px }}
@@ -83,6 +86,11 @@ PAGE = """<!doctype html>
    text.setAttribute("fill", look[2]);
    text.setAttribute("stroke", look[2] === "#ffffff" ? "#000000" : "#ffffff");
    node.classList.toggle("mixed", look[3]);
+   const ring = node.querySelector("circle.ring");
+   if (ring) {{
+    ring.setAttribute("stroke-dasharray", look[4] + " 200");
+    ring.classList.toggle("away", !look[4]);
+   }}
    text.setAttribute("font-size", Math.min({font}, {radius} * 3.4 / Math.max(look[0].length, 1)));
    text.textContent = look[0];
   }});
@@ -148,7 +156,7 @@ def page(picture: Picture) -> str:
     looks, gone, shows = _shows(picture, scales, screen)
     moving = any(frame.places for frame in picture.frames)
     return PAGE.format(
-        title=html.escape(picture.title or "A run of fc"),
+        title=html.escape(picture.title or (BOUNDED if picture.meaning.bounds else "A run of fc")),
         verdict=html.escape(picture.verdict),
         last=len(picture.frames) - 1,
         numbered=" checked" if picture.numbers else "",
@@ -206,23 +214,28 @@ def _network(picture: Picture, sectors: int, screen: Screen) -> tuple[str, float
     at = {device: screen.at(picture.places[device]) for device in devices}
     radius = max(4, min(22, 220 / len(devices) ** 0.5))
     thick = set().union(*(walked(frame) for frame in picture.frames))
+    loose = set().union(*(frame.loose for frame in picture.frames))
+    leaving = set().union(*(frame.away for frame in picture.frames))
+    wider = f'<circle class="ring" pathLength="100" transform="rotate(-90)" r="{radius * WIDER:.1f}"/>'
+    ring, out = (wider, radius * WIDER) if picture.meaning.bounds else ("", radius)
     parts = [f'<svg viewBox="0 0 {screen.width:.0f} {screen.height:.0f}" xmlns="http://www.w3.org/2000/svg">']
     for a, b in links:
         (x1, y1), (x2, y2) = at[a], at[b]
-        walk = ' class="walk"' if (a, b) in thick else ""
-        parts.append(f'<line{walk} x1="{x1:.1f}" y1="{y1:.1f}" x2="{x2:.1f}" y2="{y2:.1f}"/>')
+        kinds = ["walk"] * ((a, b) in thick) + ["loose"] * ((a, b) in loose)
+        named = f' class="{" ".join(kinds)}"' if kinds else ""
+        parts.append(f'<line{named} x1="{x1:.1f}" y1="{y1:.1f}" x2="{x2:.1f}" y2="{y2:.1f}"/>')
     parts += [TIP, *['<path class="arrow" marker-end="url(#tip)"/>'] * len(devices)] if picture.arrows else []
     names = {device: frame.network.called(device) for frame in picture.frames for device in frame.network.devices}
     paths = [_path(sector(place, sectors), radius) if sectors > 1 else _disk(radius) for place in range(sectors)]
     outlines = _outlines(picture, radius)
     for device in devices:
         x, y = at[device]
-        last = " last" if device in picture.last else ""
+        last = " last" * (device in picture.last) + " leaves" * (device in leaving)
         parts.append(
             f'<g class="device{last}" data-id="{device}" transform="translate({x:.1f},{y:.1f})">'
             f"<title>device {html.escape(names[device])}</title>{''.join(paths)}"
-            f'<circle r="{radius:.1f}"/>{outlines.get(device, "")}<text class="value"></text>'
-            f'<text class="number" x="{radius * 0.8:.1f}" y="{-radius * 0.9:.1f}" '
+            f'<circle class="border" r="{radius:.1f}"/>{ring}{outlines.get(device, "")}<text class="value"></text>'
+            f'<text class="number" x="{out * 0.8:.1f}" y="{-out * 0.9:.1f}" '
             f'font-size="{max(radius * 0.6, 5):.1f}">'
             f"{html.escape(names[device])}</text></g>"
         )
@@ -290,11 +303,13 @@ def _shows(
     return list(looks.values()), [list(away) for away in gone], shows
 
 
-def _look(text: str, value: Value | None, scales: Sequence[Scale], picture: Picture) -> list[Any]:
-    """The look of a device: what is written in it, its colours, the ink, and whether dark and light colours meet."""
+def _look(text: str, value: Drawn | None, scales: Sequence[Scale], picture: Picture) -> list[Any]:
+    """The look of a device: what is written in it, its colours, the ink, whether dark and light colours meet, and how
+    much of its ring is drawn, in hundredths."""
     colours = colours_of(value, scales, picture.meaning)
     mixed = len({is_dark([colour]) for colour in colours}) > 1
-    return [text, colours, "#ffffff" if is_dark(colours) else "#000000", mixed]
+    ink = "#ffffff" if is_dark(colours) else "#000000"
+    return [text, colours, ink, mixed, math.ceil(100 * width_of(value, scales))]
 
 
 def _legend(picture: Picture, scales: Sequence[Scale]) -> str:
@@ -316,5 +331,7 @@ def _legend(picture: Picture, scales: Sequence[Scale]) -> str:
         more.append(f'<span style="color:{colour}">{sign}</span> {html.escape(name)}')
     clipped = any(scale.clipped and not scale.kinds for scale in scales)
     more += ["beyond the settled values: the colour of the nearest one"] if clipped else []
+    drawn = picture.meaning.bounds, any(f.away for f in picture.frames), any(f.loose for f in picture.frames)
+    more += [sign for sign, shown in zip((WIDTH, AWAY, LOOSE), drawn) if shown]
     more += [html.escape("red border: " + picture.said.partition("; ")[0])] if picture.last else []
     return "<br>".join(filter(None, [" ".join(row), " ".join(f"<span>{one}</span>" for one in more)]))

@@ -2,17 +2,18 @@
 
 from __future__ import annotations
 
-from collections.abc import Mapping, Sequence
+from collections.abc import Hashable, Mapping, Sequence
 from dataclasses import dataclass, field, replace
 
 from . import results
 from .colours import OUTLINES, WHITE, Meaning
 from .edits import Moment, moments
+from .envelopes import envelope_of, widest
 from .kinds import kinds_of, parts_of
 from .layout import laid_out
-from .networks import Network, Position, declared
+from .networks import Declared, Network, Pair, Position, declared
 from .refusals import Fault
-from .results import Values
+from .results import Bound, Drawn
 from .telling import counted
 
 SETTLING = "settle round"
@@ -21,15 +22,18 @@ LINES_OF_A_RUN = ("run", "mix", "show", "scramble")
 
 @dataclass(frozen=True)
 class Frame:
-    """One view of a network: its title, the network as it is then, values by device, and least walks where there are
-    some. Where devices move, `places` are those of then."""
+    """One view of a network: its title, the network as it is then, values or bounds by device, and least walks where
+    there are some. Where devices move, `places` are those of then. `away` are devices that may be away, and `loose`
+    links that may be missing."""
 
     title: str
     network: Network
-    values: Values
+    values: Mapping[Hashable, Drawn | None]
     walks: Mapping[int, tuple[int, ...]] = field(default_factory=dict)
     settled: bool = False
     places: Mapping[int, Position] = field(default_factory=dict)
+    away: frozenset[int] = frozenset()
+    loose: frozenset[Pair] = frozenset()
 
 
 @dataclass(frozen=True)
@@ -61,7 +65,8 @@ class Picture:
             return []
         near = {pair for a, b, _ in frame.network.links for pair in ((a, b), (b, a))}
         values = [(device, frame.values.get(device)) for device in frame.network.devices]
-        held = [(device, parts_of(value)[-1]) for device, value in values if value is not None]
+        there = [(device, value) for device, value in values if value is not None and not isinstance(value, Bound)]
+        held = [(device, parts_of(value)[-1]) for device, value in there]
         return [(device, end) for device, end in held if not isinstance(end, bool) and (device, end) in near]
 
     def marked(self, frame: Frame) -> set[int]:
@@ -74,10 +79,13 @@ class Picture:
         return replace(self, frames=(replace(frame, places={}),), places=frame.places or self.places)
 
 
-def gathered(program: str | None, network: Network, lines: str | None, answer: str | None) -> Picture:
+def gathered(
+    program: str | None, network: Network, lines: str | None, answer: str | None, rounds: bool = False
+) -> Picture:
     """The picture of a network and what `fc` answered of it, without places.
 
-    `program` is the program's text, where there is one, `lines` the script or log that `answer` belongs to. Raises
+    `program` is the program's text, where there is one, `lines` the script, log or changes that `answer` belongs to.
+    With `rounds` there is a frame for each number of rounds after which a bound holds. Raises
     Fault, of status 3, where the answer isn't of this network, or a script is missing without which it can't be told
     which network a show is of.
     """
@@ -87,6 +95,10 @@ def gathered(program: str | None, network: Network, lines: str | None, answer: s
         return Picture((Frame("", network, {}),), {}, Meaning(none=""))
     texts = answer.splitlines()
     verdict = next((line for line in texts[:1] if results.is_verdict(line)), "")
+    if results.is_bounded(answer):
+        return bounding(network, results.bounded(answer), lines, declared(program or ""), rounds)
+    if rounds:
+        raise Fault("--rounds is of bounds that hold while a network changes, and these are none")
     if any(line == "open" or line.startswith("settles ") for line in texts):
         return settling(network, results.settled(answer), verdict)
     if any(line.startswith("@") for line in texts):
@@ -165,6 +177,28 @@ def settling(network: Network, found: results.Settled, verdict: str) -> Picture:
     return Picture((frame,), {}, meaning, verdict, last=last, said="; ".join(filter(None, (said, resting))))
 
 
+def bounding(
+    network: Network, found: results.Bounds, changes: str | None, wanted: Declared, rounds: bool = False
+) -> Picture:
+    """The picture of bounds, on the network with all that may come, where the changes are known."""
+    held, loose = results.by_number(found.by_device), frozenset[Pair]()
+    if changes is not None:
+        envelope = envelope_of(network, changes, wanted)
+        network, loose = widest(network, envelope), frozenset(envelope.links) - envelope.sure_links
+    away = frozenset(device for device, one in held.items() if one.away)
+
+    def frame(title: str, after: int) -> Frame:
+        bounds: dict[Hashable, Drawn | None] = {device: one.after(after) for device, one in held.items()}
+        return Frame(title, network, bounds, away=away, loose=loose)
+
+    times = sorted({0, *(one.rounds for one in held.values())})
+    frames = [frame(f"after {counted(time, 'round')}", time) for time in times] if rounds else []
+    frames = frames or [frame(f"(within {found.within})", found.within)]
+    _agree(frames[-1])
+    meaning = Meaning(none="nothing known yet", ceiling=wanted.ceiling, bounds=True)
+    return Picture(tuple(frames), {}, meaning, found.verdict.line)
+
+
 def latest(rounds: Mapping[int, int | None], called: Mapping[int, str] | None = None) -> tuple[tuple[int, ...], str]:
     """The devices that are known last, and how that is said: those without a settle round where there are some."""
     greatest = max((r for r in rounds.values() if r is not None), default=0)
@@ -240,7 +274,10 @@ def check_kinds(picture: Picture, word: str | None, names: Mapping[int, str]) ->
         return picture
     if picture.meaning.scale == SETTLING:
         raise Fault(f"--kinds {word}: it is of values, and these are settle rounds")
-    values = [value for frame in picture.frames for value in frame.values.values()]
+    shown = [value for frame in picture.frames for value in frame.values.values()]
+    values = [value for value in shown if not isinstance(value, Bound)]
+    if picture.meaning.bounds:
+        raise Fault(f"--kinds {word}: it is of values, and these are bounds")
     devices = {device: names.get(device, str(device)) for device in everywhere(picture)[0]}
     return replace(picture, meaning=replace(picture.meaning, kinds=kinds_of(word, values, devices)))
 

@@ -10,7 +10,7 @@ from . import results
 from .answers import Answer, Origin
 from .colours import Meaning
 from .networks import Network, declared
-from .picture import Frame, Picture, at_places, check_marks, gathered, settling
+from .picture import Frame, Picture, at_places, bounding, check_marks, gathered, settling
 from .refusals import Fault
 
 if TYPE_CHECKING:
@@ -78,6 +78,9 @@ def picture_of(result: Answer | Network) -> Picture:
     def at(node: Hashable) -> int:
         return number.get(node, cast(int, node))
 
+    if isinstance(result, results.Bounds):
+        held = {at(node): one for node, one in result.by_device.items()}
+        return bounding(of.network, replace(result, by_device=held), None, declared(of.program))
     if isinstance(result, results.Settled):
         by_device = {at(node): rounds for node, rounds in result.by_device.items()}
         return settling(of.network, replace(result, by_device=by_device), result.verdict.line)

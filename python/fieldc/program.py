@@ -18,7 +18,7 @@ INSTALLED = ("libexec/fc/fc", "libexec/fc")
 TICK = 0.2
 REFUSING = {
     2: ("usage:",),
-    3: ("sections", "lexical", "syntax", "types", "json", "shape", "network", "kept", "script", "log"),
+    3: ("sections", "lexical", "syntax", "types", "json", "shape", "network", "kept", "script", "log", "changes"),
     4: ("limit",),
 }
 MAY_BE_NO = (("check",), ("stable",), ("trace",), ("mail",))

@@ -28,9 +28,11 @@ class Fault(Error):
 class Section:
     """One section of an input.
 
-    `kind` is "program", "network", "script" or "log"; `name` is the file as the user typed it, "-" for standard input,
-    or "" for a text that came from no file; `first_line` is the line of that file on which the section begins, from 1.
-    `typed` is the text as it stands in the file where words of it, names of devices, were put in others' place.
+    `kind` is "program", "network", "script", "log" or "changes"; `name` is the file as the user typed it, "-" for
+    standard input, or "" for a text that came from no file; `first_line` is the line of that file on which the section
+    begins, from 1. `typed` is the text as it stands in the file where others stand in the place of its words: of names
+    of devices, or of patterns. Where a line of it was written out as several, `rows` has for each line of `text` that
+    of `typed`, from 0.
     """
 
     kind: str
@@ -38,6 +40,7 @@ class Section:
     first_line: int
     text: str
     typed: str = ""
+    rows: tuple[int, ...] = ()
 
 
 @dataclass(frozen=True)
@@ -133,15 +136,21 @@ def explained(call: Call, refusal: Refusal) -> Explanation:
 
 
 def as_typed(found: Explanation) -> Explanation:
-    """An explanation whose place is that in the text as the user typed it, which has as many words on each line."""
+    """An explanation whose place is that in the text as the user typed it.
+
+    A line has as many words there, or a pattern stands for both of its devices: then they have the pattern's place.
+    """
     section = found.section
     if section is None or not section.typed or found.line is None or found.column is None:
         return found
     place = found.line - section.first_line
-    given, typed = (text.split("\n")[place].split(" ") for text in (section.text, section.typed))
-    before = " ".join(given)[: found.column - 1].count(" ")
-    column = found.column + sum(map(len, typed[:before])) - sum(map(len, given[:before]))
-    return replace(found, section=replace(section, text=section.typed, typed=""), column=column)
+    row = section.rows[place] if section.rows else place
+    given, typed = section.text.split("\n")[place].split(" "), section.typed.split("\n")[row].split(" ")
+    at = " ".join(given)[: found.column - 1].count(" ")
+    before = at if len(given) == len(typed) else min(at, 1) if at + 1 < len(given) else len(typed) - 1
+    column = found.column - sum(len(word) + 1 for word in given[:at]) + sum(len(word) + 1 for word in typed[:before])
+    whole = replace(section, text=section.typed, typed="", rows=())
+    return replace(found, section=whole, line=section.first_line + row, column=column)
 
 
 def warned(call: Call) -> tuple[Explanation, ...]:

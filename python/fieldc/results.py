@@ -96,6 +96,70 @@ class Settled(Answer):
 
 
 @dataclass(frozen=True)
+class Bound:
+    """Between which values a value stays: the least and the greatest, of a pair part by part. Of a truth value that may
+    be either, `low` is false and `high` true."""
+
+    low: Value
+    high: Value
+
+    @property
+    def known(self) -> bool:
+        """Whether only one value is left."""
+        return self.low == self.high
+
+    def holds(self, value: Value) -> bool:
+        """Whether a value of this type lies in the bound."""
+        return _between(self.low, value, self.high)
+
+    def __str__(self) -> str:
+        """The bound in the words of `fc`: `3`, `2..10`, `any`, `(1,0..4)`."""
+        return _span(self.low, self.high)
+
+
+Drawn = Union[Value, Bound]
+"""What a picture shows of a device: its value, or the bound of it."""
+
+
+@dataclass(frozen=True)
+class Held:
+    """What is known of a device while the network changes: after `rounds` rounds its value stays within `bound`.
+
+    `now` is the bound in which it is from now on, where rounds are counted from a table. `away` says that the device
+    may be away, and so may have no value.
+    """
+
+    rounds: int
+    bound: Bound
+    now: Bound | None = None
+    away: bool = False
+
+    def after(self, rounds: int) -> Bound | None:
+        """The bound that holds after so many rounds, or nothing where none is known yet."""
+        return self.bound if self.rounds <= rounds else self.now
+
+
+@dataclass(frozen=True)
+class Bounds(Answer):
+    """Between which values each device stays while the network changes within some lines, and after how many rounds.
+
+    `within` is after how many rounds all devices are within their bounds. `from_table` says whether rounds are counted
+    from the table and the pending firings of the network, or from every start.
+    """
+
+    verdict: Verdict
+    within: int
+    by_device: Mapping[Hashable, Held]
+    from_table: bool = False
+    facts: tuple[Fact, ...] = ()
+
+    @property
+    def values(self) -> Values:
+        """By device the value that it holds whatever changes, or nothing where more than one is left."""
+        return Kept({one: held.bound.low if held.bound.known else None for one, held in self.by_device.items()})
+
+
+@dataclass(frozen=True)
 class Stable(Answer):
     """The value to which each device stabilises; none where the verdict is a no. With a yes `verdict` is nothing."""
 
@@ -172,7 +236,7 @@ class Generated(Answer):
     sum: int
 
 
-Result = Union[Checked, Settled, Stable, Traced, Ran, Replayed, Mailed, Generated]
+Result = Union[Checked, Settled, Bounds, Stable, Traced, Ran, Replayed, Mailed, Generated]
 
 
 def value_of(word: str) -> Value | None:
@@ -201,6 +265,52 @@ def word_of(value: Shown | None) -> str:
     if isinstance(value, tuple):
         return "(" + ",".join(word_of(part) for part in value) + ")"
     return json.dumps(value)
+
+
+def _between(low: Value, value: Value, high: Value) -> bool:
+    if isinstance(value, tuple):
+        assert isinstance(low, tuple) and isinstance(high, tuple)
+        return all(map(_between, low, value, high))
+    assert not isinstance(low, tuple) and not isinstance(high, tuple)
+    return low <= value <= high
+
+
+def _span(low: Value, high: Value) -> str:
+    if isinstance(low, tuple) and isinstance(high, tuple):
+        return "(" + ",".join(map(_span, low, high)) + ")"
+    if low == high:
+        return word_of(low)
+    return "any" if isinstance(low, bool) else f"{low}..{high}"
+
+
+PART = re.compile(r"([0-9]+)\.\.([0-9]+)|([0-9]+|true|false)|any")
+
+
+def bound_of(word: str) -> Bound:
+    """A bound as `fc` writes it. Raises Fault for any other word."""
+    try:
+        found, rest = _bound(word)
+    except ValueError:
+        found, rest = None, ""
+    if found is None or rest:
+        raise Fault(f"{word} is no bound that fc writes")
+    return found
+
+
+def _bound(text: str) -> tuple[Bound, str]:
+    """The bound at the front of a text, and what stands behind it. Raises ValueError where there is none."""
+    if text.startswith("("):
+        first, rest = _bound(text[1:])
+        second, rest = _bound(rest[1:] if rest.startswith(",") else "")
+        if not rest.startswith(")"):
+            raise ValueError
+        return Bound((first.low, second.low), (first.high, second.high)), rest[1:]
+    part = PART.match(text)
+    if part is None:
+        raise ValueError
+    low, high, value = part.groups()
+    ends = (low, high) if low is not None else (value, value) if value is not None else ("false", "true")
+    return Bound(json.loads(ends[0]), json.loads(ends[1])), text[part.end() :]
 
 
 def verdict_of(line: str) -> Verdict:
@@ -256,6 +366,33 @@ def settled(text: str, from_table: bool = False) -> Settled:
     time = None if lines[place] == "open" else int(lines[place].split(" ")[1])
     facts = tuple(_facts(lines[1:place]))
     return Settled(verdict_of(lines[0]), time, Kept(rounds), Kept(values), from_table, facts)
+
+
+def bounded(text: str) -> Bounds:
+    """What `check --settle --changes` wrote, of every start or from a table. Raises Fault where it is nothing of it."""
+    lines = text.splitlines()
+    place = next((i for i, line in enumerate(lines) if line.startswith("within ")), None)
+    if place is None:
+        raise Fault("there is no line of check --settle --changes")
+    held: dict[Hashable, Held] = dict(map(_held, lines[place + 1 :]))
+    facts = tuple(_facts(lines[1:place]))
+    from_table = any(one.now is not None for one in held.values())
+    return Bounds(verdict_of(lines[0]), int(lines[place].split(" ")[1]), Kept(held), from_table, facts)
+
+
+def is_bounded(text: str) -> bool:
+    """Whether a text is what `check --settle --changes` wrote."""
+    return any(line.startswith("within ") for line in text.splitlines())
+
+
+def _held(line: str) -> tuple[int, Held]:
+    """The device of a line `ID ROUND BOUND`, perhaps with one more bound and `away`, and what is known of it."""
+    device, rounds, *rest = line.split(" ")
+    away = rest[-1:] == ["away"]
+    first, *second = map(bound_of, rest[: len(rest) - away])
+    if len(second) > 1:
+        raise Fault(f"{line!r} is no line of check --settle --changes")
+    return int(device), Held(int(rounds), first, second[0] if second else None, away)
 
 
 def stable(text: str) -> Stable:

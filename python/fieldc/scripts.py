@@ -17,6 +17,7 @@ NUMBER = re.compile(r"[0-9]{1,7}")
 NAME = re.compile(r"[A-Za-z][A-Za-z0-9_]*")
 STEP = re.compile(r"[BE][0-9]{1,7}")
 VALUE = re.compile(r"[0-9]{1,7}|true|false")
+SPAN = re.compile(r"([0-9]{1,7})\.\.([0-9]{1,7})")
 MOST_ID = 65_535
 EDITS = {
     "link": "link A B W",
@@ -29,17 +30,19 @@ EDITS = {
 LINES = {
     "script": {"run": "run R", "mix": "mix R EDIT", "show": "show", "scramble": "scramble N", **EDITS},
     "log": {"B": "B3", "E": "E3", "I": "I", **EDITS},
+    "changes": {verb: form for verb, form in EDITS.items() if verb != "poke"},
     "mail": {"B": "B3", "E": "E3", "I": "I", "deliver": "deliver A B", "again": "again A B", "lose": "lose A B I"},
 }
 BY_NUMBER = (
     "Devices have their numbers here: the file of names beside the network, as net.names.csv, has them. "
     "With --names and that file, edits may have their names."
 )
-TITLES = {"script": "a script", "log": "a log", "mail": "a mail log"}
+TITLES = {"script": "a script", "log": "a log", "mail": "a mail log", "changes": "the changes"}
 PAGES = {
     "script": "docs/formats.md#the-script",
     "log": "docs/formats.md#the-log",
     "mail": "docs/formats.md#the-mail-log",
+    "changes": "docs/fieldc.md#networks-that-change",
 }
 MIXED = ("link", "unlink", "set", "poke")
 
@@ -158,6 +161,29 @@ def _value(word: Word, page: str) -> Said | None:
     return Said(f"`{word.text}` is no value.", word.at, word.text, hint, page)
 
 
+def _span(word: Word, page: str) -> Said | None:
+    """Why a word of the changes is none of a value, `LO..HI` and `any`; nothing where it is one."""
+    ends = SPAN.fullmatch(word.text)
+    if word.text == "any" or (ends is None and is_value(word.text)):
+        return None
+    if ends is None:
+        hint = "Values are numbers, `true`, `false`, two numbers as `2..7`, and `any`, without spaces."
+        return Said(f"`{word.text}` is no value.", word.at, word.text, hint, page)
+    if int(ends[1]) <= int(ends[2]):
+        return None
+    hint = f"Write `{ends[2]}..{ends[1]}`."
+    return Said(f"`{word.text}` is upside down: the least comes first.", word.at, word.text, hint, page)
+
+
+def _weight(word: Word, page: str) -> Said | None:
+    """Why a word of the changes is no weight, which is no truth value and no pair; nothing where it is one."""
+    fault = _span(word, page)
+    if fault is None and not word.text[0].isdigit() and word.text != "any":
+        hint = "A weight is a number, two numbers as `2..7`, or `any`."
+        return Said(f"`{word.text}` is no weight.", word.at, word.text, hint, page)
+    return fault
+
+
 def _plain(words: tuple[Word, ...], kind: str) -> Said | None:
     page, verb = PAGES[kind], words[0].text
     if STEP.fullmatch(verb):
@@ -166,7 +192,8 @@ def _plain(words: tuple[Word, ...], kind: str) -> Said | None:
     if verb in ("B", "E"):
         form = words[0].text
     wanted = zip(words[1:], form.split(" ")[1:])
-    found = (_device(word, page) if named in ("A", "B", "D") else _number(word, page) for word, named in wanted)
+    other = _weight if kind == "changes" else _number
+    found = (_device(word, page) if named in ("A", "B", "D") else other(word, page) for word, named in wanted)
     fault = _count(words, form, page) or next(filter(None, found), None)
     if fault is None and verb == "run" and int(words[1].text) == 0:
         return Said("A `run` has at least one round.", words[1].at, "run", None, page)
@@ -180,18 +207,19 @@ def _set(words: tuple[Word, ...], kind: str) -> Said | None:
         return Said(
             f"`{words[2].text}` is no name of an input.", words[2].at, words[2].text, "Write `set 3 src true`.", page
         )
-    return fault or _value(words[3], page)
+    return fault or _values(words[3:], kind)
 
 
-def _values(words: tuple[Word, ...], page: str) -> Said | None:
-    return next((found for word in words if (found := _value(word, page))), None)
+def _values(words: tuple[Word, ...], kind: str) -> Said | None:
+    rule = _span if kind == "changes" else _value
+    return next((found for word in words if (found := rule(word, PAGES[kind]))), None)
 
 
 def _poke(words: tuple[Word, ...], kind: str) -> Said | None:
     page = PAGES[kind]
     if len(words) < 3:
         return _count(words, "poke D V", page)
-    return _device(words[1], page) or _values(words[2:], page)
+    return _device(words[1], page) or _values(words[2:], kind)
 
 
 def _join(words: tuple[Word, ...], kind: str) -> Said | None:
@@ -201,7 +229,7 @@ def _join(words: tuple[Word, ...], kind: str) -> Said | None:
     fault = _device(words[1], page)
     if fault is None and int(words[1].text) > MOST_ID:
         return Said("The number of a device is at most 65,535.", words[1].at, words[1].text, None, page)
-    return fault or _values(words[2:], page)
+    return fault or _values(words[2:], kind)
 
 
 def _mix(words: tuple[Word, ...], kind: str) -> Said | None:

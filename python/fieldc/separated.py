@@ -16,6 +16,7 @@ from .telling import counted
 
 DELIMITERS = (";", "\t", "|", ",", ":", " ")
 IDS = ("id", "device", "name", "node")
+MOVE = "move"
 Row = tuple[int, list[str]]
 """The line on which a row begins, and its fields."""
 
@@ -34,7 +35,8 @@ def text_of_file(name: str) -> str:
 class Columns:
     """The rows of a file, and which of their columns are what.
 
-    `across` are the columns of positions, `id` and `time` those of ids and times, where there are some. `taken` are the
+    `across` are the columns of positions, `id`, `time` and `move` those of ids, of times and of how far a device may
+    move, where there are some. `taken` are the
     names of the inputs, `left_out` those of columns that are nothing. `wanted` is what a program declares, and `scale`
     what numbers of inputs are multiplied by.
     """
@@ -49,6 +51,7 @@ class Columns:
     left_out: tuple[str, ...]
     wanted: Declared | None
     scale: Mapping[str, float]
+    move: int | None = None
 
     @property
     def in_degrees(self) -> bool:
@@ -62,6 +65,17 @@ class Columns:
         if self.in_degrees:
             return latitude(first, one), longitude(second, other)
         return real(first, one), real(second, other)
+
+    def may_move(self, row: Row) -> float | None:
+        """How far the device of a row may move; nothing where the file doesn't say it. Raises Fault where it is no
+        length."""
+        if self.move is None:
+            return None
+        where = self.where(row, self.header[self.move])
+        found = real(row[1][self.move], where)
+        if found < 0:
+            raise Fault(f"{where} is {row[1][self.move]}, and a device moves at least 0", 3)
+        return found
 
     def inputs(self, row: Row) -> dict[str, Input]:
         """The inputs of a row. Raises Fault where one can't be one."""
@@ -94,8 +108,10 @@ def columns_of(
     inputs: Sequence[str] | None = None,
     scale: Mapping[str, float] = MappingProxyType({}),
     timed: bool = False,
+    moving: bool = False,
 ) -> Columns:
-    """The columns of a file, of which some are times if it is `timed`; `points` of `files` says which names they have.
+    """The columns of a file, of which some are times if it is `timed`, and one, if it is `moving`, may say how far
+    devices move; `points` of `files` says which names they have.
 
     Raises Fault, of status 3, with the line that is at fault.
     """
@@ -104,9 +120,10 @@ def columns_of(
     asked = {*(wanted.inputs if wanted is not None else ()), *(inputs or ())}
     time = _first(header, TIMES) if timed else None
     at = _id_column(header, (*across, time), asked)
-    further = [word for place, word in enumerate(header) if place not in (at, time, *across)]
+    move = _first(header, (MOVE,)) if moving and MOVE not in asked else None
+    further = [word for place, word in enumerate(header) if place not in (at, time, move, *across)]
     taken, left_out = _taken(name, further, wanted, inputs)
-    return Columns(name, header, body, across, at, time, taken, left_out, wanted, scale)
+    return Columns(name, header, body, across, at, time, taken, left_out, wanted, scale, move)
 
 
 def has_times(name: str) -> bool:

@@ -14,7 +14,7 @@ STATUSES = re.compile(r"statuses: (.*?)\.(?:\n|$)", re.S)
 def page(line: Line, version: str, date: str) -> str:
     """The whole page."""
     parts = [
-        FIRST + f'.TH {line.program.upper()} 1 "{date}" "{line.program} {version}" "User Commands"\n.nh',
+        FIRST + f'.TH {line.program.upper()} 1 "{date}" "{line.program} {version}" "User Commands"\n.nh\n.ad l',
         section("NAME", f"{line.program} \\- a front for people over fc, the checker of the field calculus"),
         section("SYNOPSIS", "\n.br\n".join(synopsis(line, command) for command in line.commands)),
         section("DESCRIPTION", paragraphs(line.description), files_and_answers()),
@@ -71,10 +71,14 @@ def sentence(text: str) -> str:
 
 
 def paragraphs(text: str) -> str:
-    """Paragraphs, which empty lines part; an example stands on a line of its own."""
+    """Paragraphs, which empty lines part; an example stands on a line of its own, and indented lines stay as they
+    are."""
     made = []
     for part in text.strip().split("\n\n"):
         example = re.fullmatch(r"Example: (.*)", part)
+        if part.startswith("  "):
+            made.append(f".RS\n.nf\n{plain(textwrap.dedent(part))}\n.fi\n.RE")
+            continue
         made.append(f"Example:\n.PP\n.RS\n.nf\n{bold(example[1])}\n.fi\n.RE" if example else plain(part))
     return "\n.PP\n".join(made)
 
@@ -122,8 +126,9 @@ def word_of(word: Option) -> str:
 
 
 def described(option: Option) -> str:
-    """An option with all its names, and what it does."""
-    value = f" {italic(option.shown)}" if option.shown else ""
+    """An option with all its names, and what it does; a line may be broken behind the comma of a choice."""
+    shown = italic(option.shown).replace(",", ",\\:") if option.choices else italic(option.shown)
+    value = f" {shown}" if option.shown else ""
     long = [name for name in option.names if name.startswith("--")] or option.names
     names = ", ".join(bold(name) + (value if name in long else "") for name in option.names)
     return f".TP\n{names}\n{sentence(option.help)}"

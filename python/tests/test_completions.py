@@ -102,7 +102,7 @@ class Bash(InFolder):
     def test_values(self) -> None:
         self.assertEqual(self.words("fieldc", "picture", "--of", "r"), ["run", "replay"])
         self.assertEqual(self.words("fieldc", "picture", "--of", "=", "st"), ["stable"])
-        every = "stable settle from-table trace run replay mail".split()
+        every = "stable settle from-table trace run replay mail changes changes-from-table".split()
         self.assertEqual(self.words("fieldc", "picture", "--of", "="), every)
         self.assertEqual(self.words("fieldc", "run", "--workers", ""), [])
         self.assertEqual(self.words("fieldc", "compose", "--show", "hopsA"), ["hopsAround"])

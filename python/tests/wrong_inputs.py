@@ -1,11 +1,11 @@
 """Reads the tables of wrong inputs in the folder `wrong`.
 
 A case begins with `=== NAME`. `words:` are those of the command, `check` where none are said. `program:`, `network:`,
-`script:` and `log:` begin a section; what follows is its text, up to the next word with a colon. In a section the line
-`repeat N "text"` stands for the text N times, and `count A B "text"` for the text for each number, in the place of `#`;
-neither adds a line feed. `network: three` is three devices in a line, the first of them a source. `fc:` is the line
-that `fc` writes, `at:` the place that is wanted (section, line and column, or none), `says:` the sentence, and `try:`
-the hint, where it is told.
+`script:`, `log:` and `changes:` begin a section; what follows is its text, up to the next word with a colon. In it
+the line `repeat N "text"` stands for the text N times, and `count A B "text"` for the text for each number, in the
+place of `#`; neither adds a line feed. `network: three` is three devices in a line, the first of them a source. `fc:`
+is the line that `fc` writes, `at:` the place that is wanted (section, line and column, or none), `says:` the
+sentence, and `try:` the hint, where it is told.
 
 A program that is left out is a hop count, and a network three devices in a line, or one device where a program is
 given.
@@ -35,7 +35,7 @@ SECTIONS = {
     "replay": ("program", "network", "log"),
     "mail": ("program", "network", "log"),
 }
-HEAD = re.compile(r"(words|status|program|network|script|log|fc|at|says|try):(?: (.*))?")
+HEAD = re.compile(r"(words|status|program|network|script|log|changes|fc|at|says|try):(?: (.*))?")
 REPEAT = re.compile(r'repeat (\d+) (".*")')
 COUNT = re.compile(r'count (\d+) (\d+) (".*")')
 
@@ -59,6 +59,8 @@ class Wrong:
         kinds = SECTIONS.get(self.words[0] if self.words else "", ("program", "network"))
         if "--number" in self.words:
             kinds = ("program", "network")
+        if "--changes" in self.words:
+            kinds = ("program", "network", "changes")
         judged_before = self.line.startswith(("usage", "sections", "limit workers", "limit bytes"))
         if judged_before or self.status > 4 or "gen" in self.words:
             kinds = tuple(texts)
@@ -68,6 +70,7 @@ class Wrong:
         texts.setdefault("network", ONE)
         texts.setdefault("script", "")
         texts.setdefault("log", "")
+        texts.setdefault("changes", "")
         return Call(tuple(self.words), tuple(Section(kind, f"{kind}.txt", 1, texts[kind]) for kind in kinds))
 
     def refusal(self) -> Refusal:
@@ -112,7 +115,7 @@ def cases_of(path: Path) -> list[Wrong]:
 
 def take(case: Wrong, key: str, rest: str) -> str:
     """Takes a line with a word and a colon; answers the section that it begins, or nothing."""
-    if key in ("program", "network", "script", "log"):
+    if key in ("program", "network", "script", "log", "changes"):
         case.texts[key] = THREE if rest == "three" else ""
         return "" if rest else key
     if key == "words":

@@ -8,7 +8,7 @@ from .. import results
 from ..asking import add_answers, add_cut_check, add_files, ask
 from ..diagnostics import diagnosed
 from ..refusals import Fault
-from .settle import settle_arguments, why_open
+from . import settle
 
 SUMMARY = "says whether a program stabilises, and after how many rounds"
 KINDS = ("program", "network")
@@ -18,7 +18,7 @@ def arguments(parser: argparse.ArgumentParser) -> None:
     add_files(parser, KINDS)
     parser.add_argument("--facts", action="store_true", help="adds what is known of each node of the unfolded main")
     parser.add_argument("--settle", action="store_true", help="adds after how many rounds each device holds its value")
-    settle_arguments(parser)
+    settle.settle_arguments(parser)
     add_cut_check(parser)
     parser.add_argument(
         "--format",
@@ -30,16 +30,14 @@ def arguments(parser: argparse.ArgumentParser) -> None:
 
 
 def perform(options: argparse.Namespace) -> int:
-    if not options.settle and (options.from_table or options.why):
-        raise Fault("--from-table and --why stand beside --settle only")
+    for name in ("from_table", "why", "changes", "confirm"):
+        if getattr(options, name) and not options.settle:
+            raise Fault(f"--{name.replace('_', '-')} stands beside --settle only")
     words = ["check"] + ["--facts"] * options.facts
     if options.format == "gcc":
         if options.settle or options.facts or options.json or options.names:
             raise Fault("--format=gcc stands alone: an editor wants what is wrong, and no answer")
         return diagnosed(options.files, words)
-    if not options.settle:
-        return ask(options, words, KINDS, lambda text, _: results.checked(text))[2]
-    words += ["--settle"] + ["--from-table"] * options.from_table
-    call, found, status = ask(options, words, KINDS, lambda text, _: results.settled(text, options.from_table))
-    why_open(options, call, found)
-    return status
+    if options.settle:
+        return settle.perform(options)
+    return ask(options, words, KINDS, lambda text, _: results.checked(text))[2]

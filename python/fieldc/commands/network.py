@@ -9,7 +9,7 @@ from collections.abc import Callable, Iterable, Mapping, Sequence
 from dataclasses import replace
 from pathlib import Path
 
-from .. import files, moves, streams
+from .. import files, movement, moves, streams
 from .. import networks as network
 from ..networks import Input, Network, Position
 from ..refusals import Fault
@@ -28,7 +28,13 @@ Example: fieldc network --moves moves.csv --range 20 --every 5 --program hops.fc
 
 With --moves two sections are written: the network at the first time, and a script that edits it at each step. So
 fieldc run hops.fc moves.txt runs it, fieldc picture draws a page that moves, and fieldc rounds draws how far behind the
-motion the values are."""
+motion the values are.
+
+Example: fieldc network --points at.csv --range 20 --metric 1..20 --move 2 --changes walk.txt -o now.json
+
+With --changes the network of now is written, and what may change while each device is at most so far from its place:
+links whose weight may change, that may go and that may come, as lines that fieldc settle --changes takes."""
+ONLY_CHANGING = ("changes", "move")
 ONLY_MOVING = {"every": "--every", "run": "--run", "gone_after": "--gone-after"}
 
 
@@ -119,8 +125,20 @@ def arguments(parser: argparse.ArgumentParser) -> None:
         "-o", "--output", metavar="FILE", default="-", help="where the network is written (standard output)"
     )
     _moving(parser)
+    _changing(parser)
     _shaping(parser)
     _filling(parser)
+
+
+def _changing(parser: argparse.ArgumentParser) -> None:
+    parser.add_argument(
+        "--changes", metavar="FILE",
+        help="writes there what may change while devices move about, or by columns least, greatest and goes of --edges",
+    )  # fmt: skip
+    parser.add_argument(
+        "--move", metavar="M", type=length,
+        help="beside --changes: how far a device may be from its place (the column move of --points)",
+    )  # fmt: skip
 
 
 def _moving(parser: argparse.ArgumentParser) -> None:
@@ -178,23 +196,76 @@ def _filling(parser: argparse.ArgumentParser) -> None:
 
 
 def perform(options: argparse.Namespace) -> int:
-    for name in (options.positions, options.names, options.output):
+    for name in (options.positions, options.names, options.output, options.changes):
         if name and name != "-":
             writable(name)
     program = cut(options.program, read(options.program))[0][1] if options.program else None
     if options.moves:
+        for name in ONLY_CHANGING:
+            if getattr(options, name) is not None:
+                raise Fault(f"--{name} isn't taken beside --moves")
         return perform_moves(options, program)
     for name, option in ONLY_MOVING.items():
         if getattr(options, name) is not None:
             raise Fault(f"{option} is of --moves")
+    if options.move is not None and options.changes is None:
+        raise Fault("--move says what may change: --changes FILE says where that is written")
     found = shaped(options, program)
     found, lost = finished(found, options, program, by_name(found.devices, found.names))
     tell_lost(options, lost)
     if options.positions and not found.positions:
         raise Fault("--positions: this network has no positions to write")
+    lines = changing(options, program, found) if options.changes else []
     keep_beside(options, found.names, files.positions_text(found.positions))
     write(options.output, found.scene())
+    if options.changes:
+        write(options.changes, "".join(line + "\n" for line in lines))
     return 0
+
+
+def changing(options: argparse.Namespace, program: str | None, found: Network) -> list[str]:
+    """What may change about a network, as lines: by how far devices move, or by the columns of a file of links."""
+    if options.max_degree is not None:
+        raise Fault("--max-degree: which links are the nearest changes where devices move; choose a smaller --range")
+    if options.edges:
+        lines = by_columns(options, found)
+    elif options.points or options.disk:
+        lines = movement.of_moves(found, moves_of(options, program, found), options.range, weight_by_length(options))
+    else:
+        raise Fault("--changes is of --points, --disk and --edges")
+    return lines if program is None else movement.judged(lines, found, network.declared(program))
+
+
+def by_columns(options: argparse.Namespace, found: Network) -> list[str]:
+    """What may change by the columns of a file of links."""
+    given = next((name for name in ("metric", "weight", "move") if getattr(options, name) is not None), None)
+    if given is not None:
+        raise Fault(f"--{given}: beside --edges and --changes weights are those of the file")
+    return movement.of_graph(files.graph(options.edges), found, options.round)
+
+
+def weight_by_length(options: argparse.Namespace) -> movement.Weight:
+    """The rule by which a link of some length has its weight: by distance, or one weight for all."""
+    if not options.metric:
+        return lambda _: 1 if options.weight is None else int(options.weight)
+    low, high = options.metric
+    return lambda far: network.weight_at(far, low, high, options.unit)
+
+
+def moves_of(options: argparse.Namespace, program: str | None, found: Network) -> Mapping[int, float]:
+    """How far each device may be from its place: so far as one number says of all, or a column of the file."""
+    in_file = points_of(options, program).moves if options.points else {}
+    if in_file and options.move is not None:
+        raise Fault(f"--move {options.move:g} is of all devices, and {options.points} has a column move: leave one out")
+    if not in_file and options.move is None:
+        raise Fault("--changes needs a --move, how far a device may be from its place, or a column move of --points")
+    return in_file or dict.fromkeys(found.devices, options.move)
+
+
+def points_of(options: argparse.Namespace, program: str | None) -> files.Points:
+    """The positions of a file."""
+    moving = options.changes is not None
+    return files.points(options.points, program, inputs_of(options), dict(options.scale), moving)
 
 
 def finished(
@@ -263,7 +334,7 @@ def shaped(options: argparse.Namespace, program: str | None) -> Network:
         raise Fault("--disk and --points need a --range")
     if options.disk is not None:
         return network.disk(at_most(options.disk), options.side, options.range, options.seed)
-    points = files.points(options.points, program, inputs, dict(options.scale))
+    points = points_of(options, program)
     say_left_out(options.points, points.left_out)
     at_most(len(points.positions))
     return replace(network.in_range(points.positions, options.range), names=points.names, inputs=points.inputs)

@@ -8,7 +8,7 @@ from collections.abc import Callable, Mapping, Sequence
 from dataclasses import replace
 from pathlib import Path
 
-from .. import program as fc, results
+from .. import changes, program as fc, results
 from ..asking import add_cut_check, cut_warnings, numbered, tell, understood, why_no
 from ..drawing import draw, pyplot_ready
 from ..files import names_from, positions_for
@@ -25,8 +25,8 @@ EPILOG = """\
 Example: fieldc picture hops.fc net.json --of stable --positions points.csv -o hops.svg
 
 The files are a program and a network; for a run its script too, and for a replay its log, since each show is drawn on
-the network as it is then. A network alone is drawn without values. What fc wrote is read by --values, or asked for
-by --of."""
+the network as it is then; for bounds that hold while the network changes the file of changes, so that all is drawn that
+may come. A network alone is drawn without values. What fc wrote is read by --values, or asked for by --of."""
 OF: dict[str, tuple[tuple[str, ...], Callable[[str], results.Result]]] = {
     "stable": (("stable",), results.stable),
     "settle": (("check", "--settle"), results.settled),
@@ -35,14 +35,17 @@ OF: dict[str, tuple[tuple[str, ...], Callable[[str], results.Result]]] = {
     "run": (("run",), results.ran),
     "replay": (("replay",), results.replayed),
     "mail": (("mail",), results.mailed),
+    "changes": (("check", "--settle", "--changes"), results.bounded),
+    "changes-from-table": (("check", "--settle", "--from-table", "--changes"), results.bounded),
 }
-WITH_LINES = ("run", "replay", "mail")
+CHANGING = ("changes", "changes-from-table")
+WITH_LINES = {"run": "script", "replay": "log", "mail": "log", **dict.fromkeys(CHANGING, "changes")}
 KINDS = ("program", "network", "script")
 
 
 def arguments(parser: argparse.ArgumentParser) -> None:
     parser.add_argument(
-        "files", nargs="+", metavar="FILE", help="PROGRAM NETWORK [SCRIPT or LOG], joined or not; or a network"
+        "files", nargs="+", metavar="FILE", help="PROGRAM NETWORK [SCRIPT, LOG or CHANGES], joined or not; or a network"
     )
     parser.add_argument(
         "-o", "--output", metavar="FILE", required=True, help="the picture, by its ending .svg, .png, .pdf, .html"
@@ -52,6 +55,9 @@ def arguments(parser: argparse.ArgumentParser) -> None:
     values.add_argument("--of", choices=tuple(OF), help="asks fc for the values")
     parser.add_argument("--show", metavar="N", type=int, help="which show of a run is drawn, from 1 (the last)")
     parser.add_argument("--page", action="store_true", help="a page of HTML, with a slider over all shows")
+    parser.add_argument(
+        "--rounds", action="store_true", help="of bounds while the network changes: a show for each number of rounds"
+    )
     parser.add_argument(
         "--positions", metavar="FILE", help="positions, lines id,x,y, or t,id,x,y with a time for each show (a layout)"
     )
@@ -75,11 +81,15 @@ def perform(options: argparse.Namespace) -> int:
     if options.values == "-" and "-" in options.files:
         raise Fault("standard input can be read once: name it by one -")
     names = names_from(options.names) if options.names else {}
-    parts = tuple(numbered(part, names) for part in parted(options.files))
+    answer = read(options.values) if options.values else None
+    of_changes = options.of in CHANGING or (answer is not None and results.is_bounded(answer))
+    parts = tuple(numbered(part, names) for part in parted(options.files, of_changes))
+    if of_changes and len(parts) > 2:
+        parts = (*parts[:2], changes.for_fc(parts[2], parts[:2], names))
     network = replace(read_scene(parts[1].text, parts[1].name), names=names)
-    answer = read(options.values) if options.values else asked(options, parts, names) if options.of else None
+    answer = asked(options, parts, names) if options.of else answer
     program, lines = (parts[0].text or None), (parts[2].text if len(parts) > 2 else None)
-    picture = check_marks(gathered(program, network, lines, answer), options.mark)
+    picture = check_marks(gathered(program, network, lines, answer, options.rounds), options.mark)
     picture = check_arrows(check_kinds(picture, options.kinds, network.names), options.arrows)
     picture = replace(picture, title=options.title, numbers=options.numbers)
     with Progress(lambda: f"draws {len(everywhere(picture)[0]):,} devices", ticking=True):
@@ -89,15 +99,14 @@ def perform(options: argparse.Namespace) -> int:
     return 0
 
 
-def parted(names: Sequence[str]) -> tuple[Section, ...]:
-    """The program, network, and script or log of the files; a network alone has an empty program before it."""
-    parts = sections(names, KINDS)
+def parted(names: Sequence[str], of_changes: bool = False) -> tuple[Section, ...]:
+    """The program, network, and script, log or changes of the files; a network alone has an empty program before it."""
+    parts = sections(names, (*KINDS[:2], "changes") if of_changes else KINDS)
     if len(parts) == 1 and parts[0].text.lstrip()[:1] in ("{", "["):
         return (Section("program", "", 1, ""), replace(parts[0], kind="network"))
     if len(parts) not in (2, 3):
-        raise Fault(
-            f"{len(parts)} sections: PROGRAM NETWORK and, of a run or replay, SCRIPT or LOG; or a network alone"
-        )
+        more = "of a run or replay, SCRIPT or LOG, of bounds CHANGES"
+        raise Fault(f"{len(parts)} sections: PROGRAM NETWORK and, {more}; or a network alone")
     return parts
 
 
@@ -105,7 +114,7 @@ def asked(options: argparse.Namespace, parts: Sequence[Section], names: Mapping[
     """What `fc` writes of the sections. Raises Refusal where it refuses them."""
     of = options.of
     if (len(parts) > 2) < (of in WITH_LINES):
-        raise Fault(f"--of {of}: the files have no {'script' if of == 'run' else 'log'}")
+        raise Fault(f"--of {of}: the files have no {WITH_LINES[of]}")
     if not parts[0].text:
         raise Fault(f"--of {of}: a network alone has no values: give the program before it")
     words, reader = OF[of]

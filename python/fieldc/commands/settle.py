@@ -1,15 +1,20 @@
-"""`fieldc settle`: after how many rounds each device of one network holds its value, and why it may stay open."""
+"""`fieldc settle`: after how many rounds each device of one network holds its value, and why it may stay open; or
+between which values it stays while the network changes."""
 
 from __future__ import annotations
 
 import argparse
 
-from .. import results
+from .. import confirm, pace, results
 from ..asking import add_answers, add_cut_check, add_files, ask
 from ..refusals import Call, Fault, has_lark
 from ..streams import say
 
 SUMMARY = "says after how many rounds each device of this network holds its value"
+EPILOG = """\
+With --changes it says between which values each device stays, and after how many rounds, while the network changes
+within the lines of a file: set, link, unlink, leave and join, as in scripts, with values as 2..7 or any, or patterns
+(fieldc changes --help)."""
 KINDS = ("program", "network")
 
 
@@ -29,13 +34,35 @@ def settle_arguments(parser: argparse.ArgumentParser) -> None:
         help="counts from the network's table and pending firings, as after an edit, in place of every start",
     )
     parser.add_argument("--why", action="store_true", help="where it is open, looks for two starts that rest apart")
+    parser.add_argument(
+        "--changes", metavar="FILE", help="a file of what may change: bounds that hold meanwhile, in place of values"
+    )
+    parser.add_argument(
+        "--confirm", metavar="N", type=confirm.runs, help="beside --changes: tries N random runs within the changes"
+    )
+    pace.arguments(parser)
 
 
 def perform(options: argparse.Namespace) -> int:
     words = ["check"] + ["--facts"] * options.facts + ["--settle"] + ["--from-table"] * options.from_table
+    if options.changes is not None:
+        return bounds(options, words)
+    if options.confirm is not None:
+        raise Fault("--confirm tries runs within changes: give --changes too")
     call, found, status = ask(options, words, KINDS, lambda text, _: results.settled(text, options.from_table))
     why_open(options, call, found)
     return status
+
+
+def bounds(options: argparse.Namespace, words: list[str]) -> int:
+    """Asks for the bounds that hold while the network changes, tries them where that is wanted, and answers the
+    status."""
+    if options.why:
+        raise Fault("--why is of settle rounds, and beside --changes there are bounds")
+    if getattr(options, "kinds", None):
+        raise Fault("--kinds is of values, and beside --changes there are bounds")
+    call, found, status = ask(options, [*words, "--changes"], KINDS, lambda text, _: results.bounded(text))
+    return status if options.confirm is None else confirm.perform(call, found, options.confirm) or status
 
 
 def why_open(options: argparse.Namespace, call: Call, found: results.Settled) -> None:
