@@ -3,7 +3,7 @@
 use crate::entries::{Edit, EditFault, StepFault};
 use crate::filling::{export_slots, flight_slots, open_slot};
 use crate::snaps::{copy_flights, copy_plain, published_copy, share_exports, share_own};
-use device_eval::Fired;
+use device_eval::{Fired, Scratch};
 use fc_nodes::Unfolded;
 use fc_values::{Export, Local, Memory, copy_locals};
 use std::alloc::Global;
@@ -15,13 +15,15 @@ use value_trees::{Near, Published, Snap};
 mod applied;
 mod roomed;
 
-/// A network of devices that run a program, with the export and the copy in flight of each.
+/// A network of devices that run a program, with the export and the copy in flight of each, and room for evaluations,
+/// of which no contract speaks.
 #[derive(Drop)]
 pub struct Core {
     program: Arc<Unfolded>,
     net: Network,
     exports: Vec<Option<Published>>,
     flying: Vec<Option<Snap>>,
+    scratch: Scratch,
 }
 
 impl Model for Core {
@@ -82,6 +84,7 @@ impl Core {
             net,
             exports,
             flying,
+            scratch: Scratch::new(alloc),
         })
     }
 
@@ -152,6 +155,7 @@ impl Core {
             net,
             exports,
             flying,
+            scratch: Scratch::new(alloc),
         })
     }
 

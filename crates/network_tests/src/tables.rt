@@ -11,7 +11,7 @@ ghost use Rattle.fc_nodes.specs.Program.{unfolding_of};
 ghost use Rattle.export_table.specs.Passing.{IsPassOf, on_log};
 ghost use Rattle.export_table.specs.Turns.{CanEnd};
 
-use device_eval::fire;
+use device_eval::{Scratch, fire};
 use export_table::{Firing, Held, Shared};
 use fc_nodes::{Node, Op, Unfolded};
 use fc_values::{Declared, Local, LocalTy, Memory, Ty};
@@ -130,7 +130,8 @@ fn end<W: Wait>(
     ensures same { (pass.new.name ≡ pass.old.name) × (pass.new.out ≡ pass.old.out) }
 {
     let place = firing.place();
-    let Ok(fired) = fire(alloc, program, firing.into_snap()) else {
+    let mut scratch = Scratch::new(alloc);
+    let Ok(fired) = fire(alloc, &mut scratch, program, firing.into_snap()) else {
         return;
     };
     if pass.left() == 0 {

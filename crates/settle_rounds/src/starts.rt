@@ -23,7 +23,7 @@ use crate::limits::growing_cap;
 use crate::settling::{Settled, settle_any, settle_over};
 use bound_firing::{ExportBound, Seats, any_export_bound, fire_bounds};
 use bound_rounds::{RoundKind, round, table_of};
-use device_eval::evaluate;
+use device_eval::{Scratch, evaluate};
 use envelopes::{DeviceBound, Envelope, exact_envelope};
 use export_bounds::{exact_export_bound, widen_bound};
 use fc_nodes::Unfolded;
@@ -250,7 +250,8 @@ fn landing(
         sure) }
     ensures slots { IfOk result (λ b. length b.slots.items ≡ kept (unfolding_of program.now).main) }
 {
-    let export = evaluate(alloc, program, snap)?;
+    let mut scratch = Scratch::new(alloc);
+    let export = evaluate(alloc, &mut scratch, program, snap)?;
     let bound = exact_export_bound(alloc, &export, sure)?;
     Ok(bound)
 }

@@ -7,7 +7,7 @@ ghost use Rattle.topology.specs.Networks.{numbers};
 ghost use Rattle.firing_core.specs.CoreViews.{slot_at};
 ghost use Rattle.stable_field.specs.Tables.{AreExportSlots, IsFiring, heard_from};
 
-use device_eval::publish;
+use device_eval::{Scratch, publish};
 use fc_nodes::Unfolded;
 use fc_values::{Memory, copy_locals};
 use firing_core::faultless_steps;
@@ -21,6 +21,7 @@ pub type ExportTable = Vec<Option<Published>>;
 /// The export of the device at a place that fires and sees a table.
 pub fn fired(
     alloc: Global,
+    scratch: &mut Scratch,
     program: &Unfolded,
     net: &Network,
     table: &ExportTable,
@@ -44,7 +45,7 @@ pub fn fired(
         own,
         near,
     };
-    Ok(publish(alloc, program, &snap)?)
+    Ok(publish(alloc, scratch, program, &snap)?)
 }
 
 // A share of an export, if there is one.

@@ -11,6 +11,7 @@ use crate::firing::{ExportTable, fired};
 use crate::outside::slots_outside;
 use crate::sameness::same_exports;
 use converge_laws::solutions_raise_levels;
+use device_eval::Scratch;
 use fc_nodes::Unfolded;
 use fc_values::Memory;
 use std::alloc::Global;
@@ -62,9 +63,10 @@ fn round(
         (numbers net.now.devices) v.items) }
 {
     let count = net.devices().len();
+    let mut scratch = Scratch::new(alloc);
     let mut next = Vec::with_capacity(alloc, count)?;
     for place in 0..count {
-        let export = fired(alloc, program, net, table, place)?;
+        let export = fired(alloc, &mut scratch, program, net, table, place)?;
         next.push(Some(export))?;
     }
     Ok(next)

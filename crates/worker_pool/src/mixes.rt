@@ -19,6 +19,7 @@ use crate::plans::plan_of;
 use crate::rounds::{no_rooms, run_in};
 use crate::shorts::complete;
 use crate::workers::finish;
+use device_eval::Scratch;
 use export_table::{Firing, Gate, Held, Pause};
 use fc_values::Memory;
 use firing_core::{Book, Edit, EditFault, Room, logs_decide};
@@ -215,7 +216,8 @@ fn edit_then_end<W: Wait, G: Gate>(
         waits: _,
     } = mix;
     crew.shared.edit(rt, crew.alloc, pass, edit)?;
-    let Some(_copies) = finish(rt, crew, pass, firing) else {
+    let mut scratch = Scratch::new(crew.alloc);
+    let Some(_copies) = finish(rt, crew, pass, &mut scratch, firing) else {
         return Err(EditFault::Memory);
     };
     Ok(())

@@ -10,7 +10,7 @@ ghost use Rattle.worker_pool.specs.Working.{Worked, Tries, KeepsRoom, EndsFiring
 
 use crate::crews::Crew;
 use crate::naps::Naps;
-use device_eval::fire;
+use device_eval::{Scratch, fire};
 use export_table::{Firing, Gate, Held, Pause, Rest};
 use fc_nodes::Unfolded;
 use firing_core::Room;
@@ -45,6 +45,7 @@ pub(crate) fn finish<W: Wait, G: Gate>(
     rt: &W,
     crew: &Crew<'_, G>,
     pass: &mut Pass<Held>,
+    scratch: &mut Scratch,
     firing: Firing,
 ) -> Option<(Snap, Snap)>
     requires own { IsPassOf crew.now.shared pass.old }
@@ -59,14 +60,20 @@ pub(crate) fn finish<W: Wait, G: Gate>(
 {
     crew.gate.between(&firing);
     let place = firing.place();
-    match fire(crew.alloc, &crew.program, firing.into_snap()) {
+    match fire(crew.alloc, scratch, &crew.program, firing.into_snap()) {
         Ok(fired) => Some(crew.shared.end(rt, pass, place, fired)),
         Err(_) => None,
     }
 }
 
 // One firing, if one may begin. The begin of a round's first firing rings the bell.
-fn fire_next<W: Wait, G: Gate>(rt: &W, crew: &Crew<'_, G>, pass: &mut Pass<Held>, room: Room) -> Try
+fn fire_next<W: Wait, G: Gate>(
+    rt: &W,
+    crew: &Crew<'_, G>,
+    pass: &mut Pass<Held>,
+    scratch: &mut Scratch,
+    room: Room,
+) -> Try
     requires own { IsPassOf crew.now.shared pass.old }
     requires some { 2 ≤ pass.old.left }
     requires room { IsRoom (unfolding_of crew.now.shared.opening.program) room }
@@ -79,7 +86,7 @@ fn fire_next<W: Wait, G: Gate>(rt: &W, crew: &Crew<'_, G>, pass: &mut Pass<Held>
             if firing.device() == crew.first {
                 crew.bell.ring();
             }
-            match finish(rt, crew, pass, firing) {
+            match finish(rt, crew, pass, scratch, firing) {
                 Some((first, second)) => tried(first, second),
                 None => Try::Starved,
             }
@@ -114,10 +121,11 @@ pub(crate) fn work<W: Wait, G: Gate>(
     ensures kept { KeepsRoom crew.now.shared result }
 {
     let mut room = room_of(crew.alloc, &crew.program, kept)?;
+    let mut scratch = Scratch::new(crew.alloc);
     let mut naps = Naps::new(crew.enlist());
     'firings: while pass.left() >= 2 {
         let seen = crew.bell.rings();
-        match fire_next(rt, crew, pass, room) {
+        match fire_next(rt, crew, pass, &mut scratch, room) {
             Try::Fired(back) => {
                 room = back;
                 naps.take(rt, &crew.bell);

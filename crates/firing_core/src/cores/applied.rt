@@ -51,7 +51,7 @@ impl Core {
         let Some(flight) = self.flying[place].as_ref() else {
             return Err(StepFault::NotFlying);
         };
-        let Ok(export) = publish(alloc, &self.program, flight) else {
+        let Ok(export) = publish(alloc, &mut self.scratch, &self.program, flight) else {
             return Err(StepFault::Memory);
         };
         self.exports[place] = Some(export);
