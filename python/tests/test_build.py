@@ -59,8 +59,8 @@ def build_itself() -> Any:
     return made
 
 
-# on what no command leans yet: laws of networks that change, and values as columns of words
-AHEAD = ("envelope_bounds", "value_columns")
+# on what no command leans yet: laws of networks that change
+AHEAD = ("envelope_bounds",)
 
 
 class Build(InFolder):

@@ -2,3 +2,4 @@ pub mod Environments
 pub mod Slots
 pub mod References
 pub mod Hearing
+pub mod Scopes

@@ -1,22 +1,16 @@
 -- What references in code stand for.
 use Rattle.std.specs.Prelude.{ℕ, Bool, List, map, filter, option_map}
 use Rattle.std.specs.Borrow.{Bor}
-use Rattle.fc_values.specs.declared.exports.Slots.{Slots}
-use Rattle.fc_values.specs.declared.values.FieldVal.{FieldVal}
-use Rattle.fc_values.specs.Fields.{AnyValue, ValueField, entries_of}
+use Rattle.fc_values.specs.declared.exports.Slot.{Slot}
 use Rattle.fc_values.specs.Exports.{SlotValue, slots_of}
 use Rattle.alignment.specs.declared.environments.NearRef.{NearRef}
 use Rattle.alignment.specs.declared.environments.Env.{Env}
 use Rattle.alignment.specs.Slots.{FlatEnv, NearSlots, slot_keeps}
 use Rattle.alignment.specs.Environments.{near_numbers}
 
--- the value that a field in code is
-abbrev pub field_of : FieldVal → AnyValue
-field_of f = ValueField (entries_of f)
-
 -- the slots behind a reference
-abbrev pub borrowed_slots : Bor Slots → List SlotValue
-borrowed_slots s = slots_of s.now.list.items
+abbrev pub borrowed_slots : Bor (List Slot) → List SlotValue
+borrowed_slots s = slots_of s.now
 
 -- an aligned neighbour
 abbrev pub near_of : NearRef → NearSlots

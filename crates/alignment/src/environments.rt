@@ -1,93 +1,24 @@
-//! The exports that a node sees, and those that took the same branch.
+//! The exports that a node sees.
 
-ghost use Rattle.std.specs.Prelude.{◌≡◌, ◌<◌, IfOk, length, Some};
-ghost use Rattle.fc_values.specs.Values.{local_of};
-ghost use Rattle.fc_values.specs.Exports.{slots_of};
-ghost use Rattle.alignment.specs.Environments.{keeps_truth as truth_is_kept};
-ghost use Rattle.alignment.specs.Slots.{OwnHas, NearHave, slot_keeps, flat_branch};
-ghost use Rattle.alignment.specs.References.{flat_of, nears_of, that_keep};
+ghost use Rattle.std.specs.Prelude.{◌≤◌, length};
+ghost use Rattle.fc_values.specs.declared.limits.TheConstants.{MOST_LINKS};
 
-use fc_values::{Local, Memory, Slots};
-use std::alloc::Global;
+use fc_values::{MOST_LINKS, Slot};
+use smallvec::SmallVec;
 
 /// An aligned neighbour: its number, the weight of its link, and its slots.
-#[derive(Drop)]
+#[derive(Clone, Copy, Default)]
 pub struct NearRef<'a> {
     pub device: u32,
     pub weight: u32,
-    pub slots: &'a Slots,
+    pub slots: &'a [Slot],
 }
 
-/// The exports that a node sees: the device's own, if it has one, and those of the aligned neighbours in rising order.
+/// The exports that a node sees: the device's own, if it has one, and those of the aligned neighbours in rising order,
+/// of whom there are no more than a device has links.
 #[derive(Drop)]
 pub struct Env<'a> {
-    pub own: Option<&'a Slots>,
-    pub near: Vec<NearRef<'a>>,
-}
-
-/// The exports that took the same branch: those that keep this truth value in the slot of an `if`.
-pub fn same_branch<'a>(
-    alloc: Global,
-    env: &Env<'a>,
-    slot: u32,
-    truth: bool,
-) -> Result<Env<'a>, Memory>
-    requires own { OwnHas slot (flat_of env.now).own }
-    requires near { NearHave slot (flat_of env.now).near }
-    ensures { IfOk result (λ e. flat_of e ≡ flat_branch slot truth (flat_of env.now)) }
-{
-    let near = near_branch(alloc, &env.near, slot, truth)?;
-    let own = match env.own {
-        Some(slots) => {
-            if keeps(slots, slot, truth) {
-                Some(slots)
-            } else {
-                None
-            }
-        }
-        None => None,
-    };
-    Ok(Env { own, near })
-}
-
-// The neighbours that keep a truth value in a slot.
-fn near_branch<'a>(
-    alloc: Global,
-    all: &[NearRef<'a>],
-    slot: u32,
-    truth: bool,
-) -> Result<Vec<NearRef<'a>>, Memory>
-    requires { NearHave slot (nears_of all.now) }
-    ensures { IfOk result (λ v. nears_of v.items ≡ that_keep slot truth (nears_of all.now)) }
-{
-    let mut near = Vec::with_capacity(alloc, all.len())?;
-    for n in all {
-        if keeps(n.slots, slot, truth) {
-            near.push(NearRef {
-                device: n.device,
-                weight: n.weight,
-                slots: n.slots,
-            })?;
-        }
-    }
-    Ok(near)
-}
-
-// Whether a slot is kept, with this truth value.
-fn keeps(slots: &Slots, slot: u32, truth: bool) -> bool
-    requires { slot < length (slots_of slots.now.list.items) }
-    ensures { result ≡ slot_keeps slot truth (slots_of slots.now.list.items) }
-{
-    let s = &slots.list[slot as usize];
-    s.kept && is_truth(&s.value, truth)
-}
-
-// Whether a value is this truth value.
-fn is_truth(value: &Local, truth: bool) -> bool
-    ensures { result ≡ truth_is_kept truth (Some (local_of value.now)) }
-{
-    match value {
-        Local::Bool(b) => *b == truth,
-        _ => false,
-    }
+    pub own: Option<&'a [Slot]>,
+    pub near: SmallVec<NearRef<'a>, MOST_LINKS>,
+    pub ghost few: { length near.items ≤ MOST_LINKS },
 }

@@ -2,10 +2,10 @@
 //! a `share` hears of these exports, and what an `nbr` gives.
 #![tactic(auto)]
 
+mod branches;
 mod environments;
 mod hearing;
-mod restriction;
 
-pub use environments::{Env, NearRef, same_branch};
-pub use hearing::{heard, heard_with, own_or};
-pub use restriction::restrict;
+pub use branches::same_branch;
+pub use environments::{Env, NearRef};
+pub use hearing::{own_or, slot_value};

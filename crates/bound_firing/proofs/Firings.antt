@@ -9,7 +9,8 @@ use Rattle.fc_values.specs.Trees.{Tree, Trees, Keep, Done, Then, kept_of, child,
 use Rattle.fc_nodes.specs.Terms.{Variable, NbrLink, Evolution, ByRep, ByShare, Term, Terms, Plain, Apply, Nbr, Evolve}
 use Rattle.fc_nodes.specs.Terms.{If, Let, More, size}
 use Rattle.alignment.specs.Environments.{Env, NearTree, branch_env}
-use Rattle.device_eval.specs.Evaluation.{Situation, Vars, variable_at}
+use Rattle.alignment.specs.Scopes.{Vars, variable_at}
+use Rattle.device_eval.specs.Evaluation.{Situation}
 use Rattle.device_eval.specs.Rules.{Evaluates, EvaluateAll, literal, variable, sense, uid, nbr_link, builtin, nbr, rep}
 use Rattle.device_eval.specs.Rules.{share, if_true, if_false, binding, none, one_more}
 use Rattle.value_bounds.specs.BoundValues.{BoundValue, Lies}

@@ -6,7 +6,8 @@ use Rattle.fc_values.specs.Values.{LocalValue, IntValue}
 use Rattle.fc_values.specs.Fields.{Entries, ValueField, devices, with_entry, is_in}
 use Rattle.fc_values.specs.Trees.{Tree, kept_of}
 use Rattle.alignment.specs.Environments.{NearTree}
-use Rattle.device_eval.specs.Neighbours.{kept_there, entry_before, weights}
+use Rattle.alignment.specs.Scopes.{weights}
+use Rattle.device_eval.specs.Neighbours.{kept_there, entry_before}
 use Rattle.device_eval.specs.Evaluation.{own_or}
 use Rattle.value_bounds.specs.BoundValues.{BoundValue, Between, Lies, either}
 use Rattle.value_bounds.specs.BoundBuiltins.{maybes_in, entry_at, own_else, field_at, maybe_numbers, AreApart, Picked}

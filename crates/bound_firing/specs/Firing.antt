@@ -7,7 +7,8 @@ use Rattle.fc_values.specs.Trees.{Tree}
 use Rattle.alignment.specs.Environments.{Env}
 use Rattle.fc_nodes.specs.Terms.{Leaf, Literal, Variable, Sense, Uid, NbrLink, Evolution, ByRep, ByShare}
 use Rattle.fc_nodes.specs.Terms.{Term, Terms, Plain, Apply, Nbr, Evolve, If, Let, NoMore, More, size}
-use Rattle.device_eval.specs.Evaluation.{Situation, Vars}
+use Rattle.alignment.specs.Scopes.{Vars}
+use Rattle.device_eval.specs.Evaluation.{Situation}
 use Rattle.device_eval.specs.Rules.{Evaluates}
 use Rattle.value_bounds.specs.BoundValues.{BoundValue, Between, Unbounded, Lies, exactly, either}
 use Rattle.value_bounds.specs.BoundBuiltins.{AnyBound, BoundLocal, BoundField, BoundAny, LiesIn, builtin_bound}

@@ -8,7 +8,7 @@ use Rattle.fc_values.specs.Fields.{AnyValue}
 use Rattle.fc_values.specs.Trees.{Tree}
 use Rattle.fc_nodes.specs.Terms.{Evolution, ByRep, ByShare, Term, Evolve, size}
 use Rattle.alignment.specs.Environments.{Env}
-use Rattle.device_eval.specs.Evaluation.{Vars}
+use Rattle.alignment.specs.Scopes.{Vars}
 use Rattle.topology.specs.Networks.{Network, IsNetwork}
 use Rattle.interval_facts.specs.Solutions.{Devices, In, ValueMap, ValueMaps, bind, around, local_map, evolved, Solves}
 use Rattle.fc_nodes.specs.Variables.{occurs}

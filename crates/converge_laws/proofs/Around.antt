@@ -9,7 +9,8 @@ use Rattle.fc_nodes.specs.Terms.{Term, Plain, Apply, Nbr, Evolve, If, Let, type_
 use Rattle.fc_nodes.specs.Typing.{Scope, type_at}
 use Rattle.topology.specs.Networks.{Network, numbers, near, IsNetwork}
 use Rattle.fc_values.proofs.Numbers.{Part, part_none, part_skip, part_keep, rises_with, rises_part, not_in_part, still_stays}
-use Rattle.device_eval.proofs.Sights.{devices_with, fit_with, bound_fits}
+use Rattle.alignment.proofs.Entries.{devices_with}
+use Rattle.device_eval.proofs.Sights.{fit_with, bound_fits}
 use Rattle.topology.proofs.Lemmas.{AllNear, near_rises, near_fits}
 use Rattle.interval_facts.specs.Solutions.{Devices, In, ValueMap, ValueMaps, bind, near_among, around, FitsOn, field_of, where_is, Solves}
 use Rattle.converge_laws.proofs.Near.{in_part}

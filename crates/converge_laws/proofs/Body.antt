@@ -8,7 +8,8 @@ use Rattle.fc_values.specs.Fields.{AnyValue, ValueLocal, ValueField, FitsOver, w
 use Rattle.fc_values.specs.Trees.{Tree, kept_of}
 use Rattle.fc_nodes.specs.Terms.{Evolution, ByRep, ByShare, Term, Evolve, size}
 use Rattle.alignment.specs.Environments.{Env, child_env}
-use Rattle.device_eval.specs.Evaluation.{Vars, own_or}
+use Rattle.alignment.specs.Scopes.{Vars}
+use Rattle.device_eval.specs.Evaluation.{own_or}
 use Rattle.topology.specs.Networks.{Network, near, IsNetwork}
 use Rattle.interval_facts.specs.Solutions.{Devices, ValueMap, ValueMaps, bind, near_among, around, local_map, evolved, Solves}
 use Rattle.fc_nodes.specs.Variables.{occurs}
@@ -25,7 +26,8 @@ use Rattle.growth_facts.specs.Beside.{FieldPair, Beside, Shallow}
 use Rattle.growth_facts.proofs.FieldPairs.{pairs_with}
 use Rattle.converge_laws.proofs.Seen.{kept_over, keeps_fit, kept_pairs, Hears, seen}
 use Rattle.converge_laws.proofs.Around.{heard_in, near_up, near_apart}
-use Rattle.device_eval.proofs.Sights.{devices_with, fit_with, bound_fits}
+use Rattle.alignment.proofs.Entries.{devices_with}
+use Rattle.device_eval.proofs.Sights.{fit_with, bound_fits}
 use Rattle.converge_laws.proofs.Down.{stage_none, stage_later}
 
 module _ (A : Analysis) (N : Network) (d j : ℕ) (t : ValueType) (e : Evolution) (a u : Term) (p b : ℕ) (st : Stage) (lv : Lvs) (D : Devices) (V : ValueMaps) (F : ValueMap) (s : Solves N p (Evolve t e a u) D V F) (vars : Vars) (env : Env) (v : AnyValue) (tree : Tree) (cl : occurs st.var (Evolve t e a u) ≡ false) (g : Given A N d j p b st lv (Evolve t e a u) D V F s vars env) (r : Evolves N d p e a u vars env v tree)

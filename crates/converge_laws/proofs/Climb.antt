@@ -7,7 +7,7 @@ use Rattle.fc_values.specs.Fields.{AnyValue, ValueLocal, FitsOver}
 use Rattle.fc_values.specs.Trees.{Tree}
 use Rattle.fc_nodes.specs.Terms.{Evolution, ByRep, Term, Evolve, type_of, size}
 use Rattle.alignment.specs.Environments.{Env}
-use Rattle.device_eval.specs.Evaluation.{Vars}
+use Rattle.alignment.specs.Scopes.{Vars}
 use Rattle.topology.specs.Networks.{Network, IsNetwork}
 use Rattle.interval_facts.specs.Solutions.{Devices, ValueMap, ValueMaps, bind, around, local_map, evolved, Solves}
 use Rattle.fc_nodes.specs.Variables.{occurs}

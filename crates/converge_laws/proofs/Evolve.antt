@@ -11,7 +11,8 @@ use Rattle.fc_nodes.specs.Terms.{Evolution, ByRep, ByShare, Term, Evolve, size}
 use Rattle.fc_nodes.specs.Flat.{FitsTree}
 use Rattle.device_eval.proofs.Progress.{two_second}
 use Rattle.alignment.specs.Environments.{Env, child_env}
-use Rattle.device_eval.specs.Evaluation.{Vars, variable_at, own_or}
+use Rattle.alignment.specs.Scopes.{Vars, variable_at}
+use Rattle.device_eval.specs.Evaluation.{own_or}
 use Rattle.device_eval.specs.Rules.{Evaluates, rep, share}
 use Rattle.device_eval.specs.Neighbours.{kept_there}
 use Rattle.topology.specs.Networks.{Network}

@@ -12,7 +12,8 @@ use Rattle.fc_nodes.specs.Terms.{Leaf, Literal, Variable, Sense, Uid, NbrLink, E
 use Rattle.fc_nodes.specs.Typing.{Scope, evolving_type, types_of, LeafHasType}
 use Rattle.alignment.specs.Environments.{same_truth}
 use Rattle.topology.specs.Networks.{Network, Lives, numbers, near, IsNetwork}
-use Rattle.device_eval.proofs.Sights.{devices_with, fit_with, restricted_fits}
+use Rattle.alignment.proofs.Entries.{devices_with}
+use Rattle.device_eval.proofs.Sights.{fit_with, restricted_fits}
 use Rattle.topology.proofs.Lemmas.{AllNear, near_fits}
 use Rattle.interval_facts.specs.Solutions.{Devices, In, ValueMap, ValueMaps, bind, near_among, around, field_over, at_device, field_of, local_map, evolved, where_is, LeafIs, Solves, SolveAll}
 use Rattle.fc_nodes.specs.Variables.{occurs, occurs_in}

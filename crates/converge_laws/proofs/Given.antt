@@ -5,7 +5,8 @@ use Rattle.fc_values.specs.Trees.{Tree, Trees}
 use Rattle.fc_nodes.specs.Terms.{Term, Terms}
 use Rattle.fc_nodes.specs.Flat.{FitsTree, FitTrees}
 use Rattle.alignment.specs.Environments.{Env}
-use Rattle.device_eval.specs.Evaluation.{Situation, Vars, variable_at}
+use Rattle.alignment.specs.Scopes.{Vars, variable_at}
+use Rattle.device_eval.specs.Evaluation.{Situation}
 use Rattle.device_eval.specs.Rules.{Evaluates, EvaluateAll}
 use Rattle.device_eval.proofs.Sights.{kids_from}
 use Rattle.topology.specs.Networks.{Network, Lives, inputs_in}

@@ -5,7 +5,8 @@ use Rattle.fc_values.specs.Values.{LocalValue, IntValue, BoolValue}
 use Rattle.fc_values.specs.Fields.{AnyValue, restricted}
 use Rattle.fc_values.specs.Trees.{Tree, kept_of, child}
 use Rattle.alignment.specs.Environments.{NearTree, near_by, keeps_truth, same_truth, own_where, near_numbers as tree_numbers}
-use Rattle.device_eval.specs.Neighbours.{kept_there, weights}
+use Rattle.alignment.specs.Scopes.{weights}
+use Rattle.device_eval.specs.Neighbours.{kept_there}
 use Rattle.interval_facts.specs.Solutions.{Devices, In, where_is}
 use Rattle.topology.specs.Nearby.{near_numbers}
 

@@ -8,7 +8,8 @@ use Rattle.fc_values.specs.Fields.{AnyValue, ValueLocal, FitsOver}
 use Rattle.fc_values.specs.Trees.{Tree, Trees, Keep, Done, Then, child}
 use Rattle.fc_nodes.specs.Terms.{Evolution, ByRep, Term, Terms, Plain, Apply, Nbr, Evolve, If, Let, NoMore, More, size}
 use Rattle.alignment.specs.Environments.{Env, child_env}
-use Rattle.device_eval.specs.Evaluation.{Vars, variable_at, own_or}
+use Rattle.alignment.specs.Scopes.{Vars, variable_at}
+use Rattle.device_eval.specs.Evaluation.{own_or}
 use Rattle.topology.specs.Networks.{Network, IsNetwork}
 use Rattle.interval_facts.specs.Solutions.{Devices, ValueMap, ValueMaps, bind, near_among, around, local_map, evolved, Solves}
 use Rattle.fc_nodes.specs.Variables.{occurs}

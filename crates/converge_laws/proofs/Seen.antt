@@ -11,9 +11,10 @@ use Rattle.fc_values.specs.Trees.{Tree, Trees, Keep, kept_of}
 use Rattle.fc_nodes.specs.Terms.{Leaf, Literal, Variable, Sense, Uid, NbrLink, Evolution, ByRep, ByShare, Term, Terms, Plain, Apply, Nbr, Evolve, If, Let, NoMore, More, size, sizes}
 use Rattle.alignment.specs.Environments.{NearTree, Env, child_env, near_numbers as tree_numbers}
 use Rattle.device_eval.specs.Neighbours.{kept_there, entry_before}
-use Rattle.device_eval.specs.Evaluation.{Vars, variable_at}
+use Rattle.alignment.specs.Scopes.{Vars, variable_at}
 use Rattle.device_eval.specs.Rules.{Evaluates, EvaluateAll, variable, builtin, nbr, none, one_more}
-use Rattle.device_eval.proofs.Sights.{kids_from, first_kid, rest_kids, devices_with, fit_with, restricted_fits}
+use Rattle.alignment.proofs.Entries.{devices_with}
+use Rattle.device_eval.proofs.Sights.{kids_from, first_kid, rest_kids, fit_with, restricted_fits}
 use Rattle.fc_nodes.specs.Flat.{KeepsWith, FitsTree, FitTrees}
 use Rattle.topology.specs.Networks.{Network, near, IsNetwork}
 use Rattle.interval_facts.specs.Solutions.{Devices, In, ValueMap, ValueMaps, near_among, around, at_device, Solves, SolveAll}

@@ -14,7 +14,7 @@ use Rattle.fc_nodes.specs.Terms.{Leaf, Literal, Variable, Sense, Uid, NbrLink, T
 use Rattle.fc_nodes.specs.Flat.{FitsTree, FitTrees}
 use Rattle.device_eval.proofs.Progress.{one_first, plain_first, plain_second, truth_first, truth_taken, truth_other, apply_kids}
 use Rattle.alignment.specs.Environments.{Env, child_env, branch_env, keeps_truth, near_numbers as tree_numbers}
-use Rattle.device_eval.specs.Evaluation.{Vars, variable_at}
+use Rattle.alignment.specs.Scopes.{Vars, variable_at}
 use Rattle.device_eval.specs.Rules.{literal, variable, sense, uid, nbr_link, builtin, nbr, if_true, if_false, binding, none, one_more}
 use Rattle.topology.specs.Networks.{Network, near}
 use Rattle.interval_facts.specs.Solutions.{Devices, In, ValueMap, ValueMaps, bind, near_among, around, where_is, local_map, Solves}

@@ -9,7 +9,7 @@ use Rattle.fc_nodes.specs.Terms.{Literal, Variable, Sense, Uid, NbrLink, Evoluti
 use Rattle.fc_nodes.proofs.Kids.{size_some}
 use Rattle.fc_nodes.specs.Program.{Program, unfolding_of, IsProgram}
 use Rattle.alignment.specs.Environments.{Env}
-use Rattle.device_eval.specs.Evaluation.{Vars}
+use Rattle.alignment.specs.Scopes.{Vars}
 use Rattle.topology.specs.Networks.{Network, IsNetwork, Lives, lives, numbers}
 use Rattle.firing_core.specs.Entries.{EntryValue}
 use Rattle.firing_core.specs.Cores.{Core, Run, IsGood}

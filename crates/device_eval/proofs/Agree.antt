@@ -9,7 +9,8 @@ use Rattle.fc_values.specs.Trees.{Tree, Trees, Keep, Done, Then}
 use Rattle.fc_nodes.specs.Terms.{Leaf, Literal, Variable, Sense, Uid, NbrLink, ByRep, ByShare, Term, Terms, Plain, Apply, Nbr, Evolve, If, Let, NoMore, More, size}
 use Rattle.alignment.specs.Environments.{Env, child_env, branch_env, near_numbers}
 use Rattle.device_eval.specs.Neighbours.{kept_there}
-use Rattle.device_eval.specs.Evaluation.{Situation, Vars, variable_at, own_or, heard, eval_of, eval_all, after, after_all, and_then, on_some, on_local, on_truth, pick, Outcome, Outcomes}
+use Rattle.alignment.specs.Scopes.{Vars, variable_at}
+use Rattle.device_eval.specs.Evaluation.{Situation, own_or, heard, eval_of, eval_all, after, after_all, and_then, on_some, on_local, on_truth, pick, Outcome, Outcomes}
 use Rattle.device_eval.specs.Rules.{Evaluates, EvaluateAll, literal, variable, sense, uid, nbr_link, builtin, nbr, rep, share, if_true, if_false, binding, none, one_more}
 
 -- what the rules give, the function gives

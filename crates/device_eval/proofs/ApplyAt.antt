@@ -1,23 +1,28 @@
 -- A builtin at a place of a program.
 use Rattle.std.proofs.Common.{◌≡◌, ℕ, suc, ◌<◌, ◌≤◌, ◌+◌, List, [], length, refl, sym, ◌∙◌, ap, subst, arith, Some, None, IsSome, get_or}
 use Rattle.fc_values.specs.declared.builtins.Builtin.{Builtin}
-use Rattle.fc_values.specs.Types.{ValueType}
+use Rattle.fc_values.specs.Types.{ValueType, Declarations}
 use Rattle.fc_values.specs.Fields.{AnyValue}
 use Rattle.fc_values.specs.Builtins.{builtin_value}
 use Rattle.fc_values.specs.Trees.{Trees, Keep, nth_tree}
 use Rattle.fc_values.specs.Exports.{SlotValue}
 use Rattle.fc_nodes.specs.declared.nodes.Node.{Node}
+use Rattle.fc_nodes.specs.Typing.{Scope}
 use Rattle.fc_nodes.specs.Terms.{Term, Terms, NoMore, More, Apply, OfApply, kept, kept_all, kept_before, size, AllLaid, places, term_at, terms_by}
 use Rattle.fc_nodes.specs.Flat.{tree_at, trees_at, Marked, AllMarked}
 use Rattle.fc_nodes.proofs.Places.{AllAbove, formed_above}
 use Rattle.fc_nodes.proofs.Kids.{laid_term, SomeKids, apply_laid}
 use Rattle.fc_nodes.proofs.Kept.{kept_step, kept_size, kept_none}
-use Rattle.device_eval.specs.Evaluation.{Situation, Vars, Outcome, Outcomes, eval_of, eval_all, after_all, on_some}
+use Rattle.alignment.specs.Scopes.{Vars}
+use Rattle.device_eval.specs.Evaluation.{Situation, Outcome, Outcomes, eval_of, eval_all, after_all, on_some}
 use Rattle.fc_nodes.specs.Layouts.{LayoutValue}
+use Rattle.alignment.specs.Environments.{near_numbers}
 use Rattle.alignment.specs.Slots.{FlatEnv}
 use Rattle.device_eval.specs.Environments.{env_at, EnvFits}
 use Rattle.device_eval.specs.Walks.{Room, SameOut, Can, Did, DidAt, ReadyAt}
 use Rattle.device_eval.specs.Rows.{outcomes_at, row_trees, row_kept, Row, FitEach, MarkedEach, first_of, CanEach, DidEach, ReadyEach}
+use Rattle.device_eval.specs.Places.{May, MayAll, MayAt, MayEach}
+use Rattle.device_eval.proofs.MaySteps.{may_apply, may_at}
 use Rattle.device_eval.proofs.Frames.{env_child, env_fits}
 use Rattle.device_eval.proofs.Steps.{some_on}
 use Rattle.device_eval.proofs.RowSteps.{rest_row}
@@ -65,6 +70,15 @@ module _ (ns : List Node) (ab : AllAbove ns) where
         let ih = all_is xs (q + size x) (suc i) (k + kept x) l.1 (omega (arith, e, s)) (from_rest i x xs k f) in
         let en = env_child i (Apply t o all) x k0 k (from_here i x xs k f) env in
         rw (en, ih, tx, ← e) refl
+
+    may_row : (D : Declarations) (scope : Scope) (xs : Terms) (q i k : ℕ) → AllLaid ns q xs → k ≡ kept_before ns q → From i xs k → MayAll D S scope q i xs (near_numbers env.near) vars (env_at (Apply t o all) k0 env) → MayEach D S ns scope (places q xs) vars env
+    may_row D scope NoMore q i k l e f m = tt
+    may_row D scope (More x xs) q i k l e f m =
+        let tx = laid_term ns ab x q l.0 in
+        let s = kept_size ns x q (q + size x) l.0 refl in
+        let rest = may_row D scope xs (q + size x) (suc i) (k + kept x) l.1 (omega (arith, e, s)) (from_rest i x xs k f) m.1 in
+        let en = env_child i (Apply t o all) x k0 k (from_here i x xs k f) env in
+        (may_at env refl (sym tx) e (subst (λ n. May D S scope q x (near_numbers env.near) vars n) en m.0), rest)
 
   fit_row : (t : ValueType) (o : Builtin) (all : Terms) (k0 : ℕ) (env : FlatEnv) → EnvFits (Apply t o all) k0 env → (xs : Terms) (q k : ℕ) → AllLaid ns q xs → k ≡ kept_before ns q → k + kept_all xs ≤ k0 + kept_all all → ((zs : List SlotValue) → AllMarked all k0 zs → AllMarked xs k zs) → FitEach ns (places q xs) env
   fit_row t o all k0 env f NoMore q k l e i m = tt
@@ -128,6 +142,12 @@ module _ {S : Situation} {ns : List Node} {lay : LayoutValue} {p : ℕ} {o : Bui
         room = room_row ns ab all (suc p) (kept_before ns p) xs kids_laid slot_next can'.room;
         runs = subst (λ qs. IsSome (outcomes_at S ns qs vars env)) kids_are runs;
       })
+
+  pub apply_may_each : {D : Declarations} {scope : Scope} → MayAt D S ns scope p vars env → {qs : List ℕ} → qs ≡ ks → MayEach D S ns scope qs vars env
+  apply_may_each {D} {scope} may {qs} e =
+      let here' : May D S scope p (Apply t o all) (near_numbers env.near) vars (env_at (Apply t o all) (kept_before ns p) env) = subst (λ u. May D S scope p u (near_numbers env.near) vars (env_at u (kept_before ns p) env)) term_is may in
+      let each = may_row ns ab S t o all (kept_before ns p) vars env D scope all (suc p) 0 (kept_before ns p) kids_laid slot_next (λ j zs. let e' : 0 + j ≡ j = omega arith in ap (λ n. nth_tree n (trees_at all (kept_before ns p) zs)) e') (may_apply here') in
+      subst (λ js. MayEach D S ns scope js vars env) (sym (e ∙ kids_are)) each
 
   pub apply_can : {qs : List ℕ} → qs ≡ ks → ReadyEach S ns lay qs vars env xs
   apply_can {qs} e = record { can = subst (λ js. CanEach S ns js vars env xs) (sym e) can_each; layout = here.ready.stands.layout; formed = here.ready.stands.formed }

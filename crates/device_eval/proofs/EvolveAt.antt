@@ -1,27 +1,32 @@
 -- A `rep` or `share` at a place of a program.
 use Rattle.std.proofs.Common.{◌≡◌, ◌≢◌, ℕ, suc, ◌<◌, ◌+◌, List, [], ◌∷◌, length, map, refl, sym, ◌∙◌, ap, subst, arith, true, Option, Some, None, get_or, length-set}
 use Rattle.std.specs.Prelude.{slice_set, option_map}
-use Rattle.fc_values.specs.Types.{ValueType}
+use Rattle.fc_values.specs.Types.{ValueType, TypeLocal, Declarations}
 use Rattle.fc_values.specs.BuiltinTypes.{inner}
 use Rattle.fc_values.specs.Values.{LocalValue}
 use Rattle.fc_values.specs.Fields.{AnyValue, ValueLocal, ValueField, with_entry}
 use Rattle.fc_values.specs.Trees.{Tree, Keep, Done, Then}
 use Rattle.fc_values.specs.Exports.{SlotValue, slot_at}
 use Rattle.fc_nodes.specs.declared.nodes.Node.{Node}
-use Rattle.fc_nodes.specs.Terms.{Evolution, ByRep, ByShare, Term, Evolve, OfEvolve, kept, kept_before, size, term_at}
+use Rattle.fc_nodes.specs.Typing.{Scope, HasType, evolving_type}
+use Rattle.fc_nodes.specs.Terms.{type_of, Evolution, ByRep, ByShare, Term, Evolve, OfEvolve, kept, kept_before, size, term_at}
 use Rattle.fc_nodes.specs.Flat.{tree_at}
 use Rattle.fc_nodes.proofs.Places.{formed_above}
 use Rattle.fc_nodes.proofs.Kids.{TwoKids, evolve_laid}
 use Rattle.fc_nodes.proofs.Kept.{one_more, kept_size}
 use Rattle.device_eval.specs.Neighbours.{kept_there}
-use Rattle.device_eval.specs.Evaluation.{Situation, Vars, Outcome, own_or, heard, evolving, eval_of, after, on_local, on_some}
+use Rattle.alignment.specs.Scopes.{Vars}
+use Rattle.device_eval.specs.Evaluation.{Situation, Outcome, own_or, heard, evolving, eval_of, after, on_local, on_some}
 use Rattle.fc_nodes.specs.Layouts.{LayoutValue, number_in}
+use Rattle.alignment.specs.Environments.{near_numbers}
 use Rattle.alignment.specs.Slots.{FlatEnv, NearSlots, OwnHas, NearHave}
 use Rattle.device_eval.specs.Environments.{env_at, near_at}
 use Rattle.alignment.specs.Hearing.{slot_entries, own_slot_or}
 use Rattle.device_eval.specs.Starts.{started}
 use Rattle.device_eval.specs.Walks.{SameIn, Can, Did, DidAt, Stands, IsLocal, Ready, ReadyAt}
 use Rattle.fc_values.proofs.SlotReads.{slot_set_same, slot_set_other}
+use Rattle.device_eval.specs.Places.{May, MayAt}
+use Rattle.device_eval.proofs.MaySteps.{may_evolve_first, may_evolve_body, may_at}
 use Rattle.device_eval.proofs.Frames.{tree_same, marked_same, env_child, env_fits, room_part, room_behind, still_then, still_set}
 use Rattle.device_eval.proofs.Steps.{after_some, local_is, can_all, did_all, kid_is, stands_kid, slot_is, own_has, near_have}
 
@@ -167,6 +172,28 @@ module _ {S : Situation} {ns : List Node} {lay : LayoutValue} {p : ℕ} {v : Evo
       let d = can_all S _ _ _ _ _ _ vars env env xs (sym (e' ∙ i)) (ap (term_at ns) (sym e')) (slot_0 ∙ ap (kept_before ns) (sym e')) refl (evolve_first S p t v A B K vars env xs can_e) in
       (omega (arith, e', i), omega (arith, e', w), record { can = d; stands = subst (λ r. Stands ns lay r) (sym e') s })
 
+  may_e : {D : Declarations} {scope : Scope} → MayAt D S ns scope p vars env → May D S scope p (Evolve t v A B) (near_numbers env.near) vars (env_at (Evolve t v A B) K env)
+  may_e {D} {scope} may = let o = evolve_kids in subst (λ u. May D S scope p u (near_numbers env.near) vars (env_at u K env)) o.term may
+
+  pub evolve_may_first : {D : Declarations} {scope : Scope} → MayAt D S ns scope p vars env → {q : ℕ} → q ≡ get_or ks 0 q → MayAt D S ns scope q vars env
+  evolve_may_first {D} {scope} may {q} e =
+      let o = evolve_kids in
+      let l = o.long in
+      let e' = kid_is ks 0 q e (omega (arith, l)) in
+      let m = subst (λ n. May D S scope (suc p) A (near_numbers env.near) vars n) (env_child 0 (Evolve t v A B) A K (suc K) (λ ys. refl) env) (may_evolve_first (may_e may)) in
+      may_at env (sym (e' ∙ o.first_is)) (ap (term_at ns) (sym e')) (slot_0 ∙ ap (kept_before ns) (sym e')) m
+
+  pub evolve_types : {D : Declarations} {scope : Scope} → MayAt D S ns scope p vars env → {q q' : ℕ} → q ≡ get_or ks 0 q → q' ≡ get_or ks 1 q'
+      → (t ≡ TypeLocal (inner t)) × (type_of (term_at ns q) ≡ TypeLocal (inner t)) × (type_of (term_at ns q') ≡ TypeLocal (inner t))
+  evolve_types {D} {scope} may {q} {q'} e f =
+      let o = evolve_kids in
+      let l = o.long in
+      let e' = kid_is ks 0 q e (omega (arith, l)) in
+      let f' = kid_is ks 1 q' f (omega (arith, l)) in
+      let typed : HasType D scope p (Evolve t v A B) = subst (HasType D scope p) o.term may.typed in
+      let same = ap TypeLocal (sym (ap inner typed.1)) in
+      (typed.1 ∙ same, ap (λ k. type_of (term_at ns k)) e' ∙ typed.2 ∙ same, ap (λ k. type_of (term_at ns k)) f' ∙ typed.3 ∙ same)
+
   module _ {q : ℕ} (e : q ≡ get_or ks 0 q) {va : AnyValue} {ys : List SlotValue} (did : DidAt S ns q vars env xs va ys) where
     did_a : Did S (suc p) A (suc K) vars env xs va ys
     did_a =
@@ -196,6 +223,16 @@ module _ {S : Situation} {ns : List Node} {lay : LayoutValue} {p : ℕ} {v : Evo
           let c : Can S (suc p + size A) B (suc K + kept A) ((p, x) ∷ vars) env ys = subst (λ u. Can S (suc p + size A) B (suc K + kept A) ((p, u) ∷ vars) env ys) (sym from_k) (evolve_second S p t v A B K vars env xs can_e first ys did_f) in
           let d = can_all S _ _ _ _ _ _ ((p, x) ∷ vars) env env ys (sym (f' ∙ i)) (ap (term_at ns) (sym f')) (slot_1 ∙ ap (kept_before ns) (sym f')) refl c in
           (omega (arith, f', i), omega (arith, f', w), record { can = d; stands = subst (λ r. Stands ns lay r) (sym f') s })
+
+      pub evolve_may_body : {D : Declarations} {scope : Scope} → MayAt D S ns scope p vars env → {q' : ℕ} → q' ≡ get_or ks 1 q' → MayAt D S ns ((p, evolving_type v (inner t)) ∷ scope) q' ((p, x) ∷ vars) env
+      evolve_may_body {D} {scope} may {q'} f =
+          let o = evolve_kids in
+          let l = o.long in
+          let f' = kid_is ks 1 q' f (omega (arith, l)) in
+          let d = did_f in
+          let b = may_evolve_body (may_e may) (ap (eval_of S (suc p) A vars) (env_child 0 (Evolve t v A B) A K (suc K) (λ zs. refl) env) ∙ d.gives) (starts_by t v A B K v S.device env first ∙ ap Some (sym from_k)) in
+          let m = subst (λ n. May D S ((p, evolving_type v (inner t)) ∷ scope) (suc p + size A) B (near_numbers env.near) ((p, x) ∷ vars) n) (env_child 1 (Evolve t v A B) B K (suc K + kept A) (λ zs. refl) env) b in
+          may_at env (sym (f' ∙ o.second_is)) (ap (term_at ns) (sym f')) (slot_1 ∙ ap (kept_before ns) (sym f')) m
 
       module _ {q' : ℕ} (f : q' ≡ get_or ks 1 q') {vb : AnyValue} {zs : List SlotValue} (did' : DidAt S ns q' ((p, x) ∷ vars) env ys vb zs) where
         did_b : Did S (suc p + size A) B (suc K + kept A) ((p, started v S.device env K first) ∷ vars) env ys vb zs

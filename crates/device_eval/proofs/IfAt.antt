@@ -1,24 +1,30 @@
 -- An `if` at a place of a program.
 use Rattle.std.proofs.Common.{◌≡◌, ◌≢◌, ◌⊎◌, ⊎_elim, inl, inr, ℕ, suc, ◌<◌, ◌≤◌, ◌+◌, List, length, refl, sym, ◌∙◌, ap, subst, arith, Bool, true, false, Some, IsSome, get_or, length-set}
 use Rattle.std.specs.Prelude.{slice_set}
-use Rattle.fc_values.specs.Types.{ValueType, BoolType}
+use Rattle.fc_values.specs.Types.{LocalType, ValueType, TypeLocal, BoolType, Declarations}
+use Rattle.fc_values.specs.BuiltinTypes.{inner}
 use Rattle.fc_values.specs.Values.{IntValue, BoolValue, PairValue}
 use Rattle.fc_values.specs.Fields.{AnyValue, ValueLocal, ValueField}
 use Rattle.fc_values.specs.Trees.{Tree, Keep, Done, Then}
 use Rattle.fc_values.specs.Exports.{SlotValue, slot_at}
 use Rattle.fc_nodes.specs.declared.nodes.Node.{Node}
-use Rattle.fc_nodes.specs.Terms.{Term, If, OfIf, kept, kept_before, size, term_at, Laid}
+use Rattle.fc_nodes.specs.Typing.{Scope, HasType}
+use Rattle.fc_nodes.specs.Terms.{type_of, Term, If, OfIf, kept, kept_before, size, term_at, Laid}
 use Rattle.fc_nodes.specs.Flat.{by_truth, IfTruth, tree_at, Clear, Marked}
 use Rattle.fc_nodes.proofs.Places.{formed_above}
 use Rattle.fc_nodes.proofs.Kids.{ThreeKids, if_laid}
 use Rattle.fc_nodes.proofs.Kept.{one_more, kept_size}
-use Rattle.alignment.specs.Environments.{Env, child_env, branch_env}
-use Rattle.device_eval.specs.Evaluation.{Situation, Vars, Outcome, eval_of, after, on_truth, pick}
+use Rattle.alignment.specs.Environments.{Env, child_env, branch_env, near_numbers}
+use Rattle.alignment.specs.Scopes.{Vars}
+use Rattle.device_eval.specs.Evaluation.{Situation, Outcome, eval_of, after, on_truth, pick}
 use Rattle.fc_nodes.specs.Layouts.{LayoutValue, number_in}
 use Rattle.alignment.specs.Slots.{FlatEnv, flat_branch, OwnHas, NearHave}
 use Rattle.device_eval.specs.Environments.{env_at}
 use Rattle.device_eval.specs.Walks.{SameIn, Can, Did, CanAt, DidAt, Stands, IsTruth, Ready, ReadyAt}
 use Rattle.fc_values.proofs.SlotReads.{slot_set_same, slot_set_other}
+use Rattle.device_eval.specs.Places.{May, MayAt}
+use Rattle.device_eval.proofs.Progress.{those_taking}
+use Rattle.device_eval.proofs.MaySteps.{may_if_condition, may_if_branch, may_at, may_near}
 use Rattle.device_eval.proofs.Frames.{tree_same, marked_same, env_child, env_fits, room_part, room_behind, still_then, still_set}
 use Rattle.device_eval.proofs.Steps.{after_some, can_all, did_all, kid_is, stands_kid, slot_is, own_has, near_have}
 use Rattle.device_eval.proofs.Branches.{arm, arm_slot, env_branch, arm_inside, arm_later, env_fits_arm}
@@ -177,6 +183,38 @@ module _ {S : Situation} {ns : List Node} {lay : LayoutValue} {p : ℕ} {t : Val
       let d = can_all S _ _ _ _ _ _ vars env env xs (sym (e' ∙ i)) (ap (term_at ns) (sym e')) (slot_0 ∙ ap (kept_before ns) (sym e')) refl (if_first S p t X A B K vars env xs can_if) in
       (omega (arith, e', i), omega (arith, e', w), record { can = d; stands = subst (λ r. Stands ns lay r) (sym e') s })
 
+  may_i : {D : Declarations} {scope : Scope} → MayAt D S ns scope p vars env → May D S scope p (If t X A B) (near_numbers env.near) vars (env_at (If t X A B) K env)
+  may_i {D} {scope} may = let o = if_kids in subst (λ u. May D S scope p u (near_numbers env.near) vars (env_at u K env)) o.term may
+
+  pub if_may_condition : {D : Declarations} {scope : Scope} → MayAt D S ns scope p vars env → {q : ℕ} → q ≡ get_or ks 0 q → MayAt D S ns scope q vars env
+  if_may_condition {D} {scope} may {q} e =
+      let o = if_kids in
+      let l = o.long in
+      let e' = kid_is ks 0 q e (omega (arith, l)) in
+      let m = subst (λ n. May D S scope (suc p) X (near_numbers env.near) vars n) (env_child 0 (If t X A B) X K (suc K) (λ ys. refl) env) (may_if_condition (may_i may)) in
+      may_at env (sym (e' ∙ o.first_is)) (ap (term_at ns) (sym e')) (slot_0 ∙ ap (kept_before ns) (sym e')) m
+
+  typed_if : {D : Declarations} {scope : Scope} → MayAt D S ns scope p vars env → HasType D scope p (If t X A B)
+  typed_if {D} {scope} may = let o = if_kids in subst (HasType D scope p) o.term may.typed
+
+  pub if_condition_type : {D : Declarations} {scope : Scope} → MayAt D S ns scope p vars env → {q : ℕ} → q ≡ get_or ks 0 q → type_of (term_at ns q) ≡ TypeLocal BoolType
+  if_condition_type may {q} e =
+      let o = if_kids in
+      let l = o.long in
+      let e' = kid_is ks 0 q e (omega (arith, l)) in
+      let typed = typed_if may in
+      ap (λ k. type_of (term_at ns k)) e' ∙ typed.2
+
+  arm_type : {u : LocalType} (r : Bool) → type_of A ≡ TypeLocal u → type_of B ≡ TypeLocal u → type_of (term_at ns (get_or ks (pick r 1 2) 0)) ≡ TypeLocal u
+  arm_type true a b = a
+  arm_type false a b = b
+
+  pub if_types : {D : Declarations} {scope : Scope} → MayAt D S ns scope p vars env → (r : Bool) {q : ℕ} → q ≡ get_or ks (pick r 1 2) 0 → (t ≡ TypeLocal (inner t)) × (type_of (term_at ns q) ≡ TypeLocal (inner t))
+  if_types may r {q} e =
+      let typed = typed_if may in
+      let same = ap TypeLocal (sym (ap inner typed.1)) in
+      (typed.1 ∙ same, ap (λ k. type_of (term_at ns k)) e ∙ arm_type r typed.3 typed.4 ∙ same)
+
   -- the branch
   arm_at : (r : Bool) → (arm_place S p t X A B K vars env xs can_if r ≡ get_or ks (pick r 1 2) 0) × (arm_slot t X A B K r ≡ kept_before ns (get_or ks (pick r 1 2) 0)) × (arm t X A B K r ≡ term_at ns (get_or ks (pick r 1 2) 0)) × Laid ns (get_or ks (pick r 1 2) 0) (term_at ns (get_or ks (pick r 1 2) 0)) × (p < get_or ks (pick r 1 2) 0)
   arm_at true = let o = if_kids in let i = o.second_is in (sym o.second_is, slot_1, refl, o.second, omega (arith, i))
@@ -209,6 +247,17 @@ module _ {S : Situation} {ns : List Node} {lay : LayoutValue} {p : ℕ} {t : Val
           let w = s.within in
           let o = m.4 in
           (rw e' o, rw e' w, record { can = rw e' d'; stands = rw e' s })
+
+      pub if_may_branch : {D : Declarations} {scope : Scope} → MayAt D S ns scope p vars env → MayAt D S ns scope q' vars env'
+      if_may_branch {D} {scope} may =
+          let a = arm_at r in
+          let can' = can_if in
+          let i = may_i may in
+          let ds = those_taking S.ceiling S.device (near_numbers env.near) (env_at (If t X A B) K env) t X A B i.env r in
+          let there : May D S scope (arm_place S p t X A B K vars env xs can_if r) (arm t X A B K r) ds vars (env_at (arm t X A B K r) (arm_slot t X A B K r) env') =
+          subst (λ n. May D S scope (arm_place S p t X A B K vars env xs can_if r) (arm t X A B K r) ds vars (env_at (arm t X A B K r) (arm_slot t X A B K r) n)) branch_is
+          (subst (λ n. May D S scope (arm_place S p t X A B K vars env xs can_if r) (arm t X A B K r) ds vars n) (env_branch t X A B K r env can'.fits) (may_if_branch i r)) in
+          may_at env' (a.0 ∙ sym e') (a.2 ∙ ap (term_at ns) (sym e')) (a.1 ∙ ap (kept_before ns) (sym e')) (may_near (arm_slot t X A B K r) env' there)
 
       pub if_done : {vb : AnyValue} {zs final : List SlotValue} → DidAt S ns q' vars env' ys vb zs → final ≡ slice_set zs k (true, BoolValue r) → (k < length zs) × DidAt S ns p vars env xs vb final
       if_done {vb} {zs} {final} did' g =

@@ -9,8 +9,8 @@ use Rattle.fc_nodes.specs.declared.nodes.Node.{Node}
 use Rattle.fc_nodes.specs.Terms.{Leaf, Literal, Variable, Sense, Uid, NbrLink, Term, Plain, OfLeaf, kept_before, HasNode}
 use Rattle.fc_nodes.proofs.Places.{AllAbove, formed_above, term_is}
 use Rattle.alignment.specs.Environments.{near_numbers}
-use Rattle.device_eval.specs.Neighbours.{weights}
-use Rattle.device_eval.specs.Evaluation.{Situation, Vars, leaf_value, variable_at}
+use Rattle.alignment.specs.Scopes.{weights, Vars, variable_at}
+use Rattle.device_eval.specs.Evaluation.{Situation, leaf_value}
 use Rattle.alignment.specs.Slots.{FlatEnv, NearSlots}
 use Rattle.device_eval.specs.Environments.{near_at, env_at}
 use Rattle.device_eval.specs.Walks.{Can, Did, CanAt, DidAt, ReadyAt}

@@ -1,20 +1,25 @@
 -- A `let` at a place of a program.
 use Rattle.std.proofs.Common.{◌≡◌, ℕ, suc, ◌<◌, ◌+◌, List, ◌∷◌, length, refl, sym, ◌∙◌, ap, subst, arith, Some, None, get_or}
-use Rattle.fc_values.specs.Types.{ValueType}
+use Rattle.fc_values.specs.Types.{ValueType, Declarations}
 use Rattle.fc_values.specs.Fields.{AnyValue}
 use Rattle.fc_values.specs.Trees.{Keep, Done, Then}
 use Rattle.fc_values.specs.Exports.{SlotValue}
 use Rattle.fc_nodes.specs.declared.nodes.Node.{Node}
-use Rattle.fc_nodes.specs.Terms.{Term, Let, OfLet, kept, kept_before, size, term_at}
+use Rattle.fc_nodes.specs.Typing.{Scope, HasType}
+use Rattle.fc_nodes.specs.Terms.{type_of, Term, Let, OfLet, kept, kept_before, size, term_at}
 use Rattle.fc_nodes.specs.Flat.{tree_at}
 use Rattle.fc_nodes.proofs.Places.{formed_above}
 use Rattle.fc_nodes.proofs.Kids.{TwoKids, let_laid}
 use Rattle.fc_nodes.proofs.Kept.{one_more, kept_size}
-use Rattle.device_eval.specs.Evaluation.{Situation, Vars, eval_of, after}
+use Rattle.alignment.specs.Scopes.{Vars}
+use Rattle.device_eval.specs.Evaluation.{Situation, eval_of, after}
 use Rattle.fc_nodes.specs.Layouts.{LayoutValue}
+use Rattle.alignment.specs.Environments.{near_numbers}
 use Rattle.alignment.specs.Slots.{FlatEnv}
 use Rattle.device_eval.specs.Environments.{env_at}
 use Rattle.device_eval.specs.Walks.{SameIn, Can, Did, DidAt, Stands, Ready, ReadyAt}
+use Rattle.device_eval.specs.Places.{May, MayAt}
+use Rattle.device_eval.proofs.MaySteps.{may_let_value, may_let_body, may_at}
 use Rattle.device_eval.proofs.Frames.{tree_same, marked_same, env_child, env_fits, room_part, room_behind, still_then}
 use Rattle.device_eval.proofs.Steps.{after_some, can_all, did_all, kid_is, stands_kid}
 
@@ -118,3 +123,36 @@ module _ {S : Situation} {ns : List Node} {lay : LayoutValue} {p : ℕ} {t : Val
         let f' = kid_is ks 1 q' f (omega (arith, l)) in
         let d = did_all S _ _ _ _ _ _ ((p, va) ∷ vars) env env ys zs vb (f' ∙ o.second_is) (ap (term_at ns) f') (ap (kept_before ns) f' ∙ sym slot_1) refl did' in
         did_all S p p _ _ K K vars env env xs zs vb refl (sym o.term) refl refl (let_did S p t A B K vars env xs can_l va ys did_a vb zs d)
+
+  module _ {D : Declarations} {scope : Scope} (may : MayAt D S ns scope p vars env) where
+    may_l : May D S scope p (Let t A B) (near_numbers env.near) vars (env_at (Let t A B) K env)
+    may_l = let o = let_kids in subst (λ u. May D S scope p u (near_numbers env.near) vars (env_at u K env)) o.term may
+
+    pub let_may_value : {q : ℕ} → q ≡ get_or ks 0 q → MayAt D S ns scope q vars env
+    let_may_value {q} e =
+        let o = let_kids in
+        let l = o.long in
+        let e' = kid_is ks 0 q e (omega (arith, l)) in
+        let m = subst (λ n. May D S scope (suc p) A (near_numbers env.near) vars n) (env_child 0 (Let t A B) A K K (λ ys. refl) env) (may_let_value may_l) in
+        may_at env (sym (e' ∙ o.first_is)) (ap (term_at ns) (sym e')) (slot_0 ∙ ap (kept_before ns) (sym e')) m
+
+    pub let_may_body : {q : ℕ} (e : q ≡ get_or ks 0 q) {va : AnyValue} {ys : List SlotValue} → DidAt S ns q vars env xs va ys → {q' : ℕ} → q' ≡ get_or ks 1 q'
+        → MayAt D S ns ((p, type_of (term_at ns q)) ∷ scope) q' ((p, va) ∷ vars) env
+    let_may_body {q} e {va} {ys} did {q'} f =
+        let o = let_kids in
+        let l = o.long in
+        let e' = kid_is ks 0 q e (omega (arith, l)) in
+        let f' = kid_is ks 1 q' f (omega (arith, l)) in
+        let d = did_a e did in
+        let b = may_let_body may_l (ap (eval_of S (suc p) A vars) (env_child 0 (Let t A B) A K K (λ zs. refl) env) ∙ d.gives) in
+        let m = subst (λ n. May D S ((p, type_of A) ∷ scope) (suc p + size A) B (near_numbers env.near) ((p, va) ∷ vars) n) (env_child 1 (Let t A B) B K (K + kept A) (λ zs. refl) env) b in
+        subst (λ u. MayAt D S ns ((p, type_of u) ∷ scope) q' ((p, va) ∷ vars) env) (ap (term_at ns) (sym e'))
+        (may_at env (sym (f' ∙ o.second_is)) (ap (term_at ns) (sym f')) (slot_1 ∙ ap (kept_before ns) (sym f')) m)
+
+    pub let_type : {q : ℕ} → q ≡ get_or ks 1 q → t ≡ type_of (term_at ns q)
+    let_type {q} f =
+        let o = let_kids in
+        let l = o.long in
+        let f' = kid_is ks 1 q f (omega (arith, l)) in
+        let typed : HasType D scope p (Let t A B) = subst (HasType D scope p) o.term may.typed in
+        typed.0 ∙ ap (λ k. type_of (term_at ns k)) (sym f')

@@ -15,3 +15,13 @@ pub mod Progress
 pub mod OneExport
 pub mod Finish
 pub mod RootSteps
+pub mod MaySteps
+pub mod ReadySteps
+pub mod KindSteps
+pub mod LeafSteps
+pub mod NodeSteps
+pub mod OperatorSteps
+pub mod HoodSteps
+pub mod KidSteps
+pub mod ColumnSteps
+pub mod ApplySteps

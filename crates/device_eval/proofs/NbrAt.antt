@@ -1,26 +1,31 @@
 -- An `nbr` at a place of a program.
 use Rattle.std.proofs.Common.{◌≡◌, ◌≢◌, ℕ, suc, ◌<◌, List, [], ◌∷◌, length, map, refl, sym, ◌∙◌, ap, subst, arith, true, Some, get_or, length-set}
 use Rattle.std.specs.Prelude.{slice_set}
-use Rattle.fc_values.specs.Types.{ValueType}
+use Rattle.fc_values.specs.Types.{ValueType, TypeLocal, TypeField, Declarations}
 use Rattle.fc_values.specs.BuiltinTypes.{inner}
 use Rattle.fc_values.specs.Values.{LocalValue}
 use Rattle.fc_values.specs.Fields.{AnyValue, ValueLocal, ValueField, Entries, with_entry}
 use Rattle.fc_values.specs.Trees.{Keep, Done, Then}
 use Rattle.fc_values.specs.Exports.{SlotValue, slot_at}
 use Rattle.fc_nodes.specs.declared.nodes.Node.{Node}
-use Rattle.fc_nodes.specs.Terms.{Term, Nbr, OfNbr, kept, kept_before, term_at}
+use Rattle.fc_nodes.specs.Typing.{Scope, HasType}
+use Rattle.fc_nodes.specs.Terms.{type_of, Term, Nbr, OfNbr, kept, kept_before, term_at}
 use Rattle.fc_nodes.specs.Flat.{tree_at}
 use Rattle.fc_nodes.proofs.Places.{formed_above}
 use Rattle.fc_nodes.proofs.Kids.{OneKid, nbr_laid}
 use Rattle.fc_nodes.proofs.Kept.{one_more}
 use Rattle.device_eval.specs.Neighbours.{kept_there}
-use Rattle.device_eval.specs.Evaluation.{Situation, Vars, eval_of, heard, on_local}
+use Rattle.alignment.specs.Scopes.{Vars}
+use Rattle.device_eval.specs.Evaluation.{Situation, eval_of, heard, on_local}
 use Rattle.fc_nodes.specs.Layouts.{LayoutValue, number_in}
+use Rattle.alignment.specs.Environments.{near_numbers}
 use Rattle.alignment.specs.Slots.{FlatEnv, NearSlots, NearHave}
 use Rattle.device_eval.specs.Environments.{env_at, near_at}
 use Rattle.alignment.specs.Hearing.{slot_entries}
 use Rattle.device_eval.specs.Walks.{SameIn, Can, Did, DidAt, Stands, IsLocal, Ready, ReadyAt}
 use Rattle.fc_values.proofs.SlotReads.{slot_set_same, slot_set_other}
+use Rattle.device_eval.specs.Places.{May, MayAt}
+use Rattle.device_eval.proofs.MaySteps.{may_nbr, may_at}
 use Rattle.device_eval.proofs.Frames.{tree_same, marked_same, env_child, env_fits, room_part, still_then, still_set}
 use Rattle.device_eval.proofs.Steps.{after_some, local_is, can_all, did_all, kid_is, stands_kid, slot_is, near_have}
 
@@ -118,3 +123,22 @@ module _ {S : Situation} {ns : List Node} {lay : LayoutValue} {p : ℕ} {t : Val
         let s = slot_as k n in
         let r = d.0 in
         (omega (arith, s, r), rw (f, g, s, o.term) d.1)
+
+  pub nbr_may : {D : Declarations} {scope : Scope} → MayAt D S ns scope p vars env → {q : ℕ} → q ≡ get_or ks 0 q → MayAt D S ns scope q vars env
+  nbr_may {D} {scope} may {q} e =
+      let o = one in
+      let l = o.long in
+      let e' = kid_is ks 0 q e (omega (arith, l)) in
+      let N = Nbr t (term_at ns (get_or ks 0 0)) in
+      let here' : May D S scope p N (near_numbers env.near) vars (env_at N (kept_before ns p) env) = subst (λ u. May D S scope p u (near_numbers env.near) vars (env_at u (kept_before ns p) env)) o.term may in
+      let m = subst (λ n. May D S scope (suc p) (term_at ns (get_or ks 0 0)) (near_numbers env.near) vars n) (env_child 0 N (term_at ns (get_or ks 0 0)) (kept_before ns p) (suc (kept_before ns p)) (λ ys. refl) env) (may_nbr here') in
+      may_at env (sym (e' ∙ o.first_is)) (ap (term_at ns) (sym e')) (slot_next ∙ ap (kept_before ns) (sym e')) m
+
+  pub nbr_types : {D : Declarations} {scope : Scope} → MayAt D S ns scope p vars env → {q : ℕ} → q ≡ get_or ks 0 q → (t ≡ TypeField (inner t)) × (type_of (term_at ns q) ≡ TypeLocal (inner t))
+  nbr_types {D} {scope} may {q} e =
+      let o = one in
+      let l = o.long in
+      let e' = kid_is ks 0 q e (omega (arith, l)) in
+      let typed : HasType D scope p (Nbr t (term_at ns (get_or ks 0 0))) = subst (HasType D scope p) o.term may.typed in
+      let same = sym (ap inner typed.1) in
+      (typed.1 ∙ ap TypeField same, ap (λ k. type_of (term_at ns k)) e' ∙ typed.2 ∙ ap TypeLocal same)

@@ -11,13 +11,15 @@ use Rattle.fc_nodes.specs.Terms.{Leaf, Literal, Variable, Sense, Uid, NbrLink, E
 use Rattle.fc_nodes.specs.Typing.{Scope, LeafHasType, evolving_type, types_of, HasType, HaveTypes}
 use Rattle.fc_nodes.specs.Flat.{HasKids, KeepsWith, OneKid, TwoKids, KeepsTruth, FitsTree, FitTrees}
 use Rattle.alignment.specs.Environments.{NearTree, Env, child_env, branch_env, near_numbers}
-use Rattle.device_eval.specs.Neighbours.{kept_there, weights}
-use Rattle.device_eval.specs.Evaluation.{Situation, Vars, own_or, heard, evolving, eval_of, eval_all, Outcome, Outcomes}
+use Rattle.alignment.specs.Scopes.{weights, Vars}
+use Rattle.device_eval.specs.Neighbours.{kept_there}
+use Rattle.device_eval.specs.Evaluation.{Situation, own_or, heard, evolving, eval_of, eval_all, Outcome, Outcomes}
 use Rattle.device_eval.specs.Conditions.{Suits, FitsEnv, EachNear, VarsFit}
 use Rattle.value_trees.specs.Copies.{WhereSome}
 use Rattle.fc_values.proofs.Rising.{rises_test}
 use Rattle.fc_values.proofs.Numbers.{rises_with}
-use Rattle.device_eval.proofs.Sights.{env_kid, env_as, near_as, InBranch, those_in, part_of, env_branch, kids_from, first_kid, rest_kids, devices_with, fit_with, devices_weights, fit_weights, Keeps, each_keeps, vars_part, bound_fits, Reads, variable_there, restricted_fits}
+use Rattle.alignment.proofs.Entries.{devices_with}
+use Rattle.device_eval.proofs.Sights.{env_kid, env_as, near_as, InBranch, those_in, part_of, env_branch, kids_from, first_kid, rest_kids, fit_with, devices_weights, fit_weights, Keeps, each_keeps, vars_part, bound_fits, Reads, variable_there, restricted_fits}
 
 -- an outcome that is there and fits: the value over the device and its neighbours, and the tree
 pub record Gives (ceiling device : ℕ) (ds : List ℕ) (t : ValueType) (P : Tree → Type 0) (o : Outcome) : Type 0 where
@@ -94,6 +96,67 @@ module _ (C A B : Tree → Type 0) where
   truth_other (Keep (Some (BoolValue false)) (Then t Done)) h = absurd h.0.1
   truth_other (Keep (Some (BoolValue false)) (Then t (Then u ts))) h = h.0.1.0
   truth_other (Keep (Some (BoolValue true)) ts) h = absurd cc
+
+-- the kids of a builtin
+pub apply_kids : (ceiling : ℕ) (t : ValueType) (o : Builtin) (xs : Terms) (tree : Tree) → FitsTree ceiling (Apply t o xs) tree → FitTrees ceiling xs (kids_from 0 tree)
+apply_kids ceiling t o xs (Keep None ts) h = h
+apply_kids ceiling t o xs (Keep (Some v) ts) h = absurd h
+
+-- what the kids of a node see
+abbrev pub Sees : ℕ → ℕ → List ℕ → Term → Env → Type 0
+Sees ceiling device ds t env = FitsEnv ceiling device ds (FitsTree ceiling t) env
+
+abbrev pub SeeFrom : ℕ → ℕ → List ℕ → ℕ → Terms → Env → Type 0
+SeeFrom ceiling device ds i xs env = FitsEnv ceiling device ds (λ tree. FitTrees ceiling xs (kids_from i tree)) env
+
+module _ (ceiling device : ℕ) (ds : List ℕ) (env : Env) where
+  pub apply_sees : (t : ValueType) (o : Builtin) (xs : Terms) → Sees ceiling device ds (Apply t o xs) env → SeeFrom ceiling device ds 0 xs env
+  apply_sees t o xs h = env_as (FitsTree ceiling (Apply t o xs)) (λ tree. FitTrees ceiling xs (kids_from 0 tree)) (apply_kids ceiling t o xs) ceiling device ds env h
+
+  pub first_sees : (i : ℕ) (x : Term) (xs : Terms) → SeeFrom ceiling device ds i (More x xs) env → Sees ceiling device ds x (child_env i env)
+  first_sees i x xs h = env_kid (λ tree. FitTrees ceiling (More x xs) (kids_from i tree)) (FitsTree ceiling x) i (λ tree f. first_kid (FitsTree ceiling x) (FitTrees ceiling xs) i tree f) ceiling device ds env h
+
+  pub rest_see : (i : ℕ) (x : Term) (xs : Terms) → SeeFrom ceiling device ds i (More x xs) env → SeeFrom ceiling device ds (suc i) xs env
+  rest_see i x xs h = env_as (λ tree. FitTrees ceiling (More x xs) (kids_from i tree)) (λ tree. FitTrees ceiling xs (kids_from (suc i) tree)) (λ tree f. rest_kids (FitsTree ceiling x) (FitTrees ceiling xs) i tree f) ceiling device ds env h
+
+  pub nbr_sees : (t : ValueType) (a : Term) → Sees ceiling device ds (Nbr t a) env → Sees ceiling device ds a (child_env 0 env)
+  nbr_sees t a h = env_kid (FitsTree ceiling (Nbr t a)) (FitsTree ceiling a) 0 (λ tree f. one_first (FitsTree ceiling a) tree (Fits ceiling (inner t)) f) ceiling device ds env h
+
+  pub nbr_keeps : (t : ValueType) (a : Term) → Sees ceiling device ds (Nbr t a) env → EachNear (Keeps ceiling (inner t)) env.near
+  nbr_keeps t a h = near_as (FitsTree ceiling (Nbr t a)) (Keeps ceiling (inner t)) (λ tree f. keeps_value ceiling t (inner t) (OneKid (FitsTree ceiling a)) tree refl f) env.near h.near
+
+  module _ (t : ValueType) (e : Evolution) (a b : Term) (h : Sees ceiling device ds (Evolve t e a b) env) where
+    pub evolve_sees_first : Sees ceiling device ds a (child_env 0 env)
+    evolve_sees_first = env_kid (FitsTree ceiling (Evolve t e a b)) (FitsTree ceiling a) 0 (λ tree f. two_first (FitsTree ceiling a) (FitsTree ceiling b) tree (Fits ceiling (inner t)) f) ceiling device ds env h
+
+    pub evolve_sees_body : Sees ceiling device ds b (child_env 1 env)
+    evolve_sees_body = env_kid (FitsTree ceiling (Evolve t e a b)) (FitsTree ceiling b) 1 (λ tree f. two_second (FitsTree ceiling a) (FitsTree ceiling b) tree (Fits ceiling (inner t)) f) ceiling device ds env h
+
+    pub evolve_keeps : FitsEnv ceiling device ds (Keeps ceiling (inner t)) env
+    evolve_keeps = env_as (FitsTree ceiling (Evolve t e a b)) (Keeps ceiling (inner t)) (λ tree f. keeps_value ceiling t (inner t) (TwoKids (FitsTree ceiling a) (FitsTree ceiling b)) tree refl f) ceiling device ds env h
+
+  module _ (t : ValueType) (c a b : Term) (h : Sees ceiling device ds (If t c a b) env) where
+    abbrev pub those_taking : Bool → List ℕ
+    those_taking k = those_in (FitsTree ceiling (If t c a b)) k env
+
+    pub if_sees_condition : Sees ceiling device ds c (child_env 0 env)
+    if_sees_condition = env_kid (FitsTree ceiling (If t c a b)) (FitsTree ceiling c) 0 (λ tree f. truth_first (FitsTree ceiling c) (FitsTree ceiling a) (FitsTree ceiling b) tree f) ceiling device ds env h
+
+    pub if_sees_true : Sees ceiling device (those_taking true) a (child_env 1 (branch_env true env))
+    if_sees_true = env_kid (InBranch (FitsTree ceiling (If t c a b)) true) (FitsTree ceiling a) 1 (λ tree f. truth_taken (FitsTree ceiling c) (FitsTree ceiling a) (FitsTree ceiling b) tree f) ceiling device (those_taking true) (branch_env true env) (env_branch (FitsTree ceiling (If t c a b)) true ceiling device ds env h)
+
+    pub if_sees_false : Sees ceiling device (those_taking false) b (child_env 1 (branch_env false env))
+    if_sees_false = env_kid (InBranch (FitsTree ceiling (If t c a b)) false) (FitsTree ceiling b) 1 (λ tree f. truth_other (FitsTree ceiling c) (FitsTree ceiling a) (FitsTree ceiling b) tree f) ceiling device (those_taking false) (branch_env false env) (env_branch (FitsTree ceiling (If t c a b)) false ceiling device ds env h)
+
+    pub if_vars : (k : Bool) (scope : Scope) (vars : Vars) → VarsFit ceiling device ds scope vars → VarsFit ceiling device (those_taking k) scope vars
+    if_vars k = vars_part ceiling device (part_of (FitsTree ceiling (If t c a b)) k ceiling device ds env h) h.rising h.other
+
+  module _ (t : ValueType) (a b : Term) (h : Sees ceiling device ds (Let t a b) env) where
+    pub let_sees_value : Sees ceiling device ds a (child_env 0 env)
+    let_sees_value = env_kid (FitsTree ceiling (Let t a b)) (FitsTree ceiling a) 0 (λ tree f. plain_first (FitsTree ceiling a) (FitsTree ceiling b) tree f) ceiling device ds env h
+
+    pub let_sees_body : Sees ceiling device ds b (child_env 1 env)
+    let_sees_body = env_kid (FitsTree ceiling (Let t a b)) (FitsTree ceiling b) 1 (λ tree f. plain_second (FitsTree ceiling a) (FitsTree ceiling b) tree f) ceiling device ds env h
 
 -- a value of a local type
 pub record IsLocalOf (ceiling : ℕ) (s : LocalType) (v : AnyValue) : Type 0 where
@@ -193,11 +256,6 @@ local_over ceiling ms ds t u s v e e' h =
     let is = l.is in
     rw (e', is) l.fits
 
--- the kids of a builtin
-pub apply_kids : (ceiling : ℕ) (t : ValueType) (o : Builtin) (xs : Terms) (tree : Tree) → FitsTree ceiling (Apply t o xs) tree → FitTrees ceiling xs (kids_from 0 tree)
-apply_kids ceiling t o xs (Keep None ts) h = h
-apply_kids ceiling t o xs (Keep (Some v) ts) h = absurd h
-
 module _ (D : Declarations) (S : Situation) (suits : Suits D S) where
   nbr_gives : (t : ValueType) (a : Term) (s : LocalType) (p : ℕ) (ds : List ℕ) (vars : Vars) (env : Env) (va : AnyValue) (ta : Tree) (x : LocalValue) → t ≡ TypeField s
       → eval_of S (suc p) a vars (child_env 0 env) ≡ Some (va, ta) → va ≡ ValueLocal x → Fits S.ceiling s x → FitsTree S.ceiling a ta → Hears S.ceiling S.device ds s (heard S.device (Some x) (kept_there env.near))
@@ -243,63 +301,47 @@ module _ (D : Declarations) (S : Situation) (suits : Suits D S) where
         → Gives S.ceiling S.device ds (type_of t) (FitsTree S.ceiling t) (eval_of S p t vars env)
     progress (Plain t l) scope p ds vars env ty vf ef = leaf_progress D S suits t l scope p ds (FitsTree S.ceiling (Plain t l)) vars env ty vf ef
     progress (Apply t o xs) scope p ds vars env ty vf ef =
-        let g = progress_all xs scope (suc p) 0 ds vars env ty.1 vf (env_as (FitsTree S.ceiling (Apply t o xs)) (λ tree. FitTrees S.ceiling xs (kids_from 0 tree)) (apply_kids S.ceiling t o xs) S.ceiling S.device ds env ef) in
+        let g = progress_all xs scope (suc p) 0 ds vars env ty.1 vf (apply_sees S.ceiling S.device ds env t o xs ef) in
         let b = builtin_typed o S.ceiling S.device (with_number S.device ds) (types_of xs) t g.values ty.0 (rises_test (with_number S.device ds) (rises_with S.device ds ef.other ef.rising)) g.fit in
         let are = g.are in
         let is = b.1 in
         record { value = b.0; tree = Keep None g.trees; is = rw (are, is) refl; fits = b.2; formed = g.formed }
     progress (Nbr t a) scope p ds vars env ty vf ef =
         let s : LocalType = ty.0 in
-        let N = FitsTree S.ceiling (Nbr t a) in
-        let ga = progress a scope (suc p) ds vars (child_env 0 env) ty.3 vf (env_kid N (FitsTree S.ceiling a) 0 (λ tree h. one_first (FitsTree S.ceiling a) tree (Fits S.ceiling (inner t)) h) S.ceiling S.device ds env ef) in
+        let ga = progress a scope (suc p) ds vars (child_env 0 env) ty.3 vf (nbr_sees S.ceiling S.device ds env t a ef) in
         let la = local_of_type S.ceiling (with_number S.device ds) (type_of a) s ga.value ty.2 ga.fits in
-        let near = near_as N (Keeps S.ceiling s) (λ tree h. keeps_value S.ceiling t s (OneKid (FitsTree S.ceiling a)) tree (ap inner ty.1) h) env.near ef.near in
+        let near = subst (λ u. EachNear (Keeps S.ceiling u) env.near) (ap inner ty.1) (nbr_keeps S.ceiling S.device ds env t a ef) in
         nbr_gives t a s p ds vars env ga.value ga.tree la.value ty.1 ga.is la.is la.fits ga.formed
         (hears S.ceiling S.device ds s env.near (Some la.value) (record { value = la.value; is = refl; fits = la.fits }) near ef.numbers)
     progress (Evolve t e a b) scope p ds vars env ty vf ef =
         let s : LocalType = ty.0 in
-        let A = FitsTree S.ceiling a in
-        let B = FitsTree S.ceiling b in
-        let N = FitsTree S.ceiling (Evolve t e a b) in
-        let ga = progress a scope (suc p) ds vars (child_env 0 env) ty.4 vf (env_kid N A 0 (λ tree h. two_first A B tree (Fits S.ceiling (inner t)) h) S.ceiling S.device ds env ef) in
+        let ga = progress a scope (suc p) ds vars (child_env 0 env) ty.4 vf (evolve_sees_first S.ceiling S.device ds env t e a b ef) in
         let la = local_of_type S.ceiling (with_number S.device ds) (type_of a) s ga.value ty.2 ga.fits in
-        let kept = env_as N (Keeps S.ceiling s) (λ tree h. keeps_value S.ceiling t s (TwoKids A B) tree (ap inner ty.1) h) S.ceiling S.device ds env ef in
+        let kept = subst (λ u. FitsEnv S.ceiling S.device ds (Keeps S.ceiling u) env) (ap inner ty.1) (evolve_keeps S.ceiling S.device ds env t e a b ef) in
         let st = evolves S.ceiling S.device ds e s env la.value kept la.fits in
-        let gb = progress b ((p, evolving_type e s) ∷ scope) (suc p + size a) ds ((p, st.value) ∷ vars) (child_env 1 env) ty.5 (refl, st.fits, vf) (env_kid N B 1 (λ tree h. two_second A B tree (Fits S.ceiling (inner t)) h) S.ceiling S.device ds env ef) in
+        let gb = progress b ((p, evolving_type e s) ∷ scope) (suc p + size a) ds ((p, st.value) ∷ vars) (child_env 1 env) ty.5 (refl, st.fits, vf) (evolve_sees_body S.ceiling S.device ds env t e a b ef) in
         let lb = local_of_type S.ceiling (with_number S.device ds) (type_of b) s gb.value ty.3 gb.fits in
         evolve_gives D S suits t e a b s p ds vars env ga.value gb.value st.value ga.tree gb.tree la.value lb.value ty.1 ga.is la.is st.is gb.is lb.is lb.fits ga.formed gb.formed
     progress (If t c a b) scope p ds vars env ty vf ef =
-        let s : LocalType = ty.0 in
-        let C = FitsTree S.ceiling c in
-        let A = FitsTree S.ceiling a in
-        let B = FitsTree S.ceiling b in
-        let N = FitsTree S.ceiling (If t c a b) in
-        let gc = progress c scope (suc p) ds vars (child_env 0 env) ty.5 vf (env_kid N C 0 (λ tree h. truth_first C A B tree h) S.ceiling S.device ds env ef) in
+        let gc = progress c scope (suc p) ds vars (child_env 0 env) ty.5 vf (if_sees_condition S.ceiling S.device ds env t c a b ef) in
         let tc = truth_of_type S.ceiling (with_number S.device ds) (type_of c) gc.value ty.2 gc.fits in
-        let ms = those_in N true env in
-        let ns = those_in N false env in
-        let ga = progress a scope (suc p + size c) ms vars (child_env 1 (branch_env true env)) ty.6 (vars_part S.ceiling S.device (part_of N true S.ceiling S.device ds env ef) ef.rising ef.other scope vars vf)
-        (env_kid (InBranch N true) A 1 (λ tree h. truth_taken C A B tree h) S.ceiling S.device ms (branch_env true env) (env_branch N true S.ceiling S.device ds env ef)) in
-        let gb = progress b scope (suc p + size c + size a) ns vars (child_env 1 (branch_env false env)) ty.7 (vars_part S.ceiling S.device (part_of N false S.ceiling S.device ds env ef) ef.rising ef.other scope vars vf)
-        (env_kid (InBranch N false) B 1 (λ tree h. truth_other C A B tree h) S.ceiling S.device ns (branch_env false env) (env_branch N false S.ceiling S.device ds env ef)) in
-        if_gives t c a b s p ds ms ns vars env gc.value gc.tree tc.truth ty.1 ty.3 ty.4 gc.is tc.is gc.formed ga gb
+        let ms = those_taking S.ceiling S.device ds env t c a b ef true in
+        let ns = those_taking S.ceiling S.device ds env t c a b ef false in
+        let ga = progress a scope (suc p + size c) ms vars (child_env 1 (branch_env true env)) ty.6 (if_vars S.ceiling S.device ds env t c a b ef true scope vars vf) (if_sees_true S.ceiling S.device ds env t c a b ef) in
+        let gb = progress b scope (suc p + size c + size a) ns vars (child_env 1 (branch_env false env)) ty.7 (if_vars S.ceiling S.device ds env t c a b ef false scope vars vf) (if_sees_false S.ceiling S.device ds env t c a b ef) in
+        if_gives t c a b ty.0 p ds ms ns vars env gc.value gc.tree tc.truth ty.1 ty.3 ty.4 gc.is tc.is gc.formed ga gb
     progress (Let t a b) scope p ds vars env ty vf ef =
-        let A = FitsTree S.ceiling a in
-        let B = FitsTree S.ceiling b in
-        let N = FitsTree S.ceiling (Let t a b) in
-        let ga = progress a scope (suc p) ds vars (child_env 0 env) ty.1 vf (env_kid N A 0 (λ tree h. plain_first A B tree h) S.ceiling S.device ds env ef) in
+        let ga = progress a scope (suc p) ds vars (child_env 0 env) ty.1 vf (let_sees_value S.ceiling S.device ds env t a b ef) in
         let bound = bound_fits S.ceiling S.device ds (type_of a) ga.value ef.rising ef.other ga.fits in
-        let gb = progress b ((p, type_of a) ∷ scope) (suc p + size a) ds ((p, ga.value) ∷ vars) (child_env 1 env) ty.2 (refl, bound, vf) (env_kid N B 1 (λ tree h. plain_second A B tree h) S.ceiling S.device ds env ef) in
+        let gb = progress b ((p, type_of a) ∷ scope) (suc p + size a) ds ((p, ga.value) ∷ vars) (child_env 1 env) ty.2 (refl, bound, vf) (let_sees_body S.ceiling S.device ds env t a b ef) in
         let_gives t a b p ds vars env ga.value ga.tree ty.0 ga.is ga.formed gb
 
     pub progress_all : (xs : Terms) (scope : Scope) (p i : ℕ) (ds : List ℕ) (vars : Vars) (env : Env) → HaveTypes D scope p xs → VarsFit S.ceiling S.device ds scope vars → FitsEnv S.ceiling S.device ds (λ tree. FitTrees S.ceiling xs (kids_from i tree)) env
         → GiveAll S.ceiling S.device ds (types_of xs) (FitTrees S.ceiling xs) (eval_all S p i xs vars env)
     progress_all NoMore scope p i ds vars env ty vf ef = record { values = []; trees = Done; are = refl; fit = tt; formed = tt }
     progress_all (More x xs) scope p i ds vars env ty vf ef =
-        let X = FitsTree S.ceiling x in
-        let Xs = FitTrees S.ceiling xs in
-        let first = progress x scope p ds vars (child_env i env) ty.0 vf (env_kid (λ tree. FitTrees S.ceiling (More x xs) (kids_from i tree)) X i (λ tree h. first_kid X Xs i tree h) S.ceiling S.device ds env ef) in
-        let rest = progress_all xs scope (p + size x) (suc i) ds vars env ty.1 vf (env_as (λ tree. FitTrees S.ceiling (More x xs) (kids_from i tree)) (λ tree. FitTrees S.ceiling xs (kids_from (suc i) tree)) (λ tree h. rest_kids X Xs i tree h) S.ceiling S.device ds env ef) in
+        let first = progress x scope p ds vars (child_env i env) ty.0 vf (first_sees S.ceiling S.device ds env i x xs ef) in
+        let rest = progress_all xs scope (p + size x) (suc i) ds vars env ty.1 vf (rest_see S.ceiling S.device ds env i x xs ef) in
         let is = first.is in
         let are = rest.are in
         record { values = first.value ∷ rest.values; trees = Then first.tree rest.trees; are = rw (is, are) refl; fit = (first.fits, rest.fit); formed = (first.formed, rest.formed) }

@@ -13,7 +13,7 @@ use Rattle.fc_nodes.specs.Flat.{tree_at, HaveForms, IsExport, tree_export}
 use Rattle.fc_nodes.proofs.Places.{laid_within}
 use Rattle.fc_nodes.proofs.Kept.{kept_none, kept_long}
 use Rattle.device_eval.specs.Evaluation.{Situation, eval_of}
-use Rattle.value_trees.specs.Copies.{WhereSome}
+use Rattle.value_trees.specs.Copies.{WhereSome, near_devices}
 use Rattle.device_eval.specs.Copies.{near_tree, env_of, situation_of, EvaluatesCopy}
 use Rattle.value_trees.specs.declared.copies.Near.{Near}
 use Rattle.value_trees.specs.declared.copies.Snap.{Snap}
@@ -26,6 +26,9 @@ use Rattle.device_eval.specs.Walks.{Can, Did, CanAt, DidAt, Stands, Ready, IsLoc
 use Rattle.fc_nodes.proofs.Blanks.{have_forms}
 use Rattle.device_eval.proofs.Finish.{main_runs, main_local, finished_evaluates, finished_export}
 use Rattle.value_trees.proofs.Forms.{have_long}
+use Rattle.device_eval.specs.Places.{May, MayAt}
+use Rattle.device_eval.proofs.OneExport.{main_may}
+use Rattle.device_eval.proofs.MaySteps.{may_at, may_near}
 use Rattle.device_eval.proofs.Steps.{can_all, did_all}
 
 -- no blank slot is kept
@@ -85,6 +88,14 @@ module _ (P : Program) (p : IsProgram P) (s : Snap) (fits : IsSnap (unfolding_of
         runs = subst (λ o. IsSome o) (sym outcome_is) (main_runs P (snap_copy (unfolding_of P) s) p fits.fits);
       } in
       can_all S 0 0 (term_at P.nodes 0) (term_at P.nodes 0) 0 (kept_before P.nodes 0) [] env env xs refl refl (sym (kept_none P.nodes)) refl can
+
+  pub root_may : MayAt P.declared S P.nodes [] 0 [] env
+  root_may =
+      let copy = snap_copy (unfolding_of P) s in
+      let seen : env_at (term_at P.nodes 0) 0 env ≡ env_of copy = ap (env_at (term_at P.nodes 0) 0) same ∙ env_same (unfolding_of P) s in
+      let m = main_may P copy p fits.fits in
+      let m' = subst (λ T. May P.declared T [] 0 (term_at P.nodes 0) (near_devices copy.near) [] (env_of copy)) (sym here) m in
+      may_at env refl refl (sym (kept_none P.nodes)) (may_near 0 env (subst (λ e. May P.declared S [] 0 (term_at P.nodes 0) (near_devices copy.near) [] e) (sym seen) m'))
 
   pub root_ready : Ready S P.nodes l 0 [] env xs
   root_ready = record { can = root_can; stands = root_stands }

@@ -6,7 +6,8 @@ use Rattle.fc_nodes.specs.declared.nodes.Node.{Node}
 use Rattle.fc_nodes.specs.Terms.{Term, Plain, Apply, Nbr, Evolve, If, Let, kept, kept_before, size, term_at, Laid}
 use Rattle.fc_nodes.proofs.Places.{laid_within}
 use Rattle.fc_nodes.proofs.Kept.{kept_size, kept_none}
-use Rattle.device_eval.specs.Evaluation.{Situation, Vars, Outcome, Outcomes, and_then}
+use Rattle.alignment.specs.Scopes.{Vars}
+use Rattle.device_eval.specs.Evaluation.{Situation, Outcome, Outcomes, and_then}
 use Rattle.fc_nodes.specs.Layouts.{LayoutValue}
 use Rattle.alignment.specs.Slots.{FlatEnv}
 use Rattle.device_eval.specs.Walks.{Room, SameIn, SameOut, CanAt, DidAt, Ready}

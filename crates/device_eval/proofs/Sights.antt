@@ -9,8 +9,8 @@ use Rattle.fc_values.specs.Trees.{Tree, Trees, Keep, Done, Then, kept_of, nth_tr
 use Rattle.fc_nodes.specs.Typing.{Scope, type_at}
 use Rattle.fc_nodes.specs.Flat.{OneMore}
 use Rattle.alignment.specs.Environments.{NearTree, Env, near_by, child_env, keeps_truth, own_where, branch_env, near_numbers}
-use Rattle.device_eval.specs.Neighbours.{kept_there, weights}
-use Rattle.device_eval.specs.Evaluation.{Vars, variable_at}
+use Rattle.alignment.specs.Scopes.{weights, Vars, variable_at}
+use Rattle.device_eval.specs.Neighbours.{kept_there}
 use Rattle.device_eval.specs.Conditions.{EachNear, AllLight, FitsEnv, VariableFits, VarsFit}
 use Rattle.value_trees.specs.Copies.{WhereSome}
 use Rattle.fc_values.proofs.Numbers.{stays, Part, part_none, part_skip, part_keep, rises_part, not_in_part, still_stays, all_stay}
@@ -132,14 +132,6 @@ module _ (P : Tree → Type 0) (Q : Trees → Type 0) where
   rest_kids i (Keep v ts) h = rest_trees i ts h
 
 -- entries
-pub devices_with : (d : ℕ) (v : LocalValue) (es : Entries) → devices (with_entry d v es) ≡ with_number d (devices es)
-devices_with d v [] = refl
-devices_with d v (e ∷ es) = by_test (nat_lt d e.0) refl (devices_with d v es)
-  where
-    by_test : (b : Bool) → nat_lt d e.0 ≡ b → devices (with_entry d v es) ≡ with_number d (devices es) → devices (with_entry d v (e ∷ es)) ≡ with_number d (devices (e ∷ es))
-    by_test true t h = rw t refl
-    by_test false t h = rw t (ap (λ (xs : List ℕ). e.0 ∷ xs) h)
-
 pub fit_with : (ceiling : ℕ) (s : LocalType) (d : ℕ) (v : LocalValue) (es : Entries) → Fits ceiling s v → AllFit ceiling s es → AllFit ceiling s (with_entry d v es)
 fit_with ceiling s d v [] f h = (f, tt)
 fit_with ceiling s d v (e ∷ es) f h = cond_both (nat_lt d e.0) ((d, v) ∷ e ∷ es) (e ∷ with_entry d v es) (AllFit ceiling s) (λ t. (f, h)) (λ t. (h.0, fit_with ceiling s d v es f h.1))

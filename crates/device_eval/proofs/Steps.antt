@@ -7,7 +7,8 @@ use Rattle.fc_values.specs.Exports.{SlotValue}
 use Rattle.fc_nodes.specs.declared.nodes.Node.{Node}
 use Rattle.fc_nodes.specs.Terms.{Term, Sort, kept, kept_type, kept_before, term_at, HasNode, Laid}
 use Rattle.fc_nodes.proofs.Places.{laid_within}
-use Rattle.device_eval.specs.Evaluation.{Situation, Vars, Outcome, after, on_local, on_some}
+use Rattle.alignment.specs.Scopes.{Vars}
+use Rattle.device_eval.specs.Evaluation.{Situation, Outcome, after, on_local, on_some}
 use Rattle.fc_nodes.specs.Layouts.{LayoutValue, number_in, number_at}
 use Rattle.alignment.specs.Slots.{FlatEnv, NearSlots, OwnHas, NearHave}
 use Rattle.device_eval.specs.Environments.{OwnFits, NearFit}

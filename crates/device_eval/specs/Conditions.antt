@@ -10,7 +10,8 @@ use Rattle.fc_nodes.specs.Flat.{FitsTree}
 use Rattle.fc_nodes.specs.Program.{Unfolding}
 use Rattle.alignment.specs.Environments.{NearTree, Env, near_numbers}
 use Rattle.value_trees.specs.Copies.{WhereSome, near_devices}
-use Rattle.device_eval.specs.Evaluation.{Situation, Vars}
+use Rattle.alignment.specs.Scopes.{Vars}
+use Rattle.device_eval.specs.Evaluation.{Situation}
 use Rattle.device_eval.specs.Rules.{Evaluates}
 use Rattle.device_eval.specs.Copies.{env_of, situation_of}
 

@@ -1,21 +1,22 @@
--- What the contexts, scopes and sights of code stand for.
-use Rattle.std.specs.Prelude.{ℕ, List, [], ◌∷◌, map}
+-- Where an evaluation in code may begin, and what it makes of the words and the draft.
+use Rattle.std.specs.Prelude.{ℕ, ◌≡◌, ◌+◌, List, [], length, map, take}
 use Rattle.fc_values.specs.declared.exports.Slot.{Slot}
-use Rattle.fc_values.specs.declared.values.Value.{Value}
 use Rattle.fc_values.specs.Types.{type_of}
 use Rattle.fc_values.specs.Values.{local_of}
-use Rattle.fc_values.specs.Fields.{value_of, values_of}
 use Rattle.fc_values.specs.Exports.{slots_of}
+use Rattle.fc_values.specs.Fields.{AnyValue, FitEachOver}
 use Rattle.fc_nodes.specs.declared.nodes.Node.{Node}
-use Rattle.fc_nodes.specs.Terms.{Sort}
-use Rattle.alignment.specs.References.{flat_of}
-use Rattle.device_eval.specs.declared.evaluation.Context.{Context}
-use Rattle.device_eval.specs.declared.evaluation.Scope.{Scope}
-use Rattle.device_eval.specs.declared.evaluation.Scope.TheVariants as scope
-use Rattle.device_eval.specs.declared.evaluation.Sight.{Sight}
-use Rattle.device_eval.specs.Evaluation.{Situation, Vars}
-use Rattle.device_eval.specs.Walks.{DidAt, Ready, ReadyAt}
+use Rattle.fc_nodes.specs.Terms.{Sort, HasNode, term_at, type_of as term_type}
+use Rattle.device_eval.specs.Evaluation.{Situation}
 use Rattle.device_eval.specs.Rows.{DidEach, ReadyEach}
+use Rattle.device_eval.specs.Walks.{DidAt, Ready}
+use Rattle.scope_columns.specs.declared.scopes.Sight.{Sight}
+use Rattle.alignment.specs.References.{flat_of}
+use Rattle.scope_columns.specs.Words.{value_in, Added, SameBelow}
+use Rattle.scope_columns.specs.Scopes.{Fits, devices_in, types_in, vars_in}
+use Rattle.device_eval.specs.declared.evaluation.Context.{Context}
+use Rattle.device_eval.specs.Kids.{StandIn, kid_types, words_of_all}
+use Rattle.device_eval.specs.Places.{MayAt, MayEach}
 
 -- the situation of a context
 abbrev pub situation_in : Context → Situation
@@ -26,34 +27,51 @@ situation_in c = record {
   inputs = map local_of c.inputs.now;
 }
 
--- the binders in scope
-abbrev pub vars_of : Scope → Vars
-vars_of scope.Empty = []
-vars_of (scope.Bind' n v p rest) = (n, value_of v.now) ∷ vars_of rest
-
--- at this place evaluation may begin, with what is seen there and this draft
-abbrev pub ReadyIn : Context → ℕ → Sight → List Slot → Type 0
-ReadyIn c p s xs =
-    Ready (situation_in c) c.program.now.nodes c.layout.now p (vars_of s.vars.now) (flat_of s.env.now) (slots_of xs)
+-- at this place evaluation may begin, with what is seen there, these words and this draft
+pub record ReadyIn (c : Context) (p : ℕ) (s : Sight) (ws : List ℕ) (xs : List Slot) : Type 0 where
+  pub ready : Ready (situation_in c) c.program.now.nodes c.layout.now p (vars_in c.device ws s.vars.now)
+      (flat_of s.env.now) (slots_of xs)
+  pub may : MayAt c.program.now.declared (situation_in c) c.program.now.nodes (types_in s.vars.now) p
+      (vars_in c.device ws s.vars.now) (flat_of s.env.now)
+  pub sees : Fits c.device (length ws) s
 
 -- the same, and this node stands there
-abbrev pub ReadyFor : Context → ℕ → Sight → Node → Sort → List Slot → Type 0
-ReadyFor c p s n o xs =
-    ReadyAt (situation_in c) c.program.now.nodes c.layout.now p o (type_of n.ty) n.kids.items
-    (vars_of s.vars.now) (flat_of s.env.now) (slots_of xs)
+pub record ReadyFor (c : Context) (p : ℕ) (s : Sight) (n : Node) (o : Sort) (ws : List ℕ) (xs : List Slot) : Type 0 where
+  pub here : ReadyIn c p s ws xs
+  pub node : HasNode c.program.now.nodes p o (type_of n.ty) n.kids.items
 
--- what the evaluation makes of a draft, and the value that it gives
-abbrev pub Evaluated : Context → ℕ → Sight → List Slot → List Slot → Value → Type 0
-Evaluated c p s old new v =
-    DidAt (situation_in c) c.program.now.nodes p (vars_of s.vars.now) (flat_of s.env.now) (slots_of old) (value_of v)
-    (slots_of new)
+-- what the evaluation makes of words and a draft: the value is added behind the words
+pub record Evaluated (c : Context) (p : ℕ) (s : Sight) (ws : List ℕ) (xs : List Slot) (new : List ℕ) (ys : List Slot)
+    : Type 0 where
+  pub added : Added (term_type (term_at c.program.now.nodes p)) (devices_in c.device s.env.now) ws new
+  pub did : DidAt (situation_in c) c.program.now.nodes p (vars_in c.device ws s.vars.now) (flat_of s.env.now) (slots_of xs)
+      (value_in new (term_type (term_at c.program.now.nodes p)) (devices_in c.device s.env.now) (length ws)) (slots_of ys)
 
--- the same for places one after another, whose values are added to others
-abbrev pub ReadyKids : Context → List ℕ → Sight → List Slot → Type 0
-ReadyKids c ks s xs = ReadyEach (situation_in c) c.program.now.nodes c.layout.now ks (vars_of s.vars.now)
-    (flat_of s.env.now) (slots_of xs)
+-- what the evaluation of a binder's body makes of them: of the words those from a place on, which are the binder's
+-- value, are taken out
+pub record EvaluatedBody (c : Context) (p at : ℕ) (s : Sight) (ws : List ℕ) (xs : List Slot) (new : List ℕ) (ys : List Slot)
+    : Type 0 where
+  pub added : Added (term_type (term_at c.program.now.nodes p)) (devices_in c.device s.env.now) (take at ws) new
+  pub did : DidAt (situation_in c) c.program.now.nodes p (vars_in c.device ws s.vars.now) (flat_of s.env.now) (slots_of xs)
+      (value_in new (term_type (term_at c.program.now.nodes p)) (devices_in c.device s.env.now) at) (slots_of ys)
 
-abbrev pub EvaluatedKids : Context → List ℕ → Sight → List Slot → List Slot → List Value → List Value → Type 0
-EvaluatedKids c ks s old new before behind =
-    DidEach (situation_in c) c.program.now.nodes ks (vars_of s.vars.now) (flat_of s.env.now)
-    (slots_of old) (values_of before) (values_of behind) (slots_of new)
+-- places at which evaluation may begin, one after another
+pub record ReadyKids (c : Context) (ks : List ℕ) (s : Sight) (ws : List ℕ) (xs : List Slot) : Type 0 where
+  pub ready : ReadyEach (situation_in c) c.program.now.nodes c.layout.now ks (vars_in c.device ws s.vars.now)
+      (flat_of s.env.now) (slots_of xs)
+  pub may : MayEach c.program.now.declared (situation_in c) c.program.now.nodes (types_in s.vars.now) ks
+      (vars_in c.device ws s.vars.now) (flat_of s.env.now)
+  pub sees : Fits c.device (length ws) s
+
+-- what it gives: their values stand behind the words, a local value in each of so many rows
+pub record EvaluatedKids (c : Context) (ks : List ℕ) (s : Sight) (rows : ℕ) (ws : List ℕ) (xs : List Slot)
+    (new : List ℕ) (ys : List Slot) : Type 0 where
+  pub values : List AnyValue
+  pub did : DidEach (situation_in c) c.program.now.nodes ks (vars_in c.device ws s.vars.now) (flat_of s.env.now)
+      (slots_of xs) [] values (slots_of ys)
+  pub fit : FitEachOver c.program.now.declared.ceiling (devices_in c.device s.env.now)
+      (kid_types c.program.now.nodes ks) values
+  pub kept : SameBelow (length ws) ws new
+  pub long : length new
+      ≡ length ws + words_of_all (kid_types c.program.now.nodes ks) rows (length (devices_in c.device s.env.now))
+  pub stand : StandIn new (devices_in c.device s.env.now) rows (length ws) (kid_types c.program.now.nodes ks) values

@@ -1,6 +1,6 @@
 -- Evaluation as a function: the value and the tree of a term, or none where it is stuck.
 use Rattle.std.specs.Prelude.{ℕ, suc, Bool, true, false, ◌+◌, List, [], ◌∷◌, min, Option}
-use Rattle.std.specs.Prelude.{Some, None, option_map, nat_eq, slice_get, if◌then◌else◌}
+use Rattle.std.specs.Prelude.{Some, None, option_map, slice_get}
 use Rattle.fc_values.specs.Values.{LocalValue, IntValue, BoolValue, PairValue}
 use Rattle.fc_values.specs.Fields.{Entries, AnyValue, ValueLocal, ValueField, with_entry, restricted}
 use Rattle.fc_values.specs.Builtins.{builtin_value}
@@ -8,7 +8,8 @@ use Rattle.fc_values.specs.Trees.{Tree, Trees, Keep, Done, Then, leaf, kept_of}
 use Rattle.fc_nodes.specs.Terms.{Leaf, Literal, Variable, Sense, Uid, NbrLink, Evolution, ByRep, ByShare}
 use Rattle.fc_nodes.specs.Terms.{Term, Terms, Plain, Apply, Nbr, Evolve, If, Let, NoMore, More, size}
 use Rattle.alignment.specs.Environments.{Env, child_env, branch_env, near_numbers}
-use Rattle.device_eval.specs.Neighbours.{kept_there, weights}
+use Rattle.alignment.specs.Scopes.{Vars, variable_at, weights}
+use Rattle.device_eval.specs.Neighbours.{kept_there}
 
 -- where evaluation happens: the device, the greatest integer, the least weight of a link, and the inputs of the copy
 pub record Situation : Type 0 where
@@ -16,14 +17,6 @@ pub record Situation : Type 0 where
   pub ceiling : ℕ
   pub least : ℕ
   pub inputs : List LocalValue
-
--- the values of the binders in scope, by their places; the nearest counts
-abbrev pub Vars : Type 0
-Vars = List (ℕ × AnyValue)
-
-abbrev pub variable_at : ℕ → Vars → Option AnyValue
-variable_at n [] = None
-variable_at n (v ∷ vs) = if nat_eq v.0 n then Some v.1 else variable_at n vs
 
 abbrev pub leaf_value : Situation → Leaf → Vars → Env → Option AnyValue
 leaf_value S (Literal v) vars env = Some (ValueLocal v)

@@ -9,7 +9,8 @@ use Rattle.alignment.specs.Environments.{Env, child_env, branch_env, near_number
 use Rattle.alignment.specs.Slots.{FlatEnv, flat_branch}
 use Rattle.alignment.specs.Hearing.{slot_entries, own_slot_or}
 use Rattle.device_eval.specs.Neighbours.{kept_there}
-use Rattle.device_eval.specs.Evaluation.{Situation, Vars, own_or, heard, eval_of, eval_all, pick}
+use Rattle.alignment.specs.Scopes.{Vars}
+use Rattle.device_eval.specs.Evaluation.{Situation, own_or, heard, eval_of, eval_all, pick}
 use Rattle.device_eval.specs.Rules.{Evaluates, EvaluateAll}
 use Rattle.device_eval.specs.Environments.{env_at, EnvFits}
 

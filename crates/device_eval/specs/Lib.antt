@@ -8,6 +8,8 @@ pub mod Starts
 pub mod References
 pub mod Walks
 pub mod Rows
-pub mod Contexts
 pub mod Conditions
+pub mod Places
+pub mod Kids
+pub mod Contexts
 pub mod Laws

@@ -1,6 +1,6 @@
 -- What the aligned neighbours keep, and the weights of their links.
 use Rattle.std.specs.Prelude.{ℕ, List, [], ◌∷◌, Option, Some, None}
-use Rattle.fc_values.specs.Values.{LocalValue, IntValue}
+use Rattle.fc_values.specs.Values.{LocalValue}
 use Rattle.fc_values.specs.Fields.{Entries}
 use Rattle.fc_values.specs.Trees.{kept_of}
 use Rattle.alignment.specs.Environments.{NearTree}
@@ -13,8 +13,3 @@ entry_before d _ _ = None
 abbrev pub kept_there : List NearTree → Option Entries
 kept_there [] = Some []
 kept_there (n ∷ ns) = entry_before n.0 (kept_of n.2) (kept_there ns)
-
--- the weight of each neighbour
-abbrev pub weights : {A : Type 0} → List (ℕ × ℕ × A) → Entries
-weights [] = []
-weights (n ∷ ns) = (n.0, IntValue n.1) ∷ weights ns

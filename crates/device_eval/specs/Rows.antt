@@ -7,7 +7,8 @@ use Rattle.fc_nodes.specs.declared.nodes.Node.{Node}
 use Rattle.fc_nodes.specs.Terms.{size, kept, kept_before, term_at, Laid, WellFormed}
 use Rattle.fc_nodes.specs.Layouts.{LayoutValue, IsLayout}
 use Rattle.fc_nodes.specs.Flat.{tree_at, Marked}
-use Rattle.device_eval.specs.Evaluation.{Situation, Vars, Outcomes, and_then, eval_of}
+use Rattle.alignment.specs.Scopes.{Vars}
+use Rattle.device_eval.specs.Evaluation.{Situation, Outcomes, and_then, eval_of}
 use Rattle.alignment.specs.Slots.{FlatEnv}
 use Rattle.device_eval.specs.Environments.{env_at, EnvFits}
 use Rattle.device_eval.specs.Walks.{Room, SameOut, Still}

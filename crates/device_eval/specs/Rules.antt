@@ -9,8 +9,9 @@ use Rattle.fc_values.specs.Trees.{Tree, Trees, Keep, Done, Then, leaf}
 use Rattle.fc_nodes.specs.Terms.{Literal, Variable, Sense, Uid, NbrLink, ByRep, ByShare, Term}
 use Rattle.fc_nodes.specs.Terms.{Terms, Plain, Apply, Nbr, Evolve, If, Let, NoMore, More, size}
 use Rattle.alignment.specs.Environments.{Env, child_env, branch_env, near_numbers}
-use Rattle.device_eval.specs.Neighbours.{kept_there, weights}
-use Rattle.device_eval.specs.Evaluation.{Situation, Vars, variable_at, own_or}
+use Rattle.alignment.specs.Scopes.{weights, Vars, variable_at}
+use Rattle.device_eval.specs.Neighbours.{kept_there}
+use Rattle.device_eval.specs.Evaluation.{Situation, own_or}
 
 -- `Evaluates S p t vars env v tree`: the term t, whose root stands at place p, has the value v and the tree
 mutual

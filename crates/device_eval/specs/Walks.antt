@@ -7,7 +7,8 @@ use Rattle.fc_nodes.specs.declared.nodes.Node.{Node}
 use Rattle.fc_values.specs.Types.{ValueType}
 use Rattle.fc_nodes.specs.Terms.{Term, Sort, HasNode, kept, kept_before, term_at, Laid, WellFormed}
 use Rattle.fc_nodes.specs.Flat.{tree_at, Clear, Marked}
-use Rattle.device_eval.specs.Evaluation.{Situation, Vars, eval_of}
+use Rattle.alignment.specs.Scopes.{Vars}
+use Rattle.device_eval.specs.Evaluation.{Situation, eval_of}
 use Rattle.fc_nodes.specs.Layouts.{LayoutValue, IsLayout}
 use Rattle.alignment.specs.Slots.{FlatEnv}
 use Rattle.device_eval.specs.Environments.{env_at, EnvFits}

@@ -1,21 +1,21 @@
-//! The evaluation of a program's nodes.
+//! The evaluation of a program's nodes on a stack of words: the value of a node is added behind the words.
 
-ghost use Rattle.std.specs.Prelude.{◌≡◌, ◌<◌, IfOk, OnOk, IsSome, Some, length, map, min, slice_get, slice_index};
-ghost use Rattle.fc_values.specs.Values.{local_of, BoolValue};
-ghost use Rattle.fc_values.specs.Fields.{value_of, ValueLocal, restricted};
+ghost use Rattle.std.specs.Prelude.{◌≡◌, ◌<◌, ◌≤◌, IfOk, OnOk, IsSome, Some, length, map, min, slice_get, slice_index, take};
+ghost use Rattle.fc_values.specs.Values.{local_of};
 ghost use Rattle.fc_nodes.specs.Terms.{OfApply, OfNbr, OfEvolve, ByRep, ByShare, OfIf, OfLet};
-ghost use Rattle.alignment.specs.Environments.{near_numbers};
-ghost use Rattle.device_eval.specs.Evaluation.{variable_at, pick};
-ghost use Rattle.alignment.specs.References.{flat_of};
-ghost use Rattle.device_eval.specs.Contexts.{vars_of, ReadyIn, ReadyFor, Evaluated, ReadyKids, EvaluatedKids};
-ghost use Rattle.device_eval.specs.Walks.{IsLocal, IsTruth};
+ghost use Rattle.device_eval.specs.Evaluation.{pick};
+ghost use Rattle.device_eval.specs.Contexts.{ReadyIn, ReadyFor, Evaluated, EvaluatedBody, EvaluatedKids, ReadyKids};
 
-use crate::links::links;
-use alignment::{Env, heard, heard_with, own_or, restrict, same_branch};
-use fc_nodes::{Node, Op, Unfolded, ceiling_of, least_weight, slot_of};
-use fc_values::{Builtin, Local, Memory, Value, apply, copy};
-use flat_exports::{Draft, Layout};
+use crate::builtins::{apply_builtin, fill_rows, rows_of};
+use crate::drafts::Draft;
+use alignment::{own_or, same_branch};
+use fc_nodes::{Layout, Node, Op, Unfolded, ceiling_of, least_weight, slot_of};
+use fc_values::{Builtin, Local, Memory, inner};
+use scope_columns::{
+    Binder, Scope, Sight, is_field, own_row, push_heard, push_links, push_variable,
+};
 use std::alloc::Global;
+use value_columns::{close_gap, push_value, value_at};
 
 /// What is evaluated: a program with its layout, at the device that fires, with the inputs of its copy.
 #[derive(Clone, Copy)]
@@ -26,246 +26,312 @@ pub struct Context<'a> {
     pub inputs: &'a [Local],
 }
 
-/// The binders in scope, by their places, with their values.
-#[derive(Clone, Copy)]
-pub enum Scope<'a> {
-    Empty,
-    Bind(u32, &'a Value, &'a Scope<'a>),
-}
-
-/// What a node sees: the exports that are aligned there, and the binders in scope.
-#[derive(Clone, Copy)]
-pub struct Sight<'a, 'b> {
-    pub env: &'a Env<'b>,
-    pub vars: &'a Scope<'a>,
-}
-
-/// Evaluates a node: its value, and its slots in the draft.
+/// Evaluates a node: its value behind the words, and its slots in the draft.
 #[cycle(eval)]
 pub fn eval(
     alloc: Global,
+    words: &mut Vec<u32>,
     context: &Context<'_>,
     place: u32,
     sight: &Sight<'_, '_>,
     draft: &mut Draft,
-) -> Result<Value, Memory>
-    requires { ReadyIn context.now place sight.now draft.old }
-    ensures { IfOk result (Evaluated context.now place sight.now draft.old draft.new) }
+) -> Result<(), Memory>
+    requires { ReadyIn context.now place sight.now words.old.items draft.old }
+    ensures { OnOk result (Evaluated context.now place sight.now words.old.items draft.old words.new.items draft.new) }
 {
     let node = context.program.node(place);
     match &node.op {
-        Op::Lit(value) => Ok(Value::Local(copy(alloc, value)?)),
-        Op::Var(binder) => {
-            let value = lookup(sight.vars, *binder);
-            Ok(aligned(alloc, value, context.device, sight.env)?)
+        Op::Lit(value) => {
+            push_value(words, value)?;
+            Ok(())
         }
-        Op::Sense(input) => Ok(Value::Local(copy(alloc, input_at(context.inputs, *input))?)),
-        Op::Uid => Ok(Value::Local(Local::Int(uid(context.device, context.program)))),
+        Op::Var(binder) => {
+            push_variable(alloc, words, sight, *binder, context.device)?;
+            Ok(())
+        }
+        Op::Sense(input) => {
+            push_value(words, input_at(context.inputs, *input))?;
+            Ok(())
+        }
+        Op::Uid => {
+            words.push(uid(context.device, context.program))?;
+            Ok(())
+        }
         Op::NbrLink => {
             let least = least_weight(context.program);
-            Ok(Value::Field(links(alloc, sight.env, context.device, least)?))
+            push_links(words, sight, context.device, least)?;
+            Ok(())
         }
-        Op::Apply(builtin) => eval_apply(alloc, context, place, node, *builtin, sight, draft),
-        Op::Nbr => eval_nbr(alloc, context, place, node, sight, draft),
-        Op::Rep => eval_rep(alloc, context, place, node, sight, draft),
-        Op::Share => eval_share(alloc, context, place, node, sight, draft),
-        Op::If => eval_if(alloc, context, place, node, sight, draft),
-        Op::Let => eval_let(alloc, context, place, node, sight, draft),
+        Op::Apply(builtin) => eval_apply(
+            alloc, words, context, place, node, *builtin, sight, draft,
+        ),
+        Op::Nbr => eval_nbr(alloc, words, context, place, node, sight, draft),
+        Op::Rep => eval_rep(alloc, words, context, place, node, sight, draft),
+        Op::Share => eval_share(alloc, words, context, place, node, sight, draft),
+        Op::If => eval_if(alloc, words, context, place, node, sight, draft),
+        Op::Let => eval_let(alloc, words, context, place, node, sight, draft),
     }
 }
 
 #[cycle(eval)]
 fn eval_apply(
     alloc: Global,
+    words: &mut Vec<u32>,
     context: &Context<'_>,
     place: u32,
     node: &Node,
     builtin: Builtin,
     sight: &Sight<'_, '_>,
     draft: &mut Draft,
-) -> Result<Value, Memory>
-    requires { ReadyFor context.now place sight.now node.now (OfApply builtin) draft.old }
-    ensures { IfOk result (Evaluated context.now place sight.now draft.old draft.new) }
+) -> Result<(), Memory>
+    requires { ReadyFor context.now place sight.now node.now (OfApply builtin) words.old.items draft.old }
+    ensures { OnOk result (Evaluated context.now place sight.now words.old.items draft.old words.new.items draft.new) }
 {
-    let kids = node.kids.as_slice();
-    let mut args = Vec::with_capacity(alloc, kids.len())?;
-    eval_kids(alloc, context, kids, sight, draft, &mut args)?;
-    let ceiling = ceiling_of(context.program);
-    let value = apply(alloc, builtin, args.as_slice(), context.device, ceiling)?;
-    Ok(value)
+    let at = words.len();
+    let devices = sight.env.near.len() + 1;
+    let rows = rows_of(&node.ty, devices);
+    eval_kids(alloc, words, context, &node.kids, rows, sight, draft)?;
+    apply_builtin(
+        words,
+        context.program,
+        node,
+        builtin,
+        devices,
+        sight.own,
+        at,
+    );
+    Ok(())
 }
 
-// Evaluates nodes one after another, and adds their values.
+// Evaluates nodes one after another: their values stand behind the words, a local value in each of so many rows.
 #[cycle(eval)]
 fn eval_kids(
     alloc: Global,
+    words: &mut Vec<u32>,
     context: &Context<'_>,
     kids: &[u32],
+    rows: usize,
     sight: &Sight<'_, '_>,
     draft: &mut Draft,
-    args: &mut Vec<Value>,
 ) -> Result<(), Memory>
-    requires { ReadyKids context.now kids.now sight.now draft.old }
-    ensures { OnOk result (EvaluatedKids context.now kids.now sight.now draft.old draft.new args.old.items
-        args.new.items) }
+    requires { ReadyKids context.now kids.now sight.now words.old.items draft.old }
+    ensures { OnOk result (EvaluatedKids context.now kids.now sight.now rows words.old.items draft.old words.new.items
+        draft.new) }
 {
     let Some((first, rest)) = kids.split_first() else {
         return Ok(());
     };
-    let value = eval(alloc, context, *first, sight, draft)?;
-    args.push(value)?;
-    eval_kids(alloc, context, rest, sight, draft, args)?;
+    let at = words.len();
+    eval(alloc, words, context, *first, sight, draft)?;
+    fill_rows(words, &context.program.node(*first).ty, at, rows)?;
+    eval_kids(alloc, words, context, rest, rows, sight, draft)?;
     Ok(())
 }
 
 #[cycle(eval)]
 fn eval_nbr(
     alloc: Global,
+    words: &mut Vec<u32>,
     context: &Context<'_>,
     place: u32,
     node: &Node,
     sight: &Sight<'_, '_>,
     draft: &mut Draft,
-) -> Result<Value, Memory>
-    requires { ReadyFor context.now place sight.now node.now OfNbr draft.old }
-    ensures { IfOk result (Evaluated context.now place sight.now draft.old draft.new) }
+) -> Result<(), Memory>
+    requires { ReadyFor context.now place sight.now node.now OfNbr words.old.items draft.old }
+    ensures { OnOk result (Evaluated context.now place sight.now words.old.items draft.old words.new.items draft.new) }
 {
     let slot = slot_of(context.layout, place);
-    let value = eval(alloc, context, node.kids[0], sight, draft)?;
-    let own = into_local(value);
-    let field = heard_with(alloc, sight.env, slot, context.device, &own)?;
+    let at = words.len();
+    eval(alloc, words, context, node.kids[0], sight, draft)?;
+    let ty = inner(&node.ty);
+    let own = value_at(alloc, words, ty, 1, at, 0)?;
+    words.truncate(at);
+    push_heard(words, ty, sight, slot, context.device, &own)?;
     draft.put(slot, own);
-    Ok(Value::Field(field))
+    Ok(())
 }
 
 #[cycle(eval)]
 fn eval_rep(
     alloc: Global,
+    words: &mut Vec<u32>,
     context: &Context<'_>,
     place: u32,
     node: &Node,
     sight: &Sight<'_, '_>,
     draft: &mut Draft,
-) -> Result<Value, Memory>
-    requires { ReadyFor context.now place sight.now node.now (OfEvolve ByRep) draft.old }
-    ensures { IfOk result (Evaluated context.now place sight.now draft.old draft.new) }
+) -> Result<(), Memory>
+    requires { ReadyFor context.now place sight.now node.now (OfEvolve ByRep) words.old.items draft.old }
+    ensures { OnOk result (Evaluated context.now place sight.now words.old.items draft.old words.new.items draft.new) }
 {
     let slot = slot_of(context.layout, place);
-    let first = eval(alloc, context, node.kids[0], sight, draft)?;
-    let fallback = into_local(first);
-    let start = Value::Local(copy(alloc, own_or(sight.env, slot, &fallback))?);
-    let evolving = Scope::Bind(place, &start, sight.vars);
+    let start = node.kids[0];
+    let next = node.kids[1];
+    let at = words.len();
+    eval(alloc, words, context, start, sight, draft)?;
+    let ty = inner(&node.ty);
+    let first = value_at(alloc, words, ty, 1, at, 0)?;
+    words.truncate(at);
+    push_value(words, own_or(sight.env, slot, &first))?;
+    let evolving = Scope::Bind(
+        Binder {
+            place,
+            at,
+            ty,
+            is_field: false,
+            env: sight.env,
+        },
+        sight.vars,
+    );
     let body = Sight {
         env: sight.env,
+        own: sight.own,
         vars: &evolving,
     };
-    let value = eval(alloc, context, node.kids[1], &body, draft)?;
-    let kept = copy_local(alloc, &value)?;
+    eval_body(alloc, words, context, next, at, &body, draft)?;
+    let kept = value_at(alloc, words, ty, 1, at, 0)?;
     draft.put(slot, kept);
-    Ok(value)
+    Ok(())
 }
 
 #[cycle(eval)]
 fn eval_share(
     alloc: Global,
+    words: &mut Vec<u32>,
     context: &Context<'_>,
     place: u32,
     node: &Node,
     sight: &Sight<'_, '_>,
     draft: &mut Draft,
-) -> Result<Value, Memory>
-    requires { ReadyFor context.now place sight.now node.now (OfEvolve ByShare) draft.old }
-    ensures { IfOk result (Evaluated context.now place sight.now draft.old draft.new) }
+) -> Result<(), Memory>
+    requires { ReadyFor context.now place sight.now node.now (OfEvolve ByShare) words.old.items draft.old }
+    ensures { OnOk result (Evaluated context.now place sight.now words.old.items draft.old words.new.items draft.new) }
 {
     let slot = slot_of(context.layout, place);
-    let first = eval(alloc, context, node.kids[0], sight, draft)?;
-    let fallback = into_local(first);
-    let start = Value::Field(heard(alloc, sight.env, slot, context.device, &fallback)?);
-    let hearing = Scope::Bind(place, &start, sight.vars);
+    let start = node.kids[0];
+    let next = node.kids[1];
+    let at = words.len();
+    eval(alloc, words, context, start, sight, draft)?;
+    let ty = inner(&node.ty);
+    let first = value_at(alloc, words, ty, 1, at, 0)?;
+    words.truncate(at);
+    push_heard(
+        words,
+        ty,
+        sight,
+        slot,
+        context.device,
+        own_or(sight.env, slot, &first),
+    )?;
+    let hearing = Scope::Bind(
+        Binder {
+            place,
+            at,
+            ty,
+            is_field: true,
+            env: sight.env,
+        },
+        sight.vars,
+    );
     let body = Sight {
         env: sight.env,
+        own: sight.own,
         vars: &hearing,
     };
-    let value = eval(alloc, context, node.kids[1], &body, draft)?;
-    let kept = copy_local(alloc, &value)?;
+    eval_body(alloc, words, context, next, at, &body, draft)?;
+    let kept = value_at(alloc, words, ty, 1, at, 0)?;
     draft.put(slot, kept);
-    Ok(value)
-}
-
-#[cycle(eval)]
-fn eval_if(
-    alloc: Global,
-    context: &Context<'_>,
-    place: u32,
-    node: &Node,
-    sight: &Sight<'_, '_>,
-    draft: &mut Draft,
-) -> Result<Value, Memory>
-    requires { ReadyFor context.now place sight.now node.now OfIf draft.old }
-    ensures { IfOk result (Evaluated context.now place sight.now draft.old draft.new) }
-{
-    let slot = slot_of(context.layout, place);
-    let condition = eval(alloc, context, node.kids[0], sight, draft)?;
-    let truth = truth_of(&condition);
-    let branch = same_branch(alloc, sight.env, slot, truth)?;
-    let kid = branch_of(&node.kids, truth);
-    let taken = Sight {
-        env: &branch,
-        vars: sight.vars,
-    };
-    let value = eval(alloc, context, kid, &taken, draft)?;
-    draft.put(slot, Local::Bool(truth));
-    Ok(value)
+    Ok(())
 }
 
 #[cycle(eval)]
 fn eval_let(
     alloc: Global,
+    words: &mut Vec<u32>,
     context: &Context<'_>,
     place: u32,
     node: &Node,
     sight: &Sight<'_, '_>,
     draft: &mut Draft,
-) -> Result<Value, Memory>
-    requires { ReadyFor context.now place sight.now node.now OfLet draft.old }
-    ensures { IfOk result (Evaluated context.now place sight.now draft.old draft.new) }
+) -> Result<(), Memory>
+    requires { ReadyFor context.now place sight.now node.now OfLet words.old.items draft.old }
+    ensures { OnOk result (Evaluated context.now place sight.now words.old.items draft.old words.new.items draft.new) }
 {
-    let bound = eval(alloc, context, node.kids[0], sight, draft)?;
-    let inner = Scope::Bind(place, &bound, sight.vars);
+    let start = node.kids[0];
+    let next = node.kids[1];
+    let at = words.len();
+    eval(alloc, words, context, start, sight, draft)?;
+    let bound = context.program.node(start);
+    let inside = Scope::Bind(
+        Binder {
+            place,
+            at,
+            ty: inner(&bound.ty),
+            is_field: is_field(&bound.ty),
+            env: sight.env,
+        },
+        sight.vars,
+    );
     let body = Sight {
         env: sight.env,
-        vars: &inner,
+        own: sight.own,
+        vars: &inside,
     };
-    let value = eval(alloc, context, node.kids[1], &body, draft)?;
-    Ok(value)
+    eval_body(alloc, words, context, next, at, &body, draft)?;
+    Ok(())
 }
 
-// The value of a binder.
-fn lookup<'a>(vars: &Scope<'a>, binder: u32) -> &'a Value
-    requires { IsSome (variable_at binder (vars_of vars.now)) }
-    ensures { variable_at binder (vars_of vars.now) ≡ Some (value_of result.now) }
+// Evaluates the body of a binder whose value stands from a place on as the last of the words, and takes that value out.
+#[cycle(eval)]
+fn eval_body(
+    alloc: Global,
+    words: &mut Vec<u32>,
+    context: &Context<'_>,
+    place: u32,
+    at: usize,
+    sight: &Sight<'_, '_>,
+    draft: &mut Draft,
+) -> Result<(), Memory>
+    requires ready { ReadyIn context.now place sight.now words.old.items draft.old }
+    requires within { at ≤ length words.old.items }
+    ensures { OnOk result (EvaluatedBody context.now place at sight.now words.old.items draft.old words.new.items
+        draft.new) }
 {
-    match vars {
-        Scope::Empty => unreachable!(),
-        Scope::Bind(place, value, rest) => {
-            if *place == binder {
-                value
-            } else {
-                lookup(rest, binder)
-            }
-        }
-    }
+    let many = words.len() - at;
+    eval(alloc, words, context, place, sight, draft)?;
+    close_gap(words, at, many);
+    Ok(())
 }
 
-// A variable's value, restricted to the device and the aligned neighbours.
-fn aligned(alloc: Global, value: &Value, device: u32, env: &Env<'_>) -> Result<Value, Memory>
-    ensures { IfOk result (λ v. value_of v ≡ restricted device (near_numbers (flat_of env.now).near)
-        (value_of value.now)) }
+#[cycle(eval)]
+fn eval_if(
+    alloc: Global,
+    words: &mut Vec<u32>,
+    context: &Context<'_>,
+    place: u32,
+    node: &Node,
+    sight: &Sight<'_, '_>,
+    draft: &mut Draft,
+) -> Result<(), Memory>
+    requires { ReadyFor context.now place sight.now node.now OfIf words.old.items draft.old }
+    ensures { OnOk result (Evaluated context.now place sight.now words.old.items draft.old words.new.items draft.new) }
 {
-    match value {
-        Value::Local(local) => Ok(Value::Local(copy(alloc, local)?)),
-        Value::Field(field) => Ok(Value::Field(restrict(alloc, field, device, env)?)),
-    }
+    let slot = slot_of(context.layout, place);
+    let at = words.len();
+    eval(alloc, words, context, node.kids[0], sight, draft)?;
+    let truth = words[at] != 0;
+    words.truncate(at);
+    let branch = same_branch(alloc, sight.env, slot, truth)?;
+    let kid = branch_of(&node.kids, truth);
+    let taken = Sight {
+        env: &branch,
+        own: own_row(&branch, context.device),
+        vars: sight.vars,
+    };
+    eval(alloc, words, context, kid, &taken, draft)?;
+    draft.put(slot, Local::Bool(truth));
+    Ok(())
 }
 
 // An input of a copy.
@@ -281,39 +347,6 @@ fn uid(device: u32, program: &Unfolded) -> u32
     ensures { result ≡ min device program.now.declared.ceiling }
 {
     device.min(ceiling_of(program))
-}
-
-/// A local value out of a value.
-pub fn into_local(value: Value) -> Local
-    requires { IsLocal (value_of value) }
-    ensures { value_of value ≡ ValueLocal (local_of result) }
-{
-    match value {
-        Value::Local(v) => v,
-        Value::Field(_) => unreachable!(),
-    }
-}
-
-// A copy of a local value.
-fn copy_local(alloc: Global, value: &Value) -> Result<Local, Memory>
-    requires { IsLocal (value_of value.now) }
-    ensures { IfOk result (λ v. value_of value.now ≡ ValueLocal (local_of v)) }
-{
-    match value {
-        Value::Local(v) => copy(alloc, v),
-        Value::Field(_) => unreachable!(),
-    }
-}
-
-// The truth value that a condition has.
-fn truth_of(value: &Value) -> bool
-    requires { IsTruth (value_of value.now) }
-    ensures { value_of value.now ≡ ValueLocal (BoolValue result) }
-{
-    match value {
-        Value::Local(Local::Bool(b)) => *b,
-        _ => unreachable!(),
-    }
 }
 
 // The place of the branch that a truth value names.

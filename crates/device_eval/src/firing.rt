@@ -1,19 +1,24 @@
 //! The evaluation of a copy.
 
-ghost use Rattle.std.specs.Prelude.{◌≡◌, IfOk, IfErr};
+ghost use Rattle.std.specs.Prelude.{◌≡◌, ◌≤◌, IfErr, IfOk, length};
+ghost use Rattle.fc_values.specs.declared.limits.TheConstants.{MOST_LINKS};
 ghost use Rattle.fc_nodes.specs.Program.{unfolding_of};
 ghost use Rattle.alignment.specs.References.{flat_of};
 ghost use Rattle.device_eval.specs.References.{snap_env};
 ghost use Rattle.device_eval.specs.Firing.{IsFired};
 
-use crate::evaluation::{Context, Scope, Sight, eval, into_local};
+use crate::drafts::Draft;
+use crate::evaluation::{Context, eval};
+use crate::scratch::Scratch;
 use alignment::{Env, NearRef};
 use fc_nodes::Unfolded;
-use fc_values::{Export, Memory};
-use flat_exports::Draft;
+use fc_values::{Export, Memory, inner};
+use scope_columns::{Scope, Sight, own_row};
+use smallvec::SmallVec;
 use std::alloc::Global;
 use std::marker::Model;
 use std::sync::Arc;
+use value_columns::value_at;
 use value_trees::{Published, Snap};
 
 /// A copy with its export.
@@ -85,7 +90,12 @@ impl Fired {
 ghost use Rattle.value_trees.specs.Snaps.{IsSnap};
 
 /// Evaluates a copy. Where memory runs out, the copy comes back.
-pub fn fire(alloc: Global, program: &Arc<Unfolded>, snap: Snap) -> Result<Fired, (Snap, Memory)>
+pub fn fire(
+    alloc: Global,
+    scratch: &mut Scratch,
+    program: &Arc<Unfolded>,
+    snap: Snap,
+) -> Result<Fired, (Snap, Memory)>
     requires { IsSnap (unfolding_of program.now.value) snap }
     ensures program { IfOk result (λ f. f.program ≡ program.now.value) }
     ensures snap { IfOk result (λ f. f.snap ≡ snap) }
@@ -95,7 +105,7 @@ pub fn fire(alloc: Global, program: &Arc<Unfolded>, snap: Snap) -> Result<Fired,
         Ok(shared) => shared,
         Err(_) => return Err((snap, Memory)),
     };
-    match publish(alloc, program, &snap) {
+    match publish(alloc, scratch, program, &snap) {
         Ok(export) => Ok(Fired {
             program: shared,
             snap,
@@ -106,16 +116,26 @@ pub fn fire(alloc: Global, program: &Arc<Unfolded>, snap: Snap) -> Result<Fired,
 }
 
 /// The export of a copy, to be shared.
-pub fn publish(alloc: Global, program: &Unfolded, snap: &Snap) -> Result<Published, Memory>
+pub fn publish(
+    alloc: Global,
+    scratch: &mut Scratch,
+    program: &Unfolded,
+    snap: &Snap,
+) -> Result<Published, Memory>
     requires { IsSnap (unfolding_of program.now) snap.now }
     ensures { IfOk result (λ e. IsFired (record { program = program.now; snap = snap.now; export = e })) }
 {
-    let export = evaluate(alloc, program, snap)?;
+    let export = evaluate(alloc, scratch, program, snap)?;
     Published::new(alloc, export)
 }
 
 /// The export of a copy, which is only borrowed.
-pub fn evaluate(alloc: Global, program: &Unfolded, snap: &Snap) -> Result<Export, Memory>
+pub fn evaluate(
+    alloc: Global,
+    scratch: &mut Scratch,
+    program: &Unfolded,
+    snap: &Snap,
+) -> Result<Export, Memory>
     requires { IsSnap (unfolding_of program.now) snap.now }
     ensures { IfOk result (λ e. IsFired (record { program = program.now; snap = snap.now; export = e })) }
 {
@@ -131,26 +151,31 @@ pub fn evaluate(alloc: Global, program: &Unfolded, snap: &Snap) -> Result<Export
     };
     let sight = Sight {
         env: &env,
+        own: own_row(&env, snap.device),
         vars: &Scope::Empty,
     };
-    let value = eval(alloc, &context, 0, &sight, &mut draft)?;
-    Ok(draft.finish(into_local(value)))
+    let mut words = scratch.take(alloc);
+    eval(alloc, &mut words, &context, 0, &sight, &mut draft)?;
+    let value = value_at(alloc, &words, inner(&program.node(0).ty), 1, 0, 0)?;
+    scratch.keep(words);
+    Ok(draft.finish(value))
 }
 
 // What the root sees of a copy.
 fn root_env<'a>(alloc: Global, snap: &'a Snap) -> Result<Env<'a>, Memory>
+    requires { length snap.now.near.items ≤ MOST_LINKS }
     ensures { IfOk result (λ env. flat_of env ≡ snap_env snap.now) }
 {
-    let mut near = Vec::with_capacity(alloc, snap.near.len())?;
+    let mut near = SmallVec::new(alloc);
     for n in &snap.near {
         near.push(NearRef {
             device: n.device,
             weight: n.weight,
-            slots: &n.export.get().slots,
+            slots: &n.export.get().slots.list,
         })?;
     }
     let own = match &snap.own {
-        Some(export) => Some(&export.get().slots),
+        Some(export) => Some(export.get().slots.list.as_slice()),
         None => None,
     };
     Ok(Env { own, near })

@@ -8,8 +8,8 @@ use Rattle.fc_values.specs.Fields.{Entries, with_entry}
 use Rattle.alignment.specs.Environments.{near_numbers}
 use Rattle.alignment.specs.Hearing.{slot_entries}
 use Rattle.alignment.specs.Slots.{NearHave}
-use Rattle.scope_columns.specs.declared.environments.NearRef.{NearRef}
-use Rattle.scope_columns.specs.References.{nears_of}
+use Rattle.alignment.specs.declared.environments.NearRef.{NearRef}
+use Rattle.alignment.specs.References.{nears_of}
 use Rattle.scope_columns.specs.Words.{AllForm, row_of}
 use Rattle.scope_columns.proofs.DeviceRows.{numbers_long, own_within}
 use Rattle.scope_columns.proofs.OwnRow.{with_row}

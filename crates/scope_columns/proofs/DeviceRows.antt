@@ -3,9 +3,9 @@ use Rattle.std.proofs.Common.{◌≡◌, ℕ, zero, suc, ◌<◌, ◌≤◌, ◌
 use Rattle.std.proofs.Common.{arith, Bool, true, false, nat_lt}
 use Rattle.fc_values.specs.Fields.{with_number}
 use Rattle.alignment.specs.Environments.{near_numbers}
-use Rattle.scope_columns.specs.declared.environments.NearRef.{NearRef}
-use Rattle.scope_columns.specs.declared.environments.Env.{Env}
-use Rattle.scope_columns.specs.References.{nears_of, numbers_in}
+use Rattle.alignment.specs.declared.environments.NearRef.{NearRef}
+use Rattle.alignment.specs.declared.environments.Env.{Env}
+use Rattle.alignment.specs.References.{nears_of, numbers_in}
 use Rattle.scope_columns.specs.Scopes.{devices_in}
 use Rattle.scope_columns.specs.Words.{row_of}
 

@@ -15,7 +15,7 @@ use Rattle.value_columns.specs.Columns.{word_in, row_in, entries_in}
 use Rattle.value_columns.proofs.Rows.{same_word}
 use Rattle.value_columns.proofs.LocalReads.{reads_row}
 use Rattle.scope_columns.specs.Words.{value_in, SameBelow, Added, AllForm, row_of, leaf_word, slot_column, values_in}
-use Rattle.device_eval.proofs.Sights.{devices_with}
+use Rattle.alignment.proofs.Entries.{devices_with}
 use Rattle.scope_columns.proofs.OwnRow.{with_row, entry_row, entries_are, value_nth, values_row, map_row}
 
 -- so many columns of some values were added

@@ -8,9 +8,9 @@ use Rattle.fc_values.specs.Fields.{Entries, ValueField, device_of, devices, with
 use Rattle.alignment.specs.Environments.{near_numbers}
 use Rattle.alignment.specs.Slots.{NearSlots}
 use Rattle.value_columns.specs.Columns.{word_in, row_in, entries_in}
-use Rattle.device_eval.specs.Neighbours.{weights}
+use Rattle.alignment.specs.Scopes.{weights}
 use Rattle.scope_columns.specs.Words.{value_in, Added, row_of, values_in, weights_of}
-use Rattle.device_eval.proofs.Sights.{devices_with}
+use Rattle.alignment.proofs.Entries.{devices_with}
 
 -- a list with one more in a row
 abbrev pub with_row : {A : Type 0} → ℕ → A → List A → List A

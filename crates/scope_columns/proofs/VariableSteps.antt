@@ -8,11 +8,11 @@ use Rattle.fc_values.specs.Types.{LocalType, ValueType, TypeLocal, TypeField, lo
 use Rattle.fc_values.specs.BuiltinTypes.{lifted}
 use Rattle.fc_values.specs.Fields.{ValueField, restricted, with_number}
 use Rattle.fc_nodes.specs.Typing.{type_at}
-use Rattle.scope_columns.specs.References.{numbers_in}
+use Rattle.alignment.specs.References.{numbers_in}
 use Rattle.value_columns.specs.Columns.{word_in, row_in, entries_in}
 use Rattle.scope_columns.specs.declared.scopes.Binder.{Binder}
 use Rattle.scope_columns.specs.declared.scopes.Sight.{Sight}
-use Rattle.device_eval.specs.Evaluation.{variable_at}
+use Rattle.alignment.specs.Scopes.{variable_at}
 use Rattle.scope_columns.specs.Words.{words_for, value_in, SameBelow, Added, stays, kept_rows}
 use Rattle.scope_columns.specs.Scopes.{IsAligned, VariableAdded, devices_in, binder_type, binder_words}
 use Rattle.scope_columns.specs.Scopes.{vars_in, types_in}

@@ -1,3 +1,2 @@
-pub mod References
 pub mod Words
 pub mod Scopes

@@ -4,13 +4,13 @@ use Rattle.fc_values.specs.Types.{ValueType, TypeLocal, TypeField, local_type_of
 use Rattle.fc_values.specs.BuiltinTypes.{lifted}
 use Rattle.fc_values.specs.Fields.{AnyValue, restricted, with_number}
 use Rattle.fc_nodes.specs.Typing.{Scope as Types, type_at}
-use Rattle.device_eval.specs.Evaluation.{Vars, variable_at}
-use Rattle.scope_columns.specs.declared.environments.Env.{Env}
+use Rattle.alignment.specs.Scopes.{Vars, variable_at}
+use Rattle.alignment.specs.declared.environments.Env.{Env}
 use Rattle.scope_columns.specs.declared.scopes.Binder.{Binder}
 use Rattle.scope_columns.specs.declared.scopes.Scope.{Scope}
 use Rattle.scope_columns.specs.declared.scopes.Scope.TheVariants as scope
 use Rattle.scope_columns.specs.declared.scopes.Sight.{Sight}
-use Rattle.scope_columns.specs.References.{numbers_in}
+use Rattle.alignment.specs.References.{numbers_in}
 use Rattle.scope_columns.specs.Words.{words_for, value_in, Added, row_of, stays}
 
 -- the devices of a field that is made in an environment: the device itself, and the aligned neighbours

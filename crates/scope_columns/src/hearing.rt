@@ -7,33 +7,14 @@ ghost use Rattle.fc_values.specs.Types.{TypeField, leaves, local_type_of};
 ghost use Rattle.fc_values.specs.Values.{local_of};
 ghost use Rattle.alignment.specs.Hearing.{field_with, own_slot_or, slot_entries};
 ghost use Rattle.alignment.specs.Slots.{NearHave, OwnHas};
-ghost use Rattle.scope_columns.specs.References.{flat_of, nears_of, numbers_in};
+ghost use Rattle.alignment.specs.References.{flat_of, nears_of, numbers_in};
 ghost use Rattle.scope_columns.specs.Scopes.{devices_in};
 ghost use Rattle.scope_columns.specs.Words.{Added, AllForm, leaf_word, row_of, slot_column, value_in, values_in};
 
-use crate::environments::{Env, NearRef};
 use crate::scopes::Sight;
+use alignment::{NearRef, slot_value};
 use fc_values::{Local, LocalTy, Memory, Slot};
 use value_columns::{leaf_at, width};
-
-/// What the device's own export has in a slot, or a fallback where it has no export.
-pub fn own_or<'b>(env: &'b Env<'_>, slot: u32, fallback: &'b Local) -> &'b Local
-    requires { OwnHas slot (flat_of env.now).own }
-    ensures { local_of result.now ≡ own_slot_or slot (local_of fallback.now) (flat_of env.now).own }
-{
-    match env.own {
-        Some(slots) => slot_value(slots, slot),
-        None => fallback,
-    }
-}
-
-// The value in a slot.
-fn slot_value(slots: &[Slot], slot: u32) -> &Local
-    requires { slot < length (slots_of slots.now) }
-    ensures { local_of result.now ≡ (slot_at slot (slots_of slots.now)).1 }
-{
-    &slots[slot as usize].value
-}
 
 /// Adds the field of what the neighbours have in a slot, and of the device's own value.
 pub fn push_heard(

@@ -2,16 +2,12 @@
 //! what comes from there, added behind the words.
 #![tactic(auto)]
 
-mod branches;
-mod environments;
 mod hearing;
 mod links;
 mod scopes;
 mod variables;
 
-pub use branches::same_branch;
-pub use environments::{Env, NearRef};
-pub use hearing::{own_or, push_heard};
+pub use hearing::push_heard;
 pub use links::push_links;
 pub use scopes::{Binder, Scope, Sight, is_field, own_row};
 pub use variables::push_variable;

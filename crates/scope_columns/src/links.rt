@@ -4,13 +4,13 @@ ghost use Rattle.std.specs.Prelude.{◌≡◌, ◌++◌, IfOk, OnOk, length};
 ghost use Rattle.fc_values.specs.Fields.{ValueField, with_entry};
 ghost use Rattle.fc_values.specs.Types.{IntType, TypeField};
 ghost use Rattle.fc_values.specs.Values.{IntValue};
-ghost use Rattle.device_eval.specs.Neighbours.{weights};
-ghost use Rattle.scope_columns.specs.References.{flat_of, nears_of, numbers_in};
+ghost use Rattle.alignment.specs.Scopes.{weights};
+ghost use Rattle.alignment.specs.References.{flat_of, nears_of, numbers_in};
 ghost use Rattle.scope_columns.specs.Scopes.{devices_in};
 ghost use Rattle.scope_columns.specs.Words.{Added, row_of, value_in, weights_of};
 
-use crate::environments::NearRef;
 use crate::scopes::Sight;
+use alignment::NearRef;
 use fc_values::Memory;
 
 /// Adds the weights of the links, and the least weight at the device itself.

@@ -4,13 +4,13 @@ ghost use Rattle.std.specs.Prelude.{◌≡◌, ℕ, ◌+◌, ◌<◌, ◌≤◌,
 ghost use Rattle.fc_values.specs.BuiltinTypes.{is_field as has_devices};
 ghost use Rattle.fc_values.specs.Types.{type_of};
 ghost use Rattle.fc_nodes.specs.Typing.{type_at};
-ghost use Rattle.scope_columns.specs.References.{numbers_in};
+ghost use Rattle.alignment.specs.References.{numbers_in};
 ghost use Rattle.scope_columns.specs.Scopes.{AreAligned, IsAligned, StandBelow};
 ghost use Rattle.scope_columns.specs.Scopes.{binder_type, binder_words, devices_in, types_in, vars_in};
-ghost use Rattle.device_eval.specs.Evaluation.{variable_at};
+ghost use Rattle.alignment.specs.Scopes.{variable_at};
 ghost use Rattle.scope_columns.specs.Words.{row_of, value_in};
 
-use crate::environments::Env;
+use alignment::Env;
 use fc_values::{LocalTy, Ty};
 
 /// A binder: its place, and where its value stands among the words. A field is over the device and those neighbours

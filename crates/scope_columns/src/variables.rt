@@ -5,12 +5,12 @@ ghost use Rattle.fc_values.specs.Fields.{is_in, restricted};
 ghost use Rattle.fc_values.specs.Types.{TypeField, leaves, local_type_of};
 ghost use Rattle.fc_nodes.specs.Typing.{type_at};
 ghost use Rattle.alignment.specs.Environments.{near_numbers};
-ghost use Rattle.scope_columns.specs.References.{nears_of, numbers_in};
+ghost use Rattle.alignment.specs.References.{nears_of, numbers_in};
 ghost use Rattle.scope_columns.specs.Scopes.{AreAligned, IsAligned, StandBelow, VariableAdded, devices_in, types_in};
 ghost use Rattle.scope_columns.specs.Words.{Added, kept_rows, row_of, stays, value_in};
 
-use crate::environments::{Env, NearRef};
 use crate::scopes::{Binder, Sight, lookup, own_row};
+use alignment::{Env, NearRef};
 use fc_values::{MOST_LINKS, Memory};
 use smallvec::SmallVec;
 use std::alloc::Global;

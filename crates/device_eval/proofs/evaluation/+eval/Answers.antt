@@ -1,335 +1,516 @@
-use Rattle.std.proofs.Common.{◌∙◌, ℕ, List, [], ◌∷◌, arith, ap, refl, get_or}
-use Rattle.std.proofs.lemmas.List.{map-append}
-use Rattle.fc_values.specs.Fields.{value_of, values_of, ValueLocal, ValueField}
-use Rattle.device_eval.specs.Evaluation.{pick}
+use Rattle.std.proofs.Common.{◌≡◌, ◌∙◌, ◌+◌, ℕ, List, length, arith, ap, sym, refl, get_or, false, true, not, nat_eq}
 use Rattle.fc_values.proofs.SlotReads.{slots_long}
-use Rattle.device_eval.proofs.LeafAt.{lit_done, variable_bound, variable_done, sense_there, sense_done, uid_done, links_done}
-use Rattle.device_eval.proofs.LetAt.{let_kids, let_value, let_body, let_done}
-use Rattle.device_eval.proofs.EvolveAt.{evolve_kids, evolve_own, evolve_near, evolve_a, first_is_local, evolve_b, result_is_local, evolve_done}
-use Rattle.device_eval.proofs.IfAt.{if_kids, if_own, if_near, if_condition, condition_is_truth, if_branch, if_done}
-use Rattle.device_eval.proofs.NbrAt.{one, nbr_kid, nbr_is_local, nbr_near, nbr_done}
-use Rattle.device_eval.proofs.RowSteps.{none_done, kid_ready, rest_ready, each_done}
-use Rattle.device_eval.proofs.ApplyAt.{apply_can, apply_may, apply_done, apply_later, each_as}
-use Rattle.device_eval.proofs.Steps.{ready_at}
+use Rattle.device_eval.specs.Evaluation.{pick}
+use Rattle.device_eval.proofs.Steps.{ready_at, kid_is}
+use Rattle.device_eval.proofs.LeafAt.{sense_there}
+use Rattle.device_eval.proofs.LetAt.{let_kids, let_value, let_may_value}
+use Rattle.device_eval.proofs.NbrAt.{one, nbr_kid, nbr_may, nbr_near}
+use Rattle.device_eval.proofs.EvolveAt.{evolve_kids, evolve_own, evolve_near, evolve_a, evolve_may_first}
+use Rattle.device_eval.proofs.IfAt.{if_kids, if_own, if_near, if_condition, if_may_condition}
+use Rattle.device_eval.proofs.MaySteps.{node_type}
+use Rattle.scope_columns.proofs.ScopeSteps.{bound_type}
+use Rattle.device_eval.proofs.ReadySteps.{ready_as}
+use Rattle.device_eval.proofs.LeafSteps.{literal_evaluated, sense_evaluated, uid_evaluated, links_evaluated, variable_evaluated, variable_has, variables_aligned}
+use Rattle.device_eval.proofs.KindSteps.{node_here, begin_body, body_done, heads_at}
+use Rattle.device_eval.proofs.NodeSteps.{nbr_within, nbr_room, nbr_forms, nbr_evaluated, first_within, let_ready, let_allowed, let_evaluated, branch_begins, branch_allowed, branch_vars, branch_below, if_room, if_evaluated, truth_within, rep_added, share_added, share_forms, start_ready, start_allowed, start_over, body_within, evolve_room, evolve_evaluated}
+use Rattle.device_eval.proofs.ApplySteps.{apply_begins, apply_rule, apply_within, apply_own, apply_long, apply_evaluated}
+use Rattle.device_eval.proofs.ColumnSteps.{kids_none, first_begins, kid_ends, rest_begins, kids_more}
 use Rattle.device_eval.proofs.evaluation.+eval.Goals as goal
 
-pub eval-lookup-value-requires : goal.eval-lookup-value-requires
-eval-lookup-value-requires t c =
-    variable_bound (ready_at c.requires (rw c.in-Var.is at c.node-node.ensures.node))
+pub eval-push_variable-requires-clause-bound : goal.eval-push_variable-requires-clause-bound
+eval-push_variable-requires-clause-bound t c =
+    variable_has c.requires (rw c.in-Var.is at c.node-node.ensures.node)
+
+pub eval-push_variable-requires-clause-aligned : goal.eval-push_variable-requires-clause-aligned
+eval-push_variable-requires-clause-aligned t c = variables_aligned c.requires
 
 pub eval-input_at-requires : goal.eval-input_at-requires
 eval-input_at-requires t c =
-    sense_there (ready_at c.requires (rw c.in-Sense.is at c.node-node.ensures.node))
+    sense_there (ready_at c.requires.ready (rw c.in-Sense.is at c.node-node.ensures.node))
 
-pub eval-returns-in_ok-copy-in-Lit : goal.eval-returns-in_ok-copy-in-Lit
-eval-returns-in_ok-copy-in-Lit t c =
-    lit_done (ready_at c.requires (rw c.in-Lit.is at c.node-node.ensures.node)) c.in_ok-copy-in-Lit.ensures
+pub eval-returns-in_ok-push_value-in-Lit : goal.eval-returns-in_ok-push_value-in-Lit
+eval-returns-in_ok-push_value-in-Lit t c =
+    literal_evaluated c.requires (rw c.in-Lit.is at c.node-node.ensures.node) c.in_ok-push_value-in-Lit.ensures.added
 
-pub eval-returns-in_ok-aligned-in-Var : goal.eval-returns-in_ok-aligned-in-Var
-eval-returns-in_ok-aligned-in-Var t c =
-    variable_done (ready_at c.requires (rw c.in-Var.is at c.node-node.ensures.node)) c.lookup-value.ensures c.in_ok-aligned-in-Var.ensures
+pub eval-returns-in_ok-push_variable-in-Var : goal.eval-returns-in_ok-push_variable-in-Var
+eval-returns-in_ok-push_variable-in-Var t c =
+    variable_evaluated c.requires (rw c.in-Var.is at c.node-node.ensures.node) c.in_ok-push_variable-in-Var.ensures
 
-pub eval-returns-in_ok-copy-in-Sense : goal.eval-returns-in_ok-copy-in-Sense
-eval-returns-in_ok-copy-in-Sense t c =
-    sense_done (ready_at c.requires (rw c.in-Sense.is at c.node-node.ensures.node)) c.input_at.ensures c.in_ok-copy-in-Sense.ensures
+pub eval-returns-in_ok-push_value-in-Sense : goal.eval-returns-in_ok-push_value-in-Sense
+eval-returns-in_ok-push_value-in-Sense t c =
+    sense_evaluated c.requires (rw c.in-Sense.is at c.node-node.ensures.node) c.input_at.ensures c.in_ok-push_value-in-Sense.ensures.added
 
-pub eval-returns-in-Uid : goal.eval-returns-in-Uid
-eval-returns-in-Uid t c =
-    uid_done (ready_at c.requires (rw c.in-Uid.is at c.node-node.ensures.node)) c.uid.ensures
+pub eval-returns-in_ok-push-in-Uid : goal.eval-returns-in_ok-push-in-Uid
+eval-returns-in_ok-push-in-Uid t c =
+    uid_evaluated c.requires (rw c.in-Uid.is at c.node-node.ensures.node) c.uid.ensures c.in_ok-push-in-Uid.ensures.items
 
-pub eval-returns-in_ok-links-in-NbrLink : goal.eval-returns-in_ok-links-in-NbrLink
-eval-returns-in_ok-links-in-NbrLink t c =
-    links_done (ready_at c.requires (rw c.in-NbrLink.is at c.node-node.ensures.node)) (rw c.least_weight-least.ensures at c.in_ok-links-in-NbrLink.ensures)
-
-pub eval-eval_apply-requires : goal.eval-eval_apply-requires
-eval-eval_apply-requires t c =
-    let d = c.decreases in
-    (omega (arith, d), ready_at c.requires (rw c.in-Apply.is at c.node-node.ensures.node))
+pub eval-returns-in_ok-push_links-in-NbrLink : goal.eval-returns-in_ok-push_links-in-NbrLink
+eval-returns-in_ok-push_links-in-NbrLink t c =
+    links_evaluated c.requires (rw c.in-NbrLink.is at c.node-node.ensures.node) c.in_ok-push_links-in-NbrLink.ensures.added
+    (rw c.least_weight-least.ensures at c.in_ok-push_links-in-NbrLink.ensures.value)
 
 pub eval-eval_nbr-requires : goal.eval-eval_nbr-requires
 eval-eval_nbr-requires t c =
     let d = c.decreases in
-    (omega (arith, d), ready_at c.requires (rw c.in-Nbr.is at c.node-node.ensures.node))
+    (omega (arith, d), record { here = c.requires; node = rw c.in-Nbr.is at c.node-node.ensures.node })
 
 pub eval-eval_rep-requires : goal.eval-eval_rep-requires
 eval-eval_rep-requires t c =
     let d = c.decreases in
-    (omega (arith, d), ready_at c.requires (rw c.in-Rep.is at c.node-node.ensures.node))
+    (omega (arith, d), record { here = c.requires; node = rw c.in-Rep.is at c.node-node.ensures.node })
 
 pub eval-eval_share-requires : goal.eval-eval_share-requires
 eval-eval_share-requires t c =
     let d = c.decreases in
-    (omega (arith, d), ready_at c.requires (rw c.in-Share.is at c.node-node.ensures.node))
+    (omega (arith, d), record { here = c.requires; node = rw c.in-Share.is at c.node-node.ensures.node })
 
 pub eval-eval_if-requires : goal.eval-eval_if-requires
 eval-eval_if-requires t c =
     let d = c.decreases in
-    (omega (arith, d), ready_at c.requires (rw c.in-If.is at c.node-node.ensures.node))
+    (omega (arith, d), record { here = c.requires; node = rw c.in-If.is at c.node-node.ensures.node })
 
 pub eval-eval_let-requires : goal.eval-eval_let-requires
 eval-eval_let-requires t c =
     let d = c.decreases in
-    (omega (arith, d), ready_at c.requires (rw c.in-Let.is at c.node-node.ensures.node))
+    (omega (arith, d), record { here = c.requires; node = rw c.in-Let.is at c.node-node.ensures.node })
+
+pub eval_let-index-start-requires : goal.eval_let-index-start-requires
+eval_let-index-start-requires t c =
+    let o = let_kids (node_here c.requires) in
+    let l = o.long in
+    omega (arith, l)
 
 pub eval_let-eval-requires : goal.eval_let-eval-requires
 eval_let-eval-requires t c =
     let d = c.decreases in
-    let r = let_value c.requires c.index.ensures in
+    let r = let_value (node_here c.requires) c.index-start.ensures in
     let m = r.0 in
-    let w = c.requires.ready.stands.within in
-    (omega (arith, d, m, w), r.2)
+    let w = c.requires.here.ready.stands.within in
+    (omega (arith, d, m, w), record { ready = r.2; may = let_may_value (node_here c.requires) c.requires.here.may c.index-start.ensures; sees = c.requires.here.sees })
 
-pub eval_let-index-requires : goal.eval_let-index-requires
-eval_let-index-requires t c =
-    let o = let_kids c.requires in
+pub eval_let-node-bound-requires : goal.eval_let-node-bound-requires
+eval_let-node-bound-requires t c =
+    let r = let_value (node_here c.requires) c.index-start.ensures in
+    r.1
+
+pub eval_let-index-next-requires : goal.eval_let-index-next-requires
+eval_let-index-next-requires t c =
+    let o = let_kids (node_here c.requires) in
     let l = o.long in
     omega (arith, l)
 
-pub eval_let-index-requires-2 : goal.eval_let-index-requires-2
-eval_let-index-requires-2 t c =
-    let o = let_kids c.requires in
-    let l = o.long in
-    omega (arith, l)
-
-pub eval_let-eval-requires-2 : goal.eval_let-eval-requires-2
-eval_let-eval-requires-2 t c =
+pub eval_let-eval_body-requires : goal.eval_let-eval_body-requires
+eval_let-eval_body-requires t c =
+    let place = c.len-at.ensures ∙ c.args.words.now.ok.0 in
     let d = c.decreases in
-    let r = let_body c.requires c.index.ensures c.in_ok-bound.ensures c.index-2.ensures in
+    let r = let_ready c.requires c.index-start.ensures c.index-next.ensures c.in_ok-eval.ensures in
     let m = r.0 in
-    let w = c.requires.ready.stands.within in
-    (omega (arith, d, m, w), r.2)
+    let w = c.requires.here.ready.stands.within in
+    let type = node_type _ c.requires.here.ready.stands.formed c.node-bound.ensures.node in
+    let l = c.in_ok-eval.ensures.added.long in (
+      omega (arith, d, m, w),
+      (
+        begin_body _ _ r.2 (let_allowed c.requires c.index-start.ensures c.index-next.ensures c.in_ok-eval.ensures) c.requires.here.sees c.in_ok-eval.ensures.added
+            (bound_type c.is_field.ensures c.inner.ensures ∙ sym type) place refl refl (λ b o. (b, o)) c.requires.here.sees.own,
+        omega (arith, l, place),
+      ),
+    )
 
 pub eval_let-returns : goal.eval_let-returns
 eval_let-returns t c =
-    let_done c.requires c.index.ensures c.in_ok-bound.ensures c.index-2.ensures c.in_ok-value.ensures
+    let place = c.len-at.ensures ∙ c.args.words.now.ok.0 in
+    let type = bound_type c.is_field.ensures c.inner.ensures ∙ sym (node_type _ c.requires.here.ready.stands.formed c.node-bound.ensures.node) in
+    let_evaluated c.requires c.index-start.ensures c.index-next.ensures c.in_ok-eval.ensures place c.in_ok-eval_body.ensures (heads_at _ _ type place) refl refl
 
-pub eval_rep-index-requires : goal.eval_rep-index-requires
-eval_rep-index-requires t c =
-    let o = evolve_kids c.requires in
-    let l = o.long in
-    omega (arith, l)
-
-pub eval_rep-index-requires-2 : goal.eval_rep-index-requires-2
-eval_rep-index-requires-2 t c =
-    let o = evolve_kids c.requires in
-    let l = o.long in
-    omega (arith, l)
-
-pub eval_rep-eval-requires : goal.eval_rep-eval-requires
-eval_rep-eval-requires t c =
-    let d = c.decreases in
-    let r = evolve_a c.requires c.index.ensures in
-    let m = r.0 in
-    let w = c.requires.ready.stands.within in
-    (omega (arith, d, m, w), r.2)
-
-pub eval_rep-into_local-fallback-requires : goal.eval_rep-into_local-fallback-requires
-eval_rep-into_local-fallback-requires t c =
-    first_is_local c.requires c.index.ensures c.in_ok-first.ensures
-
-pub eval_rep-own_or-requires : goal.eval_rep-own_or-requires
-eval_rep-own_or-requires t c =
-    evolve_own c.requires c.slot_of-slot.ensures
-
-pub eval_rep-eval-requires-2 : goal.eval_rep-eval-requires-2
-eval_rep-eval-requires-2 t c =
-    let d = c.decreases in
-    let r = evolve_b c.requires c.index.ensures c.in_ok-first.ensures c.slot_of-slot.ensures c.into_local-fallback.ensures (ap ValueLocal (c.in_ok-copy.ensures ∙ c.own_or.ensures)) c.index-2.ensures in
-    let m = r.0 in
-    let w = c.requires.ready.stands.within in
-    (omega (arith, d, m, w), r.2)
-
-pub eval_rep-copy_local-requires : goal.eval_rep-copy_local-requires
-eval_rep-copy_local-requires t c =
-    result_is_local c.requires c.index.ensures c.in_ok-first.ensures c.slot_of-slot.ensures c.into_local-fallback.ensures (ap ValueLocal (c.in_ok-copy.ensures ∙ c.own_or.ensures)) c.index-2.ensures c.in_ok-value.ensures
-
-pub eval_rep-put-requires : goal.eval_rep-put-requires
-eval_rep-put-requires t c =
-    let r = evolve_done c.requires c.index.ensures c.in_ok-first.ensures c.slot_of-slot.ensures c.into_local-fallback.ensures (ap ValueLocal (c.in_ok-copy.ensures ∙ c.own_or.ensures)) c.index-2.ensures c.in_ok-value.ensures c.in_ok-kept.ensures refl in
-    slots_long c.eval-2.new.draft c.slot_of-slot.result r.0
-
-pub eval_rep-returns : goal.eval_rep-returns
-eval_rep-returns t c =
-    let r = evolve_done c.requires c.index.ensures c.in_ok-first.ensures c.slot_of-slot.ensures c.into_local-fallback.ensures (ap ValueLocal (c.in_ok-copy.ensures ∙ c.own_or.ensures)) c.index-2.ensures c.in_ok-value.ensures c.in_ok-kept.ensures c.put.ensures in
-    r.1
-
-pub eval_share-index-requires : goal.eval_share-index-requires
-eval_share-index-requires t c =
-    let o = evolve_kids c.requires in
-    let l = o.long in
-    omega (arith, l)
-
-pub eval_share-index-requires-2 : goal.eval_share-index-requires-2
-eval_share-index-requires-2 t c =
-    let o = evolve_kids c.requires in
-    let l = o.long in
-    omega (arith, l)
-
-pub eval_share-eval-requires : goal.eval_share-eval-requires
-eval_share-eval-requires t c =
-    let d = c.decreases in
-    let r = evolve_a c.requires c.index.ensures in
-    let m = r.0 in
-    let w = c.requires.ready.stands.within in
-    (omega (arith, d, m, w), r.2)
-
-pub eval_share-into_local-fallback-requires : goal.eval_share-into_local-fallback-requires
-eval_share-into_local-fallback-requires t c =
-    first_is_local c.requires c.index.ensures c.in_ok-first.ensures
-
-pub eval_share-heard-requires-clause-own : goal.eval_share-heard-requires-clause-own
-eval_share-heard-requires-clause-own t c =
-    evolve_own c.requires c.slot_of-slot.ensures
-
-pub eval_share-heard-requires-clause-near : goal.eval_share-heard-requires-clause-near
-eval_share-heard-requires-clause-near t c =
-    evolve_near c.requires c.slot_of-slot.ensures
-
-pub eval_share-eval-requires-2 : goal.eval_share-eval-requires-2
-eval_share-eval-requires-2 t c =
-    let d = c.decreases in
-    let r = evolve_b c.requires c.index.ensures c.in_ok-first.ensures c.slot_of-slot.ensures c.into_local-fallback.ensures (ap ValueField c.in_ok-heard.ensures) c.index-2.ensures in
-    let m = r.0 in
-    let w = c.requires.ready.stands.within in
-    (omega (arith, d, m, w), r.2)
-
-pub eval_share-copy_local-requires : goal.eval_share-copy_local-requires
-eval_share-copy_local-requires t c =
-    result_is_local c.requires c.index.ensures c.in_ok-first.ensures c.slot_of-slot.ensures c.into_local-fallback.ensures (ap ValueField c.in_ok-heard.ensures) c.index-2.ensures c.in_ok-value.ensures
-
-pub eval_share-put-requires : goal.eval_share-put-requires
-eval_share-put-requires t c =
-    let r = evolve_done c.requires c.index.ensures c.in_ok-first.ensures c.slot_of-slot.ensures c.into_local-fallback.ensures (ap ValueField c.in_ok-heard.ensures) c.index-2.ensures c.in_ok-value.ensures c.in_ok-kept.ensures refl in
-    slots_long c.eval-2.new.draft c.slot_of-slot.result r.0
-
-pub eval_share-returns : goal.eval_share-returns
-eval_share-returns t c =
-    let r = evolve_done c.requires c.index.ensures c.in_ok-first.ensures c.slot_of-slot.ensures c.into_local-fallback.ensures (ap ValueField c.in_ok-heard.ensures) c.index-2.ensures c.in_ok-value.ensures c.in_ok-kept.ensures c.put.ensures in
-    r.1
-
-pub eval_if-index-requires : goal.eval_if-index-requires
-eval_if-index-requires t c =
-    let o = if_kids c.requires in
-    let l = o.long in
-    omega (arith, l)
-
-pub eval_if-eval-requires : goal.eval_if-eval-requires
-eval_if-eval-requires t c =
-    let d = c.decreases in
-    let r = if_condition c.requires c.index.ensures in
-    let m = r.0 in
-    let w = c.requires.ready.stands.within in
-    (omega (arith, d, m, w), r.2)
-
-pub eval_if-truth_of-truth-requires : goal.eval_if-truth_of-truth-requires
-eval_if-truth_of-truth-requires t c =
-    condition_is_truth c.requires c.index.ensures c.in_ok-condition.ensures
-
-pub eval_if-same_branch-requires-clause-own : goal.eval_if-same_branch-requires-clause-own
-eval_if-same_branch-requires-clause-own t c =
-    if_own c.requires c.slot_of-slot.ensures
-
-pub eval_if-same_branch-requires-clause-near : goal.eval_if-same_branch-requires-clause-near
-eval_if-same_branch-requires-clause-near t c =
-    if_near c.requires c.slot_of-slot.ensures
-
-pub eval_if-branch_of-kid-requires : goal.eval_if-branch_of-kid-requires
-eval_if-branch_of-kid-requires t c =
-    let o = if_kids c.requires in
-    rw c.deref.ensures.value o.long
-
-pub eval_if-eval-requires-2 : goal.eval_if-eval-requires-2
-eval_if-eval-requires-2 t c =
-    let d = c.decreases in
-    let r = if_branch c.requires c.index.ensures c.in_ok-condition.ensures c.slot_of-slot.ensures c.truth_of-truth.ensures c.in_ok-branch.ensures
-    (c.branch_of-kid.ensures ∙ ap (λ (xs : List ℕ). get_or xs (pick c.truth_of-truth.result 1 2) 0) c.deref.ensures.value) in
-    let m = r.0 in
-    let w = c.requires.ready.stands.within in
-    (omega (arith, d, m, w), r.2)
-
-pub eval_if-put-requires : goal.eval_if-put-requires
-eval_if-put-requires t c =
-    let r = if_done c.requires c.index.ensures c.in_ok-condition.ensures c.slot_of-slot.ensures c.truth_of-truth.ensures c.in_ok-branch.ensures
-    (c.branch_of-kid.ensures ∙ ap (λ (xs : List ℕ). get_or xs (pick c.truth_of-truth.result 1 2) 0) c.deref.ensures.value) c.in_ok-value.ensures refl in
-    slots_long c.eval-2.new.draft c.slot_of-slot.result r.0
-
-pub eval_if-returns : goal.eval_if-returns
-eval_if-returns t c =
-    let r = if_done c.requires c.index.ensures c.in_ok-condition.ensures c.slot_of-slot.ensures c.truth_of-truth.ensures c.in_ok-branch.ensures
-    (c.branch_of-kid.ensures ∙ ap (λ (xs : List ℕ). get_or xs (pick c.truth_of-truth.result 1 2) 0) c.deref.ensures.value) c.in_ok-value.ensures c.put.ensures in
-    r.1
-
-pub eval_apply-eval_kids-requires : goal.eval_apply-eval_kids-requires
-eval_apply-eval_kids-requires t c =
-    let d = c.decreases in
-    let l = apply_later c.requires c.as_slice-kids.ensures.value in
-    let w = c.requires.ready.stands.within in
-    (omega (arith, d, l, w), apply_can c.requires c.as_slice-kids.ensures.value)
-
-pub eval_apply-apply-requires : goal.eval_apply-apply-requires
-eval_apply-apply-requires t c =
-    rw (c.as_slice.ensures.value, c.ceiling_of-ceiling.ensures) (apply_may c.requires (each_as c.as_slice-kids.ensures.value (ap values_of c.in_ok-args.ensures.items) c.in_ok-eval_kids.ensures))
-
-pub eval_apply-returns : goal.eval_apply-returns
-eval_apply-returns t c =
-    let value = rw (c.as_slice.ensures.value, c.ceiling_of-ceiling.ensures) at c.in_ok-value.ensures in
-    apply_done c.requires (each_as c.as_slice-kids.ensures.value (ap values_of c.in_ok-args.ensures.items) c.in_ok-eval_kids.ensures) value
-
-pub eval_kids-returns-in_default : goal.eval_kids-returns-in_default
-eval_kids-returns-in_default t c =
-    none_done c.args.kids.now c.in_default.ensures.cases
-
-pub eval_kids-eval-requires : goal.eval_kids-eval-requires
-eval_kids-eval-requires t c =
-    let d = c.decreases in
-    let r = kid_ready c.in-Some.ensures.cases.0 c.requires in
-    let w = r.0 in
-    let e = r.1 in
-    (omega (arith, d, w, e), r.2)
-
-pub eval_kids-eval_kids-requires : goal.eval_kids-eval_kids-requires
-eval_kids-eval_kids-requires t c =
-    let d = c.decreases in
-    let k = kid_ready c.in-Some.ensures.cases.0 c.requires in
-    let w = k.0 in
-    let e = k.1 in
-    let r = rest_ready c.in-Some.ensures.cases.0 c.requires c.in_ok-value.ensures in
-    let l = r.0 in
-    (omega (arith, d, w, e, l), r.1)
-
-pub eval_kids-returns : goal.eval_kids-returns
-eval_kids-returns t c =
-    let mid = ap values_of c.in_ok-push.ensures.items ∙ map-append value_of c.args.args.now.items (c.in_ok-value.value ∷ []) in
-    each_done c.in-Some.ensures.cases.0 c.requires c.in_ok-value.ensures mid c.in_ok-eval_kids.ensures
+pub eval_body-returns : goal.eval_body-returns
+eval_body-returns t c =
+    let w = c.requires.within in
+    body_done _ c.in_ok-eval.ensures c.close_gap.ensures (omega (arith, w))
 
 pub eval_nbr-index-requires : goal.eval_nbr-index-requires
 eval_nbr-index-requires t c =
-    let o = one c.requires in
+    let o = one (node_here c.requires) in
     let l = o.long in
     omega (arith, l)
 
 pub eval_nbr-eval-requires : goal.eval_nbr-eval-requires
 eval_nbr-eval-requires t c =
     let d = c.decreases in
-    let r = nbr_kid c.requires c.index.ensures in
+    let r = nbr_kid (node_here c.requires) c.index.ensures in
     let m = r.0 in
-    let w = c.requires.ready.stands.within in
-    (omega (arith, d, m, w), r.2)
+    let w = c.requires.here.ready.stands.within in
+    (omega (arith, d, m, w), record { ready = r.2; may = nbr_may (node_here c.requires) c.requires.here.may c.index.ensures; sees = c.requires.here.sees })
 
-pub eval_nbr-into_local-own-requires : goal.eval_nbr-into_local-own-requires
-eval_nbr-into_local-own-requires t c =
-    nbr_is_local c.requires c.index.ensures c.in_ok-value.ensures
+pub eval_nbr-value_at-requires-clause-within : goal.eval_nbr-value_at-requires-clause-within
+eval_nbr-value_at-requires-clause-within t c =
+    let place = c.len-at.ensures ∙ c.args.words.now.ok.0 in
+    rw c.deref.ensures.value (nbr_within c.requires c.index.ensures c.in_ok-eval.ensures c.inner-ty.ensures place)
 
-pub eval_nbr-heard_with-requires : goal.eval_nbr-heard_with-requires
-eval_nbr-heard_with-requires t c =
-    nbr_near c.requires c.slot_of-slot.ensures
+pub eval_nbr-push_heard-requires-clause-near : goal.eval_nbr-push_heard-requires-clause-near
+eval_nbr-push_heard-requires-clause-near t c =
+    nbr_near (node_here c.requires) c.slot_of-slot.ensures
+
+pub eval_nbr-push_heard-requires-clause-forms : goal.eval_nbr-push_heard-requires-clause-forms
+eval_nbr-push_heard-requires-clause-forms t c =
+    let place = c.len-at.ensures ∙ c.args.words.now.ok.0 in
+    nbr_forms c.requires c.index.ensures c.in_ok-eval.ensures c.inner-ty.ensures place (rw c.deref.ensures.value at c.in_ok-own.ensures) c.slot_of-slot.ensures
 
 pub eval_nbr-put-requires : goal.eval_nbr-put-requires
 eval_nbr-put-requires t c =
-    let r = nbr_done c.requires c.index.ensures c.in_ok-value.ensures c.slot_of-slot.ensures c.into_local-own.ensures refl refl in
-    slots_long c.eval.new.draft c.slot_of-slot.result r.0
+    let place = c.len-at.ensures ∙ c.args.words.now.ok.0 in
+    slots_long c.eval.new.draft c.slot_of-slot.result (nbr_room c.requires c.index.ensures c.in_ok-eval.ensures c.inner-ty.ensures place (rw c.deref.ensures.value at c.in_ok-own.ensures) c.slot_of-slot.ensures)
 
 pub eval_nbr-returns : goal.eval_nbr-returns
 eval_nbr-returns t c =
-    let r = nbr_done c.requires c.index.ensures c.in_ok-value.ensures c.slot_of-slot.ensures c.into_local-own.ensures c.in_ok-field.ensures c.put.ensures in
-    r.1
+    let place = c.len-at.ensures ∙ c.args.words.now.ok.0 in
+    nbr_evaluated c.requires c.index.ensures c.in_ok-eval.ensures c.inner-ty.ensures place (rw c.deref.ensures.value at c.in_ok-own.ensures) c.slot_of-slot.ensures
+    c.truncate.ensures.items c.in_ok-push_heard.ensures.added c.in_ok-push_heard.ensures.value c.put.ensures
+
+pub eval_if-index-requires : goal.eval_if-index-requires
+eval_if-index-requires t c =
+    let o = if_kids (node_here c.requires) in
+    let l = o.long in
+    omega (arith, l)
+
+pub eval_if-eval-requires : goal.eval_if-eval-requires
+eval_if-eval-requires t c =
+    let d = c.decreases in
+    let r = if_condition (node_here c.requires) c.index.ensures in
+    let m = r.0 in
+    let w = c.requires.here.ready.stands.within in
+    (omega (arith, d, m, w), record { ready = r.2; may = if_may_condition (node_here c.requires) c.requires.here.may c.index.ensures; sees = c.requires.here.sees })
+
+pub eval_if-same_branch-requires-clause-own : goal.eval_if-same_branch-requires-clause-own
+eval_if-same_branch-requires-clause-own t c =
+    if_own (node_here c.requires) c.slot_of-slot.ensures
+
+pub eval_if-same_branch-requires-clause-near : goal.eval_if-same_branch-requires-clause-near
+eval_if-same_branch-requires-clause-near t c =
+    if_near (node_here c.requires) c.slot_of-slot.ensures
+
+pub eval_if-branch_of-kid-requires : goal.eval_if-branch_of-kid-requires
+eval_if-branch_of-kid-requires t c =
+    let o = if_kids (node_here c.requires) in
+    rw c.deref.ensures.value o.long
+
+pub eval_if-index-requires-2 : goal.eval_if-index-requires-2
+eval_if-index-requires-2 t c =
+    let place = c.len-at.ensures ∙ c.args.words.now.ok.0 in
+    let within = truth_within c.requires c.index.ensures c.in_ok-eval.ensures place in
+    let long = c.eval.new.words.ok.0 in
+    omega (arith, within, long)
+
+pub eval_if-eval-requires-2 : goal.eval_if-eval-requires-2
+eval_if-eval-requires-2 t c =
+    let place = c.len-at.ensures ∙ c.args.words.now.ok.0 in
+    let d = c.decreases in
+    let truth = ap (λ w. not (nat_eq w 0)) (kid_is c.eval.new.words.items c.len-at.result c.index-2.result.now c.index-2.ensures (truth_within c.requires c.index.ensures c.in_ok-eval.ensures place)) in
+    let kid = c.branch_of-kid.ensures ∙ ap (λ (xs : List ℕ). get_or xs (pick (not (nat_eq c.index-2.result.now 0)) 1 2) 0) c.deref.ensures.value in
+    let r = branch_begins c.requires c.index.ensures c.in_ok-eval.ensures place truth c.slot_of-slot.ensures c.truncate.ensures.items c.in_ok-branch.ensures kid in
+    let m = r.0 in
+    let w = c.requires.here.ready.stands.within in (
+      omega (arith, d, m, w),
+      ready_as r.2 (branch_allowed c.requires c.index.ensures c.in_ok-eval.ensures place truth c.slot_of-slot.ensures c.truncate.ensures.items c.in_ok-branch.ensures kid)
+          (branch_vars c.requires c.index.ensures c.in_ok-eval.ensures place truth c.slot_of-slot.ensures c.truncate.ensures.items c.in_ok-branch.ensures kid) refl
+          (branch_below c.requires c.index.ensures c.in_ok-eval.ensures place truth c.slot_of-slot.ensures c.truncate.ensures.items c.in_ok-branch.ensures kid) c.own_row.ensures,
+    )
+
+pub eval_if-put-requires : goal.eval_if-put-requires
+eval_if-put-requires t c =
+    let place = c.len-at.ensures ∙ c.args.words.now.ok.0 in
+    let truth = ap (λ w. not (nat_eq w 0)) (kid_is c.eval.new.words.items c.len-at.result c.index-2.result.now c.index-2.ensures (truth_within c.requires c.index.ensures c.in_ok-eval.ensures place)) in
+    let kid = c.branch_of-kid.ensures ∙ ap (λ (xs : List ℕ). get_or xs (pick (not (nat_eq c.index-2.result.now 0)) 1 2) 0) c.deref.ensures.value in
+    slots_long c.eval-2.new.draft c.slot_of-slot.result (if_room c.requires c.index.ensures c.in_ok-eval.ensures place truth c.slot_of-slot.ensures c.truncate.ensures.items c.in_ok-branch.ensures kid c.in_ok-eval-2.ensures refl refl)
+
+pub eval_if-returns : goal.eval_if-returns
+eval_if-returns t c =
+    let place = c.len-at.ensures ∙ c.args.words.now.ok.0 in
+    let truth = ap (λ w. not (nat_eq w 0)) (kid_is c.eval.new.words.items c.len-at.result c.index-2.result.now c.index-2.ensures (truth_within c.requires c.index.ensures c.in_ok-eval.ensures place)) in
+    let kid = c.branch_of-kid.ensures ∙ ap (λ (xs : List ℕ). get_or xs (pick (not (nat_eq c.index-2.result.now 0)) 1 2) 0) c.deref.ensures.value in
+    if_evaluated c.requires c.index.ensures c.in_ok-eval.ensures place truth c.slot_of-slot.ensures c.truncate.ensures.items c.in_ok-branch.ensures kid c.in_ok-eval-2.ensures refl refl c.put.ensures
+
+pub eval_rep-index-start-requires : goal.eval_rep-index-start-requires
+eval_rep-index-start-requires t c =
+    let o = evolve_kids (node_here c.requires) in
+    let l = o.long in
+    omega (arith, l)
+
+pub eval_rep-index-next-requires : goal.eval_rep-index-next-requires
+eval_rep-index-next-requires t c =
+    let o = evolve_kids (node_here c.requires) in
+    let l = o.long in
+    omega (arith, l)
+
+pub eval_rep-eval-requires : goal.eval_rep-eval-requires
+eval_rep-eval-requires t c =
+    let d = c.decreases in
+    let r = evolve_a (node_here c.requires) c.index-start.ensures in
+    let m = r.0 in
+    let w = c.requires.here.ready.stands.within in
+    (omega (arith, d, m, w), record { ready = r.2; may = evolve_may_first (node_here c.requires) c.requires.here.may c.index-start.ensures; sees = c.requires.here.sees })
+
+pub eval_rep-value_at-requires-clause-within : goal.eval_rep-value_at-requires-clause-within
+eval_rep-value_at-requires-clause-within t c =
+    let place = c.len-at.ensures ∙ c.args.words.now.ok.0 in
+    rw c.deref.ensures.value (first_within c.requires c.index-start.ensures c.index-next.ensures c.in_ok-eval.ensures c.inner-ty.ensures place)
+
+pub eval_rep-own_or-requires : goal.eval_rep-own_or-requires
+eval_rep-own_or-requires t c =
+    evolve_own (node_here c.requires) c.slot_of-slot.ensures
+
+pub eval_rep-eval_body-requires : goal.eval_rep-eval_body-requires
+eval_rep-eval_body-requires t c =
+    let place = c.len-at.ensures ∙ c.args.words.now.ok.0 in
+    let d = c.decreases in
+    let r = c.requires in
+    let e = c.index-start.ensures in
+    let e' = c.index-next.ensures in
+    let done = c.in_ok-eval.ensures in
+    let type = c.inner-ty.ensures in
+    let first = rw c.deref.ensures.value at c.in_ok-first.ensures in
+    let number = c.slot_of-slot.ensures in
+    let cut = c.truncate.ensures.items in
+    let a = rep_added r e e' done type place first number c.own_or.ensures c.in_ok-push_value.ensures.added in
+    let s = start_ready r e e' done type place first number cut a.0 a.1 in
+    let m = s.0 in
+    let w = r.here.ready.stands.within in
+    let o = start_over r e e' done type place first number cut a.0 a.1 in
+    let l = o.long in
+    (omega (arith, d, m, w), (begin_body false _ s.2 (start_allowed r e e' done type place first number cut a.0 a.1) r.here.sees (start_over r e e' done type place first number cut a.0 a.1) refl place refl refl (λ b o. (b, o)) r.here.sees.own, omega (arith, l, place)))
+
+pub eval_rep-value_at-requires-2-clause-within : goal.eval_rep-value_at-requires-2-clause-within
+eval_rep-value_at-requires-2-clause-within t c =
+    let place = c.len-at.ensures ∙ c.args.words.now.ok.0 in
+    let r = c.requires in
+    let e = c.index-start.ensures in
+    let e' = c.index-next.ensures in
+    let done = c.in_ok-eval.ensures in
+    let type = c.inner-ty.ensures in
+    let first = rw c.deref.ensures.value at c.in_ok-first.ensures in
+    let number = c.slot_of-slot.ensures in
+    let cut = c.truncate.ensures.items in
+    let a = rep_added r e e' done type place first number c.own_or.ensures c.in_ok-push_value.ensures.added in
+    rw c.deref-2.ensures.value (body_within r e e' done type place first number cut a.0 a.1 c.in_ok-eval_body.ensures refl refl refl)
+
+pub eval_rep-put-requires : goal.eval_rep-put-requires
+eval_rep-put-requires t c =
+    let place = c.len-at.ensures ∙ c.args.words.now.ok.0 in
+    let r = c.requires in
+    let e = c.index-start.ensures in
+    let e' = c.index-next.ensures in
+    let done = c.in_ok-eval.ensures in
+    let type = c.inner-ty.ensures in
+    let first = rw c.deref.ensures.value at c.in_ok-first.ensures in
+    let number = c.slot_of-slot.ensures in
+    let cut = c.truncate.ensures.items in
+    let a = rep_added r e e' done type place first number c.own_or.ensures c.in_ok-push_value.ensures.added in
+    slots_long c.eval_body.new.draft c.slot_of-slot.result (evolve_room r e e' done type place first number cut a.0 a.1 c.in_ok-eval_body.ensures refl refl refl (rw c.deref-2.ensures.value at c.in_ok-kept.ensures))
+
+pub eval_rep-returns : goal.eval_rep-returns
+eval_rep-returns t c =
+    let place = c.len-at.ensures ∙ c.args.words.now.ok.0 in
+    let r = c.requires in
+    let e = c.index-start.ensures in
+    let e' = c.index-next.ensures in
+    let done = c.in_ok-eval.ensures in
+    let type = c.inner-ty.ensures in
+    let first = rw c.deref.ensures.value at c.in_ok-first.ensures in
+    let number = c.slot_of-slot.ensures in
+    let cut = c.truncate.ensures.items in
+    let a = rep_added r e e' done type place first number c.own_or.ensures c.in_ok-push_value.ensures.added in
+    evolve_evaluated r e e' done type place first number cut a.0 a.1 c.in_ok-eval_body.ensures refl refl refl (rw c.deref-2.ensures.value at c.in_ok-kept.ensures) c.put.ensures
+
+pub eval_share-index-start-requires : goal.eval_share-index-start-requires
+eval_share-index-start-requires t c =
+    let o = evolve_kids (node_here c.requires) in
+    let l = o.long in
+    omega (arith, l)
+
+pub eval_share-index-next-requires : goal.eval_share-index-next-requires
+eval_share-index-next-requires t c =
+    let o = evolve_kids (node_here c.requires) in
+    let l = o.long in
+    omega (arith, l)
+
+pub eval_share-eval-requires : goal.eval_share-eval-requires
+eval_share-eval-requires t c =
+    let d = c.decreases in
+    let r = evolve_a (node_here c.requires) c.index-start.ensures in
+    let m = r.0 in
+    let w = c.requires.here.ready.stands.within in
+    (omega (arith, d, m, w), record { ready = r.2; may = evolve_may_first (node_here c.requires) c.requires.here.may c.index-start.ensures; sees = c.requires.here.sees })
+
+pub eval_share-value_at-requires-clause-within : goal.eval_share-value_at-requires-clause-within
+eval_share-value_at-requires-clause-within t c =
+    let place = c.len-at.ensures ∙ c.args.words.now.ok.0 in
+    rw c.deref.ensures.value (first_within c.requires c.index-start.ensures c.index-next.ensures c.in_ok-eval.ensures c.inner-ty.ensures place)
+
+pub eval_share-own_or-requires : goal.eval_share-own_or-requires
+eval_share-own_or-requires t c =
+    evolve_own (node_here c.requires) c.slot_of-slot.ensures
+
+pub eval_share-push_heard-requires-clause-near : goal.eval_share-push_heard-requires-clause-near
+eval_share-push_heard-requires-clause-near t c =
+    evolve_near (node_here c.requires) c.slot_of-slot.ensures
+
+pub eval_share-push_heard-requires-clause-forms : goal.eval_share-push_heard-requires-clause-forms
+eval_share-push_heard-requires-clause-forms t c =
+    let place = c.len-at.ensures ∙ c.args.words.now.ok.0 in
+    share_forms c.requires c.index-start.ensures c.index-next.ensures c.in_ok-eval.ensures c.inner-ty.ensures place (rw c.deref.ensures.value at c.in_ok-first.ensures) c.slot_of-slot.ensures c.own_or.ensures
+
+pub eval_share-eval_body-requires : goal.eval_share-eval_body-requires
+eval_share-eval_body-requires t c =
+    let place = c.len-at.ensures ∙ c.args.words.now.ok.0 in
+    let d = c.decreases in
+    let r = c.requires in
+    let e = c.index-start.ensures in
+    let e' = c.index-next.ensures in
+    let done = c.in_ok-eval.ensures in
+    let type = c.inner-ty.ensures in
+    let first = rw c.deref.ensures.value at c.in_ok-first.ensures in
+    let number = c.slot_of-slot.ensures in
+    let cut = c.truncate.ensures.items in
+    let a = share_added r e e' done type place first number c.own_or.ensures c.in_ok-push_heard.ensures.added c.in_ok-push_heard.ensures.value in
+    let s = start_ready r e e' done type place first number cut a.0 a.1 in
+    let m = s.0 in
+    let w = r.here.ready.stands.within in
+    let o = start_over r e e' done type place first number cut a.0 a.1 in
+    let l = o.long in
+    (omega (arith, d, m, w), (begin_body true _ s.2 (start_allowed r e e' done type place first number cut a.0 a.1) r.here.sees (start_over r e e' done type place first number cut a.0 a.1) refl place refl refl (λ b o. (b, o)) r.here.sees.own, omega (arith, l, place)))
+
+pub eval_share-value_at-requires-2-clause-within : goal.eval_share-value_at-requires-2-clause-within
+eval_share-value_at-requires-2-clause-within t c =
+    let place = c.len-at.ensures ∙ c.args.words.now.ok.0 in
+    let r = c.requires in
+    let e = c.index-start.ensures in
+    let e' = c.index-next.ensures in
+    let done = c.in_ok-eval.ensures in
+    let type = c.inner-ty.ensures in
+    let first = rw c.deref.ensures.value at c.in_ok-first.ensures in
+    let number = c.slot_of-slot.ensures in
+    let cut = c.truncate.ensures.items in
+    let a = share_added r e e' done type place first number c.own_or.ensures c.in_ok-push_heard.ensures.added c.in_ok-push_heard.ensures.value in
+    rw c.deref-2.ensures.value (body_within r e e' done type place first number cut a.0 a.1 c.in_ok-eval_body.ensures refl refl refl)
+
+pub eval_share-put-requires : goal.eval_share-put-requires
+eval_share-put-requires t c =
+    let place = c.len-at.ensures ∙ c.args.words.now.ok.0 in
+    let r = c.requires in
+    let e = c.index-start.ensures in
+    let e' = c.index-next.ensures in
+    let done = c.in_ok-eval.ensures in
+    let type = c.inner-ty.ensures in
+    let first = rw c.deref.ensures.value at c.in_ok-first.ensures in
+    let number = c.slot_of-slot.ensures in
+    let cut = c.truncate.ensures.items in
+    let a = share_added r e e' done type place first number c.own_or.ensures c.in_ok-push_heard.ensures.added c.in_ok-push_heard.ensures.value in
+    slots_long c.eval_body.new.draft c.slot_of-slot.result (evolve_room r e e' done type place first number cut a.0 a.1 c.in_ok-eval_body.ensures refl refl refl (rw c.deref-2.ensures.value at c.in_ok-kept.ensures))
+
+pub eval_share-returns : goal.eval_share-returns
+eval_share-returns t c =
+    let place = c.len-at.ensures ∙ c.args.words.now.ok.0 in
+    let r = c.requires in
+    let e = c.index-start.ensures in
+    let e' = c.index-next.ensures in
+    let done = c.in_ok-eval.ensures in
+    let type = c.inner-ty.ensures in
+    let first = rw c.deref.ensures.value at c.in_ok-first.ensures in
+    let number = c.slot_of-slot.ensures in
+    let cut = c.truncate.ensures.items in
+    let a = share_added r e e' done type place first number c.own_or.ensures c.in_ok-push_heard.ensures.added c.in_ok-push_heard.ensures.value in
+    evolve_evaluated r e e' done type place first number cut a.0 a.1 c.in_ok-eval_body.ensures refl refl refl (rw c.deref-2.ensures.value at c.in_ok-kept.ensures) c.put.ensures
+
+pub eval_nbr-push_heard-requires-clause-width : goal.eval_nbr-push_heard-requires-clause-width
+eval_nbr-push_heard-requires-clause-width t c =
+    let place = c.len-at.ensures ∙ c.args.words.now.ok.0 in
+    let w = nbr_within c.requires c.index.ensures c.in_ok-eval.ensures c.inner-ty.ensures place in
+    let b = c.eval.new.words.ok.0 in
+    omega (arith, w, b)
+
+pub eval_share-push_heard-requires-clause-width : goal.eval_share-push_heard-requires-clause-width
+eval_share-push_heard-requires-clause-width t c =
+    let place = c.len-at.ensures ∙ c.args.words.now.ok.0 in
+    let w = first_within c.requires c.index-start.ensures c.index-next.ensures c.in_ok-eval.ensures c.inner-ty.ensures place in
+    let b = c.eval.new.words.ok.0 in
+    omega (arith, w, b)
+
+-- ---- builtins
+
+pub eval-eval_apply-requires : goal.eval-eval_apply-requires
+eval-eval_apply-requires t c =
+    let d = c.decreases in
+    (omega (arith, d), record { here = c.requires; node = rw c.in-Apply.is at c.node-node.ensures.node })
+
+pub eval_apply-eval_kids-requires : goal.eval_apply-eval_kids-requires
+eval_apply-eval_kids-requires t c =
+    let d = c.decreases in
+    let k = apply_begins c.requires c.deref.ensures.value in
+    let l = k.0 in
+    let w = c.requires.here.ready.stands.within in
+    (omega (arith, d, l, w), k.1)
+
+pub eval_apply-apply_builtin-requires-clause-rule : goal.eval_apply-apply_builtin-requires-clause-rule
+eval_apply-apply_builtin-requires-clause-rule t c = apply_rule c.requires
+
+pub eval_apply-apply_builtin-requires-clause-kids : goal.eval_apply-apply_builtin-requires-clause-kids
+eval_apply-apply_builtin-requires-clause-kids t c = apply_within c.requires
+
+pub eval_apply-apply_builtin-requires-clause-own : goal.eval_apply-apply_builtin-requires-clause-own
+eval_apply-apply_builtin-requires-clause-own t c =
+    let many : c.len-devices.result + 1 ≡ length c.args.sight.now.env.now.near.items + 1 =
+    omega (arith, c.len-devices.ensures) in
+    apply_own c.requires many
+
+pub eval_apply-apply_builtin-requires-clause-length : goal.eval_apply-apply_builtin-requires-clause-length
+eval_apply-apply_builtin-requires-clause-length t c =
+    let at : c.len-at.result ≡ length c.args.words.now.items = omega (arith, c.len-at.ensures, c.args.words.now.ok.0) in
+    let many : c.len-devices.result + 1 ≡ length c.args.sight.now.env.now.near.items + 1 =
+    omega (arith, c.len-devices.ensures) in
+    apply_long c.requires many c.rows_of-rows.ensures at c.deref.ensures.value c.in_ok-eval_kids.ensures
+
+pub eval_apply-returns : goal.eval_apply-returns
+eval_apply-returns t c =
+    let at : c.len-at.result ≡ length c.args.words.now.items = omega (arith, c.len-at.ensures, c.args.words.now.ok.0) in
+    let many : c.len-devices.result + 1 ≡ length c.args.sight.now.env.now.near.items + 1 =
+    omega (arith, c.len-devices.ensures) in
+    apply_evaluated c.requires many c.rows_of-rows.ensures at c.deref.ensures.value
+    c.in_ok-eval_kids.ensures c.apply_builtin.ensures
+
+pub eval_kids-returns-in_default : goal.eval_kids-returns-in_default
+eval_kids-returns-in_default t c = kids_none c.args.kids.now c.in_default.ensures.cases
+
+pub eval_kids-eval-requires : goal.eval_kids-eval-requires
+eval_kids-eval-requires t c =
+    let d = c.decreases in
+    let k = first_begins c.in-Some.ensures.cases.0 c.requires in
+    let w = k.0 in
+    let e = k.1 in
+    (omega (arith, d, w, e), k.2)
+
+pub eval_kids-node-requires : goal.eval_kids-node-requires
+eval_kids-node-requires t c = let k = first_begins c.in-Some.ensures.cases.0 c.requires in k.0
+
+pub eval_kids-fill_rows-requires : goal.eval_kids-fill_rows-requires
+eval_kids-fill_rows-requires t c =
+    let type = node_type _ c.requires.ready.formed c.node.ensures.node in
+    let at : c.len-at.result ≡ length c.args.words.now.items = omega (arith, c.len-at.ensures, c.args.words.now.ok.0) in
+    kid_ends c.in-Some.ensures.cases.0 c.requires c.in_ok-eval.ensures type at
+
+pub eval_kids-eval_kids-requires : goal.eval_kids-eval_kids-requires
+eval_kids-eval_kids-requires t c =
+    let d = c.decreases in
+    let k = first_begins c.in-Some.ensures.cases.0 c.requires in
+    let w = k.0 in
+    let e = k.1 in
+    let type = node_type _ c.requires.ready.formed c.node.ensures.node in
+    let at : c.len-at.result ≡ length c.args.words.now.items = omega (arith, c.len-at.ensures, c.args.words.now.ok.0) in
+    let r = rest_begins c.in-Some.ensures.cases.0 c.requires c.in_ok-eval.ensures type at c.in_ok-fill_rows.ensures in
+    let l = r.0 in
+    (omega (arith, d, w, e, l), r.1)
+
+pub eval_kids-returns : goal.eval_kids-returns
+eval_kids-returns t c =
+    let type = node_type _ c.requires.ready.formed c.node.ensures.node in
+    let at : c.len-at.result ≡ length c.args.words.now.items = omega (arith, c.len-at.ensures, c.args.words.now.ok.0) in
+    kids_more c.in-Some.ensures.cases.0 c.requires c.in_ok-eval.ensures type at c.in_ok-fill_rows.ensures
+    c.in_ok-eval_kids.ensures

@@ -4,7 +4,7 @@ use Rattle.fc_values.specs.Types.{leaves, local_type_of}
 use Rattle.fc_values.specs.Values.{local_of}
 use Rattle.alignment.specs.Hearing.{slot_entries}
 use Rattle.alignment.specs.Slots.{NearSlots}
-use Rattle.scope_columns.specs.References.{flat_of, near_of, nears_of}
+use Rattle.alignment.specs.References.{flat_of, near_of, nears_of}
 use Rattle.scope_columns.specs.Words.{leaf_word}
 use Rattle.scope_columns.proofs.ColumnParts.{forms_apart, forms_before, forms_behind, have_before, have_behind}
 use Rattle.scope_columns.proofs.ColumnParts.{parts_at, row_between}

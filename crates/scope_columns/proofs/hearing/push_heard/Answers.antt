@@ -3,7 +3,7 @@ use Rattle.fc_values.specs.Fields.{Entries}
 use Rattle.fc_values.specs.Types.{LocalType, leaves, local_type_of}
 use Rattle.fc_values.specs.Values.{local_of}
 use Rattle.alignment.specs.Hearing.{field_with}
-use Rattle.scope_columns.specs.References.{flat_of}
+use Rattle.alignment.specs.References.{flat_of}
 use Rattle.scope_columns.specs.Scopes.{devices_in}
 use Rattle.scope_columns.specs.Words.{values_in}
 use Rattle.scope_columns.proofs.HeardColumns.{Columns, no_columns, one_column, columns_added, columns_value}

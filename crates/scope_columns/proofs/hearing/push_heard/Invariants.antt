@@ -1,6 +1,6 @@
 use Rattle.fc_values.specs.Values.{local_of}
 use Rattle.alignment.specs.Hearing.{field_with}
-use Rattle.scope_columns.specs.References.{flat_of}
+use Rattle.alignment.specs.References.{flat_of}
 use Rattle.scope_columns.specs.Words.{values_in}
 use Rattle.scope_columns.proofs.HeardColumns.{Columns}
 use Rattle.scope_columns.proofs.hearing.push_heard.Given as goal

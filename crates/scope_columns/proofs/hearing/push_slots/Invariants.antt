@@ -2,7 +2,7 @@ use Rattle.std.proofs.Common.{◌≡◌, ◌++◌, drop}
 use Rattle.fc_values.specs.Types.{local_type_of}
 use Rattle.alignment.specs.Hearing.{slot_entries}
 use Rattle.alignment.specs.Slots.{NearHave}
-use Rattle.scope_columns.specs.References.{nears_of}
+use Rattle.alignment.specs.References.{nears_of}
 use Rattle.scope_columns.specs.Words.{AllForm, slot_column}
 use Rattle.scope_columns.proofs.hearing.push_slots.Given as goal
 

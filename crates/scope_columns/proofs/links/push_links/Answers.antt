@@ -1,5 +1,5 @@
 use Rattle.alignment.specs.Slots.{NearSlots}
-use Rattle.scope_columns.specs.References.{near_of, nears_of}
+use Rattle.alignment.specs.References.{near_of, nears_of}
 use Rattle.scope_columns.proofs.ColumnParts.{parts_at, row_between}
 use Rattle.scope_columns.proofs.OwnRow.{links_added, links_value}
 use Rattle.scope_columns.proofs.links.push_links.Goals as goal

@@ -1,5 +1,5 @@
 use Rattle.std.proofs.Common.{◌≡◌, ◌++◌, drop}
-use Rattle.scope_columns.specs.References.{nears_of}
+use Rattle.alignment.specs.References.{nears_of}
 use Rattle.scope_columns.specs.Words.{weights_of}
 use Rattle.scope_columns.proofs.links.push_weights.Given as goal
 

@@ -1,6 +1,6 @@
 use Rattle.std.proofs.Common.{◌≡◌, ◌+◌, drop}
 use Rattle.alignment.specs.Environments.{near_numbers}
-use Rattle.scope_columns.specs.References.{nears_of}
+use Rattle.alignment.specs.References.{nears_of}
 use Rattle.scope_columns.specs.Words.{row_of}
 use Rattle.scope_columns.proofs.scopes.own_row.Given as goal
 

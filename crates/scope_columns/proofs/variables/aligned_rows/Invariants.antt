@@ -1,5 +1,5 @@
 use Rattle.std.proofs.Common.{◌≡◌, ◌++◌, drop}
-use Rattle.scope_columns.specs.References.{numbers_in}
+use Rattle.alignment.specs.References.{numbers_in}
 use Rattle.scope_columns.specs.Scopes.{devices_in}
 use Rattle.scope_columns.specs.Words.{kept_rows, stays}
 use Rattle.scope_columns.proofs.variables.aligned_rows.Given as goal

@@ -1,5 +1,5 @@
 use Rattle.std.proofs.Common.{◌≡◌, ℕ, suc, ◌<◌, ◌-◌, length, get_or, refl, sym, ap, ◌∙◌, arith}
-use Rattle.scope_columns.specs.References.{numbers_in}
+use Rattle.alignment.specs.References.{numbers_in}
 use Rattle.scope_columns.specs.Scopes.{devices_in}
 use Rattle.scope_columns.proofs.ColumnParts.{parts_at}
 use Rattle.scope_columns.proofs.DeviceRows.{number_nth, device_before, device_there, device_behind}

@@ -1,7 +1,7 @@
 use Rattle.std.proofs.Common.{◌≡◌, drop}
 use Rattle.fc_values.specs.Fields.{is_in}
 use Rattle.alignment.specs.Environments.{near_numbers}
-use Rattle.scope_columns.specs.References.{nears_of}
+use Rattle.alignment.specs.References.{nears_of}
 use Rattle.scope_columns.proofs.variables.is_near.Given as goal
 
 abbrev pub invariant-loop-n : goal.invariant-loop-n

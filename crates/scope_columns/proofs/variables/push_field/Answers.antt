@@ -2,7 +2,7 @@ use Rattle.std.proofs.Common.{◌≡◌, ℕ, ◌+◌, ◌*◌, length, sym, ap,
 use Rattle.fc_values.specs.Types.{leaves, local_type_of}
 use Rattle.value_columns.specs.Columns.{row_in, word_in}
 use Rattle.value_columns.proofs.Standing.{leaves_below}
-use Rattle.scope_columns.specs.References.{numbers_in}
+use Rattle.alignment.specs.References.{numbers_in}
 use Rattle.scope_columns.specs.Scopes.{devices_in}
 use Rattle.scope_columns.specs.Words.{stays}
 use Rattle.scope_columns.proofs.DeviceRows.{rows_many}

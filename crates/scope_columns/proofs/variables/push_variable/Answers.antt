@@ -1,5 +1,5 @@
 use Rattle.std.proofs.Common.{length, arith}
-use Rattle.scope_columns.specs.References.{numbers_in}
+use Rattle.alignment.specs.References.{numbers_in}
 use Rattle.scope_columns.specs.Scopes.{devices_in}
 use Rattle.scope_columns.proofs.VariableSteps.{local_words, field_words, field_aligned, local_variable, field_variable}
 use Rattle.scope_columns.proofs.variables.push_variable.Goals as goal
