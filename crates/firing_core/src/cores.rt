@@ -146,6 +146,7 @@ impl Core {
         ensures core { IfOk result (λ c. core_of c ≡ core_of self.now) }
         ensures kept { IfOk result IsCore }
     {
+        let scratch = Scratch::new(alloc);
         let program = self.program.clone()?;
         let net = self.net.copy(alloc)?;
         let exports = share_exports(alloc, &self.exports)?;
@@ -155,7 +156,7 @@ impl Core {
             net,
             exports,
             flying,
-            scratch: Scratch::new(alloc),
+            scratch,
         })
     }
 

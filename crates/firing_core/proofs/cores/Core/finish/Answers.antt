@@ -35,8 +35,8 @@ returns-clause-accepted c =
     (flies _ c.self.invariant c.in-Some.place c.args.device c.in-Some.ensures.within c.in-Some.ensures.there c.index.result.now c.index.ensures c.in-Some.ensures.lives
     (ap is_some (some_read c.as_ref.result c.in-Some-as_ref.flight c.index.result.now c.as_ref.ensures.value c.in-Some-as_ref.is))).fault
 
-pub invariant_of-self : goal.invariant_of-self
-invariant_of-self c =
+pub invariant_of-self-2 : goal.invariant_of-self-2
+invariant_of-self-2 c =
     ended_kept _ c.self.invariant c.in-Some.place c.args.device c.in-Some.ensures.within c.in-Some.ensures.there c.in-Ok.export
     (subst (λ (U : Unfolding). IsExportOf U c.in-Ok.export) (ap unfolding_of c.deref.ensures) c.in-Ok.ensures.export)
 

@@ -22,7 +22,7 @@ module _ (c : After-open_slot-in-Ok-join) where
   none : join_fault (the_view c.self.inside).net (device_of c.args.device.now) ≡ None
   none = subst (λ y. join_fault (the_view c.self.inside).net y ≡ None) c.in-Ok.ensures c.in-Ok-join.ensures.accepted
 
-  rebuilt : the_view (record { program = c.self.inside.program; net = c.join.new.self; exports = c.open_slot.new.slots; flying = c.open_slot-in-Ok-join.new.slots })
+  rebuilt : the_view (record { program = c.self.inside.program; net = c.join.new.self; exports = c.open_slot.new.slots; flying = c.open_slot-in-Ok-join.new.slots; scratch = c.self.inside.scratch })
       ≡ with_joined (the_view c.self.inside) (device_of c.args.device.now) c.room-place.result
   rebuilt =
       rebuilt_core (the_view c.self.inside).program _ _ _ _ _ _
