@@ -1,5 +1,6 @@
 -- A builtin at a place of a program.
-use Rattle.std.proofs.Common.{◌≡◌, ℕ, suc, ◌<◌, ◌≤◌, ◌+◌, List, [], length, refl, sym, ◌∙◌, ap, subst, arith, Some, None, IsSome, get_or}
+use Rattle.std.proofs.Common.{◌≡◌, ℕ, suc, ◌<◌, ◌≤◌, ◌+◌, List, [], length, refl, sym, ◌∙◌, ap, subst, arith, Some}
+use Rattle.std.proofs.Common.{None, IsSome, get_or}
 use Rattle.fc_values.specs.declared.builtins.Builtin.{Builtin}
 use Rattle.fc_values.specs.Types.{ValueType, Declarations}
 use Rattle.fc_values.specs.Fields.{AnyValue}
@@ -8,7 +9,8 @@ use Rattle.fc_values.specs.Trees.{Trees, Keep, nth_tree}
 use Rattle.fc_values.specs.Exports.{SlotValue}
 use Rattle.fc_nodes.specs.declared.nodes.Node.{Node}
 use Rattle.fc_nodes.specs.Typing.{Scope}
-use Rattle.fc_nodes.specs.Terms.{Term, Terms, NoMore, More, Apply, OfApply, kept, kept_all, kept_before, size, AllLaid, places, term_at, terms_by}
+use Rattle.fc_nodes.specs.Terms.{Term, Terms, NoMore, More, Apply, OfApply, kept, kept_all, kept_before, size, AllLaid}
+use Rattle.fc_nodes.specs.Terms.{places, term_at, terms_by}
 use Rattle.fc_nodes.specs.Flat.{tree_at, trees_at, Marked, AllMarked}
 use Rattle.fc_nodes.proofs.Places.{AllAbove, formed_above}
 use Rattle.fc_nodes.proofs.Kids.{laid_term, SomeKids, apply_laid}
@@ -20,11 +22,11 @@ use Rattle.alignment.specs.Environments.{near_numbers}
 use Rattle.alignment.specs.Slots.{FlatEnv}
 use Rattle.device_eval.specs.Environments.{env_at, EnvFits}
 use Rattle.device_eval.specs.Walks.{Room, SameOut, Can, Did, DidAt, ReadyAt}
-use Rattle.device_eval.specs.Rows.{outcomes_at, row_trees, row_kept, Row, FitEach, MarkedEach, first_of, CanEach, DidEach, ReadyEach}
+use Rattle.device_eval.specs.Rows.{outcomes_at, row_trees, row_kept, Row, FitEach, MarkedEach, first_of, CanEach}
+use Rattle.device_eval.specs.Rows.{DidEach, ReadyEach}
 use Rattle.device_eval.specs.Places.{May, MayAll, MayAt, MayEach}
 use Rattle.device_eval.proofs.MaySteps.{may_apply, may_at}
 use Rattle.device_eval.proofs.Frames.{env_child, env_fits}
-use Rattle.device_eval.proofs.Steps.{some_on}
 use Rattle.device_eval.proofs.RowSteps.{rest_row}
 
 module _ (ns : List Node) (ab : AllAbove ns) where
@@ -36,7 +38,8 @@ module _ (ns : List Node) (ab : AllAbove ns) where
   kept_row NoMore q l = refl
   kept_row (More x xs) q l = let e = laid_term ns ab x q l.0 in let ih = kept_row xs (q + size x) l.1 in rw (e, ih) refl
 
-  trees_row : (xs : Terms) (q k : ℕ) (zs : List SlotValue) → AllLaid ns q xs → k ≡ kept_before ns q → row_trees ns (places q xs) zs ≡ trees_at xs k zs
+  trees_row : (xs : Terms) (q k : ℕ) (zs : List SlotValue) → AllLaid ns q xs → k ≡ kept_before ns q
+      → row_trees ns (places q xs) zs ≡ trees_at xs k zs
   trees_row NoMore q k zs l e = refl
   trees_row (More x xs) q k zs l e =
       let t = laid_term ns ab x q l.0 in
@@ -44,25 +47,34 @@ module _ (ns : List Node) (ab : AllAbove ns) where
       let ih = trees_row xs (q + size x) (k + kept x) zs l.1 (omega (arith, e, s)) in
       rw (t, ← e, ih) refl
 
-  marked_row : (xs : Terms) (q k : ℕ) (zs : List SlotValue) → AllLaid ns q xs → k ≡ kept_before ns q → MarkedEach ns (places q xs) zs → AllMarked xs k zs
+  marked_row : (xs : Terms) (q k : ℕ) (zs : List SlotValue) → AllLaid ns q xs → k ≡ kept_before ns q
+      → MarkedEach ns (places q xs) zs → AllMarked xs k zs
   marked_row NoMore q k zs l e m = tt
   marked_row (More x xs) q k zs l e m =
       let t = laid_term ns ab x q l.0 in
-      let s = kept_size ns x q (q + size x) l.0 refl in
-      (subst (λ j. Marked x j zs) (sym e) (subst (λ u. Marked u (kept_before ns q) zs) t m.0), marked_row xs (q + size x) (k + kept x) zs l.1 (omega (arith, e, s)) m.1)
+      let s = kept_size ns x q (q + size x) l.0 refl in (
+        subst (λ j. Marked x j zs) (sym e) (subst (λ u. Marked u (kept_before ns q) zs) t m.0),
+        marked_row xs (q + size x) (k + kept x) zs l.1 (omega (arith, e, s)) m.1,
+      )
 
   -- the kids from the i-th on
   module _ (S : Situation) (t : ValueType) (o : Builtin) (all : Terms) (k0 : ℕ) (vars : Vars) (env : FlatEnv) where
     abbrev pub From : ℕ → Terms → ℕ → Type 0
     From i xs k = (j : ℕ) (zs : List SlotValue) → nth_tree (i + j) (trees_at all k0 zs) ≡ nth_tree j (trees_at xs k zs)
 
-    from_here : (i : ℕ) (x : Term) (xs : Terms) (k : ℕ) → From i (More x xs) k → (zs : List SlotValue) → nth_tree i (trees_at all k0 zs) ≡ tree_at x k zs
-    from_here i x xs k f zs = let e : i ≡ i + 0 = omega arith in subst (λ n. nth_tree n (trees_at all k0 zs) ≡ tree_at x k zs) (sym e) (f 0 zs)
+    from_here : (i : ℕ) (x : Term) (xs : Terms) (k : ℕ) → From i (More x xs) k → (zs : List SlotValue)
+        → nth_tree i (trees_at all k0 zs) ≡ tree_at x k zs
+    from_here i x xs k f zs =
+        let e : i ≡ i + 0 = omega arith in subst (λ n. nth_tree n (trees_at all k0 zs) ≡ tree_at x k zs) (sym e)
+        (f 0 zs)
 
     from_rest : (i : ℕ) (x : Term) (xs : Terms) (k : ℕ) → From i (More x xs) k → From (suc i) xs (k + kept x)
-    from_rest i x xs k f j zs = let e : suc i + j ≡ i + suc j = omega arith in subst (λ n. nth_tree n (trees_at all k0 zs) ≡ nth_tree j (trees_at xs (k + kept x) zs)) (sym e) (f (suc j) zs)
+    from_rest i x xs k f j zs =
+        let e : suc i + j ≡ i + suc j = omega arith in
+        subst (λ n. nth_tree n (trees_at all k0 zs) ≡ nth_tree j (trees_at xs (k + kept x) zs)) (sym e) (f (suc j) zs)
 
-    all_is : (xs : Terms) (q i k : ℕ) → AllLaid ns q xs → k ≡ kept_before ns q → From i xs k → eval_all S q i xs vars (env_at (Apply t o all) k0 env) ≡ outcomes_at S ns (places q xs) vars env
+    all_is : (xs : Terms) (q i k : ℕ) → AllLaid ns q xs → k ≡ kept_before ns q → From i xs k
+        → eval_all S q i xs vars (env_at (Apply t o all) k0 env) ≡ outcomes_at S ns (places q xs) vars env
     all_is NoMore q i k l e f = refl
     all_is (More x xs) q i k l e f =
         let tx = laid_term ns ab x q l.0 in
@@ -71,37 +83,56 @@ module _ (ns : List Node) (ab : AllAbove ns) where
         let en = env_child i (Apply t o all) x k0 k (from_here i x xs k f) env in
         rw (en, ih, tx, ← e) refl
 
-    may_row : (D : Declarations) (scope : Scope) (xs : Terms) (q i k : ℕ) → AllLaid ns q xs → k ≡ kept_before ns q → From i xs k → MayAll D S scope q i xs (near_numbers env.near) vars (env_at (Apply t o all) k0 env) → MayEach D S ns scope (places q xs) vars env
+    may_row : (D : Declarations) (scope : Scope) (xs : Terms) (q i k : ℕ) → AllLaid ns q xs → k ≡ kept_before ns q
+        → From i xs k → MayAll D S scope q i xs (near_numbers env.near) vars (env_at (Apply t o all) k0 env)
+        → MayEach D S ns scope (places q xs) vars env
     may_row D scope NoMore q i k l e f m = tt
     may_row D scope (More x xs) q i k l e f m =
         let tx = laid_term ns ab x q l.0 in
         let s = kept_size ns x q (q + size x) l.0 refl in
-        let rest = may_row D scope xs (q + size x) (suc i) (k + kept x) l.1 (omega (arith, e, s)) (from_rest i x xs k f) m.1 in
+        let rest = may_row D scope xs (q + size x) (suc i) (k + kept x) l.1 (omega (arith, e, s)) (from_rest i x xs k f)
+        m.1 in
         let en = env_child i (Apply t o all) x k0 k (from_here i x xs k f) env in
         (may_at env refl (sym tx) e (subst (λ n. May D S scope q x (near_numbers env.near) vars n) en m.0), rest)
 
-  fit_row : (t : ValueType) (o : Builtin) (all : Terms) (k0 : ℕ) (env : FlatEnv) → EnvFits (Apply t o all) k0 env → (xs : Terms) (q k : ℕ) → AllLaid ns q xs → k ≡ kept_before ns q → k + kept_all xs ≤ k0 + kept_all all → ((zs : List SlotValue) → AllMarked all k0 zs → AllMarked xs k zs) → FitEach ns (places q xs) env
+  fit_row : (t : ValueType) (o : Builtin) (all : Terms) (k0 : ℕ) (env : FlatEnv) → EnvFits (Apply t o all) k0 env
+      → (xs : Terms) (q k : ℕ) → AllLaid ns q xs → k ≡ kept_before ns q → k + kept_all xs ≤ k0 + kept_all all
+      → ((zs : List SlotValue) → AllMarked all k0 zs → AllMarked xs k zs) → FitEach ns (places q xs) env
   fit_row t o all k0 env f NoMore q k l e i m = tt
   fit_row t o all k0 env f (More x xs) q k l e i m =
       let tx = laid_term ns ab x q l.0 in
       let s = kept_size ns x q (q + size x) l.0 refl in
       let here = env_fits (Apply t o all) x k0 k (λ zs h. (m zs h).0) (omega (arith, i)) env f in
-      let rest = fit_row t o all k0 env f xs (q + size x) (k + kept x) l.1 (omega (arith, e, s)) (omega (arith, i)) (λ zs h. (m zs h).1) in
+      let rest = fit_row t o all k0 env f xs (q + size x) (k + kept x) l.1 (omega (arith, e, s)) (omega (arith, i))
+      (λ zs h. (m zs h).1) in
       (rw (tx, ← e) here, rest)
 
-  room_row : (xs : Terms) (q k : ℕ) (zs : List SlotValue) → AllLaid ns q xs → k ≡ kept_before ns q → Room k (kept_all xs) zs → Room (kept_before ns (first_of (places q xs))) (row_kept ns (places q xs)) zs
-  room_row NoMore q k zs l e r = let z = kept_none ns in record { clear = record { clear = λ j a b. absurd (omega arith) }; within = omega (arith, z) }
+  room_row : (xs : Terms) (q k : ℕ) (zs : List SlotValue) → AllLaid ns q xs → k ≡ kept_before ns q
+      → Room k (kept_all xs) zs → Room (kept_before ns (first_of (places q xs))) (row_kept ns (places q xs)) zs
+  room_row NoMore q k zs l e r =
+      let z = kept_none ns in record {
+        clear = record { clear = λ j a b. absurd (omega arith) };
+        within = omega (arith, z);
+      }
   room_row (More x xs) q k zs l e r = let n = kept_row (More x xs) q l in rw (n, ← e) r
 
-  out_row : (xs : Terms) (q k : ℕ) (ys zs : List SlotValue) → AllLaid ns q xs → k ≡ kept_before ns q → SameOut (kept_before ns (first_of (places q xs))) (row_kept ns (places q xs)) ys zs → SameOut k (kept_all xs) ys zs
-  out_row NoMore q k ys zs l e s = let z = kept_none ns in record { long = s.long; before = λ j h. s.behind j (omega (arith, z)); behind = λ j h. s.behind j (omega (arith, z)) }
+  out_row : (xs : Terms) (q k : ℕ) (ys zs : List SlotValue) → AllLaid ns q xs → k ≡ kept_before ns q
+      → SameOut (kept_before ns (first_of (places q xs))) (row_kept ns (places q xs)) ys zs
+      → SameOut k (kept_all xs) ys zs
+  out_row NoMore q k ys zs l e s =
+      let z = kept_none ns in record {
+        long = s.long;
+        before = λ j h. s.behind j (omega (arith, z));
+        behind = λ j h. s.behind j (omega (arith, z));
+      }
   out_row (More x xs) q k ys zs l e s = let n = kept_row (More x xs) q l in rw (← n, e) s
 
 some_all : (os : Outcomes) (f : List AnyValue → Trees → Outcome) → IsSome (after_all os f) → IsSome os
 some_all None f h = absurd cc
 some_all (Some r) f h = refl
 
-module _ {S : Situation} {ns : List Node} {lay : LayoutValue} {p : ℕ} {o : Builtin} {t : ValueType} {ks : List ℕ} {vars : Vars} {env : FlatEnv} {xs : List SlotValue} (here : ReadyAt S ns lay p (OfApply o) t ks vars env xs) where
+module _ {S : Situation} {ns : List Node} {lay : LayoutValue} {p : ℕ} {o : Builtin} {t : ValueType} {ks : List ℕ}
+    {vars : Vars} {env : FlatEnv} {xs : List SlotValue} (here : ReadyAt S ns lay p (OfApply o) t ks vars env xs) where
   ab : AllAbove ns
   ab = formed_above ns here.ready.stands.formed
 
@@ -129,8 +160,12 @@ module _ {S : Situation} {ns : List Node} {lay : LayoutValue} {p : ℕ} {o : Bui
   slot_next : kept_before ns p ≡ kept_before ns (suc p)
   slot_next = let k = kept_step ns p _ _ _ here.node in omega (arith, k)
 
-  outcomes_are : eval_all S (suc p) 0 all vars (env_at (Apply t o all) (kept_before ns p) env) ≡ outcomes_at S ns ks vars env
-  outcomes_are = all_is ns ab S t o all (kept_before ns p) vars env all (suc p) 0 (kept_before ns p) kids_laid slot_next (λ j zs. let e : 0 + j ≡ j = omega arith in ap (λ n. nth_tree n (trees_at all (kept_before ns p) zs)) e) ∙ ap (λ qs. outcomes_at S ns qs vars env) (sym kids_are)
+  outcomes_are : eval_all S (suc p) 0 all vars (env_at (Apply t o all) (kept_before ns p) env)
+      ≡ outcomes_at S ns ks vars env
+  outcomes_are =
+      all_is ns ab S t o all (kept_before ns p) vars env all (suc p) 0 (kept_before ns p) kids_laid slot_next
+      (λ j zs. let e : 0 + j ≡ j = omega arith in ap (λ n. nth_tree n (trees_at all (kept_before ns p) zs)) e)
+      ∙ ap (λ qs. outcomes_at S ns qs vars env) (sym kids_are)
 
   can_each : CanEach S ns ks vars env xs
   can_each =
@@ -138,35 +173,47 @@ module _ {S : Situation} {ns : List Node} {lay : LayoutValue} {p : ℕ} {o : Bui
       let runs : IsSome (outcomes_at S ns ks vars env) = rw (← outcomes_are) (some_all _ _ can'.runs) in
       subst (λ qs. CanEach S ns qs vars env xs) (sym kids_are) (record {
         row = rest_row ns (suc p) (places (suc p) all) (row_of ns ab all (suc p) kids_laid);
-        fits = fit_row ns ab t o all (kept_before ns p) env can'.fits all (suc p) (kept_before ns p) kids_laid slot_next (omega arith) (λ zs m. m);
+        fits =
+            fit_row ns ab t o all (kept_before ns p) env can'.fits all (suc p) (kept_before ns p) kids_laid slot_next
+            (omega arith) (λ zs m. m);
         room = room_row ns ab all (suc p) (kept_before ns p) xs kids_laid slot_next can'.room;
         runs = subst (λ qs. IsSome (outcomes_at S ns qs vars env)) kids_are runs;
       })
 
-  pub apply_may_each : {D : Declarations} {scope : Scope} → MayAt D S ns scope p vars env → {qs : List ℕ} → qs ≡ ks → MayEach D S ns scope qs vars env
+  pub apply_may_each : {D : Declarations} {scope : Scope} → MayAt D S ns scope p vars env → {qs : List ℕ} → qs ≡ ks
+      → MayEach D S ns scope qs vars env
   apply_may_each {D} {scope} may {qs} e =
-      let here' : May D S scope p (Apply t o all) (near_numbers env.near) vars (env_at (Apply t o all) (kept_before ns p) env) = subst (λ u. May D S scope p u (near_numbers env.near) vars (env_at u (kept_before ns p) env)) term_is may in
-      let each = may_row ns ab S t o all (kept_before ns p) vars env D scope all (suc p) 0 (kept_before ns p) kids_laid slot_next (λ j zs. let e' : 0 + j ≡ j = omega arith in ap (λ n. nth_tree n (trees_at all (kept_before ns p) zs)) e') (may_apply here') in
+      let here' : May D S scope p (Apply t o all) (near_numbers env.near) vars
+      (env_at (Apply t o all) (kept_before ns p) env) = subst
+      (λ u. May D S scope p u (near_numbers env.near) vars (env_at u (kept_before ns p) env)) term_is may in
+      let each = may_row ns ab S t o all (kept_before ns p) vars env D scope all (suc p) 0 (kept_before ns p) kids_laid
+      slot_next (λ j zs. let e' : 0 + j ≡ j = omega arith in ap
+      (λ n. nth_tree n (trees_at all (kept_before ns p) zs)) e') (may_apply here') in
       subst (λ js. MayEach D S ns scope js vars env) (sym (e ∙ kids_are)) each
 
   pub apply_can : {qs : List ℕ} → qs ≡ ks → ReadyEach S ns lay qs vars env xs
-  apply_can {qs} e = record { can = subst (λ js. CanEach S ns js vars env xs) (sym e) can_each; layout = here.ready.stands.layout; formed = here.ready.stands.formed }
+  apply_can {qs} e =
+      record {
+        can = subst (λ js. CanEach S ns js vars env xs) (sym e) can_each;
+        layout = here.ready.stands.layout;
+        formed = here.ready.stands.formed;
+      }
 
   module _ {vs : List AnyValue} {ys : List SlotValue} (did : DidEach S ns ks vars env xs [] vs ys) where
     values_are : vs ≡ did.vs
     values_are = did.added
 
-    apply_gives : eval_of S p (Apply t o all) vars (env_at (Apply t o all) (kept_before ns p) env) ≡ on_some (builtin_value o S.ceiling S.device vs) (λ v. Some (v, Keep None (row_trees ns ks ys)))
+    apply_gives : eval_of S p (Apply t o all) vars (env_at (Apply t o all) (kept_before ns p) env)
+        ≡ on_some (builtin_value o S.ceiling S.device vs) (λ v. Some (v, Keep None (row_trees ns ks ys)))
     apply_gives = let g = did.gives in let v = values_are in rw (outcomes_are, g, ← v) refl
-
-    pub apply_may : IsSome (builtin_value o S.ceiling S.device vs)
-    apply_may = let can' = can_a in some_on _ _ (rw apply_gives at can'.runs)
 
     pub apply_done : {v : AnyValue} → builtin_value o S.ceiling S.device vs ≡ Some v → DidAt S ns p vars env xs v ys
     apply_done {v} e =
-        let tr : row_trees ns ks ys ≡ trees_at all (kept_before ns p) ys = ap (λ qs. row_trees ns qs ys) kids_are ∙ trees_row ns ab all (suc p) (kept_before ns p) ys kids_laid slot_next in
+        let tr : row_trees ns ks ys ≡ trees_at all (kept_before ns p) ys = ap (λ qs. row_trees ns qs ys) kids_are
+        ∙ trees_row ns ab all (suc p) (kept_before ns p) ys kids_laid slot_next in
         let m : MarkedEach ns (places (suc p) all) ys = subst (λ qs. MarkedEach ns qs ys) kids_are did.marked in
-        let u : SameOut (kept_before ns (first_of (places (suc p) all))) (row_kept ns (places (suc p) all)) xs ys = subst (λ qs. SameOut (kept_before ns (first_of qs)) (row_kept ns qs) xs ys) kids_are did.out in
+        let u : SameOut (kept_before ns (first_of (places (suc p) all))) (row_kept ns (places (suc p) all)) xs
+        ys = subst (λ qs. SameOut (kept_before ns (first_of qs)) (row_kept ns qs) xs ys) kids_are did.out in
         let d : Did S p (Apply t o all) (kept_before ns p) vars env xs v ys = record {
           gives = apply_gives ∙ rw (e, tr) refl;
           marked = marked_row ns ab all (suc p) (kept_before ns p) ys kids_laid slot_next m;
@@ -181,6 +228,3 @@ module _ {S : Situation} {ns : List Node} {lay : LayoutValue} {p : ℕ} {o : Bui
 
   pub apply_later : {qs : List ℕ} → qs ≡ ks → p < get_or qs 0 (length ns)
   apply_later e = subst (λ qs. p < get_or qs 0 (length ns)) (sym (e ∙ kids_are)) (later_of all)
-
-pub each_as : {S : Situation} {ns : List Node} {ks ks' : List ℕ} {vars : Vars} {env : FlatEnv} {xs : List SlotValue} {old old' new : List AnyValue} {ys : List SlotValue} → ks ≡ ks' → old ≡ old' → DidEach S ns ks vars env xs old new ys → DidEach S ns ks' vars env xs old' new ys
-each_as {S} {ns} {ks} {ks'} {vars} {env} {xs} {old} {old'} {new} {ys} e f d = subst (λ qs. DidEach S ns qs vars env xs old' new ys) e (subst (λ o. DidEach S ns ks vars env xs o new ys) f d)

@@ -1,6 +1,6 @@
 //! The evaluation of a program's nodes on a stack of words: the value of a node is added behind the words.
 
-ghost use Rattle.std.specs.Prelude.{◌≡◌, ◌<◌, ◌≤◌, IfOk, OnOk, IsSome, Some, length, map, min, slice_get, slice_index, take};
+ghost use Rattle.std.specs.Prelude.{◌≡◌, ◌≤◌, IsSome, OnOk, Some, length, map, min, slice_get, slice_index};
 ghost use Rattle.fc_values.specs.Values.{local_of};
 ghost use Rattle.fc_nodes.specs.Terms.{OfApply, OfNbr, OfEvolve, ByRep, ByShare, OfIf, OfLet};
 ghost use Rattle.device_eval.specs.Evaluation.{pick};

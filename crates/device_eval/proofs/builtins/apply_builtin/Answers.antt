@@ -88,7 +88,8 @@ operate-requires-clause-types c =
     let ts = kid_types c.args.program.now.nodes c.args.node.now.kids.items in
     let plain = is_plain c.args.builtin d.not-SumHood d.not-AnyHood d.not-AllHood d.not-MinHoodLoc d.not-MaxHoodLoc in
     rw c.deref.ensures.value (operator_takes c.args.builtin ts (type_of c.args.node.now.ty) c.requires.rule plain
-    c.args.devices c.rows_of-rows.result c.rows_of-rows.ensures (local_type_of c.inner-ty.result.now) c.inner-ty.ensures)
+    c.args.devices c.rows_of-rows.result c.rows_of-rows.ensures (local_type_of c.inner-ty.result.now)
+    c.inner-ty.ensures)
 
 pub operate-requires-clause-kids : goal.operate-requires-clause-kids
 operate-requires-clause-kids c = rw c.deref.ensures.value c.requires.kids

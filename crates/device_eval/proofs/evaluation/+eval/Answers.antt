@@ -1,7 +1,6 @@
-use Rattle.std.proofs.Common.{◌≡◌, ◌∙◌, ◌+◌, ℕ, List, length, arith, ap, sym, refl, get_or, false, true, not, nat_eq}
+use Rattle.std.proofs.Common.{◌≡◌, ◌∙◌, ◌+◌, length, arith, sym, refl, false, true}
 use Rattle.fc_values.proofs.SlotReads.{slots_long}
-use Rattle.device_eval.specs.Evaluation.{pick}
-use Rattle.device_eval.proofs.Steps.{ready_at, kid_is}
+use Rattle.device_eval.proofs.Steps.{ready_at}
 use Rattle.device_eval.proofs.LeafAt.{sense_there}
 use Rattle.device_eval.proofs.LetAt.{let_kids, let_value, let_may_value}
 use Rattle.device_eval.proofs.NbrAt.{one, nbr_kid, nbr_may, nbr_near}
@@ -10,10 +9,17 @@ use Rattle.device_eval.proofs.IfAt.{if_kids, if_own, if_near, if_condition, if_m
 use Rattle.device_eval.proofs.MaySteps.{node_type}
 use Rattle.scope_columns.proofs.ScopeSteps.{bound_type}
 use Rattle.device_eval.proofs.ReadySteps.{ready_as}
-use Rattle.device_eval.proofs.LeafSteps.{literal_evaluated, sense_evaluated, uid_evaluated, links_evaluated, variable_evaluated, variable_has, variables_aligned}
-use Rattle.device_eval.proofs.KindSteps.{node_here, begin_body, body_done, heads_at}
-use Rattle.device_eval.proofs.NodeSteps.{nbr_within, nbr_room, nbr_forms, nbr_evaluated, first_within, let_ready, let_allowed, let_evaluated, branch_begins, branch_allowed, branch_vars, branch_below, if_room, if_evaluated, truth_within, rep_added, share_added, share_forms, start_ready, start_allowed, start_over, body_within, evolve_room, evolve_evaluated}
-use Rattle.device_eval.proofs.ApplySteps.{apply_begins, apply_rule, apply_within, apply_own, apply_long, apply_evaluated}
+use Rattle.device_eval.proofs.LeafSteps.{literal_evaluated, sense_evaluated, uid_evaluated, links_evaluated}
+use Rattle.device_eval.proofs.LeafSteps.{variable_evaluated, variable_has, variables_aligned}
+use Rattle.device_eval.proofs.KindSteps.{node_here, kid_behind, begin_body, body_done, heads_at}
+use Rattle.device_eval.proofs.NodeSteps.{nbr_within, nbr_room, nbr_forms, nbr_evaluated, first_within, let_ready}
+use Rattle.device_eval.proofs.NodeSteps.{let_allowed, let_evaluated, branch_begins, branch_allowed, branch_vars}
+use Rattle.device_eval.proofs.NodeSteps.{branch_below, if_room, if_evaluated, truth_within, truth_read, rep_added}
+use Rattle.device_eval.proofs.NodeSteps.{share_added}
+use Rattle.device_eval.proofs.NodeSteps.{share_forms, start_ready, start_allowed, start_over, body_within}
+use Rattle.device_eval.proofs.NodeSteps.{evolve_room, evolve_evaluated}
+use Rattle.device_eval.proofs.ApplySteps.{apply_begins, apply_rule, apply_within, apply_own, apply_long}
+use Rattle.device_eval.proofs.ApplySteps.{apply_evaluated}
 use Rattle.device_eval.proofs.ColumnSteps.{kids_none, first_begins, kid_ends, rest_begins, kids_more}
 use Rattle.device_eval.proofs.evaluation.+eval.Goals as goal
 
@@ -38,15 +44,18 @@ eval-returns-in_ok-push_variable-in-Var t c =
 
 pub eval-returns-in_ok-push_value-in-Sense : goal.eval-returns-in_ok-push_value-in-Sense
 eval-returns-in_ok-push_value-in-Sense t c =
-    sense_evaluated c.requires (rw c.in-Sense.is at c.node-node.ensures.node) c.input_at.ensures c.in_ok-push_value-in-Sense.ensures.added
+    sense_evaluated c.requires (rw c.in-Sense.is at c.node-node.ensures.node) c.input_at.ensures
+    c.in_ok-push_value-in-Sense.ensures.added
 
 pub eval-returns-in_ok-push-in-Uid : goal.eval-returns-in_ok-push-in-Uid
 eval-returns-in_ok-push-in-Uid t c =
-    uid_evaluated c.requires (rw c.in-Uid.is at c.node-node.ensures.node) c.uid.ensures c.in_ok-push-in-Uid.ensures.items
+    uid_evaluated c.requires (rw c.in-Uid.is at c.node-node.ensures.node) c.uid.ensures
+    c.in_ok-push-in-Uid.ensures.items
 
 pub eval-returns-in_ok-push_links-in-NbrLink : goal.eval-returns-in_ok-push_links-in-NbrLink
 eval-returns-in_ok-push_links-in-NbrLink t c =
-    links_evaluated c.requires (rw c.in-NbrLink.is at c.node-node.ensures.node) c.in_ok-push_links-in-NbrLink.ensures.added
+    links_evaluated c.requires (rw c.in-NbrLink.is at c.node-node.ensures.node)
+    c.in_ok-push_links-in-NbrLink.ensures.added
     (rw c.least_weight-least.ensures at c.in_ok-push_links-in-NbrLink.ensures.value)
 
 pub eval-eval_nbr-requires : goal.eval-eval_nbr-requires
@@ -85,8 +94,14 @@ eval_let-eval-requires t c =
     let d = c.decreases in
     let r = let_value (node_here c.requires) c.index-start.ensures in
     let m = r.0 in
-    let w = c.requires.here.ready.stands.within in
-    (omega (arith, d, m, w), record { ready = r.2; may = let_may_value (node_here c.requires) c.requires.here.may c.index-start.ensures; sees = c.requires.here.sees })
+    let w = c.requires.here.ready.stands.within in (
+      omega (arith, d, m, w),
+      record {
+        ready = r.2;
+        may = let_may_value (node_here c.requires) c.requires.here.may c.index-start.ensures;
+        sees = c.requires.here.sees;
+      },
+    )
 
 pub eval_let-node-bound-requires : goal.eval_let-node-bound-requires
 eval_let-node-bound-requires t c =
@@ -110,8 +125,10 @@ eval_let-eval_body-requires t c =
     let l = c.in_ok-eval.ensures.added.long in (
       omega (arith, d, m, w),
       (
-        begin_body _ _ r.2 (let_allowed c.requires c.index-start.ensures c.index-next.ensures c.in_ok-eval.ensures) c.requires.here.sees c.in_ok-eval.ensures.added
-            (bound_type c.is_field.ensures c.inner.ensures ∙ sym type) place refl refl (λ b o. (b, o)) c.requires.here.sees.own,
+        begin_body _ _ r.2 (let_allowed c.requires c.index-start.ensures c.index-next.ensures c.in_ok-eval.ensures)
+            c.requires.here.sees c.in_ok-eval.ensures.added
+            (bound_type c.is_field.ensures c.inner.ensures ∙ sym type) place refl refl (λ b o. (b, o))
+            c.requires.here.sees.own,
         omega (arith, l, place),
       ),
     )
@@ -119,8 +136,10 @@ eval_let-eval_body-requires t c =
 pub eval_let-returns : goal.eval_let-returns
 eval_let-returns t c =
     let place = c.len-at.ensures ∙ c.args.words.now.ok.0 in
-    let type = bound_type c.is_field.ensures c.inner.ensures ∙ sym (node_type _ c.requires.here.ready.stands.formed c.node-bound.ensures.node) in
-    let_evaluated c.requires c.index-start.ensures c.index-next.ensures c.in_ok-eval.ensures place c.in_ok-eval_body.ensures (heads_at _ _ type place) refl refl
+    let type = bound_type c.is_field.ensures c.inner.ensures
+    ∙ sym (node_type _ c.requires.here.ready.stands.formed c.node-bound.ensures.node) in
+    let_evaluated c.requires c.index-start.ensures c.index-next.ensures c.in_ok-eval.ensures place
+    c.in_ok-eval_body.ensures (heads_at _ _ type place) refl refl
 
 pub eval_body-returns : goal.eval_body-returns
 eval_body-returns t c =
@@ -138,8 +157,14 @@ eval_nbr-eval-requires t c =
     let d = c.decreases in
     let r = nbr_kid (node_here c.requires) c.index.ensures in
     let m = r.0 in
-    let w = c.requires.here.ready.stands.within in
-    (omega (arith, d, m, w), record { ready = r.2; may = nbr_may (node_here c.requires) c.requires.here.may c.index.ensures; sees = c.requires.here.sees })
+    let w = c.requires.here.ready.stands.within in (
+      omega (arith, d, m, w),
+      record {
+        ready = r.2;
+        may = nbr_may (node_here c.requires) c.requires.here.may c.index.ensures;
+        sees = c.requires.here.sees;
+      },
+    )
 
 pub eval_nbr-value_at-requires-clause-within : goal.eval_nbr-value_at-requires-clause-within
 eval_nbr-value_at-requires-clause-within t c =
@@ -153,17 +178,21 @@ eval_nbr-push_heard-requires-clause-near t c =
 pub eval_nbr-push_heard-requires-clause-forms : goal.eval_nbr-push_heard-requires-clause-forms
 eval_nbr-push_heard-requires-clause-forms t c =
     let place = c.len-at.ensures ∙ c.args.words.now.ok.0 in
-    nbr_forms c.requires c.index.ensures c.in_ok-eval.ensures c.inner-ty.ensures place (rw c.deref.ensures.value at c.in_ok-own.ensures) c.slot_of-slot.ensures
+    nbr_forms c.requires c.index.ensures c.in_ok-eval.ensures c.inner-ty.ensures place
+    (rw c.deref.ensures.value at c.in_ok-own.ensures) c.slot_of-slot.ensures
 
 pub eval_nbr-put-requires : goal.eval_nbr-put-requires
 eval_nbr-put-requires t c =
     let place = c.len-at.ensures ∙ c.args.words.now.ok.0 in
-    slots_long c.eval.new.draft c.slot_of-slot.result (nbr_room c.requires c.index.ensures c.in_ok-eval.ensures c.inner-ty.ensures place (rw c.deref.ensures.value at c.in_ok-own.ensures) c.slot_of-slot.ensures)
+    slots_long c.eval.new.draft c.slot_of-slot.result
+    (nbr_room c.requires c.index.ensures c.in_ok-eval.ensures c.inner-ty.ensures place
+    (rw c.deref.ensures.value at c.in_ok-own.ensures) c.slot_of-slot.ensures)
 
 pub eval_nbr-returns : goal.eval_nbr-returns
 eval_nbr-returns t c =
     let place = c.len-at.ensures ∙ c.args.words.now.ok.0 in
-    nbr_evaluated c.requires c.index.ensures c.in_ok-eval.ensures c.inner-ty.ensures place (rw c.deref.ensures.value at c.in_ok-own.ensures) c.slot_of-slot.ensures
+    nbr_evaluated c.requires c.index.ensures c.in_ok-eval.ensures c.inner-ty.ensures place
+    (rw c.deref.ensures.value at c.in_ok-own.ensures) c.slot_of-slot.ensures
     c.truncate.ensures.items c.in_ok-push_heard.ensures.added c.in_ok-push_heard.ensures.value c.put.ensures
 
 pub eval_if-index-requires : goal.eval_if-index-requires
@@ -177,8 +206,14 @@ eval_if-eval-requires t c =
     let d = c.decreases in
     let r = if_condition (node_here c.requires) c.index.ensures in
     let m = r.0 in
-    let w = c.requires.here.ready.stands.within in
-    (omega (arith, d, m, w), record { ready = r.2; may = if_may_condition (node_here c.requires) c.requires.here.may c.index.ensures; sees = c.requires.here.sees })
+    let w = c.requires.here.ready.stands.within in (
+      omega (arith, d, m, w),
+      record {
+        ready = r.2;
+        may = if_may_condition (node_here c.requires) c.requires.here.may c.index.ensures;
+        sees = c.requires.here.sees;
+      },
+    )
 
 pub eval_if-same_branch-requires-clause-own : goal.eval_if-same_branch-requires-clause-own
 eval_if-same_branch-requires-clause-own t c =
@@ -204,30 +239,37 @@ pub eval_if-eval-requires-2 : goal.eval_if-eval-requires-2
 eval_if-eval-requires-2 t c =
     let place = c.len-at.ensures ∙ c.args.words.now.ok.0 in
     let d = c.decreases in
-    let truth = ap (λ w. not (nat_eq w 0)) (kid_is c.eval.new.words.items c.len-at.result c.index-2.result.now c.index-2.ensures (truth_within c.requires c.index.ensures c.in_ok-eval.ensures place)) in
-    let kid = c.branch_of-kid.ensures ∙ ap (λ (xs : List ℕ). get_or xs (pick (not (nat_eq c.index-2.result.now 0)) 1 2) 0) c.deref.ensures.value in
-    let r = branch_begins c.requires c.index.ensures c.in_ok-eval.ensures place truth c.slot_of-slot.ensures c.truncate.ensures.items c.in_ok-branch.ensures kid in
+    let truth = truth_read c.requires c.index.ensures c.in_ok-eval.ensures place c.index-2.ensures in
+    let kid = kid_behind _ c.branch_of-kid.ensures c.deref.ensures.value in
+    let r = branch_begins c.requires c.index.ensures c.in_ok-eval.ensures place truth c.slot_of-slot.ensures
+    c.truncate.ensures.items c.in_ok-branch.ensures kid in
     let m = r.0 in
     let w = c.requires.here.ready.stands.within in (
       omega (arith, d, m, w),
-      ready_as r.2 (branch_allowed c.requires c.index.ensures c.in_ok-eval.ensures place truth c.slot_of-slot.ensures c.truncate.ensures.items c.in_ok-branch.ensures kid)
-          (branch_vars c.requires c.index.ensures c.in_ok-eval.ensures place truth c.slot_of-slot.ensures c.truncate.ensures.items c.in_ok-branch.ensures kid) refl
-          (branch_below c.requires c.index.ensures c.in_ok-eval.ensures place truth c.slot_of-slot.ensures c.truncate.ensures.items c.in_ok-branch.ensures kid) c.own_row.ensures,
+      ready_as r.2 (branch_allowed c.requires c.index.ensures c.in_ok-eval.ensures place truth c.slot_of-slot.ensures
+          c.truncate.ensures.items c.in_ok-branch.ensures kid)
+          (branch_vars c.requires c.index.ensures c.in_ok-eval.ensures place truth c.slot_of-slot.ensures
+          c.truncate.ensures.items c.in_ok-branch.ensures kid) refl
+          (branch_below c.requires c.index.ensures c.in_ok-eval.ensures place truth c.slot_of-slot.ensures
+          c.truncate.ensures.items c.in_ok-branch.ensures kid) c.own_row.ensures,
     )
 
 pub eval_if-put-requires : goal.eval_if-put-requires
 eval_if-put-requires t c =
     let place = c.len-at.ensures ∙ c.args.words.now.ok.0 in
-    let truth = ap (λ w. not (nat_eq w 0)) (kid_is c.eval.new.words.items c.len-at.result c.index-2.result.now c.index-2.ensures (truth_within c.requires c.index.ensures c.in_ok-eval.ensures place)) in
-    let kid = c.branch_of-kid.ensures ∙ ap (λ (xs : List ℕ). get_or xs (pick (not (nat_eq c.index-2.result.now 0)) 1 2) 0) c.deref.ensures.value in
-    slots_long c.eval-2.new.draft c.slot_of-slot.result (if_room c.requires c.index.ensures c.in_ok-eval.ensures place truth c.slot_of-slot.ensures c.truncate.ensures.items c.in_ok-branch.ensures kid c.in_ok-eval-2.ensures refl refl)
+    let truth = truth_read c.requires c.index.ensures c.in_ok-eval.ensures place c.index-2.ensures in
+    let kid = kid_behind _ c.branch_of-kid.ensures c.deref.ensures.value in
+    slots_long c.eval-2.new.draft c.slot_of-slot.result
+    (if_room c.requires c.index.ensures c.in_ok-eval.ensures place truth c.slot_of-slot.ensures c.truncate.ensures.items
+    c.in_ok-branch.ensures kid c.in_ok-eval-2.ensures refl refl)
 
 pub eval_if-returns : goal.eval_if-returns
 eval_if-returns t c =
     let place = c.len-at.ensures ∙ c.args.words.now.ok.0 in
-    let truth = ap (λ w. not (nat_eq w 0)) (kid_is c.eval.new.words.items c.len-at.result c.index-2.result.now c.index-2.ensures (truth_within c.requires c.index.ensures c.in_ok-eval.ensures place)) in
-    let kid = c.branch_of-kid.ensures ∙ ap (λ (xs : List ℕ). get_or xs (pick (not (nat_eq c.index-2.result.now 0)) 1 2) 0) c.deref.ensures.value in
-    if_evaluated c.requires c.index.ensures c.in_ok-eval.ensures place truth c.slot_of-slot.ensures c.truncate.ensures.items c.in_ok-branch.ensures kid c.in_ok-eval-2.ensures refl refl c.put.ensures
+    let truth = truth_read c.requires c.index.ensures c.in_ok-eval.ensures place c.index-2.ensures in
+    let kid = kid_behind _ c.branch_of-kid.ensures c.deref.ensures.value in
+    if_evaluated c.requires c.index.ensures c.in_ok-eval.ensures place truth c.slot_of-slot.ensures
+    c.truncate.ensures.items c.in_ok-branch.ensures kid c.in_ok-eval-2.ensures refl refl c.put.ensures
 
 pub eval_rep-index-start-requires : goal.eval_rep-index-start-requires
 eval_rep-index-start-requires t c =
@@ -246,13 +288,20 @@ eval_rep-eval-requires t c =
     let d = c.decreases in
     let r = evolve_a (node_here c.requires) c.index-start.ensures in
     let m = r.0 in
-    let w = c.requires.here.ready.stands.within in
-    (omega (arith, d, m, w), record { ready = r.2; may = evolve_may_first (node_here c.requires) c.requires.here.may c.index-start.ensures; sees = c.requires.here.sees })
+    let w = c.requires.here.ready.stands.within in (
+      omega (arith, d, m, w),
+      record {
+        ready = r.2;
+        may = evolve_may_first (node_here c.requires) c.requires.here.may c.index-start.ensures;
+        sees = c.requires.here.sees;
+      },
+    )
 
 pub eval_rep-value_at-requires-clause-within : goal.eval_rep-value_at-requires-clause-within
 eval_rep-value_at-requires-clause-within t c =
     let place = c.len-at.ensures ∙ c.args.words.now.ok.0 in
-    rw c.deref.ensures.value (first_within c.requires c.index-start.ensures c.index-next.ensures c.in_ok-eval.ensures c.inner-ty.ensures place)
+    rw c.deref.ensures.value (first_within c.requires c.index-start.ensures c.index-next.ensures c.in_ok-eval.ensures
+    c.inner-ty.ensures place)
 
 pub eval_rep-own_or-requires : goal.eval_rep-own_or-requires
 eval_rep-own_or-requires t c =
@@ -275,8 +324,16 @@ eval_rep-eval_body-requires t c =
     let m = s.0 in
     let w = r.here.ready.stands.within in
     let o = start_over r e e' done type place first number cut a.0 a.1 in
-    let l = o.long in
-    (omega (arith, d, m, w), (begin_body false _ s.2 (start_allowed r e e' done type place first number cut a.0 a.1) r.here.sees (start_over r e e' done type place first number cut a.0 a.1) refl place refl refl (λ b o. (b, o)) r.here.sees.own, omega (arith, l, place)))
+    let l = o.long in (
+      omega (arith, d, m, w),
+      (
+        begin_body false _ s.2 (start_allowed r e e' done type place first number cut a.0 a.1)
+            r.here.sees (start_over r e e' done type place first number cut a.0 a.1) refl place refl refl
+            (λ b o. (b, o))
+            r.here.sees.own,
+        omega (arith, l, place),
+      ),
+    )
 
 pub eval_rep-value_at-requires-2-clause-within : goal.eval_rep-value_at-requires-2-clause-within
 eval_rep-value_at-requires-2-clause-within t c =
@@ -290,7 +347,8 @@ eval_rep-value_at-requires-2-clause-within t c =
     let number = c.slot_of-slot.ensures in
     let cut = c.truncate.ensures.items in
     let a = rep_added r e e' done type place first number c.own_or.ensures c.in_ok-push_value.ensures.added in
-    rw c.deref-2.ensures.value (body_within r e e' done type place first number cut a.0 a.1 c.in_ok-eval_body.ensures refl refl refl)
+    rw c.deref-2.ensures.value (body_within r e e' done type place first number cut a.0 a.1 c.in_ok-eval_body.ensures
+    refl refl refl)
 
 pub eval_rep-put-requires : goal.eval_rep-put-requires
 eval_rep-put-requires t c =
@@ -304,7 +362,9 @@ eval_rep-put-requires t c =
     let number = c.slot_of-slot.ensures in
     let cut = c.truncate.ensures.items in
     let a = rep_added r e e' done type place first number c.own_or.ensures c.in_ok-push_value.ensures.added in
-    slots_long c.eval_body.new.draft c.slot_of-slot.result (evolve_room r e e' done type place first number cut a.0 a.1 c.in_ok-eval_body.ensures refl refl refl (rw c.deref-2.ensures.value at c.in_ok-kept.ensures))
+    slots_long c.eval_body.new.draft c.slot_of-slot.result
+    (evolve_room r e e' done type place first number cut a.0 a.1 c.in_ok-eval_body.ensures refl refl refl
+    (rw c.deref-2.ensures.value at c.in_ok-kept.ensures))
 
 pub eval_rep-returns : goal.eval_rep-returns
 eval_rep-returns t c =
@@ -318,7 +378,8 @@ eval_rep-returns t c =
     let number = c.slot_of-slot.ensures in
     let cut = c.truncate.ensures.items in
     let a = rep_added r e e' done type place first number c.own_or.ensures c.in_ok-push_value.ensures.added in
-    evolve_evaluated r e e' done type place first number cut a.0 a.1 c.in_ok-eval_body.ensures refl refl refl (rw c.deref-2.ensures.value at c.in_ok-kept.ensures) c.put.ensures
+    evolve_evaluated r e e' done type place first number cut a.0 a.1 c.in_ok-eval_body.ensures refl refl refl
+    (rw c.deref-2.ensures.value at c.in_ok-kept.ensures) c.put.ensures
 
 pub eval_share-index-start-requires : goal.eval_share-index-start-requires
 eval_share-index-start-requires t c =
@@ -337,13 +398,20 @@ eval_share-eval-requires t c =
     let d = c.decreases in
     let r = evolve_a (node_here c.requires) c.index-start.ensures in
     let m = r.0 in
-    let w = c.requires.here.ready.stands.within in
-    (omega (arith, d, m, w), record { ready = r.2; may = evolve_may_first (node_here c.requires) c.requires.here.may c.index-start.ensures; sees = c.requires.here.sees })
+    let w = c.requires.here.ready.stands.within in (
+      omega (arith, d, m, w),
+      record {
+        ready = r.2;
+        may = evolve_may_first (node_here c.requires) c.requires.here.may c.index-start.ensures;
+        sees = c.requires.here.sees;
+      },
+    )
 
 pub eval_share-value_at-requires-clause-within : goal.eval_share-value_at-requires-clause-within
 eval_share-value_at-requires-clause-within t c =
     let place = c.len-at.ensures ∙ c.args.words.now.ok.0 in
-    rw c.deref.ensures.value (first_within c.requires c.index-start.ensures c.index-next.ensures c.in_ok-eval.ensures c.inner-ty.ensures place)
+    rw c.deref.ensures.value (first_within c.requires c.index-start.ensures c.index-next.ensures c.in_ok-eval.ensures
+    c.inner-ty.ensures place)
 
 pub eval_share-own_or-requires : goal.eval_share-own_or-requires
 eval_share-own_or-requires t c =
@@ -356,7 +424,8 @@ eval_share-push_heard-requires-clause-near t c =
 pub eval_share-push_heard-requires-clause-forms : goal.eval_share-push_heard-requires-clause-forms
 eval_share-push_heard-requires-clause-forms t c =
     let place = c.len-at.ensures ∙ c.args.words.now.ok.0 in
-    share_forms c.requires c.index-start.ensures c.index-next.ensures c.in_ok-eval.ensures c.inner-ty.ensures place (rw c.deref.ensures.value at c.in_ok-first.ensures) c.slot_of-slot.ensures c.own_or.ensures
+    share_forms c.requires c.index-start.ensures c.index-next.ensures c.in_ok-eval.ensures c.inner-ty.ensures place
+    (rw c.deref.ensures.value at c.in_ok-first.ensures) c.slot_of-slot.ensures c.own_or.ensures
 
 pub eval_share-eval_body-requires : goal.eval_share-eval_body-requires
 eval_share-eval_body-requires t c =
@@ -370,13 +439,22 @@ eval_share-eval_body-requires t c =
     let first = rw c.deref.ensures.value at c.in_ok-first.ensures in
     let number = c.slot_of-slot.ensures in
     let cut = c.truncate.ensures.items in
-    let a = share_added r e e' done type place first number c.own_or.ensures c.in_ok-push_heard.ensures.added c.in_ok-push_heard.ensures.value in
+    let a = share_added r e e' done type place first number c.own_or.ensures c.in_ok-push_heard.ensures.added
+    c.in_ok-push_heard.ensures.value in
     let s = start_ready r e e' done type place first number cut a.0 a.1 in
     let m = s.0 in
     let w = r.here.ready.stands.within in
     let o = start_over r e e' done type place first number cut a.0 a.1 in
-    let l = o.long in
-    (omega (arith, d, m, w), (begin_body true _ s.2 (start_allowed r e e' done type place first number cut a.0 a.1) r.here.sees (start_over r e e' done type place first number cut a.0 a.1) refl place refl refl (λ b o. (b, o)) r.here.sees.own, omega (arith, l, place)))
+    let l = o.long in (
+      omega (arith, d, m, w),
+      (
+        begin_body true _ s.2 (start_allowed r e e' done type place first number cut a.0 a.1)
+            r.here.sees (start_over r e e' done type place first number cut a.0 a.1) refl place refl refl
+            (λ b o. (b, o))
+            r.here.sees.own,
+        omega (arith, l, place),
+      ),
+    )
 
 pub eval_share-value_at-requires-2-clause-within : goal.eval_share-value_at-requires-2-clause-within
 eval_share-value_at-requires-2-clause-within t c =
@@ -389,8 +467,10 @@ eval_share-value_at-requires-2-clause-within t c =
     let first = rw c.deref.ensures.value at c.in_ok-first.ensures in
     let number = c.slot_of-slot.ensures in
     let cut = c.truncate.ensures.items in
-    let a = share_added r e e' done type place first number c.own_or.ensures c.in_ok-push_heard.ensures.added c.in_ok-push_heard.ensures.value in
-    rw c.deref-2.ensures.value (body_within r e e' done type place first number cut a.0 a.1 c.in_ok-eval_body.ensures refl refl refl)
+    let a = share_added r e e' done type place first number c.own_or.ensures c.in_ok-push_heard.ensures.added
+    c.in_ok-push_heard.ensures.value in
+    rw c.deref-2.ensures.value (body_within r e e' done type place first number cut a.0 a.1 c.in_ok-eval_body.ensures
+    refl refl refl)
 
 pub eval_share-put-requires : goal.eval_share-put-requires
 eval_share-put-requires t c =
@@ -403,8 +483,11 @@ eval_share-put-requires t c =
     let first = rw c.deref.ensures.value at c.in_ok-first.ensures in
     let number = c.slot_of-slot.ensures in
     let cut = c.truncate.ensures.items in
-    let a = share_added r e e' done type place first number c.own_or.ensures c.in_ok-push_heard.ensures.added c.in_ok-push_heard.ensures.value in
-    slots_long c.eval_body.new.draft c.slot_of-slot.result (evolve_room r e e' done type place first number cut a.0 a.1 c.in_ok-eval_body.ensures refl refl refl (rw c.deref-2.ensures.value at c.in_ok-kept.ensures))
+    let a = share_added r e e' done type place first number c.own_or.ensures c.in_ok-push_heard.ensures.added
+    c.in_ok-push_heard.ensures.value in
+    slots_long c.eval_body.new.draft c.slot_of-slot.result
+    (evolve_room r e e' done type place first number cut a.0 a.1 c.in_ok-eval_body.ensures refl refl refl
+    (rw c.deref-2.ensures.value at c.in_ok-kept.ensures))
 
 pub eval_share-returns : goal.eval_share-returns
 eval_share-returns t c =
@@ -417,8 +500,10 @@ eval_share-returns t c =
     let first = rw c.deref.ensures.value at c.in_ok-first.ensures in
     let number = c.slot_of-slot.ensures in
     let cut = c.truncate.ensures.items in
-    let a = share_added r e e' done type place first number c.own_or.ensures c.in_ok-push_heard.ensures.added c.in_ok-push_heard.ensures.value in
-    evolve_evaluated r e e' done type place first number cut a.0 a.1 c.in_ok-eval_body.ensures refl refl refl (rw c.deref-2.ensures.value at c.in_ok-kept.ensures) c.put.ensures
+    let a = share_added r e e' done type place first number c.own_or.ensures c.in_ok-push_heard.ensures.added
+    c.in_ok-push_heard.ensures.value in
+    evolve_evaluated r e e' done type place first number cut a.0 a.1 c.in_ok-eval_body.ensures refl refl refl
+    (rw c.deref-2.ensures.value at c.in_ok-kept.ensures) c.put.ensures
 
 pub eval_nbr-push_heard-requires-clause-width : goal.eval_nbr-push_heard-requires-clause-width
 eval_nbr-push_heard-requires-clause-width t c =
@@ -430,7 +515,8 @@ eval_nbr-push_heard-requires-clause-width t c =
 pub eval_share-push_heard-requires-clause-width : goal.eval_share-push_heard-requires-clause-width
 eval_share-push_heard-requires-clause-width t c =
     let place = c.len-at.ensures ∙ c.args.words.now.ok.0 in
-    let w = first_within c.requires c.index-start.ensures c.index-next.ensures c.in_ok-eval.ensures c.inner-ty.ensures place in
+    let w = first_within c.requires c.index-start.ensures c.index-next.ensures c.in_ok-eval.ensures c.inner-ty.ensures
+    place in
     let b = c.eval.new.words.ok.0 in
     omega (arith, w, b)
 

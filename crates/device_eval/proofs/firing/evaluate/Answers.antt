@@ -19,10 +19,17 @@ root_env-requires c =
 
 pub eval-requires : goal.eval-requires
 eval-requires c =
-    let S = situation_as c.args.program.now c.args.snap.now c.as_slice-inputs.result.now c.as_slice-inputs.ensures.value in
+    let S = situation_as c.args.program.now c.args.snap.now c.as_slice-inputs.result.now
+    c.as_slice-inputs.ensures.value in
     record {
-      ready = root_ready c.args.program.now c.layout-layout.ensures.program c.args.snap.now c.requires c.layout-layout.result.now c.layout-layout.ensures.layout (flat_of c.in_ok-env.env) c.in_ok-env.ensures (slots_of c.in_ok-draft.draft) c.in_ok-draft.ensures _ S;
-      may = root_may c.args.program.now c.layout-layout.ensures.program c.args.snap.now c.requires c.layout-layout.result.now c.layout-layout.ensures.layout (flat_of c.in_ok-env.env) c.in_ok-env.ensures (slots_of c.in_ok-draft.draft) c.in_ok-draft.ensures _ S;
+      ready =
+          root_ready c.args.program.now c.layout-layout.ensures.program c.args.snap.now c.requires
+          c.layout-layout.result.now c.layout-layout.ensures.layout (flat_of c.in_ok-env.env) c.in_ok-env.ensures
+          (slots_of c.in_ok-draft.draft) c.in_ok-draft.ensures _ S;
+      may =
+          root_may c.args.program.now c.layout-layout.ensures.program c.args.snap.now c.requires
+          c.layout-layout.result.now c.layout-layout.ensures.layout (flat_of c.in_ok-env.env) c.in_ok-env.ensures
+          (slots_of c.in_ok-draft.draft) c.in_ok-draft.ensures _ S;
       sees = record { below = tt; own = c.own_row.ensures };
     }
 
@@ -30,21 +37,29 @@ pub value_at-requires-clause-within : goal.value_at-requires-clause-within
 value_at-requires-clause-within c =
     let place = sym (ap (length {A = ℕ}) c.take-words.ensures) in
     rw c.deref.ensures.value
-    (root_within c.node.result.now c.layout-layout.ensures.program c.node.ensures.node c.inner.ensures c.in_ok-eval.ensures place)
+    (root_within c.node.result.now c.layout-layout.ensures.program c.node.ensures.node c.inner.ensures
+    c.in_ok-eval.ensures place)
 
 pub returns : goal.returns
 returns c =
     let P = c.args.program.now in
     let S = situation_as P c.args.snap.now c.as_slice-inputs.result.now c.as_slice-inputs.ensures.value in
     let place = sym (ap (length {A = ℕ}) c.take-words.ensures) in
-    let is = root_value c.node.result.now c.layout-layout.ensures.program c.node.ensures.node c.inner.ensures c.in_ok-eval.ensures place
+    let is = root_value c.node.result.now c.layout-layout.ensures.program c.node.ensures.node c.inner.ensures
+    c.in_ok-eval.ensures place
     (rw c.deref.ensures.value at c.in_ok-value.ensures) in
-    let export = root_export P c.layout-layout.ensures.program c.args.snap.now c.requires c.layout-layout.result.now c.layout-layout.ensures.layout (flat_of c.in_ok-env.env) c.in_ok-env.ensures (slots_of c.in_ok-draft.draft) c.in_ok-draft.ensures
+    let export = root_export P c.layout-layout.ensures.program c.args.snap.now c.requires c.layout-layout.result.now
+    c.layout-layout.ensures.layout (flat_of c.in_ok-env.env) c.in_ok-env.ensures (slots_of c.in_ok-draft.draft)
+    c.in_ok-draft.ensures
     _ S _ (slots_of c.eval.new.draft) c.in_ok-eval.ensures.did (local_of c.in_ok-value.value) is in
-    let evaluates = root_evaluates P c.layout-layout.ensures.program c.args.snap.now c.requires c.layout-layout.result.now c.layout-layout.ensures.layout (flat_of c.in_ok-env.env) c.in_ok-env.ensures (slots_of c.in_ok-draft.draft) c.in_ok-draft.ensures
+    let evaluates = root_evaluates P c.layout-layout.ensures.program c.args.snap.now c.requires
+    c.layout-layout.result.now c.layout-layout.ensures.layout (flat_of c.in_ok-env.env) c.in_ok-env.ensures
+    (slots_of c.in_ok-draft.draft) c.in_ok-draft.ensures
     _ S _ (slots_of c.eval.new.draft) c.in_ok-eval.ensures.did (local_of c.in_ok-value.value) is in
     record {
       snap = c.requires;
       export = subst (IsExport (unfolding_of P)) (sym c.finish.ensures) export;
-      evaluates = subst (λ x. EvaluatesCopy (unfolding_of P) (snap_copy (unfolding_of P) c.args.snap.now) (tree_export (unfolding_of P) x)) (sym c.finish.ensures) evaluates;
+      evaluates =
+          subst (λ x. EvaluatesCopy (unfolding_of P) (snap_copy (unfolding_of P) c.args.snap.now)
+          (tree_export (unfolding_of P) x)) (sym c.finish.ensures) evaluates;
     }

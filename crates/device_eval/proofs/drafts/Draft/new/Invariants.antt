@@ -4,4 +4,5 @@ use Rattle.fc_nodes.specs.Layouts.{blank_slots}
 use Rattle.device_eval.proofs.drafts.Draft.new.Given as goal
 
 abbrev pub invariant-loop-blank : goal.invariant-loop-blank
-invariant-loop-blank l = slots_of l.list.items ++ blank_slots (drop l.blank-index l.blanks) ≡ blank_slots l.layout.blanks
+invariant-loop-blank l =
+    slots_of l.list.items ++ blank_slots (drop l.blank-index l.blanks) ≡ blank_slots l.layout.blanks
