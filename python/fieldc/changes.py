@@ -24,6 +24,7 @@ FORMS = {
     "leave": "leave DEVICES",
     "join": "join DEVICE VALUE ..",
 }
+BY_NUMBER = "; devices have numbers here, and with --names FILE their names"
 NUMBERS = re.compile(r"([0-9]{1,7})\.\.([0-9]{1,7})")
 WITH_INPUT = re.compile(r"([A-Za-z][A-Za-z0-9_]*)=(true|false|[0-9]{1,7})")
 AROUND = re.compile(r"\+-([0-9]{1,7})(%?)")
@@ -164,7 +165,8 @@ def devices_of(word: str, known: Known, where: str) -> list[int]:
         found = [device for device in there if _is_same(there[device].get(name), value)]
     else:
         near = similar(word, known.number)
-        raise Fault(f"{where}: no device is called {word}{f'; is {near} meant?' if near is not None else ''}", 3)
+        hint = f"; is {near} meant?" if near is not None else "" if known.number else BY_NUMBER
+        raise Fault(f"{where}: no device is called {word}{hint}", 3)
     if not found:
         raise Fault(f"{where}: {word} means no device of the network", 3)
     return found

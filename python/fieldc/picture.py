@@ -180,11 +180,17 @@ def settling(network: Network, found: results.Settled, verdict: str) -> Picture:
 def bounding(
     network: Network, found: results.Bounds, changes: str | None, wanted: Declared, rounds: bool = False
 ) -> Picture:
-    """The picture of bounds, on the network with all that may come, where the changes are known."""
+    """The picture of bounds, on the network with all that may come, where the changes are known.
+
+    Raises Fault, of status 3, where bounds have a device that comes and the changes aren't known.
+    """
     held, loose = results.by_number(found.by_device), frozenset[Pair]()
     if changes is not None:
         envelope = envelope_of(network, changes, wanted)
         network, loose = widest(network, envelope), frozenset(envelope.links) - envelope.sure_links
+    elif held.keys() - network.inputs.keys():
+        comes = min(held.keys() - network.inputs.keys())
+        raise Fault(f"device {comes} of these bounds isn't in the network, and may come: give its file of changes", 3)
     away = frozenset(device for device, one in held.items() if one.away)
 
     def frame(title: str, after: int) -> Frame:

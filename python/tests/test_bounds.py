@@ -96,7 +96,8 @@ class Settled(Played):
             self.assertEqual((done.status, done.output), (0, case.written), done.errors)
         done = self.of(Case(HOPS, LINE, "unlink 1 2\nleave roof\n", ""))
         self.assertEqual((done.status, done.output), (3, ""))
-        self.assertEqual(done.errors, "fieldc settle: may.txt line 2: no device is called roof\n")
+        self.assertEqual(done.errors.count("\n"), 1)
+        self.assertIn("fieldc settle: may.txt line 2: no device is called roof; devices have numbers here", done.errors)
 
     def test_names(self) -> None:
         self.file("id,name\n1,the mill\n2,post\n", "names.csv")
@@ -443,7 +444,7 @@ class Pictures(InFolder):
         words = ("p.fc", "n.json", "--values", "bounds", "-o", "x.svg")
         done = fieldc("picture", *words, folder=self.folder)
         self.assertEqual(done.status, 3)
-        self.assertIn("the values have device 9, and the network hasn't", done.errors)
+        self.assertIn("device 9 of these bounds isn't in the network, and may come: give its file of changes", done.errors)
         self.file("yes 22\nsettles 5\n0 1 0\n", "bounds")
         done = fieldc("picture", "p.fc", "n.json", "--rounds", "--values", "bounds", "-o", "x.svg", folder=self.folder)
         self.assertIn("--rounds is of bounds", done.errors)

@@ -166,7 +166,8 @@ class Command(InFolder):
         self.file("unlink *\n\nleave 1 2\n", "short.txt")
         self.file("join\n", "joins.txt")
         rows: dict[str, tuple[int, tuple[str, ...]]] = {
-            "may.txt line 2: no device is called roof": (3, ("may.txt", "line.json", "hops.fc")),
+            "may.txt line 2: no device is called roof; devices have numbers here, and with --names":
+                (3, ("may.txt", "line.json", "hops.fc")),
             "2 sections: CHANGES NETWORK PROGRAM are three": (2, ("may.txt", "line.json")),
             "hops.fc is no scene: line 1, column 1 is no JSON": (3, ("lines.txt", "hops.fc", "line.json")),
             "hops.fc line 1: ceiling begins no line of changes; set, link, links,":
