@@ -444,7 +444,7 @@ class Pictures(InFolder):
         words = ("p.fc", "n.json", "--values", "bounds", "-o", "x.svg")
         done = fieldc("picture", *words, folder=self.folder)
         self.assertEqual(done.status, 3)
-        self.assertIn("device 9 of these bounds isn't in the network, and may come: give its file of changes", done.errors)
+        self.assertIn("device 9 of these bounds isn't in the network, and may come: give its file", done.errors)
         self.file("yes 22\nsettles 5\n0 1 0\n", "bounds")
         done = fieldc("picture", "p.fc", "n.json", "--rounds", "--values", "bounds", "-o", "x.svg", folder=self.folder)
         self.assertIn("--rounds is of bounds", done.errors)
