@@ -102,7 +102,7 @@ def timed(text: str, pace: Pace) -> str:
 
 
 def with_seconds(found: dict[str, Any], pace: Pace) -> dict[str, Any]:
-    """A result of `check` as a dictionary, with the seconds beside each number of rounds."""
+    """A result of `check` as a dictionary, with the seconds of a round and those beside each number of rounds."""
 
     def beside(row: dict[str, Any]) -> dict[str, Any]:
         rounds = row.get("rounds")
@@ -114,4 +114,5 @@ def with_seconds(found: dict[str, Any], pace: Pace) -> dict[str, Any]:
         if found.get(name) is not None
     }
     devices = {"devices": list(map(beside, found["devices"]))} if "devices" in found else {}
-    return {**found, "verdict": beside(found["verdict"]), **more, **devices}
+    own = {"verdict": beside(found["verdict"]), "round_seconds": float(pace.of_a_round)}
+    return {**found, **own, **more, **devices}

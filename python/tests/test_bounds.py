@@ -323,7 +323,8 @@ class Seconds(Played):
         self.assertEqual(done.output, "yes 22 44s\n")
         self.assertIn("each link brings a message within 0.9 s more", done.errors)
         found = json.loads(fieldc("settle", *files, "--json", folder=self.folder).output)
-        self.assertEqual((found["verdict"]["seconds"], found["settles_seconds"]), (24.2, 5.5))
+        seconds = found["round_seconds"], found["verdict"]["seconds"], found["settles_seconds"]
+        self.assertEqual(seconds, (1.1, 24.2, 5.5))
         self.assertEqual([row["seconds"] for row in found["devices"]], [1.1, 3.3, 5.5])
         rows = fieldc("settle", *files, "--csv", folder=self.folder).output.splitlines()
         self.assertEqual(rows, ["device,value,rounds,seconds", "0,0,1,1.1", "1,1,3,3.3", "2,2,5,5.5"])
