@@ -8,7 +8,8 @@ use Rattle.envelopes.specs.Envelopes.{Envelope, surely_lives}
 use Rattle.bound_rounds.specs.Rounds.{BoundTable, rounds_within}
 use Rattle.settle_rounds.specs.Rounds.{any_table}
 use Rattle.settle_rounds.specs.Within.{StandsIn, BoundsHoldWithin, BoundsHoldWithinFrom, StartsHoldWithin}
-use Rattle.envelope_bounds.specs.Lines.{HasBound, LiesAt, LinesHold, LinesHoldAnyhow}
+use Rattle.last_bounds.specs.LastBounds.{HasBound}
+use Rattle.envelope_bounds.specs.Lines.{LiesAt, LinesHold, LinesHoldAnyhow}
 
 -- what stands in the bound of a line lies there
 bound_holds : (U : Unfolding) (E : Envelope) (table : BoundTable) (r d : ℕ) (b : BoundValue) (last : Core)

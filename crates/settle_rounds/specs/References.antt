@@ -96,6 +96,14 @@ abbrev pub GrowsOn : Unfolding → Envelope → ℕ → List FlatBound → Type 
 GrowsOn U E most first = (start : BoundTable) → Stand U E start first → (i : ℕ) → i ≤ most
     → IsFullWithin U E (grown_within U E start i) → ⊥
 
+-- bounds that stand for the table of a core that grows for at most so many rounds
+pub record StartBounds (U : Unfolding) (E : Envelope) (N : Network) (most : ℕ) (c : Core) (xs : List FlatBound) : Type 0
+  where
+  pub fits : FitTable U E xs
+  pub table : BoundTable
+  pub starts : StartTableWithin U E N most c table
+  pub stands : Stand U E table xs
+
 -- settle rounds up to a cap, from the table of a core that grows for at most so many rounds
 pub record IsSettledFrom (U : Unfolding) (E : Envelope) (N : Network) (most cap : ℕ) (c : Core)
     (os : List (Option (ℕ × LocalValue))) : Type 0 where
