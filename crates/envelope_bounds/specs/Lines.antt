@@ -1,7 +1,7 @@
 -- What lines of text promise: the bound of a device after so many rounds.
 use Rattle.std.specs.Prelude.{ℕ, true, ◌≡◌, ◌≤◌, Some}
 use Rattle.fc_values.specs.Trees.{TreeExport}
-use Rattle.fc_nodes.specs.Program.{Program, Unfolding, unfolding_of, IsProgram}
+use Rattle.fc_nodes.specs.Program.{Program, unfolding_of, IsProgram}
 use Rattle.firing_core.specs.Cores.{Core, IsGood}
 use Rattle.value_bounds.specs.BoundValues.{BoundValue, Lies}
 use Rattle.bound_rounds.specs.Rounds.{BoundTable}

@@ -41,9 +41,9 @@ pub record IsLastBound (U : Unfolding) (E : Envelope) (start : BoundTable) (n : 
   pub away : l.away ≡ not (surely_lives E l.device)
 
 -- the last bounds of all devices, by rising number
-pub record AreLastBounds (U : Unfolding) (E : Envelope) (start : BoundTable) (cap : ℕ) (ls : List LastBound) : Type 0
-  where
-    pub rounds : ℕ
-    pub ends : EndsAfter U E start cap rounds
-    pub devices : map (λ (l : LastBound). l.device) ls ≡ ids E.devices
-    pub each : All (IsLastBound U E start rounds) ls
+pub record AreLastBounds (U : Unfolding) (E : Envelope) (start : BoundTable) (cap : ℕ)
+    (ls : List LastBound) : Type 0 where
+  pub rounds : ℕ
+  pub ends : EndsAfter U E start cap rounds
+  pub devices : map (λ (l : LastBound). l.device) ls ≡ ids E.devices
+  pub each : All (IsLastBound U E start rounds) ls

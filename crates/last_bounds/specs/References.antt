@@ -82,12 +82,12 @@ FoundBy i b [] = ⊥
 FoundBy i b (c ∷ cs) = ((c.1 ≡ b) × (c.0 ≤ i)) ⊎ FoundBy i b cs
 
 -- of the first n tables
-pub record AreChanges (U : Unfolding) (E : Envelope) (start : BoundTable) (d n : ℕ) (cs : List ChangeValue) : Type 0
-  where
-    pub has : EachIs (λ c. HasBound U E start c.0 d c.1) cs
-    pub few : EachIs (λ c. c.0 < n) cs
-    pub turn : InTurn cs
-    pub found : (i : ℕ) (b : BoundValue) → i < n → HasBound U E start i d b → FoundBy i b cs
+pub record AreChanges (U : Unfolding) (E : Envelope) (start : BoundTable) (d n : ℕ)
+    (cs : List ChangeValue) : Type 0 where
+  pub has : EachIs (λ c. HasBound U E start c.0 d c.1) cs
+  pub few : EachIs (λ c. c.0 < n) cs
+  pub turn : InTurn cs
+  pub found : (i : ℕ) (b : BoundValue) → i < n → HasBound U E start i d b → FoundBy i b cs
 
 -- so it is of each device, by its place
 abbrev pub AllChanges : Unfolding → Envelope → BoundTable → ℕ → List (Vec Change Global) → Type 0
@@ -107,13 +107,13 @@ pub record HasEnded (U : Unfolding) (E : Envelope) (start : BoundTable) (cap n :
 
 -- what is said of a device, out of its number, whether it is always there, its bounds before any round and in the last
 -- table, its changes, and the number of rounds
-pub record IsMade (d : ℕ) (sure : Bool) (start last : BoundValue) (cs : List ChangeValue) (n : ℕ) (l : FlatLast) : Type 0
-  where
-    pub device : l.device ≡ d
-    pub rounds : IsFirst last n cs l.rounds
-    pub bound : local_bound_in l.bound ≡ last
-    pub before : local_bound_in l.before ≡ start
-    pub away : l.away ≡ not sure
+pub record IsMade (d : ℕ) (sure : Bool) (start last : BoundValue) (cs : List ChangeValue) (n : ℕ)
+    (l : FlatLast) : Type 0 where
+  pub device : l.device ≡ d
+  pub rounds : IsFirst last n cs l.rounds
+  pub bound : local_bound_in l.bound ≡ last
+  pub before : local_bound_in l.before ≡ start
+  pub away : l.away ≡ not sure
 
 -- of the devices before a place
 abbrev pub AreMade : Envelope → List FlatBound → List FlatBound → List (Vec Change Global) → ℕ → ℕ → List FlatLast

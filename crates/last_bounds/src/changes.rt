@@ -1,6 +1,6 @@
 //! How the bounds of devices change from round to round.
 
-ghost use Rattle.std.specs.Prelude.{◌≡◌, [], All, IfOk, OnOk, length, map};
+ghost use Rattle.std.specs.Prelude.{◌≡◌, ◌||◌, [], All, IfOk, OnOk, length, map, not};
 ghost use Rattle.std.specs.declared.alloc.Global.{Global};
 ghost use Rattle.std.specs.declared.vec.Vec.{Vec};
 ghost use Rattle.value_bounds.specs.References.{local_bound_in};
@@ -8,7 +8,7 @@ ghost use Rattle.last_bounds.specs.declared.changes.Change.{Change};
 ghost use Rattle.last_bounds.specs.References.{AreNoted, IsFirst, IsNoted, change_in, changes_in};
 
 use bound_firing::ExportBound;
-use envelopes::Envelope;
+use envelopes::{DeviceBound, Envelope};
 use fc_values::Memory;
 use std::alloc::Global;
 use value_bounds::{LocalBound, copy_bound, same_bound};
@@ -48,11 +48,18 @@ pub(crate) fn note_bounds(
 {
     for place in 0..envelope.devices().len() {
         let bound = &bounds[place];
-        if bound.sure || !envelope.devices()[place].sure {
+        if counts(bound, &envelope.devices()[place]) {
             note(alloc, rounds, &bound.value, &mut changes[place])?;
         }
     }
     Ok(())
+}
+
+// Whether the bound of a device counts: its export is there for sure, or the device may be away.
+fn counts(bound: &ExportBound, device: &DeviceBound) -> bool
+    ensures { result ≡ (bound.now.sure || not device.now.sure) }
+{
+    bound.sure || !device.sure
 }
 
 // Notes a bound after so many rounds, unless it is the one that was noted last.
