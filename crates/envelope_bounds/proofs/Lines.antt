@@ -1,5 +1,5 @@
 -- What the bounds of lines promise.
-use Rattle.std.proofs.Common.{◌≡◌, ◌⊎◌, ◌≤◌, ℕ, refl, sym, ◌∙◌, subst, true, false, Some, inl, inr}
+use Rattle.std.proofs.Common.{◌≡◌, ◌⊎◌, ℕ, sym, ◌∙◌, subst, true, false, Some, inl, inr}
 use Rattle.fc_values.specs.Trees.{TreeExport}
 use Rattle.fc_nodes.specs.Program.{Unfolding, unfolding_of}
 use Rattle.firing_core.specs.Cores.{Core}
@@ -8,7 +8,8 @@ use Rattle.envelopes.specs.Envelopes.{Envelope, surely_lives}
 use Rattle.bound_rounds.specs.Rounds.{BoundTable, rounds_within}
 use Rattle.settle_rounds.specs.Rounds.{any_table}
 use Rattle.settle_rounds.specs.Within.{StandsIn, BoundsHoldWithin, BoundsHoldWithinFrom, StartsHoldWithin}
-use Rattle.envelope_bounds.specs.Lines.{HasBound, LiesAt, LinesHold, LinesHoldAnyhow}
+use Rattle.last_bounds.specs.LastBounds.{HasBound}
+use Rattle.envelope_bounds.specs.Lines.{LiesAt, LinesHold, LinesHoldAnyhow}
 
 -- what stands in the bound of a line lies there
 bound_holds : (U : Unfolding) (E : Envelope) (table : BoundTable) (r d : ℕ) (b : BoundValue) (last : Core)

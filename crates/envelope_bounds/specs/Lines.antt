@@ -1,19 +1,14 @@
 -- What lines of text promise: the bound of a device after so many rounds.
-use Rattle.std.specs.Prelude.{ℕ, true, false, ◌≡◌, ◌≤◌, ◌⊎◌, Some}
+use Rattle.std.specs.Prelude.{ℕ, true, ◌≡◌, ◌≤◌, Some}
 use Rattle.fc_values.specs.Trees.{TreeExport}
-use Rattle.fc_nodes.specs.Program.{Program, Unfolding, unfolding_of, IsProgram}
+use Rattle.fc_nodes.specs.Program.{Program, unfolding_of, IsProgram}
 use Rattle.firing_core.specs.Cores.{Core, IsGood}
 use Rattle.value_bounds.specs.BoundValues.{BoundValue, Lies}
-use Rattle.bound_rounds.specs.Rounds.{BoundTable, rounds_within}
+use Rattle.bound_rounds.specs.Rounds.{BoundTable}
 use Rattle.envelopes.specs.Envelopes.{Envelope, MayLive, surely_lives, IsEnvelope}
+use Rattle.last_bounds.specs.LastBounds.{HasBound}
 use Rattle.settle_rounds.specs.Rounds.{any_table}
 use Rattle.settle_rounds.specs.Within.{RoundsWithin, StartTableWithin}
-
--- the bound of a device's value in the table after r rounds, where the export is there for sure or the device may be
--- away. In the text r is the first round with the last bound
-pub record HasBound (U : Unfolding) (E : Envelope) (start : BoundTable) (r d : ℕ) (b : BoundValue) : Type 0 where
-  pub is : (rounds_within U E start r d).value ≡ b
-  pub there : ((rounds_within U E start r d).sure ≡ true) ⊎ (surely_lives E d ≡ false)
 
 -- where a device has an export its value lies in a bound, and a device that is always there has one
 pub record LiesAt (E : Envelope) (d : ℕ) (b : BoundValue) (last : Core) : Type 0 where

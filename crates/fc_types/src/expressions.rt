@@ -1,12 +1,14 @@
 //! The types of expressions.
 
 ghost use Rattle.std.specs.Prelude.{◌≡◌, IfOk, is_some, map, nat_le};
-ghost use Rattle.fc_syntax.specs.Terms.{IfTerm, LetTerm, RepTerm, ShareTerm, parameter_of, term_of, terms};
+ghost use Rattle.fc_syntax.specs.Terms.{ApplyTerm, CallTerm, IfTerm, LetTerm, NbrTerm, RepTerm, ShareTerm};
+ghost use Rattle.fc_syntax.specs.Terms.{parameter_of, term_of, terms};
 ghost use Rattle.fc_values.specs.Types.{type_of};
 ghost use Rattle.fc_types.specs.Before.{function_named, input_named, type_in};
 ghost use Rattle.fc_types.specs.Faults.{shared_type as shared};
-ghost use Rattle.fc_types.specs.Judging.{judge as judgement, judge_all as judgements, judge_call, judge_evolving};
-ghost use Rattle.fc_types.specs.Judging.{judge_if, judge_nbr, judge_number, judge_sense, judge_variable};
+ghost use Rattle.fc_types.specs.Judging.{judge as judgement, judge_all as judgements, judge_call as judge_called};
+ghost use Rattle.fc_types.specs.Judging.{judge_evolving, judge_if, judge_nbr as judge_shared, judge_number};
+ghost use Rattle.fc_types.specs.Judging.{judge_sense, judge_variable};
 ghost use Rattle.fc_types.specs.Judging.{same_types as same_rows, unless_bound};
 ghost use Rattle.fc_types.specs.Views.{Gives, GivesAll, known_of, scope_of};
 
@@ -17,11 +19,11 @@ use crate::refusal::Refusal;
 use crate::scopes::{Scope, lookup};
 use crate::types::{copy_local_type, copy_type, same_local_type, same_types};
 use fc_syntax::{Expr, Param};
-use fc_values::{InputTy, LocalTy, Memory, Name, Ty};
+use fc_values::{Builtin, InputTy, LocalTy, Memory, Name, Ty};
 use std::alloc::Global;
 
-/// The type of an expression, or its first fault. Chains of operators may be thousands of levels deep, so the other
-/// forms have functions of their own, and a level takes little of the stack.
+/// The type of an expression, or its first fault. Chains of operators may be thousands of levels deep, so each form has
+/// a function of its own, and a level takes little of the stack.
 #[cycle(judge)]
 pub fn judge(
     alloc: Global,
@@ -34,26 +36,65 @@ pub fn judge(
     match expr {
         Expr::Int(n) => number_type(*n, known.ceiling),
         Expr::Truth(_) => Ok(Ty::Local(LocalTy::Bool)),
-        Expr::Var(name) => variable_type(alloc, scope, name),
+        Expr::Var(name) => variable_type(alloc, &*scope, name),
         Expr::Uid => Ok(Ty::Local(LocalTy::Int)),
         Expr::NbrLink => Ok(Ty::Field(LocalTy::Int)),
-        Expr::Sense(name) => sense_type(known, name),
-        Expr::Apply(builtin, args) => {
-            let types = judge_all(alloc, known, scope, args)?;
-            builtin_type(alloc, *builtin, &types)
-        }
-        Expr::Nbr(inner) => nbr_type(judge(alloc, known, scope, inner)?),
-        Expr::Rep(first, name, body) => judge_rep(alloc, known, scope, first, name, body),
-        Expr::Share(first, name, body) => judge_share(alloc, known, scope, first, name, body),
+        Expr::Sense(name) => sense_type(&*known, name),
+        Expr::Apply(builtin, args) => judge_apply(alloc, &*known, &*scope, *builtin, args),
+        Expr::Nbr(inner) => judge_nbr(alloc, &*known, &*scope, inner),
+        Expr::Rep(first, name, body) => judge_rep(alloc, &*known, &*scope, first, &*name, body),
+        Expr::Share(first, name, body) => judge_share(alloc, &*known, &*scope, first, &*name, body),
         Expr::If(condition, then, other) => judge_branches(
-            alloc, known, scope, condition, then, other,
+            alloc, &*known, &*scope, condition, then, other,
         ),
-        Expr::Let(name, bound, body) => judge_let(alloc, known, scope, name, bound, body),
-        Expr::Call(name, args) => {
-            let types = judge_all(alloc, known, scope, args)?;
-            call_type(alloc, known, name, &types)
-        }
+        Expr::Let(name, bound, body) => judge_let(alloc, &*known, &*scope, &*name, bound, body),
+        Expr::Call(name, args) => judge_call(alloc, &*known, &*scope, &*name, args),
     }
+}
+
+#[cycle(judge)]
+#[inline(never)]
+fn judge_apply(
+    alloc: Global,
+    known: &Known<'_>,
+    scope: &Scope<'_>,
+    builtin: Builtin,
+    args: &[Expr],
+) -> Result<Ty, Refusal>
+    ensures { Gives result (judgement (known_of known.now) (scope_of scope.now)
+        (ApplyTerm builtin (terms (map term_of args.now)))) }
+{
+    let types = judge_all(alloc, &*known, &*scope, &*args)?;
+    builtin_type(alloc, builtin, &types)
+}
+
+#[cycle(judge)]
+#[inline(never)]
+fn judge_nbr(
+    alloc: Global,
+    known: &Known<'_>,
+    scope: &Scope<'_>,
+    inner: &Expr,
+) -> Result<Ty, Refusal>
+    ensures { Gives result (judgement (known_of known.now) (scope_of scope.now) (NbrTerm (term_of inner.now))) }
+{
+    nbr_type(judge(alloc, &*known, &*scope, &*inner)?)
+}
+
+#[cycle(judge)]
+#[inline(never)]
+fn judge_call(
+    alloc: Global,
+    known: &Known<'_>,
+    scope: &Scope<'_>,
+    name: &Name,
+    args: &[Expr],
+) -> Result<Ty, Refusal>
+    ensures { Gives result (judgement (known_of known.now) (scope_of scope.now)
+        (CallTerm name.now.text.items (terms (map term_of args.now)))) }
+{
+    let types = judge_all(alloc, &*known, &*scope, &*args)?;
+    call_type(alloc, &*known, &*name, &types)
 }
 
 #[cycle(judge)]
@@ -135,6 +176,7 @@ fn judge_let<'a>(
 
 // The types of expressions in a row, or their first fault.
 #[cycle(judge)]
+#[inline(always)]
 fn judge_all(
     alloc: Global,
     known: &Known<'_>,
@@ -160,6 +202,7 @@ fn number_type(n: u32, ceiling: u32) -> Result<Ty, Refusal>
     }
 }
 
+#[inline(never)]
 fn variable_type(alloc: Global, scope: &Scope<'_>, name: &Name) -> Result<Ty, Refusal>
     ensures { Gives result (judge_variable (type_in name.now.text.items (scope_of scope.now))) }
 {
@@ -169,6 +212,7 @@ fn variable_type(alloc: Global, scope: &Scope<'_>, name: &Name) -> Result<Ty, Re
     }
 }
 
+#[inline(never)]
 fn sense_type(known: &Known<'_>, name: &Name) -> Result<Ty, Refusal>
     ensures { Gives result (judge_sense (input_named name.now.text.items (known_of known.now).inputs)) }
 {
@@ -179,8 +223,9 @@ fn sense_type(known: &Known<'_>, name: &Name) -> Result<Ty, Refusal>
     }
 }
 
+#[inline(never)]
 fn nbr_type(ty: Ty) -> Result<Ty, Refusal>
-    ensures { Gives result (judge_nbr (type_of ty)) }
+    ensures { Gives result (judge_shared (type_of ty)) }
 {
     match ty {
         Ty::Local(ty) => Ok(Ty::Field(ty)),
@@ -205,6 +250,7 @@ fn is_bound(scope: &Scope<'_>, name: &Name) -> bool
 }
 
 // The type of a `rep` or `share`, from those of its first expression and its body.
+#[inline(never)]
 fn evolving_type(scope: &Scope<'_>, name: &Name, start: Ty, end: Ty) -> Result<Ty, Refusal>
     ensures { Gives result (judge_evolving (type_in name.now.text.items (scope_of scope.now)) (type_of start)
         (type_of end)) }
@@ -231,6 +277,7 @@ fn let_type(scope: &Scope<'_>, name: &Name, ty: Ty) -> Result<Ty, Refusal>
     }
 }
 
+#[inline(never)]
 fn if_type(condition: Ty, then: Ty, other: Ty) -> Result<Ty, Refusal>
     ensures { Gives result (judge_if (type_of condition) (type_of then) (type_of other)) }
 {
@@ -246,8 +293,9 @@ fn if_type(condition: Ty, then: Ty, other: Ty) -> Result<Ty, Refusal>
     }
 }
 
+#[inline(never)]
 fn call_type(alloc: Global, known: &Known<'_>, name: &Name, types: &[Ty]) -> Result<Ty, Refusal>
-    ensures { Gives result (judge_call (function_named name.now.text.items (known_of known.now).functions)
+    ensures { Gives result (judge_called (function_named name.now.text.items (known_of known.now).functions)
         (map type_of types.now)) }
 {
     let Some(function) = known.function(&name.text) else {

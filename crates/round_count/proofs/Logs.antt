@@ -1,9 +1,9 @@
 -- Logs without edits, the part after the last edit, and entries in front of rounds.
-use Rattle.std.proofs.Common.{◌≡◌, ◌<◌, ◌≤◌, ◌+◌, ℕ, zero, suc, Bool, true, false, ◌||◌, List, [], ◌∷◌, ◌++◌, length, get_or, take, drop, map, if◌then◌else◌, refl, sym, ap, ◌∙◌, subst, inr, append_assoc, arith}
+use Rattle.std.proofs.Common.{◌≡◌, ◌<◌, ◌≤◌, ◌+◌, ℕ, zero, suc, Bool, true, false, ◌||◌, List, [], ◌∷◌, ◌++◌, length, get_or, take, drop, map, if◌then◌else◌, refl, sym, ap, ◌∙◌, subst, inl, inr, append_assoc, arith}
 use Rattle.std.proofs.lemmas.List.{take_more, map-append, length-take-le, drop-append-le, drop_all, drop_more}
 use Rattle.firing_core.specs.declared.entries.Entry.{Entry}
 use Rattle.firing_core.specs.Entries.{EntryValue, entry_of}
-use Rattle.firing_core.specs.Rounds.{is_edit, has_edit, after_edit, HasFiring, HasRounds}
+use Rattle.firing_core.specs.Rounds.{is_edit, has_edit, after_edit, HasEnd, HasFiring, HasRounds}
 
 pub both_false : (a b : Bool) → (a || b) ≡ false → (a ≡ false) × (b ≡ false)
 both_false true b h = absurd (cc)
@@ -18,9 +18,20 @@ plain_append (x ∷ xs) ys h k =
     let b = both_false (is_edit x) (has_edit xs) h in
     or_false (is_edit x) (has_edit (xs ++ ys)) b.0 (plain_append xs ys b.1 k)
 
-firing_after : (d : ℕ) (xs ys : List EntryValue) → HasFiring d ys → HasFiring d (xs ++ ys)
+pub firing_after : (d : ℕ) (xs ys : List EntryValue) → HasFiring d ys → HasFiring d (xs ++ ys)
 firing_after d [] ys h = h
 firing_after d (x ∷ xs) ys h = inr (firing_after d xs ys h)
+
+-- entries behind a firing
+end_before : (d : ℕ) (xs ys : List EntryValue) → HasEnd d xs → HasEnd d (xs ++ ys)
+end_before d [] ys h = absurd h
+end_before d (x ∷ xs) ys (inl h) = inl h
+end_before d (x ∷ xs) ys (inr h) = inr (end_before d xs ys h)
+
+pub firing_before : (d : ℕ) (xs ys : List EntryValue) → HasFiring d xs → HasFiring d (xs ++ ys)
+firing_before d [] ys h = absurd h
+firing_before d (x ∷ xs) ys (inl h) = inl (h.0, end_before d xs ys h.1)
+firing_before d (x ∷ xs) ys (inr h) = inr (firing_before d xs ys h)
 
 -- entries in front lose no round, so a cut as early as can be is as good as any
 pub rounds_after : (live : List ℕ) (k : ℕ) (front log : List EntryValue) → has_edit front ≡ false → HasRounds live log k → HasRounds live (front ++ log) k

@@ -1,7 +1,23 @@
--- Laws of rounds: each log has a greatest number of them, and entries behind it or in front take none away.
+-- Laws of rounds: there are logs with any number of them, each log has a greatest number, and entries behind it or in
+-- front take none away.
 use Rattle.std.specs.Prelude.{ℕ, ◌≡◌, ◌<◌, ◌≤◌, List, ◌++◌, length, false}
+use Rattle.fc_nodes.specs.Program.{Program, Unfolding, unfolding_of, IsProgram}
+use Rattle.topology.specs.Networks.{numbers}
 use Rattle.firing_core.specs.Entries.{EntryValue}
+use Rattle.firing_core.specs.Cores.{Core, Run, IsGood}
 use Rattle.firing_core.specs.Rounds.{has_edit, after_edit, HasRounds}
+
+-- a log from a core that has so many rounds, and so no edit
+pub record SomeRounds (U : Unfolding) (start : Core) (k : ℕ) : Type 0 where
+  pub log : List EntryValue
+  pub last : Core
+  pub runs : Run U start log last
+  pub has : HasRounds (numbers start.net.devices) log k
+
+-- from each good core there is one for each number
+abbrev pub RoundsCome : Type 0
+RoundsCome = (P : Program) (start : Core) (k : ℕ) → IsProgram P → IsGood (unfolding_of P) start
+    → SomeRounds (unfolding_of P) start k
 
 -- a log with more behind it, without an edit, has the rounds of its front
 abbrev pub RoundsStay : Type 0

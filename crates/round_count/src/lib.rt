@@ -5,4 +5,4 @@ mod counting;
 mod laws;
 
 pub use counting::{after_last_edit, rounds};
-pub use laws::{rounds_grow, some_greatest};
+pub use laws::{rounds_come, rounds_grow, some_greatest};

@@ -8,7 +8,7 @@ use Rattle.fc_values.specs.Trees.{TreeExport}
 use Rattle.fc_values.proofs.Rising.{rises_apart, rises_tail}
 use Rattle.fc_nodes.specs.Program.{Unfolding}
 use Rattle.device_eval.specs.Copies.{near_tree, env_of, situation_of}
-use Rattle.topology.specs.Networks.{Edge, numbers, near_in}
+use Rattle.topology.specs.Networks.{Edge, near_in}
 use Rattle.topology.specs.Nearby.{near_numbers}
 use Rattle.topology.proofs.Lemmas.{AllNear, near_fits, near_rises}
 use Rattle.firing_core.specs.Cores.{Map, near_with, near_copies, copy_of}

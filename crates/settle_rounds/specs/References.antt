@@ -1,6 +1,6 @@
 -- What answers in code stand for.
 use Rattle.std.specs.Prelude.{ℕ, Bool, ◌≡◌, ◌<◌, ◌≤◌, ◌&&◌, List, length, map, Option, Some, None, option_map, nat_eq}
-use Rattle.std.specs.Prelude.{true, false, if◌then◌else◌}
+use Rattle.std.specs.Prelude.{false, if◌then◌else◌}
 use Rattle.std.specs.Prelude.{slice_index_or as get_or}
 use Rattle.fc_values.specs.Values.{LocalValue, local_of}
 use Rattle.fc_nodes.specs.Program.{Unfolding}
@@ -95,6 +95,14 @@ pub record IsGrown (U : Unfolding) (E : Envelope) (most : ℕ) (first new : List
 abbrev pub GrowsOn : Unfolding → Envelope → ℕ → List FlatBound → Type 0
 GrowsOn U E most first = (start : BoundTable) → Stand U E start first → (i : ℕ) → i ≤ most
     → IsFullWithin U E (grown_within U E start i) → ⊥
+
+-- bounds that stand for the table of a core that grows for at most so many rounds
+pub record StartBounds (U : Unfolding) (E : Envelope) (N : Network) (most : ℕ) (c : Core)
+    (xs : List FlatBound) : Type 0 where
+  pub fits : FitTable U E xs
+  pub table : BoundTable
+  pub starts : StartTableWithin U E N most c table
+  pub stands : Stand U E table xs
 
 -- settle rounds up to a cap, from the table of a core that grows for at most so many rounds
 pub record IsSettledFrom (U : Unfolding) (E : Envelope) (N : Network) (most cap : ℕ) (c : Core)

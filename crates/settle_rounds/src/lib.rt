@@ -13,6 +13,6 @@ pub use laws::{
     settle_times_hold, start_times_hold, starts_hold_within, still_stays_within,
     tables_grow_within, yes_leaves, yes_leaves_from,
 };
-pub use limits::{MOST_BOUND_FIRINGS, settle_cap};
-pub use settling::{Settled, settle, settle_time};
-pub use starts::settle_from;
+pub use limits::{MOST_BOUND_FIRINGS, growing_cap, settle_cap};
+pub use settling::{Settled, any_bounds, settle, settle_time};
+pub use starts::{settle_from, start_bounds};

@@ -9,10 +9,11 @@ use fc_nodes::Verdict;
 /// The most firings of bounds with which settle rounds are looked for.
 pub const MOST_BOUND_FIRINGS: u32 = 1_000_000;
 
-/// The most rounds of growing that are looked at, for a network of so many devices.
+/// The most rounds that are looked at where nothing else limits them, for so many devices.
 pub fn growing_cap(devices: usize) -> u32
     requires { 1 ≤ devices }
-    ensures { result ≡ growing_cap devices }
+    ensures value { result ≡ growing_cap devices }
+    ensures some { devices ≤ MOST_BOUND_FIRINGS → 1 ≤ result }
 {
     let most = u64::from(MOST_BOUND_FIRINGS) / devices as u64;
     most as u32

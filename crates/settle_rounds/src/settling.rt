@@ -42,22 +42,8 @@ pub fn settle(
         cap) }
 {
     let envelope = exact_envelope(alloc, network)?;
-    settle_any(alloc, program, &envelope, cap)
-}
-
-// The same of the devices of an envelope.
-pub(crate) fn settle_any(
-    alloc: Global,
-    program: &Unfolded,
-    envelope: &Envelope,
-    cap: u32,
-) -> Result<Vec<Option<Settled>>, Memory>
-    requires { envelope.now.declared ≡ program.now.declared }
-    ensures { IfOk result (λ v. map (option_map settled_in) v.items
-        ≡ all_settle_to (unfolding_of program.now) envelope.now (any_table (unfolding_of program.now)) cap) }
-{
-    let start = any_bounds(alloc, program, envelope)?;
-    settle_over(alloc, program, envelope, &start, cap)
+    let start = any_bounds(alloc, program, &envelope)?;
+    settle_over(alloc, program, &envelope, &start, cap)
 }
 
 // The same from a table of bounds.
@@ -91,8 +77,8 @@ pub(crate) fn settle_over(
     Ok(settled)
 }
 
-// As many bounds of any export as there are devices.
-fn any_bounds(
+/// The table of any exports, from which rounds are counted that begin anyhow.
+pub fn any_bounds(
     alloc: Global,
     program: &Unfolded,
     envelope: &Envelope,

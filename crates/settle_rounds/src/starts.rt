@@ -17,10 +17,10 @@ ghost use Rattle.bound_rounds.specs.Tables.{FitTable, device_at};
 ghost use Rattle.settle_rounds.specs.Starts.{growing_cap};
 ghost use Rattle.settle_rounds.specs.Within.{FirstWithin, no_seats};
 ghost use Rattle.settle_rounds.specs.References.{FirstBounds, GrowsOn, HasState, IsGrown, IsSettledFrom};
-ghost use Rattle.settle_rounds.specs.References.{LandingBound, SameButFlight, StateBound, settled_in};
+ghost use Rattle.settle_rounds.specs.References.{LandingBound, SameButFlight, StartBounds, StateBound, settled_in};
 
 use crate::limits::growing_cap;
-use crate::settling::{Settled, settle_any, settle_over};
+use crate::settling::{Settled, any_bounds, settle_over};
 use bound_firing::{ExportBound, Seats, any_export_bound, fire_bounds};
 use bound_rounds::{RoundKind, round, table_of};
 use device_eval::{Scratch, evaluate};
@@ -40,33 +40,49 @@ pub fn settle_from(alloc: Global, core: &mut Core, cap: u32) -> Result<Vec<Optio
     ensures same { IsSameCore core.old core.new }
 {
     let envelope = exact_envelope(alloc, core.net())?;
-    let first = first_bounds(alloc, core, &envelope)?;
-    let settled = settle_grown(alloc, core.program(), &envelope, &first, cap)?;
+    let start = start_bounds(alloc, core, &envelope)?;
+    let settled = settle_over(alloc, core.program(), &envelope, &start, cap)?;
     Ok(settled)
 }
 
+/// The table from which rounds within an envelope are counted that begin with the exports of a core and its copies in
+/// flight: first bounds, grown until they are full; or any exports, where that takes too many rounds.
+pub fn start_bounds(
+    alloc: Global,
+    core: &mut Core,
+    envelope: &Envelope,
+) -> Result<Vec<ExportBound>, Memory>
+    requires declared { envelope.now.declared ≡ core.old.program.declared }
+    requires some { 1 ≤ length envelope.now.devices }
+    ensures start { IfOk result (λ v. StartBounds (program_of core.old) envelope.now core.old.net
+        (growing_cap (length envelope.now.devices)) (core_of core.old) v.items) }
+    ensures same { IsSameCore core.old core.new }
+{
+    let first = first_bounds(alloc, core, envelope)?;
+    let start = grown_bounds(alloc, core.program(), envelope, &first)?;
+    Ok(start)
+}
+
 // The same from first bounds.
-fn settle_grown(
+fn grown_bounds(
     alloc: Global,
     program: &Unfolded,
     envelope: &Envelope,
     first: &[ExportBound],
-    cap: u32,
-) -> Result<Vec<Option<Settled>>, Memory>
+) -> Result<Vec<ExportBound>, Memory>
     requires declared { envelope.now.declared ≡ program.now.declared }
     requires some { 1 ≤ length envelope.now.devices }
     requires fits { FitTable (unfolding_of program.now) envelope.now first.now }
     ensures { IfOk result (λ v. (n : PlainNetwork) (c : PlainCore)
         → FirstBounds (unfolding_of program.now) envelope.now n c first.now
-        → IsSettledFrom (unfolding_of program.now) envelope.now n (growing_cap (length envelope.now.devices)) cap c
-        (map (option_map settled_in) v.items)) }
+        → StartBounds (unfolding_of program.now) envelope.now n (growing_cap (length envelope.now.devices)) c v.items) }
 {
     let most = growing_cap(envelope.devices().len());
-    let settled = match grow(alloc, program, envelope, first, most)? {
-        Some(start) => settle_over(alloc, program, envelope, &start, cap)?,
-        None => settle_any(alloc, program, envelope, cap)?,
-    };
-    Ok(settled)
+    if let Some(grown) = grow(alloc, program, envelope, first, most)? {
+        return Ok(grown);
+    }
+    let any = any_bounds(alloc, program, envelope)?;
+    Ok(any)
 }
 
 // What first bounds grow to until they are full, unless they grow longer than so many rounds.

@@ -8,22 +8,31 @@ use Rattle.fc_types.specs.Views.{known_of, scope_of}
 use Rattle.fc_types.proofs.expressions.+judge.Given as goal
 
 abbrev pub decreases-judge : goal.decreases-judge
-decreases-judge l = 2 * the_size l.expr.now
+decreases-judge l = 3 * the_size l.expr.now
 
 abbrev pub decreases-judge_all : goal.decreases-judge_all
-decreases-judge_all l = 2 * most the_size l.args.now + 1
+decreases-judge_all l = 3 * most the_size l.args.now + 1
+
+abbrev pub decreases-judge_apply : goal.decreases-judge_apply
+decreases-judge_apply l = 3 * most the_size l.args.now + 2
+
+abbrev pub decreases-judge_call : goal.decreases-judge_call
+decreases-judge_call l = 3 * most the_size l.args.now + 2
+
+abbrev pub decreases-judge_nbr : goal.decreases-judge_nbr
+decreases-judge_nbr l = 3 * the_size l.inner.now + 1
 
 abbrev pub invariant-judge_all-loop-arg : goal.invariant-judge_all-loop-arg
 invariant-judge_all-loop-arg l = judge_all (known_of l.known) (scope_of l.scope) (terms (map term_of (take l.arg-index l.args))) ≡ TypesAre (map type_of l.types.items)
 
 abbrev pub decreases-judge_rep : goal.decreases-judge_rep
-decreases-judge_rep l = 2 * max (the_size l.first.now) (the_size l.body.now) + 1
+decreases-judge_rep l = 3 * max (the_size l.first.now) (the_size l.body.now) + 1
 
 abbrev pub decreases-judge_share : goal.decreases-judge_share
-decreases-judge_share l = 2 * max (the_size l.first.now) (the_size l.body.now) + 1
+decreases-judge_share l = 3 * max (the_size l.first.now) (the_size l.body.now) + 1
 
 abbrev pub decreases-judge_branches : goal.decreases-judge_branches
-decreases-judge_branches l = 2 * max (the_size l.condition.now) (max (the_size l.then.now) (the_size l.other.now)) + 1
+decreases-judge_branches l = 3 * max (the_size l.condition.now) (max (the_size l.then.now) (the_size l.other.now)) + 1
 
 abbrev pub decreases-judge_let : goal.decreases-judge_let
-decreases-judge_let l = 2 * max (the_size l.bound.now) (the_size l.body.now) + 1
+decreases-judge_let l = 3 * max (the_size l.bound.now) (the_size l.body.now) + 1

@@ -1,0 +1,9 @@
+//! Last bounds: with which table rounds within an envelope end, and after how many rounds each device has the bound that
+//! it has there.
+#![tactic(auto)]
+
+mod changes;
+mod ends;
+mod lasts;
+
+pub use lasts::{LastBound, last_bounds};
