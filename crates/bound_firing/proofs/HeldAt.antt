@@ -87,13 +87,15 @@ argument_stands {ns} {lay} {p} {o} {t} {ks} {k} st h e =
     subst (λ qs. AllLaid ns (suc p) (terms_by (term_at ns) qs)) (sym e) i.kids in
     let is : k ≡ suc p = ap (λ qs. get_or qs 0 0) (e ∙ i.stand_at
     ∙ ap (λ qs. places (suc p) (terms_by (term_at ns) qs)) (sym e)) in
-    let there = subst (λ r. Laid ns r (term_at ns k)) (sym is) laid.0 in
-    (omega (arith, is), record {
-      layout = st.layout;
-      formed = st.formed;
-      laid = there;
-      within = laid_within ns k (term_at ns k) there;
-    })
+    let there = subst (λ r. Laid ns r (term_at ns k)) (sym is) laid.0 in (
+      omega (arith, is),
+      record {
+        layout = st.layout;
+        formed = st.formed;
+        laid = there;
+        within = laid_within ns k (term_at ns k) there;
+      },
+    )
 
 -- ---- what a builtin makes of some arguments
 

@@ -12,7 +12,9 @@ ghost use Rattle.bound_firing.specs.Walks.{started, one_of};
 ghost use Rattle.bound_firing.specs.Contexts.{vars_in, evolution_in, maybe_in, ReadyIn, ReadyFor, FiredTo, ReadyKids};
 ghost use Rattle.bound_firing.specs.Contexts.{KidsFiredTo, ReadyBranch, BranchFiredTo, SeenTo, BuiltOf};
 
-use crate::arguments::{Argument, held, lend_all, makes_pair, of_one, of_three, of_two, paired, seen};
+use crate::arguments::{
+    Argument, held, lend_all, makes_pair, of_one, of_three, of_two, paired, seen,
+};
 use crate::seating::{
     cut_to_seats, may_be, own_or_first, seat_field, seat_weights, seats_in_branch, slot_at,
 };
@@ -174,7 +176,15 @@ fn eval_three(
     let first = seen(&a);
     let second = seen(&b);
     let third = seen(&c);
-    let bound = of_three(alloc, builtin, first, second, third, context.device, ceiling)?;
+    let bound = of_three(
+        alloc,
+        builtin,
+        first,
+        second,
+        third,
+        context.device,
+        ceiling,
+    )?;
     Ok(bound)
 }
 

@@ -140,11 +140,7 @@ pub fn own_or_first(
 
 /// A bound of a variable's value as it is at these seats: that of a field is cut down to their neighbours, and one is
 /// sure where it was before and has a sure seat.
-pub fn cut_to_seats(
-    alloc: Global,
-    bound: &BoundRef<'_>,
-    seats: &Seats<'_>,
-) -> Result<Bound, Memory>
+pub fn cut_to_seats(alloc: Global, bound: &BoundRef<'_>, seats: &Seats<'_>) -> Result<Bound, Memory>
     ensures { IfOk result (λ b. any_bound_in b
         ≡ cut_to (flat_maybes (flat_seats_in seats.now).near) (lent_bound_in bound.now)) }
 {

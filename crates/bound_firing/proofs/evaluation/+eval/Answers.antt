@@ -7,7 +7,7 @@ use Rattle.bound_firing.proofs.LetAt.{let_kids, let_value, let_body, let_done}
 use Rattle.bound_firing.proofs.NbrAt.{nbr_kids, nbr_there, nbr_kid, nbr_within, nbr_done}
 use Rattle.bound_firing.proofs.EvolveAt.{evolve_kids, evolve_there, evolve_a, evolve_b, evolve_within, evolve_done}
 use Rattle.bound_firing.proofs.IfAt.{if_kids, if_condition, if_there, if_true, if_false, if_done}
-use Rattle.bound_firing.proofs.ApplyAt.{apply_ready, apply_done, apply_later, none_done, kid_there, rest_there}
+use Rattle.bound_firing.proofs.ApplyAt.{apply_ready, apply_later, none_done, kid_there, rest_there}
 use Rattle.bound_firing.proofs.ApplyAt.{all_done}
 use Rattle.bound_firing.proofs.HeldAt.{apply_built, built_one, built_two, built_three, built_all}
 use Rattle.bound_firing.proofs.HeldAt.{one_item, two_items, three_items}
