@@ -13,5 +13,6 @@ mod NbrAt
 mod EvolveAt
 mod LeafAt
 mod ApplyAt
+mod HeldAt
 mod IfAt
 mod RootAt

@@ -7,6 +7,10 @@ use Rattle.value_bounds.specs.declared.bounds.LocalBound.{LocalBound}
 use Rattle.value_bounds.specs.declared.bounds.Bound.{Bound}
 use Rattle.value_bounds.specs.BoundBuiltins.{AnyBound}
 use Rattle.value_bounds.specs.References.{local_bounds_in, any_bound_in, any_bounds_in}
+use Rattle.value_bounds.specs.References.{lent_bound_in}
+use Rattle.fc_values.specs.declared.builtins.Builtin.{Builtin}
+use Rattle.bound_firing.specs.declared.arguments.Argument.{Argument}
+use Rattle.bound_firing.specs.declared.arguments.Argument.TheVariants as argument
 use Rattle.bound_firing.specs.declared.evaluation.Context.{Context}
 use Rattle.bound_firing.specs.declared.evaluation.Scope.{Scope}
 use Rattle.bound_firing.specs.declared.evaluation.Scope.TheVariants as scope
@@ -16,6 +20,7 @@ use Rattle.bound_firing.specs.declared.evaluation.Evolution.TheVariants as evolu
 use Rattle.bound_firing.specs.Firing.{BoundSituation, BoundVars}
 use Rattle.bound_firing.specs.References.{flat_seats_in}
 use Rattle.bound_firing.specs.Walks.{Ready, ReadyAt, DidAt, EachReady, AllDid, BranchReady, BranchDid}
+use Rattle.bound_firing.specs.Held.{Gives, Built}
 
 -- the situation of a context
 abbrev pub situation_in : Context → BoundSituation
@@ -29,11 +34,16 @@ situation_in c = record {
 -- the binders in scope
 abbrev pub vars_in : Scope → BoundVars
 vars_in scope.Empty = []
-vars_in (scope.Bind' n b p rest) = (n, any_bound_in b.now) ∷ vars_in rest
+vars_in (scope.Bind' n b p rest) = (n, lent_bound_in b) ∷ vars_in rest
 
 abbrev pub evolution_in : CodeEvolution → Evolution
 evolution_in evolution.Rep = ByRep
 evolution_in evolution.Share = ByShare
+
+-- the bound of an argument
+abbrev pub argument_in : Argument → AnyBound
+argument_in (argument.Made b) = any_bound_in b
+argument_in (argument.Held b) = lent_bound_in b
 
 abbrev pub maybe_in : Option Bound → Option AnyBound
 maybe_in o = option_map any_bound_in o
@@ -52,7 +62,21 @@ abbrev pub FiredTo : Context → ℕ → Sight → List LocalBound → List Loca
 FiredTo c p s old new b = DidAt (situation_in c) c.program.now.nodes p (vars_in s.vars.now)
     (flat_seats_in s.seats.now) (local_bounds_in old) (any_bound_in b) (local_bounds_in new)
 
--- the same for places one after another, whose bounds are added to others
+-- the same of an argument, and of what a binder holds
+abbrev pub SeenTo : Context → ℕ → Sight → List LocalBound → List LocalBound → Argument → Type 0
+SeenTo c p s old new a = DidAt (situation_in c) c.program.now.nodes p (vars_in s.vars.now)
+    (flat_seats_in s.seats.now) (local_bounds_in old) (argument_in a) (local_bounds_in new)
+
+abbrev pub IsHeld : Context → ℕ → Sight → AnyBound → Type 0
+IsHeld c p s b = Gives (situation_in c) c.program.now.nodes c.layout.now p (vars_in s.vars.now)
+    (flat_seats_in s.seats.now) b
+
+-- what a builtin makes of what places one after another give
+abbrev pub BuiltOf : Context → Builtin → List ℕ → Sight → List LocalBound → List LocalBound → Bound → Type 0
+BuiltOf c o ks s old new b = Built (situation_in c) c.program.now.nodes o ks (vars_in s.vars.now)
+    (flat_seats_in s.seats.now) (local_bounds_in old) (any_bound_in b) (local_bounds_in new)
+
+-- the same as for one place for places one after another, whose bounds are added to others
 abbrev pub ReadyKids : Context → List ℕ → Sight → List LocalBound → Type 0
 ReadyKids c ks s xs = EachReady (situation_in c) c.program.now.nodes c.layout.now ks (vars_in s.vars.now)
     (flat_seats_in s.seats.now) (local_bounds_in xs)

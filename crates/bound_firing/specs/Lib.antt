@@ -5,5 +5,6 @@ pub mod Exports
 pub mod FlatSeats
 pub mod References
 pub mod Walks
+pub mod Held
 pub mod Contexts
 pub mod ExportReferences

@@ -1,6 +1,6 @@
 //! The evaluation of a program's nodes over bounds.
 
-ghost use Rattle.std.specs.Prelude.{◌≡◌, ◌<◌, IfOk, OnOk, length, map, min, slice_get, slice_set};
+ghost use Rattle.std.specs.Prelude.{[], ◌∷◌, ◌≡◌, ◌<◌, IfOk, OnOk, length, map, min, slice_get, slice_set};
 ghost use Rattle.fc_nodes.specs.Terms.{OfApply, OfNbr, OfEvolve, OfIf, OfLet};
 ghost use Rattle.value_bounds.specs.BoundValues.{Between};
 ghost use Rattle.value_bounds.specs.References.{local_bound_in, local_bounds_in, any_bound_in};
@@ -10,8 +10,11 @@ ghost use Rattle.bound_firing.specs.FlatSeats.{SlotsHave, flat_maybes};
 ghost use Rattle.bound_firing.specs.References.{flat_seats_in};
 ghost use Rattle.bound_firing.specs.Walks.{started, one_of};
 ghost use Rattle.bound_firing.specs.Contexts.{vars_in, evolution_in, maybe_in, ReadyIn, ReadyFor, FiredTo, ReadyKids};
-ghost use Rattle.bound_firing.specs.Contexts.{KidsFiredTo, ReadyBranch, BranchFiredTo};
+ghost use Rattle.bound_firing.specs.Contexts.{KidsFiredTo, ReadyBranch, BranchFiredTo, SeenTo, BuiltOf};
 
+use crate::arguments::{
+    Argument, held, lend_all, makes_pair, of_one, of_three, of_two, paired, seen,
+};
 use crate::seating::{
     cut_to_seats, may_be, own_or_first, seat_field, seat_weights, seats_in_branch, slot_at,
 };
@@ -19,7 +22,9 @@ use crate::seats::Seats;
 use fc_nodes::{Layout, Node, Op, Unfolded, ceiling_of, least_weight, slot_of};
 use fc_values::{Builtin, Memory};
 use std::alloc::Global;
-use value_bounds::{Bound, LocalBound, bound_of_builtin, copy_bound, either, exactly};
+use value_bounds::{
+    Bound, BoundRef, LocalBound, bound_of_builtin, copy_bound, either, exactly, lend,
+};
 
 /// What a firing depends on: a program, its layout, the device, and bounds of its inputs.
 #[derive(Clone, Copy)]
@@ -34,7 +39,7 @@ pub struct Context<'a> {
 #[derive(Clone, Copy)]
 pub enum Scope<'a> {
     Empty,
-    Bind(u32, &'a Bound, &'a Scope<'a>),
+    Bind(u32, BoundRef<'a>, &'a Scope<'a>),
 }
 
 /// What a node sees: the exports that may be aligned there, and the binders in scope.
@@ -95,11 +100,112 @@ fn eval_apply(
     requires { ReadyFor context.now place sight.now node.now (OfApply builtin) draft.old }
     ensures { IfOk result (FiredTo context.now place sight.now draft.old draft.new) }
 {
-    let kids = node.kids.as_slice();
+    match node.kids.as_slice() {
+        [a] => Ok(eval_one(alloc, context, *a, builtin, sight, draft)?),
+        [a, b] => Ok(eval_two(alloc, context, *a, *b, builtin, sight, draft)?),
+        [a, b, c] => Ok(eval_three(alloc, context, *a, *b, *c, builtin, sight, draft)?),
+        kids => Ok(eval_more(alloc, context, kids, builtin, sight, draft)?),
+    }
+}
+
+// What a builtin makes of one argument.
+#[cycle(eval)]
+fn eval_one(
+    alloc: Global,
+    context: &Context<'_>,
+    kid: u32,
+    builtin: Builtin,
+    sight: &Sight<'_, '_>,
+    draft: &mut [LocalBound],
+) -> Result<Bound, Memory>
+    requires { ReadyKids context.now (kid ∷ []) sight.now draft.old }
+    ensures { IfOk result (BuiltOf context.now builtin (kid ∷ []) sight.now draft.old draft.new) }
+{
+    let a = eval_argument(alloc, context, kid, sight, draft)?;
+    let ceiling = ceiling_of(context.program);
+    let bound = of_one(alloc, builtin, seen(&a), context.device, ceiling)?;
+    Ok(bound)
+}
+
+// What a builtin makes of two arguments.
+#[cycle(eval)]
+fn eval_two(
+    alloc: Global,
+    context: &Context<'_>,
+    first: u32,
+    second: u32,
+    builtin: Builtin,
+    sight: &Sight<'_, '_>,
+    draft: &mut [LocalBound],
+) -> Result<Bound, Memory>
+    requires { ReadyKids context.now (first ∷ second ∷ []) sight.now draft.old }
+    ensures { IfOk result (BuiltOf context.now builtin (first ∷ second ∷ []) sight.now draft.old draft.new) }
+{
+    let a = eval_argument(alloc, context, first, sight, draft)?;
+    let b = eval_argument(alloc, context, second, sight, draft)?;
+    if makes_pair(builtin, &a, &b) {
+        let bound = paired(alloc, a, b)?;
+        return Ok(bound);
+    }
+    let ceiling = ceiling_of(context.program);
+    let first = seen(&a);
+    let second = seen(&b);
+    let bound = of_two(alloc, builtin, first, second, context.device, ceiling)?;
+    Ok(bound)
+}
+
+// What a builtin makes of three arguments.
+#[cycle(eval)]
+fn eval_three(
+    alloc: Global,
+    context: &Context<'_>,
+    first: u32,
+    second: u32,
+    third: u32,
+    builtin: Builtin,
+    sight: &Sight<'_, '_>,
+    draft: &mut [LocalBound],
+) -> Result<Bound, Memory>
+    requires { ReadyKids context.now (first ∷ second ∷ third ∷ []) sight.now draft.old }
+    ensures { IfOk result (BuiltOf context.now builtin (first ∷ second ∷ third ∷ []) sight.now draft.old draft.new) }
+{
+    let a = eval_argument(alloc, context, first, sight, draft)?;
+    let b = eval_argument(alloc, context, second, sight, draft)?;
+    let c = eval_argument(alloc, context, third, sight, draft)?;
+    let ceiling = ceiling_of(context.program);
+    let first = seen(&a);
+    let second = seen(&b);
+    let third = seen(&c);
+    let bound = of_three(
+        alloc,
+        builtin,
+        first,
+        second,
+        third,
+        context.device,
+        ceiling,
+    )?;
+    Ok(bound)
+}
+
+// What a builtin makes of any number of arguments.
+#[cycle(eval)]
+fn eval_more(
+    alloc: Global,
+    context: &Context<'_>,
+    kids: &[u32],
+    builtin: Builtin,
+    sight: &Sight<'_, '_>,
+    draft: &mut [LocalBound],
+) -> Result<Bound, Memory>
+    requires { ReadyKids context.now kids.now sight.now draft.old }
+    ensures { IfOk result (BuiltOf context.now builtin kids.now sight.now draft.old draft.new) }
+{
     let mut args = Vec::with_capacity(alloc, kids.len())?;
     eval_kids(alloc, context, kids, sight, draft, &mut args)?;
+    let lent = lend_all(alloc, &args)?;
     let ceiling = ceiling_of(context.program);
-    let bound = bound_of_builtin(alloc, builtin, args.as_slice(), context.device, ceiling)?;
+    let bound = bound_of_builtin(alloc, builtin, &lent, context.device, ceiling)?;
     Ok(bound)
 }
 
@@ -124,6 +230,27 @@ fn eval_kids(
     args.push(bound)?;
     eval_kids(alloc, context, rest, sight, draft, args)?;
     Ok(())
+}
+
+// Evaluates a node whose bound is only looked at: one that a binder holds isn't copied.
+#[cycle(eval)]
+fn eval_argument<'a>(
+    alloc: Global,
+    context: &Context<'_>,
+    place: u32,
+    sight: &Sight<'a, '_>,
+    draft: &mut [LocalBound],
+) -> Result<Argument<'a>, Memory>
+    requires { ReadyIn context.now place sight.now draft.old }
+    ensures { IfOk result (SeenTo context.now place sight.now draft.old draft.new) }
+{
+    match held(context, place, sight) {
+        Some(bound) => Ok(Argument::Held(bound)),
+        None => {
+            let bound = eval(alloc, context, place, sight, draft)?;
+            Ok(Argument::Made(bound))
+        }
+    }
 }
 
 #[cycle(eval)]
@@ -162,7 +289,7 @@ fn eval_evolve(
     let slot = slot_of(context.layout, place);
     let first = eval(alloc, context, node.kids[0], sight, draft)?;
     let start = starting_bound(alloc, evolution, sight.seats, slot, into_local(first))?;
-    let evolving = Scope::Bind(place, &start, sight.vars);
+    let evolving = Scope::Bind(place, lend(&start), sight.vars);
     let body = Sight {
         seats: sight.seats,
         vars: &evolving,
@@ -232,8 +359,8 @@ fn eval_let(
     requires { ReadyFor context.now place sight.now node.now OfLet draft.old }
     ensures { IfOk result (FiredTo context.now place sight.now draft.old draft.new) }
 {
-    let value = eval(alloc, context, node.kids[0], sight, draft)?;
-    let inner = Scope::Bind(place, &value, sight.vars);
+    let value = eval_argument(alloc, context, node.kids[0], sight, draft)?;
+    let inner = Scope::Bind(place, seen(&value), sight.vars);
     let body = Sight {
         seats: sight.seats,
         vars: &inner,

@@ -1,6 +1,7 @@
 //! The firing of a device over bounds in place of values.
 #![tactic(auto)]
 
+mod arguments;
 mod evaluation;
 mod firing;
 mod laws;

@@ -1,13 +1,14 @@
 //! Seats in a branch, and bounds of fields over seats.
 
-ghost use Rattle.std.specs.Prelude.{◌≡◌, ◌<◌, IfOk, length, option_map};
+ghost use Rattle.std.specs.Prelude.{◌≡◌, ◌<◌, IfOk, IfSome, IsTrue, length, option_map};
 ghost use Rattle.value_bounds.specs.BoundValues.{Between};
 ghost use Rattle.value_bounds.specs.BoundBuiltins.{BoundField};
 ghost use Rattle.value_bounds.specs.References.{local_bound_in, local_bounds_in, entries_in};
-ghost use Rattle.value_bounds.specs.References.{field_bound_in, any_bound_in};
+ghost use Rattle.value_bounds.specs.References.{field_bound_in, any_bound_in, lent_bound_in};
 ghost use Rattle.bound_firing.specs.BoundTrees.{slot_bound};
 ghost use Rattle.bound_firing.specs.Seats.{may_be as truth_may_be, is_settled as truth_is_settled};
 ghost use Rattle.bound_firing.specs.Seats.{is_there, is_sure, cut_to, cut_entries};
+ghost use Rattle.bound_firing.specs.Held.{AreSeated};
 ghost use Rattle.bound_firing.specs.FlatSeats.{SlotsHave, NearHaveSlot, flat_maybes};
 ghost use Rattle.bound_firing.specs.FlatSeats.{flat_branch, flat_own_branch, flat_near_branch};
 ghost use Rattle.bound_firing.specs.FlatSeats.{flat_entries, flat_weight, flat_slot, flat_own_bound};
@@ -16,7 +17,7 @@ ghost use Rattle.bound_firing.specs.References.{own_seat_in, near_seats_in, flat
 use crate::seats::{NearSeat, OwnSeat, Seats};
 use fc_values::Memory;
 use std::alloc::Global;
-use value_bounds::{Bound, BoundEntry, FieldBound, LocalBound, copy_bound, either};
+use value_bounds::{Bound, BoundEntry, BoundRef, FieldBound, LocalBound, copy_bound, either};
 
 /// The seats in the branch of a truth value: those whose bound in the slot of an `if` holds it. One is sure there where
 /// it was before and its bound is known.
@@ -139,18 +140,48 @@ pub fn own_or_first(
 
 /// A bound of a variable's value as it is at these seats: that of a field is cut down to their neighbours, and one is
 /// sure where it was before and has a sure seat.
-pub fn cut_to_seats(alloc: Global, bound: &Bound, seats: &Seats<'_>) -> Result<Bound, Memory>
+pub fn cut_to_seats(alloc: Global, bound: &BoundRef<'_>, seats: &Seats<'_>) -> Result<Bound, Memory>
     ensures { IfOk result (λ b. any_bound_in b
-        ≡ cut_to (flat_maybes (flat_seats_in seats.now).near) (any_bound_in bound.now)) }
+        ≡ cut_to (flat_maybes (flat_seats_in seats.now).near) (lent_bound_in bound.now)) }
 {
     match bound {
-        Bound::Local(local) => Ok(Bound::Local(copy_bound(alloc, local)?)),
-        Bound::Field(field) => Ok(Bound::Field(FieldBound {
+        BoundRef::Local(local) => Ok(Bound::Local(copy_bound(alloc, local)?)),
+        BoundRef::Field(field) => Ok(Bound::Field(FieldBound {
             own: copy_bound(alloc, &field.own)?,
             entries: cut_to_near(alloc, &field.entries, &seats.near)?,
         })),
-        Bound::Any => Ok(Bound::Any),
+        BoundRef::Any => Ok(Bound::Any),
     }
+}
+
+/// The bound of a variable's value where it is the same at these seats, so that it needn't be copied.
+pub fn as_it_is<'a>(bound: &BoundRef<'a>, seats: &Seats<'_>) -> Option<BoundRef<'a>>
+    ensures { IfSome result (λ b. lent_bound_in b
+        ≡ cut_to (flat_maybes (flat_seats_in seats.now).near) (lent_bound_in bound.now)) }
+{
+    match bound {
+        BoundRef::Local(_) | BoundRef::Any => Some(*bound),
+        BoundRef::Field(field) => {
+            if are_seated(&field.entries, &seats.near) {
+                Some(*bound)
+            } else {
+                None
+            }
+        }
+    }
+}
+
+// Whether entries are of the first neighbours, one by one, and sure only where their seats are.
+fn are_seated(entries: &[BoundEntry], near: &[NearSeat<'_>]) -> bool
+    ensures { IsTrue result → AreSeated (flat_maybes (near_seats_in near.now)) (entries_in entries.now) }
+{
+    let Some((entry, rest)) = entries.split_first() else {
+        return true;
+    };
+    let Some((seat, others)) = near.split_first() else {
+        return false;
+    };
+    entry.device == seat.device && (!entry.sure || seat.sure) && are_seated(rest, others)
 }
 
 // The entries of neighbours that have a seat. Where entries and seats are in one order, a seat is found at the first

@@ -6,6 +6,8 @@ use Rattle.value_bounds.specs.declared.bounds.BoundEntry.{BoundEntry}
 use Rattle.value_bounds.specs.declared.bounds.FieldBound.{FieldBound}
 use Rattle.value_bounds.specs.declared.bounds.Bound.{Bound}
 use Rattle.value_bounds.specs.declared.bounds.Bound.TheVariants as bound
+use Rattle.value_bounds.specs.declared.bounds.BoundRef.{BoundRef}
+use Rattle.value_bounds.specs.declared.bounds.BoundRef.TheVariants as lent
 use Rattle.value_bounds.specs.BoundValues.{BoundValue, Between, Truths, Both, Unbounded}
 use Rattle.value_bounds.specs.BoundBuiltins.{BoundEntries, AnyBound, BoundLocal, BoundField, BoundAny}
 
@@ -38,3 +40,12 @@ any_bound_in bound.Any = BoundAny
 
 abbrev pub any_bounds_in : List Bound → List AnyBound
 any_bounds_in bs = map any_bound_in bs
+
+-- a bound that stands elsewhere, and several
+abbrev pub lent_bound_in : BoundRef → AnyBound
+lent_bound_in (lent.Local b) = BoundLocal (local_bound_in b.now)
+lent_bound_in (lent.Field f) = field_bound_in f.now
+lent_bound_in lent.Any = BoundAny
+
+abbrev pub lent_bounds_in : List BoundRef → List AnyBound
+lent_bounds_in bs = map lent_bound_in bs

@@ -2,9 +2,9 @@
 
 ghost use Rattle.std.specs.Prelude.{◌≡◌, IfOk};
 ghost use Rattle.value_bounds.specs.BoundBuiltins.{builtin_bound};
-ghost use Rattle.value_bounds.specs.References.{any_bound_in, any_bounds_in};
+ghost use Rattle.value_bounds.specs.References.{any_bound_in, lent_bounds_in};
 
-use crate::bounds::Bound;
+use crate::bounds::{Bound, BoundRef};
 use crate::hoods::{all_hood, any_hood, greatest_hood, least_hood, sum_hood};
 use crate::pointwise::pointwise;
 use fc_values::{Builtin, Memory};
@@ -14,12 +14,12 @@ use std::alloc::Global;
 pub fn bound_of_builtin(
     alloc: Global,
     builtin: Builtin,
-    args: &[Bound],
+    args: &[BoundRef<'_>],
     device: u32,
     ceiling: u32,
 ) -> Result<Bound, Memory>
     ensures { IfOk result (λ b.
-        any_bound_in b ≡ builtin_bound builtin ceiling device (any_bounds_in args.now)) }
+        any_bound_in b ≡ builtin_bound builtin ceiling device (lent_bounds_in args.now)) }
 {
     match builtin {
         Builtin::MinHoodLoc => Ok(Bound::Local(least_hood(alloc, args)?)),

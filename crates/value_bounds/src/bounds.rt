@@ -5,7 +5,7 @@ ghost use Rattle.fc_values.specs.Types.{local_type_of};
 ghost use Rattle.fc_values.specs.Values.{local_of};
 ghost use Rattle.value_bounds.specs.BoundValues.{anything as anything_of, either as either_of, exactly as exactly_of};
 ghost use Rattle.value_bounds.specs.BoundValues.{Both, is_known as known, value_left as left};
-ghost use Rattle.value_bounds.specs.References.{local_bound_in};
+ghost use Rattle.value_bounds.specs.References.{any_bound_in, lent_bound_in, local_bound_in};
 
 use fc_values::{Local, LocalTy, Memory};
 use std::alloc::Global;
@@ -41,6 +41,25 @@ pub enum Bound {
     Local(LocalBound),
     Field(FieldBound),
     Any,
+}
+
+/// A bound of a value that stands elsewhere.
+#[derive(Clone, Copy)]
+pub enum BoundRef<'a> {
+    Local(&'a LocalBound),
+    Field(&'a FieldBound),
+    Any,
+}
+
+/// A bound, to be looked at.
+pub fn lend(bound: &Bound) -> BoundRef<'_>
+    ensures { lent_bound_in result ≡ any_bound_in bound.now }
+{
+    match bound {
+        Bound::Local(local) => BoundRef::Local(local),
+        Bound::Field(field) => BoundRef::Field(field),
+        Bound::Any => BoundRef::Any,
+    }
 }
 
 /// The bound in which one value lies.

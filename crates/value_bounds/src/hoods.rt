@@ -4,61 +4,80 @@ ghost use Rattle.std.specs.Prelude.{◌≡◌, IfOk, if◌then◌else◌};
 ghost use Rattle.value_bounds.specs.BoundValues.{Both, either as either_of};
 ghost use Rattle.value_bounds.specs.BoundBuiltins.{all_bound, any_bound, cut, greatest_bound, hood_bound, least_bound};
 ghost use Rattle.value_bounds.specs.BoundBuiltins.{one_greatest, one_least, sum_bound};
-ghost use Rattle.value_bounds.specs.References.{any_bounds_in, entries_in, local_bound_in};
+ghost use Rattle.value_bounds.specs.References.{entries_in, lent_bounds_in, local_bound_in};
 
-use crate::bounds::{Bound, BoundEntry, LocalBound, copy_bound, either};
+use crate::bounds::{BoundEntry, BoundRef, LocalBound, copy_bound, either};
 use crate::orders::{greater_bound, greater_components, lesser_bound, lesser_components};
 use fc_values::{Builtin, Memory, add_cut};
 use std::alloc::Global;
 
 /// The bound of the least of a value and those of the neighbours.
-pub fn least_hood(alloc: Global, args: &[Bound]) -> Result<LocalBound, Memory>
+pub fn least_hood(alloc: Global, args: &[BoundRef<'_>]) -> Result<LocalBound, Memory>
     ensures { IfOk result (λ r.
-        local_bound_in r ≡ hood_bound Builtin.MinHoodLoc 0 (any_bounds_in args.now)) }
+        local_bound_in r ≡ hood_bound Builtin.MinHoodLoc 0 (lent_bounds_in args.now)) }
 {
     match args {
-        [Bound::Field(field), Bound::Local(local)] => least(alloc, &field.entries, local),
+        [spread, local] => match (spread, local) {
+            (BoundRef::Field(field), BoundRef::Local(local)) => {
+                least(alloc, &field.entries, local)
+            }
+            _ => Ok(LocalBound::Unbounded),
+        },
         _ => Ok(LocalBound::Unbounded),
     }
 }
 
 /// The bound of the greatest of a value and those of the neighbours.
-pub fn greatest_hood(alloc: Global, args: &[Bound]) -> Result<LocalBound, Memory>
+pub fn greatest_hood(alloc: Global, args: &[BoundRef<'_>]) -> Result<LocalBound, Memory>
     ensures { IfOk result (λ r.
-        local_bound_in r ≡ hood_bound Builtin.MaxHoodLoc 0 (any_bounds_in args.now)) }
+        local_bound_in r ≡ hood_bound Builtin.MaxHoodLoc 0 (lent_bounds_in args.now)) }
 {
     match args {
-        [Bound::Field(field), Bound::Local(local)] => greatest(alloc, &field.entries, local),
+        [spread, local] => match (spread, local) {
+            (BoundRef::Field(field), BoundRef::Local(local)) => {
+                greatest(alloc, &field.entries, local)
+            }
+            _ => Ok(LocalBound::Unbounded),
+        },
         _ => Ok(LocalBound::Unbounded),
     }
 }
 
 /// The bound of the sum of the neighbours' values.
-pub fn sum_hood(args: &[Bound], ceiling: u32) -> LocalBound
-    ensures { local_bound_in result ≡ hood_bound Builtin.SumHood ceiling (any_bounds_in args.now) }
+pub fn sum_hood(args: &[BoundRef<'_>], ceiling: u32) -> LocalBound
+    ensures { local_bound_in result ≡ hood_bound Builtin.SumHood ceiling (lent_bounds_in args.now) }
 {
     match args {
-        [Bound::Field(field)] => sum(&field.entries, ceiling),
+        [spread] => match spread {
+            BoundRef::Field(field) => sum(&field.entries, ceiling),
+            _ => LocalBound::Unbounded,
+        },
         _ => LocalBound::Unbounded,
     }
 }
 
 /// The bound of whether one of the neighbours' values is true.
-pub fn any_hood(args: &[Bound]) -> LocalBound
-    ensures { local_bound_in result ≡ hood_bound Builtin.AnyHood 0 (any_bounds_in args.now) }
+pub fn any_hood(args: &[BoundRef<'_>]) -> LocalBound
+    ensures { local_bound_in result ≡ hood_bound Builtin.AnyHood 0 (lent_bounds_in args.now) }
 {
     match args {
-        [Bound::Field(field)] => any(&field.entries),
+        [spread] => match spread {
+            BoundRef::Field(field) => any(&field.entries),
+            _ => LocalBound::Unbounded,
+        },
         _ => LocalBound::Unbounded,
     }
 }
 
 /// The bound of whether each of the neighbours' values is true.
-pub fn all_hood(args: &[Bound]) -> LocalBound
-    ensures { local_bound_in result ≡ hood_bound Builtin.AllHood 0 (any_bounds_in args.now) }
+pub fn all_hood(args: &[BoundRef<'_>]) -> LocalBound
+    ensures { local_bound_in result ≡ hood_bound Builtin.AllHood 0 (lent_bounds_in args.now) }
 {
     match args {
-        [Bound::Field(field)] => all(&field.entries),
+        [spread] => match spread {
+            BoundRef::Field(field) => all(&field.entries),
+            _ => LocalBound::Unbounded,
+        },
         _ => LocalBound::Unbounded,
     }
 }

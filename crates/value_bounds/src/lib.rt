@@ -11,8 +11,8 @@ mod pointwise;
 
 pub use apply::bound_of_builtin;
 pub use bounds::{
-    Bound, BoundEntry, FieldBound, LocalBound, anything, copy_bound, either, exactly, is_known,
-    same_bound, value_left,
+    Bound, BoundEntry, BoundRef, FieldBound, LocalBound, anything, copy_bound, either, exactly,
+    is_known, lend, same_bound, value_left,
 };
 pub use laws::builtins_lie;
 pub use orders::{greater_bound, high_order, lesser_bound, low_order, may_equal, must_equal};

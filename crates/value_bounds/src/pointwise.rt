@@ -6,10 +6,10 @@ ghost use Rattle.value_bounds.specs.BoundBuiltins.{BoundField, bound_at as bound
 ghost use Rattle.value_bounds.specs.BoundBuiltins.{entry_at, local_bound, maybes_in, pointwise_by, spread_of};
 ghost use Rattle.value_bounds.specs.BoundValues.{Unbounded};
 ghost use Rattle.value_bounds.specs.Lookups.{all_in_order, in_order, numbers_in};
-ghost use Rattle.value_bounds.specs.References.{any_bound_in, any_bounds_in, entries_in, field_bound_in};
-ghost use Rattle.value_bounds.specs.References.{local_bound_in};
+ghost use Rattle.value_bounds.specs.References.{any_bound_in, entries_in, field_bound_in, lent_bound_in};
+ghost use Rattle.value_bounds.specs.References.{lent_bounds_in, local_bound_in};
 
-use crate::bounds::{Bound, BoundEntry, FieldBound, LocalBound};
+use crate::bounds::{Bound, BoundEntry, BoundRef, FieldBound, LocalBound};
 use crate::locals::{of_one, of_three, of_two};
 use fc_values::{Builtin, Memory};
 use std::alloc::Global;
@@ -28,20 +28,20 @@ struct Place {
 pub fn pointwise(
     alloc: Global,
     builtin: Builtin,
-    args: &[Bound],
+    args: &[BoundRef<'_>],
     device: u32,
     ceiling: u32,
 ) -> Result<Bound, Memory>
-    ensures { let bounds = any_bounds_in args.now in IfOk result (λ b.
+    ensures { let bounds = lent_bounds_in args.now in IfOk result (λ b.
         any_bound_in b ≡ pointwise_by (local_bound builtin ceiling) device (spread_of bounds) bounds) }
 {
     for arg in args {
         match arg {
-            Bound::Local(_) => {}
-            Bound::Field(field) => {
+            BoundRef::Local(_) => {}
+            BoundRef::Field(field) => {
                 return Ok(Bound::Field(apply_over(alloc, builtin, args, field, device, ceiling)?));
             }
-            Bound::Any => return Ok(Bound::Any),
+            BoundRef::Any => return Ok(Bound::Any),
         }
     }
     let place = Place {
@@ -57,12 +57,12 @@ pub fn pointwise(
 fn apply_over(
     alloc: Global,
     builtin: Builtin,
-    args: &[Bound],
+    args: &[BoundRef<'_>],
     field: &FieldBound,
     device: u32,
     ceiling: u32,
 ) -> Result<FieldBound, Memory>
-    ensures { let bounds = any_bounds_in args.now in IfOk result (λ f. field_bound_in f
+    ensures { let bounds = lent_bounds_in args.now in IfOk result (λ f. field_bound_in f
         ≡ BoundField (local_bound builtin ceiling (bounds_at device device bounds))
         (entries_over (λ k. local_bound builtin ceiling (bounds_at device k bounds))
         (maybes_in (entries_in field.now.entries.items)))) }
@@ -95,13 +95,13 @@ fn apply_over(
 fn apply_at(
     alloc: Global,
     builtin: Builtin,
-    args: &[Bound],
+    args: &[BoundRef<'_>],
     place: Place,
     ceiling: u32,
 ) -> Result<LocalBound, Memory>
-    requires { place.in_order ≡ true → all_in_order (any_bounds_in args.now) ≡ true }
+    requires { place.in_order ≡ true → all_in_order (lent_bounds_in args.now) ≡ true }
     ensures { IfOk result (λ r. local_bound_in r
-        ≡ local_bound builtin ceiling (bounds_at place.device place.number (any_bounds_in args.now))) }
+        ≡ local_bound builtin ceiling (bounds_at place.device place.number (lent_bounds_in args.now))) }
 {
     let outside = LocalBound::Unbounded;
     match args {
@@ -122,21 +122,21 @@ fn apply_at(
 }
 
 // The bound of an argument at a place; that of no neighbour is given.
-fn bound_at<'a>(arg: &'a Bound, place: Place, outside: &'a LocalBound) -> &'a LocalBound
-    requires order { place.in_order ≡ true → in_order (any_bound_in arg.now) ≡ true }
+fn bound_at<'a>(arg: &BoundRef<'a>, place: Place, outside: &'a LocalBound) -> &'a LocalBound
+    requires order { place.in_order ≡ true → in_order (lent_bound_in arg.now) ≡ true }
     requires outside { local_bound_in outside.now ≡ Unbounded }
-    ensures { local_bound_in result.now ≡ bound_there place.device place.number (any_bound_in arg.now) }
+    ensures { local_bound_in result.now ≡ bound_there place.device place.number (lent_bound_in arg.now) }
 {
     match arg {
-        Bound::Local(bound) => bound,
-        Bound::Field(field) => {
+        BoundRef::Local(bound) => bound,
+        BoundRef::Field(field) => {
             if place.number == place.device {
                 &field.own
             } else {
                 entry_bound(&field.entries, place, outside)
             }
         }
-        Bound::Any => outside,
+        BoundRef::Any => outside,
     }
 }
 
@@ -172,11 +172,11 @@ fn find<'a>(entries: &'a [BoundEntry], number: u32, outside: &'a LocalBound) -> 
 }
 
 // Whether the numbers of each field's neighbours rise.
-fn are_in_order(args: &[Bound]) -> bool
-    ensures { result ≡ all_in_order (any_bounds_in args.now) }
+fn are_in_order(args: &[BoundRef<'_>]) -> bool
+    ensures { result ≡ all_in_order (lent_bounds_in args.now) }
 {
     for arg in args {
-        if let Bound::Field(field) = arg
+        if let BoundRef::Field(field) = arg
             && !numbers_rise(&field.entries)
         {
             return false;

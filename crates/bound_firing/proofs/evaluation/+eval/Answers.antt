@@ -1,4 +1,4 @@
-use Rattle.std.proofs.Common.{◌∙◌, [], ◌∷◌, arith, ap, refl}
+use Rattle.std.proofs.Common.{◌∙◌, [], ◌∷◌, arith, ap, refl, sym}
 use Rattle.std.proofs.lemmas.List.{map-append}
 use Rattle.value_bounds.specs.References.{any_bound_in, any_bounds_in}
 use Rattle.bound_firing.proofs.SlotReads.{slots_long}
@@ -7,8 +7,10 @@ use Rattle.bound_firing.proofs.LetAt.{let_kids, let_value, let_body, let_done}
 use Rattle.bound_firing.proofs.NbrAt.{nbr_kids, nbr_there, nbr_kid, nbr_within, nbr_done}
 use Rattle.bound_firing.proofs.EvolveAt.{evolve_kids, evolve_there, evolve_a, evolve_b, evolve_within, evolve_done}
 use Rattle.bound_firing.proofs.IfAt.{if_kids, if_condition, if_there, if_true, if_false, if_done}
-use Rattle.bound_firing.proofs.ApplyAt.{apply_ready, apply_done, apply_later, none_done, kid_there, rest_there}
+use Rattle.bound_firing.proofs.ApplyAt.{apply_ready, apply_later, none_done, kid_there, rest_there}
 use Rattle.bound_firing.proofs.ApplyAt.{all_done}
+use Rattle.bound_firing.proofs.HeldAt.{apply_built, built_one, built_two, built_three, built_all}
+use Rattle.bound_firing.proofs.HeldAt.{one_item, two_items, three_items}
 use Rattle.bound_firing.proofs.KidsAt.{ready_at}
 use Rattle.bound_firing.proofs.evaluation.+eval.Goals as goal
 
@@ -35,18 +37,132 @@ eval-returns-in_ok-seat_weights-in-NbrLink t c =
     links_done _ _ (ready_at c.requires (rw c.in-NbrLink.is at c.node-node.ensures.node))
     (rw c.least_weight-least.ensures at c.in_ok-seat_weights-in-NbrLink.ensures)
 
-pub eval_apply-eval_kids-requires : goal.eval_apply-eval_kids-requires
-eval_apply-eval_kids-requires t c =
+pub eval_apply-eval_one-requires : goal.eval_apply-eval_one-requires
+eval_apply-eval_one-requires t c =
     let d = c.decreases in
-    let l = apply_later c.requires c.as_slice-kids.ensures.value in
+    let e = one_item c.as_slice.result.now c.in-len1.len_at_least c.in-len1.len_below ∙ c.as_slice.ensures.value in
+    let l = apply_later c.requires e in
     let w = c.requires.ready.stands.within in
-    (omega (arith, d, l, w), apply_ready c.requires _ _ c.as_slice-kids.ensures.value)
+    (omega (arith, d, l, w), apply_ready c.requires _ _ e)
 
-pub eval_apply-returns : goal.eval_apply-returns
-eval_apply-returns t c =
-    let value = rw (c.as_slice.ensures.value, c.ceiling_of-ceiling.ensures) at c.in_ok-bound.ensures in
-    rw value (apply_done c.requires _ _ c.as_slice-kids.ensures.value (ap any_bounds_in c.in_ok-args.ensures.items)
-    c.in_ok-eval_kids.ensures)
+pub eval_apply-returns-in_ok-eval_one-in-len1 : goal.eval_apply-returns-in_ok-eval_one-in-len1
+eval_apply-returns-in_ok-eval_one-in-len1 t c =
+    let e = one_item c.as_slice.result.now c.in-len1.len_at_least c.in-len1.len_below ∙ c.as_slice.ensures.value in
+    apply_built c.requires _ _ e c.in_ok-eval_one-in-len1.ensures
+
+pub eval_apply-eval_two-requires : goal.eval_apply-eval_two-requires
+eval_apply-eval_two-requires t c =
+    let d = c.decreases in
+    let e = two_items c.as_slice.result.now c.in-len2.len_at_least c.in-len2.len_below ∙ c.as_slice.ensures.value in
+    let l = apply_later c.requires e in
+    let w = c.requires.ready.stands.within in
+    (omega (arith, d, l, w), apply_ready c.requires _ _ e)
+
+pub eval_apply-returns-in_ok-eval_two-in-len2 : goal.eval_apply-returns-in_ok-eval_two-in-len2
+eval_apply-returns-in_ok-eval_two-in-len2 t c =
+    let e = two_items c.as_slice.result.now c.in-len2.len_at_least c.in-len2.len_below ∙ c.as_slice.ensures.value in
+    apply_built c.requires _ _ e c.in_ok-eval_two-in-len2.ensures
+
+pub eval_apply-eval_three-requires : goal.eval_apply-eval_three-requires
+eval_apply-eval_three-requires t c =
+    let d = c.decreases in
+    let e = three_items c.as_slice.result.now c.in-len3.len_at_least c.in-len3.len_below ∙ c.as_slice.ensures.value in
+    let l = apply_later c.requires e in
+    let w = c.requires.ready.stands.within in
+    (omega (arith, d, l, w), apply_ready c.requires _ _ e)
+
+pub eval_apply-returns-in_ok-eval_three-in-len3 : goal.eval_apply-returns-in_ok-eval_three-in-len3
+eval_apply-returns-in_ok-eval_three-in-len3 t c =
+    let e = three_items c.as_slice.result.now c.in-len3.len_at_least c.in-len3.len_below ∙ c.as_slice.ensures.value in
+    apply_built c.requires _ _ e c.in_ok-eval_three-in-len3.ensures
+
+pub eval_apply-eval_more-requires : goal.eval_apply-eval_more-requires
+eval_apply-eval_more-requires t c =
+    let d = c.decreases in
+    let l = apply_later c.requires c.as_slice.ensures.value in
+    let w = c.requires.ready.stands.within in
+    (omega (arith, d, l, w), apply_ready c.requires _ _ c.as_slice.ensures.value)
+
+pub eval_apply-returns-in_ok-eval_more-in_default : goal.eval_apply-returns-in_ok-eval_more-in_default
+eval_apply-returns-in_ok-eval_more-in_default t c =
+    apply_built c.requires _ _ c.as_slice.ensures.value c.in_ok-eval_more-in_default.ensures
+
+pub eval_more-eval_kids-requires : goal.eval_more-eval_kids-requires
+eval_more-eval_kids-requires t c =
+    let d = c.decreases in
+    (omega (arith, d), c.requires)
+
+pub eval_more-returns : goal.eval_more-returns
+eval_more-returns t c =
+    let value = rw (c.deref-2.ensures.value, c.in_ok-lent.ensures, c.deref.ensures.value, c.ceiling_of-ceiling.ensures)
+    at c.in_ok-bound.ensures in
+    built_all (ap any_bounds_in c.in_ok-args.ensures.items) c.in_ok-eval_kids.ensures value
+
+pub eval_one-eval_argument-requires : goal.eval_one-eval_argument-requires
+eval_one-eval_argument-requires t c =
+    let d = c.decreases in
+    (omega (arith, d), c.requires.0)
+
+pub eval_one-returns : goal.eval_one-returns
+eval_one-returns t c =
+    built_one c.args.kid c.in_ok-a.ensures (rw (c.seen.ensures, c.ceiling_of-ceiling.ensures) at c.in_ok-bound.ensures)
+
+pub eval_two-eval_argument-requires : goal.eval_two-eval_argument-requires
+eval_two-eval_argument-requires t c =
+    let d = c.decreases in
+    (omega (arith, d), c.requires.0)
+
+pub eval_two-eval_argument-requires-2 : goal.eval_two-eval_argument-requires-2
+eval_two-eval_argument-requires-2 t c =
+    let d = c.decreases in
+    let l = c.requires.1 in
+    let r = c.requires.2 _ _ c.in_ok-a.ensures in
+    (omega (arith, d, l), r.0)
+
+pub eval_two-returns : goal.eval_two-returns
+eval_two-returns t c =
+    built_two c.args.first c.args.second c.in_ok-a.ensures c.in_ok-b.ensures
+    (rw (c.seen-first.ensures, c.seen-second.ensures, c.ceiling_of-ceiling.ensures) at c.in_ok-bound-2.ensures)
+
+pub eval_two-returns-then-makes_pair : goal.eval_two-returns-then-makes_pair
+eval_two-returns-then-makes_pair t c =
+    built_two c.args.first c.args.second c.in_ok-a.ensures c.in_ok-b.ensures
+    (c.in_ok-bound.ensures ∙ sym (c.makes_pair.ensures c.if-makes_pair.true _ _))
+
+pub eval_three-eval_argument-requires : goal.eval_three-eval_argument-requires
+eval_three-eval_argument-requires t c =
+    let d = c.decreases in
+    (omega (arith, d), c.requires.0)
+
+pub eval_three-eval_argument-requires-2 : goal.eval_three-eval_argument-requires-2
+eval_three-eval_argument-requires-2 t c =
+    let d = c.decreases in
+    let l = c.requires.1 in
+    let r = c.requires.2 _ _ c.in_ok-a.ensures in
+    (omega (arith, d, l), r.0)
+
+pub eval_three-eval_argument-requires-3 : goal.eval_three-eval_argument-requires-3
+eval_three-eval_argument-requires-3 t c =
+    let d = c.decreases in
+    let l = c.requires.1 in
+    let r = c.requires.2 _ _ c.in_ok-a.ensures in
+    let l' = r.1 in
+    let r' = r.2 _ _ c.in_ok-b.ensures in
+    (omega (arith, d, l, l'), r'.0)
+
+pub eval_three-returns : goal.eval_three-returns
+eval_three-returns t c =
+    built_three c.args.first c.args.second c.args.third c.in_ok-a.ensures c.in_ok-b.ensures c.in_ok-c.ensures
+    (rw (c.seen-first.ensures, c.seen-second.ensures, c.seen-third.ensures, c.ceiling_of-ceiling.ensures)
+    at c.in_ok-bound.ensures)
+
+pub eval_argument-held-requires : goal.eval_argument-held-requires
+eval_argument-held-requires t c = c.requires.stands
+
+pub eval_argument-eval-requires : goal.eval_argument-eval-requires
+eval_argument-eval-requires t c =
+    let d = c.decreases in
+    (omega (arith, d), c.requires)
 
 pub eval_kids-returns-in_default : goal.eval_kids-returns-in_default
 eval_kids-returns-in_default t c = none_done c.args.kids.now c.in_default.ensures.cases
@@ -137,7 +253,7 @@ pub eval_evolve-returns : goal.eval_evolve-returns
 eval_evolve-returns t c =
     rw (c.put.ensures, c.in_ok-copy_bound.ensures, c.into_local-own.ensures)
     (evolve_done c.requires _ _ c.index.ensures c.in_ok-first.ensures c.slot_of-slot.ensures c.index-2.ensures
-    (rw c.into_local.ensures at c.in_ok-start.ensures) c.in_ok-bound.ensures)
+    (rw c.into_local.ensures at c.in_ok-start.ensures) (rw c.lend.ensures at c.in_ok-bound.ensures))
 
 pub eval_if-index-requires : goal.eval_if-index-requires
 eval_if-index-requires t c =
@@ -205,16 +321,16 @@ eval_let-index-requires t c =
     let l = o.long in
     omega (arith, l)
 
-pub eval_let-eval-requires : goal.eval_let-eval-requires
-eval_let-eval-requires t c =
+pub eval_let-eval_argument-requires : goal.eval_let-eval_argument-requires
+eval_let-eval_argument-requires t c =
     let d = c.decreases in
     let r = let_value c.requires c.index.ensures in
     let m = r.0 in
     let w = c.requires.ready.stands.within in
     (omega (arith, d, m, w), r.1)
 
-pub eval_let-eval-requires-2 : goal.eval_let-eval-requires-2
-eval_let-eval-requires-2 t c =
+pub eval_let-eval-requires : goal.eval_let-eval-requires
+eval_let-eval-requires t c =
     let d = c.decreases in
     let r = let_body c.requires _ _ c.index.ensures c.in_ok-value.ensures c.index-2.ensures in
     let m = r.0 in
@@ -223,4 +339,5 @@ eval_let-eval-requires-2 t c =
 
 pub eval_let-returns : goal.eval_let-returns
 eval_let-returns t c =
-    let_done c.requires _ _ c.index.ensures c.in_ok-value.ensures c.index-2.ensures c.in_ok-bound.ensures
+    let_done c.requires _ _ c.index.ensures c.in_ok-value.ensures c.index-2.ensures
+    (rw c.seen.ensures at c.in_ok-bound.ensures)

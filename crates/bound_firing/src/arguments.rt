@@ -1,0 +1,209 @@
+//! Arguments of builtins: bounds that are made for them, and those that binders in scope hold.
+
+ghost use Rattle.std.specs.Prelude.{ℕ, [], ◌∷◌, ◌≡◌, IfOk, IfSome, IsTrue};
+ghost use Rattle.device_eval.specs.Walks.{Stands};
+ghost use Rattle.value_bounds.specs.BoundValues.{Both};
+ghost use Rattle.value_bounds.specs.BoundBuiltins.{BoundLocal, builtin_bound};
+ghost use Rattle.value_bounds.specs.References.{any_bound_in, any_bounds_in, lent_bound_in, lent_bounds_in};
+ghost use Rattle.value_bounds.specs.References.{local_bound_in};
+ghost use Rattle.bound_firing.specs.Firing.{local_part, variable_bound};
+ghost use Rattle.bound_firing.specs.FlatSeats.{flat_maybes};
+ghost use Rattle.bound_firing.specs.References.{flat_seats_in};
+ghost use Rattle.bound_firing.specs.Seats.{cut_to};
+ghost use Rattle.bound_firing.specs.Contexts.{IsHeld, argument_in, vars_in};
+ghost use Rattle.bound_firing.specs.Held.{is_local as is_bound_of_local};
+
+use crate::evaluation::{Context, Scope, Sight};
+use crate::seating::as_it_is;
+use crate::seats::Seats;
+use fc_nodes::Op;
+use fc_values::{Builtin, Memory};
+use std::alloc::Global;
+use value_bounds::{Bound, BoundRef, LocalBound, bound_of_builtin, copy_bound, lend};
+
+/// The bound of an argument: made for it, or held by a binder in scope.
+#[derive(Drop)]
+pub enum Argument<'a> {
+    Made(Bound),
+    Held(BoundRef<'a>),
+}
+
+/// The bound of an argument, to be looked at.
+pub fn seen<'a>(argument: &'a Argument<'_>) -> BoundRef<'a>
+    ensures { lent_bound_in result ≡ argument_in argument.now }
+{
+    match argument {
+        Argument::Made(bound) => lend(bound),
+        Argument::Held(bound) => *bound,
+    }
+}
+
+/// The bound of the node at a place, if a binder in scope holds it: that of a variable, or of a component of one.
+pub fn held<'a>(context: &Context<'_>, place: u32, sight: &Sight<'a, '_>) -> Option<BoundRef<'a>>
+    requires { Stands context.now.program.now.nodes context.now.layout.now place }
+    ensures { IfSome result (λ b. IsHeld context.now place sight.now (lent_bound_in b)) }
+{
+    let node = context.program.node(place);
+    match &node.op {
+        Op::Var(binder) => held_variable(sight.vars, sight.seats, *binder),
+        Op::Apply(builtin) => {
+            let [kid] = node.kids.as_slice() else {
+                return None;
+            };
+            if !takes_apart(*builtin) {
+                return None;
+            }
+            let whole = held(context, *kid, sight)?;
+            component(*builtin, &whole)
+        }
+        _ => None,
+    }
+}
+
+// The bound of a variable, if it is the same at these seats.
+fn held_variable<'a>(vars: &Scope<'a>, seats: &Seats<'_>, binder: u32) -> Option<BoundRef<'a>>
+    ensures { IfSome result (λ b. lent_bound_in b
+        ≡ cut_to (flat_maybes (flat_seats_in seats.now).near) (variable_bound binder (vars_in vars.now))) }
+{
+    match vars {
+        Scope::Empty => None,
+        Scope::Bind(place, bound, rest) => {
+            if *place == binder {
+                as_it_is(bound, seats)
+            } else {
+                held_variable(rest, seats, binder)
+            }
+        }
+    }
+}
+
+// Whether a builtin gives a component of a pair.
+fn takes_apart(builtin: Builtin) -> bool {
+    match builtin {
+        Builtin::Fst | Builtin::Snd => true,
+        _ => false,
+    }
+}
+
+// The component of a pair that a builtin gives.
+fn component<'a>(builtin: Builtin, whole: &BoundRef<'a>) -> Option<BoundRef<'a>>
+    ensures { IfSome result (λ b. (m d : ℕ)
+        → lent_bound_in b ≡ builtin_bound builtin m d (lent_bound_in whole.now ∷ [])) }
+{
+    match whole {
+        BoundRef::Local(local) => {
+            let part = local_component(builtin, local)?;
+            Some(BoundRef::Local(part))
+        }
+        _ => None,
+    }
+}
+
+fn local_component<'a>(builtin: Builtin, local: &'a LocalBound) -> Option<&'a LocalBound>
+    ensures { IfSome result (λ b. (m d : ℕ) → BoundLocal (local_bound_in b.now)
+        ≡ builtin_bound builtin m d (BoundLocal (local_bound_in local.now) ∷ [])) }
+{
+    match (builtin, local) {
+        (Builtin::Fst, LocalBound::Both(first, _)) => Some(first),
+        (Builtin::Snd, LocalBound::Both(_, second)) => Some(second),
+        _ => None,
+    }
+}
+
+/// What a builtin makes of one argument.
+pub fn of_one<'a>(
+    alloc: Global,
+    builtin: Builtin,
+    a: BoundRef<'a>,
+    device: u32,
+    ceiling: u32,
+) -> Result<Bound, Memory>
+    ensures { IfOk result (λ r.
+        any_bound_in r ≡ builtin_bound builtin ceiling device (lent_bound_in a.entry ∷ [])) }
+{
+    bound_of_builtin(alloc, builtin, &[a], device, ceiling)
+}
+
+/// What a builtin makes of two arguments.
+pub fn of_two<'a>(
+    alloc: Global,
+    builtin: Builtin,
+    a: BoundRef<'a>,
+    b: BoundRef<'a>,
+    device: u32,
+    ceiling: u32,
+) -> Result<Bound, Memory>
+    ensures { IfOk result (λ r. any_bound_in r
+        ≡ builtin_bound builtin ceiling device (lent_bound_in a.entry ∷ lent_bound_in b.entry ∷ [])) }
+{
+    bound_of_builtin(alloc, builtin, &[a, b], device, ceiling)
+}
+
+/// What a builtin makes of three arguments.
+pub fn of_three<'a>(
+    alloc: Global,
+    builtin: Builtin,
+    a: BoundRef<'a>,
+    b: BoundRef<'a>,
+    c: BoundRef<'a>,
+    device: u32,
+    ceiling: u32,
+) -> Result<Bound, Memory>
+    ensures { IfOk result (λ r. any_bound_in r ≡ builtin_bound builtin ceiling device
+        (lent_bound_in a.entry ∷ lent_bound_in b.entry ∷ lent_bound_in c.entry ∷ [])) }
+{
+    bound_of_builtin(alloc, builtin, &[a, b, c], device, ceiling)
+}
+
+/// Whether a builtin makes a pair of two local values, which takes over what was made for it.
+pub fn makes_pair(builtin: Builtin, a: &Argument<'_>, b: &Argument<'_>) -> bool
+    ensures { IsTrue result → (m d : ℕ) → builtin_bound builtin m d (argument_in a.now ∷ argument_in b.now ∷ [])
+        ≡ BoundLocal (Both (local_part (argument_in a.now)) (local_part (argument_in b.now))) }
+{
+    match builtin {
+        Builtin::Pair => is_local(a) && is_local(b),
+        _ => false,
+    }
+}
+
+/// The pair of two arguments that are local values.
+pub fn paired(alloc: Global, a: Argument<'_>, b: Argument<'_>) -> Result<Bound, Memory>
+    ensures { IfOk result (λ r. any_bound_in r
+        ≡ BoundLocal (Both (local_part (argument_in a.entry)) (local_part (argument_in b.entry)))) }
+{
+    let first = Box::new(alloc, taken(alloc, a)?)?;
+    let second = Box::new(alloc, taken(alloc, b)?)?;
+    Ok(Bound::Local(LocalBound::Both(first, second)))
+}
+
+// Whether an argument is a local value.
+fn is_local(argument: &Argument<'_>) -> bool
+    ensures { result ≡ is_bound_of_local (argument_in argument.now) }
+{
+    match argument {
+        Argument::Made(Bound::Local(_)) | Argument::Held(BoundRef::Local(_)) => true,
+        _ => false,
+    }
+}
+
+// The bound of an argument that is a local value.
+fn taken(alloc: Global, argument: Argument<'_>) -> Result<LocalBound, Memory>
+    ensures { IfOk result (λ b. local_bound_in b ≡ local_part (argument_in argument.entry)) }
+{
+    match argument {
+        Argument::Made(Bound::Local(bound)) => Ok(bound),
+        Argument::Held(BoundRef::Local(bound)) => copy_bound(alloc, bound),
+        _ => Ok(LocalBound::Unbounded),
+    }
+}
+
+/// Bounds, to be looked at.
+pub fn lend_all<'a>(alloc: Global, bounds: &'a [Bound]) -> Result<Vec<BoundRef<'a>>, Memory>
+    ensures { IfOk result (λ v. lent_bounds_in v.items ≡ any_bounds_in bounds.now) }
+{
+    let mut lent = Vec::with_capacity(alloc, bounds.len())?;
+    for bound in bounds {
+        lent.push(lend(bound))?;
+    }
+    Ok(lent)
+}
