@@ -1,4 +1,4 @@
--- Words one after another.
+-- Crates above cite this module: words one after another.
 use Rattle.std.proofs.Common.{ℕ, ◌≡◌, ◌+◌, ◌-◌, ◌<◌, ◌≤◌, List, [], ◌∷◌, drop, take, length, get_or, ap, sym, ◌∙◌, arith}
 use Rattle.std.proofs.lemmas.List.{drop_more, drop_all, take_rest}
 use Rattle.std.specs.Borrow.{Bor}

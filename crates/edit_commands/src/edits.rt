@@ -66,9 +66,9 @@ fn before_name(inputs: &[InputDecl], name: &[u8]) -> usize
         .count()
 }
 
-// The number of the first input of a name, or the number after the last where no input has it.
+/// The number of the first input of a name, or the number after the last where no input has it.
 #[tactic(auto, using(crate::proofs::Prefixes::prefix_len_mapped))]
-fn input_number(inputs: &[InputDecl], name: &[u8]) -> u32
+pub fn input_number(inputs: &[InputDecl], name: &[u8]) -> u32
     requires { length inputs.now < 2 ^ 32 }
     ensures { result ≡ input_number (map input_of inputs.now) name.now }
 {

@@ -11,9 +11,13 @@ mod types;
 mod values;
 mod words;
 
+pub use edits::input_number;
 pub use laws::{
     logs_have_entries, readings_agree, scripts_are_judged, scripts_have_commands, values_are_read,
 };
+pub use lines::line_words;
 pub use logs::read_log;
 pub use scripts::read_script;
 pub use types::{Command, Fault, Line, Log, ScriptFault};
+pub use values::read_value;
+pub use words::device_number;

@@ -7,8 +7,8 @@ ghost use Rattle.edit_commands.specs.Lines.{words_of};
 use fc_io::first_line;
 use std::alloc::{AllocError, Global};
 
-// The words of a line.
-pub(crate) fn words(alloc: Global, line: &[u8]) -> Result<Vec<&[u8]>, AllocError>
+/// The words of a line, with one space between each two.
+pub fn line_words(alloc: Global, line: &[u8]) -> Result<Vec<&[u8]>, AllocError>
     ensures { IfOk result (λ ws. map (λ w. w.now) ws.items ≡ words_of line.now) }
 {
     line.split(|byte| *byte == b' ').collect(alloc)

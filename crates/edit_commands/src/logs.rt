@@ -11,7 +11,7 @@ ghost use Rattle.edit_commands.specs.Code.{HasFault, HasFaultAt};
 
 use crate::edits::edit_line;
 use crate::judging::judge;
-use crate::lines::words;
+use crate::lines::line_words;
 use crate::types::{Fault, LineFault, Log, ScriptFault};
 use fc_io::{first_line, line_text};
 use fc_nodes::Unfolded;
@@ -82,7 +82,7 @@ fn read_edit_entry(
     ensures ok { IfOk result (IsEntryOf program.now net.old net.new (edit_text_in program.now net.old text.now)) }
     ensures refused { IfErr result (HasFault (edit_text_in program.now net.old text.now)) }
 {
-    let words = words(alloc, text)?;
+    let words = line_words(alloc, text)?;
     match read_edit(alloc, program, net, &words) {
         Ok(edit) => Ok(Entry::Edit(edit)),
         Err(fault) => Err(fault),

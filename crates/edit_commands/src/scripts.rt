@@ -18,7 +18,7 @@ ghost use Rattle.edit_commands.specs.ScriptCode.{edit_in, mixed_in, mix_in, line
 
 use crate::edits::{EditLine, edit_line};
 use crate::judging::judge;
-use crate::lines::{count_lines, words};
+use crate::lines::{count_lines, line_words};
 use crate::types::{Command, Fault, Line, LineFault, ScriptFault};
 use fc_io::{first_line, line_text};
 use fc_nodes::Unfolded;
@@ -314,7 +314,7 @@ fn read_command(
     ensures ok { IfOk result (Leaves context.now progress.old progress.new (text_in progress.old text.now)) }
     ensures refused { IfErr result (IsAtFault context.now progress.old (text_in progress.old text.now)) }
 {
-    let words = words(alloc, text)?;
+    let words = line_words(alloc, text)?;
     read_words(alloc, context, progress, &words)
 }
 

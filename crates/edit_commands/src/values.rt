@@ -217,7 +217,7 @@ fn part_of(alloc: Global, text: &[u8]) -> Result<Option<Part>, Memory>
 
 /// The value that a text writes. A pair stands for one that is too wide for every type.
 #[tactic(auto, using(crate::proofs::Narrowed::shown_is_narrow))]
-pub(crate) fn read_value(alloc: Global, text: &[u8]) -> Result<Option<Local>, Memory>
+pub fn read_value(alloc: Global, text: &[u8]) -> Result<Option<Local>, Memory>
     ensures { IfOk result (λ v. option_map local_of v ≡ option_map narrow (value_of text.now)) }
 {
     match part_of(alloc, text)? {

@@ -7,7 +7,7 @@ use fc_values::number;
 use topology::GREATEST_NUMBER;
 
 /// The number of a device that may join, if a word writes one.
-pub(crate) fn device_number(word: &[u8]) -> Option<u32>
+pub fn device_number(word: &[u8]) -> Option<u32>
     ensures { result ≡ device_of word.now }
 {
     let device = number(word)?;

@@ -9,6 +9,7 @@ ghost use Rattle.message_links.specs.MailEntries.{mail_entry};
 ghost use Rattle.mail_lines.specs.MailLines.{mail_line, message_line, two_words, idle};
 ghost use Rattle.mail_lines.specs.MailLines.{IsMailLog, RefusesMailLog, mailed};
 
+use edit_commands::line_words;
 use fc_io::{first_line, line_text};
 use fc_values::{Memory, number};
 use message_links::MailEntry;
@@ -98,18 +99,11 @@ fn message(words: &[&[u8]]) -> Option<MailEntry>
     }
 }
 
-// The words of a line.
-fn words(alloc: Global, line: &[u8]) -> Result<Vec<&[u8]>, AllocError>
-    ensures { IfOk result (λ ws. map (λ w. w.now) ws.items ≡ words_of line.now) }
-{
-    line.split(|byte| *byte == b' ').collect(alloc)
-}
-
 // What happens to a message, in the words of a text.
 fn read_words(alloc: Global, text: &[u8]) -> Result<Option<MailEntry>, Memory>
     ensures { IfOk result (λ e. option_map mail_entry e ≡ message_line (words_of text.now)) }
 {
-    let words = words(alloc, text)?;
+    let words = line_words(alloc, text)?;
     Ok(message(&words))
 }
 

@@ -1,0 +1,3 @@
+pub mod Possibles
+pub mod Changes
+pub mod Code
