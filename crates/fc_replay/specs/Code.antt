@@ -17,14 +17,10 @@ use Rattle.fc_inputs.specs.declared.stop.Stop.{Stop}
 use Rattle.fc_inputs.specs.declared.stop.Stop.TheVariants as stop
 use Rattle.fc_inputs.specs.Causes.{Cause, Plainly}
 use Rattle.fc_inputs.specs.Refusals.{log_refusal}
-use Rattle.fc_replay.specs.Ledgers.{Ledger, ledger_of}
-use Rattle.fc_replay.specs.Stopping.{Logged, entries_in, fault_in, step_fault, first_stop}
-use Rattle.fc_replay.specs.Replays.{ReplayShown, book_of}
-
--- the stop at a line, for want of memory where there is no reason
-abbrev pub stop_at : ℕ → Option LineFault → Stop
-stop_at line (Some fault) = stop.Refused (log_refusal line fault)
-stop_at line None = stop.Memory
+use Rattle.fc_inputs.specs.Ledgers.{Ledger, ledger_of, book_of}
+use Rattle.fc_inputs.specs.LineFaults.{fault_in, step_fault}
+use Rattle.fc_inputs.specs.Answers.{AnswerValue}
+use Rattle.fc_replay.specs.Stopping.{Logged, entries_in, first_stop}
 
 -- the stop of a log that isn't replayed, from the numbers of its lines
 abbrev pub stop_of : List ℕ → ReplayFault → Stop
@@ -69,7 +65,3 @@ pub record IsStopped (U : Unfolding) (start : Core) (log : List Logged) (cause :
 pub record IsReplayed (U : Unfolding) (start : Core) (log : List Logged) (book : Ledger) : Type 0 where
   pub leads : replay U start (entries_in log) ≡ Some book.core
   pub is : book ≡ book_of U start (entries_in log) book.core
-
--- what a replay gives in code
-abbrev pub shown_of : List ℕ → BookValue → ReplayShown
-shown_of text book = record { text = text; book = ledger_of book }

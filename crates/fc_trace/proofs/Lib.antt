@@ -1,3 +1,3 @@
-pub mod Scenes
+mod Traced
 mod Tracing
 pub mod WalkTexts

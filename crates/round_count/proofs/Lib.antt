@@ -5,3 +5,4 @@ pub mod Wants
 pub mod Counts
 pub mod Growth
 pub mod Greatest
+pub mod EditsInLogs
