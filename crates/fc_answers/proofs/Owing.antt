@@ -16,18 +16,17 @@ use Rattle.fc_values.specs.declared.limits.TheConstants.{MOST_BYTES, MOST_SCENAR
 use Rattle.fc_inputs.specs.declared.refusal.Refusal.TheVariants.{Usage, Bytes}
 use Rattle.fc_inputs.specs.Agreement.{Agree, AnswersAgree}
 use Rattle.fc_inputs.specs.Answers.{AnswerValue}
-use Rattle.fc_inputs.specs.Causes.{Plainly, Judged, Accepted, Refused, answer_of, answer_to}
+use Rattle.fc_inputs.specs.Causes.{Plainly, Judged, Accepted, Refused, answer_of}
 use Rattle.fc_inputs.specs.Owing.{HasStatus, Owes, RefusesBy}
 use Rattle.fc_inputs.specs.Refusals.{status_of}
-use Rattle.fc_inputs.specs.Sections.{AreWithin, SectionsAreWithin, WithThree, sections_of}
+use Rattle.fc_inputs.specs.Sections.{AreWithin, SectionsAreWithin, sections_of}
 use Rattle.fc_inputs.proofs.Agreeing.{answers_agree, both_refused}
 use Rattle.fc_inputs.proofs.Owed.{refused_status}
 use Rattle.fc_inputs.proofs.RefusalStatuses.{by_four}
-use Rattle.fc_run.specs.Runs.{Runs}
 use Rattle.fc_gen.specs.Gens.{Generates}
 use Rattle.fc_answers.specs.Asked.{MayAsk, limit_refusal}
-use Rattle.fc_answers.specs.Answers.{Answers, AnswersAsked, AnswersSections, AnswersWithin, AnswersWork, OfInput, OfLength, Works}
-use Rattle.fc_answers.specs.Headline.{AnswersKeep, IsAnswered, IsKept, Promises, WorkIsKept, WorkPromises}
+use Rattle.fc_answers.specs.Answers.{AnswersAsked, AnswersWithin, AnswersWork, OfInput, OfLength, Works}
+use Rattle.fc_answers.specs.Headline.{AnswersKeep, IsKept, WorkIsKept, WorkPromises}
 use Rattle.fc_answers.specs.Laws.{AnswerStatus, AnswerStatuses, CommandsOwe, OneAnswer, SomeAnswer, threads_of}
 
 -- a refusal has no low status

@@ -1,6 +1,7 @@
 //! What the quiet commands answer to an input. No thread works here, and no call waits.
 ghost use Rattle.std.specs.Prelude.{◌≤◌, IfErr, IfOk, Some, length};
 ghost use Rattle.fc_inputs.specs.Causes.{Accepted, Refused};
+ghost use Rattle.fc_inputs.specs.Code.{value_of};
 ghost use Rattle.fc_inputs.specs.Sections.{sections_of};
 ghost use Rattle.fc_inputs.specs.Stops.{StopsFor};
 ghost use Rattle.fc_values.specs.declared.limits.TheConstants.{MOST_BYTES};
@@ -22,7 +23,7 @@ use std::alloc::Global;
 // What a quiet command makes of the sections of an input within the limit.
 fn of_sections(alloc: Global, command: Quiet, input: &[u8]) -> Result<Answer, Stop>
     requires { length input.now ≤ MOST_BYTES }
-    ensures makes { IfOk result (λ a. AnswersSections command (sections_of input.now) (Accepted a)) }
+    ensures makes { IfOk result (λ a. AnswersSections command (sections_of input.now) (Accepted (value_of a))) }
     ensures refused { IfErr result (StopsFor (λ cause.
         AnswersSections command (sections_of input.now) (Refused cause))) }
 {
@@ -39,7 +40,7 @@ fn of_sections(alloc: Global, command: Quiet, input: &[u8]) -> Result<Answer, St
 
 // The answer to a quiet command and an input of any length.
 fn of_input(alloc: Global, command: Quiet, input: &[u8]) -> Result<Answer, Memory>
-    ensures { IfOk result (λ a. Answers (Some (Command.Quiet command)) input.now a) }
+    ensures { IfOk result (λ a. Answers (Some (Command.Quiet command)) input.now (value_of a)) }
 {
     if input.len() > MOST_BYTES {
         return Ok(refuse(alloc, Refusal::Bytes)?);
@@ -53,8 +54,8 @@ fn of_input(alloc: Global, command: Quiet, input: &[u8]) -> Result<Answer, Memor
 /// The answer to a quiet command and an input of any length: a status, a text, and for `replay` a book. It takes no
 /// runtime and waits for nothing: it returns, at the latest when memory is wanting.
 pub fn answer_quiet(alloc: Global, command: Quiet, input: &[u8]) -> Result<Answer, Memory>
-    ensures answers { IfOk result (λ a. Answers (Some (Command.Quiet command)) input.now a) }
-    ensures kept { IfOk result (λ a. IsKept (Some (Command.Quiet command)) input.now a) }
+    ensures answers { IfOk result (λ a. Answers (Some (Command.Quiet command)) input.now (value_of a)) }
+    ensures kept { IfOk result (λ a. IsKept (Some (Command.Quiet command)) input.now (value_of a)) }
 {
     answers_keep();
     of_input(alloc, command, input)

@@ -1,6 +1,7 @@
 //! What `run` answers to an input, and `gen` to a number. Workers do the work, and a call may wait for one of them.
 ghost use Rattle.std.specs.Prelude.{◌≡◌, ◌≤◌, IfErr, IfOk, [], length};
 ghost use Rattle.fc_inputs.specs.Causes.{Accepted, Refused};
+ghost use Rattle.fc_inputs.specs.Code.{value_of};
 ghost use Rattle.fc_inputs.specs.Sections.{WithThree, sections_of};
 ghost use Rattle.fc_inputs.specs.Stops.{StopsFor};
 ghost use Rattle.fc_run.specs.Runs.{Runs};
@@ -28,7 +29,7 @@ fn run_of_sections<W: Threads + Wait + Sync, G: Gate + Sync>(
     pool: &Pool<W, G>,
 ) -> Result<Answer, Stop>
     requires { length input.now ≤ MOST_BYTES }
-    ensures makes { IfOk result (λ a. WithThree (Runs options) (sections_of input.now) (Accepted a)) }
+    ensures makes { IfOk result (λ a. WithThree (Runs options) (sections_of input.now) (Accepted (value_of a))) }
     ensures refused { IfErr result (StopsFor (λ cause.
         WithThree (Runs options) (sections_of input.now) (Refused cause))) }
 {
@@ -43,7 +44,7 @@ fn run_of_input<W: Threads + Wait + Sync, G: Gate + Sync>(
     input: &[u8],
     pool: &Pool<W, G>,
 ) -> Result<Answer, Memory>
-    ensures { IfOk result (λ a. Works (Work.Run options) input.now a) }
+    ensures { IfOk result (λ a. Works (Work.Run options) input.now (value_of a)) }
 {
     if input.len() > MOST_BYTES {
         return Ok(refuse(alloc, Refusal::Bytes)?);
@@ -62,8 +63,8 @@ pub fn answer_run<W: Threads + Wait + Sync, G: Gate + Sync>(
     input: &[u8],
     pool: &Pool<W, G>,
 ) -> Result<Answer, Memory>
-    ensures works { IfOk result (λ a. Works (Work.Run options) input.now a) }
-    ensures kept { IfOk result (λ a. WorkIsKept (Work.Run options) input.now a) }
+    ensures works { IfOk result (λ a. Works (Work.Run options) input.now (value_of a)) }
+    ensures kept { IfOk result (λ a. WorkIsKept (Work.Run options) input.now (value_of a)) }
 {
     commands_owe();
     run_of_input(alloc, options, input, pool)
@@ -77,7 +78,7 @@ fn generated<W: Threads + Wait + Sync, G: Gate + Sync>(
 ) -> Result<Answer, Memory>
     requires least { 3 ≤ options.devices }
     requires most { options.devices ≤ MOST_SCENARIO_DEVICES }
-    ensures { IfOk result (λ a. Works (Work.Gen options) [] a) }
+    ensures { IfOk result (λ a. Works (Work.Gen options) [] (value_of a)) }
 {
     Ok(generate(alloc, options, pool)?)
 }
@@ -90,8 +91,8 @@ pub fn answer_gen<W: Threads + Wait + Sync, G: Gate + Sync>(
 ) -> Result<Answer, Memory>
     requires least { 3 ≤ options.devices }
     requires most { options.devices ≤ MOST_SCENARIO_DEVICES }
-    ensures works { IfOk result (λ a. Works (Work.Gen options) [] a) }
-    ensures kept { IfOk result (λ a. WorkIsKept (Work.Gen options) [] a) }
+    ensures works { IfOk result (λ a. Works (Work.Gen options) [] (value_of a)) }
+    ensures kept { IfOk result (λ a. WorkIsKept (Work.Gen options) [] (value_of a)) }
 {
     commands_owe();
     generated(alloc, options, pool)

@@ -20,7 +20,7 @@ use Rattle.fc_inputs.specs.Answers.{AnswerValue}
 use Rattle.fc_inputs.specs.Causes.{Judged, Accepted}
 use Rattle.fc_inputs.specs.Starts.{start_of}
 use Rattle.fc_inputs.proofs.Agreeing.{both_plain}
-use Rattle.fc_check.specs.Settles.{SettlesScene, StartsFrom, settling_of}
+use Rattle.fc_check.specs.Settles.{SettlesScene, StartsFrom}
 use Rattle.fc_check.proofs.SameRounds.{settling_same}
 use Rattle.fc_check.proofs.SameRounds.{Agree as TablesAgree}
 

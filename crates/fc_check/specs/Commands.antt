@@ -18,5 +18,4 @@ ChecksFrom facts (Some from) U s j = SettlesScene facts from U s j
 
 -- the texts of a program and of a scene
 abbrev pub Checks : CheckOptions → List ℕ → List ℕ → Judged AnswerValue → Type 0
-Checks options program network j =
-    OfScene (λ U s k. ChecksFrom options.facts options.settle U s k) program network j
+Checks options = OfScene (λ U s k. ChecksFrom options.facts options.settle U s k)

@@ -6,6 +6,7 @@ ghost use Rattle.fragment_check.specs.Verdicts.{verdict_of};
 ghost use Rattle.net_json.specs.SceneCode.{AreCopies, AreRows, value_of_scene};
 ghost use Rattle.fc_inputs.specs.Answers.{plain};
 ghost use Rattle.fc_inputs.specs.Causes.{Accepted, Refused};
+ghost use Rattle.fc_inputs.specs.Code.{value_of};
 ghost use Rattle.fc_inputs.specs.Sections.{AreWithin, WithTwo};
 ghost use Rattle.fc_inputs.specs.Stops.{StopsFor};
 ghost use Rattle.fc_check.specs.Checks.{checked_text, verdict_status};
@@ -55,7 +56,7 @@ fn verdict_answer(
     program: &Unfolded,
     net: &Network,
 ) -> Result<Answer, Memory>
-    ensures { IfOk result (λ a. a ≡ plain
+    ensures { IfOk result (λ a. value_of a ≡ plain
         (verdict_status (verdict_of (unfolding_of program.now) (length net.now.devices)))
         (checked_text facts (unfolding_of program.now) (length net.now.devices))) }
 {
@@ -79,7 +80,7 @@ fn of_scene(
     requires rows { AreRows (unfolding_of program) scene.net scene.table.items }
     requires copies { AreCopies (unfolding_of program) scene.net scene.pending.items }
     ensures { IfOk result (λ a. ChecksFrom options.facts options.settle (unfolding_of program)
-        (value_of_scene (unfolding_of program) scene) (Accepted a)) }
+        (value_of_scene (unfolding_of program) scene) (Accepted (value_of a))) }
 {
     match options.settle {
         None => verdict_answer(alloc, options.facts, &program, &scene.net),
@@ -96,7 +97,7 @@ fn of_texts(
     network: &[u8],
 ) -> Result<Answer, Stop>
     requires { length program.now ≤ MOST_BYTES }
-    ensures checks { IfOk result (λ a. Checks options program.now network.now (Accepted a)) }
+    ensures checks { IfOk result (λ a. Checks options program.now network.now (Accepted (value_of a))) }
     ensures refused { IfErr result (StopsFor (λ cause. Checks options program.now network.now (Refused cause))) }
 {
     let (program, scene) = read_input(alloc, program, network)?;
@@ -106,7 +107,7 @@ fn of_texts(
 /// The answer of `check` to the sections of an input.
 pub fn check(alloc: Global, options: CheckOptions, sections: &[&[u8]]) -> Result<Answer, Stop>
     requires { AreWithin MOST_BYTES (map (λ s. s.now) sections.now) }
-    ensures checks { IfOk result (λ a. WithTwo (Checks options) (map (λ s. s.now) sections.now) (Accepted a)) }
+    ensures checks { IfOk result (λ a. WithTwo (Checks options) (map (λ s. s.now) sections.now) (Accepted (value_of a))) }
     ensures refused { IfErr result (StopsFor (λ cause.
         WithTwo (Checks options) (map (λ s. s.now) sections.now) (Refused cause))) }
 {

@@ -5,6 +5,7 @@ ghost use Rattle.std.specs.Prelude.{◌≡◌, ◌++◌, IfOk, OnOk, flat_map, l
 ghost use Rattle.fc_values.specs.Values.{local_of};
 ghost use Rattle.fc_nodes.specs.Program.{unfolding_of};
 ghost use Rattle.fc_inputs.specs.Causes.{Accepted};
+ghost use Rattle.fc_inputs.specs.Code.{value_of};
 ghost use Rattle.settle_rounds.specs.References.{settled_in};
 ghost use Rattle.settle_rounds.specs.Rounds.{any_table};
 ghost use Rattle.net_json.specs.SceneCode.{AreCopies, AreRows, value_of_scene};
@@ -71,7 +72,7 @@ fn settled_answer(
     settled: &[Option<Settled>],
 ) -> Result<Answer, Memory>
     requires { length settled.now ≡ length net.now.devices }
-    ensures { IfOk result (λ r. r ≡ settled_answer verdict text.items (numbers net.now.devices)
+    ensures { IfOk result (λ a. value_of a ≡ settled_answer verdict text.items (numbers net.now.devices)
         (map (option_map settled_in) settled.now)) }
 {
     let time = settle_time(verdict, settled);
@@ -88,7 +89,7 @@ pub(crate) fn settle_any(
     net: &Network,
 ) -> Result<Answer, Memory>
     requires { net.now.declared ≡ program.now.declared }
-    ensures { IfOk result (λ r. r ≡ settling_of facts (unfolding_of program.now) net.now
+    ensures { IfOk result (λ a. value_of a ≡ settling_of facts (unfolding_of program.now) net.now
         (any_table (unfolding_of program.now))) }
 {
     let devices = net.devices().len();
@@ -107,8 +108,8 @@ pub(crate) fn settle_scene(
     requires declared { scene.net.declared ≡ program.declared }
     requires rows { AreRows (unfolding_of program) scene.net scene.table.items }
     requires copies { AreCopies (unfolding_of program) scene.net scene.pending.items }
-    ensures { IfOk result (λ r. SettlesScene facts Table (unfolding_of program)
-        (value_of_scene (unfolding_of program) scene) (Accepted r)) }
+    ensures { IfOk result (λ a. SettlesScene facts Table (unfolding_of program)
+        (value_of_scene (unfolding_of program) scene) (Accepted (value_of a))) }
 {
     let program = Arc::new(alloc, program)?;
     let mut core = start(alloc, &program, scene)?;

@@ -1,15 +1,14 @@
 -- What `format` owes, and what its code answers.
-use Rattle.std.proofs.Common.{ℕ, ◌≡◌, ◌≤◌, false, List, [], ◌∷◌, refl, ap, ◌∙◌, sym, subst, arith}
+use Rattle.std.proofs.Common.{ℕ, ◌≡◌, ◌≤◌, false, List, [], ◌∷◌, refl, ap, ◌∙◌, arith}
 use Rattle.fc_syntax.specs.Terms.{Declaration}
 use Rattle.fc_syntax.specs.Text.{program_text}
-use Rattle.fc_values.specs.declared.limits.TheConstants.{MOST_BYTES}
 use Rattle.fc_inputs.specs.Agreement.{Agree}
 use Rattle.fc_inputs.specs.Answers.{AnswerValue, plain}
 use Rattle.fc_inputs.specs.declared.stop.Stop.{Stop}
 use Rattle.fc_inputs.specs.Causes.{Judged, Accepted, Refused, judged_map}
 use Rattle.fc_inputs.specs.Inputs.{OneSource}
 use Rattle.fc_inputs.specs.Owing.{HasStatus}
-use Rattle.fc_inputs.specs.Sections.{AreWithin, WithOne, other_number}
+use Rattle.fc_inputs.specs.Sections.{WithOne, other_number}
 use Rattle.fc_inputs.specs.Sources.{ReadsSource}
 use Rattle.fc_inputs.specs.Stops.{StopsFor}
 use Rattle.fc_inputs.proofs.Agreeing.{both_plain, both_refused}

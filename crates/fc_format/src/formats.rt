@@ -2,6 +2,7 @@
 ghost use Rattle.std.specs.Prelude.{◌≤◌, IfErr, IfOk, length, map};
 ghost use Rattle.fc_values.specs.declared.limits.TheConstants.{MOST_BYTES};
 ghost use Rattle.fc_inputs.specs.Causes.{Accepted, Refused};
+ghost use Rattle.fc_inputs.specs.Code.{value_of};
 ghost use Rattle.fc_inputs.specs.Sections.{AreWithin, WithOne};
 ghost use Rattle.fc_inputs.specs.Stops.{StopsFor};
 ghost use Rattle.fc_format.specs.Formats.{Formats};
@@ -13,7 +14,7 @@ use std::alloc::Global;
 // The canonical text of a program.
 fn of_text(alloc: Global, program: &[u8]) -> Result<Answer, Stop>
     requires { length program.now ≤ MOST_BYTES }
-    ensures formats { IfOk result (λ a. Formats program.now (Accepted a)) }
+    ensures formats { IfOk result (λ a. Formats program.now (Accepted (value_of a))) }
     ensures refused { IfErr result (StopsFor (λ cause. Formats program.now (Refused cause))) }
 {
     let program = read_source(alloc, program)?;
@@ -24,7 +25,7 @@ fn of_text(alloc: Global, program: &[u8]) -> Result<Answer, Stop>
 /// The answer of `format` to the sections of an input.
 pub fn format(alloc: Global, sections: &[&[u8]]) -> Result<Answer, Stop>
     requires { AreWithin MOST_BYTES (map (λ s. s.now) sections.now) }
-    ensures formats { IfOk result (λ a. WithOne Formats (map (λ s. s.now) sections.now) (Accepted a)) }
+    ensures formats { IfOk result (λ a. WithOne Formats (map (λ s. s.now) sections.now) (Accepted (value_of a))) }
     ensures refused { IfErr result (StopsFor (λ cause.
         WithOne Formats (map (λ s. s.now) sections.now) (Refused cause))) }
 {

@@ -1,5 +1,5 @@
 -- What `gen` owes.
-use Rattle.std.proofs.Common.{ℕ, ◌≡◌, ◌≤◌, true, List, refl, sym, ap, ◌∙◌, subst, arith}
+use Rattle.std.proofs.Common.{◌≡◌, ◌≤◌, true, refl, sym, ap, ◌∙◌, subst, arith}
 use Rattle.unfold.specs.Laws.{ProgramsUnfold}
 use Rattle.firing_core.specs.Laws.{PlainRunsKeepNet, RunsKeepGood, StepsKeepGood}
 use Rattle.converge_laws.specs.Verdicts.{YesStabilises}

@@ -18,6 +18,7 @@ ghost use Rattle.fc_inputs.specs.Causes.{Accepted};
 ghost use Rattle.fc_inputs.specs.Ledgers.{ledger_of};
 ghost use Rattle.fc_gen.specs.Code.{FirstWithin, IsRun};
 ghost use Rattle.fc_gen.specs.Gens.{Generates, Gens, gen_text, scenario_lines, scenario_program};
+ghost use Rattle.fc_inputs.specs.Code.{value_of};
 
 use crate::counts::{agreeing, firings, held_sum};
 use crate::summaries::{Counts, summary};
@@ -139,7 +140,7 @@ fn summed_up(
     session: Session,
 ) -> Result<Answer, Memory>
     requires { FirstWithin (length session.book.log) session.parts }
-    ensures { IfOk result (λ a. a ≡ showing (gen_text number devices rounds (map entry_of field.now)
+    ensures { IfOk result (λ a. value_of a ≡ showing (gen_text number devices rounds (map entry_of field.now)
         (entries_of session.book.log) session.parts (core_of session.book.core))
         (ledger_of session.book) session.parts) }
 {
@@ -165,7 +166,7 @@ fn scenario_answer<W: Threads + Wait + Sync, G: Gate + Sync>(
 ) -> Result<Answer, Memory>
     requires least { 3 ≤ options.devices }
     requires most { options.devices ≤ MOST_SCENARIO_DEVICES }
-    ensures { IfOk result (λ a. Gens options.number options.devices a) }
+    ensures { IfOk result (λ a. Gens options.number options.devices (value_of a)) }
 {
     let GenOptions { number, devices } = options;
     rings_are_networks();
@@ -187,7 +188,7 @@ pub fn generate<W: Threads + Wait + Sync, G: Gate + Sync>(
 ) -> Result<Answer, Memory>
     requires least { 3 ≤ options.devices }
     requires most { options.devices ≤ MOST_SCENARIO_DEVICES }
-    ensures { IfOk result (λ a. Generates options (Accepted a)) }
+    ensures { IfOk result (λ a. Generates options (Accepted (value_of a))) }
 {
     scenario_answer(alloc, options, pool)
 }

@@ -16,7 +16,7 @@ module _ (laws : InputsAreRead) (program network : List ℕ) (i : InputOf)
   pub at_program : (Q : Unfolding → Type 0)
       → ((P : Program) → IsProgram P → IsGood (unfolding_of P) (start_of i.1) → Q (unfolding_of P)) → Q i.0
   at_program Q f =
-      let p = laws.unfold program network i reads in
+      let p = laws.unfolded program network i reads in
       subst (λ (U : Unfolding). IsGood U (start_of i.1) → Q U) p.2 (f p.0 p.1)
       (laws.start program network i reads).good
 

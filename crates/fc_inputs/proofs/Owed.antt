@@ -8,8 +8,8 @@ use Rattle.fc_inputs.specs.Agreement.{Agree}
 use Rattle.fc_inputs.specs.Answers.{AnswerValue, plain}
 use Rattle.fc_inputs.specs.Causes.{Cause, Judged, Accepted, Refused, AndThen}
 use Rattle.fc_inputs.specs.Inputs.{InputOf, OfScene, ReadsInput}
-use Rattle.fc_inputs.specs.Owing.{HasStatus, IsZero, OfThree, OfTwo, Owes, RefusesBy}
-use Rattle.fc_inputs.specs.Sections.{AreWithin, WithOne, WithThree, WithTwo, other_number}
+use Rattle.fc_inputs.specs.Owing.{HasStatus, IsZero, OfThree, OfTwo, Owes}
+use Rattle.fc_inputs.specs.Sections.{AreWithin, WithThree, WithTwo, other_number}
 use Rattle.fc_inputs.specs.Starts.{InputsAreRead, start_of}
 use Rattle.fc_inputs.proofs.Agreeing.{both_refused}
 use Rattle.fc_inputs.proofs.RefusalStatuses.{IfRefused, by_three, input_refused}
@@ -68,7 +68,7 @@ module _ (laws : InputsAreRead) (threads : Bool) (Makes : Unfolding → SceneVal
           → (j : Judged AnswerValue) × OfScene Makes program network j
       by_input (Refused cause) r = (Refused cause, record { judged = Refused cause; reads = r; ends = refl })
       by_input (Accepted i) r =
-          let q = laws.unfold program network i r in
+          let q = laws.unfolded program network i r in
           let made = subst (Some i.1) q.2 (owes.some q.0 i.1 q.1) (laws.start program network i r).good in
           (made.0, record { judged = Accepted i; reads = r; ends = made.1 })
 
@@ -85,7 +85,7 @@ module _ (laws : InputsAreRead) (threads : Bool) (Makes : Unfolding → SceneVal
       by_input : (i : Judged InputOf) → ReadsInput program network i → Ends i j → Ends i k → Agree threads j k
       by_input (Refused cause) r e f = both_refused threads j k cause e f
       by_input (Accepted i) r e f =
-          let q = laws.unfold program network i r in
+          let q = laws.unfolded program network i r in
           subst (One i.1) q.2 (λ good. owes.one q.0 i.1 q.1 good j k) (laws.start program network i r).good e f
 
   statuses_of_texts : (program network : List ℕ) (j : Judged AnswerValue) → OfScene Makes program network j

@@ -9,7 +9,7 @@ use Rattle.fc_values.proofs.Rising.{rises_tail, rises_weaker}
 use Rattle.fc_values.specs.Trees.{TreeExport}
 use Rattle.fc_nodes.specs.Program.{Unfolding}
 use Rattle.topology.specs.declared.types.Device.{Device}
-use Rattle.topology.specs.Networks.{Network, NetDevice, IsNetwork, device_of, numbers}
+use Rattle.topology.specs.Networks.{NetDevice, IsNetwork, device_of, numbers}
 use Rattle.firing_core.specs.Cores.{Core}
 use Rattle.net_json.specs.SceneCode.{borrowed_row}
 use Rattle.net_json.specs.Tables.{Row}

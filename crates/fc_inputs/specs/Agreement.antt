@@ -1,5 +1,5 @@
 -- When two answers to one input agree.
-use Rattle.std.specs.Prelude.{ℕ, Bool, true, false, ◌≡◌, List, Option, Some, None}
+use Rattle.std.specs.Prelude.{Bool, true, false, ◌≡◌, Option, Some, None}
 use Rattle.edit_commands.specs.Agreement.{SameEntries}
 use Rattle.fc_inputs.specs.Causes.{Judged, Accepted, Refused}
 use Rattle.fc_inputs.specs.Answers.{AnswerValue}

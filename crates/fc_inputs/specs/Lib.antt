@@ -14,3 +14,4 @@ pub mod Agreement
 pub mod Stops
 pub mod Owing
 pub mod Yes
+pub mod Code

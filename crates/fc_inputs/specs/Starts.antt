@@ -28,5 +28,5 @@ InputsStart =
 -- the laws that commands use of the texts of a program and a scene
 pub record InputsAreRead : Type 0 where
   pub one : OneInput
-  pub unfold : TextsUnfold
+  pub unfolded : TextsUnfold
   pub start : InputsStart

@@ -1,8 +1,8 @@
 //! The answers to what is refused: a status and a line.
-ghost use Rattle.std.specs.Prelude.{ℕ, ◌≡◌, ◌++◌, IfOk, codes};
-ghost use Rattle.std.specs.Fmt.{decimal};
+ghost use Rattle.std.specs.Prelude.{◌≡◌, ◌++◌, IfOk, codes};
 ghost use Rattle.net_json.specs.Judging.{Misshaped, BadNetwork, BadKept};
 ghost use Rattle.fc_inputs.specs.Causes.{path_text, scene_answer, scene_refused};
+ghost use Rattle.fc_inputs.specs.Code.{value_of};
 ghost use Rattle.fc_inputs.specs.Refusals.{refused};
 ghost use Rattle.fc_inputs.specs.Stops.{IsAnswerTo, cause_of, scene_cause};
 
@@ -31,7 +31,7 @@ fn at_path(alloc: Global, word: &str, path: &Path) -> Result<Vec<u8>, Memory>
 
 // The answer of status 3 with this line.
 fn line(alloc: Global, mut text: Vec<u8>) -> Result<Answer, Memory>
-    ensures { IfOk result (λ r. r ≡ scene_answer text.items) }
+    ensures { IfOk result (λ a. value_of a ≡ scene_answer text.items) }
 {
     text.push(b'\n')?;
     Ok(Answer::plain(alloc, 3, text))
@@ -39,21 +39,21 @@ fn line(alloc: Global, mut text: Vec<u8>) -> Result<Answer, Memory>
 
 /// The answer of a refusal.
 pub fn refuse(alloc: Global, refusal: Refusal) -> Result<Answer, Memory>
-    ensures { IfOk result (λ r. r ≡ refused refusal) }
+    ensures { IfOk result (λ a. value_of a ≡ refused refusal) }
 {
     Ok(Answer::plain(alloc, refusal.status(), refusal.line(alloc)?))
 }
 
 // Something of another shape.
 fn misshaped(alloc: Global, path: &Path) -> Result<Answer, Memory>
-    ensures { IfOk result (λ r. r ≡ scene_refused (Misshaped path.now.text.items)) }
+    ensures { IfOk result (λ a. value_of a ≡ scene_refused (Misshaped path.now.text.items)) }
 {
     Ok(line(alloc, at_path(alloc, "shape", path)?)?)
 }
 
 // A network's refusal at a path.
 fn network(alloc: Global, path: &Path, fault: NetFault) -> Result<Answer, Memory>
-    ensures { IfOk result (λ r. r ≡ scene_refused (BadNetwork path.now.text.items fault)) }
+    ensures { IfOk result (λ a. value_of a ≡ scene_refused (BadNetwork path.now.text.items fault)) }
 {
     if let Some(limit) = limit(fault) {
         return Ok(refuse(alloc, limit)?);
@@ -66,7 +66,7 @@ fn network(alloc: Global, path: &Path, fault: NetFault) -> Result<Answer, Memory
 
 // A kept list that no export has.
 fn kept(alloc: Global, path: &Path, place: u32) -> Result<Answer, Memory>
-    ensures { IfOk result (λ r. r ≡ scene_refused (BadKept path.now.text.items place)) }
+    ensures { IfOk result (λ a. value_of a ≡ scene_refused (BadKept path.now.text.items place)) }
 {
     let mut text = at_path(alloc, "kept", path)?;
     text.push(b' ')?;
@@ -76,7 +76,7 @@ fn kept(alloc: Global, path: &Path, place: u32) -> Result<Answer, Memory>
 
 // The answer to the first fault of a scene.
 fn scene(alloc: Global, fault: &JsonFault) -> Result<Answer, Memory>
-    ensures { IfOk result (IsAnswerTo (scene_cause fault.now)) }
+    ensures { IfOk result (λ a. IsAnswerTo (scene_cause fault.now) (value_of a)) }
 {
     match fault {
         JsonFault::Json => Ok(line(alloc, b"json".to_vec(alloc)?)?),
@@ -90,7 +90,7 @@ fn scene(alloc: Global, fault: &JsonFault) -> Result<Answer, Memory>
 
 /// The answer to a stop, where it has a cause.
 pub fn stopped(alloc: Global, stop: &Stop) -> Result<Answer, Memory>
-    ensures { IfOk result (IsAnswerTo (cause_of stop.now)) }
+    ensures { IfOk result (λ a. IsAnswerTo (cause_of stop.now) (value_of a)) }
 {
     match stop {
         Stop::Memory => Err(Memory),

@@ -1,7 +1,7 @@
 -- What `mail --number` makes of a scene: something, and one thing.
-use Rattle.std.proofs.Common.{ℕ, ◌≡◌, ◌≤◌, List, length, refl, ap₂, ◌∙◌, sym, subst, Bool, true, false, ◌++◌}
+use Rattle.std.proofs.Common.{ℕ, ◌≡◌, ◌≤◌, List, refl, ap₂, ◌∙◌, subst, Bool, true, false, ◌++◌}
 use Rattle.std.specs.Prelude.{nat_lt}
-use Rattle.fc_nodes.specs.Program.{IsProgram, Program, Unfolding, unfolding_of}
+use Rattle.fc_nodes.specs.Program.{IsProgram, Program, unfolding_of}
 use Rattle.fc_nodes.specs.declared.verdicts.Verdict.{Verdict}
 use Rattle.fc_nodes.specs.declared.verdicts.Verdict.TheVariants as verdict
 use Rattle.topology.specs.Networks.{Network}
@@ -9,7 +9,6 @@ use Rattle.firing_core.specs.Entries.{entries_of}
 use Rattle.firing_core.specs.Cores.{Core, IsGood}
 use Rattle.firing_core.specs.Books.{in_flight, ends_of}
 use Rattle.firing_core.specs.Laws.{StepsKeepGood, RunsKeepGood, FaultlessStep, LogsLeadToOne}
-use Rattle.fragment_check.specs.Verdicts.{verdict_of}
 use Rattle.message_links.specs.MailCores.{MailCore, MailEntryValue, MailRun, IsMailStart}
 use Rattle.scramble.specs.Words.{words_of}
 use Rattle.mail_drive.specs.Laws.{nothing, DrivenLeads}

@@ -46,7 +46,7 @@ module _ (laws : InputsAreRead) (program network : List ℕ) (i : InputOf) (read
 
   stabilised : YesStabilisesMail → (k : ℕ) → verdict_of i.0 (length i.1.net.devices) ≡ verdict.Yes k → MailStabilises i.0 i.1.net k
   stabilised law k said =
-      let p = laws.unfold program network i reads in
+      let p = laws.unfolded program network i reads in
       subst AtProgram p.2 (law p.0 i.1.net k p.1 net) start.good.declared said
     where
       AtProgram : Unfolding → Type 0
@@ -55,7 +55,7 @@ module _ (laws : InputsAreRead) (program network : List ℕ) (i : InputOf) (read
   -- its flights ended
   settled_good : RunsKeepGood → (core : Core) → Settles i.0 i.1 core → IsGood i.0 core
   settled_good runs core settles =
-      let p = laws.unfold program network i reads in
+      let p = laws.unfolded program network i reads in
       subst AtProgram p.2 (λ good run. runs p.0 (start_of i.1) core (entries_of (ends_of (in_flight (start_of i.1)))) p.1 good run) start.good settles
     where
       AtProgram : Unfolding → Type 0

@@ -1,7 +1,7 @@
 -- What `mail` owes.
-use Rattle.std.proofs.Common.{ℕ, ◌≡◌, ◌≤◌, ◌⊎◌, Bool, true, false, List, length, refl, sym, subst, arith, inl, inr, Option, Some, None}
+use Rattle.std.proofs.Common.{ℕ, ◌≡◌, ◌≤◌, ◌⊎◌, Bool, true, false, List, length, refl, arith, inl, inr, Some, None}
 use Rattle.std.specs.Prelude.{nat_lt}
-use Rattle.fc_nodes.specs.Program.{Program, Unfolding, unfolding_of, IsProgram}
+use Rattle.fc_nodes.specs.Program.{Unfolding, unfolding_of}
 use Rattle.fc_nodes.specs.declared.verdicts.Verdict.{Verdict}
 use Rattle.fc_nodes.specs.declared.verdicts.Verdict.TheVariants as verdict
 use Rattle.firing_core.specs.Laws.{FaultlessStep, LogsLeadToOne, RunsKeepGood, StepsKeepGood}
@@ -18,7 +18,7 @@ use Rattle.edit_commands.specs.LineByLine.{Lines, AllLines, StopsAt}
 use Rattle.net_json.specs.Scenes.{SceneValue}
 use Rattle.fc_inputs.specs.declared.refusal.LineFault.TheVariants as line_fault
 use Rattle.fc_inputs.specs.Answers.{AnswerValue}
-use Rattle.fc_inputs.specs.Causes.{Judged, Accepted, Refused}
+use Rattle.fc_inputs.specs.Causes.{Judged, Accepted}
 use Rattle.fc_inputs.specs.Owing.{HasStatus, IsZero}
 use Rattle.fc_inputs.specs.Starts.{InputsAreRead, start_of}
 use Rattle.fc_inputs.proofs.Owed.{OwesScenes, plain_status, refused_status, texts_owe, three_owe, two_owe, zero_low}

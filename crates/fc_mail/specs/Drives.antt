@@ -64,4 +64,4 @@ DrivesScene number U s j = DrivesBy number (verdict_of U (length s.net.devices))
 
 -- the texts of a program and of a scene
 abbrev pub DrivesMail : ℕ → List ℕ → List ℕ → Judged AnswerValue → Type 0
-DrivesMail number program network j = OfScene (λ U s k. DrivesScene number U s k) program network j
+DrivesMail number = OfScene (λ U s k. DrivesScene number U s k)

@@ -12,6 +12,7 @@ ghost use Rattle.net_json.specs.SceneCode.{AreCopies, AreRows, value_of_scene};
 ghost use Rattle.mail_book.specs.MailReplays.{FailsMailAt};
 ghost use Rattle.mail_book.specs.MailViews.{mail_of, unfolded_of};
 ghost use Rattle.fc_inputs.specs.Causes.{Accepted, Refused};
+ghost use Rattle.fc_inputs.specs.Code.{value_of};
 ghost use Rattle.fc_inputs.specs.Stops.{StopsFor};
 ghost use Rattle.fc_values.specs.declared.limits.TheConstants.{MOST_BYTES};
 ghost use Rattle.fc_mail.specs.Code.{IsSettledOf};
@@ -100,8 +101,8 @@ fn driven(
     requires declared { scene.net.declared ≡ program.declared }
     requires rows { AreRows (unfolding_of program) scene.net scene.table.items }
     requires copies { AreCopies (unfolding_of program) scene.net scene.pending.items }
-    ensures { IfOk result (λ r. WritesDriven number (unfolding_of program)
-        (value_of_scene (unfolding_of program) scene) rounds (Accepted r)) }
+    ensures { IfOk result (λ a. WritesDriven number (unfolding_of program)
+        (value_of_scene (unfolding_of program) scene) rounds (Accepted (value_of a))) }
 {
     driven_logs_lead();
     mail_logs_end();
@@ -121,8 +122,8 @@ fn of_scene(alloc: Global, number: u32, program: Unfolded, scene: Scene) -> Resu
     requires declared { scene.net.declared ≡ program.declared }
     requires rows { AreRows (unfolding_of program) scene.net scene.table.items }
     requires copies { AreCopies (unfolding_of program) scene.net scene.pending.items }
-    ensures writes { IfOk result (λ r. DrivesScene number (unfolding_of program)
-        (value_of_scene (unfolding_of program) scene) (Accepted r)) }
+    ensures writes { IfOk result (λ a. DrivesScene number (unfolding_of program)
+        (value_of_scene (unfolding_of program) scene) (Accepted (value_of a))) }
     ensures refused { IfErr result (StopsFor (λ cause. DrivesScene number (unfolding_of program)
         (value_of_scene (unfolding_of program) scene) (Refused cause))) }
 {
@@ -148,7 +149,7 @@ pub(crate) fn mail_number(
     network: &[u8],
 ) -> Result<Answer, Stop>
     requires { length program.now ≤ MOST_BYTES }
-    ensures writes { IfOk result (λ r. DrivesMail number program.now network.now (Accepted r)) }
+    ensures writes { IfOk result (λ a. DrivesMail number program.now network.now (Accepted (value_of a))) }
     ensures refused { IfErr result (StopsFor (λ cause. DrivesMail number program.now network.now (Refused cause))) }
 {
     let (program, scene) = read_input(alloc, program, network)?;

@@ -8,6 +8,7 @@ ghost use Rattle.net_json.specs.SceneCode.{AreCopies, AreRows, value_of_scene};
 ghost use Rattle.mail_lines.specs.MailLines.{IsMailLog, mail_log as lines_of_log, mailed};
 ghost use Rattle.mail_book.specs.MailViews.{mail_of, quiet};
 ghost use Rattle.fc_inputs.specs.Causes.{Accepted, Refused};
+ghost use Rattle.fc_inputs.specs.Code.{value_of};
 ghost use Rattle.fc_inputs.specs.Stops.{StopsFor};
 ghost use Rattle.fc_values.specs.declared.limits.TheConstants.{MOST_BYTES};
 ghost use Rattle.fc_inputs.specs.Starts.{start_of};
@@ -110,7 +111,7 @@ pub(crate) fn mail_log(
 ) -> Result<Answer, Stop>
     requires program { length program.now ≤ MOST_BYTES }
     requires log { length log.now ≤ MOST_BYTES }
-    ensures writes { IfOk result (λ r. Mails program.now network.now log.now (Accepted r)) }
+    ensures writes { IfOk result (λ a. Mails program.now network.now log.now (Accepted (value_of a))) }
     ensures refused { IfErr result (StopsFor (λ cause. Mails program.now network.now log.now (Refused cause))) }
 {
     let (program, scene) = read_input(alloc, program, network)?;

@@ -52,18 +52,18 @@ pub fn ended<W: Threads + Wait + Sync, S: Source, K: Sink, G: Gate + Sync>(
     ensures untouched { reads_source asked ≡ false → src.new ≡ src.old }
 {
     match answered(rt, alloc, asked, src, gate) {
-        Ok(answer) => {
-            let status = match write_all(out, answer.text()) {
-                Ok(()) => answer.status(),
-                Err(_) => 6,
-            };
-            let (book, parts) = answer.into_book();
-            Outcome {
-                status,
-                book,
-                parts,
-            }
-        }
+        Ok(answer) => match write_all(out, &answer.text) {
+            Ok(()) => Outcome {
+                status: answer.status,
+                book: answer.book,
+                parts: answer.parts,
+            },
+            Err(_) => Outcome {
+                status: 6,
+                book: answer.book,
+                parts: answer.parts,
+            },
+        },
         Err(Failure::Read) => without_book(alloc, 5),
         Err(Failure::Memory) => without_book(alloc, 7),
     }

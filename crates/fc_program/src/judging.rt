@@ -7,6 +7,7 @@ ghost use Rattle.fc_program.specs.declared.judging.Failure.TheVariants as failur
 ghost use Rattle.fc_answers.specs.Answers.{Answers, Works};
 ghost use Rattle.fc_answers.specs.Asked.{MayAsk, reads_source, takes_input};
 ghost use Rattle.fc_program.specs.Top.{IsAnswer, OfSource, within_bytes};
+ghost use Rattle.fc_inputs.specs.Code.{value_of};
 
 use command_words::{Command, Quiet, RunOptions, Threaded, Work};
 use export_table::Gate;
@@ -53,7 +54,7 @@ fn input<S: Source>(alloc: Global, src: &mut S) -> Result<Option<Vec<u8>>, Failu
 // The answer to a quiet command and to what the source has left. Nothing here waits.
 fn quiet_answer<S: Source>(alloc: Global, command: Quiet, src: &mut S) -> Result<Answer, Failure>
     ensures answers { IfOk result (λ a.
-        OfSource (λ input. Answers (Some (Command.Quiet command)) input a) (S.left src.old)) }
+        OfSource (λ input. Answers (Some (Command.Quiet command)) input (value_of a)) (S.left src.old)) }
     ensures end { IfOk result (λ a. a.status ≢ 4 → IsAtEnd (S.left src.new)) }
     ensures fault { IsErrOf result Failure.Read → Rose (S.faults src.old) (S.faults src.new) }
     ensures quiet { (IsErrOf result Failure.Read → ⊥) → S.faults src.new ≡ S.faults src.old }
@@ -72,7 +73,7 @@ fn run_answer<S: Source, W: Threads + Wait + Sync, G: Gate + Sync>(
     pool: &Pool<W, G>,
 ) -> Result<Answer, Failure>
     ensures works { IfOk result (λ a.
-        OfSource (λ input. Works (Work.Run options) input a) (S.left src.old)) }
+        OfSource (λ input. Works (Work.Run options) input (value_of a)) (S.left src.old)) }
     ensures end { IfOk result (λ a. a.status ≢ 4 → IsAtEnd (S.left src.new)) }
     ensures fault { IsErrOf result Failure.Read → Rose (S.faults src.old) (S.faults src.new) }
     ensures quiet { (IsErrOf result Failure.Read → ⊥) → S.faults src.new ≡ S.faults src.old }
@@ -92,7 +93,7 @@ fn work_answer<S: Source, W: Threads + Wait + Sync, G: Gate + Sync>(
 ) -> Result<Answer, Failure>
     requires may { IsWork work }
     requires within { work_limit work ≡ None }
-    ensures works { IfOk result (λ a. OfSource (λ input. Works work input a) (S.left src.old)) }
+    ensures works { IfOk result (λ a. OfSource (λ input. Works work input (value_of a)) (S.left src.old)) }
     ensures end { takes_input work ≡ true → IfOk result (λ a. a.status ≢ 4 → IsAtEnd (S.left src.new)) }
     ensures untouched { takes_input work ≡ false → src.new ≡ src.old }
     ensures fault { IsErrOf result Failure.Read → Rose (S.faults src.old) (S.faults src.new) }
@@ -114,7 +115,7 @@ fn threaded_answer<W: Threads + Wait + Sync, S: Source, G: Gate + Sync>(
 ) -> Result<Answer, Failure>
     requires { IsThreaded command }
     ensures answers { IfOk result (λ a.
-        OfSource (λ input. Answers (Some (Command.Threaded command)) input a) (S.left src.old)) }
+        OfSource (λ input. Answers (Some (Command.Threaded command)) input (value_of a)) (S.left src.old)) }
     ensures end { reads_source (Some (Command.Threaded command)) ≡ true →
         IfOk result (λ a. a.status ≢ 4 → IsAtEnd (S.left src.new)) }
     ensures untouched { reads_source (Some (Command.Threaded command)) ≡ false → src.new ≡ src.old }
@@ -137,7 +138,7 @@ fn made<W: Threads + Wait + Sync, S: Source, G: Gate + Sync>(
     gate: &G,
 ) -> Result<Answer, Failure>
     requires { MayAsk asked }
-    ensures answers { IfOk result (λ a. OfSource (λ input. Answers asked input a) (S.left src.old)) }
+    ensures answers { IfOk result (λ a. OfSource (λ input. Answers asked input (value_of a)) (S.left src.old)) }
     ensures outside { IfOk result (λ a. asked ≡ None → a.status ≡ 2) }
     ensures end { reads_source asked ≡ true → IfOk result (λ a. a.status ≢ 4 → IsAtEnd (S.left src.new)) }
     ensures untouched { reads_source asked ≡ false → src.new ≡ src.old }
@@ -162,7 +163,7 @@ pub fn answered<W: Threads + Wait + Sync, S: Source, G: Gate + Sync>(
     gate: &G,
 ) -> Result<Answer, Failure>
     requires { MayAsk asked }
-    ensures answers { IfOk result (λ a. IsAnswer asked (S.left src.old) a) }
+    ensures answers { IfOk result (λ a. IsAnswer asked (S.left src.old) (value_of a)) }
     ensures usage { IfOk result (λ a. a.status ≡ 2 → asked ≡ None) }
     ensures outside { IfOk result (λ a. asked ≡ None → a.status ≡ 2) }
     ensures status { IfOk result (λ a. a.status ≤ 4) }

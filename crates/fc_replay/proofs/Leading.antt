@@ -1,5 +1,5 @@
 -- What is shown is a run that leads from the scene.
-use Rattle.std.proofs.Common.{ℕ, ◌≡◌, List, [], ◌∷◌, refl, sym, subst, Option, Some, None}
+use Rattle.std.proofs.Common.{ℕ, ◌≡◌, List, [], ◌∷◌, sym, subst, Option, Some, None}
 use Rattle.fc_nodes.specs.Program.{Unfolding}
 use Rattle.firing_core.specs.Cores.{EditFits}
 use Rattle.firing_core.specs.Entries.{EditValue, LinkEdit, UnlinkEdit, SetEdit, PokeEdit, JoinEdit, LeaveEdit, EntryValue, BeginEntry, EndEntry, IdleEntry, EditEntry}

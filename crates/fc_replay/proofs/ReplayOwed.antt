@@ -1,5 +1,5 @@
 -- What `replay` owes.
-use Rattle.std.proofs.Common.{ℕ, ◌≡◌, ◌≤◌, false, List, length, refl, ap, sym, subst, arith, Option, Some, None}
+use Rattle.std.proofs.Common.{ℕ, ◌≡◌, ◌≤◌, false, List, length, refl, sym, subst, arith, Option, Some, None}
 use Rattle.fc_nodes.specs.Program.{IsProgram, Program, Unfolding, unfolding_of}
 use Rattle.fc_nodes.specs.declared.verdicts.Verdict.TheVariants as verdict
 use Rattle.topology.specs.Networks.{numbers}
@@ -8,7 +8,7 @@ use Rattle.firing_core.specs.Cores.{Core, IsGood, Run}
 use Rattle.firing_core.specs.Entries.{EntryValue}
 use Rattle.firing_core.specs.Laws.{FaultlessStep, RunsAgree, RunsCutAtEdit, RunsKeepGood, StepsAgree, StepsKeepGood}
 use Rattle.firing_core.specs.Rounds.{HasRounds, after_edit}
-use Rattle.round_count.specs.Laws.{IsGreatest, SomeGreatest}
+use Rattle.round_count.specs.Laws.{SomeGreatest}
 use Rattle.converge_laws.specs.Verdicts.{IsSettled, YesStabilises}
 use Rattle.net_json.specs.Scenes.{SceneValue}
 use Rattle.edit_commands.specs.Agreement.{PartsAgree, ReadingsAgree, ReplaysAgree}
@@ -21,7 +21,7 @@ use Rattle.command_words.specs.declared.commands.ReplayOptions.{ReplayOptions}
 use Rattle.round_count.proofs.EditsInLogs.{fewer}
 use Rattle.fc_inputs.specs.declared.refusal.LineFault.{LineFault}
 use Rattle.fc_inputs.specs.Answers.{AnswerValue}
-use Rattle.fc_inputs.specs.Causes.{Judged, Accepted, Refused}
+use Rattle.fc_inputs.specs.Causes.{Judged, Accepted}
 use Rattle.fc_inputs.specs.Inputs.{InputOf, ReadsInput}
 use Rattle.fc_inputs.specs.LineFaults.{fault_in}
 use Rattle.fc_inputs.specs.Owing.{HasStatus, IsZero}

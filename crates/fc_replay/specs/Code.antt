@@ -1,9 +1,8 @@
 -- What the code of `replay` has on the way.
-use Rattle.std.specs.Prelude.{ℕ, ◌≡◌, ◌<◌, slice_index, List, Option, Some, None}
+use Rattle.std.specs.Prelude.{ℕ, ◌≡◌, ◌<◌, slice_index, List, Some}
 use Rattle.fc_nodes.specs.Program.{Unfolding}
 use Rattle.firing_core.specs.declared.entries.ReplayFault.{ReplayFault}
 use Rattle.firing_core.specs.declared.entries.ReplayFault.TheVariants as replay_fault
-use Rattle.firing_core.specs.Books.{BookValue}
 use Rattle.firing_core.specs.Cores.{Core}
 use Rattle.firing_core.specs.Replays.{replay}
 use Rattle.edit_commands.specs.declared.types.Fault.{Fault}
@@ -17,9 +16,9 @@ use Rattle.fc_inputs.specs.declared.stop.Stop.{Stop}
 use Rattle.fc_inputs.specs.declared.stop.Stop.TheVariants as stop
 use Rattle.fc_inputs.specs.Causes.{Cause, Plainly}
 use Rattle.fc_inputs.specs.Refusals.{log_refusal}
-use Rattle.fc_inputs.specs.Ledgers.{Ledger, ledger_of, book_of}
+use Rattle.fc_inputs.specs.Ledgers.{Ledger, book_of}
 use Rattle.fc_inputs.specs.LineFaults.{fault_in, step_fault}
-use Rattle.fc_inputs.specs.Answers.{AnswerValue}
+use Rattle.fc_inputs.specs.Stops.{stop_at}
 use Rattle.fc_replay.specs.Stopping.{Logged, entries_in, first_stop}
 
 -- the stop of a log that isn't replayed, from the numbers of its lines

@@ -1,16 +1,11 @@
 -- What `replay` makes of a program, a scene and a log.
-use Rattle.std.specs.Prelude.{ℕ, Bool, true, false, ◌≡◌, List, [], ◌∷◌, ◌++◌, codes, Option, Some, None}
-use Rattle.fc_values.specs.Trees.{TreeExport, Copy}
+use Rattle.std.specs.Prelude.{ℕ, Bool, true, false, ◌≡◌, List, [], ◌∷◌, ◌++◌, Option, Some, None}
 use Rattle.fc_nodes.specs.Program.{Unfolding}
-use Rattle.topology.specs.Networks.{NetDevice, numbers}
+use Rattle.topology.specs.Networks.{numbers}
 use Rattle.firing_core.specs.Cores.{Core}
 use Rattle.firing_core.specs.Entries.{EntryValue}
 use Rattle.firing_core.specs.Replays.{replay}
 use Rattle.round_count.specs.Laws.{IsGreatest}
-use Rattle.firing_core.specs.Starts.{look_up}
-use Rattle.net_json.specs.Scenes.{SceneValue}
-use Rattle.net_json.specs.Tables.{Row}
-use Rattle.net_json.specs.TableTexts.{table_text}
 use Rattle.edit_commands.specs.declared.types.Fault.{Fault}
 use Rattle.edit_commands.specs.LineByLine.{Lines, AllLines, StopsAt, AreSaid}
 use Rattle.edit_commands.specs.Logs.{LogLine, IsEntry, log_of}
@@ -18,10 +13,12 @@ use Rattle.report.specs.Texts.{values_text}
 use Rattle.report.specs.Verdicts.{rounds_text}
 use Rattle.fc_inputs.specs.declared.refusal.LineFault.{LineFault}
 use Rattle.fc_inputs.specs.Refusals.{log_refusal}
-use Rattle.fc_inputs.specs.Answers.{showing}
+use Rattle.fc_inputs.specs.Answers.{AnswerValue, showing}
 use Rattle.fc_inputs.specs.Causes.{Plainly, Judged, Accepted, Refused}
 use Rattle.fc_inputs.specs.Inputs.{OfScene}
-use Rattle.fc_inputs.specs.Ledgers.{Ledger}
+use Rattle.fc_inputs.specs.Starts.{start_of}
+use Rattle.fc_inputs.specs.Tables.{table_line, where_asked}
+use Rattle.fc_inputs.specs.Ledgers.{Ledger, book_of}
 use Rattle.fc_inputs.specs.LineFaults.{fault_in}
 use Rattle.command_words.specs.declared.commands.ReplayOptions.{ReplayOptions}
 use Rattle.fc_replay.specs.Stopping.{Logged, entries_in, first_stop}

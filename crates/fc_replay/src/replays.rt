@@ -7,6 +7,7 @@ ghost use Rattle.firing_core.specs.Replays.{LogFits};
 ghost use Rattle.net_json.specs.SceneCode.{AreCopies, AreRows, value_of_scene};
 ghost use Rattle.edit_commands.specs.Logs.{logged};
 ghost use Rattle.fc_inputs.specs.Causes.{Accepted, Refused};
+ghost use Rattle.fc_inputs.specs.Code.{value_of};
 ghost use Rattle.fc_inputs.specs.Sections.{AreWithin, WithThree};
 ghost use Rattle.fc_inputs.specs.Stops.{StopsFor};
 ghost use Rattle.fc_inputs.specs.Ledgers.{ledger_of};
@@ -58,7 +59,7 @@ fn of_texts(
 ) -> Result<Answer, Stop>
     requires program { length program.now ≤ MOST_BYTES }
     requires log { length log.now ≤ MOST_BYTES }
-    ensures shown { IfOk result (λ a. Replays options program.now network.now log.now (Accepted a)) }
+    ensures shown { IfOk result (λ a. Replays options program.now network.now log.now (Accepted (value_of a))) }
     ensures refused { IfErr result (StopsFor (λ cause.
         Replays options program.now network.now log.now (Refused cause))) }
 {
@@ -73,7 +74,7 @@ fn of_texts(
 /// The answer of `replay` to the sections of an input.
 pub fn replay(alloc: Global, options: ReplayOptions, sections: &[&[u8]]) -> Result<Answer, Stop>
     requires { AreWithin MOST_BYTES (map (λ s. s.now) sections.now) }
-    ensures shown { IfOk result (λ a. WithThree (Replays options) (map (λ s. s.now) sections.now) (Accepted a)) }
+    ensures shown { IfOk result (λ a. WithThree (Replays options) (map (λ s. s.now) sections.now) (Accepted (value_of a))) }
     ensures refused { IfErr result (StopsFor (λ cause.
         WithThree (Replays options) (map (λ s. s.now) sections.now) (Refused cause))) }
 {

@@ -1,5 +1,5 @@
 -- What is run keeps a yes.
-use Rattle.std.proofs.Common.{ℕ, ◌≡◌, List, ◌++◌, refl, sym, subst}
+use Rattle.std.proofs.Common.{ℕ, ◌≡◌, List, ◌++◌, sym, subst}
 use Rattle.fc_nodes.specs.Program.{Unfolding}
 use Rattle.firing_core.specs.Cores.{IsGood}
 use Rattle.edit_commands.specs.LineByLine.{AllLines, StopsAt}
@@ -20,7 +20,7 @@ module _ (laws : InputsAreRead) (law : ScriptsKeepYes) (options : RunOptions)
       → IsScript i.0 (start_of i.1) script commands → RunsCommands options i.0 (start_of i.1) commands (Accepted r)
       → RunKeepsYes options program network script r
   by_commands i reads commands said h =
-      let p = laws.unfold program network i reads in
+      let p = laws.unfolded program network i reads in
       let Law : Unfolding → List (ℕ × CommandValue) → List (ℕ × CommandValue) → Type 0 = λ V front rest.
       IsGood V (start_of i.1) → ScriptRun V (start_of i.1) (front ++ rest) h.log h.parts h.shown h.last
       → KeepsYes V (start_of i.1) front rest h.log h.parts h.shown h.last in

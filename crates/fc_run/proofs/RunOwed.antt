@@ -12,7 +12,7 @@ use Rattle.session.specs.Laws.{OneScriptRun, SomeScriptRun}
 use Rattle.session.specs.Promises.{ScriptsKeepYes}
 use Rattle.command_words.specs.declared.commands.RunOptions.{RunOptions}
 use Rattle.fc_inputs.specs.Answers.{AnswerValue}
-use Rattle.fc_inputs.specs.Causes.{Judged, Accepted, Refused}
+use Rattle.fc_inputs.specs.Causes.{Judged}
 use Rattle.fc_inputs.specs.LineFaults.{fault_in}
 use Rattle.fc_inputs.specs.Owing.{HasStatus, IsZero, RefusesBy}
 use Rattle.fc_inputs.specs.Refusals.{status_of}

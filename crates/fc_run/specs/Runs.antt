@@ -15,7 +15,7 @@ use Rattle.fc_inputs.specs.Refusals.{script_refusal}
 use Rattle.fc_inputs.specs.Answers.{AnswerValue, showing}
 use Rattle.fc_inputs.specs.Causes.{Plainly, Judged, Accepted, Refused}
 use Rattle.fc_inputs.specs.Inputs.{OfScene}
-use Rattle.fc_inputs.specs.Ledgers.{Ledger, book_of}
+use Rattle.fc_inputs.specs.Ledgers.{book_of}
 use Rattle.fc_inputs.specs.Starts.{start_of}
 use Rattle.fc_inputs.specs.Tables.{table_line, where_asked}
 use Rattle.fc_inputs.specs.LineFaults.{fault_in}

@@ -4,6 +4,7 @@ ghost use Rattle.firing_core.specs.CoreViews.{core_of, program_of};
 ghost use Rattle.firing_core.specs.Entries.{entries_of};
 ghost use Rattle.report.specs.Logs.{log_text};
 ghost use Rattle.fc_inputs.specs.Causes.{Accepted, Refused};
+ghost use Rattle.fc_inputs.specs.Code.{value_of};
 ghost use Rattle.fc_inputs.specs.Sections.{AreWithin, WithThree};
 ghost use Rattle.fc_inputs.specs.Stops.{StopsFor};
 ghost use Rattle.fc_inputs.specs.Tables.{table_line, where_asked};
@@ -57,7 +58,7 @@ fn write_table(
 
 // What a session gives at its end.
 fn ended(alloc: Global, options: RunOptions, session: Session) -> Result<Answer, Memory>
-    ensures { IfOk result (λ a. a ≡ ended_of options session) }
+    ensures { IfOk result (λ a. value_of a ≡ ended_of options session) }
 {
     let (book, parts, mut text) = session.finish();
     write_log(alloc, options, &mut text, &book)?;
@@ -79,7 +80,7 @@ fn of_texts<W: Threads + Wait + Sync, G: Gate + Sync>(
 ) -> Result<Answer, Stop>
     requires program { length program.now ≤ MOST_BYTES }
     requires script { length script.now ≤ MOST_BYTES }
-    ensures ran { IfOk result (λ a. Runs options program.now network.now script.now (Accepted a)) }
+    ensures ran { IfOk result (λ a. Runs options program.now network.now script.now (Accepted (value_of a))) }
     ensures refused { IfErr result (StopsFor (λ cause.
         Runs options program.now network.now script.now (Refused cause))) }
 {
@@ -100,7 +101,7 @@ pub fn run<W: Threads + Wait + Sync, G: Gate + Sync>(
     pool: &Pool<W, G>,
 ) -> Result<Answer, Stop>
     requires { AreWithin MOST_BYTES (map (λ s. s.now) sections.now) }
-    ensures ran { IfOk result (λ a. WithThree (Runs options) (map (λ s. s.now) sections.now) (Accepted a)) }
+    ensures ran { IfOk result (λ a. WithThree (Runs options) (map (λ s. s.now) sections.now) (Accepted (value_of a))) }
     ensures refused { IfErr result (StopsFor (λ cause.
         WithThree (Runs options) (map (λ s. s.now) sections.now) (Refused cause))) }
 {

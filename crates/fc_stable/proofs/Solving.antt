@@ -1,5 +1,5 @@
 -- What `stable` owes.
-use Rattle.std.proofs.Common.{ℕ, ◌≡◌, ◌≤◌, false, List, length, map, refl, ap, ◌∙◌, sym, subst, arith}
+use Rattle.std.proofs.Common.{ℕ, ◌≡◌, ◌≤◌, false, List, length, map, refl, ap, ◌∙◌, sym, arith}
 use Rattle.fc_values.specs.Fields.{Entries}
 use Rattle.fc_nodes.specs.Program.{IsProgram, Program, Unfolding, unfolding_of}
 use Rattle.fc_nodes.specs.declared.verdicts.Verdict.{Verdict}
@@ -21,7 +21,7 @@ use Rattle.fc_inputs.specs.Owing.{HasStatus, IsZero}
 use Rattle.fc_inputs.specs.Starts.{InputsAreRead, start_of}
 use Rattle.fc_inputs.proofs.Agreeing.{both_plain}
 use Rattle.fc_inputs.proofs.KeptYes.{has_yes}
-use Rattle.fc_inputs.proofs.Owed.{OwesScenes, plain_status, texts_owe, two_owe, zero_low}
+use Rattle.fc_inputs.proofs.Owed.{plain_status, texts_owe, two_owe, zero_low}
 use Rattle.fc_stable.specs.Promises.{SolvesYes, StableOwes, stable_entries}
 use Rattle.fc_stable.specs.Stabilised.{StabilisedBy, StabilisesScene, Stabilised}
 

@@ -4,7 +4,6 @@ use Rattle.fc_values.specs.Fields.{Entries}
 use Rattle.topology.specs.Networks.{numbers}
 use Rattle.report.specs.Texts.{field_text}
 use Rattle.fc_values.specs.declared.limits.TheConstants.{MOST_BYTES}
-use Rattle.fc_inputs.specs.Answers.{AnswerValue}
 use Rattle.fc_inputs.specs.Owing.{IsZero, OfTwo, Owes}
 use Rattle.fc_inputs.specs.Sections.{AreWithin, WithTwo}
 use Rattle.fc_inputs.specs.Yes.{HasYes}

@@ -34,4 +34,4 @@ pub record StabilisesScene (U : Unfolding) (s : SceneValue) (j : Judged AnswerVa
 
 -- the texts of a program and of a scene
 abbrev pub Stabilised : List ℕ → List ℕ → Judged AnswerValue → Type 0
-Stabilised program network j = OfScene StabilisesScene program network j
+Stabilised = OfScene StabilisesScene

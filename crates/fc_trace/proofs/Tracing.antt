@@ -25,7 +25,7 @@ use Rattle.fc_inputs.specs.Owing.{HasStatus, IsZero}
 use Rattle.fc_inputs.specs.Starts.{InputsAreRead, start_of}
 use Rattle.fc_inputs.proofs.Agreeing.{both_plain}
 use Rattle.fc_inputs.proofs.KeptYes.{at_program, has_yes}
-use Rattle.fc_inputs.proofs.Owed.{OwesScenes, plain_status, texts_owe, two_owe, zero_low}
+use Rattle.fc_inputs.proofs.Owed.{plain_status, texts_owe, two_owe, zero_low}
 use Rattle.fc_trace.specs.Promises.{TraceOwes, TracesYes}
 use Rattle.fc_trace.specs.Texts.{walks_text}
 use Rattle.fc_trace.specs.Traces.{WritesWalks, TracedBy, TracesScene, Traces}

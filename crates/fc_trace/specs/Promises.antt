@@ -9,7 +9,6 @@ use Rattle.walk_form.specs.Costs.{AreCostsOf}
 use Rattle.walk_form.specs.Laws.{IsLeastAt}
 use Rattle.report.specs.Verdicts.{verdict_text}
 use Rattle.fc_values.specs.declared.limits.TheConstants.{MOST_BYTES}
-use Rattle.fc_inputs.specs.Answers.{AnswerValue}
 use Rattle.fc_inputs.specs.Owing.{IsZero, OfTwo, Owes}
 use Rattle.fc_inputs.specs.Sections.{AreWithin, WithTwo}
 use Rattle.fc_inputs.specs.Yes.{HasYes}

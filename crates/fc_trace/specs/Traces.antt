@@ -41,4 +41,4 @@ pub record TracesScene (U : Unfolding) (s : SceneValue) (j : Judged AnswerValue)
 
 -- the texts of a program and of a scene
 abbrev pub Traces : List ℕ → List ℕ → Judged AnswerValue → Type 0
-Traces program network j = OfScene TracesScene program network j
+Traces = OfScene TracesScene

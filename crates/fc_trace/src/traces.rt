@@ -7,6 +7,7 @@ ghost use Rattle.walks.specs.Walks.{AreTraced, IsCosts, claim_of, costs_of};
 ghost use Rattle.walk_form.specs.Forms.{walk_terms};
 ghost use Rattle.fc_inputs.specs.Answers.{plain};
 ghost use Rattle.fc_inputs.specs.Causes.{Accepted, Refused};
+ghost use Rattle.fc_inputs.specs.Code.{value_of};
 ghost use Rattle.fc_inputs.specs.Sections.{AreWithin, WithTwo};
 ghost use Rattle.fc_inputs.specs.Stops.{StopsFor};
 ghost use Rattle.fc_values.specs.declared.limits.TheConstants.{MOST_BYTES};
@@ -38,7 +39,7 @@ fn checked_walks(alloc: Global, costs: &Costs) -> Result<Vec<Evidence>, Memory>
 
 // A line, and behind it walks.
 fn walks_answer(alloc: Global, mut text: Vec<u8>, claim: &[Evidence]) -> Result<Answer, Memory>
-    ensures { IfOk result (λ a. a ≡ plain 0 (text.items ++ walks_text (claim_of claim.now))) }
+    ensures { IfOk result (λ a. value_of a ≡ plain 0 (text.items ++ walks_text (claim_of claim.now))) }
 {
     write_walks(alloc, &mut text, claim)?;
     Ok(Answer::plain(alloc, 0, text))
@@ -46,7 +47,7 @@ fn walks_answer(alloc: Global, mut text: Vec<u8>, claim: &[Evidence]) -> Result<
 
 // A line, and behind it that there are no walks.
 fn no_walks(alloc: Global, mut text: Vec<u8>) -> Result<Answer, Memory>
-    ensures { IfOk result (λ a. a ≡ plain 1 (text.items ++ codes "no walks\n")) }
+    ensures { IfOk result (λ a. value_of a ≡ plain 1 (text.items ++ codes "no walks\n")) }
 {
     text.extend_from_slice(b"no walks\n")?;
     Ok(Answer::plain(alloc, 1, text))
@@ -55,8 +56,8 @@ fn no_walks(alloc: Global, mut text: Vec<u8>) -> Result<Answer, Memory>
 // The walks of a program on a network, or that there are none.
 fn of_network(alloc: Global, program: &Unfolded, net: &Network) -> Result<Answer, Memory>
     requires { net.now.declared ≡ program.now.declared }
-    ensures { IfOk result (TracedBy (verdict_of (unfolding_of program.now) (length net.now.devices))
-        (walk_terms (unfolding_of program.now)) (unfolding_of program.now) net.now) }
+    ensures { IfOk result (λ a. TracedBy (verdict_of (unfolding_of program.now) (length net.now.devices))
+        (walk_terms (unfolding_of program.now)) (unfolding_of program.now) net.now (value_of a)) }
 {
     let analysis = Analysis::new(alloc, program)?;
     match costs(alloc, &analysis, net) {
@@ -79,7 +80,7 @@ fn of_network(alloc: Global, program: &Unfolded, net: &Network) -> Result<Answer
 // What is written of the texts of a program and a scene.
 fn of_texts(alloc: Global, program: &[u8], network: &[u8]) -> Result<Answer, Stop>
     requires { length program.now ≤ MOST_BYTES }
-    ensures writes { IfOk result (λ a. Traces program.now network.now (Accepted a)) }
+    ensures writes { IfOk result (λ a. Traces program.now network.now (Accepted (value_of a))) }
     ensures refused { IfErr result (StopsFor (λ cause. Traces program.now network.now (Refused cause))) }
 {
     let (program, scene) = read_input(alloc, program, network)?;
@@ -89,7 +90,7 @@ fn of_texts(alloc: Global, program: &[u8], network: &[u8]) -> Result<Answer, Sto
 /// The answer of `trace` to the sections of an input.
 pub fn traced(alloc: Global, sections: &[&[u8]]) -> Result<Answer, Stop>
     requires { AreWithin MOST_BYTES (map (λ s. s.now) sections.now) }
-    ensures writes { IfOk result (λ a. WithTwo Traces (map (λ s. s.now) sections.now) (Accepted a)) }
+    ensures writes { IfOk result (λ a. WithTwo Traces (map (λ s. s.now) sections.now) (Accepted (value_of a))) }
     ensures refused { IfErr result (StopsFor (λ cause.
         WithTwo Traces (map (λ s. s.now) sections.now) (Refused cause))) }
 {

@@ -4,6 +4,7 @@ use Rattle.fc_nodes.specs.Program.{Unfolding, unfolding_of}
 use Rattle.fragment_check.specs.Verdicts.{verdict_of}
 use Rattle.stable_field.specs.Stable.{IsStableField}
 use Rattle.topology.specs.Networks.{Network}
+use Rattle.fc_inputs.specs.Code.{value_of}
 use Rattle.fc_gen.proofs.Running.{few_firings, generated, run_within}
 use Rattle.fc_gen.proofs.scenarios.scenario_answer.Goals as goal
 
@@ -30,4 +31,4 @@ returns g c =
     c.in_ok-program-2.program c.in_ok-program-2.ensures c.in_ok-program.net
     c.in_ok-program.ensures.network c.in_ok-session.session c.in_ok-session.ensures _
     (subst (λ fs. IsStableField (unfolding_of c.in_ok-program-2.program) c.in_ok-program.net (map entry_of fs)) (sym c.deref.ensures.value) c.in_ok-field.ensures)
-    c.in_ok-answer.answer c.in_ok-answer.ensures
+    (value_of c.in_ok-answer.answer) c.in_ok-answer.ensures

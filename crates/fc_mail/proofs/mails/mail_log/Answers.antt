@@ -13,6 +13,7 @@ use Rattle.report.specs.Texts.{values_text}
 use Rattle.report.specs.Verdicts.{rounds_text}
 use Rattle.fc_inputs.specs.Causes.{Refused}
 use Rattle.fc_inputs.specs.Answers.{plain}
+use Rattle.fc_inputs.specs.Code.{value_of}
 use Rattle.fc_inputs.proofs.Stopping.{stop_is, stops_map}
 use Rattle.fc_inputs.specs.Starts.{start_of}
 use Rattle.fc_mail.specs.Code.{IsFaultyMail, IsStoppedMail}
@@ -52,5 +53,5 @@ returns-clause-writes c =
     subst (λ (l : List MailEntryValue). IsGreatestMail start.core.net (posts_of start) l shows.rounds) (made.log_is ∙ sym same)
     (subst (λ (m : MailCore). IsGreatestMail m.core.net (posts_of m) (mail_entries book.log) shows.rounds) made.start_is shows.counted) in
     let text : c.show.new.text.items ≡ values_text (core_of book.mail.core) ++ rounds_text shows.rounds = shows.is ∙ ap (λ (xs : List ℕ). (xs ++ values_text (core_of book.mail.core)) ++ rounds_text shows.rounds) c.new-text.ensures.items in
-    shown_log c.args.program.now c.args.network.now c.args.log.now U s c.in_ok-program.ensures.input es c.in_ok-log.ensures.log c.plain.result (mail_of book.mail) shows.rounds leads counted
+    shown_log c.args.program.now c.args.network.now c.args.log.now U s c.in_ok-program.ensures.input es c.in_ok-log.ensures.log (value_of c.plain.result) (mail_of book.mail) shows.rounds leads counted
     (c.plain.ensures ∙ ap (plain 0) text)

@@ -5,6 +5,7 @@ use Rattle.net_json.specs.SceneCode.{value_of_scene}
 use Rattle.edit_commands.specs.Scripts.{numbered, script_of}
 use Rattle.fc_inputs.specs.Causes.{Refused}
 use Rattle.fc_inputs.specs.Inputs.{ReadsInput}
+use Rattle.fc_inputs.specs.Code.{value_of}
 use Rattle.fc_inputs.specs.Starts.{start_of}
 use Rattle.fc_inputs.proofs.Stopping.{stop_is, stops_map}
 use Rattle.fc_inputs.proofs.Unread.{unread}
@@ -50,4 +51,4 @@ returns-clause-ran g c =
     c.in_ok-core.core c.in_ok-core.ensures.core
     (map numbered c.in_ok-lines.lines.items) (map numbered c.deref-2.result.now)
     (ap (map numbered) c.deref-2.ensures.value) c.in_ok-lines.ensures.script c.in_ok-session.session
-    c.in_ok-session.ensures c.in_ok-ended.field-0 c.in_ok-ended.ensures
+    c.in_ok-session.ensures (value_of c.in_ok-ended.field-0) c.in_ok-ended.ensures
