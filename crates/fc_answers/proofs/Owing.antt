@@ -68,9 +68,9 @@ module _ (threads : Bool) (Makes : List (List ℕ) → Judged AnswerValue → Ty
 
   input_keeps : (input : List ℕ) (j : Judged AnswerValue) → OfInput Makes input j → IsYes (answer_of j).status
       → P (sections_of input) (answer_of j)
-  input_keeps input j h yes =
-      refused_keeps j (answer_of j).status (input_status input j h) refl (owes.low (answer_of j).status yes)
-      (λ answer e. subst Kept (sym e) (by_length (nat_lt MOST_BYTES (length input)) answer) h yes)
+  input_keeps input j h says =
+      refused_keeps j (answer_of j).status (input_status input j h) refl (owes.low (answer_of j).status says)
+      (λ answer e. subst Kept (sym e) (by_length (nat_lt MOST_BYTES (length input)) answer) h says)
     where
       Kept : Judged AnswerValue → Type 0
       Kept k = OfInput Makes input k → IsYes (answer_of k).status → P (sections_of input) (answer_of k)

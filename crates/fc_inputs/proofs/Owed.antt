@@ -99,11 +99,11 @@ module _ (laws : InputsAreRead) (threads : Bool) (Makes : Unfolding → SceneVal
 
   texts_keep : (program network : List ℕ) (a : AnswerValue) → OfScene Makes program network (Accepted a)
       → IsYes a.status → P program network a
-  texts_keep program network a h yes = by_input h.judged h.reads h.ends
+  texts_keep program network a h says = by_input h.judged h.reads h.ends
     where
       by_input : (i : Judged InputOf) → ReadsInput program network i → Ends i (Accepted a) → P program network a
       by_input (Refused cause) r e = absurd cc
-      by_input (Accepted i) r e = owes.keeps program network i r a e yes
+      by_input (Accepted i) r e = owes.keeps program network i r a e says
 
   pub texts_owe : OwesTexts threads (OfScene Makes) IsYes P
   texts_owe = record {
@@ -145,10 +145,10 @@ module _ (threads : Bool) (Makes : List ℕ → List ℕ → Judged AnswerValue 
 
   two_keep : (ss : List (List ℕ)) (a : AnswerValue) → WithTwo Makes ss (Accepted a) → IsYes a.status
       → OfTwo (λ one two. P one two a) ss
-  two_keep [] a h yes = absurd (cc h)
-  two_keep (p ∷ []) a h yes = absurd (cc h)
-  two_keep (p ∷ n ∷ []) a h yes = owes.keeps p n a h yes
-  two_keep (p ∷ n ∷ c ∷ ss) a h yes = absurd (cc h)
+  two_keep [] a h says = absurd (cc h)
+  two_keep (p ∷ []) a h says = absurd (cc h)
+  two_keep (p ∷ n ∷ []) a h says = owes.keeps p n a h says
+  two_keep (p ∷ n ∷ c ∷ ss) a h says = absurd (cc h)
 
   pub two_owe : Owes threads (AreWithin MOST_BYTES) (λ ss j. WithTwo Makes ss j) IsYes
       (λ ss a. OfTwo (λ one two. P one two a) ss)
@@ -189,11 +189,11 @@ module _ (threads : Bool) (Makes : List ℕ → List ℕ → List ℕ → Judged
 
   three_keep : (ss : List (List ℕ)) (a : AnswerValue) → WithThree Makes ss (Accepted a) → IsYes a.status
       → OfThree (λ one two three. P one two three a) ss
-  three_keep [] a h yes = absurd (cc h)
-  three_keep (p ∷ []) a h yes = absurd (cc h)
-  three_keep (p ∷ n ∷ []) a h yes = absurd (cc h)
-  three_keep (p ∷ n ∷ c ∷ []) a h yes = (owes c).keeps p n a h yes
-  three_keep (p ∷ n ∷ c ∷ d ∷ ss) a h yes = absurd (cc h)
+  three_keep [] a h says = absurd (cc h)
+  three_keep (p ∷ []) a h says = absurd (cc h)
+  three_keep (p ∷ n ∷ []) a h says = absurd (cc h)
+  three_keep (p ∷ n ∷ c ∷ []) a h says = (owes c).keeps p n a h says
+  three_keep (p ∷ n ∷ c ∷ d ∷ ss) a h says = absurd (cc h)
 
   pub three_owe : Owes threads (AreWithin MOST_BYTES) (λ ss j. WithThree Makes ss j) IsYes
       (λ ss a. OfThree (λ one two three. P one two three a) ss)
