@@ -1,3 +1,3 @@
-mod Traced
+mod LineValues
 mod Tracing
 pub mod WalkTexts

@@ -29,7 +29,7 @@ use Rattle.fc_inputs.proofs.Owed.{plain_status, texts_owe, two_owe, zero_low}
 use Rattle.fc_trace.specs.Promises.{TraceOwes, TracesYes}
 use Rattle.fc_trace.specs.Texts.{walks_text}
 use Rattle.fc_trace.specs.Traces.{WritesWalks, TracedBy, TracesScene, Traces}
-use Rattle.fc_trace.proofs.Traced.{traced_values}
+use Rattle.fc_trace.proofs.LineValues.{traced_values}
 
 -- ---- one answer
 module _ (costs : OneCosts) (trace : OneTrace) (U : Unfolding) (N : Network) (a b : AnswerValue)

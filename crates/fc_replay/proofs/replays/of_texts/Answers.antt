@@ -1,7 +1,10 @@
+use Rattle.std.proofs.Common.{ap, ◌∙◌, subst, sym}
 use Rattle.fc_nodes.specs.Program.{unfolding_of}
 use Rattle.net_json.specs.SceneCode.{value_of_scene}
 use Rattle.edit_commands.specs.Logs.{log_of, logged}
-use Rattle.fc_inputs.specs.Causes.{Refused}
+use Rattle.fc_inputs.specs.Answers.{AnswerValue, showing}
+use Rattle.fc_inputs.specs.Causes.{Accepted, Refused}
+use Rattle.fc_inputs.specs.Ledgers.{ledger_of}
 use Rattle.fc_inputs.specs.Inputs.{ReadsInput}
 use Rattle.fc_inputs.proofs.Stopping.{stop_is, stops_map}
 use Rattle.fc_inputs.proofs.Unread.{unread}
@@ -44,7 +47,10 @@ returns-in_err-book-clause-refused c =
 pub returns-clause-shown : goal.returns-clause-shown
 returns-clause-shown c =
     let U = unfolding_of c.in_ok-program.program in
-    replay_shown c.args.options c.args.program.now c.args.network.now c.args.log.now U
+    subst (λ (a : AnswerValue). Replays c.args.options c.args.program.now c.args.network.now c.args.log.now (Accepted a))
+    (sym (c.showing.ensures
+    ∙ ap (showing c.in_ok-text.text.items (ledger_of c.in_ok-book.book)) c.new-parts.ensures.items))
+    (replay_shown c.args.options c.args.program.now c.args.network.now c.args.log.now U
     (value_of_scene U c.in_ok-program.scene) c.in_ok-program.ensures.input
     (logged c.in_ok-log.log) c.in_ok-text.text.items c.in_ok-book.book c.in_ok-log.ensures.log
-    c.in_ok-book.ensures.book c.in_ok-text.ensures
+    c.in_ok-book.ensures.book c.in_ok-text.ensures)
