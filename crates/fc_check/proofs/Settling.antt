@@ -1,5 +1,5 @@
 -- What a scene settles to: something, and one thing.
-use Rattle.std.proofs.Common.{ℕ, ◌≡◌, Bool, List, length, Option, refl, ap, ◌∙◌, sym, subst}
+use Rattle.std.proofs.Common.{ℕ, ◌≡◌, Bool, false, List, length, Option, refl, ap, ◌∙◌, sym, subst}
 use Rattle.fc_values.specs.Values.{LocalValue}
 use Rattle.fc_nodes.specs.Program.{IsProgram, Program, Unfolding, unfolding_of}
 use Rattle.topology.specs.Networks.{IsNetwork}

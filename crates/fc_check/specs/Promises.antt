@@ -22,7 +22,7 @@ use Rattle.fc_inputs.specs.Sections.{AreWithin, WithTwo}
 use Rattle.fc_inputs.specs.Starts.{start_of}
 use Rattle.fc_inputs.specs.Yes.{HasYes, KeepsYes}
 use Rattle.fc_check.specs.Commands.{Checks}
-use Rattle.fc_check.specs.Settles.{settle_status, settled_text, time_of}
+use Rattle.fc_check.specs.Settles.{settle_status, settles_text, time_of}
 
 -- `check` writes the line of a yes, and facts behind it
 pub record ChecksYes (program network text : List ℕ) : Type 0 where
@@ -40,7 +40,7 @@ pub record SettlesKept (facts : Bool) (program network : List ℕ) (status : ℕ
   pub yes : KeepsYes unfolded scene.net
   pub well : SettlesWell unfolded scene.net
   pub ends : status ≡ settle_status (time_of unfolded scene.net (any_table unfolded))
-  pub writes : text ≡ settled_text facts unfolded scene.net (any_table unfolded)
+  pub writes : text ≡ settles_text facts unfolded scene.net (any_table unfolded)
 
 -- `check --settle --from-table` writes the same where rounds are counted from the start of the scene, its table and its
 -- copies in flight: they lead from there to these values
@@ -53,7 +53,7 @@ pub record StartKept (facts : Bool) (program network : List ℕ) (status : ℕ) 
   pub starts : StartTable unfolded scene.net (growing_cap (length scene.net.devices)) (start_of scene) table
   pub from : SettlesFrom unfolded scene.net (start_of scene) table
   pub ends : status ≡ settle_status (time_of unfolded scene.net table)
-  pub writes : text ≡ settled_text facts unfolded scene.net table
+  pub writes : text ≡ settles_text facts unfolded scene.net table
 
 -- what `check` promises, and with `--settle` from which exports
 abbrev pub CheckPromises : Bool → Option Start → List ℕ → List ℕ → AnswerValue → Type 0

@@ -34,13 +34,13 @@ settle_status (Some rounds) = 0
 settle_status None = 1
 
 -- what is written of a program and a network where rounds are counted from a table of bounds
-abbrev pub settled_text : Bool → Unfolding → Network → BoundTable → List ℕ
-settled_text facts U N table =
+abbrev pub settles_text : Bool → Unfolding → Network → BoundTable → List ℕ
+settles_text facts U N table =
     checked_text facts U (length N.devices) ++ settling_text (time_of U N table) (settled_devices U N table)
 
 -- the same, with its status
 abbrev pub settling_of : Bool → Unfolding → Network → BoundTable → AnswerValue
-settling_of facts U N table = plain (settle_status (time_of U N table)) (settled_text facts U N table)
+settling_of facts U N table = plain (settle_status (time_of U N table)) (settles_text facts U N table)
 
 -- the table of bounds from which rounds are counted: that of any exports, or the one to which the scene's exports and
 -- copies in flight grow; where they grow for too many rounds, that of any exports as well

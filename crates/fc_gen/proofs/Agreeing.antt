@@ -1,5 +1,5 @@
 -- Each device has the value of the one field that solves the program of a scenario.
-use Rattle.std.proofs.Common.{ℕ, ◌≡◌, ◌+◌, ◌*◌, List, [], ◌∷◌, map, length, refl, sym, ap, ap₂, subst, ◌∙◌, Some}
+use Rattle.std.proofs.Common.{◌≤◌, ℕ, ◌≡◌, ◌+◌, ◌*◌, List, [], ◌∷◌, map, length, refl, sym, ap, ap₂, subst, ◌∙◌, Some}
 use Rattle.std.specs.Prelude.{option_map, sum_by}
 use Rattle.std.proofs.lemmas.List.{length-map}
 use Rattle.fc_values.specs.Exports.{FlatExport}

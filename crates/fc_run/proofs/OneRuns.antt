@@ -1,5 +1,5 @@
 -- A script is run to one text where the logs agree.
-use Rattle.std.proofs.Common.{ℕ, ◌≡◌, List, ◌++◌, refl, ap, ◌∙◌, sym, subst}
+use Rattle.std.proofs.Common.{ℕ, ◌≡◌, true, List, ◌++◌, refl, ap, ◌∙◌, sym, subst}
 use Rattle.fc_nodes.specs.Program.{Program, Unfolding, IsProgram, unfolding_of}
 use Rattle.firing_core.specs.declared.entries.Part.{Part}
 use Rattle.firing_core.specs.Cores.{Core, IsGood}
