@@ -8,7 +8,7 @@ from dataclasses import dataclass
 WAY = (
     "fc_program/src/top.rt fc",
     "fc_answers/specs/Headline.antt IsKept",
-    "fc_answers/specs/Headline.antt ChecksYes",
+    "fc_check/specs/Promises.antt ChecksYes",
     "converge_laws/specs/Stabilising.antt Stabilises",
     "device_eval/specs/Rules.antt Evaluates",
 )
@@ -31,7 +31,10 @@ class Promise:
     cut: tuple[str, ...] = ()
 
 
-HEADLINE = "fc_answers/specs/Headline.antt "
+YES = "fc_inputs/specs/Yes.antt HasYes"
+CHECK = "fc_check/specs/Promises.antt "
+STABLE = "fc_stable/specs/Promises.antt "
+TRACE = "fc_trace/specs/Promises.antt "
 EDITS = "firing_core/specs/Cores.antt Edits"
 PROMISES = (
     Promise(
@@ -44,43 +47,43 @@ PROMISES = (
     Promise(
         "Which program and which network two texts are",
         "Tokens, grammar, calls replaced by what they call, and JSON: `ReadsInput`. With them `HasYes` can be read.",
-        ("fc_inputs/specs/Inputs.antt ReadsInput", HEADLINE + "HasYes"),
+        ("fc_inputs/specs/Inputs.antt ReadsInput", YES),
         (EDITS,),
     ),
     Promise(
         "What `check` and `stable` promise",
         "`ChecksYes` and `SolvesYes`: the yes stands in the text, and the lines of `stable` are the one field.",
-        (HEADLINE + "ChecksYes", HEADLINE + "SolvesYes"),
+        (CHECK + "ChecksYes", STABLE + "SolvesYes"),
         (EDITS,),
     ),
     Promise(
         "What `check --settle` promises",
         "`SettlesKept` and `StartKept`, over firings and over message links.",
-        (HEADLINE + "SettlesKept", HEADLINE + "StartKept"),
+        (CHECK + "SettlesKept", CHECK + "StartKept"),
         (EDITS,),
     ),
     Promise(
-        "What `trace` promises", "`TracesYes`: walks, their costs, and the best.", (HEADLINE + "TracesYes",), (EDITS,)
+        "What `trace` promises", "`TracesYes`: walks, their costs, and the best.", (TRACE + "TracesYes",), (EDITS,)
     ),
     Promise(
         "What `replay` promises",
         "`ReplaysKept`: which entries the lines of a log are, and what each does to a core, edits too.",
-        (HEADLINE + "ReplaysKept",),
+        ("fc_replay/specs/Promises.antt ReplaysKept",),
     ),
     Promise(
         "What `run` promises",
-        "`RunsKept`: which commands the lines of a script are, and what each does to a core.",
-        (HEADLINE + "RunsKept",),
+        "`RunKeepsYes`: which commands the lines of a script are, and what each does to a core.",
+        ("fc_run/specs/Promises.antt RunKeepsYes",),
     ),
     Promise(
         "What `mail` promises",
         "`MailPromises`: which entries the lines of a mail log are, and what each does to a mail core.",
-        (HEADLINE + "MailPromises",),
+        ("fc_mail/specs/Promises.antt MailPromises",),
     ),
     Promise(
         "What `gen` promises",
         "`ScenarioAgrees`: the program and the ring of a number.",
-        ("fc_gen/specs/Laws.antt ScenarioAgrees",),
+        ("fc_gen/specs/Promises.antt ScenarioAgrees",),
     ),
     Promise(
         "The limits",

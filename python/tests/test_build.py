@@ -59,8 +59,8 @@ def build_itself() -> Any:
     return made
 
 
-# on what no command leans yet: laws of networks that change, and the lines of changes
-AHEAD = ("change_lines", "envelope_bounds")
+# on what no command leans yet: laws and bounds of networks that change, and the lines of changes
+AHEAD = ("change_lines", "envelope_bounds", "last_bounds")
 
 
 class Build(InFolder):

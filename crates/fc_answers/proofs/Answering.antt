@@ -1,5 +1,5 @@
 -- What is judged of an input of any length, and the answer that it has.
-use Rattle.std.proofs.Common.{ℕ, ◌≡◌, ◌<◌, ◌≤◌, Bool, true, false, List, length, refl, ap, ◌∙◌, sym, subst, arith}
+use Rattle.std.proofs.Common.{ℕ, ◌≡◌, ◌<◌, ◌≤◌, Bool, true, false, List, length, refl, ◌∙◌, sym, subst, arith}
 use Rattle.std.proofs.Common.{Option, Some, None}
 use Rattle.std.specs.Prelude.{nat_lt}
 use Rattle.std.proofs.lemmas.Bool.Decides.{nat_tests}
@@ -7,17 +7,11 @@ use Rattle.fc_values.specs.declared.limits.TheConstants.{MOST_BYTES}
 use Rattle.fc_inputs.specs.declared.refusal.Refusal.TheVariants.{Bytes}
 use Rattle.fc_inputs.specs.declared.stop.Stop.{Stop}
 use Rattle.fc_inputs.specs.declared.stop.Stop.TheVariants as stop
-use Rattle.fc_inputs.specs.Causes.{Cause, Plainly, Judged, Refused}
+use Rattle.fc_inputs.specs.Answers.{AnswerValue}
+use Rattle.fc_inputs.specs.Causes.{Cause, Plainly, Judged, Refused, answer_of}
 use Rattle.fc_inputs.specs.Sections.{sections_of}
-use Rattle.fc_inputs.specs.Refusals.{Reply}
-use Rattle.fc_inputs.specs.Stops.{IsReplyFor, StopsFor, WhereCause, cause_of, scene_cause}
-use Rattle.fc_answers.specs.Answers.{AnswerValue, Answered, OfInput, OfLength, answer_of, replied}
-use Rattle.fc_answers.specs.Code.{AnswersCause}
-
--- the reply to a cause, as an answer
-pub stop_told : (o : Option Cause) (r : Reply) (a : AnswerValue) → IsReplyFor o r → a ≡ replied r → AnswersCause o a
-stop_told None r a is e = absurd is
-stop_told (Some cause) r a is e = e ∙ ap replied is
+use Rattle.fc_inputs.specs.Stops.{IsAnswerTo, StopsFor, WhereCause, cause_of, scene_cause}
+use Rattle.fc_answers.specs.Answers.{Answered, OfInput, OfLength}
 
 module _ (Judges : List (List ℕ) → Judged AnswerValue → Type 0) (input : List ℕ) (answer : AnswerValue) where
   of_length : (b : Bool) → nat_lt MOST_BYTES (length input) ≡ b → (j : Judged AnswerValue) → OfLength b Judges input j
@@ -39,14 +33,14 @@ module _ (Judges : List (List ℕ) → Judged AnswerValue → Type 0) (input : L
   short_answered short j h e = of_length false (grind (arith, nat_tests)) j h e
 
   where_answered : length input ≤ MOST_BYTES → (o : Option Cause)
-      → WhereCause (λ cause. Judges (sections_of input) (Refused cause)) o → AnswersCause o answer
+      → WhereCause (λ cause. Judges (sections_of input) (Refused cause)) o → IsAnswerTo o answer
       → Answered (λ k. OfInput Judges input k) answer
   where_answered short None h e = absurd e
   where_answered short (Some cause) h e = short_answered short (Refused cause) h e
 
   -- what stops with a cause
   pub stop_answered : length input ≤ MOST_BYTES → (s : Stop)
-      → StopsFor (λ cause. Judges (sections_of input) (Refused cause)) s → AnswersCause (cause_of s) answer
+      → StopsFor (λ cause. Judges (sections_of input) (Refused cause)) s → IsAnswerTo (cause_of s) answer
       → Answered (λ k. OfInput Judges input k) answer
   stop_answered short stop.Memory h e = absurd e
   stop_answered short (stop.Refused r) h e = short_answered short (Refused (Plainly r)) h e

@@ -1,8 +1,4 @@
-mod Formatting
-mod StableReplies
-mod Statuses
-mod OneAnswer
-mod SomeAnswer
-mod Traced
-mod Headline
 mod Answering
+pub mod Owing
+mod Commands
+mod RunsReplaying

@@ -1,23 +1,25 @@
 -- Each input has an answer, answers to one input write the same, and which statuses answers have.
 use Rattle.std.specs.Prelude.{ℕ, Bool, true, false, ◌≡◌, ◌≤◌, List, Option, Some, None}
-use Rattle.edit_commands.specs.Agreement.{SameEntries}
 use Rattle.command_words.specs.declared.commands.Command.{Command}
 use Rattle.command_words.specs.declared.commands.Command.TheVariants as command
-use Rattle.fc_replay.specs.Ledgers.{Ledger}
+use Rattle.command_words.specs.declared.commands.Quiet.{Quiet}
+use Rattle.fc_values.specs.declared.limits.TheConstants.{MOST_BYTES}
+use Rattle.fc_inputs.specs.Agreement.{AnswersAgree}
+use Rattle.fc_inputs.specs.Answers.{AnswerValue}
+use Rattle.fc_inputs.specs.Owing.{Owes}
+use Rattle.fc_inputs.specs.Sections.{AreWithin}
+use Rattle.fc_run.specs.Promises.{RunOwes}
+use Rattle.fc_gen.specs.Promises.{GenOwes}
 use Rattle.fc_answers.specs.Asked.{MayAsk}
-use Rattle.fc_answers.specs.Answers.{AnswerValue, Answers}
+use Rattle.fc_answers.specs.Answers.{Answers, AnswersSections}
+use Rattle.fc_answers.specs.Headline.{IsAnswered, Promises}
 
--- the logs of two books agree: they may differ in what an export holds at the places of a branch that isn't taken
-abbrev pub SameLogs : Option Ledger → Option Ledger → Type 0
-SameLogs (Some a) (Some b) = SameEntries a.program a.log b.log
-SameLogs (Some a) None = ⊥
-SameLogs None (Some b) = ⊥
-SameLogs None None = Unit {0}
-
--- a text is one, or, where threads make the log, it is one for logs that agree
-abbrev pub SameText : Bool → AnswerValue → AnswerValue → Type 0
-SameText false a b = a.text ≡ b.text
-SameText true a b = SameLogs a.book b.book → a.text ≡ b.text
+-- what each command owes
+pub record CommandsOwe : Type 0 where
+  pub quiet : (quiet : Quiet) → Owes false (AreWithin MOST_BYTES) (λ sections j. AnswersSections quiet sections j)
+      (IsAnswered quiet) (λ sections answer. Promises quiet sections answer)
+  pub run : RunOwes
+  pub gen : GenOwes
 
 -- the commands whose log is made by threads
 abbrev pub threads_of : Option Command → Bool
@@ -25,15 +27,10 @@ threads_of None = false
 threads_of (Some (command.Quiet quiet)) = false
 threads_of (Some (command.Threaded threaded)) = true
 
--- two answers to one input: equal statuses, and equal texts
-pub record AnswersAgree (asked : Option Command) (a b : AnswerValue) : Type 0 where
-  pub status : a.status ≡ b.status
-  pub text : SameText (threads_of asked) a b
-
 abbrev pub OneAnswer : Type 0
 OneAnswer =
     (asked : Option Command) (input : List ℕ) (a b : AnswerValue) → Answers asked input a → Answers asked input b
-    → AnswersAgree asked a b
+    → AnswersAgree (threads_of asked) a b
 
 -- each input has an answer, whatever the words ask for
 abbrev pub SomeAnswer : Type 0

@@ -1,7 +1,6 @@
 pub mod Asked
-pub mod Stabilised
 pub mod Answers
-pub mod Code
 pub mod Headline
 pub mod Laws
+pub mod LogsOfRuns
 pub mod Limits

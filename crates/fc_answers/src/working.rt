@@ -1,45 +1,44 @@
-//! What `run` makes of an input, and `gen` of a number. Workers do the work, and a call may wait for one of them.
+//! What `run` answers to an input, and `gen` to a number. Workers do the work, and a call may wait for one of them.
 ghost use Rattle.std.specs.Prelude.{◌≡◌, ◌≤◌, IfErr, IfOk, [], length};
 ghost use Rattle.fc_inputs.specs.Causes.{Accepted, Refused};
+ghost use Rattle.fc_inputs.specs.Code.{value_of};
 ghost use Rattle.fc_inputs.specs.Sections.{WithThree, sections_of};
 ghost use Rattle.fc_inputs.specs.Stops.{StopsFor};
+ghost use Rattle.fc_run.specs.Runs.{Runs};
 ghost use Rattle.fc_values.specs.declared.limits.TheConstants.{MOST_BYTES, MOST_SCENARIO_DEVICES};
-ghost use Rattle.fc_answers.specs.Answers.{ShowsRun, Works};
-ghost use Rattle.fc_answers.specs.Code.{value_of};
+ghost use Rattle.fc_answers.specs.Answers.{Works};
 ghost use Rattle.fc_answers.specs.Headline.{WorkIsKept};
 
-use crate::answers::{Answer, refused, stopped};
+use crate::laws::commands_owe;
 use command_words::{GenOptions, RunOptions, Work};
 use export_table::Gate;
-use fc_gen::{all_agree, generate};
-use fc_inputs::{Refusal, Stop, sections, three_sections};
-use fc_run::{run, runs_keep_yes};
+use fc_gen::generate;
+use fc_inputs::{Answer, Refusal, Stop, refuse, sections, stopped};
+use fc_run::run;
 use fc_values::{MOST_BYTES, Memory};
 use session::Pool;
 use std::alloc::Global;
 use std::sync::Wait;
 use std::thread::Threads;
 
-// What `run` makes of an input within the limit.
-fn judged<W: Threads + Wait + Sync, G: Gate + Sync>(
+// What `run` makes of the sections of an input within the limit.
+fn run_of_sections<W: Threads + Wait + Sync, G: Gate + Sync>(
     alloc: Global,
     options: RunOptions,
     input: &[u8],
     pool: &Pool<W, G>,
 ) -> Result<Answer, Stop>
     requires { length input.now ≤ MOST_BYTES }
-    ensures makes { IfOk result (λ a.
-        WithThree (ShowsRun options) (sections_of input.now) (Accepted (value_of a))) }
+    ensures makes { IfOk result (λ a. WithThree (Runs options) (sections_of input.now) (Accepted (value_of a))) }
     ensures refused { IfErr result (StopsFor (λ cause.
-        WithThree (ShowsRun options) (sections_of input.now) (Refused cause))) }
+        WithThree (Runs options) (sections_of input.now) (Refused cause))) }
 {
     let sections = sections(alloc, input)?;
-    let (program, network, script) = three_sections(&sections)?;
-    Ok(Answer::running(run(alloc, options, program, network, script, pool)?))
+    run(alloc, options, &sections, pool)
 }
 
 // The answer of `run` to an input of any length.
-fn answered<W: Threads + Wait + Sync, G: Gate + Sync>(
+fn run_of_input<W: Threads + Wait + Sync, G: Gate + Sync>(
     alloc: Global,
     options: RunOptions,
     input: &[u8],
@@ -48,9 +47,9 @@ fn answered<W: Threads + Wait + Sync, G: Gate + Sync>(
     ensures { IfOk result (λ a. Works (Work.Run options) input.now (value_of a)) }
 {
     if input.len() > MOST_BYTES {
-        return Ok(refused(alloc, Refusal::Bytes)?);
+        return Ok(refuse(alloc, Refusal::Bytes)?);
     }
-    match judged(alloc, options, input, pool) {
+    match run_of_sections(alloc, options, input, pool) {
         Ok(answer) => Ok(answer),
         Err(stop) => Ok(stopped(alloc, &stop)?),
     }
@@ -67,9 +66,8 @@ pub fn answer_run<W: Threads + Wait + Sync, G: Gate + Sync>(
     ensures works { IfOk result (λ a. Works (Work.Run options) input.now (value_of a)) }
     ensures kept { IfOk result (λ a. WorkIsKept (Work.Run options) input.now (value_of a)) }
 {
-    runs_keep_yes();
-    all_agree();
-    answered(alloc, options, input, pool)
+    commands_owe();
+    run_of_input(alloc, options, input, pool)
 }
 
 // The answer of `gen`.
@@ -82,7 +80,7 @@ fn generated<W: Threads + Wait + Sync, G: Gate + Sync>(
     requires most { options.devices ≤ MOST_SCENARIO_DEVICES }
     ensures { IfOk result (λ a. Works (Work.Gen options) [] (value_of a)) }
 {
-    Ok(Answer::generating(generate(alloc, options, pool)?))
+    Ok(generate(alloc, options, pool)?)
 }
 
 /// The answer of `gen`, which takes no input. It waits where it runs rounds alone.
@@ -96,7 +94,6 @@ pub fn answer_gen<W: Threads + Wait + Sync, G: Gate + Sync>(
     ensures works { IfOk result (λ a. Works (Work.Gen options) [] (value_of a)) }
     ensures kept { IfOk result (λ a. WorkIsKept (Work.Gen options) [] (value_of a)) }
 {
-    runs_keep_yes();
-    all_agree();
+    commands_owe();
     generated(alloc, options, pool)
 }

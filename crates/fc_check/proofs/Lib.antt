@@ -1,2 +1,5 @@
 pub mod LevelCounts
-pub mod Checking
+mod Lines
+mod SameRounds
+mod Settling
+mod Checking

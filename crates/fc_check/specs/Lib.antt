@@ -1,2 +1,5 @@
 pub mod Checks
-pub mod Laws
+pub mod Settles
+pub mod Code
+pub mod Commands
+pub mod Promises

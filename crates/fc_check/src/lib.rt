@@ -1,9 +1,10 @@
-//! What `check` makes of the texts of a program and a scene: the verdict's line, and after a yes the facts of each
-//! node, where they are asked for.
+//! `check`: the verdict's line, after a yes the facts of each node, and after how many rounds the devices of the network
+//! settle, where they are asked for.
 #![tactic(auto)]
 
 mod checks;
 mod laws;
+mod settles;
 
-pub use checks::{check, checked, verdict_text};
-pub use laws::{one_check, some_check};
+pub use checks::check;
+pub use laws::check_owes;

@@ -1,5 +1,5 @@
 -- Each device has the value of the one field that solves the program of a scenario.
-use Rattle.std.proofs.Common.{ℕ, ◌≡◌, ◌+◌, ◌*◌, List, [], ◌∷◌, map, length, refl, sym, ap, ap₂, subst, ◌∙◌, Some}
+use Rattle.std.proofs.Common.{◌≤◌, ℕ, ◌≡◌, ◌+◌, ◌*◌, List, [], ◌∷◌, map, length, refl, sym, ap, ap₂, subst, ◌∙◌, Some}
 use Rattle.std.specs.Prelude.{option_map, sum_by}
 use Rattle.std.proofs.lemmas.List.{length-map}
 use Rattle.fc_values.specs.Exports.{FlatExport}
@@ -19,14 +19,15 @@ use Rattle.report.specs.Texts.{export_value}
 use Rattle.scramble.specs.Rings.{ring}
 use Rattle.session.specs.ScriptRuns.{ScriptRun, poke}
 use Rattle.ring_laws.specs.Laws.{RingsAreNetworks, RingsAreTyped, RingsStabilise}
-use Rattle.fc_gen.specs.Gens.{GenValue, scenario_lines, scenario_program, scenario_start}
-use Rattle.fc_gen.specs.Laws.{AllAgree, field_sum}
+use Rattle.fc_gen.specs.Gens.{Gens, scenario_lines, scenario_program, scenario_start}
+use Rattle.fc_gen.specs.Promises.{ScenarioAgrees, field_sum}
 use Rattle.fc_gen.specs.Summaries.{agreeing, firings_in, held, held_integer, held_sum, summary_text}
 use Rattle.fc_gen.proofs.Counting.{EachHolds, all_agree, all_summed}
 use Rattle.fc_gen.proofs.Cutting.{Cut, cut_of, run_firings}
 use Rattle.fc_gen.proofs.Firings.{run_ends}
 use Rattle.fc_gen.proofs.OneGens.{rounds_are}
 use Rattle.fc_gen.proofs.EachScenario.{empty_good, nodes_of, ring_stabilises}
+use Rattle.fc_inputs.specs.Answers.{AnswerValue}
 
 -- pokes keep the network
 poked_net : (U : Unfolding) (c last : Core) (xs : List (ℕ × FlatExport)) → Run U c (map poke xs) last → last.net ≡ c.net
@@ -61,7 +62,9 @@ module _ (step : StepsKeepGood) (keep : RunsKeepGood) (plain : PlainRunsKeepNet)
             ap (option_map export_value) e.1 ∙ ap Some e.2,
       )
 
-pub agree_all : RingsAreTyped → RingsAreNetworks → RingsStabilise → ProgramsUnfold → YesStabilises → StepsKeepGood → RunsKeepGood → PlainRunsKeepNet → AllAgree
+pub agree_all : RingsAreTyped → RingsAreNetworks → RingsStabilise → ProgramsUnfold → YesStabilises → StepsKeepGood → RunsKeepGood → PlainRunsKeepNet
+    → (number devices : ℕ) → 3 ≤ devices → devices ≤ 512 → (g : AnswerValue) → Gens number devices g
+    → ScenarioAgrees number devices g.text
 agree_all typed networks stabilise unfolds law step keep plain number devices low high g h =
     let ring_is = networks number devices low high in
     let rounds : h.rounds ≡ 2 + 2 * devices = rounds_are stabilise number devices low high g h in
@@ -93,7 +96,7 @@ agree_all typed networks stabilise unfolds law step keep plain number devices lo
     ap (λ (n : Network). sum_by (held_integer h.last) n.devices) r.0 ∙ all_summed h.last t.one.field (ring number devices).devices (hold t.one) in
     record {
       stabilises = t;
-      writes = ap (λ (x : GenValue). x.text) h.is
+      writes = ap (λ (x : AnswerValue). x.text) h.is
           ∙ ap₂ (λ f a. summary_text number devices h.rounds f a (held_sum h.last)) firings agree
           ∙ ap₂ (λ n m. summary_text number devices n (n * devices) devices m) rounds sum;
     }

@@ -7,3 +7,4 @@ mod SomeGens
 mod Firings
 mod Agreeing
 mod Running
+mod GenOwed

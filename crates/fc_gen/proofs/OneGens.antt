@@ -15,10 +15,11 @@ use Rattle.session.specs.Laws.{OneScriptRun}
 use Rattle.session.specs.ScriptRuns.{ScriptRun}
 use Rattle.stable_field.specs.Stable.{IsStableField}
 use Rattle.ring_laws.specs.Laws.{RingsAreNetworks, RingsAreTyped, RingsStabilise}
-use Rattle.fc_gen.specs.Gens.{GenValue, Gens, gen_text, scenario_lines, scenario_program, scenario_start}
-use Rattle.fc_gen.specs.Laws.{GensAgree, OneGen}
+use Rattle.fc_gen.specs.Gens.{Gens, gen_text, scenario_lines, scenario_program, scenario_start}
 use Rattle.fc_gen.specs.Summaries.{agreeing, firings_in, held_sum, is_end, summary_text}
-use Rattle.fc_replay.specs.Replays.{book_of}
+use Rattle.fc_inputs.specs.Agreement.{AnswersAgree}
+use Rattle.fc_inputs.specs.Answers.{showing, AnswerValue}
+use Rattle.fc_inputs.specs.Ledgers.{book_of}
 use Rattle.fc_gen.proofs.Counting.{first_in, same_ends}
 use Rattle.fc_gen.proofs.Cutting.{cut_of, firings}
 use Rattle.fc_gen.proofs.EachScenario.{empty_good, nodes_of, yes_once}
@@ -35,17 +36,18 @@ same_field U N es fs h g =
     h.values ∙ same_values h.one.field g.one.field (numbers N.devices) (λ d i. g.one.only h.one.field h.one.solves d i) ∙ sym g.values
 
 module _ (stabilise : RingsStabilise) (number devices : ℕ) (low : 3 ≤ devices) (high : devices ≤ 512) where
-  pub rounds_are : (g : GenValue) (h : Gens number devices g) → h.rounds ≡ 2 + 2 * devices
+  pub rounds_are : (g : AnswerValue) (h : Gens number devices g) → h.rounds ≡ 2 + 2 * devices
   rounds_are g h = yes_once h.rounds (2 + 2 * devices) (sym h.yes ∙ stabilise devices devices low high)
 
   -- all entries that end a firing are in the part
-  ends_are : (g : GenValue) (h : Gens number devices g) → firings_in h.log h.parts ≡ count_by is_end h.log
+  ends_are : (g : AnswerValue) (h : Gens number devices g) → firings_in h.log h.parts ≡ count_by is_end h.log
   ends_are g h =
       firings (scenario_program devices) (scenario_start number devices) h.last h.rounds h.log h.parts
       (cut_of (scenario_program devices) (scenario_start number devices) number h.rounds h.log h.parts h.shown h.last h.run)
 
-  one : OneScriptRun → RingsAreTyped → RingsAreNetworks → ProgramsUnfold → (a b : GenValue) → Gens number devices a → Gens number devices b → GensAgree a b
-  one script typed networks unfolds a b h g =
+  pub one_gen : OneScriptRun → RingsAreTyped → RingsAreNetworks → ProgramsUnfold → (a b : AnswerValue)
+      → Gens number devices a → Gens number devices b → AnswersAgree true a b
+  one_gen script typed networks unfolds a b h g =
       let U = scenario_program devices in
       let start = scenario_start number devices in
       let nodes = nodes_of typed unfolds devices low high in
@@ -66,15 +68,13 @@ module _ (stabilise : RingsStabilise) (number devices : ℕ) (low : 3 ≤ device
       let field = same_field U (ring number devices) h.field g.field h.stable g.stable in
       ap₂ (λ r f. summary_text number devices r f (agreeing h.last h.field) (held_sum h.last)) rounds ends
       ∙ ap₂ (λ (k : Core) es. summary_text number devices g.rounds (firings_in g.log g.parts) (agreeing k es) (held_sum k)) r.1 field in
-      subst (λ (x : GenValue). GensAgree x b) (sym h.is)
-      (subst (GensAgree (value_of h)) (sym g.is) (record { program = refl; start = refl; text = texts }))
+      subst (λ (x : AnswerValue). AnswersAgree true x b) (sym h.is)
+      (subst (AnswersAgree true (value_of h)) (sym g.is)
+      (record { status = refl; books = record { program = refl; start = refl; end = tt }; text = texts }))
     where
-      text_of : {x : GenValue} → Gens number devices x → List ℕ
+      text_of : {x : AnswerValue} → Gens number devices x → List ℕ
       text_of k = gen_text number devices k.rounds k.field k.log k.parts k.last
 
-      value_of : {x : GenValue} → Gens number devices x → GenValue
-      value_of k = record { text = text_of k; book = book_of (scenario_program devices) (scenario_start number devices) k.log k.last; parts = k.parts }
-
-pub one_gen : OneScriptRun → RingsAreTyped → RingsAreNetworks → RingsStabilise → ProgramsUnfold → OneGen
-one_gen script typed networks stabilise unfolds number devices low high a b h g =
-    one stabilise number devices low high script typed networks unfolds a b h g
+      value_of : {x : AnswerValue} → Gens number devices x → AnswerValue
+      value_of k =
+          showing (text_of k) (book_of (scenario_program devices) (scenario_start number devices) k.log k.last) k.parts

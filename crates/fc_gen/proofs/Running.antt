@@ -19,12 +19,11 @@ use Rattle.scramble.specs.Rings.{ring}
 use Rattle.session.specs.ScriptRuns.{ScriptRun}
 use Rattle.session.specs.Sessions.{HasRun, SessionValue}
 use Rattle.stable_field.specs.Stable.{IsStableField}
-use Rattle.fc_replay.specs.Ledgers.{Ledger, ledger_of}
-use Rattle.fc_replay.specs.Replays.{book_of}
+use Rattle.fc_inputs.specs.Answers.{AnswerValue, showing}
+use Rattle.fc_inputs.specs.Ledgers.{book_of, ledger_of}
 use Rattle.ring_laws.specs.Laws.{RingsStabilise}
-use Rattle.fc_gen.specs.declared.scenarios.Generated.{Generated}
-use Rattle.fc_gen.specs.Code.{FirstWithin, IsRun, gen_of}
-use Rattle.fc_gen.specs.Gens.{Gens, GenValue, empty_on, gen_text, scenario_lines, scenario_program, scenario_start}
+use Rattle.fc_gen.specs.Code.{FirstWithin, IsRun}
+use Rattle.fc_gen.specs.Gens.{Gens, empty_on, gen_text, scenario_lines, scenario_program, scenario_start}
 use Rattle.fc_gen.specs.Summaries.{agreeing, firings_in, held_sum, is_end, summary_text}
 use Rattle.fc_gen.proofs.Cutting.{cut_of, within}
 
@@ -75,16 +74,13 @@ module _ (P : Program) (net : Network) (number rounds : ℕ) (s : SessionValue) 
       (within (unfolding_of P) (empty_on net) (core_of s.book.core) rounds (entries_of s.book.log) s.parts
       (cut_of (unfolding_of P) (empty_on net) number rounds (entries_of s.book.log) s.parts s.text (core_of s.book.core) h.run))
 
-abbrev given : List ℕ → Ledger → List Part → GenValue
-given t b p = record { text = t; book = b; parts = p }
-
 -- what is given of a scenario that has run
 pub generated : RingsStabilise → (number devices rounds : ℕ) → rounds ≡ 2 + 2 * devices → 3 ≤ devices → devices ≤ 512 → (P : Program) → unfolding_of P ≡ scenario_program devices
     → (net : Network) → net ≡ ring number devices → (s : SessionValue) → IsRun P net number rounds s
-    → (field : Entries) → IsStableField (unfolding_of P) net field → (g : Generated)
-    → g.text.items ≡ gen_text number devices rounds field (entries_of s.book.log) s.parts (core_of s.book.core)
-    → g.book ≡ s.book → g.parts.items ≡ s.parts → Gens number devices (gen_of g)
-generated stabilise number devices rounds same low high P unfolded net ring_is s h field stable g text book parts =
+    → (field : Entries) → IsStableField (unfolding_of P) net field → (answer : AnswerValue)
+    → answer ≡ showing (gen_text number devices rounds field (entries_of s.book.log) s.parts (core_of s.book.core))
+    (ledger_of s.book) s.parts → Gens number devices answer
+generated stabilise number devices rounds same low high P unfolded net ring_is s h field stable answer e =
     record {
       rounds = rounds;
       yes = stabilise devices devices low high ∙ ap verdict.Yes (sym same);
@@ -97,12 +93,12 @@ generated stabilise number devices rounds same low high P unfolded net ring_is s
       field = field;
       stable = subst (λ (n : Network). IsStableField (scenario_program devices) n field) ring_is
           (subst (λ (U : Unfolding). IsStableField U net field) unfolded stable);
-      is = ap (λ t. given t (ledger_of g.book) g.parts.items) text
-          ∙ ap₂ (λ b p. given (gen_text number devices rounds field (entries_of s.book.log) s.parts (core_of s.book.core)) b p) ledger parts;
+      is = e
+          ∙ ap (λ b. showing (gen_text number devices rounds field (entries_of s.book.log) s.parts (core_of s.book.core)) b
+          s.parts) ledger;
     }
   where
-    ledger : ledger_of g.book ≡ book_of (scenario_program devices) (scenario_start number devices) (entries_of s.book.log) (core_of s.book.core)
+    ledger : ledger_of s.book ≡ book_of (scenario_program devices) (scenario_start number devices) (entries_of s.book.log) (core_of s.book.core)
     ledger =
-        ap ledger_of book
-        ∙ ap (λ (Q : Program). book_of (unfolding_of Q) (core_of s.book.start) (entries_of s.book.log) (core_of s.book.core)) h.program
+        ap (λ (Q : Program). book_of (unfolding_of Q) (core_of s.book.start) (entries_of s.book.log) (core_of s.book.core)) h.program
         ∙ ap₂ (λ (U : Unfolding) (k : Core). book_of U k (entries_of s.book.log) (core_of s.book.core)) unfolded (h.start ∙ ap empty_on ring_is)

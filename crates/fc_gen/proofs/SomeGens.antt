@@ -14,12 +14,13 @@ use Rattle.scramble.specs.Rings.{ring}
 use Rattle.session.specs.Laws.{SomeScriptRun}
 use Rattle.session.specs.ScriptRuns.{ScriptRun}
 use Rattle.ring_laws.specs.Laws.{RingsAreNetworks, RingsAreTyped, RingsStabilise}
-use Rattle.fc_replay.specs.Replays.{book_of}
-use Rattle.fc_gen.specs.Gens.{gen_text, scenario_lines, scenario_program, scenario_start}
-use Rattle.fc_gen.specs.Laws.{SomeGen}
+use Rattle.fc_inputs.specs.Answers.{AnswerValue, showing}
+use Rattle.fc_inputs.specs.Ledgers.{book_of}
+use Rattle.fc_gen.specs.Gens.{Gens, gen_text, scenario_lines, scenario_program, scenario_start}
 use Rattle.fc_gen.proofs.EachScenario.{empty_good, few_firings, lines_judged, nodes_of, ring_stabilises}
 
-pub some_gen : RingsAreTyped → RingsAreNetworks → RingsStabilise → ProgramsUnfold → YesStabilises → SomeScriptRun → SomeGen
+pub some_gen : RingsAreTyped → RingsAreNetworks → RingsStabilise → ProgramsUnfold → YesStabilises → SomeScriptRun
+    → (number devices : ℕ) → 3 ≤ devices → devices ≤ 512 → (answer : AnswerValue) × Gens number devices answer
 some_gen typed networks stabilise unfolds law some number devices low high =
     let U = scenario_program devices in
     let rounds = 2 + 2 * devices in
@@ -36,11 +37,7 @@ some_gen typed networks stabilise unfolds law some number devices low high =
     (lines_judged U (ring number devices) number rounds (omega arith) few) in
     let stabilises = ring_stabilises typed networks stabilise unfolds law number devices low high in
     let field : Entries = map (λ (d : ℕ). (d, stabilises.one.field d)) (numbers (ring number devices).devices) in (
-      record {
-        text = gen_text number devices rounds field run.0 run.1 run.3;
-        book = book_of U start run.0 run.3;
-        parts = run.1;
-      },
+      showing (gen_text number devices rounds field run.0 run.1 run.3) (book_of U start run.0 run.3) run.1,
       record {
         rounds = rounds;
         yes = stabilise devices devices low high;

@@ -7,9 +7,7 @@ use Rattle.firing_core.specs.CoreViews.{core_of}
 use Rattle.firing_core.specs.Entries.{entries_of}
 use Rattle.session.specs.ScriptRuns.{ScriptRun}
 use Rattle.session.specs.Sessions.{SessionValue}
-use Rattle.fc_replay.specs.Ledgers.{ledger_of}
-use Rattle.fc_gen.specs.declared.scenarios.Generated.{Generated}
-use Rattle.fc_gen.specs.Gens.{GenValue, empty_on, scenario_lines}
+use Rattle.fc_gen.specs.Gens.{empty_on, scenario_lines}
 
 -- a part lies within a log of so many entries
 pub record IsWithin (entries : ℕ) (p : Part) : Type 0 where
@@ -20,10 +18,6 @@ pub record IsWithin (entries : ℕ) (p : Part) : Type 0 where
 abbrev pub FirstWithin : ℕ → List Part → Type 0
 FirstWithin n [] = Unit {0}
 FirstWithin n (p ∷ ps) = IsWithin n p
-
--- what `gen` gives, in code
-abbrev pub gen_of : Generated → GenValue
-gen_of g = record { text = g.text.items; book = ledger_of g.book; parts = g.parts.items }
 
 -- the session of a scenario's lines, from a network without exports on
 pub record IsRun (P : Program) (net : Network) (number rounds : ℕ) (s : SessionValue) : Type 0 where

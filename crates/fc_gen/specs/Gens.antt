@@ -1,6 +1,6 @@
 -- What `gen` makes of a number: the scenario of so many devices from the empty table on, a script run over it, and the
 -- summary of the log and of the core to which it leads.
-use Rattle.std.specs.Prelude.{ℕ, ◌≡◌, List, [], ◌∷◌, None}
+use Rattle.std.specs.Prelude.{ℕ, ◌≡◌, ◌≤◌, List, [], ◌∷◌, None}
 use Rattle.fc_values.specs.Fields.{Entries}
 use Rattle.fc_types.specs.Before.{declared_by}
 use Rattle.unfold.specs.Unfolding.{main_term}
@@ -15,15 +15,12 @@ use Rattle.edit_commands.specs.Scripts.{CommandValue, RunCommand, ScrambleComman
 use Rattle.scramble.specs.Rings.{ring, ring_program}
 use Rattle.session.specs.ScriptRuns.{ScriptRun}
 use Rattle.stable_field.specs.Stable.{IsStableField}
-use Rattle.fc_replay.specs.Ledgers.{Ledger}
-use Rattle.fc_replay.specs.Replays.{book_of}
+use Rattle.fc_inputs.specs.Answers.{AnswerValue, showing}
+use Rattle.fc_inputs.specs.Causes.{Judged, Accepted}
+use Rattle.fc_inputs.specs.Ledgers.{book_of}
+use Rattle.fc_values.specs.declared.limits.TheConstants.{MOST_SCENARIO_DEVICES}
+use Rattle.command_words.specs.declared.commands.GenOptions.{GenOptions}
 use Rattle.fc_gen.specs.Summaries.{agreeing, firings_in, held_sum, summary_text}
-
--- what `gen` gives: the text, the book, and the stretch of its log that the line `run` has made
-pub record GenValue : Type 0 where
-  pub text : List ℕ
-  pub book : Ledger
-  pub parts : List Part
 
 -- the program of a ring of so many devices, unfolded
 abbrev pub scenario_program : ℕ → Unfolding
@@ -48,7 +45,7 @@ gen_text number devices rounds field log parts last =
     summary_text number devices rounds (firings_in log parts) (agreeing last field) (held_sum last)
 
 -- A script run of the scenario's lines, with as many rounds as the verdict on its program says
-pub record Gens (number devices : ℕ) (g : GenValue) : Type 0 where
+pub record Gens (number devices : ℕ) (answer : AnswerValue) : Type 0 where
   pub rounds : ℕ
   pub yes : verdict_of (scenario_program devices) devices ≡ verdict.Yes rounds
   pub log : List EntryValue
@@ -59,8 +56,13 @@ pub record Gens (number devices : ℕ) (g : GenValue) : Type 0 where
       parts shown last
   pub field : Entries
   pub stable : IsStableField (scenario_program devices) (ring number devices) field
-  pub is : g ≡ record {
-    text = gen_text number devices rounds field log parts last;
-    book = book_of (scenario_program devices) (scenario_start number devices) log last;
-    parts = parts;
-  }
+  pub is : answer ≡ showing (gen_text number devices rounds field log parts last)
+      (book_of (scenario_program devices) (scenario_start number devices) log last) parts
+
+-- `gen` takes no input. The number of its workers makes no difference
+pub record Generates (options : GenOptions) (j : Judged AnswerValue) : Type 0 where
+  pub least : 3 ≤ options.devices
+  pub most : options.devices ≤ MOST_SCENARIO_DEVICES
+  pub answer : AnswerValue
+  pub gens : Gens options.number options.devices answer
+  pub is : j ≡ Accepted answer

@@ -1,4 +1,4 @@
 pub mod Summaries
 pub mod Gens
-pub mod Laws
+pub mod Promises
 pub mod Code

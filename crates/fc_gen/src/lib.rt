@@ -1,4 +1,4 @@
-//! What `gen` makes of a number: the scenario of so many devices, a script run over it, and its summary.
+//! `gen`: the scenario of a number, a script run over it, and its summary.
 #![tactic(auto)]
 
 mod counts;
@@ -6,5 +6,5 @@ mod laws;
 mod scenarios;
 mod summaries;
 
-pub use laws::{all_agree, one_gen, some_gen};
-pub use scenarios::{Generated, generate};
+pub use laws::gen_owes;
+pub use scenarios::generate;

@@ -13,19 +13,24 @@ ghost use Rattle.fragment_check.specs.Verdicts.{verdict_of};
 ghost use Rattle.edit_commands.specs.Scripts.{numbered};
 ghost use Rattle.scramble.specs.Rings.{ring, ring_program};
 ghost use Rattle.stable_field.specs.Stable.{IsStableField};
-ghost use Rattle.fc_gen.specs.Code.{FirstWithin, IsRun, gen_of};
-ghost use Rattle.fc_gen.specs.Gens.{Gens, gen_text, scenario_lines, scenario_program};
+ghost use Rattle.fc_inputs.specs.Answers.{showing};
+ghost use Rattle.fc_inputs.specs.Causes.{Accepted};
+ghost use Rattle.fc_inputs.specs.Ledgers.{ledger_of};
+ghost use Rattle.fc_gen.specs.Code.{FirstWithin, IsRun};
+ghost use Rattle.fc_gen.specs.Gens.{Generates, Gens, gen_text, scenario_lines, scenario_program};
+ghost use Rattle.fc_inputs.specs.Code.{value_of};
 
 use crate::counts::{agreeing, firings, held_sum};
 use crate::summaries::{Counts, summary};
 use command_words::GenOptions;
 use edit_commands::{Command, Line};
 use export_table::Gate;
+use fc_inputs::Answer;
 use fc_nodes::Unfolded;
 use fc_syntax::Program;
 use fc_types::{TypeFault, Typed, check_types};
 use fc_values::{Local, Memory};
-use firing_core::{Book, Core, Part};
+use firing_core::Core;
 use ring_laws::{rings_are_networks, rings_are_typed, rings_stabilise};
 use scramble::scenario;
 use session::{Pool, Session, run_script};
@@ -35,17 +40,6 @@ use std::sync::{Arc, Wait};
 use std::thread::Threads;
 use topology::Network;
 use unfold::{UnfoldFault, unfold};
-
-/// What `gen` gives.
-#[derive(Drop)]
-pub struct Generated {
-    /// The summary.
-    pub text: Vec<u8>,
-    /// The program, the start, the log and the last core.
-    pub book: Book,
-    /// The stretch of the log that the line `run` made.
-    pub parts: Vec<Part>,
-}
 
 // The program of a ring with its types.
 fn typed(alloc: Global, program: Program, devices: u32) -> Result<Typed, Memory>
@@ -144,12 +138,11 @@ fn summed_up(
     rounds: u32,
     field: &[(u32, Local)],
     session: Session,
-) -> Result<Generated, Memory>
+) -> Result<Answer, Memory>
     requires { FirstWithin (length session.book.log) session.parts }
-    ensures text { IfOk result (λ g. g.text.items ≡ gen_text number devices rounds (map entry_of field.now)
-        (entries_of session.book.log) session.parts (core_of session.book.core)) }
-    ensures book { IfOk result (λ g. g.book ≡ session.book) }
-    ensures parts { IfOk result (λ g. g.parts.items ≡ session.parts) }
+    ensures { IfOk result (λ a. value_of a ≡ showing (gen_text number devices rounds (map entry_of field.now)
+        (entries_of session.book.log) session.parts (core_of session.book.core))
+        (ledger_of session.book) session.parts) }
 {
     let (book, parts, _) = session.finish();
     let counts = Counts {
@@ -161,19 +154,19 @@ fn summed_up(
         sum: held_sum(book.core()),
     };
     let text = summary(alloc, counts)?;
-    Ok(Generated { text, book, parts })
+    Ok(Answer::showing(text, book, parts))
 }
 
-/// The summary of the scenario of a number on so many devices, and the book that it sums up. It waits where it runs
-/// rounds alone.
-pub fn generate<W: Threads + Wait + Sync, G: Gate + Sync>(
+// The summary of the scenario of a number on so many devices, with the book that it sums up. It waits where it runs
+// rounds alone.
+fn scenario_answer<W: Threads + Wait + Sync, G: Gate + Sync>(
     alloc: Global,
     options: GenOptions,
     pool: &Pool<W, G>,
-) -> Result<Generated, Memory>
+) -> Result<Answer, Memory>
     requires least { 3 ≤ options.devices }
     requires most { options.devices ≤ MOST_SCENARIO_DEVICES }
-    ensures { IfOk result (λ g. Gens options.number options.devices (gen_of g)) }
+    ensures { IfOk result (λ a. Gens options.number options.devices (value_of a)) }
 {
     let GenOptions { number, devices } = options;
     rings_are_networks();
@@ -183,6 +176,19 @@ pub fn generate<W: Threads + Wait + Sync, G: Gate + Sync>(
     let field = field(alloc, &program, &net)?;
     let rounds = rounds_of(devices);
     let session = ran(alloc, program, net, number, rounds, pool)?;
-    let generated = summed_up(alloc, number, devices, rounds, &field, session)?;
-    Ok(generated)
+    let answer = summed_up(alloc, number, devices, rounds, &field, session)?;
+    Ok(answer)
+}
+
+/// The answer of `gen`, which takes no input. It waits where it runs rounds alone.
+pub fn generate<W: Threads + Wait + Sync, G: Gate + Sync>(
+    alloc: Global,
+    options: GenOptions,
+    pool: &Pool<W, G>,
+) -> Result<Answer, Memory>
+    requires least { 3 ≤ options.devices }
+    requires most { options.devices ≤ MOST_SCENARIO_DEVICES }
+    ensures { IfOk result (λ a. Generates options (Accepted (value_of a))) }
+{
+    scenario_answer(alloc, options, pool)
 }

@@ -5,3 +5,12 @@ pub mod OneReading
 pub mod Unfolds
 pub mod InputNames
 pub mod Stopping
+pub mod Starting
+pub mod GoodStart
+pub mod Rows
+pub mod Resuming
+pub mod Agreeing
+pub mod RefusalStatuses
+pub mod Owed
+pub mod KeptYes
+pub mod Unread

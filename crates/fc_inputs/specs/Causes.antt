@@ -9,7 +9,8 @@ use Rattle.net_json.specs.Judging.{NotJson, Misshaped, BadNetwork, BadKept, TooM
 use Rattle.fc_inputs.specs.declared.refusal.Refusal.{Refusal}
 use Rattle.fc_inputs.specs.declared.refusal.Refusal.TheVariants.{Devices}
 use Rattle.fc_inputs.specs.FaultWords.{net_word}
-use Rattle.fc_inputs.specs.Refusals.{Reply, line, refused, limit_of}
+use Rattle.fc_inputs.specs.Answers.{AnswerValue, plain}
+use Rattle.fc_inputs.specs.Refusals.{line, refused, limit_of}
 
 -- a refusal, or the first fault of a scene
 pub data Cause : Type 0 where
@@ -21,26 +22,26 @@ abbrev pub path_text : List ℕ → List ℕ
 path_text [] = codes "/"
 path_text (b ∷ bs) = b ∷ bs
 
-abbrev pub scene_reply : List ℕ → Reply
-scene_reply text = record { status = 3; text = line text }
+abbrev pub scene_answer : List ℕ → AnswerValue
+scene_answer text = plain 3 (line text)
 
 -- a network's refusal at a path: a limit, or its word
-abbrev pub or_network : Option Refusal → List ℕ → NetFault → Reply
-or_network None path fault = scene_reply (codes "network " ++ path_text path ++ codes " " ++ net_word fault)
+abbrev pub or_network : Option Refusal → List ℕ → NetFault → AnswerValue
+or_network None path fault = scene_answer (codes "network " ++ path_text path ++ codes " " ++ net_word fault)
 or_network (Some limit) path fault = refused limit
 
--- the reply to the first fault of a scene
-abbrev pub scene_refused : scene.Refusal → Reply
-scene_refused NotJson = scene_reply (codes "json")
-scene_refused (Misshaped path) = scene_reply (codes "shape " ++ path_text path)
+-- the answer to the first fault of a scene
+abbrev pub scene_refused : scene.Refusal → AnswerValue
+scene_refused NotJson = scene_answer (codes "json")
+scene_refused (Misshaped path) = scene_answer (codes "shape " ++ path_text path)
 scene_refused (BadNetwork path fault) = or_network (limit_of fault) path fault
-scene_refused (BadKept path place) = scene_reply (codes "kept " ++ path_text path ++ codes " " ++ decimal place)
+scene_refused (BadKept path place) = scene_answer (codes "kept " ++ path_text path ++ codes " " ++ decimal place)
 scene_refused (TooManyDevices count) = refused (Devices count)
 
--- the reply to what is refused
-abbrev pub reply_to : Cause → Reply
-reply_to (Plainly refusal) = refused refusal
-reply_to (InScene refusal) = scene_refused refusal
+-- the answer to what is refused
+abbrev pub answer_to : Cause → AnswerValue
+answer_to (Plainly refusal) = refused refusal
+answer_to (InScene refusal) = scene_refused refusal
 
 -- what texts are read to and what a command makes of them, or why they are refused
 abbrev pub Judged : Type 0 → Type 0
@@ -55,3 +56,8 @@ AndThen (Refused cause) Next j = j ≡ Refused cause
 abbrev pub judged_map : {A B : Type 0} → (A → B) → Judged A → Judged B
 judged_map f (Accepted x) = Accepted (f x)
 judged_map f (Refused cause) = Refused cause
+
+-- the answer that is judged so
+abbrev pub answer_of : Judged AnswerValue → AnswerValue
+answer_of (Accepted answer) = answer
+answer_of (Refused cause) = answer_to cause

@@ -8,6 +8,7 @@ use Rattle.fc_nodes.specs.Program.{IsProgram, Program, Unfolding, unfolding_of}
 use Rattle.net_json.specs.Judging as scene
 use Rattle.net_json.specs.Scenes.{SceneValue, scene_of}
 use Rattle.fc_values.specs.declared.limits.TheConstants.{MOST_BYTES}
+use Rattle.fc_inputs.specs.Answers.{AnswerValue}
 use Rattle.fc_inputs.specs.Causes.{InScene, Judged, Accepted, Refused, AndThen}
 use Rattle.fc_inputs.specs.Sources.{IsProgramText, ReadsSource, ReadsProgram}
 
@@ -27,6 +28,13 @@ pub record ReadsInput (program network : List ℕ) (j : Judged InputOf) : Type 0
   pub judged : Judged Unfolding
   pub reads : ReadsProgram program judged
   pub scene : AndThen judged (λ U k. k ≡ with_scene U (scene_of U network)) j
+
+-- what is made of the texts of a program and a scene: of the two that they are read to, or of their refusal
+pub record OfScene (Makes : Unfolding → SceneValue → Judged AnswerValue → Type 0) (program network : List ℕ)
+    (j : Judged AnswerValue) : Type 0 where
+  pub judged : Judged InputOf
+  pub reads : ReadsInput program network judged
+  pub ends : AndThen judged (λ i k. Makes i.0 i.1 k) j
 
 -- ---- the laws: texts are read to one thing
 

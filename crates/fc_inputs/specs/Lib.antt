@@ -1,7 +1,17 @@
+pub mod Ledgers
+pub mod Answers
 pub mod Sections
 pub mod FaultWords
+pub mod LineFaults
 pub mod Refusals
 pub mod Causes
 pub mod Sources
 pub mod Inputs
+pub mod Starts
+pub mod Tables
+pub mod Resuming
+pub mod Agreement
 pub mod Stops
+pub mod Owing
+pub mod Yes
+pub mod Code

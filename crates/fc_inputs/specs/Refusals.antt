@@ -7,12 +7,8 @@ use Rattle.fc_inputs.specs.declared.refusal.LineFault.{LineFault}
 use Rattle.fc_inputs.specs.declared.refusal.LineFault.TheVariants as line_fault
 use Rattle.fc_inputs.specs.declared.refusal.Refusal.{Refusal}
 use Rattle.fc_inputs.specs.declared.refusal.Refusal.TheVariants.{Usage, Workers, Bytes, Sections, Lexical, Tokens, Depth, Syntax, Types, Nodes, Devices, Degree, Lines, Scrambles, Firings, Script, Log, Mail}
+use Rattle.fc_inputs.specs.Answers.{AnswerValue, plain}
 use Rattle.fc_inputs.specs.FaultWords.{kind_word, line_word}
-
--- a status, and the text that is written
-pub record Reply : Type 0 where
-  pub status : ℕ
-  pub text : List ℕ
 
 -- a text with its line feed
 abbrev pub line : List ℕ → List ℕ
@@ -60,9 +56,9 @@ status_of (Script at fault) = 3
 status_of (Log at fault) = 3
 status_of (Mail count) = 4
 
--- the reply of a refusal
-abbrev pub refused : Refusal → Reply
-refused refusal = record { status = status_of refusal; text = line_of refusal }
+-- the answer of a refusal
+abbrev pub refused : Refusal → AnswerValue
+refused refusal = plain (status_of refusal) (line_of refusal)
 
 -- the limit that a network's refusal is: too many links of a device, or too many devices at a join
 abbrev pub limit_of : NetFault → Option Refusal

@@ -1,5 +1,5 @@
 -- What the code stops with, and for which cause.
-use Rattle.std.specs.Prelude.{◌≡◌, Option, Some, None}
+use Rattle.std.specs.Prelude.{ℕ, ◌≡◌, Option, Some, None}
 use Rattle.fc_lexer.specs.declared.tokens.LexFault.{LexFault}
 use Rattle.fc_lexer.specs.declared.tokens.LexFault.TheVariants as lex
 use Rattle.fc_parser.specs.declared.faults.ParseFault.{ParseFault}
@@ -14,8 +14,10 @@ use Rattle.net_json.specs.Judging.{NotJson, Misshaped, BadNetwork, BadKept, TooM
 use Rattle.fc_inputs.specs.declared.refusal.Refusal.TheVariants as refusal
 use Rattle.fc_inputs.specs.declared.stop.Stop.{Stop}
 use Rattle.fc_inputs.specs.declared.stop.Stop.TheVariants as stop
-use Rattle.fc_inputs.specs.Refusals.{Reply}
-use Rattle.fc_inputs.specs.Causes.{Cause, Plainly, InScene, reply_to}
+use Rattle.fc_inputs.specs.declared.refusal.LineFault.{LineFault}
+use Rattle.fc_inputs.specs.Answers.{AnswerValue}
+use Rattle.fc_inputs.specs.Refusals.{log_refusal}
+use Rattle.fc_inputs.specs.Causes.{Cause, Plainly, InScene, answer_to}
 
 -- the cause of a fault of a scene. Want of memory has none
 abbrev pub scene_cause : JsonFault → Option Cause
@@ -61,7 +63,12 @@ abbrev pub unfold_stop : UnfoldFault → Stop
 unfold_stop (size_fault.TooLarge size) = stop.Refused (refusal.Nodes size)
 unfold_stop size_fault.Memory = stop.Memory
 
--- the reply to a cause. Where there is none, nothing is replied
-abbrev pub IsReplyFor : Option Cause → Reply → Type 0
-IsReplyFor None reply = ⊥
-IsReplyFor (Some cause) reply = reply ≡ reply_to cause
+-- the stop at a line of a log, for want of memory where there is no reason
+abbrev pub stop_at : ℕ → Option LineFault → Stop
+stop_at line (Some fault) = stop.Refused (log_refusal line fault)
+stop_at line None = stop.Memory
+
+-- the answer to a cause. Where there is none, nothing is answered
+abbrev pub IsAnswerTo : Option Cause → AnswerValue → Type 0
+IsAnswerTo None answer = ⊥
+IsAnswerTo (Some cause) answer = answer ≡ answer_to cause

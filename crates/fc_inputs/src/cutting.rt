@@ -1,5 +1,6 @@
 //! The sections of an input.
-ghost use Rattle.std.specs.Prelude.{◌≡◌, length, map, IfErr, IfOk, [], ◌∷◌};
+ghost use Rattle.std.specs.Prelude.{◌≡◌, ◌≤◌, length, map, IfErr, IfOk, [], ◌∷◌};
+ghost use Rattle.fc_values.specs.declared.limits.TheConstants.{MOST_BYTES};
 ghost use Rattle.fc_inputs.specs.Sections.{AreWithin, is_separator, sections_of, IsOther};
 ghost use Rattle.fc_inputs.specs.Stops.{StopsFor};
 
@@ -16,10 +17,11 @@ fn separates(line: &[u8]) -> bool
     line_text(line) == b"%%".as_slice()
 }
 
-/// The sections, each without the lines that separate them.
+/// The sections of an input within the limit, each without the lines that separate them.
 pub fn sections(alloc: Global, input: &[u8]) -> Result<Vec<&[u8]>, Memory>
+    requires { length input.now ≤ MOST_BYTES }
     ensures sections { IfOk result (λ v. map (λ s. s.now) v.items ≡ sections_of input.now) }
-    ensures within { IfOk result (λ v. AreWithin (length input.now) (map (λ s. s.now) v.items)) }
+    ensures within { IfOk result (λ v. AreWithin MOST_BYTES (map (λ s. s.now) v.items)) }
 {
     let mut found = Vec::new(alloc);
     let mut start = 0;

@@ -1,8 +1,10 @@
 //! The refusals of all commands, but for the faults of a scene.
 
 use crate::fault_words::{kind_word, line_word};
+use edit_commands::Fault;
 use fc_types::TypeKind;
 use fc_values::Memory;
+use firing_core::StepFault;
 use std::alloc::Global;
 use std::fmt;
 use topology::NetFault;
@@ -139,6 +141,7 @@ impl Refusal {
 }
 
 ghost use Rattle.std.specs.Prelude.{◌≡◌};
+ghost use Rattle.fc_inputs.specs.LineFaults.{fault_in, step_fault};
 ghost use Rattle.fc_inputs.specs.Refusals.{limit_of, limit_in, log_refusal as refusal_of_log, script_refusal as refusal_of_script};
 
 /// The limit that a network's refusal is, if it is one.
@@ -174,4 +177,27 @@ pub fn script_refusal(line: u32, fault: LineFault) -> Refusal
     ensures { result ≡ refusal_of_script line fault }
 {
     limit_in(fault).unwrap_or(Refusal::Script(line, fault))
+}
+
+/// A fault that is found in a line by itself, as refusals name it.
+pub fn fault_in(fault: Fault) -> LineFault
+    ensures { result ≡ fault_in fault }
+{
+    match fault {
+        Fault::Form => LineFault::Form,
+        Fault::Net(fault) => LineFault::Net(fault),
+        Fault::Kept => LineFault::Kept,
+    }
+}
+
+/// Why a begin or an end has no step, but for want of memory.
+pub fn step_fault(fault: StepFault) -> Option<LineFault>
+    ensures { result ≡ step_fault fault }
+{
+    match fault {
+        StepFault::NoDevice => Some(LineFault::Net(NetFault::NoDevice)),
+        StepFault::Flying => Some(LineFault::Flying),
+        StepFault::NotFlying => Some(LineFault::NotFlying),
+        StepFault::Memory => None,
+    }
 }

@@ -1,6 +1,6 @@
 //! Why a command has no answer of its own.
 
-use crate::refusal::Refusal;
+use crate::refusal::{LineFault, Refusal, log_refusal};
 use fc_lexer::LexFault;
 use fc_parser::ParseFault;
 use fc_types::TypeFault;
@@ -134,5 +134,18 @@ impl From<JsonFault> for Stop {
 
     fn from(fault: JsonFault) -> Self {
         Stop::Scene(fault)
+    }
+}
+
+ghost use Rattle.std.specs.Prelude.{◌≡◌};
+ghost use Rattle.fc_inputs.specs.Stops.{stop_at};
+
+/// The stop at a line of a log, for want of memory where there is no reason.
+pub fn stop_at(line: u32, fault: Option<LineFault>) -> Stop
+    ensures { result ≡ stop_at line fault }
+{
+    match fault {
+        Some(fault) => Stop::Refused(log_refusal(line, fault)),
+        None => Stop::Memory,
     }
 }

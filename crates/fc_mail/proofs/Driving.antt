@@ -26,9 +26,9 @@ use Rattle.net_json.specs.Scenes.{SceneValue}
 use Rattle.net_json.specs.SceneCode.{value_of_scene}
 use Rattle.report.specs.Texts.{values_text, field_text}
 use Rattle.report.specs.Verdicts.{rounds_text, verdict_text}
-use Rattle.fc_inputs.specs.Refusals.{Reply}
+use Rattle.fc_inputs.specs.Answers.{AnswerValue, plain}
 use Rattle.fc_inputs.specs.Causes.{Accepted}
-use Rattle.fc_replay.specs.Replays.{start_of}
+use Rattle.fc_inputs.specs.Starts.{start_of}
 use Rattle.fc_mail.specs.Code.{IsSettledOf, ShowsBehind}
 use Rattle.fc_mail.specs.Drives.{Settles, driven_log, WritesDriven}
 
@@ -69,10 +69,10 @@ module _ (leads : DrivenLeads) (either : MailLogsLeadOrFail) (number rounds : �
       let l = leads P rounds (words_of number) start is begins calm in
       either P start l.0 log i why is begins (subst (λ es. MailRun (unfolding_of P) 0 start es l.0) (sym made) l.1) fails
 
-module _ (number rounds : ℕ) (U : Unfolding) (s : SceneValue) (last : MailCore) (old new : List ℕ) (r : Reply) where
+module _ (number rounds : ℕ) (U : Unfolding) (s : SceneValue) (last : MailCore) (old new : List ℕ) (r : AnswerValue) where
   abbrev StepsShown : MailCore → List MailEntryValue → Type 0
   StepsShown start log = MailRun U 0 start log last → log ≡ driven start.core.net rounds (words_of number) → ShowsBehind start.core.net (posts_of start) log last.core old new
-      → old ≡ verdict_text (verdict.Yes rounds) → r ≡ record { status = 0; text = new } → WritesDriven number U s rounds (Accepted r)
+      → old ≡ verdict_text (verdict.Yes rounds) → r ≡ plain 0 new → WritesDriven number U s rounds (Accepted r)
 
   from_quiet : (core : Core) → Settles U s core → (log : List MailEntryValue) → StepsShown (quiet core) log
   from_quiet core settles log run made shows line is =
@@ -85,7 +85,7 @@ module _ (number rounds : ℕ) (U : Unfolding) (s : SceneValue) (last : MailCore
         leads = subst (λ es. MailRun U 0 (quiet core) es last) same run;
         count = shows.rounds;
         counted = subst (λ l. IsGreatestMail s.net nothing l shows.rounds) same (subst (λ (n : Network). IsGreatestMail n nothing log shows.rounds) net shows.counted);
-        is = ap (λ x. Accepted x) (is ∙ ap (λ xs. let t : Reply = record { status = 0; text = xs } in t)
+        is = ap (λ x. Accepted x) (is ∙ ap (plain 0)
             (shows.is ∙ ap (λ l. (l ++ values_text last.core) ++ rounds_text shows.rounds) line));
       }
 
@@ -94,9 +94,9 @@ module _ (number rounds : ℕ) (U : Unfolding) (s : SceneValue) (last : MailCore
 
 -- ---- the parts that the code has
 
-pub written : (number rounds : ℕ) (P Q : Program) (scene : Scene) (start book last : MailCore) (V : Unfolding) (log booked : List MailEntryValue) (old new : List ℕ) (r : Reply)
+pub written : (number rounds : ℕ) (P Q : Program) (scene : Scene) (start book last : MailCore) (V : Unfolding) (log booked : List MailEntryValue) (old new : List ℕ) (r : AnswerValue)
     → P ≡ Q → IsSettledOf (unfolding_of P) (value_of_scene (unfolding_of P) scene) start → V ≡ unfolding_of P → book ≡ start → log ≡ driven start.core.net rounds (words_of number) → booked ≡ log
-    → MailRun V 0 start log last → ShowsBehind book.core.net (posts_of book) booked last.core old new → old ≡ verdict_text (verdict.Yes rounds) → r ≡ record { status = 0; text = new }
+    → MailRun V 0 start log last → ShowsBehind book.core.net (posts_of book) booked last.core old new → old ≡ verdict_text (verdict.Yes rounds) → r ≡ plain 0 new
     → WritesDriven number (unfolding_of Q) (value_of_scene (unfolding_of Q) scene) rounds (Accepted r)
 written number rounds P Q scene start book last V log booked old new r p q v b made l run shows line is =
     subst (λ (x : Program). WritesDriven number (unfolding_of x) (value_of_scene (unfolding_of x) scene) rounds (Accepted r)) p

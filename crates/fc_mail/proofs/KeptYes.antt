@@ -21,34 +21,32 @@ use Rattle.edit_commands.specs.LineByLine.{Lines, AllLines, StopsAt}
 use Rattle.mail_book.specs.MailViews.{quiet}
 use Rattle.report.specs.Texts.{values_text}
 use Rattle.report.specs.Verdicts.{rounds_text, verdict_text}
-use Rattle.fc_inputs.specs.Causes.{Judged, Accepted, Refused, AndThen}
-use Rattle.fc_inputs.specs.Inputs.{InputOf, ReadsInput, TextsUnfold}
-use Rattle.fc_inputs.specs.Refusals.{Reply}
-use Rattle.fc_replay.specs.Laws.{InputsStart}
-use Rattle.fc_replay.specs.Replays.{start_of}
-use Rattle.fc_mail.specs.Drives.{messages, driven_log, DrivesBy, DrivesScene, DrivesWithin, Settles, WritesDriven}
+use Rattle.fc_inputs.specs.Answers.{AnswerValue}
+use Rattle.fc_inputs.specs.Causes.{Judged, Accepted}
+use Rattle.fc_inputs.specs.Inputs.{InputOf, ReadsInput}
+use Rattle.fc_inputs.specs.Starts.{InputsAreRead, start_of}
+use Rattle.fc_mail.specs.Drives.{messages, driven_log, DrivesBy, DrivesWithin, Settles, WritesDriven}
 use Rattle.fc_mail.specs.declared.driven.TheConstants.{MOST_MESSAGES}
-use Rattle.fc_mail.specs.Laws.{DrivenMailKeepsYes, DrivenMailsKeepYes, MailKeepsYes, MailsKeepYes}
-use Rattle.fc_mail.specs.Mails.{Mailed, MailsLines, MailsScene, ShowsMail, StopsMail, entries_in}
+use Rattle.fc_mail.specs.Promises.{DrivenMailKeepsYes, MailKeepsYes}
+use Rattle.fc_mail.specs.Mails.{Mailed, MailsLines, ShowsMail, StopsMail, entries_in}
 use Rattle.fc_mail.proofs.Driving.{field_values, held, settled_net}
 use Rattle.mail_book.proofs.QuietStarts.{quiet_start}
-use Rattle.fc_mail.proofs.MailReplies.{scene_start}
 
-accepted_same : (r q : Reply) → ◌≡◌ {A = Judged Reply} (Accepted r) (Accepted q) → r ≡ q
+accepted_same : (r q : AnswerValue) → ◌≡◌ {A = Judged AnswerValue} (Accepted r) (Accepted q) → r ≡ q
 accepted_same r q e = cc
 
 -- ---- a program and a scene that are read
 
-module _ (unfolds : TextsUnfold) (starts : InputsStart) (program network : List ℕ) (i : InputOf) (reads : ReadsInput program network (Accepted i)) where
+module _ (laws : InputsAreRead) (program network : List ℕ) (i : InputOf) (reads : ReadsInput program network (Accepted i)) where
   start : IsMailStart i.0 (quiet (start_of i.1))
-  start = scene_start starts program network i reads
+  start = quiet_start i.0 (start_of i.1) (laws.start program network i reads).good
 
   net : IsNetwork i.1.net
   net = start.good.net
 
   stabilised : YesStabilisesMail → (k : ℕ) → verdict_of i.0 (length i.1.net.devices) ≡ verdict.Yes k → MailStabilises i.0 i.1.net k
   stabilised law k said =
-      let p = unfolds program network i reads in
+      let p = laws.unfolded program network i reads in
       subst AtProgram p.2 (law p.0 i.1.net k p.1 net) start.good.declared said
     where
       AtProgram : Unfolding → Type 0
@@ -57,7 +55,7 @@ module _ (unfolds : TextsUnfold) (starts : InputsStart) (program network : List 
   -- its flights ended
   settled_good : RunsKeepGood → (core : Core) → Settles i.0 i.1 core → IsGood i.0 core
   settled_good runs core settles =
-      let p = unfolds program network i reads in
+      let p = laws.unfolded program network i reads in
       subst AtProgram p.2 (λ good run. runs p.0 (start_of i.1) core (entries_of (ends_of (in_flight (start_of i.1)))) p.1 good run) start.good settles
     where
       AtProgram : Unfolding → Type 0
@@ -65,15 +63,15 @@ module _ (unfolds : TextsUnfold) (starts : InputsStart) (program network : List 
 
 -- ---- a log
 
-module _ (unfolds : TextsUnfold) (starts : InputsStart) (law : YesStabilisesMail) (program network log : List ℕ) (r : Reply) (i : InputOf) (reads : ReadsInput program network (Accepted i)) where
+module _ (laws : InputsAreRead) (law : YesStabilisesMail) (program network log : List ℕ) (r : AnswerValue) (i : InputOf) (reads : ReadsInput program network (Accepted i)) where
   abbrev stable : (k : ℕ) → verdict_of i.0 (length i.1.net.devices) ≡ verdict.Yes k → MailStabilises i.0 i.1.net k
-  stable k said = stabilised unfolds starts program network i reads law k said
+  stable k said = stabilised laws program network i reads law k said
 
   shown : (es : Mailed) → mail_log log ≡ AllLines es → ShowsMail i.0 (quiet (start_of i.1)) es (Accepted r)
       → MailKeepsYes program network log r.text
   shown es lines h =
-      let begins = start unfolds starts program network i reads in
-      let text : r.text ≡ values_text h.last.core ++ rounds_text h.rounds = ap (λ (x : Reply). x.text) (accepted_same r _ h.is) in
+      let begins = start laws program network i reads in
+      let text : r.text ≡ values_text h.last.core ++ rounds_text h.rounds = ap (λ (x : AnswerValue). x.text) (accepted_same r _ h.is) in
       let rounds : (k : ℕ) → k ≤ h.rounds → HasMailRounds i.1.net 0 nothing (entries_in es) k =
       λ k few. fewer_rounds i.1.net 0 nothing (entries_in es) k h.rounds few h.counted.has in
       record {
@@ -100,32 +98,25 @@ module _ (unfolds : TextsUnfold) (starts : InputsStart) (law : YesStabilisesMail
   either es lines (inl h) = shown es lines h
   either es lines (inr h) = absurd (cc (h.is))
 
-  by_lines : (ls : Lines (Unit {0}) MailEntryValue) → mail_log log ≡ ls → MailsLines i.0 (quiet (start_of i.1)) ls (Accepted r)
+  pub by_lines : (ls : Lines (Unit {0}) MailEntryValue) → mail_log log ≡ ls → MailsLines i.0 (quiet (start_of i.1)) ls (Accepted r)
       → MailKeepsYes program network log r.text
   by_lines (StopsAt at u) e h = absurd (cc (h))
   by_lines (AllLines es) e h = either es e h
 
-pub mails_keep_yes : TextsUnfold → InputsStart → YesStabilisesMail → MailsKeepYes
-mails_keep_yes unfolds starts law program network log r h = by_input h.judged h.reads h.ends
-  where
-    by_input : (j : Judged InputOf) → ReadsInput program network j → AndThen j (λ i k. MailsScene i.0 i.1 log k) (Accepted r) → MailKeepsYes program network log r.text
-    by_input (Refused cause) reads e = absurd (cc (e))
-    by_input (Accepted i) reads e = by_lines unfolds starts law program network log r i reads (mail_log log) refl e
-
 -- ---- a number
 
-module _ (unfolds : TextsUnfold) (starts : InputsStart) (law : YesStabilisesMail) (runs : RunsKeepGood) (covers : DrivenRounds) (most : NoMoreRounds) (number : ℕ) (program network : List ℕ) (r : Reply) (zero_is : r.status ≡ 0)
+module _ (laws : InputsAreRead) (law : YesStabilisesMail) (runs : RunsKeepGood) (covers : DrivenRounds) (most : NoMoreRounds) (number : ℕ) (program network : List ℕ) (r : AnswerValue) (zero_is : r.status ≡ 0)
     (i : InputOf) (reads : ReadsInput program network (Accepted i)) where
   driven_on : (k : ℕ) → verdict_of i.0 (length i.1.net.devices) ≡ verdict.Yes k → WritesDriven number i.0 i.1 k (Accepted r)
       → DrivenMailKeepsYes number program network r.text
   driven_on k said h =
-      let m = stabilised unfolds starts program network i reads law k said in
+      let m = stabilised laws program network i reads law k said in
       let log : List MailEntryValue = driven_log number i.1.net k in
-      let begins : IsMailStart i.0 (quiet h.core) = quiet_start i.0 h.core (settled_good unfolds starts program network i reads runs h.core h.settles) in
+      let begins : IsMailStart i.0 (quiet h.core) = quiet_start i.0 h.core (settled_good laws program network i reads runs h.core h.settles) in
       let same : h.core.net ≡ i.1.net = settled_net i.0 i.1 h.core h.settles in
-      let there : IsNetwork i.1.net = net unfolds starts program network i reads in
+      let there : IsNetwork i.1.net = net laws program network i reads in
       let has : HasMailRounds i.1.net 0 nothing log k = covers i.1.net k (words_of number) there in
-      let text : r.text ≡ verdict_text (verdict.Yes k) ++ values_text h.last.core ++ rounds_text h.count = ap (λ (x : Reply). x.text) (accepted_same r _ h.is) in
+      let text : r.text ≡ verdict_text (verdict.Yes k) ++ values_text h.last.core ++ rounds_text h.count = ap (λ (x : AnswerValue). x.text) (accepted_same r _ h.is) in
       let enough : k ≤ h.count = h.counted.greatest k has in
       record {
         unfolded = i.0;
@@ -153,17 +144,9 @@ module _ (unfolds : TextsUnfold) (starts : InputsStart) (law : YesStabilisesMail
   within true k said h = absurd (cc (h))
   within false k said h = driven_on k said h
 
-  by_verdict : (v : Verdict) → verdict_of i.0 (length i.1.net.devices) ≡ v → DrivesBy number v i.0 i.1 (Accepted r)
+  pub by_verdict : (v : Verdict) → verdict_of i.0 (length i.1.net.devices) ≡ v → DrivesBy number v i.0 i.1 (Accepted r)
       → DrivenMailKeepsYes number program network r.text
   by_verdict (verdict.No place why) e h =
-      let one : 0 ≡ 1 = sym zero_is ∙ ap (λ (x : Reply). x.status) (accepted_same r _ h) in
+      let one : 0 ≡ 1 = sym zero_is ∙ ap (λ (x : AnswerValue). x.status) (accepted_same r _ h) in
       absurd (cc one)
   by_verdict (verdict.Yes k) e h = within (nat_lt MOST_MESSAGES (messages i.1.net k)) k e h
-
-pub driven_mails_keep_yes : TextsUnfold → InputsStart → YesStabilisesMail → RunsKeepGood → DrivenRounds → NoMoreRounds → DrivenMailsKeepYes
-driven_mails_keep_yes unfolds starts law runs covers most number program network r h zero = by_input h.judged h.reads h.ends
-  where
-    by_input : (j : Judged InputOf) → ReadsInput program network j → AndThen j (λ i k. DrivesScene number i.0 i.1 k) (Accepted r) → DrivenMailKeepsYes number program network r.text
-    by_input (Refused cause) reads e = absurd (cc (e))
-    by_input (Accepted i) reads e =
-        by_verdict unfolds starts law runs covers most number program network r zero i reads (verdict_of i.0 (length i.1.net.devices)) refl e

@@ -1,7 +1,8 @@
 pub mod MailEndings
 pub mod Landing
-pub mod MailReplies
+pub mod DrivenEndings
 pub mod Mailing
 pub mod Links
 pub mod Driving
 pub mod KeptYes
+mod MailOwed

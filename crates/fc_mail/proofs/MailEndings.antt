@@ -20,8 +20,11 @@ use Rattle.report.specs.Texts.{values_text}
 use Rattle.report.specs.Verdicts.{rounds_text}
 use Rattle.fc_inputs.specs.declared.refusal.LineFault.{LineFault}
 use Rattle.fc_inputs.specs.declared.refusal.LineFault.TheVariants as line_fault
-use Rattle.fc_inputs.specs.Refusals.{Reply, log_refusal}
+use Rattle.fc_inputs.specs.Agreement.{Agree}
+use Rattle.fc_inputs.specs.Answers.{AnswerValue, plain}
+use Rattle.fc_inputs.specs.Refusals.{log_refusal}
 use Rattle.fc_inputs.specs.Causes.{Plainly, Judged, Accepted, Refused}
+use Rattle.fc_inputs.proofs.Agreeing.{both_plain, both_refused}
 use Rattle.fc_mail.specs.Mails.{Mailed, entries_in, line_at, mail_line_fault, ShowsMail, StopsMail, MailsLines}
 
 pub one_number : (N : Network) (p : Posts) (log : List MailEntryValue) (j k : ℕ) → IsGreatestMail N p log j → IsGreatestMail N p log k → j ≡ k
@@ -64,39 +67,41 @@ some_why : (a b : LineFault) → ◌≡◌ {A = Option LineFault} (Some a) (Some
 some_why a b e = cc
 
 module _ (one : MailLogsLeadToOne) (once : MailLogsFailOnce) (either : MailLogsLeadOrFail) (P : Program) (is : IsProgram P) (start : MailCore) (s : IsMailStart (unfolding_of P) start) where
-  one_end : (log : Mailed) (j k : Judged Reply) → ShowsMail (unfolding_of P) start log j ⊎ StopsMail (unfolding_of P) start log j
-      → ShowsMail (unfolding_of P) start log k ⊎ StopsMail (unfolding_of P) start log k → j ≡ k
+  one_end : (log : Mailed) (j k : Judged AnswerValue) → ShowsMail (unfolding_of P) start log j ⊎ StopsMail (unfolding_of P) start log j
+      → ShowsMail (unfolding_of P) start log k ⊎ StopsMail (unfolding_of P) start log k → Agree false j k
   one_end log j k (inl h) (inl g) =
       let last : h.last ≡ g.last = one P start h.last g.last (entries_in log) is s h.leads g.leads in
       let count : h.rounds ≡ g.rounds = one_number start.core.net (posts_of start) (entries_in log) h.rounds g.rounds h.counted g.counted in
-      h.is ∙ ap₂ (λ (m : MailCore) n. shown m n) last count ∙ sym g.is
+      both_plain false j k 0 (shown g.last g.rounds) (h.is ∙ ap₂ (λ (m : MailCore) n. Accepted (plain 0 (shown m n))) last count)
+      g.is
     where
-      shown : MailCore → ℕ → Judged Reply
-      shown m n = Accepted (record { status = 0; text = values_text m.core ++ rounds_text n })
+      shown : MailCore → ℕ → List ℕ
+      shown m n = values_text m.core ++ rounds_text n
   one_end log j k (inr h) (inr g) =
       let same = once P start (entries_in log) h.index g.index h.fault g.fault is s h.fails g.fails in
       let why : h.why ≡ g.why = some_why h.why g.why (sym h.told ∙ ap mail_line_fault same.1 ∙ g.told) in
-      h.is ∙ ap₂ (λ i w. Refused (Plainly (log_refusal (line_at log i) w))) same.0 why ∙ sym g.is
+      both_refused false j k (Plainly (log_refusal (line_at log g.index) g.why))
+      (h.is ∙ ap₂ (λ i w. Refused (Plainly (log_refusal (line_at log i) w))) same.0 why) g.is
   one_end log j k (inl h) (inr g) = absurd (either P start h.last (entries_in log) g.index g.fault is s h.leads g.fails)
   one_end log j k (inr h) (inl g) = absurd (either P start g.last (entries_in log) h.index h.fault is s g.leads h.fails)
 
-  pub one_lines : (lines : Lines (Unit {0}) MailEntryValue) (j k : Judged Reply) → MailsLines (unfolding_of P) start lines j → MailsLines (unfolding_of P) start lines k → j ≡ k
-  one_lines (StopsAt at u) j k h g = h ∙ sym g
+  pub one_lines : (lines : Lines (Unit {0}) MailEntryValue) (j k : Judged AnswerValue) → MailsLines (unfolding_of P) start lines j → MailsLines (unfolding_of P) start lines k → Agree false j k
+  one_lines (StopsAt at u) j k h g = both_refused false j k _ h g
   one_lines (AllLines log) j k h g = one_end log j k h g
 
 module _ (ends : MailLogsEnd) (greatest : SomeGreatestMail) (P : Program) (is : IsProgram P) (start : MailCore) (s : IsMailStart (unfolding_of P) start) where
-  pub some_lines : (lines : Lines (Unit {0}) MailEntryValue) → (j : Judged Reply) × MailsLines (unfolding_of P) start lines j
+  pub some_lines : (lines : Lines (Unit {0}) MailEntryValue) → (j : Judged AnswerValue) × MailsLines (unfolding_of P) start lines j
   some_lines (StopsAt at u) = (Refused (Plainly (log_refusal at line_fault.Form)), refl)
   some_lines (AllLines log) = ⊎_elim shows stops (ends P start (entries_in log) is s)
     where
-      shows : (last : MailCore) × MailRun (unfolding_of P) 0 start (entries_in log) last → (j : Judged Reply) × MailsLines (unfolding_of P) start (AllLines log) j
+      shows : (last : MailCore) × MailRun (unfolding_of P) 0 start (entries_in log) last → (j : Judged AnswerValue) × MailsLines (unfolding_of P) start (AllLines log) j
       shows r =
           let g = greatest (unfolding_of P) start (entries_in log) s in (
-            Accepted (record { status = 0; text = values_text r.0.core ++ rounds_text g.0 }),
+            Accepted (plain 0 (values_text r.0.core ++ rounds_text g.0)),
             inl (record { last = r.0; leads = r.1; rounds = g.0; counted = g.1; is = refl }),
           )
 
-      stops : (index : ℕ) × (why : MailFault) × FailsMailAt (unfolding_of P) start (entries_in log) index why → (j : Judged Reply) × MailsLines (unfolding_of P) start (AllLines log) j
+      stops : (index : ℕ) × (why : MailFault) × FailsMailAt (unfolding_of P) start (entries_in log) index why → (j : Judged AnswerValue) × MailsLines (unfolding_of P) start (AllLines log) j
       stops f =
           let t = told f.2.before f.2.entry f.1 f.2.refuses in (
             Refused (Plainly (log_refusal (line_at log f.0) t.0)),

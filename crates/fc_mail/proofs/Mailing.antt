@@ -14,12 +14,12 @@ use Rattle.mail_count.specs.Laws.{IsGreatestMail}
 use Rattle.net_json.specs.Scenes.{SceneValue}
 use Rattle.report.specs.Texts.{values_text}
 use Rattle.report.specs.Verdicts.{rounds_text}
-use Rattle.fc_inputs.specs.Stops.{StopsFor}
-use Rattle.fc_inputs.specs.Refusals.{Reply, log_refusal}
+use Rattle.fc_inputs.specs.Stops.{StopsFor, stop_at}
+use Rattle.fc_inputs.specs.Answers.{AnswerValue, plain}
+use Rattle.fc_inputs.specs.Refusals.{log_refusal}
 use Rattle.fc_inputs.specs.Causes.{Cause, Plainly, Judged, Accepted, Refused}
 use Rattle.fc_inputs.specs.Inputs.{ReadsInput}
-use Rattle.fc_replay.specs.Replays.{start_of}
-use Rattle.fc_replay.specs.Code.{stop_at}
+use Rattle.fc_inputs.specs.Starts.{start_of}
 use Rattle.fc_mail.specs.Mails.{Mailed, entries_in, MailsLines, Mails}
 use Rattle.fc_mail.specs.Code.{IsFaultyMail, IsStoppedMail, mail_stop, MailWithin}
 use Rattle.fc_mail.proofs.MailEndings.{told}
@@ -69,10 +69,10 @@ stops U start log lines (replay.At index why) q h =
     subst (λ o. StopsFor (IsStoppedMail U start log) (stop_at (slice_index lines index) o)) (sym t.1)
     (record { index = index; fault = why; fails = h; why = t.0; told = t.1; is = ap (λ ks. Plainly (log_refusal (slice_index ks index) t.0)) q })
 
--- ---- replies
+-- ---- answers
 
 module _ (program network log : List ℕ) (U : Unfolding) (s : SceneValue) (reads : ReadsInput program network (Accepted (U, s))) where
-  ends_in : (j : Judged Reply) → MailsLines U (quiet (start_of s)) (mail_log log) j → Mails program network log j
+  ends_in : (j : Judged AnswerValue) → MailsLines U (quiet (start_of s)) (mail_log log) j → Mails program network log j
   ends_in j h = record { judged = Accepted (U, s); reads = reads; ends = h }
 
   pub faulty_log : (cause : Cause) → IsFaultyMail (mail_log log) cause → Mails program network log (Refused cause)
@@ -90,8 +90,8 @@ module _ (program network log : List ℕ) (U : Unfolding) (s : SceneValue) (read
     stopped_log cause h = ends_in (Refused cause) (subst (λ l. MailsLines U (quiet (start_of s)) l (Refused cause)) (sym all_lines)
         (inr (record { index = h.index; fault = h.fault; fails = h.fails; why = h.why; told = h.told; is = ap (λ c. Refused c) h.is })))
 
-    pub shown_log : (r : Reply) (last : MailCore) (rounds : ℕ) → MailRun U 0 (quiet (start_of s)) (entries_in es) last
+    pub shown_log : (r : AnswerValue) (last : MailCore) (rounds : ℕ) → MailRun U 0 (quiet (start_of s)) (entries_in es) last
         → IsGreatestMail (quiet (start_of s)).core.net (posts_of (quiet (start_of s))) (entries_in es) rounds
-        → r ≡ record { status = 0; text = values_text last.core ++ rounds_text rounds } → Mails program network log (Accepted r)
+        → r ≡ plain 0 (values_text last.core ++ rounds_text rounds) → Mails program network log (Accepted r)
     shown_log r last rounds leads counted is_r = ends_in (Accepted r) (subst (λ l. MailsLines U (quiet (start_of s)) l (Accepted r)) (sym all_lines)
         (inl (record { last = last; leads = leads; rounds = rounds; counted = counted; is = ap (λ x. Accepted x) is_r })))

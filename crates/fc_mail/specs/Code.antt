@@ -21,8 +21,8 @@ use Rattle.fc_inputs.specs.declared.stop.Stop.{Stop}
 use Rattle.fc_inputs.specs.declared.stop.Stop.TheVariants as stop
 use Rattle.fc_inputs.specs.Causes.{Cause, Plainly}
 use Rattle.fc_inputs.specs.Refusals.{log_refusal}
+use Rattle.fc_inputs.specs.Stops.{stop_at}
 use Rattle.net_json.specs.Scenes.{SceneValue}
-use Rattle.fc_replay.specs.Code.{stop_at}
 use Rattle.fc_mail.specs.Drives.{Settles}
 use Rattle.fc_mail.specs.Mails.{Mailed, entries_in, line_at, mail_line_fault}
 

@@ -20,10 +20,10 @@ use Rattle.net_json.specs.Scenes.{SceneValue}
 use Rattle.report.specs.Texts.{values_text}
 use Rattle.report.specs.Verdicts.{rounds_text, verdict_text}
 use Rattle.fc_inputs.specs.declared.refusal.Refusal.TheVariants as refusal
-use Rattle.fc_inputs.specs.Refusals.{Reply}
-use Rattle.fc_inputs.specs.Causes.{Plainly, Judged, Accepted, Refused, AndThen}
-use Rattle.fc_inputs.specs.Inputs.{InputOf, ReadsInput}
-use Rattle.fc_replay.specs.Replays.{start_of}
+use Rattle.fc_inputs.specs.Answers.{AnswerValue, plain}
+use Rattle.fc_inputs.specs.Causes.{Plainly, Judged, Accepted, Refused}
+use Rattle.fc_inputs.specs.Inputs.{OfScene}
+use Rattle.fc_inputs.specs.Starts.{start_of}
 use Rattle.fc_mail.specs.declared.driven.TheConstants.{MOST_MESSAGES}
 
 -- so many rounds, times the sum of the devices and twice the links
@@ -39,35 +39,29 @@ abbrev pub driven_log : ℕ → Network → ℕ → List MailEntryValue
 driven_log number N rounds = driven N rounds (words_of number)
 
 -- the run of so many driven rounds: the values of the core to which they lead, and their greatest number of rounds
-pub record WritesDriven (number : ℕ) (U : Unfolding) (s : SceneValue) (rounds : ℕ) (j : Judged Reply) : Type 0 where
+pub record WritesDriven (number : ℕ) (U : Unfolding) (s : SceneValue) (rounds : ℕ) (j : Judged AnswerValue) : Type 0 where
   pub core : Core
   pub settles : Settles U s core
   pub last : MailCore
   pub leads : MailRun U 0 (quiet core) (driven_log number s.net rounds) last
   pub count : ℕ
   pub counted : IsGreatestMail s.net nothing (driven_log number s.net rounds) count
-  pub is : j ≡ Accepted (record {
-    status = 0;
-    text = verdict_text (verdict.Yes rounds) ++ values_text last.core ++ rounds_text count;
-  })
+  pub is : j ≡ Accepted (plain 0 (verdict_text (verdict.Yes rounds) ++ values_text last.core ++ rounds_text count))
 
-abbrev pub DrivesWithin : Bool → ℕ → Unfolding → SceneValue → ℕ → Judged Reply → Type 0
+abbrev pub DrivesWithin : Bool → ℕ → Unfolding → SceneValue → ℕ → Judged AnswerValue → Type 0
 DrivesWithin true number U s rounds j = j ≡ Refused (Plainly (refusal.Mail (messages s.net rounds)))
 DrivesWithin false number U s rounds j = WritesDriven number U s rounds j
 
 -- where this is the verdict
-abbrev pub DrivesBy : ℕ → Verdict → Unfolding → SceneValue → Judged Reply → Type 0
-DrivesBy number (verdict.No place why) U s j =
-    j ≡ Accepted (record { status = 1; text = verdict_text (verdict.No place why) })
+abbrev pub DrivesBy : ℕ → Verdict → Unfolding → SceneValue → Judged AnswerValue → Type 0
+DrivesBy number (verdict.No place why) U s j = j ≡ Accepted (plain 1 (verdict_text (verdict.No place why)))
 DrivesBy number (verdict.Yes rounds) U s j =
     DrivesWithin (nat_lt MOST_MESSAGES (messages s.net rounds)) number U s rounds j
 
 -- a program and a scene of it
-abbrev pub DrivesScene : ℕ → Unfolding → SceneValue → Judged Reply → Type 0
+abbrev pub DrivesScene : ℕ → Unfolding → SceneValue → Judged AnswerValue → Type 0
 DrivesScene number U s j = DrivesBy number (verdict_of U (length s.net.devices)) U s j
 
 -- the texts of a program and of a scene
-pub record DrivesMail (number : ℕ) (program network : List ℕ) (j : Judged Reply) : Type 0 where
-  pub judged : Judged InputOf
-  pub reads : ReadsInput program network judged
-  pub ends : AndThen judged (λ i k. DrivesScene number i.0 i.1 k) j
+abbrev pub DrivesMail : ℕ → List ℕ → List ℕ → Judged AnswerValue → Type 0
+DrivesMail number = OfScene (λ U s k. DrivesScene number U s k)

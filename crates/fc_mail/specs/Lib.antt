@@ -1,4 +1,5 @@
 pub mod Mails
 pub mod Drives
-pub mod Laws
+pub mod Commands
+pub mod Promises
 pub mod Code

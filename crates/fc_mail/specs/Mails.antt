@@ -16,11 +16,12 @@ use Rattle.report.specs.Texts.{values_text}
 use Rattle.report.specs.Verdicts.{rounds_text}
 use Rattle.fc_inputs.specs.declared.refusal.LineFault.{LineFault}
 use Rattle.fc_inputs.specs.declared.refusal.LineFault.TheVariants.{Form, Net, Empty}
-use Rattle.fc_inputs.specs.Refusals.{Reply, log_refusal}
-use Rattle.fc_inputs.specs.Causes.{Plainly, Judged, Accepted, Refused, AndThen}
-use Rattle.fc_inputs.specs.Inputs.{InputOf, ReadsInput}
-use Rattle.fc_replay.specs.Replays.{start_of}
-use Rattle.fc_replay.specs.Stopping.{step_fault}
+use Rattle.fc_inputs.specs.Answers.{AnswerValue, plain}
+use Rattle.fc_inputs.specs.Refusals.{log_refusal}
+use Rattle.fc_inputs.specs.Causes.{Plainly, Judged, Accepted, Refused}
+use Rattle.fc_inputs.specs.Inputs.{OfScene}
+use Rattle.fc_inputs.specs.LineFaults.{step_fault}
+use Rattle.fc_inputs.specs.Starts.{start_of}
 
 -- the entries of a mail log, each with the number of its line
 abbrev pub Mailed : Type 0
@@ -39,15 +40,15 @@ mail_line_fault fault.NoLink = Some (Net net.NoLink)
 mail_line_fault fault.Empty = Some Empty
 
 -- a log that leads from a mail core to one: the values of its core, and the number of rounds
-pub record ShowsMail (U : Unfolding) (start : MailCore) (log : Mailed) (j : Judged Reply) : Type 0 where
+pub record ShowsMail (U : Unfolding) (start : MailCore) (log : Mailed) (j : Judged AnswerValue) : Type 0 where
   pub last : MailCore
   pub leads : MailRun U 0 start (entries_in log) last
   pub rounds : ℕ
   pub counted : IsGreatestMail start.core.net (posts_of start) (entries_in log) rounds
-  pub is : j ≡ Accepted (record { status = 0; text = values_text last.core ++ rounds_text rounds })
+  pub is : j ≡ Accepted (plain 0 (values_text last.core ++ rounds_text rounds))
 
 -- a log that is refused at the line of the first entry that has no step
-pub record StopsMail (U : Unfolding) (start : MailCore) (log : Mailed) (j : Judged Reply) : Type 0 where
+pub record StopsMail (U : Unfolding) (start : MailCore) (log : Mailed) (j : Judged AnswerValue) : Type 0 where
   pub index : ℕ
   pub fault : MailFault
   pub fails : FailsMailAt U start (entries_in log) index fault
@@ -56,16 +57,14 @@ pub record StopsMail (U : Unfolding) (start : MailCore) (log : Mailed) (j : Judg
   pub is : j ≡ Refused (Plainly (log_refusal (line_at log index) why))
 
 -- the lines of a mail log, of which the first that is no entry is refused
-abbrev pub MailsLines : Unfolding → MailCore → Lines (Unit {0}) MailEntryValue → Judged Reply → Type 0
+abbrev pub MailsLines : Unfolding → MailCore → Lines (Unit {0}) MailEntryValue → Judged AnswerValue → Type 0
 MailsLines U start (StopsAt at tt) j = j ≡ Refused (Plainly (log_refusal at Form))
 MailsLines U start (AllLines log) j = ShowsMail U start log j ⊎ StopsMail U start log j
 
 -- a program and a scene of it, in which nothing was heard and nothing is in transit
-abbrev pub MailsScene : Unfolding → SceneValue → List ℕ → Judged Reply → Type 0
+abbrev pub MailsScene : Unfolding → SceneValue → List ℕ → Judged AnswerValue → Type 0
 MailsScene U s log j = MailsLines U (quiet (start_of s)) (mail_log log) j
 
 -- the texts of a program, a scene and a mail log
-pub record Mails (program network log : List ℕ) (j : Judged Reply) : Type 0 where
-  pub judged : Judged InputOf
-  pub reads : ReadsInput program network judged
-  pub ends : AndThen judged (λ i k. MailsScene i.0 i.1 log k) j
+abbrev pub Mails : List ℕ → List ℕ → List ℕ → Judged AnswerValue → Type 0
+Mails program network log j = OfScene (λ U s k. MailsScene U s log k) program network j

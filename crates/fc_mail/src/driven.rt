@@ -12,15 +12,15 @@ ghost use Rattle.net_json.specs.SceneCode.{AreCopies, AreRows, value_of_scene};
 ghost use Rattle.mail_book.specs.MailReplays.{FailsMailAt};
 ghost use Rattle.mail_book.specs.MailViews.{mail_of, unfolded_of};
 ghost use Rattle.fc_inputs.specs.Causes.{Accepted, Refused};
+ghost use Rattle.fc_inputs.specs.Code.{value_of};
 ghost use Rattle.fc_inputs.specs.Stops.{StopsFor};
 ghost use Rattle.fc_values.specs.declared.limits.TheConstants.{MOST_BYTES};
 ghost use Rattle.fc_mail.specs.Code.{IsSettledOf};
 ghost use Rattle.fc_mail.specs.Drives.{DrivesMail, DrivesScene, WritesDriven, messages};
 
 use crate::shown::show;
-use fc_inputs::{Refusal, Reply, Stop, read_input};
+use fc_inputs::{Answer, Refusal, Stop, read_input, start};
 use fc_nodes::{Unfolded, Verdict};
-use fc_replay::start;
 use fc_values::Memory;
 use firing_core::Book;
 use mail_book::{Mail, MailBook, mail_logs_end, replay_mail};
@@ -97,12 +97,12 @@ fn driven(
     rounds: u32,
     program: Unfolded,
     scene: Scene,
-) -> Result<Reply, Memory>
+) -> Result<Answer, Memory>
     requires declared { scene.net.declared ≡ program.declared }
     requires rows { AreRows (unfolding_of program) scene.net scene.table.items }
     requires copies { AreCopies (unfolding_of program) scene.net scene.pending.items }
-    ensures { IfOk result (λ r. WritesDriven number (unfolding_of program)
-        (value_of_scene (unfolding_of program) scene) rounds (Accepted r)) }
+    ensures { IfOk result (λ a. WritesDriven number (unfolding_of program)
+        (value_of_scene (unfolding_of program) scene) rounds (Accepted (value_of a))) }
 {
     driven_logs_lead();
     mail_logs_end();
@@ -114,16 +114,16 @@ fn driven(
     let mut text = verdict_line(alloc, &Verdict::Yes(u64::from(rounds)))?;
     let book = replayed(alloc, start, log)?;
     show(alloc, &mut text, &book)?;
-    Ok(Reply::new(0, text))
+    Ok(Answer::plain(alloc, 0, text))
 }
 
 // What is written of a program and a scene.
-fn of_scene(alloc: Global, number: u32, program: Unfolded, scene: Scene) -> Result<Reply, Stop>
+fn of_scene(alloc: Global, number: u32, program: Unfolded, scene: Scene) -> Result<Answer, Stop>
     requires declared { scene.net.declared ≡ program.declared }
     requires rows { AreRows (unfolding_of program) scene.net scene.table.items }
     requires copies { AreCopies (unfolding_of program) scene.net scene.pending.items }
-    ensures writes { IfOk result (λ r. DrivesScene number (unfolding_of program)
-        (value_of_scene (unfolding_of program) scene) (Accepted r)) }
+    ensures writes { IfOk result (λ a. DrivesScene number (unfolding_of program)
+        (value_of_scene (unfolding_of program) scene) (Accepted (value_of a))) }
     ensures refused { IfErr result (StopsFor (λ cause. DrivesScene number (unfolding_of program)
         (value_of_scene (unfolding_of program) scene) (Refused cause))) }
 {
@@ -132,7 +132,7 @@ fn of_scene(alloc: Global, number: u32, program: Unfolded, scene: Scene) -> Resu
     let verdict = verdict(alloc, &program, devices)?;
     let Verdict::Yes(rounds) = verdict else {
         let text = verdict_line(alloc, &verdict)?;
-        return Ok(Reply::new(1, text));
+        return Ok(Answer::plain(alloc, 1, text));
     };
     let messages = messages(&scene.net, rounds);
     if messages > MOST_MESSAGES {
@@ -141,15 +141,15 @@ fn of_scene(alloc: Global, number: u32, program: Unfolded, scene: Scene) -> Resu
     Ok(driven(alloc, number, rounds as u32, program, scene)?)
 }
 
-/// What `mail --number` writes of the texts of a program and a scene, and its status.
-pub fn mail_number(
+/// What `mail --number` answers to the texts of a program and a scene.
+pub(crate) fn mail_number(
     alloc: Global,
     number: u32,
     program: &[u8],
     network: &[u8],
-) -> Result<Reply, Stop>
+) -> Result<Answer, Stop>
     requires { length program.now ≤ MOST_BYTES }
-    ensures writes { IfOk result (λ r. DrivesMail number program.now network.now (Accepted r)) }
+    ensures writes { IfOk result (λ a. DrivesMail number program.now network.now (Accepted (value_of a))) }
     ensures refused { IfErr result (StopsFor (λ cause. DrivesMail number program.now network.now (Refused cause))) }
 {
     let (program, scene) = read_input(alloc, program, network)?;

@@ -1,11 +1,11 @@
-//! What `mail` makes of a program, a scene and a mail log, or of a program, a scene and a number.
+//! `mail`: the values after a log of messages, or after the run that a number drives.
 #![tactic(auto)]
 
+mod commands;
 mod driven;
 mod laws;
 mod mails;
 mod shown;
 
-pub use driven::mail_number;
-pub use laws::{mails_keep_yes, one_mail, some_mail};
-pub use mails::mail;
+pub use commands::mail;
+pub use laws::mail_owes;

@@ -5,21 +5,20 @@ ghost use Rattle.fc_nodes.specs.Program.{unfolding_of};
 ghost use Rattle.message_links.specs.MailCores.{IsMailStart};
 ghost use Rattle.message_links.specs.MailEntries.{mail_entries};
 ghost use Rattle.net_json.specs.SceneCode.{AreCopies, AreRows, value_of_scene};
-ghost use Rattle.mail_lines.specs.MailLines.{IsMailLog, mail_log, mailed};
+ghost use Rattle.mail_lines.specs.MailLines.{IsMailLog, mail_log as lines_of_log, mailed};
 ghost use Rattle.mail_book.specs.MailViews.{mail_of, quiet};
 ghost use Rattle.fc_inputs.specs.Causes.{Accepted, Refused};
+ghost use Rattle.fc_inputs.specs.Code.{value_of};
 ghost use Rattle.fc_inputs.specs.Stops.{StopsFor};
 ghost use Rattle.fc_values.specs.declared.limits.TheConstants.{MOST_BYTES};
-ghost use Rattle.fc_replay.specs.Replays.{start_of};
+ghost use Rattle.fc_inputs.specs.Starts.{start_of};
 ghost use Rattle.fc_mail.specs.Code.{IsFaultyMail, IsMailed, IsStoppedMail, MailWithin, mail_stop};
 ghost use Rattle.fc_mail.specs.Mails.{Mails, mail_line_fault};
 
 use crate::shown::show;
-use fc_inputs::{LineFault, Reply, Stop, log_refusal, read_input};
+use fc_inputs::{Answer, LineFault, Stop, log_refusal, read_input, start, step_fault, stop_at};
 use fc_nodes::Unfolded;
-use fc_replay::start;
 use fc_values::Memory;
-use firing_core::StepFault;
 use mail_book::{Mail, MailBook, replay_mail};
 use mail_lines::{MailLineFault, MailLines, read_mail};
 use message_links::{MailFault, MailReplay};
@@ -47,10 +46,7 @@ fn line_fault(fault: MailFault) -> Option<LineFault>
     ensures { result ≡ mail_line_fault fault }
 {
     match fault {
-        MailFault::Step(StepFault::NoDevice) => Some(LineFault::Net(NetFault::NoDevice)),
-        MailFault::Step(StepFault::Flying) => Some(LineFault::Flying),
-        MailFault::Step(StepFault::NotFlying) => Some(LineFault::NotFlying),
-        MailFault::Step(StepFault::Memory) => None,
+        MailFault::Step(fault) => step_fault(fault),
         MailFault::NoLink => Some(LineFault::Net(NetFault::NoLink)),
         MailFault::Empty => Some(LineFault::Empty),
     }
@@ -63,10 +59,7 @@ fn stop(lines: &[u32], fault: MailReplay) -> Stop
 {
     match fault {
         MailReplay::Memory => Stop::Memory,
-        MailReplay::At { index, fault } => match line_fault(fault) {
-            Some(fault) => Stop::Refused(log_refusal(lines[index], fault)),
-            None => Stop::Memory,
-        },
+        MailReplay::At { index, fault } => stop_at(lines[index], line_fault(fault)),
     }
 }
 
@@ -75,7 +68,7 @@ fn read_lines(alloc: Global, log: &[u8]) -> Result<MailLines, Stop>
     requires { length log.now ≤ MOST_BYTES }
     ensures log { IfOk result (λ l. IsMailLog log.now (mailed l)) }
     ensures many { IfOk result (λ l. length l.lines.items ≡ length l.entries.items) }
-    ensures refused { IfErr result (StopsFor (IsFaultyMail (mail_log log.now))) }
+    ensures refused { IfErr result (StopsFor (IsFaultyMail (lines_of_log log.now))) }
 {
     match read_mail(alloc, log) {
         Ok(lines) => Ok(lines),
@@ -109,11 +102,16 @@ fn replayed(
     }
 }
 
-/// What `mail` writes of the texts of a program, a scene and a mail log.
-pub fn mail(alloc: Global, program: &[u8], network: &[u8], log: &[u8]) -> Result<Reply, Stop>
+/// What `mail` answers to the texts of a program, a scene and a mail log.
+pub(crate) fn mail_log(
+    alloc: Global,
+    program: &[u8],
+    network: &[u8],
+    log: &[u8],
+) -> Result<Answer, Stop>
     requires program { length program.now ≤ MOST_BYTES }
     requires log { length log.now ≤ MOST_BYTES }
-    ensures writes { IfOk result (λ r. Mails program.now network.now log.now (Accepted r)) }
+    ensures writes { IfOk result (λ a. Mails program.now network.now log.now (Accepted (value_of a))) }
     ensures refused { IfErr result (StopsFor (λ cause. Mails program.now network.now log.now (Refused cause))) }
 {
     let (program, scene) = read_input(alloc, program, network)?;
@@ -121,5 +119,5 @@ pub fn mail(alloc: Global, program: &[u8], network: &[u8], log: &[u8]) -> Result
     let book = replayed(alloc, program, scene, log)?;
     let mut text = Vec::new(alloc);
     show(alloc, &mut text, &book)?;
-    Ok(Reply::new(0, text))
+    Ok(Answer::plain(alloc, 0, text))
 }

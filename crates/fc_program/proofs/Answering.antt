@@ -17,10 +17,11 @@ use Rattle.command_words.specs.Commands.{limit_of}
 use Rattle.fc_inputs.specs.declared.refusal.Refusal.{Refusal}
 use Rattle.fc_inputs.specs.declared.refusal.Refusal.TheVariants as refusal
 use Rattle.fc_values.specs.declared.limits.TheConstants.{MOST_BYTES}
-use Rattle.fc_inputs.specs.Causes.{Plainly, Judged, Refused}
+use Rattle.fc_inputs.specs.Causes.{Plainly, Judged, Refused, answer_of}
+use Rattle.fc_inputs.specs.Answers.{AnswerValue}
 use Rattle.fc_program.specs.declared.ending.Outcome.{Outcome}
 use Rattle.fc_answers.specs.Asked.{limit_refusal}
-use Rattle.fc_answers.specs.Answers.{AnswerValue, Answered, Answers, AnswersWithin, OfInput, OfLength, Works, answer_of}
+use Rattle.fc_answers.specs.Answers.{Answered, Answers, AnswersWithin, OfInput, OfLength, Works}
 use Rattle.fc_answers.specs.Laws.{AnswerStatuses}
 use Rattle.fc_program.specs.Top.{IsExact, OfSource, within_bytes}
 

@@ -6,11 +6,12 @@ use Rattle.std.specs.Io.KnownBytes.{Appends, IsAtEnd, Keeps}
 use Rattle.command_words.specs.declared.commands.Command.{Command}
 use Rattle.fc_values.specs.declared.limits.TheConstants.{MOST_BYTES}
 use Rattle.fc_io.specs.Causes.{Rose}
-use Rattle.fc_replay.specs.Ledgers.{ledger_of}
 use Rattle.fc_program.specs.declared.ending.Outcome.{Outcome}
 use Rattle.fc_answers.specs.Asked.{reads_source}
-use Rattle.fc_answers.specs.Answers.{AnswerValue, Answers}
+use Rattle.fc_answers.specs.Answers.{Answers}
 use Rattle.fc_answers.specs.Headline.{IsKept}
+use Rattle.fc_inputs.specs.Ledgers.{ledger_of}
+use Rattle.fc_inputs.specs.Answers.{AnswerValue}
 
 -- an answer to an input, which is what the source has left where it tells that; what a yes in it promises is kept
 pub record IsAnswer (asked : Option Command) (left : Option (List ℕ)) (answer : AnswerValue) : Type 0 where

@@ -52,9 +52,9 @@ pub fn ended<W: Threads + Wait + Sync, S: Source, K: Sink, G: Gate + Sync>(
     ensures untouched { reads_source asked ≡ false → src.new ≡ src.old }
 {
     match answered(rt, alloc, asked, src, gate) {
-        Ok(answer) => match write_all(out, answer.reply.text()) {
+        Ok(answer) => match write_all(out, &answer.text) {
             Ok(()) => Outcome {
-                status: answer.reply.status(),
+                status: answer.status,
                 book: answer.book,
                 parts: answer.parts,
             },

@@ -6,16 +6,13 @@ ghost use Rattle.fc_io.specs.Causes.{Rose};
 ghost use Rattle.fc_program.specs.declared.judging.Failure.TheVariants as failure;
 ghost use Rattle.fc_answers.specs.Answers.{Answers, Works};
 ghost use Rattle.fc_answers.specs.Asked.{MayAsk, reads_source, takes_input};
-ghost use Rattle.fc_answers.specs.Code.{value_of};
 ghost use Rattle.fc_program.specs.Top.{IsAnswer, OfSource, within_bytes};
+ghost use Rattle.fc_inputs.specs.Code.{value_of};
 
 use command_words::{Command, Quiet, RunOptions, Threaded, Work};
 use export_table::Gate;
-use fc_answers::{
-    Answer, answer_gen, answer_quiet, answer_run, answer_statuses, answers_keep, past_limit,
-    refused,
-};
-use fc_inputs::Refusal;
+use fc_answers::{answer_gen, answer_quiet, answer_run, answer_statuses, answers_keep, past_limit};
+use fc_inputs::{Answer, Refusal, refuse};
 use fc_io::{ReadAll, Source, read_all};
 use fc_values::{MOST_BYTES, Memory};
 use session::Pool;
@@ -58,13 +55,13 @@ fn input<S: Source>(alloc: Global, src: &mut S) -> Result<Option<Vec<u8>>, Failu
 fn quiet_answer<S: Source>(alloc: Global, command: Quiet, src: &mut S) -> Result<Answer, Failure>
     ensures answers { IfOk result (λ a.
         OfSource (λ input. Answers (Some (Command.Quiet command)) input (value_of a)) (S.left src.old)) }
-    ensures end { IfOk result (λ a. a.reply.status ≢ 4 → IsAtEnd (S.left src.new)) }
+    ensures end { IfOk result (λ a. a.status ≢ 4 → IsAtEnd (S.left src.new)) }
     ensures fault { IsErrOf result Failure.Read → Rose (S.faults src.old) (S.faults src.new) }
     ensures quiet { (IsErrOf result Failure.Read → ⊥) → S.faults src.new ≡ S.faults src.old }
 {
     match input(alloc, src)? {
         Some(bytes) => Ok(answer_quiet(alloc, command, &bytes)?),
-        None => Ok(refused(alloc, Refusal::Bytes)?),
+        None => Ok(refuse(alloc, Refusal::Bytes)?),
     }
 }
 
@@ -77,13 +74,13 @@ fn run_answer<S: Source, W: Threads + Wait + Sync, G: Gate + Sync>(
 ) -> Result<Answer, Failure>
     ensures works { IfOk result (λ a.
         OfSource (λ input. Works (Work.Run options) input (value_of a)) (S.left src.old)) }
-    ensures end { IfOk result (λ a. a.reply.status ≢ 4 → IsAtEnd (S.left src.new)) }
+    ensures end { IfOk result (λ a. a.status ≢ 4 → IsAtEnd (S.left src.new)) }
     ensures fault { IsErrOf result Failure.Read → Rose (S.faults src.old) (S.faults src.new) }
     ensures quiet { (IsErrOf result Failure.Read → ⊥) → S.faults src.new ≡ S.faults src.old }
 {
     match input(alloc, src)? {
         Some(bytes) => Ok(answer_run(alloc, options, &bytes, pool)?),
-        None => Ok(refused(alloc, Refusal::Bytes)?),
+        None => Ok(refuse(alloc, Refusal::Bytes)?),
     }
 }
 
@@ -97,7 +94,7 @@ fn work_answer<S: Source, W: Threads + Wait + Sync, G: Gate + Sync>(
     requires may { IsWork work }
     requires within { work_limit work ≡ None }
     ensures works { IfOk result (λ a. OfSource (λ input. Works work input (value_of a)) (S.left src.old)) }
-    ensures end { takes_input work ≡ true → IfOk result (λ a. a.reply.status ≢ 4 → IsAtEnd (S.left src.new)) }
+    ensures end { takes_input work ≡ true → IfOk result (λ a. a.status ≢ 4 → IsAtEnd (S.left src.new)) }
     ensures untouched { takes_input work ≡ false → src.new ≡ src.old }
     ensures fault { IsErrOf result Failure.Read → Rose (S.faults src.old) (S.faults src.new) }
     ensures quiet { (IsErrOf result Failure.Read → ⊥) → S.faults src.new ≡ S.faults src.old }
@@ -120,13 +117,13 @@ fn threaded_answer<W: Threads + Wait + Sync, S: Source, G: Gate + Sync>(
     ensures answers { IfOk result (λ a.
         OfSource (λ input. Answers (Some (Command.Threaded command)) input (value_of a)) (S.left src.old)) }
     ensures end { reads_source (Some (Command.Threaded command)) ≡ true →
-        IfOk result (λ a. a.reply.status ≢ 4 → IsAtEnd (S.left src.new)) }
+        IfOk result (λ a. a.status ≢ 4 → IsAtEnd (S.left src.new)) }
     ensures untouched { reads_source (Some (Command.Threaded command)) ≡ false → src.new ≡ src.old }
     ensures fault { IsErrOf result Failure.Read → Rose (S.faults src.old) (S.faults src.new) }
     ensures quiet { (IsErrOf result Failure.Read → ⊥) → S.faults src.new ≡ S.faults src.old }
 {
     if let Some(refusal) = past_limit(command) {
-        return Ok(refused(alloc, refusal)?);
+        return Ok(refuse(alloc, refusal)?);
     }
     let pool = Pool::new(rt, gate, command.workers);
     work_answer(alloc, command.work, src, &pool)
@@ -142,15 +139,15 @@ fn made<W: Threads + Wait + Sync, S: Source, G: Gate + Sync>(
 ) -> Result<Answer, Failure>
     requires { MayAsk asked }
     ensures answers { IfOk result (λ a. OfSource (λ input. Answers asked input (value_of a)) (S.left src.old)) }
-    ensures outside { IfOk result (λ a. asked ≡ None → a.reply.status ≡ 2) }
-    ensures end { reads_source asked ≡ true → IfOk result (λ a. a.reply.status ≢ 4 → IsAtEnd (S.left src.new)) }
+    ensures outside { IfOk result (λ a. asked ≡ None → a.status ≡ 2) }
+    ensures end { reads_source asked ≡ true → IfOk result (λ a. a.status ≢ 4 → IsAtEnd (S.left src.new)) }
     ensures untouched { reads_source asked ≡ false → src.new ≡ src.old }
     ensures inside { IsErrOf result Failure.Read → asked ≢ None }
     ensures fault { IsErrOf result Failure.Read → Rose (S.faults src.old) (S.faults src.new) }
     ensures quiet { (IsErrOf result Failure.Read → ⊥) → S.faults src.new ≡ S.faults src.old }
 {
     match asked {
-        None => Ok(refused(alloc, Refusal::Usage)?),
+        None => Ok(refuse(alloc, Refusal::Usage)?),
         Some(Command::Quiet(command)) => quiet_answer(alloc, command, src),
         Some(Command::Threaded(command)) => threaded_answer(rt, alloc, command, src, gate),
     }
@@ -167,12 +164,12 @@ pub fn answered<W: Threads + Wait + Sync, S: Source, G: Gate + Sync>(
 ) -> Result<Answer, Failure>
     requires { MayAsk asked }
     ensures answers { IfOk result (λ a. IsAnswer asked (S.left src.old) (value_of a)) }
-    ensures usage { IfOk result (λ a. a.reply.status ≡ 2 → asked ≡ None) }
-    ensures outside { IfOk result (λ a. asked ≡ None → a.reply.status ≡ 2) }
-    ensures status { IfOk result (λ a. a.reply.status ≤ 4) }
-    ensures end { reads_source asked ≡ true → IfOk result (λ a. a.reply.status ≤ 1 → IsAtEnd (S.left src.new)) }
+    ensures usage { IfOk result (λ a. a.status ≡ 2 → asked ≡ None) }
+    ensures outside { IfOk result (λ a. asked ≡ None → a.status ≡ 2) }
+    ensures status { IfOk result (λ a. a.status ≤ 4) }
+    ensures end { reads_source asked ≡ true → IfOk result (λ a. a.status ≤ 1 → IsAtEnd (S.left src.new)) }
     ensures refused { reads_source asked ≡ true →
-        IfOk result (λ a. a.reply.status ≡ 3 → IsAtEnd (S.left src.new)) }
+        IfOk result (λ a. a.status ≡ 3 → IsAtEnd (S.left src.new)) }
     ensures untouched { reads_source asked ≡ false → src.new ≡ src.old }
     ensures inside { IsErrOf result Failure.Read → asked ≢ None }
     ensures fault { IsErrOf result Failure.Read → Rose (S.faults src.old) (S.faults src.new) }

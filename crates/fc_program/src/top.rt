@@ -2,8 +2,9 @@
 ghost use Rattle.std.specs.Prelude.{◌≡◌, ◌≢◌, ◌<◌, [], length, map, string_bytes, Some, false};
 ghost use Rattle.command_words.specs.Words.{command_of};
 ghost use Rattle.fc_answers.specs.Asked.{reads_source};
-ghost use Rattle.fc_answers.specs.Answers.{AnswerValue, Answers};
+ghost use Rattle.fc_answers.specs.Answers.{Answers};
 ghost use Rattle.fc_program.specs.Top.{CallEnds, IsExact, sink_at, source_at};
+ghost use Rattle.fc_inputs.specs.Answers.{AnswerValue};
 
 use crate::ending::{Outcome, ended, without_book};
 use command_words::{command, words_ask_for_commands};

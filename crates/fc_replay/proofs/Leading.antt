@@ -1,5 +1,5 @@
--- What is shown is a run.
-use Rattle.std.proofs.Common.{ℕ, ◌≡◌, List, [], ◌∷◌, refl, ap, sym, subst, Option, Some, None}
+-- What is shown is a run that leads from the scene.
+use Rattle.std.proofs.Common.{ℕ, ◌≡◌, List, [], ◌∷◌, sym, subst, Option, Some, None}
 use Rattle.fc_nodes.specs.Program.{Unfolding}
 use Rattle.firing_core.specs.Cores.{EditFits}
 use Rattle.firing_core.specs.Entries.{EditValue, LinkEdit, UnlinkEdit, SetEdit, PokeEdit, JoinEdit, LeaveEdit, EntryValue, BeginEntry, EndEntry, IdleEntry, EditEntry}
@@ -11,11 +11,13 @@ use Rattle.edit_commands.specs.LineByLine.{Lines, AllLines, StopsAt, AreSaid, Sa
 use Rattle.edit_commands.specs.LogEntries.{LogsHaveEntries}
 use Rattle.edit_commands.specs.Logs.{LogLine, log_of, IsEntry}
 use Rattle.fc_inputs.specs.declared.refusal.LineFault.{LineFault}
-use Rattle.fc_inputs.specs.Causes.{Judged, Accepted, Refused, AndThen}
+use Rattle.fc_inputs.specs.Causes.{Judged, Accepted}
 use Rattle.fc_inputs.specs.Inputs.{InputOf, ReadsInput}
 use Rattle.command_words.specs.declared.commands.ReplayOptions.{ReplayOptions}
-use Rattle.fc_replay.specs.Laws.{InputsStart, ReplaysLead, LogLeads}
-use Rattle.fc_replay.specs.Replays.{Replays, ReplaysEntries, ReplaysLog, ReplayShown, ShowsBook, start_of}
+use Rattle.fc_inputs.specs.Starts.{InputsStart, start_of}
+use Rattle.fc_inputs.specs.Answers.{AnswerValue}
+use Rattle.fc_replay.specs.Promises.{LogLeads}
+use Rattle.fc_replay.specs.Replays.{ReplaysEntries, ReplaysLog, ShowsBook}
 use Rattle.fc_replay.specs.Stopping.{Logged, entries_in, first_stop}
 
 -- ---- an entry fits where the same one does
@@ -48,11 +50,11 @@ same_log_fits U (e ∷ es) [] s h = absurd s
 same_log_fits U (e ∷ es) (f ∷ fs) s h = (same_entry_fits U e f s.0 h.0, same_log_fits U es fs s.1 h.1)
 
 -- ---- a replay that is shown
-one_shown : (a b : ReplayShown) (j : Judged ReplayShown) → j ≡ Accepted a → j ≡ Accepted b → a ≡ b
-one_shown a b j e f = cc
+one_answer : (a b : AnswerValue) → ◌≡◌ {A = Judged AnswerValue} (Accepted a) (Accepted b) → a ≡ b
+one_answer a b e = cc
 
 module _ (start : InputsStart) (readings : ReadingsAgree) (have : LogsHaveEntries) (agree : RunsAgree)
-    (options : ReplayOptions) (program network log : List ℕ) (shown : ReplayShown) where
+    (options : ReplayOptions) (program network log : List ℕ) (shown : AnswerValue) where
   by_book : (i : InputOf) → ReadsInput program network (Accepted i) → (ls : List (ℕ × LogLine))
       → log_of i.0 i.1.net log ≡ AllLines ls → (es : List Logged)
       → AreSaid (IsEntry i.0) ls es → ShowsBook options i.0 (start_of i.1) (entries_in es) (Accepted shown)
@@ -62,7 +64,6 @@ module _ (start : InputsStart) (readings : ReadingsAgree) (have : LogsHaveEntrie
       let said_here = subst (λ (l : Lines Fault LogLine). SaidBy (IsEntry i.0) es l) (sym lines) said in
       let same = (readings i.0 i.1.net log es some.entries said_here some.log).1 in
       let fits = same_log_fits i.0 (entries_in es) (entries_in some.entries) same some.fits in
-      let is = one_shown shown _ (Accepted shown) refl h.is in
       record {
         unfolded = i.0;
         scene = i.1;
@@ -71,8 +72,9 @@ module _ (start : InputsStart) (readings : ReadingsAgree) (have : LogsHaveEntrie
         said = said_here;
         last = h.core;
         leads = (agree i.0 (start_of i.1) h.core (entries_in es) (start program network i reads).good fits).1 h.leads;
-        is = ap (λ (s : ReplayShown). s.book) is;
-        says = rw is h.says;
+        text = h.text;
+        says = h.says;
+        is = one_answer shown _ h.is;
       }
 
   by_stop : (i : InputOf) → ReadsInput program network (Accepted i) → (ls : List (ℕ × LogLine))
@@ -82,22 +84,9 @@ module _ (start : InputsStart) (readings : ReadingsAgree) (have : LogsHaveEntrie
   by_stop i reads ls lines es said (Some stop) h = absurd cc
   by_stop i reads ls lines es said None h = by_book i reads ls lines es said h
 
-  by_lines : (i : InputOf) → ReadsInput program network (Accepted i) → (lines : Lines Fault LogLine)
+  pub led : (i : InputOf) → ReadsInput program network (Accepted i) → (lines : Lines Fault LogLine)
       → log_of i.0 i.1.net log ≡ lines → ReplaysLog options i.0 (start_of i.1) lines (Accepted shown)
       → LogLeads options program network log shown
-  by_lines i reads (StopsAt at fault) e h = absurd cc
-  by_lines i reads (AllLines ls) e h =
+  led i reads (StopsAt at fault) e h = absurd cc
+  led i reads (AllLines ls) e h =
       by_stop i reads ls e h.log h.are (first_stop i.0 (start_of i.1) h.log) h.ends
-
-  shows : Replays options program network log (Accepted shown) → LogLeads options program network log shown
-  shows h = by_input h.judged h.reads h.ends
-    where
-      by_input : (q : Judged InputOf) → ReadsInput program network q
-          → AndThen q (λ i k. ReplaysLog options i.0 (start_of i.1) (log_of i.0 i.1.net log) k) (Accepted shown)
-          → LogLeads options program network log shown
-      by_input (Refused cause) r e = absurd cc
-      by_input (Accepted i) r e = by_lines i r (log_of i.0 i.1.net log) refl e
-
-pub replays_lead : InputsStart → ReadingsAgree → LogsHaveEntries → RunsAgree → ReplaysLead
-replays_lead start readings have agree options program network log shown h =
-    shows start readings have agree options program network log shown h

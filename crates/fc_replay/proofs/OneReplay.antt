@@ -1,5 +1,5 @@
--- Texts are replayed to one thing.
-use Rattle.std.proofs.Common.{ℕ, ◌≡◌, ◌≤◌, List, ◌++◌, refl, ap, ◌∙◌, sym, subst, arith, Bool, true, false, Option, Some, None}
+-- A log is replayed to one thing.
+use Rattle.std.proofs.Common.{ℕ, ◌≡◌, ◌≤◌, List, [], ◌++◌, refl, ap, ◌∙◌, sym, subst, arith, Bool, true, false, Option, Some, None}
 use Rattle.fc_nodes.specs.Program.{Unfolding}
 use Rattle.topology.specs.Networks.{numbers}
 use Rattle.firing_core.specs.Cores.{Core}
@@ -13,12 +13,17 @@ use Rattle.edit_commands.specs.LineByLine.{Lines, AllLines, StopsAt, SaidBy}
 use Rattle.edit_commands.specs.Logs.{LogLine, log_of, IsEntry}
 use Rattle.edit_commands.specs.Agreement.{SameEntries, ReadingsAgree, StepsAgree, ReplaysAgree, PartsAgree}
 use Rattle.fc_inputs.specs.declared.refusal.LineFault.{LineFault}
-use Rattle.fc_inputs.specs.Causes.{Cause, Judged, Accepted, Refused, AndThen}
-use Rattle.fc_inputs.specs.Inputs.{InputOf, OneInput}
+use Rattle.fc_inputs.specs.Agreement.{Agree}
+use Rattle.fc_inputs.specs.Answers.{showing, AnswerValue}
+use Rattle.fc_inputs.specs.Causes.{Judged, Accepted}
+use Rattle.fc_inputs.specs.Inputs.{InputOf}
 use Rattle.command_words.specs.declared.commands.ReplayOptions.{ReplayOptions}
 use Rattle.fc_replay.specs.Stopping.{Logged, entries_in, first_stop}
-use Rattle.fc_replay.specs.Replays.{start_of, RoundsAsked, table_line, where_asked, ReplayShown, book_of, ShowsBook, ReplaysEntries, ReplaysLog, Replays}
-use Rattle.fc_replay.specs.Laws.{Alike}
+use Rattle.fc_replay.specs.Replays.{RoundsAsked, ShowsBook, ReplaysEntries, ReplaysLog}
+use Rattle.fc_inputs.proofs.Agreeing.{both_refused}
+use Rattle.fc_inputs.specs.Starts.{start_of}
+use Rattle.fc_inputs.specs.Tables.{table_line, where_asked}
+use Rattle.fc_inputs.specs.Ledgers.{book_of}
 use Rattle.fc_replay.proofs.Stops.{same_stop}
 
 not_more : (live live' : List ℕ) (es es' : List EntryValue) (n m : ℕ) → live ≡ live' → after_edit es ≡ after_edit es'
@@ -37,16 +42,13 @@ one_count false live live' es es' t u e f g h = g ∙ sym h
 one_count true live live' es es' t u e f g h = g.2
     ∙ ap rounds_text (one_greatest live live' es es' g.0 h.0 e f g.1 h.1) ∙ sym h.2
 
-both_refused : (j k : Judged ReplayShown) (cause : Cause) → j ≡ Refused cause → k ≡ Refused cause → Alike j k
-both_refused j k cause h g = subst (λ x. Alike x k) (sym h) (subst (Alike (Refused cause)) (sym g) refl)
-
 one_core : (a b : Core) → Some a ≡ Some b → a ≡ b
 one_core a b e = cc
 
 module _ (readings : ReadingsAgree) (steps : StepsAgree) (replays : ReplaysAgree) (parts : PartsAgree)
-    (input : OneInput) (options : ReplayOptions) where
-  one_book : (U : Unfolding) (start : Core) (es fs : List EntryValue) (j k : Judged ReplayShown) → SameEntries U es fs
-      → ShowsBook options U start es j → ShowsBook options U start fs k → Alike j k
+    (options : ReplayOptions) where
+  one_book : (U : Unfolding) (start : Core) (es fs : List EntryValue) (j k : Judged AnswerValue) → SameEntries U es fs
+      → ShowsBook options U start es j → ShowsBook options U start fs k → Agree false j k
   one_book U start es fs j k same h g =
       let one : h.core ≡ g.core = one_core h.core g.core (sym h.leads ∙ replays U es fs same start ∙ g.leads) in
       let rounds = one_count options.rounds (numbers h.core.net.devices) (numbers g.core.net.devices) es fs
@@ -58,38 +60,23 @@ module _ (readings : ReadingsAgree) (steps : StepsAgree) (replays : ReplaysAgree
       ∙ ap (λ (c : Core). (values_text c ++ h.says.rounds) ++ where_asked options.table (table_line U c)) one
       ∙ ap (λ l. table (values_text g.core ++ l)) rounds
       ∙ sym g.says.is in
-      subst (λ x. Alike x k) (sym h.is)
-      (subst (Alike (Accepted (record { text = h.text; book = book_of U start es h.core }))) (sym g.is)
-      (record { text = text; program = refl; start = refl; log = same; core = one }))
+      subst (λ x. Agree false x k) (sym h.is)
+      (subst (Agree false (Accepted (showing h.text (book_of U start es h.core) []))) (sym g.is)
+      (record { status = refl; books = record { program = refl; start = refl; end = (same, one) }; text = text }))
 
-  one_ending : (U : Unfolding) (start : Core) (a b : List Logged) (o : Option (ℕ × LineFault)) (j k : Judged ReplayShown)
+  one_ending : (U : Unfolding) (start : Core) (a b : List Logged) (o : Option (ℕ × LineFault)) (j k : Judged AnswerValue)
       → SameEntries U (entries_in a) (entries_in b) → ReplaysEntries options U start a o j
-      → ReplaysEntries options U start b o k → Alike j k
-  one_ending U start a b (Some stop) j k same h g = both_refused j k _ h g
+      → ReplaysEntries options U start b o k → Agree false j k
+  one_ending U start a b (Some stop) j k same h g = both_refused false j k _ h g
   one_ending U start a b None j k same h g = one_book U start (entries_in a) (entries_in b) j k same h g
 
-  one_log : (i : InputOf) (log : List ℕ) (lines : Lines Fault LogLine) (j k : Judged ReplayShown)
+  pub one_log : (i : InputOf) (log : List ℕ) (lines : Lines Fault LogLine) (j k : Judged AnswerValue)
       → lines ≡ log_of i.0 i.1.net log → ReplaysLog options i.0 (start_of i.1) lines j
-      → ReplaysLog options i.0 (start_of i.1) lines k → Alike j k
-  one_log i log (StopsAt at fault) j k is h g = both_refused j k _ h g
+      → ReplaysLog options i.0 (start_of i.1) lines k → Agree false j k
+  one_log i log (StopsAt at fault) j k is h g = both_refused false j k _ h g
   one_log i log (AllLines ls) j k is h g =
       let both = readings i.0 i.1.net log h.log g.log (subst (SaidBy (IsEntry i.0) h.log) is h.are)
       (subst (SaidBy (IsEntry i.0) g.log) is g.are) in
       one_ending i.0 (start_of i.1) h.log g.log (first_stop i.0 (start_of i.1) g.log) j k both.1
       (subst (λ o. ReplaysEntries options i.0 (start_of i.1) h.log o j)
       (same_stop steps i.0 (start_of i.1) h.log g.log both.0 both.1) h.ends) g.ends
-
-  one_end : (log : List ℕ) (i : Judged InputOf) (j k : Judged ReplayShown)
-      → AndThen i (λ i k. ReplaysLog options i.0 (start_of i.1) (log_of i.0 i.1.net log) k) j
-      → AndThen i (λ i k. ReplaysLog options i.0 (start_of i.1) (log_of i.0 i.1.net log) k) k → Alike j k
-  one_end log (Accepted i) j k h g = one_log i log (log_of i.0 i.1.net log) j k refl h g
-  one_end log (Refused cause) j k h g = both_refused j k cause h g
-
-  pub one_replay : (program network log : List ℕ) (j k : Judged ReplayShown) → Replays options program network log j
-      → Replays options program network log k → Alike j k
-  one_replay program network log j k h g =
-      let one = input program network h.reads.short in
-      let same : h.judged ≡ g.judged = one.2 h.judged h.reads ∙ sym (one.2 g.judged g.reads) in
-      one_end log g.judged j k
-      (subst (λ i. AndThen i (λ i k. ReplaysLog options i.0 (start_of i.1) (log_of i.0 i.1.net log) k) j) same h.ends)
-      g.ends

@@ -18,15 +18,19 @@ use Rattle.edit_commands.specs.LineByLine.{Lines, AllLines, StopsAt, SaidBy}
 use Rattle.edit_commands.specs.Logs.{LogLine, IsEntry, RefusesLog, log_of}
 use Rattle.fc_inputs.specs.declared.refusal.LineFault.{LineFault}
 use Rattle.fc_inputs.specs.declared.refusal.LineFault.TheVariants.{Net}
+use Rattle.fc_inputs.specs.Answers.{showing, AnswerValue}
 use Rattle.fc_inputs.specs.Causes.{Cause, Plainly, Judged, Accepted, Refused}
 use Rattle.fc_inputs.specs.Refusals.{log_refusal}
 use Rattle.fc_inputs.specs.Inputs.{ReadsInput}
-use Rattle.fc_inputs.specs.Stops.{StopsFor}
+use Rattle.fc_inputs.specs.Stops.{StopsFor, stop_at}
+use Rattle.fc_inputs.specs.Ledgers.{Ledger, ledger_of, book_of}
+use Rattle.fc_inputs.specs.LineFaults.{fault_in, step_fault}
+use Rattle.fc_inputs.specs.Starts.{start_of}
+use Rattle.fc_inputs.specs.Tables.{table_line, where_asked}
 use Rattle.command_words.specs.declared.commands.ReplayOptions.{ReplayOptions}
-use Rattle.fc_replay.specs.Ledgers.{Ledger, ledger_of}
-use Rattle.fc_replay.specs.Stopping.{Logged, entries_in, fault_in, step_fault, first_stop}
-use Rattle.fc_replay.specs.Replays.{start_of, RoundsAsked, IsText, table_line, where_asked, ReplayShown, book_of, ShowsBook, ReplaysEntries, ReplaysLog, Replays}
-use Rattle.fc_replay.specs.Code.{stop_at, stop_of, IsFaultOfLog, fault_stop, IsFaulty, IsStopped, IsReplayed, shown_of}
+use Rattle.fc_replay.specs.Stopping.{Logged, entries_in, first_stop}
+use Rattle.fc_replay.specs.Replays.{RoundsAsked, IsText, ShowsBook, ReplaysEntries, ReplaysLog, Replays}
+use Rattle.fc_replay.specs.Code.{stop_of, IsFaultOfLog, fault_stop, IsFaulty, IsStopped, IsReplayed}
 use Rattle.fc_replay.proofs.Entries.{HasRead}
 use Rattle.fc_replay.proofs.Stops.{RunsAreReplays, step_stops, edit_stops, never_stops}
 
@@ -106,7 +110,7 @@ is_faulty U n text script.Memory h = tt
 -- ---- the texts
 module _ (options : ReplayOptions) (program network log : List ℕ) (U : Unfolding) (s : SceneValue)
     (reads : ReadsInput program network (Accepted (U, s))) where
-  ended : (j : Judged ReplayShown) → ReplaysLog options U (start_of s) (log_of U s.net log) j
+  ended : (j : Judged AnswerValue) → ReplaysLog options U (start_of s) (log_of U s.net log) j
       → Replays options program network log j
   ended j h = record { judged = Accepted (U, s); reads = reads; ends = h }
 
@@ -134,16 +138,16 @@ module _ (options : ReplayOptions) (program network log : List ℕ) (U : Unfoldi
 
   shows : (es : List Logged) (text : List ℕ) (book : Ledger) (ls : Lines Fault LogLine) → SaidBy (IsEntry U) es ls
       → IsReplayed U (start_of s) es book → IsText options book text
-      → ReplaysLog options U (start_of s) ls (Accepted (record { text = text; book = book }))
+      → ReplaysLog options U (start_of s) ls (Accepted (showing text book []))
   shows es text book (StopsAt at fault) are h says = absurd are
   shows es text book (AllLines lines) are h says =
-      let j : Judged ReplayShown = Accepted (record { text = text; book = book }) in
+      let j : Judged AnswerValue = Accepted (showing text book []) in
       let there : ShowsBook options U (start_of s) (entries_in es) j = record {
         core = book.core;
         leads = h.leads;
         text = text;
         says = subst (λ b. IsText options b text) h.is says;
-        is = ap (λ b. Accepted (shown text b)) h.is;
+        is = ap (λ b. Accepted (showing text b [])) h.is;
       } in
       record {
         log = es;
@@ -151,17 +155,10 @@ module _ (options : ReplayOptions) (program network log : List ℕ) (U : Unfoldi
         ends = subst (λ o. ReplaysEntries options U (start_of s) es o j)
             (sym (never_stops U (start_of s) book.core es h.leads)) there;
       }
-    where
-      shown : List ℕ → Ledger → ReplayShown
-      shown t b = record { text = t; book = b }
 
   pub replay_shown : (es : List Logged) (text : List ℕ) (book : BookValue)
       → SaidBy (IsEntry U) es (log_of U s.net log) → IsReplayed U (start_of s) es (ledger_of book)
       → IsText options (ledger_of book) text
-      → Replays options program network log (Accepted (shown_of text book))
-  replay_shown es text book are h says = ended (Accepted (shown_of text book))
+      → Replays options program network log (Accepted (showing text (ledger_of book) []))
+  replay_shown es text book are h says = ended (Accepted (showing text (ledger_of book) []))
       (shows es text (ledger_of book) (log_of U s.net log) are h says)
-
-pub replay_unread : (options : ReplayOptions) (program network log : List ℕ) (cause : Cause)
-    → ReadsInput program network (Refused cause) → Replays options program network log (Refused cause)
-replay_unread options program network log cause h = record { judged = Refused cause; reads = h; ends = refl }

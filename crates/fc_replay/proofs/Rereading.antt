@@ -1,5 +1,5 @@
 -- A log that was written is replayed to the core to which it led.
-use Rattle.std.proofs.Common.{ℕ, ◌≡◌, List, refl, ◌∙◌, sym, subst, Option, Some}
+use Rattle.std.proofs.Common.{ℕ, ◌≡◌, List, [], refl, ap, ◌∙◌, sym, subst, Option, Some}
 use Rattle.fc_nodes.specs.Program.{Unfolding}
 use Rattle.firing_core.specs.Cores.{Core, IsGood, Run}
 use Rattle.firing_core.specs.Entries.{EntryValue}
@@ -8,11 +8,13 @@ use Rattle.edit_commands.specs.LineByLine.{Lines, AllLines, StopsAt, SaidBy, Whe
 use Rattle.edit_commands.specs.Logs.{LogLine, IsEntry, log_of}
 use Rattle.log_texts.specs.ReadingBack.{log_lines, numbered_from, AreNamed, ReadsBack, StandFor, LogsReadBack}
 use Rattle.fc_inputs.specs.declared.refusal.LineFault.{LineFault}
+use Rattle.fc_inputs.specs.Answers.{showing, AnswerValue}
 use Rattle.fc_inputs.specs.Causes.{Judged, Accepted, AndThen}
+use Rattle.fc_inputs.specs.Ledgers.{book_of}
 use Rattle.fc_inputs.specs.Inputs.{OneInput, TextsNameInputs, TextsUnfold}
+use Rattle.fc_inputs.specs.Starts.{InputsStart, start_of}
 use Rattle.command_words.specs.declared.commands.ReplayOptions.{ReplayOptions}
-use Rattle.fc_replay.specs.Laws.{InputsStart}
-use Rattle.fc_replay.specs.Replays.{ReplayShown, ShowsBook, ReplaysEntries, ReplaysLog, start_of}
+use Rattle.fc_replay.specs.Replays.{IsText, ShowsBook, ReplaysEntries, ReplaysLog}
 use Rattle.fc_replay.specs.Stopping.{Logged, entries_in, first_stop}
 use Rattle.fc_replay.specs.WrittenLogs.{ShowsLog, WrittenLogsReplay}
 use Rattle.fc_replay.proofs.Stops.{never_stops}
@@ -20,7 +22,7 @@ use Rattle.fc_replay.proofs.Stops.{never_stops}
 one_core : (a b : Core) → Some a ≡ Some b → a ≡ b
 one_core a b e = cc
 
-module _ (options : ReplayOptions) (U : Unfolding) (start last : Core) (log : List EntryValue) (j : Judged ReplayShown) where
+module _ (options : ReplayOptions) (U : Unfolding) (start last : Core) (log : List EntryValue) (j : Judged AnswerValue) where
   abbrev Shows : Type 0
   Shows = WhereAccepted (ShowsLog options U start log last) j
 
@@ -31,12 +33,15 @@ module _ (options : ReplayOptions) (U : Unfolding) (start last : Core) (log : Li
       subst (λ (o : Option (ℕ × LineFault)). ReplaysEntries options U start es o j)
       (never_stops U start last es s.leads) h in
       subst (WhereAccepted (ShowsLog options U start log last)) (sym b.is) (record {
-        program = refl;
-        begins = refl;
+        entries = entries_in es;
         same = s.same;
-        core = one_core b.core last (sym b.leads ∙ s.leads);
-        says = b.says;
+        text = b.text;
+        says = subst (λ (c : Core). IsText options (book_of U start (entries_in es) c) b.text) (there b) b.says;
+        is = ap (λ (c : Core). showing b.text (book_of U start (entries_in es) c) []) (there b);
       })
+    where
+      there : (b : ShowsBook options U start (entries_in es) j) → b.core ≡ last
+      there b = one_core b.core last (sym b.leads ∙ s.leads)
 
   abbrev written : List ℕ
   written = log_lines U.declared.inputs log

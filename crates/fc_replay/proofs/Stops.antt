@@ -9,7 +9,8 @@ use Rattle.firing_core.specs.Replays.{fault_of, net_fault_of, unless, step_of, s
 use Rattle.edit_commands.specs.Agreement.{SameEntries, StepsAgree, number_in}
 use Rattle.fc_inputs.specs.declared.refusal.LineFault.{LineFault}
 use Rattle.fc_inputs.specs.declared.refusal.LineFault.TheVariants.{Net}
-use Rattle.fc_replay.specs.Stopping.{Logged, entries_in, step_fault, no_step, stop_here, stop_later, first_stop}
+use Rattle.fc_inputs.specs.LineFaults.{step_fault}
+use Rattle.fc_replay.specs.Stopping.{Logged, entries_in, no_step, stop_here, stop_later, first_stop}
 
 -- an entry that has a step has no fault
 pub record HasStep (U : Unfolding) (c : Core) (e : EntryValue) (next : Core) : Type 0 where

@@ -1,9 +1,8 @@
 -- What the code of `replay` has on the way.
-use Rattle.std.specs.Prelude.{ℕ, ◌≡◌, ◌<◌, slice_index, List, Option, Some, None}
+use Rattle.std.specs.Prelude.{ℕ, ◌≡◌, ◌<◌, slice_index, List, Some}
 use Rattle.fc_nodes.specs.Program.{Unfolding}
 use Rattle.firing_core.specs.declared.entries.ReplayFault.{ReplayFault}
 use Rattle.firing_core.specs.declared.entries.ReplayFault.TheVariants as replay_fault
-use Rattle.firing_core.specs.Books.{BookValue}
 use Rattle.firing_core.specs.Cores.{Core}
 use Rattle.firing_core.specs.Replays.{replay}
 use Rattle.edit_commands.specs.declared.types.Fault.{Fault}
@@ -17,14 +16,10 @@ use Rattle.fc_inputs.specs.declared.stop.Stop.{Stop}
 use Rattle.fc_inputs.specs.declared.stop.Stop.TheVariants as stop
 use Rattle.fc_inputs.specs.Causes.{Cause, Plainly}
 use Rattle.fc_inputs.specs.Refusals.{log_refusal}
-use Rattle.fc_replay.specs.Ledgers.{Ledger, ledger_of}
-use Rattle.fc_replay.specs.Stopping.{Logged, entries_in, fault_in, step_fault, first_stop}
-use Rattle.fc_replay.specs.Replays.{ReplayShown, book_of}
-
--- the stop at a line, for want of memory where there is no reason
-abbrev pub stop_at : ℕ → Option LineFault → Stop
-stop_at line (Some fault) = stop.Refused (log_refusal line fault)
-stop_at line None = stop.Memory
+use Rattle.fc_inputs.specs.Ledgers.{Ledger, book_of}
+use Rattle.fc_inputs.specs.LineFaults.{fault_in, step_fault}
+use Rattle.fc_inputs.specs.Stops.{stop_at}
+use Rattle.fc_replay.specs.Stopping.{Logged, entries_in, first_stop}
 
 -- the stop of a log that isn't replayed, from the numbers of its lines
 abbrev pub stop_of : List ℕ → ReplayFault → Stop
@@ -69,7 +64,3 @@ pub record IsStopped (U : Unfolding) (start : Core) (log : List Logged) (cause :
 pub record IsReplayed (U : Unfolding) (start : Core) (log : List Logged) (book : Ledger) : Type 0 where
   pub leads : replay U start (entries_in log) ≡ Some book.core
   pub is : book ≡ book_of U start (entries_in log) book.core
-
--- what a replay gives in code
-abbrev pub shown_of : List ℕ → BookValue → ReplayShown
-shown_of text book = record { text = text; book = ledger_of book }

@@ -2,16 +2,13 @@
 use Rattle.std.specs.Prelude.{ℕ, List, [], ◌∷◌, map, Option, Some, None}
 use Rattle.fc_nodes.specs.Program.{Unfolding}
 use Rattle.topology.specs.declared.types.NetFault.{NetFault}
-use Rattle.topology.specs.declared.types.NetFault.TheVariants as net
 use Rattle.firing_core.specs.declared.entries.StepFault.{StepFault}
-use Rattle.firing_core.specs.declared.entries.StepFault.TheVariants as step
 use Rattle.firing_core.specs.Cores.{Core}
 use Rattle.firing_core.specs.Entries.{EntryValue}
 use Rattle.firing_core.specs.Replays.{fault_of, net_fault_of, step_of}
-use Rattle.edit_commands.specs.declared.types.Fault.{Fault}
-use Rattle.edit_commands.specs.declared.types.Fault.TheVariants as line
 use Rattle.fc_inputs.specs.declared.refusal.LineFault.{LineFault}
-use Rattle.fc_inputs.specs.declared.refusal.LineFault.TheVariants.{Form, Net, Kept, Flying, NotFlying}
+use Rattle.fc_inputs.specs.declared.refusal.LineFault.TheVariants.{Net}
+use Rattle.fc_inputs.specs.LineFaults.{step_fault}
 
 -- an entry of a log, with the number of its line
 abbrev pub Logged : Type 0
@@ -19,19 +16,6 @@ Logged = ℕ × EntryValue
 
 abbrev pub entries_in : List Logged → List EntryValue
 entries_in log = map (λ (e : Logged). e.1) log
-
--- a fault that is found in a line, as refusals name it
-abbrev pub fault_in : Fault → LineFault
-fault_in line.Form = Form
-fault_in (line.Net fault) = Net fault
-fault_in line.Kept = Kept
-
--- why a begin or an end has no step. Want of memory is no reason
-abbrev pub step_fault : StepFault → Option LineFault
-step_fault step.NoDevice = Some (Net net.NoDevice)
-step_fault step.Flying = Some Flying
-step_fault step.NotFlying = Some NotFlying
-step_fault step.Memory = None
 
 -- why an entry has no step from a core
 abbrev pub no_step : Option StepFault → Option NetFault → Option LineFault

@@ -6,48 +6,14 @@ ghost use Rattle.firing_core.specs.Replays.{LogFits};
 ghost use Rattle.edit_commands.specs.Logs.{IsLog, log_of, logged};
 ghost use Rattle.fc_inputs.specs.Stops.{StopsFor};
 ghost use Rattle.fc_values.specs.declared.limits.TheConstants.{MOST_BYTES};
-ghost use Rattle.fc_replay.specs.Code.{IsFaultOfLog, IsFaulty, StopsWithin, fault_stop, stop_at, stop_of};
-ghost use Rattle.fc_replay.specs.Stopping.{fault_in, step_fault};
+ghost use Rattle.fc_replay.specs.Code.{IsFaultOfLog, IsFaulty, StopsWithin, fault_stop, stop_of};
 
-use edit_commands::{Fault, Log, ScriptFault, read_log};
-use fc_inputs::{LineFault, Refusal, Stop, log_refusal};
+use edit_commands::{Log, ScriptFault, read_log};
+use fc_inputs::{LineFault, Stop, fault_in, log_refusal, step_fault, stop_at};
 use fc_nodes::Unfolded;
-use firing_core::{ReplayFault, StepFault};
+use firing_core::ReplayFault;
 use std::alloc::Global;
-use topology::{NetFault, Network};
-
-/// A fault of a line, as refusals name it.
-pub fn fault_in(fault: Fault) -> LineFault
-    ensures { result ≡ fault_in fault }
-{
-    match fault {
-        Fault::Form => LineFault::Form,
-        Fault::Net(fault) => LineFault::Net(fault),
-        Fault::Kept => LineFault::Kept,
-    }
-}
-
-// Why a begin or an end has no step, but for want of memory.
-fn step_fault(fault: StepFault) -> Option<LineFault>
-    ensures { result ≡ step_fault fault }
-{
-    match fault {
-        StepFault::NoDevice => Some(LineFault::Net(NetFault::NoDevice)),
-        StepFault::Flying => Some(LineFault::Flying),
-        StepFault::NotFlying => Some(LineFault::NotFlying),
-        StepFault::Memory => None,
-    }
-}
-
-// The stop at a line.
-fn stop_at(line: u32, fault: Option<LineFault>) -> Stop
-    ensures { result ≡ stop_at line fault }
-{
-    match fault {
-        Some(fault) => Stop::Refused(log_refusal(line, fault)),
-        None => Stop::Memory,
-    }
-}
+use topology::Network;
 
 /// The stop of a log that isn't replayed, from the numbers of its lines.
 pub fn stop(lines: &[u32], fault: ReplayFault) -> Stop

@@ -1,45 +1,31 @@
-//! What `replay` makes of a program, a scene and a log.
-ghost use Rattle.std.specs.Prelude.{◌≡◌, ◌≤◌, IfErr, IfOk, length};
+//! What `replay` answers.
+ghost use Rattle.std.specs.Prelude.{◌≡◌, ◌≤◌, IfErr, IfOk, length, map};
 ghost use Rattle.fc_nodes.specs.Program.{unfolding_of};
 ghost use Rattle.firing_core.specs.CoreViews.{core_of};
-ghost use Rattle.firing_core.specs.Cores.{IsGood};
 ghost use Rattle.firing_core.specs.Entries.{entries_of};
 ghost use Rattle.firing_core.specs.Replays.{LogFits};
 ghost use Rattle.net_json.specs.SceneCode.{AreCopies, AreRows, value_of_scene};
 ghost use Rattle.edit_commands.specs.Logs.{logged};
 ghost use Rattle.fc_inputs.specs.Causes.{Accepted, Refused};
+ghost use Rattle.fc_inputs.specs.Code.{value_of};
+ghost use Rattle.fc_inputs.specs.Sections.{AreWithin, WithThree};
 ghost use Rattle.fc_inputs.specs.Stops.{StopsFor};
+ghost use Rattle.fc_inputs.specs.Ledgers.{ledger_of};
+ghost use Rattle.fc_inputs.specs.Starts.{start_of};
 ghost use Rattle.fc_values.specs.declared.limits.TheConstants.{MOST_BYTES};
-ghost use Rattle.fc_replay.specs.Code.{IsReplayed, IsStopped, shown_of};
-ghost use Rattle.fc_replay.specs.Ledgers.{ledger_of};
-ghost use Rattle.fc_replay.specs.Replays.{Replays, start_of};
+ghost use Rattle.fc_replay.specs.Code.{IsReplayed, IsStopped};
+ghost use Rattle.fc_replay.specs.Replays.{Replays};
 
 use crate::logs::{read_entries, stop};
 use crate::texts::shown;
 use command_words::ReplayOptions;
 use edit_commands::Log;
-use fc_inputs::{Stop, read_input};
+use fc_inputs::{Answer, Stop, read_input, start, three_sections};
 use fc_nodes::Unfolded;
-use fc_values::Memory;
-use firing_core::{Book, Core, replay as replay_log, steps_agree};
+use firing_core::{Book, replay as replay_log, steps_agree};
 use net_json::Scene;
 use std::alloc::Global;
 use std::sync::Arc;
-
-/// The core that a scene starts from.
-pub fn start(alloc: Global, program: &Arc<Unfolded>, scene: Scene) -> Result<Core, Memory>
-    requires declared { scene.net.declared ≡ program.now.value.declared }
-    requires rows { AreRows (unfolding_of program.now.value) scene.net scene.table.items }
-    requires copies { AreCopies (unfolding_of program.now.value) scene.net scene.pending.items }
-    ensures program { IfOk result (λ c. c.program ≡ program.now.value) }
-    ensures core { IfOk result (λ c. core_of c ≡ start_of (value_of_scene (unfolding_of program.now.value) scene)) }
-    ensures good { IfOk result (λ c. IsGood (unfolding_of program.now.value) (core_of c)) }
-{
-    let start = Core::new(alloc, program, scene.net, scene.table, scene.pending)?;
-    // Its clause `good`.
-    let _net = start.net();
-    Ok(start)
-}
 
 // The book of a program, a scene and the entries of a log.
 fn replayed(alloc: Global, program: Unfolded, scene: Scene, log: Log) -> Result<Book, Stop>
@@ -63,18 +49,17 @@ fn replayed(alloc: Global, program: Unfolded, scene: Scene, log: Log) -> Result<
     }
 }
 
-/// The text that `replay` writes of its three texts, and the book that it shows.
-pub fn replay(
+// The text that is written of a program, a scene and a log, with the book that it shows.
+fn of_texts(
     alloc: Global,
     options: ReplayOptions,
     program: &[u8],
     network: &[u8],
     log: &[u8],
-) -> Result<(Vec<u8>, Book), Stop>
+) -> Result<Answer, Stop>
     requires program { length program.now ≤ MOST_BYTES }
     requires log { length log.now ≤ MOST_BYTES }
-    ensures shown { IfOk result (λ r.
-        Replays options program.now network.now log.now (Accepted (shown_of r.0.items r.1))) }
+    ensures shown { IfOk result (λ a. Replays options program.now network.now log.now (Accepted (value_of a))) }
     ensures refused { IfErr result (StopsFor (λ cause.
         Replays options program.now network.now log.now (Refused cause))) }
 {
@@ -82,5 +67,17 @@ pub fn replay(
     let log = read_entries(alloc, &program, &scene.net, log)?;
     let book = replayed(alloc, program, scene, log)?;
     let text = shown(alloc, options, &book)?;
-    Ok((text, book))
+    let parts = Vec::new(alloc);
+    Ok(Answer::showing(text, book, parts))
+}
+
+/// The answer of `replay` to the sections of an input.
+pub fn replay(alloc: Global, options: ReplayOptions, sections: &[&[u8]]) -> Result<Answer, Stop>
+    requires { AreWithin MOST_BYTES (map (λ s. s.now) sections.now) }
+    ensures shown { IfOk result (λ a. WithThree (Replays options) (map (λ s. s.now) sections.now) (Accepted (value_of a))) }
+    ensures refused { IfErr result (StopsFor (λ cause.
+        WithThree (Replays options) (map (λ s. s.now) sections.now) (Refused cause))) }
+{
+    let (program, network, log) = three_sections(sections)?;
+    of_texts(alloc, options, program, network, log)
 }

@@ -1,20 +1,17 @@
 //! The text of a book: the values of its core, and what is asked for beside them.
 ghost use Rattle.std.specs.Prelude.{◌≡◌, ◌<◌, length, map, IfOk, true};
-ghost use Rattle.std.specs.List.{All};
 ghost use Rattle.fc_values.specs.Fields.{Rises};
-ghost use Rattle.value_trees.specs.Snaps.{IsExportOf};
 ghost use Rattle.topology.specs.Networks.{numbers};
-ghost use Rattle.firing_core.specs.CoreViews.{core_of, program_of};
+ghost use Rattle.firing_core.specs.CoreViews.{core_of};
 ghost use Rattle.firing_core.specs.Entries.{entries_of};
-ghost use Rattle.net_json.specs.SceneCode.{borrowed_row};
 ghost use Rattle.round_count.specs.Laws.{IsGreatest};
-ghost use Rattle.fc_replay.specs.Ledgers.{ledger_of};
-ghost use Rattle.fc_replay.specs.Replays.{IsText, RoundsAsked, rows_of, table_line, where_asked};
+ghost use Rattle.fc_inputs.specs.Ledgers.{ledger_of};
+ghost use Rattle.fc_replay.specs.Replays.{IsText, RoundsAsked};
 
 use command_words::ReplayOptions;
-use fc_values::{Export, Memory};
+use fc_inputs::table_text;
+use fc_values::Memory;
 use firing_core::{Book, Core};
-use net_json::write_table;
 use report::{rounds_line, values};
 use round_count::rounds;
 use std::alloc::Global;
@@ -46,22 +43,6 @@ fn rounds_of(alloc: Global, book: &Book) -> Result<u64, Memory>
     Ok(rounds(&live, book.log(), &mut marks))
 }
 
-// The devices of a core that have an export, with it.
-fn table(alloc: Global, core: &Core) -> Result<Vec<(u32, &Export)>, Memory>
-    ensures rows { IfOk result (λ v. map (borrowed_row (program_of core.now)) v.items
-        ≡ rows_of (core_of core.now) (core_of core.now).net.devices) }
-    ensures rising { IfOk result (λ v. Rises (map (λ r. r.0) v.items)) }
-    ensures exports { IfOk result (λ v. All (λ r. IsExportOf (program_of core.now) r.1.now) v.items) }
-{
-    let mut rows = Vec::new(alloc);
-    for device in core.net().devices() {
-        if let Some(export) = core.export(device.id) {
-            rows.push((device.id, export))?;
-        }
-    }
-    Ok(rows)
-}
-
 // The line of a book's number of rounds.
 fn rounds_text(alloc: Global, book: &Book) -> Result<Vec<u8>, Memory>
     ensures { IfOk result (λ v.
@@ -84,19 +65,6 @@ fn rounds_asked(alloc: Global, asked: bool, book: &Book) -> Result<Vec<u8>, Memo
     } else {
         Ok(Vec::new(alloc))
     }
-}
-
-/// The line of a core's table, where it is asked for.
-pub fn table_text(alloc: Global, asked: bool, core: &Core) -> Result<Vec<u8>, Memory>
-    ensures { IfOk result (λ v. v.items ≡ where_asked asked (table_line (program_of core.now) (core_of core.now))) }
-{
-    if !asked {
-        return Ok(Vec::new(alloc));
-    }
-    let rows = table(alloc, core)?;
-    let mut line = write_table(alloc, core.program(), &rows)?;
-    line.push(b'\n')?;
-    Ok(line)
 }
 
 /// The text of a book.

@@ -1,26 +1,26 @@
 -- What is run keeps a yes.
-use Rattle.std.proofs.Common.{ℕ, ◌≡◌, List, ◌++◌, refl, sym, subst}
+use Rattle.std.proofs.Common.{ℕ, ◌≡◌, List, ◌++◌, sym, subst}
 use Rattle.fc_nodes.specs.Program.{Unfolding}
 use Rattle.firing_core.specs.Cores.{IsGood}
 use Rattle.edit_commands.specs.LineByLine.{AllLines, StopsAt}
 use Rattle.edit_commands.specs.Scripts.{CommandValue, Script, TooManyLines, Within, IsScript, SaidByScript, script_of}
 use Rattle.session.specs.Promises.{KeepsYes, ScriptsKeepYes}
 use Rattle.session.specs.ScriptRuns.{ScriptRun}
-use Rattle.fc_inputs.specs.Causes.{Judged, Accepted, Refused, AndThen}
-use Rattle.fc_inputs.specs.Inputs.{InputOf, ReadsInput, TextsUnfold}
-use Rattle.fc_replay.specs.Laws.{InputsStart}
-use Rattle.fc_replay.specs.Replays.{start_of}
+use Rattle.fc_inputs.specs.Causes.{Accepted}
+use Rattle.fc_inputs.specs.Inputs.{InputOf, ReadsInput}
+use Rattle.fc_inputs.specs.Starts.{InputsAreRead, start_of}
+use Rattle.fc_inputs.specs.Answers.{AnswerValue}
 use Rattle.command_words.specs.declared.commands.RunOptions.{RunOptions}
-use Rattle.fc_run.specs.Laws.{RunKeepsYes, RunsKeepYes}
-use Rattle.fc_run.specs.Runs.{RanValue, RunsCommands, RunsScript}
+use Rattle.fc_run.specs.Promises.{RunKeepsYes}
+use Rattle.fc_run.specs.Runs.{RunsCommands, RunsScript}
 
-module _ (unfolds : TextsUnfold) (starts : InputsStart) (law : ScriptsKeepYes) (options : RunOptions)
-    (program network script : List ℕ) (r : RanValue) where
+module _ (laws : InputsAreRead) (law : ScriptsKeepYes) (options : RunOptions)
+    (program network script : List ℕ) (r : AnswerValue) where
   by_commands : (i : InputOf) → ReadsInput program network (Accepted i) → (commands : List (ℕ × CommandValue))
       → IsScript i.0 (start_of i.1) script commands → RunsCommands options i.0 (start_of i.1) commands (Accepted r)
       → RunKeepsYes options program network script r
   by_commands i reads commands said h =
-      let p = unfolds program network i reads in
+      let p = laws.unfolded program network i reads in
       let Law : Unfolding → List (ℕ × CommandValue) → List (ℕ × CommandValue) → Type 0 = λ V front rest.
       IsGood V (start_of i.1) → ScriptRun V (start_of i.1) (front ++ rest) h.log h.parts h.shown h.last
       → KeepsYes V (start_of i.1) front rest h.log h.parts h.shown h.last in
@@ -38,26 +38,16 @@ module _ (unfolds : TextsUnfold) (starts : InputsStart) (law : ScriptsKeepYes) (
         keeps = λ front rest cut.
             subst (λ V. Law V front rest) p.2
             (law p.0 (start_of i.1) h.last front rest h.log h.parts h.shown p.1)
-            (starts program network i reads).good
+            (laws.start program network i reads).good
             (subst (λ (cs : List (ℕ × CommandValue)). ScriptRun i.0 (start_of i.1) cs h.log h.parts h.shown h.last)
             cut h.run);
         is = cc (h.is);
       }
 
-  by_script : (i : InputOf) → ReadsInput program network (Accepted i) → (q : Script)
+  pub by_script : (i : InputOf) → ReadsInput program network (Accepted i) → (q : Script)
       → script_of i.0 (start_of i.1) script ≡ q → RunsScript options i.0 (start_of i.1) q (Accepted r)
       → RunKeepsYes options program network script r
   by_script i reads (TooManyLines count) e h = absurd (cc (h))
   by_script i reads (Within (StopsAt at fault)) e h = absurd (cc (h))
   by_script i reads (Within (AllLines lines)) e h =
       by_commands i reads h.commands (subst (SaidByScript i.0 h.commands) (sym e) h.said) h.runs
-
-  by_input : (j : Judged InputOf) → ReadsInput program network j
-      → AndThen j (λ i k. RunsScript options i.0 (start_of i.1) (script_of i.0 (start_of i.1) script) k) (Accepted r)
-      → RunKeepsYes options program network script r
-  by_input (Refused cause) reads h = absurd (cc (h))
-  by_input (Accepted i) reads h = by_script i reads (script_of i.0 (start_of i.1) script) refl h
-
-pub runs_keep_yes : TextsUnfold → InputsStart → ScriptsKeepYes → RunsKeepYes
-runs_keep_yes unfolds starts law options program network script r h =
-    by_input unfolds starts law options program network script r h.judged h.reads h.ends

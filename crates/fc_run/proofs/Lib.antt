@@ -3,4 +3,4 @@ mod OneRuns
 mod SomeRuns
 mod Running
 mod KeptYes
-mod Replaying
+mod RunOwed

@@ -1,7 +1,6 @@
 -- What the code has run, as the definitions say it.
 use Rattle.std.proofs.Common.{ℕ, ◌≡◌, List, ◌++◌, refl, ap, ◌∙◌, sym, subst}
 use Rattle.fc_nodes.specs.Program.{Program, Unfolding, unfolding_of}
-use Rattle.firing_core.specs.declared.entries.Part.{Part}
 use Rattle.firing_core.specs.Cores.{Core}
 use Rattle.firing_core.specs.Books.{BookValue}
 use Rattle.firing_core.specs.CoreViews.{CoreValue, core_of, program_of}
@@ -17,15 +16,16 @@ use Rattle.edit_commands.specs.Scripts.{RefusesScript, script_of}
 use Rattle.report.specs.Logs.{log_text}
 use Rattle.session.specs.ScriptRuns.{ScriptRun}
 use Rattle.session.specs.Sessions.{SessionValue, HasRun}
+use Rattle.fc_inputs.specs.Answers.{AnswerValue, showing}
 use Rattle.fc_inputs.specs.Causes.{Cause, Judged, Accepted, Refused}
 use Rattle.fc_inputs.specs.Inputs.{ReadsInput}
 use Rattle.fc_inputs.specs.Stops.{StopsFor}
-use Rattle.fc_replay.specs.Ledgers.{Ledger, ledger_of}
-use Rattle.fc_replay.specs.Replays.{start_of, book_of, table_line, where_asked}
-use Rattle.fc_run.specs.declared.runs.Ran.{Ran}
+use Rattle.fc_inputs.specs.Starts.{start_of}
+use Rattle.fc_inputs.specs.Ledgers.{book_of}
+use Rattle.fc_inputs.specs.Tables.{table_line, where_asked}
 use Rattle.command_words.specs.declared.commands.RunOptions.{RunOptions}
-use Rattle.fc_run.specs.Code.{IsEnded, IsRefused, ran_of, script_stop}
-use Rattle.fc_run.specs.Runs.{RanValue, RunsCommands, RunsScript, Runs, run_text}
+use Rattle.fc_run.specs.Code.{IsRefused, ended_of, script_stop}
+use Rattle.fc_run.specs.Runs.{RunsCommands, RunsScript, Runs, run_text}
 
 -- ---- the script
 pub stops_script : (U : Unfolding) (start : Core) (text : List ℕ) (fault : ScriptFault)
@@ -42,11 +42,6 @@ stops_script U start text (script.Firings count) h = subst
 stops_script U start text script.Memory h = tt
 
 -- ---- the texts
-pub run_unread : (options : RunOptions) (program network text : List ℕ) (cause : Cause)
-    → ReadsInput program network (Refused cause)
-    → Runs options program network text (Refused cause)
-run_unread options program network text cause h = record { judged = Refused cause; reads = h; ends = refl }
-
 module _ (options : RunOptions) (program network text : List ℕ) (U : Unfolding) (s : SceneValue)
     (reads : ReadsInput program network (Accepted (U, s))) where
   refused : (cause : Cause) (q : Script) → IsRefused q cause → RunsScript options U (start_of s) q (Refused cause)
@@ -63,24 +58,20 @@ module _ (options : RunOptions) (program network text : List ℕ) (U : Unfolding
         (subst (λ (c : Core). IsRefused (script_of U c text) cause) same h);
   }
 
-  ran : (commands : List (ℕ × CommandValue)) (j : Judged RanValue) (q : Script) → SaidByScript U commands q
+  ran : (commands : List (ℕ × CommandValue)) (j : Judged AnswerValue) (q : Script) → SaidByScript U commands q
       → RunsCommands options U (start_of s) commands j → RunsScript options U (start_of s) q j
   ran commands j (TooManyLines count) said h = absurd said
   ran commands j (Within (StopsAt at fault)) said h = absurd said
   ran commands j (Within (AllLines lines)) said h = record { commands = commands; said = said; runs = h }
 
-  abbrev value : List ℕ → Ledger → List Part → RanValue
-  value t b p = record { text = t; book = b; parts = p }
-
   pub run_ran : (P : Program) → unfolding_of P ≡ U → (start : CoreValue) → core_of start ≡ start_of s
       → (commands : List (ℕ × CommandValue))
       → IsScript U (core_of start) text commands → (session : SessionValue) → HasRun P start commands session
-      → (r : Ran) → IsEnded options session r
-      → Runs options program network text (Accepted (ran_of r.text.items r.book r.parts.items))
-  run_ran P unfolded start same commands said session h r e = record {
+      → (a : AnswerValue) → a ≡ ended_of options session → Runs options program network text (Accepted a)
+  run_ran P unfolded start same commands said session h a e = record {
     judged = Accepted (U, s);
     reads = reads;
-    ends = ran commands (Accepted (ran_of r.text.items r.book r.parts.items)) (script_of U (start_of s) text)
+    ends = ran commands (Accepted a) (script_of U (start_of s) text)
         (subst (λ (c : Core). IsScript U c text commands) same said) (record {
           log = log;
           parts = session.parts;
@@ -89,7 +80,10 @@ module _ (options : RunOptions) (program network text : List ℕ) (U : Unfolding
           run = subst (λ (c : Core). ScriptRun U c commands log session.parts session.text last) same
               (subst (λ (V : Unfolding). ScriptRun V (core_of start) commands log session.parts session.text last)
               unfolded h.run);
-          is = is;
+          is = ap Accepted (e
+              ∙ ap (λ (Q : Program). ending (unfolding_of Q) (core_of session.book.start)) h.program
+              ∙ ap (λ (V : Unfolding). ending V (core_of session.book.start)) unfolded
+              ∙ ap (λ (c : Core). ending U c) (h.start ∙ same));
         });
   }
     where
@@ -99,26 +93,8 @@ module _ (options : RunOptions) (program network text : List ℕ) (U : Unfolding
       last : Core
       last = core_of session.book.core
 
-      book_is : ledger_of r.book ≡ book_of U (start_of s) log last
-      book_is =
-          ap ledger_of e.book
-          ∙ ap (λ (Q : Program). book_of (unfolding_of Q) (core_of session.book.start) log last) h.program
-          ∙ ap (λ (V : Unfolding). book_of V (core_of session.book.start) log last) unfolded
-          ∙ ap (λ (c : Core). book_of U c log last) (h.start ∙ same)
-
-      text_is : r.text.items ≡ run_text options U log last session.text
-      text_is =
-          e.text
-          ∙ ap (λ (Q : Program). run_text options (unfolding_of Q) log last session.text) h.program
-          ∙ ap (λ (V : Unfolding). run_text options V log last session.text) unfolded
-
-      is : ◌≡◌ {A = Judged RanValue} (Accepted (ran_of r.text.items r.book r.parts.items))
-          (Accepted (value (run_text options U log last session.text) (book_of U (start_of s) log last) session.parts))
-      is =
-          ap (λ t. Accepted (value t (ledger_of r.book) r.parts.items)) text_is
-          ∙ ap (λ b. Accepted (value (run_text options U log last session.text) b r.parts.items)) book_is
-          ∙ ap (λ q. Accepted (value (run_text options U log last session.text) (book_of U (start_of s) log last) q))
-          e.parts
+      ending : Unfolding → Core → AnswerValue
+      ending V c = showing (run_text options V log last session.text) (book_of V c log last) session.parts
 
 -- ---- the code's own names for a program: as it was read, behind a pointer, and lent
 module _ (options : RunOptions) (program network text : List ℕ) (S : Unfolding → SceneValue) (P V D : Program)
@@ -136,14 +112,14 @@ module _ (options : RunOptions) (program network text : List ℕ) (S : Unfolding
   pub lines_ran : (start : CoreValue) → core_of start ≡ start_of (S (unfolding_of V))
       → (commands others : List (ℕ × CommandValue)) → others ≡ commands
       → IsScript (unfolding_of D) (core_of start) text commands → (session : SessionValue)
-      → HasRun V start others session → (r : Ran) → IsEnded options session r
-      → Runs options program network text (Accepted (ran_of r.text.items r.book r.parts.items))
-  lines_ran start same commands others e said session h r ended =
+      → HasRun V start others session → (a : AnswerValue) → a ≡ ended_of options session
+      → Runs options program network text (Accepted a)
+  lines_ran start same commands others e said session h a ended =
       run_ran options program network text (unfolding_of P) (S (unfolding_of P)) reads P refl start
       (same_start (core_of start) same) commands
       (subst (λ (Q : Program). IsScript (unfolding_of Q) (core_of start) text commands) (d ∙ v) said) session
       (subst (λ (Q : Program). HasRun Q start commands session) v
-      (subst (λ (cs : List (ℕ × CommandValue)). HasRun V start cs session) e h)) r ended
+      (subst (λ (cs : List (ℕ × CommandValue)). HasRun V start cs session) e h)) a ended
 
 pub lines_judged : ScriptsAreJudged → (V D : Program) (start : Core) (text : List ℕ)
     (commands others : List (ℕ × CommandValue)) → D ≡ V → others ≡ commands

@@ -1,4 +1,3 @@
 pub mod Runs
 pub mod Code
-pub mod Laws
-pub mod LogsOfRuns
+pub mod Promises

@@ -12,18 +12,14 @@ use Rattle.session.specs.ScriptRuns.{ScriptRun}
 use Rattle.fc_inputs.specs.declared.refusal.Refusal.{Refusal}
 use Rattle.fc_inputs.specs.declared.refusal.Refusal.TheVariants.{Lines, Scrambles, Firings}
 use Rattle.fc_inputs.specs.Refusals.{script_refusal}
-use Rattle.fc_inputs.specs.Causes.{Plainly, Judged, Accepted, Refused, AndThen}
-use Rattle.fc_inputs.specs.Inputs.{InputOf, ReadsInput}
-use Rattle.fc_replay.specs.Ledgers.{Ledger}
-use Rattle.fc_replay.specs.Replays.{start_of, book_of, table_line, where_asked}
-use Rattle.fc_replay.specs.Stopping.{fault_in}
+use Rattle.fc_inputs.specs.Answers.{AnswerValue, showing}
+use Rattle.fc_inputs.specs.Causes.{Plainly, Judged, Accepted, Refused}
+use Rattle.fc_inputs.specs.Inputs.{OfScene}
+use Rattle.fc_inputs.specs.Ledgers.{book_of}
+use Rattle.fc_inputs.specs.Starts.{start_of}
+use Rattle.fc_inputs.specs.Tables.{table_line, where_asked}
+use Rattle.fc_inputs.specs.LineFaults.{fault_in}
 use Rattle.command_words.specs.declared.commands.RunOptions.{RunOptions}
-
--- what a run gives: the text, the book, and the stretches of its log that lines made
-pub record RanValue : Type 0 where
-  pub text : List ℕ
-  pub book : Ledger
-  pub parts : List Part
 
 -- the text of a script run, then the log and the table, where they are asked for
 abbrev pub run_text : RunOptions → Unfolding → List EntryValue → Core → List ℕ → List ℕ
@@ -32,21 +28,17 @@ run_text options U log last shown =
 
 -- the commands of a script from a start: a script run
 pub record RunsCommands (options : RunOptions) (U : Unfolding) (start : Core) (commands : List (ℕ × CommandValue))
-    (j : Judged RanValue) : Type 0 where
+    (j : Judged AnswerValue) : Type 0 where
   pub log : List EntryValue
   pub parts : List Part
   pub shown : List ℕ
   pub last : Core
   pub run : ScriptRun U start commands log parts shown last
-  pub is : j ≡ Accepted (record {
-    text = run_text options U log last shown;
-    book = book_of U start log last;
-    parts = parts;
-  })
+  pub is : j ≡ Accepted (showing (run_text options U log last shown) (book_of U start log last) parts)
 
 -- the commands that the lines of a script say
 pub record RunsLines (options : RunOptions) (U : Unfolding) (start : Core) (lines : List (ℕ × ScriptLine))
-    (j : Judged RanValue) : Type 0 where
+    (j : Judged AnswerValue) : Type 0 where
   pub commands : List (ℕ × CommandValue)
   pub said : AreSaid (IsCommand U) lines commands
   pub runs : RunsCommands options U start commands j
@@ -58,13 +50,12 @@ line_refusal at (OfScrambles count) = Scrambles count
 line_refusal at (OfFirings count) = Firings count
 
 -- a script with too many lines, or of which the first faulty line is refused
-abbrev pub RunsScript : RunOptions → Unfolding → Core → Script → Judged RanValue → Type 0
+abbrev pub RunsScript : RunOptions → Unfolding → Core → Script → Judged AnswerValue → Type 0
 RunsScript options U start (TooManyLines count) j = j ≡ Refused (Plainly (Lines count))
 RunsScript options U start (Within (StopsAt at fault)) j = j ≡ Refused (Plainly (line_refusal at fault))
 RunsScript options U start (Within (AllLines lines)) j = RunsLines options U start lines j
 
--- the texts of a program, a scene and a script
-pub record Runs (options : RunOptions) (program network script : List ℕ) (j : Judged RanValue) : Type 0 where
-  pub judged : Judged InputOf
-  pub reads : ReadsInput program network judged
-  pub ends : AndThen judged (λ i k. RunsScript options i.0 (start_of i.1) (script_of i.0 (start_of i.1) script) k) j
+-- the texts of a program, a scene and a script. The number of workers makes no difference
+abbrev pub Runs : RunOptions → List ℕ → List ℕ → List ℕ → Judged AnswerValue → Type 0
+Runs options program network script j =
+    OfScene (λ U s k. RunsScript options U (start_of s) (script_of U (start_of s) script) k) program network j

@@ -1,39 +1,29 @@
-//! What `run` makes of a program, a scene and a script.
-ghost use Rattle.std.specs.Prelude.{◌≡◌, ◌≤◌, ◌++◌, IfErr, IfOk, OnOk, length};
+//! What `run` answers.
+ghost use Rattle.std.specs.Prelude.{◌≡◌, ◌≤◌, ◌++◌, IfErr, IfOk, OnOk, length, map};
 ghost use Rattle.firing_core.specs.CoreViews.{core_of, program_of};
 ghost use Rattle.firing_core.specs.Entries.{entries_of};
 ghost use Rattle.report.specs.Logs.{log_text};
-ghost use Rattle.fc_replay.specs.Replays.{table_line, where_asked};
 ghost use Rattle.fc_inputs.specs.Causes.{Accepted, Refused};
+ghost use Rattle.fc_inputs.specs.Code.{value_of};
+ghost use Rattle.fc_inputs.specs.Sections.{AreWithin, WithThree};
 ghost use Rattle.fc_inputs.specs.Stops.{StopsFor};
+ghost use Rattle.fc_inputs.specs.Tables.{table_line, where_asked};
 ghost use Rattle.fc_values.specs.declared.limits.TheConstants.{MOST_BYTES};
-ghost use Rattle.fc_run.specs.Code.{IsEnded, ran_of};
+ghost use Rattle.fc_run.specs.Code.{ended_of};
 ghost use Rattle.fc_run.specs.Runs.{Runs};
 
 use crate::scripts::read_lines;
 use command_words::RunOptions;
 use edit_commands::scripts_are_judged;
 use export_table::Gate;
-use fc_inputs::{Stop, read_input};
-use fc_replay::{start, table_text};
+use fc_inputs::{Answer, Stop, read_input, start, table_text, three_sections};
 use fc_values::Memory;
-use firing_core::{Book, Part};
+use firing_core::Book;
 use report::entries;
 use session::{Pool, Session, run_script};
 use std::alloc::Global;
 use std::sync::{Arc, Wait};
 use std::thread::Threads;
-
-/// What a run gives.
-#[derive(Drop)]
-pub struct Ran {
-    /// What is written.
-    pub text: Vec<u8>,
-    /// The program, the start, the log and the last core.
-    pub book: Book,
-    /// The stretches of the log that the lines `run` and `mix` made.
-    pub parts: Vec<Part>,
-}
 
 // Appends the log of a book, where it is asked for.
 fn write_log(
@@ -67,31 +57,30 @@ fn write_table(
 }
 
 // What a session gives at its end.
-fn ended(alloc: Global, options: RunOptions, session: Session) -> Result<Ran, Memory>
-    ensures { IfOk result (IsEnded options session) }
+fn ended(alloc: Global, options: RunOptions, session: Session) -> Result<Answer, Memory>
+    ensures { IfOk result (λ a. value_of a ≡ ended_of options session) }
 {
     let (book, parts, mut text) = session.finish();
     write_log(alloc, options, &mut text, &book)?;
     write_table(alloc, options, &mut text, &book)?;
     // Its clause: the core is of the book's program.
     let _core = book.core();
-    Ok(Ran { text, book, parts })
+    Ok(Answer::showing(text, book, parts))
 }
 
-/// The text that `run` writes of its three texts, the book that it shows, and the stretches of its log. It waits where
-/// it runs rounds alone.
-pub fn run<W: Threads + Wait + Sync, G: Gate + Sync>(
+// The text that is written of a program, a scene and a script, with the book that it shows and the stretches of its
+// log. It waits where it runs rounds alone.
+fn of_texts<W: Threads + Wait + Sync, G: Gate + Sync>(
     alloc: Global,
     options: RunOptions,
     program: &[u8],
     network: &[u8],
     script: &[u8],
     pool: &Pool<W, G>,
-) -> Result<Ran, Stop>
+) -> Result<Answer, Stop>
     requires program { length program.now ≤ MOST_BYTES }
     requires script { length script.now ≤ MOST_BYTES }
-    ensures ran { IfOk result (λ r.
-        Runs options program.now network.now script.now (Accepted (ran_of r.text.items r.book r.parts.items))) }
+    ensures ran { IfOk result (λ a. Runs options program.now network.now script.now (Accepted (value_of a))) }
     ensures refused { IfErr result (StopsFor (λ cause.
         Runs options program.now network.now script.now (Refused cause))) }
 {
@@ -102,4 +91,20 @@ pub fn run<W: Threads + Wait + Sync, G: Gate + Sync>(
     scripts_are_judged();
     let session = run_script(alloc, shared, core, &lines, pool)?;
     Ok(ended(alloc, options, session)?)
+}
+
+/// The answer of `run` to the sections of an input. It waits where it runs rounds alone.
+pub fn run<W: Threads + Wait + Sync, G: Gate + Sync>(
+    alloc: Global,
+    options: RunOptions,
+    sections: &[&[u8]],
+    pool: &Pool<W, G>,
+) -> Result<Answer, Stop>
+    requires { AreWithin MOST_BYTES (map (λ s. s.now) sections.now) }
+    ensures ran { IfOk result (λ a. WithThree (Runs options) (map (λ s. s.now) sections.now) (Accepted (value_of a))) }
+    ensures refused { IfErr result (StopsFor (λ cause.
+        WithThree (Runs options) (map (λ s. s.now) sections.now) (Refused cause))) }
+{
+    let (program, network, script) = three_sections(sections)?;
+    of_texts(alloc, options, program, network, script, pool)
 }

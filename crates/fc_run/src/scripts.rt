@@ -8,9 +8,8 @@ ghost use Rattle.fc_inputs.specs.Stops.{StopsFor};
 ghost use Rattle.fc_run.specs.Code.{IsRefused, script_stop};
 
 use edit_commands::{Line, ScriptFault, read_script};
-use fc_inputs::{Refusal, Stop, script_refusal};
+use fc_inputs::{Refusal, Stop, fault_in, script_refusal};
 use fc_nodes::Unfolded;
-use fc_replay::fault_in;
 use firing_core::Core;
 use std::alloc::Global;
 

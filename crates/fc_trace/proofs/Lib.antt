@@ -1,3 +1,3 @@
-pub mod Scenes
+mod LineValues
 mod Tracing
 pub mod WalkTexts

@@ -1,88 +1,148 @@
--- What `trace` writes: something, and one thing.
-use Rattle.std.proofs.Common.{ℕ, ◌≡◌, List, ◌++◌, length, refl, ap, ◌∙◌, sym, subst, Option, Some, None}
+-- What `trace` owes.
+use Rattle.std.proofs.Common.{ℕ, ◌≡◌, ◌≤◌, false, List, ◌++◌, length, refl, ap, ◌∙◌, sym, subst, arith, Option, Some, None}
 use Rattle.std.specs.Prelude.{codes}
+use Rattle.fc_values.specs.Values.{LocalValue}
 use Rattle.fc_nodes.specs.Program.{IsProgram, Program, Unfolding, unfolding_of}
 use Rattle.fc_nodes.specs.declared.verdicts.Verdict.{Verdict}
 use Rattle.fc_nodes.specs.declared.verdicts.Verdict.TheVariants as verdict
-use Rattle.topology.specs.Networks.{Network, IsNetwork}
+use Rattle.interval_facts.specs.Solutions.{SolvesMain}
+use Rattle.topology.specs.Networks.{Network, IsNetwork, Lives}
 use Rattle.fragment_check.specs.Verdicts.{verdict_of}
-use Rattle.walks.specs.Walks.{AreTraced}
-use Rattle.walks.specs.Laws.{OneTrace, SomeTrace}
+use Rattle.firing_core.specs.Cores.{IsGood}
+use Rattle.converge_laws.specs.Verdicts.{YesStabilises}
+use Rattle.walks.specs.Walks.{AreTraced, CostsValue}
+use Rattle.walks.specs.Laws.{OneLeastCost, OneTrace, SomeTrace}
+use Rattle.walk_form.specs.Costs.{AreCostsOf}
 use Rattle.walk_form.specs.Forms.{WalkTerms, walk_terms}
-use Rattle.walk_form.specs.Laws.{FormsHaveCosts, OneCosts}
-use Rattle.net_json.specs.FittingScenes.{AcceptedScenesFit, SceneFits}
+use Rattle.walk_form.specs.Laws.{FormsHaveCosts, IsLeastAt, OneCosts, SolutionsAreLeast}
 use Rattle.net_json.specs.Scenes.{SceneValue}
 use Rattle.report.specs.Verdicts.{verdict_text}
-use Rattle.fc_inputs.specs.Refusals.{Reply}
-use Rattle.fc_inputs.specs.Causes.{Cause, Judged, Accepted, Refused}
-use Rattle.fc_inputs.specs.Inputs.{OneInput, ReadsInput, TextsUnfold}
-use Rattle.fc_trace.specs.Laws.{OneTraced, SomeTraced}
+use Rattle.fc_inputs.specs.Agreement.{Agree}
+use Rattle.fc_inputs.specs.Answers.{AnswerValue, plain}
+use Rattle.fc_inputs.specs.Causes.{Judged, Accepted, answer_of}
+use Rattle.fc_inputs.specs.Inputs.{InputOf, ReadsInput}
+use Rattle.fc_inputs.specs.Owing.{HasStatus, IsZero}
+use Rattle.fc_inputs.specs.Starts.{InputsAreRead, start_of}
+use Rattle.fc_inputs.proofs.Agreeing.{both_plain}
+use Rattle.fc_inputs.proofs.KeptYes.{at_program, has_yes}
+use Rattle.fc_inputs.proofs.Owed.{plain_status, texts_owe, two_owe, zero_low}
+use Rattle.fc_trace.specs.Promises.{TraceOwes, TracesYes}
 use Rattle.fc_trace.specs.Texts.{walks_text}
 use Rattle.fc_trace.specs.Traces.{WritesWalks, TracedBy, TracesScene, Traces}
-use Rattle.fc_trace.proofs.Scenes.{one_end, some_end}
+use Rattle.fc_trace.proofs.LineValues.{traced_values}
 
-abbrev reply : ℕ → List ℕ → Reply
-reply status text = record { status = status; text = text }
-
--- ---- one reply
-module _ (costs : OneCosts) (trace : OneTrace) (U : Unfolding) (N : Network) (r q : Reply) where
-  walks_one : (w : WalkTerms) (line : List ℕ) → WritesWalks U N w line r → WritesWalks U N w line q → r ≡ q
+-- ---- one answer
+module _ (costs : OneCosts) (trace : OneTrace) (U : Unfolding) (N : Network) (a b : AnswerValue)
+    (j k : Judged AnswerValue) (e : j ≡ Accepted a) (f : k ≡ Accepted b) where
+  walks_one : (w : WalkTerms) (line : List ℕ) → WritesWalks U N w line a → WritesWalks U N w line b → Agree false j k
   walks_one w line h g =
       let same : h.costs ≡ g.costs = costs U N w h.costs g.costs h.are g.are in
       let there = subst (λ c. AreTraced c h.claim) same h.traced in
       let claims : h.claim ≡ g.claim = trace g.costs h.claim g.claim g.lawful there g.traced in
-      h.is ∙ ap (λ es. reply 0 (line ++ walks_text es)) claims ∙ sym g.is
+      both_plain false j k 0 (line ++ walks_text g.claim)
+      (e ∙ ap Accepted (h.is ∙ ap (λ es. plain 0 (line ++ walks_text es)) claims)) (f ∙ ap Accepted g.is)
 
-  one_reply : (o : Option WalkTerms) (v : Verdict) → TracedBy v o U N r → TracedBy v o U N q → r ≡ q
-  one_reply None (verdict.Yes k) h g = h ∙ sym g
-  one_reply (Some w) (verdict.Yes k) h g = walks_one w (verdict_text (verdict.Yes k)) h g
-  one_reply o (verdict.No place why) h g = h ∙ sym g
+  one_by : (o : Option WalkTerms) (v : Verdict) → TracedBy v o U N a → TracedBy v o U N b → Agree false j k
+  one_by None (verdict.Yes rounds) h g = both_plain false j k _ _ (e ∙ ap Accepted h) (f ∙ ap Accepted g)
+  one_by (Some w) (verdict.Yes rounds) h g = walks_one w (verdict_text (verdict.Yes rounds)) h g
+  one_by o (verdict.No place why) h g = both_plain false j k _ _ (e ∙ ap Accepted h) (f ∙ ap Accepted g)
 
-one_scene : OneCosts → OneTrace → (U : Unfolding) (s : SceneValue) (j k : Judged Reply) → TracesScene U s j
-    → TracesScene U s k → j ≡ k
-one_scene costs trace U s j k h g =
-    let v = verdict_of U (length s.net.devices) in
-    let same = one_reply costs trace U s.net h.reply g.reply (walk_terms U) v h.writes g.writes in
-    h.is ∙ ap Accepted same ∙ sym g.is
+one_scene : OneCosts → OneTrace → (Q : Program) (s : SceneValue) → IsProgram Q
+    → IsGood (unfolding_of Q) (start_of s) → (j k : Judged AnswerValue) → TracesScene (unfolding_of Q) s j
+    → TracesScene (unfolding_of Q) s k → Agree false j k
+one_scene costs trace Q s is good j k h g =
+    one_by costs trace (unfolding_of Q) s.net h.answer g.answer j k h.is g.is (walk_terms (unfolding_of Q))
+    (verdict_of (unfolding_of Q) (length s.net.devices)) h.writes g.writes
 
-pub one_traced : OneInput → OneCosts → OneTrace → OneTraced
-one_traced input costs trace program network j k h g =
-    one_end TracesScene (one_scene costs trace) input program network h.judged g.judged h.reads g.reads j k h.ends g.ends
-
--- ---- something
-
+-- ---- an answer
 module _ (forms : FormsHaveCosts) (trace : SomeTrace) (P : Program) (is : IsProgram P) (N : Network)
     (net : IsNetwork N) (declared : N.declared ≡ P.declared) where
   some_walks : (k : ℕ) → verdict_of (unfolding_of P) (length N.devices) ≡ verdict.Yes k
       → (o : Option WalkTerms) → walk_terms (unfolding_of P) ≡ o
-      → (r : Reply) × TracedBy (verdict.Yes k) o (unfolding_of P) N r
-  some_walks k said None e = (reply 1 (verdict_text (verdict.Yes k) ++ codes "no walks\n"), refl)
+      → (a : AnswerValue) × TracedBy (verdict.Yes k) o (unfolding_of P) N a
+  some_walks k said None e = (plain 1 (verdict_text (verdict.Yes k) ++ codes "no walks\n"), refl)
   some_walks k said (Some w) e =
       let c = forms P N k w is net declared said e in
       let t = trace c.0 c.2 in (
-        reply 0 (verdict_text (verdict.Yes k) ++ walks_text t.0),
+        plain 0 (verdict_text (verdict.Yes k) ++ walks_text t.0),
         record { costs = c.0; are = c.1; lawful = c.2; claim = t.0; traced = t.1; is = refl },
       )
 
   some_by : (v : Verdict) → verdict_of (unfolding_of P) (length N.devices) ≡ v
-      → (r : Reply) × TracedBy v (walk_terms (unfolding_of P)) (unfolding_of P) N r
+      → (a : AnswerValue) × TracedBy v (walk_terms (unfolding_of P)) (unfolding_of P) N a
   some_by (verdict.Yes k) e = some_walks k e (walk_terms (unfolding_of P)) refl
-  some_by (verdict.No place why) e = (reply 1 (verdict_text (verdict.No place why)), refl)
+  some_by (verdict.No place why) e = (plain 1 (verdict_text (verdict.No place why)), refl)
 
-some_scene : FormsHaveCosts → SomeTrace → (P : Program) → IsProgram P → (s : SceneValue)
-    → SceneFits (unfolding_of P) s → (j : Judged Reply) × TracesScene (unfolding_of P) s j
-some_scene forms trace P is s fits =
-    let v = verdict_of (unfolding_of P) (length s.net.devices) in
-    let r = some_by forms trace P is s.net fits.net fits.declared v refl in
-    (Accepted r.0, record { reply = r.0; writes = r.1; is = refl })
+some_scene : FormsHaveCosts → SomeTrace → (Q : Program) (s : SceneValue) → IsProgram Q
+    → IsGood (unfolding_of Q) (start_of s) → (j : Judged AnswerValue) × TracesScene (unfolding_of Q) s j
+some_scene forms trace Q s is good =
+    let v = verdict_of (unfolding_of Q) (length s.net.devices) in
+    let a = some_by forms trace Q is s.net good.net good.declared v refl in
+    (Accepted a.0, record { answer = a.0; writes = a.1; is = refl })
 
-pub some_traced : FormsHaveCosts → SomeTrace → AcceptedScenesFit → TextsUnfold → OneInput → SomeTraced
-some_traced forms trace fit unfolds input program network short =
-    let one = input program network short in
-    let end = some_end TracesScene (some_scene forms trace) fit unfolds program network one.0 one.1 in
-    (end.0, record { judged = one.0; reads = one.1; ends = end.1 })
+-- ---- its status
+status_by : (v : Verdict) (o : Option WalkTerms) (U : Unfolding) (N : Network) (a : AnswerValue)
+    (j : Judged AnswerValue) → TracedBy v o U N a → j ≡ Accepted a → HasStatus j
+status_by (verdict.Yes rounds) None U N a j h e = plain_status j 1 _ (omega arith) (e ∙ ap Accepted h)
+status_by (verdict.Yes rounds) (Some w) U N a j h e = plain_status j 0 _ (omega arith) (e ∙ ap Accepted h.is)
+status_by (verdict.No place why) o U N a j h e = plain_status j 1 _ (omega arith) (e ∙ ap Accepted h)
 
--- ---- what the code does
-pub unread_traced : (program network : List ℕ) (cause : Cause) → ReadsInput program network (Refused cause)
-    → Traces program network (Refused cause)
-unread_traced program network cause h = record { judged = Refused cause; reads = h; ends = refl }
+status_of_scene : (U : Unfolding) (s : SceneValue) (j : Judged AnswerValue) → TracesScene U s j → HasStatus j
+status_of_scene U s j h =
+    status_by (verdict_of U (length s.net.devices)) (walk_terms U) U s.net h.answer j h.writes h.is
+
+-- ---- what is promised
+module _ (laws : InputsAreRead) (law : YesStabilises) (least : SolutionsAreLeast) (one : OneLeastCost)
+    (program network : List ℕ) (i : InputOf) (reads : ReadsInput program network (Accepted i)) where
+  -- where the verdict is a yes, and these are the costs, a solution has the least of them
+  abbrev IsLeast : Network → ℕ → CostsValue → (ℕ → LocalValue) → Unfolding → Type 0
+  IsLeast N k C F U =
+      verdict_of U (length N.devices) ≡ verdict.Yes k → AreCostsOf U N C → SolvesMain N U.main F
+      → (d : ℕ) → Lives N d → IsLeastAt C d (F d)
+
+  -- an answer with status 1 is none of a yes
+  none : (a b : AnswerValue) → ◌≡◌ {A = Judged AnswerValue} (Accepted a) (Accepted b) → b.status ≡ 1
+      → a.status ≡ 0 → TracesYes program network a.text
+  none a b e one zero =
+      let never : 0 ≡ 1 = sym zero ∙ ap (λ j. (answer_of j).status) e ∙ one in
+      absurd (cc never)
+
+  keeps_by : (a : AnswerValue) (e : TracesScene i.0 i.1 (Accepted a)) → a.status ≡ 0 → (v : Verdict)
+      → verdict_of i.0 (length i.1.net.devices) ≡ v → (o : Option WalkTerms) → walk_terms i.0 ≡ o
+      → TracedBy v o i.0 i.1.net e.answer → TracesYes program network a.text
+  keeps_by a e zero (verdict.Yes rounds) said (Some w) form h =
+      let y = has_yes laws program network i reads law rounds said in
+      let field : ℕ → LocalValue = y.stabilises.one.field in
+      let are : AreCostsOf i.0 i.1.net h.costs = record { terms = w; form = form; costs = h.are } in
+      let lowest : (d : ℕ) → Lives i.1.net d → IsLeastAt h.costs d (field d) =
+      at_program laws program network i reads (IsLeast i.1.net rounds h.costs field)
+      (λ P is good a b c. least P i.1.net rounds h.costs field is good.net good.declared a b c)
+      said are y.stabilises.one.solves in
+      record {
+        yes = y;
+        costs = h.costs;
+        are = are;
+        claim = h.claim;
+        traced = h.traced;
+        least = lowest;
+        values = traced_values one i.1.net h.costs field lowest i.0 w h.are h.claim h.traced;
+        writes = ap (λ j. (answer_of j).text) e.is ∙ ap (λ (x : AnswerValue). x.text) h.is;
+      }
+  keeps_by a e zero (verdict.Yes rounds) said None form h =
+      none a e.answer e.is (ap (λ (x : AnswerValue). x.status) h) zero
+  keeps_by a e zero (verdict.No place why) said o form h =
+      none a e.answer e.is (ap (λ (x : AnswerValue). x.status) h) zero
+
+pub trace_owes : InputsAreRead → YesStabilises → FormsHaveCosts → OneCosts → SolutionsAreLeast → OneLeastCost → OneTrace
+    → SomeTrace → TraceOwes
+trace_owes laws law forms costs least one trace some =
+    two_owe false Traces IsZero (λ program network a. TracesYes program network a.text)
+    (texts_owe laws false TracesScene IsZero (λ program network a. TracesYes program network a.text) (record {
+      some = some_scene forms some;
+      one = one_scene costs trace;
+      statuses = status_of_scene;
+      low = zero_low;
+      keeps = λ program network i reads a e zero.
+          keeps_by laws law least one program network i reads a e zero (verdict_of i.0 (length i.1.net.devices)) refl
+          (walk_terms i.0) refl e.writes;
+    }))

@@ -1,3 +1,3 @@
 pub mod Texts
 pub mod Traces
-pub mod Laws
+pub mod Promises

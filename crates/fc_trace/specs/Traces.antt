@@ -11,36 +11,34 @@ use Rattle.walk_form.specs.Costs.{AreCostsFor}
 use Rattle.walk_form.specs.Forms.{WalkTerms, walk_terms}
 use Rattle.net_json.specs.Scenes.{SceneValue}
 use Rattle.report.specs.Verdicts.{verdict_text}
-use Rattle.fc_inputs.specs.Refusals.{Reply}
-use Rattle.fc_inputs.specs.Causes.{Judged, Accepted, AndThen}
-use Rattle.fc_inputs.specs.Inputs.{InputOf, ReadsInput}
+use Rattle.fc_inputs.specs.Answers.{AnswerValue, plain}
+use Rattle.fc_inputs.specs.Causes.{Judged, Accepted}
+use Rattle.fc_inputs.specs.Inputs.{OfScene}
 use Rattle.fc_trace.specs.Texts.{walks_text}
 
 -- behind a line, for each device its least cost and its best walk
-pub record WritesWalks (U : Unfolding) (N : Network) (w : WalkTerms) (line : List ℕ) (reply : Reply) : Type 0 where
+pub record WritesWalks (U : Unfolding) (N : Network) (w : WalkTerms) (line : List ℕ) (answer : AnswerValue) : Type 0 where
   pub costs : CostsValue
   pub are : AreCostsFor U N w costs
   pub lawful : IsCosts costs
   pub claim : List EvidenceValue
   pub traced : AreTraced costs claim
-  pub is : reply ≡ record { status = 0; text = line ++ walks_text claim }
+  pub is : answer ≡ plain 0 (line ++ walks_text claim)
 
 -- what is written where this is the verdict, and these are the terms of the walk form. The status is 1 where there are
 -- no walks
-abbrev pub TracedBy : Verdict → Option WalkTerms → Unfolding → Network → Reply → Type 0
-TracedBy (verdict.No place why) o U N reply = reply ≡ record { status = 1; text = verdict_text (verdict.No place why) }
-TracedBy (verdict.Yes rounds) None U N reply =
-    reply ≡ record { status = 1; text = verdict_text (verdict.Yes rounds) ++ codes "no walks\n" }
-TracedBy (verdict.Yes rounds) (Some w) U N reply = WritesWalks U N w (verdict_text (verdict.Yes rounds)) reply
+abbrev pub TracedBy : Verdict → Option WalkTerms → Unfolding → Network → AnswerValue → Type 0
+TracedBy (verdict.No place why) o U N answer = answer ≡ plain 1 (verdict_text (verdict.No place why))
+TracedBy (verdict.Yes rounds) None U N answer =
+    answer ≡ plain 1 (verdict_text (verdict.Yes rounds) ++ codes "no walks\n")
+TracedBy (verdict.Yes rounds) (Some w) U N answer = WritesWalks U N w (verdict_text (verdict.Yes rounds)) answer
 
 -- a program and a scene of it
-pub record TracesScene (U : Unfolding) (s : SceneValue) (j : Judged Reply) : Type 0 where
-  pub reply : Reply
-  pub writes : TracedBy (verdict_of U (length s.net.devices)) (walk_terms U) U s.net reply
-  pub is : j ≡ Accepted reply
+pub record TracesScene (U : Unfolding) (s : SceneValue) (j : Judged AnswerValue) : Type 0 where
+  pub answer : AnswerValue
+  pub writes : TracedBy (verdict_of U (length s.net.devices)) (walk_terms U) U s.net answer
+  pub is : j ≡ Accepted answer
 
 -- the texts of a program and of a scene
-pub record Traces (program network : List ℕ) (j : Judged Reply) : Type 0 where
-  pub judged : Judged InputOf
-  pub reads : ReadsInput program network judged
-  pub ends : AndThen judged (λ i k. TracesScene i.0 i.1 k) j
+abbrev pub Traces : List ℕ → List ℕ → Judged AnswerValue → Type 0
+Traces = OfScene TracesScene

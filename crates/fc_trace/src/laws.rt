@@ -1,28 +1,21 @@
 //! Laws of the definitions.
 
-ghost use Rattle.fc_trace.specs.Laws.{OneTraced, SomeTraced};
+ghost use Rattle.fc_trace.specs.Promises.{TraceOwes};
 
-use fc_inputs::{one_input, texts_unfold};
-use net_json::accepted_scenes_fit;
-use walk_form::{forms_have_costs, one_costs};
+use converge_laws::yes_stabilises;
+use fc_inputs::inputs_are_read;
+use walk_form::{forms_have_costs, one_costs, solutions_are_least};
 use walks::walks_are_one;
 
-/// `trace` has at most one result for the same texts.
-pub fn one_traced()
-    ensures { OneTraced }
+/// `trace` has one answer to each input. Where its status says yes, the verdict is a yes and is kept, and the least
+/// costs, which are the values of the one field, are written with the best walks.
+pub fn trace_owes()
+    ensures { TraceOwes }
 {
-    one_input();
-    one_costs();
-    walks_are_one();
-}
-
-/// `trace` has a result where the text of the program is within the limit.
-pub fn some_traced()
-    ensures { SomeTraced }
-{
-    one_input();
-    texts_unfold();
-    accepted_scenes_fit();
+    inputs_are_read();
+    yes_stabilises();
     forms_have_costs();
+    one_costs();
+    solutions_are_least();
     walks_are_one();
 }

@@ -6,3 +6,4 @@ pub mod Counts
 pub mod Growth
 pub mod Greatest
 pub mod Coming
+pub mod EditsInLogs

@@ -20,7 +20,7 @@ use Rattle.session.specs.ScriptRuns.{Added, both, nothing, poke, part_of, shown_
 use Rattle.session.specs.Shown.{Shown, ShowsValues, ShowsVerdict, verdict_in}
 use Rattle.session.specs.Since.{place_after, rounds_from, rounds_since, last_verdict}
 use Rattle.firing_core.proofs.Mixed.{mixed_numbers}
-use Rattle.session.proofs.EditsInLogs.{after_last, after_short, plain_both}
+use Rattle.round_count.proofs.EditsInLogs.{after_last, after_short, plain_both}
 use Rattle.session.proofs.AfterEdits.{after_plain, rounds_join}
 use Rattle.session.proofs.PartRounds.{AllBegin, begin_later, begin_both, rounds_both, rounds_none, rounds_one}
 

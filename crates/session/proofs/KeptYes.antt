@@ -21,7 +21,7 @@ use Rattle.session.specs.ScriptRuns.{Added, both, nothing, DoesLines, ScriptRun}
 use Rattle.session.specs.Shown.{ShowsValues, shown_text, all_shown, script_text, verdict_in}
 use Rattle.session.specs.Since.{rounds_since}
 use Rattle.session.specs.Promises.{HoldsField, shows_field, KeepsYes}
-use Rattle.session.proofs.EditsInLogs.{fewer}
+use Rattle.round_count.proofs.EditsInLogs.{fewer}
 use Rattle.session.proofs.Following.{Follows, follows_none, all_lines}
 use Rattle.session.proofs.ShownFields.{values_held}
 

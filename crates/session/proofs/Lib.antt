@@ -1,5 +1,4 @@
 mod Lines
-pub mod EditsInLogs
 mod Progress
 mod Runs
 mod Pokes

@@ -4,7 +4,7 @@ use Rattle.std.proofs.lemmas.List.{length-map}
 use Rattle.firing_core.specs.declared.entries.Entry.{Entry}
 use Rattle.firing_core.specs.Entries.{EditValue, EntryValue, EditEntry, entry_of, entries_of}
 use Rattle.firing_core.specs.Rounds.{has_edit, after_edit}
-use Rattle.session.proofs.EditsInLogs.{after_last, after_short}
+use Rattle.round_count.proofs.EditsInLogs.{after_last, after_short}
 
 -- the position after the last entry
 pub end_of : (old new : List Entry) (part : List EntryValue) → entries_of new ≡ entries_of old ++ part → length new ≡ length old + length part

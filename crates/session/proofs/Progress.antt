@@ -17,7 +17,7 @@ use Rattle.firing_core.specs.Stretches.{MixStretch}
 use Rattle.edit_commands.specs.declared.scripts.TheConstants.{MOST_FIRINGS}
 use Rattle.edit_commands.specs.Scripts.{Progress, CommandValue, RunCommand, EditCommand, ScrambleCommand, ShowCommand, MixCommand}
 use Rattle.edit_commands.specs.JudgedCommands.{net_after, IsLeftBy, MayCome, after_command}
-use Rattle.session.proofs.EditsInLogs.{plain_both}
+use Rattle.round_count.proofs.EditsInLogs.{plain_both}
 use Rattle.session.specs.Conditions.{Allows}
 use Rattle.session.specs.ScriptRuns.{Added, DoesLine, poke}
 

@@ -15,7 +15,7 @@ use Rattle.firing_core.specs.Laws.{FaultlessStep, StepsKeepGood, RunsCut}
 use Rattle.firing_core.specs.Stretches.{begins, is_begin, NoneFlies, RunStretch}
 use Rattle.round_count.specs.Laws.{RoundsFollow}
 use Rattle.session.proofs.Pokes.{is_itself}
-use Rattle.session.proofs.EditsInLogs.{plain_both}
+use Rattle.round_count.proofs.EditsInLogs.{plain_both}
 
 -- a run without an edit, to a good core
 pub record Goes (U : Unfolding) (c : Core) (log : List EntryValue) (last : Core) : Type 0 where

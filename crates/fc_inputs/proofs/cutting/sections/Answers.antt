@@ -1,7 +1,8 @@
-use Rattle.std.proofs.Common.{ap, ◌∙◌, sym, subst, map}
+use Rattle.std.proofs.Common.{ap, ◌∙◌, sym, subst, map, length}
 use Rattle.std.proofs.lemmas.List.{map-append}
+use Rattle.fc_values.specs.declared.limits.TheConstants.{MOST_BYTES}
 use Rattle.fc_inputs.proofs.Cut.{IsCutTo, cut_first, cut_last, slice_separator, slice_line}
-use Rattle.fc_inputs.proofs.SectionSizes.{within_input}
+use Rattle.fc_inputs.proofs.SectionSizes.{more_room, within_input}
 use Rattle.fc_inputs.proofs.cutting.sections.Goals as goal
 
 pub lines-init : goal.lines-init
@@ -20,4 +21,6 @@ pub returns-clause-sections : goal.returns-clause-sections
 returns-clause-sections c = ap (map (λ s. s.now)) c.in_ok-push-2.ensures.items ∙ map-append _ _ _ ∙ cut_last _ _ _ _ c.lines.invariant c.lines-test.false
 
 pub returns-clause-within : goal.returns-clause-within
-returns-clause-within c = within_input c.args.input.now _ (returns-clause-sections c)
+returns-clause-within c =
+    more_room (length c.args.input.now) MOST_BYTES _ c.requires
+    (within_input c.args.input.now _ (returns-clause-sections c))

@@ -10,6 +10,7 @@ use Rattle.scramble.specs.Words.{words_of}
 use Rattle.mail_drive.specs.Drives.{driven}
 use Rattle.net_json.specs.SceneCode.{value_of_scene}
 use Rattle.report.specs.Verdicts.{verdict_text}
+use Rattle.fc_inputs.specs.Code.{value_of}
 use Rattle.fc_mail.proofs.Driving.{no_stop, written}
 use Rattle.fc_mail.proofs.driven.driven.Goals as goal
 
@@ -30,7 +31,7 @@ returns c =
     let net : c.net.result.now ≡ c.in_ok-start.start.core.net = c.net.ensures.value ∙ ap (λ (x : CoreValue). x.net) c.core.ensures.value in
     let line : c.in_ok-text.text.items ≡ verdict_text (verdict.Yes c.args.rounds) = c.in_ok-text.ensures ∙ ap (λ w. verdict_text (verdict.Yes w)) c.from.ensures in
     written c.args.number c.args.rounds P c.args.program c.args.scene (mail_of c.in_ok-start.start) (mail_of c.in_ok-book.book.start) (mail_of c.in_ok-book.book.mail) (unfolded_of c.in_ok-start.start)
-    (mail_entries c.in_ok-log.log.items) (mail_entries c.in_ok-book.book.log) c.in_ok-text.text.items c.show.new.text.items c.new-2.result
+    (mail_entries c.in_ok-log.log.items) (mail_entries c.in_ok-book.book.log) c.in_ok-text.text.items c.show.new.text.items (value_of c.plain.result)
     c.in_ok-program.ensures.ok c.in_ok-start.ensures.settled (ap unfolding_of c.in_ok-start.ensures.program) c.in_ok-book.ensures.start
     (c.in_ok-log.ensures ∙ ap (λ (n : Network). driven n c.args.rounds (words_of c.args.number)) net)
-    (ap mail_entries c.in_ok-book.ensures.log) c.in_ok-book.ensures.run c.in_ok-show.ensures line c.new-2.ensures
+    (ap mail_entries c.in_ok-book.ensures.log) c.in_ok-book.ensures.run c.in_ok-show.ensures line c.plain.ensures

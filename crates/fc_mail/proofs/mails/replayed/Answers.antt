@@ -9,7 +9,7 @@ use Rattle.mail_book.specs.MailReplays.{FailsMail}
 use Rattle.mail_book.specs.MailViews.{mail_of, unfolded_of, quiet}
 use Rattle.fc_inputs.specs.declared.stop.Stop.{Stop}
 use Rattle.fc_inputs.specs.Stops.{StopsFor}
-use Rattle.fc_replay.specs.Replays.{start_of}
+use Rattle.fc_inputs.specs.Starts.{start_of}
 use Rattle.fc_mail.specs.Code.{IsMailed, IsStoppedMail, MailWithin, mail_stop}
 use Rattle.fc_mail.proofs.Mailing.{numbered_entries, numbered_lines, fails_within, stops}
 use Rattle.fc_mail.proofs.mails.replayed.Goals as goal

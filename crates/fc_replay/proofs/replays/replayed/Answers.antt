@@ -6,8 +6,8 @@ use Rattle.firing_core.specs.Replays.{LogFits}
 use Rattle.net_json.specs.SceneCode.{value_of_scene}
 use Rattle.edit_commands.specs.Logs.{logged}
 use Rattle.fc_inputs.specs.Stops.{StopsFor}
-use Rattle.fc_replay.specs.Replays.{start_of}
-use Rattle.fc_replay.specs.Ledgers.{ledger_of}
+use Rattle.fc_inputs.specs.Starts.{start_of}
+use Rattle.fc_inputs.specs.Ledgers.{ledger_of}
 use Rattle.fc_replay.specs.Code.{StopsWithin, IsReplayed, IsStopped, stop_of}
 use Rattle.fc_replay.proofs.Entries.{has_read, lines_within}
 use Rattle.fc_replay.proofs.Replaying.{is_replayed, is_stopped}

@@ -1,7 +1,7 @@
 use Rattle.std.proofs.Common.{◌∙◌, ap, sym, subst}
 use Rattle.fc_values.specs.Fields.{Rises}
 use Rattle.topology.specs.Networks.{Network}
-use Rattle.fc_replay.proofs.Rows.{live_numbers}
+use Rattle.fc_replay.proofs.DeviceNumbers.{live_numbers}
 use Rattle.fc_replay.proofs.texts.live.Goals as goal
 
 pub returns-clause-live : goal.returns-clause-live

@@ -1,0 +1,12 @@
+//! Laws of the definitions.
+
+ghost use Rattle.fc_format.specs.Formats.{FormatOwes};
+
+use fc_inputs::one_source;
+
+/// `format` has one answer to each input.
+pub fn format_owes()
+    ensures { FormatOwes }
+{
+    one_source();
+}

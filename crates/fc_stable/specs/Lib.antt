@@ -1,0 +1,2 @@
+pub mod Stabilised
+pub mod Promises

@@ -1,0 +1,14 @@
+use Rattle.fc_inputs.specs.Causes.{Refused}
+use Rattle.fc_inputs.specs.Inputs.{ReadsInput}
+use Rattle.fc_inputs.proofs.Stopping.{stop_is, stops_map}
+use Rattle.fc_inputs.proofs.Unread.{unread}
+use Rattle.fc_trace.specs.Traces.{Traces, TracesScene}
+use Rattle.fc_trace.proofs.traces.of_texts.Goals as goal
+
+pub returns-in_err-program-clause-refused : goal.returns-in_err-program-clause-refused
+returns-in_err-program-clause-refused c =
+    stop_is (λ cause. Traces c.args.program.now c.args.network.now (Refused cause)) c.from_residual.result _
+    c.from_residual.ensures.1
+    (stops_map (λ cause. ReadsInput c.args.program.now c.args.network.now (Refused cause)) _
+    (λ cause k. unread TracesScene c.args.program.now c.args.network.now cause k) c.in_err-program.field-0.0
+    c.in_err-program.ensures.refused)
