@@ -164,43 +164,43 @@ module _ (threads : Bool) (Makes : List ℕ → List ℕ → Judged AnswerValue 
 module _ (threads : Bool) (Makes : List ℕ → List ℕ → List ℕ → Judged AnswerValue → Type 0) (IsYes : ℕ → Type 0)
     (P : List ℕ → List ℕ → List ℕ → AnswerValue → Type 0)
     (owes : (third : List ℕ) → OwesTexts threads (λ one two. Makes one two third) IsYes (λ one two. P one two third))
-    where
-  some_three : (ss : List (List ℕ)) → AreWithin MOST_BYTES ss → (j : Judged AnswerValue) × WithThree Makes ss j
-  some_three [] w = (Refused (other_number []), refl)
-  some_three (a ∷ []) w = (Refused (other_number (a ∷ [])), refl)
-  some_three (a ∷ b ∷ []) w = (Refused (other_number (a ∷ b ∷ [])), refl)
-  some_three (a ∷ b ∷ c ∷ []) w = (owes c).some a b w.0
-  some_three (a ∷ b ∷ c ∷ d ∷ ss) w = (Refused (other_number (a ∷ b ∷ c ∷ d ∷ ss)), refl)
+  where
+    some_three : (ss : List (List ℕ)) → AreWithin MOST_BYTES ss → (j : Judged AnswerValue) × WithThree Makes ss j
+    some_three [] w = (Refused (other_number []), refl)
+    some_three (a ∷ []) w = (Refused (other_number (a ∷ [])), refl)
+    some_three (a ∷ b ∷ []) w = (Refused (other_number (a ∷ b ∷ [])), refl)
+    some_three (a ∷ b ∷ c ∷ []) w = (owes c).some a b w.0
+    some_three (a ∷ b ∷ c ∷ d ∷ ss) w = (Refused (other_number (a ∷ b ∷ c ∷ d ∷ ss)), refl)
 
-  one_three : (ss : List (List ℕ)) (j k : Judged AnswerValue) → WithThree Makes ss j → WithThree Makes ss k
-      → Agree threads j k
-  one_three [] j k h g = both_refused threads j k _ h g
-  one_three (a ∷ []) j k h g = both_refused threads j k _ h g
-  one_three (a ∷ b ∷ []) j k h g = both_refused threads j k _ h g
-  one_three (a ∷ b ∷ c ∷ []) j k h g = (owes c).one a b j k h g
-  one_three (a ∷ b ∷ c ∷ d ∷ ss) j k h g = both_refused threads j k _ h g
+    one_three : (ss : List (List ℕ)) (j k : Judged AnswerValue) → WithThree Makes ss j → WithThree Makes ss k
+        → Agree threads j k
+    one_three [] j k h g = both_refused threads j k _ h g
+    one_three (a ∷ []) j k h g = both_refused threads j k _ h g
+    one_three (a ∷ b ∷ []) j k h g = both_refused threads j k _ h g
+    one_three (a ∷ b ∷ c ∷ []) j k h g = (owes c).one a b j k h g
+    one_three (a ∷ b ∷ c ∷ d ∷ ss) j k h g = both_refused threads j k _ h g
 
-  statuses_of_three : (ss : List (List ℕ)) (j : Judged AnswerValue) → WithThree Makes ss j → HasStatus j
-  statuses_of_three [] j h = other_status [] j h
-  statuses_of_three (a ∷ []) j h = other_status (a ∷ []) j h
-  statuses_of_three (a ∷ b ∷ []) j h = other_status (a ∷ b ∷ []) j h
-  statuses_of_three (a ∷ b ∷ c ∷ []) j h = (owes c).statuses a b j h
-  statuses_of_three (a ∷ b ∷ c ∷ d ∷ ss) j h = other_status (a ∷ b ∷ c ∷ d ∷ ss) j h
+    statuses_of_three : (ss : List (List ℕ)) (j : Judged AnswerValue) → WithThree Makes ss j → HasStatus j
+    statuses_of_three [] j h = other_status [] j h
+    statuses_of_three (a ∷ []) j h = other_status (a ∷ []) j h
+    statuses_of_three (a ∷ b ∷ []) j h = other_status (a ∷ b ∷ []) j h
+    statuses_of_three (a ∷ b ∷ c ∷ []) j h = (owes c).statuses a b j h
+    statuses_of_three (a ∷ b ∷ c ∷ d ∷ ss) j h = other_status (a ∷ b ∷ c ∷ d ∷ ss) j h
 
-  three_keep : (ss : List (List ℕ)) (a : AnswerValue) → WithThree Makes ss (Accepted a) → IsYes a.status
-      → OfThree (λ one two three. P one two three a) ss
-  three_keep [] a h says = absurd (cc h)
-  three_keep (p ∷ []) a h says = absurd (cc h)
-  three_keep (p ∷ n ∷ []) a h says = absurd (cc h)
-  three_keep (p ∷ n ∷ c ∷ []) a h says = (owes c).keeps p n a h says
-  three_keep (p ∷ n ∷ c ∷ d ∷ ss) a h says = absurd (cc h)
+    three_keep : (ss : List (List ℕ)) (a : AnswerValue) → WithThree Makes ss (Accepted a) → IsYes a.status
+        → OfThree (λ one two three. P one two three a) ss
+    three_keep [] a h says = absurd (cc h)
+    three_keep (p ∷ []) a h says = absurd (cc h)
+    three_keep (p ∷ n ∷ []) a h says = absurd (cc h)
+    three_keep (p ∷ n ∷ c ∷ []) a h says = (owes c).keeps p n a h says
+    three_keep (p ∷ n ∷ c ∷ d ∷ ss) a h says = absurd (cc h)
 
-  pub three_owe : Owes threads (AreWithin MOST_BYTES) (λ ss j. WithThree Makes ss j) IsYes
-      (λ ss a. OfThree (λ one two three. P one two three a) ss)
-  three_owe = record {
-    some = some_three;
-    one = one_three;
-    statuses = statuses_of_three;
-    low = (owes []).low;
-    keeps = three_keep;
-  }
+    pub three_owe : Owes threads (AreWithin MOST_BYTES) (λ ss j. WithThree Makes ss j) IsYes
+        (λ ss a. OfThree (λ one two three. P one two three a) ss)
+    three_owe = record {
+      some = some_three;
+      one = one_three;
+      statuses = statuses_of_three;
+      low = (owes []).low;
+      keeps = three_keep;
+    }

@@ -18,8 +18,8 @@ pub use answers::Answer;
 pub use cutting::{one_section, sections, three_sections, two_sections};
 pub use inputs::read_input;
 pub use laws::{
-    inputs_are_read, inputs_start, one_input, one_program_text, one_source, sections_are_within, tables_resume,
-    texts_name_inputs, texts_unfold,
+    inputs_are_read, inputs_start, one_input, one_program_text, one_source, sections_are_within,
+    tables_resume, texts_name_inputs, texts_unfold,
 };
 pub use refusal::{LineFault, Refusal, fault_in, log_refusal, script_refusal, step_fault};
 pub use rendering::{refuse, stopped};
