@@ -60,7 +60,7 @@ def build_itself() -> Any:
 
 
 # on what no command leans yet: laws of networks that change, and values as columns of words
-AHEAD = ("change_lines", "envelope_bounds", "last_bounds", "value_columns")
+AHEAD = ("change_envelopes", "change_lines", "envelope_bounds", "last_bounds", "value_columns")
 
 
 class Build(InFolder):
