@@ -60,7 +60,7 @@ def build_itself() -> Any:
 
 
 # on what no command leans yet: laws and bounds of networks that change, and the lines of changes
-AHEAD = ("change_lines", "envelope_bounds", "last_bounds")
+AHEAD = ("change_envelopes", "change_lines", "envelope_bounds", "last_bounds")
 
 
 class Build(InFolder):

@@ -22,7 +22,7 @@ use Rattle.envelopes.specs.Envelopes.{MaybeDevice, MaybeLink, Envelope, ids, sur
 use Rattle.envelopes.specs.Envelopes.{IsEnvelope, DevicesWithin, no_device, is_there, is_away, LinkWithin, LinksWithin}
 use Rattle.envelopes.specs.Envelopes.{no_link, is_linked, is_unlinked, LiesWithin}
 use Rattle.net_moves.specs.Moves.{net_edited, net_next, is_poke, Stays}
-use Rattle.envelope_bounds.specs.Edits.{is_pair_of, sure_link, MayLink, SureEnds, MayEdit, MayEnter, AllMayEnter}
+use Rattle.envelopes.specs.Edits.{is_pair_of, sure_link, MayLink, SureEnds, MayEdit, MayEnter, AllMayEnter}
 use Rattle.envelope_bounds.specs.Laws.{EditsStayWithin}
 use Rattle.net_moves.proofs.Moving.{step_nets}
 use Rattle.envelopes.proofs.Within.{later_above}

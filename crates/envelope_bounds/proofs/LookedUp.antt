@@ -12,8 +12,8 @@ use Rattle.bound_firing.specs.Firing.{InputsLie}
 use Rattle.envelopes.specs.Envelopes.{MaybeDevice, MaybeLink, Envelope, ids, sure_in, surely_lives, bounds_in, least_edge}
 use Rattle.envelopes.specs.Envelopes.{IsEnvelope, DevicesWithin, no_device, is_there, is_away, LinkWithin, LinksWithin}
 use Rattle.envelopes.specs.Envelopes.{no_link, is_linked, is_unlinked, LiesWithin}
-use Rattle.envelope_bounds.specs.Edits.{is_pair_of, sure_link, MayLink}
-use Rattle.envelope_bounds.specs.Lookups.{AllMayLink, LiesByLookups}
+use Rattle.envelopes.specs.Edits.{is_pair_of, sure_link, MayLink}
+use Rattle.envelopes.specs.Lookups.{AllMayLink, LiesByLookups}
 use Rattle.envelope_bounds.specs.Laws.{LookupsAgree}
 use Rattle.envelopes.proofs.Within.{later_above, may_live_in, away_in, inputs_within}
 use Rattle.envelope_bounds.proofs.EditsStay.{clash, any_true, in_front, not_first, pair_is, before_pair, pair_same}

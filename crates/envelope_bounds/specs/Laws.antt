@@ -9,9 +9,9 @@ use Rattle.net_moves.specs.Moves.{HasRoundsThere}
 use Rattle.envelopes.specs.Envelopes.{Envelope, IsEnvelope, LiesWithin}
 use Rattle.envelopes.specs.Exactly.{exact_envelope}
 use Rattle.settle_rounds.specs.Within.{StaysWithin}
-use Rattle.envelope_bounds.specs.Edits.{SureEnds, AllMayEnter}
+use Rattle.envelopes.specs.Edits.{SureEnds, AllMayEnter}
 use Rattle.envelope_bounds.specs.Logs.{HasRoundsWithin}
-use Rattle.envelope_bounds.specs.Lookups.{LiesByLookups}
+use Rattle.envelopes.specs.Lookups.{LiesByLookups}
 
 -- a log each of whose edits an envelope allows stays within it
 abbrev pub EditsStayWithin : Type 0

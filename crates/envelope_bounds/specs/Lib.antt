@@ -1,5 +1,3 @@
-pub mod Edits
-pub mod Lookups
 pub mod Logs
 pub mod Laws
 pub mod Lines

@@ -4,7 +4,7 @@ use Rattle.topology.specs.Networks.{Edge, Network, Lives, inputs_in}
 use Rattle.topology.specs.Changes.{has_pair}
 use Rattle.bound_firing.specs.Firing.{InputsLie}
 use Rattle.envelopes.specs.Envelopes.{MaybeLink, Envelope, MayLive, surely_lives, bounds_in}
-use Rattle.envelope_bounds.specs.Edits.{sure_link, MayLink}
+use Rattle.envelopes.specs.Edits.{sure_link, MayLink}
 
 -- each link is one that may be there, with a weight in its bound
 abbrev pub AllMayLink : List MaybeLink → List Edge → Type 0

@@ -1,0 +1,4 @@
+pub mod Hulls
+pub mod Accepted
+pub mod MayHappen
+pub mod ScenesWithin
