@@ -33,7 +33,7 @@ class Allocations(unittest.TestCase):
 
     def test_a_firing_takes_memory_for_its_export_alone(self) -> None:
         firings = 500 * DEVICES
-        self.assertLessEqual(self.taken(1000) - self.taken(500), EXPORT * firings + firings // 10)
+        self.assertLessEqual((self.taken(1000) - self.taken(500)) // firings, EXPORT)
 
 
 if __name__ == "__main__":
