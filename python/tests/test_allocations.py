@@ -22,7 +22,7 @@ class Allocations(unittest.TestCase):
     def setUp(self) -> None:
         room = tempfile.TemporaryDirectory()
         self.addCleanup(room.cleanup)
-        self.starved = Starved(fc.find(), Path(room.name))
+        self.starved = Starved(Path(fc.find()), Path(room.name))
         self.scene = tuple((EXAMPLES / "sensor_field_run.txt").read_text().split("%%\n")[:2])
 
     def taken(self, rounds: int) -> int:
