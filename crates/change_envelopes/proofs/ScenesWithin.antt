@@ -1,5 +1,6 @@
 -- The scene lies within the envelope of the scene and lines, and links that are always there join devices that are.
 use Rattle.std.proofs.Common.{ℕ, zero, suc, ◌≡◌, ◌+◌, ◌≤◌, ◌<◌, ◌&&◌, ◌||◌, Bool, true, false, not, nat_eq, nat_lt, min, max, map, append_assoc, List, [], ◌∷◌, ◌++◌, refl, sym, ap, subst, ◌∙◌, arith, inl, inr, Some, None, if◌then◌else◌}
+use Rattle.std.proofs.Math.Bool.{or-true}
 use Rattle.std.proofs.lemmas.Bool.Decides.{nat_tests}
 use Rattle.std.specs.Prelude.{◌⊎◌, Option, option_map, slice_get}
 use Rattle.fc_values.specs.Types.{Declarations, Input}
@@ -27,10 +28,6 @@ use Rattle.change_envelopes.proofs.MayHappen.{links_lie, no_link_back}
 
 clash : (b : Bool) → b ≡ true → b ≡ false → ⊥
 clash b t f = let z : false ≡ true = sym f ∙ t in absurd cc
-
-any_true : (c : Bool) → (c || true) ≡ true
-any_true true = refl
-any_true false = refl
 
 both : (p q : Bool) → (p && q) ≡ true → (p ≡ true) × (q ≡ true)
 both true true h = (refl, refl)
@@ -148,7 +145,7 @@ module _ (n : Network) (cs : List ChangeValue) (E : Envelope) (h : IsEnvelopeOf 
         let own : sure_link m.a m.b (m ∷ ms) ≡ true = rw (x, y, s) refl in
         let k = stays_by m.a m.b (up m.a m.b own) in
         (h.sure m.a ∙ k.1, h.sure m.b ∙ k.2),
-    ends_from ms (λ a b s. up a b (rw s (any_true (is_pair_of a b m && m.sure)))),
+    ends_from ms (λ a b s. up a b (rw s (or-true (is_pair_of a b m && m.sure)))),
   )
 
   pub ends : SureEnds E.devices E.links

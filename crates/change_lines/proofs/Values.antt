@@ -1,31 +1,16 @@
 -- Words that say values, read one after another.
-use Rattle.std.proofs.Common.{ℕ, ◌≡◌, ◌++◌, List, [], ◌∷◌, Bool, true, false, nat_le, refl, sym, ap, ◌∙◌, Some, None, append_assoc, append-nil}
-use Rattle.std.specs.Prelude.{Option, option_map, if◌then◌else◌}
-use Rattle.fc_values.specs.Values.{LocalValue, IntValue, BoolValue, PairValue}
+use Rattle.std.proofs.Common.{ℕ, ◌≡◌, ◌++◌, List, [], ◌∷◌, refl, sym, ap, ◌∙◌, Some, None, append_assoc, append-nil}
+use Rattle.std.specs.Prelude.{Option, option_map}
+use Rattle.fc_values.specs.Values.{LocalValue}
 use Rattle.edit_commands.specs.EditLines.{with_two}
-use Rattle.edit_commands.specs.Narrow.{narrow, leaves_in, stand_in}
+use Rattle.edit_commands.specs.Narrow.{narrow}
 use Rattle.change_lines.specs.declared.types.Possible.{Possible}
 use Rattle.change_lines.specs.Possibles.{only, possible_of, possibles_of}
 
--- a value that stands for one that is too wide says the same
-only-narrow : (v : LocalValue) → only (narrow v) ≡ only v
-only-narrow (IntValue n) = refl
-only-narrow (BoolValue b) = refl
-only-narrow (PairValue v w) = by_test (nat_le (leaves_in (PairValue v w)) 8)
-  where
-    by_test : (b : Bool) → only (if b then PairValue v w else stand_in) ≡ only (PairValue v w)
-    by_test true = refl
-    by_test false = refl
-
+-- a value that isn't read says nothing
 pub none_said : (o : Option LocalValue) → None ≡ option_map narrow o → None ≡ option_map only o
 none_said None e = refl
 none_said (Some v) e = absurd cc
-
-pub one_said : (v : LocalValue) (o : Option LocalValue) → Some v ≡ option_map narrow o → Some (only v) ≡ option_map only o
-one_said v None e = absurd cc
-one_said v (Some w) e =
-    let f : v ≡ narrow w = cc in
-    ap Some (ap only f ∙ only-narrow w)
 
 -- what is said after what was read
 abbrev pub behind : List Possible → Option (List Possible) → Option (List Possible)
