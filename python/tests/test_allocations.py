@@ -1,5 +1,6 @@
 """What memory firings take: a worker keeps the room for the values of an evaluation and for copies, so further firings
-take memory for the exports that they publish alone. Counted are calls of the C library's malloc and realloc."""
+take memory for the exports that they publish alone, here of a program that keeps no pairs. Counted are calls of the C
+library's malloc and realloc."""
 
 from __future__ import annotations
 
