@@ -260,11 +260,8 @@ def wanting(made: Composition, no: Refusal, name: str) -> str | None:
 
 
 def built() -> bool:
-    """Whether a built `fc` is there: `./fc` of a checkout that isn't built would take a minute."""
-    here = fc.checkout()
-    if os.environ.get("FC") or here is None:
-        return True
-    return fc.find() != str(here / "fc") or (here / "crates/fc_program/out/fc_program").exists()
+    """Whether a built `fc` is there: `./fc` of a checkout where none is takes minutes at its first call."""
+    return bool(os.environ.get("FC")) or fc.built()
 
 
 def arguments(parser: argparse.ArgumentParser) -> None:

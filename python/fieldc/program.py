@@ -12,6 +12,7 @@ from dataclasses import dataclass
 from pathlib import Path
 
 from .refusals import Call, Fault, Refusal, Section
+from .released import proved_program
 
 PACKAGE = Path(__file__).resolve().parent
 INSTALLED = ("libexec/fc/fc", "libexec/fc")
@@ -57,7 +58,7 @@ def find() -> str:
     """The path of `fc`.
 
     It is what the variable FC names; else the installed program, under `libexec` of a folder that holds this package or
-    Python; else `fc` of the checkout, which runs the proved program, or says that it isn't built.
+    Python; else `fc` of the checkout, which runs the proved program, or says that there is none.
 
     Raises Fault where none is there.
     """
@@ -78,9 +79,9 @@ def find() -> str:
 
 
 def built() -> bool:
-    """Whether `fc` is a built program; `./fc` of a checkout that isn't built takes a minute each time."""
+    """Whether `fc` is a built program; `./fc` of a checkout where none is takes minutes at its first call."""
     here = checkout()
-    return here is None or find() != str(here / "fc") or (here / "crates/fc_program/out/fc_program").exists()
+    return here is None or find() != str(here / "fc") or proved_program(here) is not None
 
 
 def joined(sections: Sequence[Section]) -> bytes:

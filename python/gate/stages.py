@@ -10,9 +10,12 @@ from concurrent.futures import ThreadPoolExecutor
 from dataclasses import dataclass
 from pathlib import Path
 
+from fieldc.released import proved_program
+from release import library, made, module
+
 from . import edits
 from .edits import Edit, Row
-from .places import PROGRAM, TOP
+from .places import TOP
 from .refusals import Try, read_log
 
 PYTHON = "/usr/bin/python3"
@@ -20,8 +23,10 @@ TESTS = TOP / "python/tests"
 CONFORMANCE = TOP / "conformance/run.py"
 COUNTS = re.compile(r"(\d+) passed, (\d+) failed")
 SAMPLE = 12
+# the tests of the library and of the page, of which ./test has the toolchain build what they want
+OF_LIBRARY = ("test_embedded", "test_page")
 # the modules that take longest, which begin first
-LONG = ("test_sweep", "test_blocks", "test_pages", "test_picture", "test_stable_in_time")
+LONG = (*OF_LIBRARY, "test_sweep", "test_blocks", "test_pages", "test_picture", "test_stable_in_time")
 
 
 @dataclass(frozen=True)
@@ -94,13 +99,38 @@ def differing(chosen: list[Edit], rows: dict[Edit, Row], tries: dict[Edit, Try])
     ]
 
 
+# --- the library and the release --------------------------------------------------------------------------------------
+
+
+def built_library() -> Counts:
+    """Has the library and the WebAssembly module built, for their tests and for the release."""
+    try:
+        library.build()
+        module.make()
+    except library.Failed as failed:
+        return failures([f"the library: {failed}"])
+    return Counts(2, 0)
+
+
+def release() -> Counts:
+    """Whether the release is what its sources give, where these are today's; an older one is told of, and passes."""
+    try:
+        if why := made.age():
+            say(f"{why}; nothing is compared")
+            return Counts()
+        told = failures(made.differences())
+    except library.Failed as failed:
+        return failures([f"the release: {failed}"])
+    return told if told.failed else Counts(len(made.NAMES), 0)
+
+
 # --- what needs the program -----------------------------------------------------------------------------------------
 
 
 def program() -> Path | None:
-    """The program that is tested: what the variable FC names, else the one that was built."""
-    named = Path(os.environ["FC"]) if "FC" in os.environ else PROGRAM
-    return named if named.exists() else None
+    """The program that is tested: what the variable FC names, else the one that was built, else that of the release."""
+    named = Path(os.environ["FC"]) if "FC" in os.environ else proved_program(TOP)
+    return named if named and named.exists() else None
 
 
 def conformance(fc: Path) -> Counts:
@@ -111,8 +141,9 @@ def conformance(fc: Path) -> Counts:
 
 
 def modules() -> list[str]:
-    """The modules of the tests of `fieldc`, those that take longest first."""
+    """The modules of the tests, those that take longest first. Those of the library and of the page want it built."""
     found = sorted(path.stem for path in TESTS.glob("test_*.py"))
+    found = [name for name in found if name not in OF_LIBRARY or library.is_there()]
     return sorted(found, key=lambda name: name not in LONG)
 
 

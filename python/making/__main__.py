@@ -1,4 +1,4 @@
-"""Writes `man/fieldc.1` and the completions anew. With `--check` it writes nothing, and names what is out of date."""
+"""Writes the manual pages and the completions anew. With `--check` it writes nothing, and names what is out of date."""
 
 from __future__ import annotations
 
@@ -16,7 +16,7 @@ from making import bash, fish, lines, manual, zsh  # noqa: E402
 def made() -> dict[str, str]:
     """The text of each file that is made, by its path from the top of the repository."""
     fieldc, fc = lines.of_fieldc(), lines.of_fc()
-    files = {"man/fieldc.1": manual.page(fieldc, VERSION, DATE)}
+    files = {"man/fieldc.1": manual.page(fieldc, VERSION, DATE), "man/fc.1": manual.page_of_fc(fc, VERSION, DATE)}
     for line in (fc, fieldc):
         files[f"completions/{line.program}.bash"] = bash.completion(line)
         files[f"completions/{zsh.file_name(line)}"] = zsh.completion(line)

@@ -27,14 +27,14 @@ def layers() -> dict[str, list[str]]:
             layer = line.removeprefix("# ").lower()
             found[layer] = []
         elif ":" in line:
-            found[layer].append(line.partition(":")[0])
+            found[layer].append(line.partition(":")[0].split()[0])
     return found
 
 
 def graph() -> dict[str, set[str]]:
     """The crates of the repository that each one names in crates.txt."""
     rows = [line.partition(":") for line in (TOP / "crates.txt").read_text().splitlines() if not line.startswith("#")]
-    named = {name: set(words.split()) for name, mark, words in rows if mark}
+    named = {name.split()[0]: set(words.split()) for name, mark, words in rows if mark}
     return {name: words & named.keys() for name, words in named.items()}
 
 

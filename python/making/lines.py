@@ -15,7 +15,7 @@ class Option:
     """An option, or a word that stands alone (then without names).
 
     `takes` is FILE, WORD or NOTHING; `value` what the value is called, `choices` all that it can be, and `known` some
-    that a shell may offer; `instead` are the options that it can't stand beside.
+    that a shell may offer; `instead` are the options that it can't stand beside, and `beside` is one that it needs.
     """
 
     names: tuple[str, ...]
@@ -27,6 +27,7 @@ class Option:
     required: bool = False
     repeated: bool = False
     instead: tuple[str, ...] = ()
+    beside: str = ""
 
     @property
     def offered(self) -> tuple[str, ...]:
@@ -121,10 +122,10 @@ def _with_known(option: Option, blocks: tuple[str, ...]) -> Option:
 
 
 def of_fc() -> Line:
-    """The command line of `fc`, which reads its input from standard input."""
+    """The command line of `fc`, which reads its input from standard input, but for `gen`, which reads nothing."""
 
-    def flag(name: str, text: str) -> Option:
-        return Option((name,), text)
+    def flag(name: str, text: str, beside: str = "") -> Option:
+        return Option((name,), text, beside=beside)
 
     def number(name: str, value: str, text: str) -> Option:
         return Option((name,), text, WORD, value)
@@ -134,21 +135,47 @@ def of_fc() -> Line:
     settle = (
         flag("--facts", "adds what is known of each node of the unfolded main"),
         flag("--settle", "adds after how many rounds each device holds its value"),
-        flag("--from-table", "beside --settle: counts from the network's table and pending firings"),
+        flag("--from-table", "beside --settle: counts from the network's table and pending firings", "--settle"),
     )
     log = flag("--log", "adds the log of all steps that were taken")
     rounds = flag("--rounds", "adds how many rounds passed since the last edit")
     devices = number("--devices", "D", "devices of the ring, 3 to 512 (64)")
-    scenario = Option((), "the number of the scenario", WORD, "NUMBER", required=True)
+    scenario = Option((), "the number of the scenario", WORD, "N", required=True)
     mailed = number("--number", "N", "makes the log from this number; then there is no section of it")
     commands = (
-        Command("check", "says whether a program stabilises, and after how many rounds", settle),
-        Command("stable", "writes the final value of each device, without running the program"),
-        Command("trace", "writes for each device its final value and a cheapest path"),
-        Command("run", "runs a script: rounds on several threads, edits, rubbish tables, shows", (workers, log, table)),
-        Command("gen", "runs a scenario that is made from a number", (devices, workers), (scenario,)),
-        Command("replay", "goes through a log, and writes what each device then holds", (rounds, table)),
-        Command("mail", "goes through a log of messages, or makes one from a number", (mailed,)),
-        Command("format", "writes the canonical text of a program"),
+        Command("check", "says whether a program stabilises, and after how many rounds", settle, epilog=CHECK),
+        Command("stable", "writes the final value of each device, without running the program", epilog=STABLE),
+        Command("trace", "writes for each device its final value and a cheapest path", epilog=TRACE),
+        Command(
+            "run",
+            "runs a script: rounds on several threads, edits, rubbish tables, shows",
+            (workers, log, table),
+            epilog=RUN,
+        ),
+        Command("gen", "runs a scenario that is made from a number", (devices, workers), (scenario,), GEN),
+        Command("replay", "goes through a log, and writes what each device then holds", (rounds, table), epilog=REPLAY),
+        Command("mail", "goes through a log of messages, or makes one from a number", (mailed,), epilog=MAIL),
+        Command("format", "writes the canonical text of a program", epilog=FORMAT),
     )
     return Line("fc", "interpreter and proved checker of the first-order field calculus", (), commands)
+
+
+# what the manual page says further of each command of `fc`
+CHECK = """\
+Input: a program and a network. The verdict is "yes K" or "no PLACE REASON". After at most K rounds without an edit \
+every device has its final value, whatever it held at the start. With --facts and a yes a line for each node of the \
+unfolded program follows. With --settle a line "settles R" follows, or "open", and then for each device of this \
+network after how many rounds it holds which value; with --from-table the rounds are counted from the network's table \
+and pending firings, as after an edit."""
+STABLE = "Input: a program and a network."
+TRACE = "Input: a program and a network. The verdict comes first; where no walks are to be had, it writes \"no walks\"."
+RUN = """\
+Input: a program, a network and a script. It writes the verdict and what the script shows, and then what was asked \
+for."""
+GEN = "It reads nothing: the scenario is a hop count on a ring of devices that hold rubbish."
+REPLAY = "Input: a program, a network and a log."
+MAIL = """\
+Input: a program, a network and a mail log. Devices hear of each other by messages alone, which links lose, repeat and \
+deliver late, but in order, with at most 4 in transit. A log that is made from a number ends at the values of fc \
+stable."""
+FORMAT = "Input: a program."

@@ -1,13 +1,16 @@
-"""The manual page of `fieldc`, in the macros of man."""
+"""The manual pages of `fieldc` and `fc`, in the macros of man."""
 
 from __future__ import annotations
 
 import re
 import textwrap
+from pathlib import Path
 
 from .lines import Command, Line, Option
 
 FIRST = '.\\" Made from the parser of fieldc by tools/pages: change the parser, and run it again.\n'
+FIRST_OF_FC = '.\\" Made from lines.py and fc.1.in of python/making by tools/pages: change them, and run it again.\n'
+TEXT_OF_FC = Path(__file__).with_name("fc.1.in")
 STATUSES = re.compile(r"statuses: (.*?)\.(?:\n|$)", re.S)
 
 
@@ -25,6 +28,35 @@ def page(line: Line, version: str, date: str) -> str:
         section("SEE ALSO", "\\fBfc\\fR(1)"),
     ]
     return filled("\n".join(parts) + "\n")
+
+
+def page_of_fc(line: Line, version: str, date: str) -> str:
+    """The page of `fc`: what `fc.1.in` says, with its command lines and commands."""
+    made = {
+        "DATE": date,
+        "VERSION": version,
+        "DESCRIPTION": plain(line.description),
+        "SYNOPSIS": "\n.br\n".join(call(line, command) for command in line.commands),
+        "COMMANDS": "\n".join(command_part(line, command) for command in line.commands),
+    }
+
+    def part(word: re.Match[str]) -> str:
+        return made[word[1]]
+
+    return filled(FIRST_OF_FC + re.sub("@([A-Z]+)@", part, TEXT_OF_FC.read_text()))
+
+
+def call(line: Line, command: Command) -> str:
+    """How a command of `fc` is called, with all its options. One that takes no word reads its input."""
+    parts = [bold(f"{line.program} {command.name}"), *(word_of(word) for word in command.words)]
+    parts += [bracketed(option, command) for option in command.options if not option.beside]
+    return " ".join(parts if command.words else [*parts, "<", italic("input")])
+
+
+def bracketed(option: Option, command: Command) -> str:
+    """An option, and behind it those that need it."""
+    needing = [bracketed(one, command) for one in command.options if one.beside in option.names]
+    return f"[{' '.join([called(option), *needing])}]"
 
 
 def filled(text: str) -> str:

@@ -9,13 +9,17 @@ from pathlib import Path
 
 from helping import TOP, Done
 
+from fieldc.released import sum_of_sources
+
 PARTS = (
-    "build", "fc", "crates.txt", "README.md", "CHANGELOG.md", "CONTRIBUTING.md", "docs", "examples", "editors", "man",
-    "completions", "library", "python/fieldc",
+    "build", "fc", "crates.txt", "HANDLES", "README.md", "CHANGELOG.md", "CONTRIBUTING.md", "docs", "examples",
+    "editors", "man", "completions", "library", "python/fieldc", "python/gate", "python/release",
 )  # fmt: skip
 FOLDERS = ("crates/fc_values", "crates/fc_answers", "crates/fc_program/src")
 # what a program that was built answers, in its place
 PROGRAM = '#!/bin/sh\necho "proved $*"\n'
+# and what one in a release does
+RELEASED = '#!/bin/sh\necho "released $*"\n'
 
 
 @dataclass
@@ -50,6 +54,15 @@ class Checkout:
         file.parent.mkdir(exist_ok=True)
         file.write_text(text)
         file.chmod(0o755)
+        return file
+
+    def released(self, text: str = RELEASED) -> Path:
+        """A release, as if it had been made from the sources that stand there now."""
+        file = self.folder / "release/fc"
+        file.parent.mkdir(exist_ok=True)
+        file.write_text(text)
+        file.chmod(0o755)
+        (file.parent / "SOURCES").write_text(f"{sum_of_sources(self.folder)}\nrattle\nwasm-opt\n")
         return file
 
     def run(self, name: str, *words: str, text: str = "") -> Done:

@@ -19,12 +19,14 @@ Test = TypeVar("Test", bound=Callable[..., Any])
 HERE = Path(__file__).resolve().parent
 TOP = HERE.parent.parent
 EXAMPLES = TOP / "examples"
-BUILT = TOP / "crates/fc_program/out/fc_program"
 FIXED_WORK = "sum(number * number % 7 for number in range(10_000_000))"
 BROWSERS = ("chromium", "chromium-browser", "google-chrome")
 
 sys.path.insert(0, str(TOP / "python"))
 
+from fieldc.released import BUILT as BUILT_THERE, proved_program  # noqa: E402
+
+BUILT = proved_program(TOP) or TOP / BUILT_THERE
 HOPS = "ceiling 10; input src: bool; main = rep(10){(d) => minHoodLoc(nbr{d} + 1, mux(sense src, 0, 10))};\n"
 LINE = (
     '{"devices":[{"id":0,"inputs":{"src":true}},{"id":1,"inputs":{"src":false}},{"id":2,"inputs":{"src":false}}],'

@@ -147,16 +147,17 @@ class Build(InFolder):
             self.assertEqual(made.at_once(), wanted, (processors, memory))
 
     def test_the_crates_of_the_repository(self) -> None:
-        """Each crate but the program, those of tests and laws that it doesn't lean on is counted, after those that it
-        names."""
+        """Each crate but the program, the library, those of tests and laws that they don't lean on is counted, after
+        those that it names."""
         made = build_itself()
-        named = dict(line.split(":") for line in (TOP / "crates.txt").read_text().splitlines() if ":" in line)
+        named = made.libraries()
         order = made.Crates(made.ROOF).order
-        others = {made.PROGRAM, *AHEAD}
+        others = {made.PROGRAM, made.library.CRATE, *AHEAD}
         self.assertEqual({name for name in named if not name.endswith("_tests")} - set(order), others)
         for at, name in enumerate(order):
-            self.assertEqual({other for other in named[name].split() if other in named} - set(order[:at]), set(), name)
-        self.assertEqual({other for other in named[made.PROGRAM].split() if other in named} - set(order), set())
+            self.assertEqual({*named[name]} - set(order[:at]), set(), name)
+        for name in (made.PROGRAM, made.library.CRATE):
+            self.assertEqual({*named[name]} - set(order), set(), name)
 
 
 class Install(unittest.TestCase):
@@ -171,7 +172,8 @@ class Install(unittest.TestCase):
         kept = tempfile.TemporaryDirectory()
         cls.addClassCleanup(kept.cleanup)
         cls.folder = Path(kept.name)
-        cls.checkout = Checkout(cls.folder / "checkout")
+        # a checkout without a C compiler
+        cls.checkout = Checkout(cls.folder / "checkout", {"CC": "absent"})
         cls.checkout.rt(PROVES.format(calls="/dev/null", given="/dev/null"))
         cls.prefix = cls.folder / "there"
         # what an earlier version left, and an earlier program
@@ -226,7 +228,8 @@ class Install(unittest.TestCase):
 
     def test_what_is_said(self) -> None:
         self.assertEqual((self.done.status, self.done.output), (0, "0 5\n"))
-        for words in ("bin isn't on the PATH", "fc is also a builtin of bash", f"installed under {self.prefix}"):
+        said = ("bin isn't on the PATH", "fc is also a builtin of bash", f"installed under {self.prefix}")
+        for words in (*said, "no C compiler"):
             self.assertIn(words, self.done.errors)
 
     def test_what_was_there_before_is_replaced(self) -> None:

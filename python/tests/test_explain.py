@@ -103,7 +103,7 @@ class Words(unittest.TestCase):
 
     def test_kinds_of_types(self) -> None:
         text = (TOP / "docs" / "language.md").read_text(encoding="utf-8")
-        kinds = words_in_first_columns(text.split("\n| Kind | What to mend |\n", 1)[1].split("\n\n", 1)[0])
+        kinds = words_in_first_columns(text.split("\n| Kind | What is wrong |\n", 1)[1].split("\n\n", 1)[0])
         self.assertEqual(len(kinds), 9)
         self.assertLessEqual(kinds, self.told())
 

@@ -48,26 +48,6 @@ class Made(unittest.TestCase):
         done = subprocess.run([TOP / "tools/pages", "--check"], capture_output=True, text=True, check=False)
         self.assertEqual((done.returncode, done.stdout, done.stderr), (0, "", ""))
 
-    def test_words_of_fc_are_those_of_the_formats(self) -> None:
-        wanted: dict[str, set[str]] = {}
-        for call in calls():
-            wanted.setdefault(call.split()[1], set()).update(re.findall(r"--[a-z-]+", call))
-        named = {one.name: {name for option in one.options for name in option.names} for one in lines.of_fc().commands}
-        self.assertEqual(named, wanted)
-
-    @needs_fc
-    def test_words_of_fc_are_words(self) -> None:
-        for command in lines.of_fc().commands:
-            number = ["7"] if command.words else []
-            for option in command.options:
-                words = [command.name, *number, *option.names, *(["4"] if option.takes else [])]
-                words += ["--settle"] * (option.names == ("--from-table",))
-                done = subprocess.run(
-                    [program.find(), *words], stdin=subprocess.DEVNULL, capture_output=True, check=False
-                )
-                self.assertNotEqual(done.returncode, 2, words)
-                self.assertEqual(done.returncode, 0 if command.name == "gen" else 3, words)
-
 
 @needs_man
 class Shown(unittest.TestCase):
@@ -93,9 +73,9 @@ class Shown(unittest.TestCase):
         parts = sections_of_page(shown("fc.1"))
         self.assertEqual([line.strip() for line in parts["SYNOPSIS"].strip().split("\n")], calls())
         for command in lines.of_fc().commands:
-            part = re.search(rf"(?ms)^       {command.name} +(.*?)(?=^       \w|\Z)", parts["COMMANDS"])[1]
+            part = re.search(rf"(?ms)^   {command.name}$\n(.*?)(?=^   \w|\Z)", parts["COMMANDS"])[1]
             for name in (name for option in command.options for name in option.names):
-                self.assertIn(name, part, command.name)
+                self.assertRegex(part, rf"(?m)^ +{name}( |$)", command.name)
         self.assertEqual(re.findall(r"(?m)^ +(\d) ", parts["EXIT STATUS"]), list("01234567"))
 
     @needs_fc

@@ -36,7 +36,7 @@ DEFINED = re.compile(r"\b(?:fn|struct|enum|trait|type|const|mod)\s+(\w+)|^\s*(?:
 # files that the reader of a page makes, or that stand for any of a kind
 MADE = (
     "mine/", "crates/fc_program/out/", "NAME", "DIR/", "crates/CRATE/", "crates/NAME/", "wrong/CRATE/", "wrong/NAME/",
-    "~", "/", "lib/", "bin/", "libexec/", "usr/", "mine.fc",
+    "~", "/", "lib/", "bin/", "libexec/", "usr/", "release/", "mine.fc",
 )  # fmt: skip
 
 
@@ -96,6 +96,7 @@ def words_of_sources() -> frozenset[str]:
     texts += [path.read_text() for path in (TOP / "docs").glob("*.json")]
     texts += [path.read_text() for folder in ("library", "examples") for path in (TOP / folder).glob("*.fc")]
     texts += [(TOP / name).read_text() for name in ("fc", "build", "test", "tools/wrong")]
+    texts += [path.read_text() for path in (TOP / "embed").glob("*.mjs")]
     texts += [path.stem for path in (TOP / "wrong").glob("*/*.edit")]
     return frozenset(word for text in texts for word in re.findall(r"\w+", text))
 

@@ -1,7 +1,8 @@
 """The pages stay true: the programs of docs/patterns.md have the verdicts and settle lines that stand there, the
 commands of README.md, docs/tour.md and docs/fieldc.md write what stands below them, the programs of docs/language.md
 are read, the example of docs/commands.md and the examples write what is expected, the calls of docs/fieldc.md answer
-what stands beside them, and each page, anchor and picture that a page names is there."""
+what stands beside them, the commands of docs/proofs.md list files as it says, and each page, anchor and picture that a
+page names is there."""
 
 # mypy: no-strict-optional
 
@@ -180,6 +181,33 @@ class Readme(unittest.TestCase):
             given = path.with_suffix(".txt").read_bytes()
             done = subprocess.run([fc.find(), *words], input=given, capture_output=True, check=False)
             self.assertEqual(done.stdout.decode(), path.read_text(), path.stem)
+
+
+class Specs(unittest.TestCase):
+    """What docs/proofs.md says of the files of crates, and the commands by which it lists them."""
+
+    text = (TOP / "docs/proofs.md").read_text()
+
+    def written(self, command: str) -> list[str]:
+        """What a command of the page writes, line by line."""
+        self.assertIn(f"`{command}`", self.text)
+        done = subprocess.run(["bash", "-c", command], cwd=TOP, capture_output=True, text=True, check=True)
+        return done.stdout.splitlines()
+
+    def test_each_file_says_what_it_defines(self) -> None:
+        firsts = self.written("head -q -n 1 crates/*/specs/*.antt")
+        self.assertEqual([line for line in firsts if not line.startswith(("-- ", "pub mod "))], [])
+        self.assertGreater(len([line for line in firsts if line.startswith("-- ")]), 300)
+
+    def test_modules_that_crates_above_may_cite(self) -> None:
+        listed = self.written("grep -l 'Crates above cite this module' crates/*/proofs/*.antt")
+        self.assertGreater(len(listed), 100)
+        part = self.text.split("Offered too, without that line, are ")[1].split("\n")[0]
+        for names, crate in re.findall(r"((?:`[A-Z]\w+`(?:, | and )?)+) of `(\w+)`", part):
+            for name in re.findall(r"`(\w+)`", names):
+                path = f"crates/{crate}/proofs/{name}.antt"
+                self.assertTrue((TOP / path).exists(), path)
+                self.assertNotIn(path, listed)
 
 
 class Words(unittest.TestCase):

@@ -14,6 +14,8 @@ from pathlib import Path
 from .. import networks as network
 from .. import program as fc
 from ..refusals import Call, Fault, Refusal, Section
+from ..released import proved_program
+from ..shared import Shared, shared
 from . import deployments, rows
 from .deployments import Rule
 from .rows import Row
@@ -64,20 +66,20 @@ class Batch:
 def made_by() -> str:
     """A digest of what decides rows beside the question: the program `fc`, and the modules that draw and ask."""
     whole = hashlib.sha256()
-    for name in (executable(), *DECIDING):
+    library = shared()
+    for name in (str(library.file) if library else executable(), *DECIDING):
         whole.update(Path(name).read_bytes())
     return whole.hexdigest()
 
 
 @lru_cache(maxsize=1)
 def executable() -> str:
-    """The program `fc`; in a checkout the proved program itself where it is built, since `./fc` looks at all sources
+    """The program `fc`; in a checkout the proved program itself where there is one, since `./fc` looks at all sources
     first."""
     found, here = fc.find(), fc.checkout()
     if here is None or found != str(here / "fc"):
         return found
-    built = here / "crates/fc_program/out/fc_program"
-    return str(built) if os.access(built, os.X_OK) else found
+    return str(proved_program(here) or found)
 
 
 @lru_cache(maxsize=1)
@@ -109,6 +111,24 @@ def asked(question: Question, seed: int, spent: list[float]) -> Row:
 
 def answer(call: Call, spent: list[float]) -> str:
     """What `fc` writes. Raises Refusal where its status is above 1, and Fault where it can't be run."""
+    library = shared()
+    reply = replied(call, spent) if library is None else called(library, call, spent)
+    if reply.status not in (0, 1):
+        line = reply.text.strip("\n") if reply.status in (2, 3, 4) else ""
+        raise Refusal(reply.status, line.split(" ")[0].rstrip(":"), line, call)
+    return reply.text
+
+
+def called(library: Shared, call: Call, spent: list[float]) -> fc.Reply:
+    """The answer of the library."""
+    start = time.thread_time()
+    reply = library.answer(" ".join(call.words), fc.joined(call.sections))
+    spent.append(time.thread_time() - start)
+    return reply
+
+
+def replied(call: Call, spent: list[float]) -> fc.Reply:
+    """The answer of the program. Raises Fault where it can't be run."""
     with fc.memory(fc.joined(call.sections)) as given, fc.memory() as written:
         ends = [(os.POSIX_SPAWN_DUP2, given, 0), (os.POSIX_SPAWN_DUP2, written, 1)]
         try:
@@ -117,9 +137,4 @@ def answer(call: Call, spent: list[float]) -> str:
             raise Fault(f"{executable()} can't be run: {error.strerror}") from None
         _, status, used = os.wait4(process, 0)
         spent.append(used.ru_utime + used.ru_stime)
-        text = fc.text_of(os.pread(written, os.fstat(written).st_size, 0))
-    code = os.waitstatus_to_exitcode(status)
-    if code not in (0, 1):
-        line = text.strip("\n") if code in (2, 3, 4) else ""
-        raise Refusal(code, line.split(" ")[0].rstrip(":"), line, call)
-    return text
+        return fc.Reply(os.waitstatus_to_exitcode(status), os.pread(written, os.fstat(written).st_size, 0))

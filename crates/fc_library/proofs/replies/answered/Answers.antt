@@ -1,0 +1,9 @@
+use Rattle.std.proofs.Common.{sym}
+use Rattle.fc_inputs.specs.Code.{value_of}
+use Rattle.fc_library.proofs.Replying.{for_usage}
+use Rattle.fc_library.proofs.replies.answered.Goals as goal
+
+pub returns-in_ok-refuse-in-None-clause-answers : goal.returns-in_ok-refuse-in-None-clause-answers
+returns-in_ok-refuse-in-None-clause-answers c =
+    for_usage c.args.asked _ (value_of c.in_ok-refuse-in-None.field-0) (sym c.in-None.is)
+    c.in_ok-refuse-in-None.ensures

@@ -1,0 +1,81 @@
+// Calls of fc in a worker. A call that nobody waits for any more is ended with its worker.
+
+/**
+ * What fc answers: its status, and its text.
+ * @typedef {{status: number, text: string}} Reply
+ */
+/** @typedef {{resolve: (reply: Reply) => void, reject: (error: Error) => void}} Waiting */
+
+/** A call that was ended because something newer is asked. */
+export class Stopped extends Error {}
+
+/**
+ * What was packed for a page, unpacked.
+ * @param {string} text in base 64, of bytes packed by gzip
+ */
+export async function unpacked(text) {
+    const bytes = Uint8Array.from(atob(text.trim()), (sign) => sign.charCodeAt(0));
+    const stream = new Blob([bytes]).stream().pipeThrough(new DecompressionStream("gzip"));
+    return new Response(stream).arrayBuffer();
+}
+
+export class Asker {
+    /**
+     * @param {WebAssembly.Module} module
+     * @param {string} script the address of the worker's script
+     */
+    constructor(module, script) {
+        this.module = module;
+        this.script = script;
+        this.number = 0;
+        /** @type {Map<number, Waiting>} */
+        this.waiting = new Map();
+        this.worker = this.started();
+    }
+
+    started() {
+        const worker = new Worker(this.script);
+        worker.postMessage({ module: this.module });
+        worker.onmessage = ({ data }) => this.take(data);
+        worker.onerror = (event) => {
+            event.preventDefault();
+            this.stop(new Error(event.message || "the worker has ended"));
+        };
+        return worker;
+    }
+
+    /** @param {{number: number, status: number, text: string, error?: string}} data */
+    take({ number, status, text, error }) {
+        const found = this.waiting.get(number);
+        this.waiting.delete(number);
+        if (error === undefined) found?.resolve({ status, text });
+        else found?.reject(new Error(error));
+    }
+
+    /**
+     * What fc answers to words and an input.
+     * @param {string} words
+     * @param {string} input
+     * @returns {Promise<Reply>}
+     */
+    ask(words, input) {
+        const number = ++this.number;
+        return new Promise((resolve, reject) => {
+            this.waiting.set(number, { resolve, reject });
+            this.worker.postMessage({ number, words, input });
+        });
+    }
+
+    /**
+     * Ends what is under way.
+     * @param {Error} error
+     */
+    stop(error = new Stopped("something newer is asked")) {
+        if (!this.waiting.size) return;
+        this.worker.terminate();
+        const left = [...this.waiting.values()];
+        this.waiting.clear();
+        this.worker = this.started();
+        left.forEach(({ reject }) => reject(error));
+    }
+}

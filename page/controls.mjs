@@ -1,0 +1,67 @@
+// The fields around the drawing, as the state has them.
+import { at, element } from "./elements.mjs";
+import { counted } from "./words.mjs";
+
+/** @typedef {import("./network.mjs").Network} Network */
+/** @typedef {import("./network.mjs").Declared} Declared */
+
+/**
+ * The fields of the network.
+ * @param {Network} network
+ * @param {Declared} declared
+ * @param {string} tool what a click does
+ */
+export function drawNetworkFields({ devices, links, range, weight }, { inputs, metric }, tool) {
+    at("size").textContent = `${counted(devices.length, "device")}, ${counted(links.length, "link")}`;
+    at("links").value = range === null ? "hand" : "range";
+    at("range-label").hidden = range === null;
+    at("range").value = range ?? 20;
+    at("range-out").textContent = range === null ? "" : String(range);
+    at("weight-label").hidden = metric[1] <= 1;
+    at("weight-kind").value = weight ? "one" : "length";
+    at("weight").hidden = !weight;
+    if (weight) at("weight").value = weight;
+    const names = inputs.map(({ name }) => name), select = at("input");
+    if ([...select.options].map((option) => option.value).join() !== names.join()) {
+        select.replaceChildren(...names.map((name) => element("option", { text: name })));
+    }
+    const chosen = inputs.find(({ name }) => name === select.value);
+    at("switching").hidden = tool !== "switch" || !chosen;
+    at("amount-label").hidden = chosen?.low === undefined;
+    [at("amount").min, at("amount").max] = [chosen?.low ?? 0, chosen?.high ?? 0];
+}
+
+/**
+ * The fields of the answer.
+ * @param {import("./sharing.mjs").View} view
+ * @param {import("./panels.mjs").Known} known
+ */
+export function drawAnswerFields({ colours, paths, number, round }, known) {
+    at("paths").checked = paths;
+    at("paths").disabled = !known.paths;
+    const none = known.settled && !known.paths;
+    at("no-paths").textContent = none ? "only behind a yes, where main itself is a rep of a gradient" : "";
+    for (const node of document.querySelectorAll("input[name=colours]")) {
+        const radio = /** @type {HTMLInputElement} */ (node);
+        radio.checked = radio.value === colours;
+    }
+    at("colouring").disabled = round !== null;
+    at("number").value = number;
+    at("run").disabled = !known.settled;
+}
+
+/**
+ * The slider of a run, or nothing.
+ * @param {number | null} round the one that is shown
+ * @param {number} last the last one that is known
+ * @param {number} rounds how many are wanted
+ * @param {string} right how many devices are right
+ */
+export function drawSlider(round, last, rounds, right) {
+    at("sliding").hidden = at("end-run").hidden = round === null;
+    if (round === null) return;
+    at("round").max = last;
+    at("round").value = round;
+    at("round-out").textContent = `${round} of ${rounds}`;
+    at("right").textContent = `${round === 0 ? "At the start" : `After ${counted(round, "round")}`}: ${right}.`;
+}

@@ -1,0 +1,107 @@
+// What fc's lines mean, in words.
+
+/**
+ * A sentence, and what to try.
+ * @typedef {{what: string, hint: string}} Said
+ */
+
+/** @type {Record<string, Said>} */
+const KINDS = {
+    range: { what: "This range isn't one",
+        hint: "The ceiling is at least 1, and a range goes from its least number to its greatest, up to the ceiling." },
+    twice: { what: "This name is there already", hint: "Take another name." },
+    unknown: { what: "Nothing of this name is declared above",
+        hint: "Declare an input by input name: bool; and write sense name. A function stands above its first call." },
+    literal: { what: "This number is above the ceiling", hint: "Raise the ceiling, or take a smaller number." },
+    count: { what: "This call has another number of arguments than the function has parameters",
+        hint: "Compare it with the definition." },
+    mismatch: { what: "The types don't fit here",
+        hint: "An operator wants int or bool on both sides, and both branches of an if or a mux the same type." },
+    "not-local": { what: "This is a field, a value for each neighbour, and one value is needed",
+        hint: "Take one of it, by minHoodLoc, maxHoodLoc, sumHood, anyHood or allHood." },
+    result: { what: "The body isn't of the type that the function says",
+        hint: "Change the type behind the brackets, or the body." },
+    wide: { what: "This type has more than 8 ints and bools", hint: "Take smaller pairs." },
+};
+/** @type {Record<string, Said>} */
+const REASONS = {
+    converging: { what: "what is heard may be handed round for ever",
+        hint: "Take a least value that grows from neighbour to neighbour, or collect with a guard nbr{p} < p." },
+    nested: { what: "its variable is used inside a let, an if, a call or a further rep",
+        hint: "Write what is heard where it is used; take mux in place of if." },
+    unguarded: { what: "the device reads what it held itself",
+        hint: "Use what is heard, nbr{x} in a rep, in a minHoodLoc or behind a guard." },
+    potential: { what: "its guards don't compare one integer that is bound outside",
+        hint: "Bind it by one let outside, and write mux(nbr{p} < p, .., ..) with it." },
+    "no-growth": { what: "what is heard isn't known to grow on its way", hint: "Add to what is heard: nbr{x} + 1." },
+    "growth-zero": { what: "what is heard may stay as it is from neighbour to neighbour",
+        hint: "Add at least 1: a number, or nbrLink with a metric from 1 on." },
+    "lead-at-ceiling": { what: "the first part of its pair may be the ceiling, where pairs can't grow",
+        hint: "Keep it below the ceiling: 9 under ceiling 10;" },
+    "rise-zero": { what: "the limit of its rise may be 0, so a value may never rise",
+        hint: "Take a limit of at least 1." },
+};
+/** @type {Record<string, Said>} */
+const LIMITS = {
+    bytes: { what: "The program and the network have more than 1,048,576 bytes", hint: "Take fewer devices or links." },
+    tokens: { what: "A declaration has more than 4,096 tokens", hint: "Cut it into functions." },
+    depth: { what: "A declaration has more than 200 open brackets at one place", hint: "Name parts by let or def." },
+    nodes: { what: "main has more than 2,048 nodes once its calls are unfolded",
+        hint: "Bind by a let what is called twice." },
+    devices: { what: "The network has more than 1,024 devices", hint: "Take fewer." },
+    degree: { what: "A device has more than 32 links", hint: "Take a shorter range, or remove links." },
+};
+
+/**
+ * The sentence of a no.
+ * @param {string} form rep or share, or nothing where it isn't known
+ * @param {string} reason
+ * @returns {Said}
+ */
+export function saidOfNo(form, reason) {
+    const { what, hint } = REASONS[reason] ?? { what: reason, hint: "" };
+    return { what: `This ${form || "rep or share"} isn't of a form that is known to settle: ${what}.`, hint };
+}
+
+/**
+ * The sentence of a line with which fc refuses an input.
+ * @param {string} line
+ * @returns {Said}
+ */
+export function saidOf(line) {
+    const [word, second, third] = line.split(" ");
+    if (word === "lexical") {
+        return { what: "No sign of the language begins here.",
+            hint: "There is no >, ==, / or !: write b < a, a = b, not (b < a)." };
+    }
+    if (word === "syntax") {
+        return { what: `Declaration ${second} isn't in the grammar from here on.`,
+            hint: "Each declaration ends with a ;, the first is ceiling N; and the last main = ..;" };
+    }
+    const found = word === "types" ? KINDS[third] : word === "limit" ? LIMITS[second] : undefined;
+    if (found) return { what: `${found.what}.`, hint: found.hint };
+    if (line === "shape /devices") return { what: "The network has no devices.", hint: "Draw one, or make a network." };
+    if (word === "shape" || word === "network" || word === "json") {
+        return { what: `The network isn't one for this program: ${line}.`, hint: "" };
+    }
+    if (word === "changes") return { what: `Line ${second} of what may change isn't allowed: ${third}.`, hint: "" };
+    return { what: line, hint: "" };
+}
+
+/**
+ * How a failed call is said.
+ * @param {Error} error
+ * @returns {Said}
+ */
+export function saidOfFailure(error) {
+    if (/RangeError/.test(error.message)) {
+        return { what: "This browser has too little stack or memory for this program.", hint: "Nest less deeply." };
+    }
+    return { what: `fc gave no answer: ${error.message}.`, hint: "" };
+}
+
+/**
+ * @param {number} count
+ * @param {string} one
+ */
+export const counted = (count, one) => `${count.toLocaleString("en")} ${one}${count === 1 ? "" : "s"}`;

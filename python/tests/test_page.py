@@ -1,0 +1,613 @@
+"""The page to try fc, in a browser: each feature by events as a user makes them, answers as the program's, the largest
+network, and nothing that leaves the browser."""
+
+from __future__ import annotations
+
+import base64
+import json
+import os
+import re
+import subprocess
+import tempfile
+import time
+import unittest
+from pathlib import Path
+from typing import Any
+
+import wrong_inputs
+from browsing import CONTROL, SHIFT, Browser
+from helping import EXAMPLES, HERE, TOP, fixed_work
+from test_embedded import read_cases
+
+from fieldc import networks as network
+from release import module, page
+
+FC = os.environ.get("FC", "fc")
+ANSWERED = "!['loading', 'working ..'].includes(document.getElementById('brief').textContent) && !asking()"
+# within these the largest network is answered, where nothing else runs
+SECONDS = 10
+# and for so many milliseconds at most nothing moves meanwhile
+STILL = 1000
+# for so many conformance cases a worker has too little stack
+MOST_DEEP = 6
+GAPS = """
+    window.gap = 0; let before = performance.now();
+    setInterval(() => { const now = performance.now(); gap = Math.max(gap, now - before); before = now; }, 10); 1
+"""
+CASES = """(async () => {{
+    const differing = [];
+    for (const {{words, input, status, text}} of {rows}) {{
+        const bytes = Uint8Array.from(atob(input), (sign) => sign.charCodeAt(0));
+        const said = await fc(words, bytes).catch((error) => ({{status: -1, text: String(error)}}));
+        const isSame = said.status === status && said.text === text;
+        if (!isSame) differing.push([words, input.slice(0, 40), said.status, said.text.slice(0, 60)]);
+    }}
+    return differing;
+}})()"""
+TEXTS = """
+    [...document.querySelectorAll(".device")].map((one) => [
+        Number(one.dataset.id), one.querySelector(".value").textContent])
+"""
+OF_RUN = "document.getElementById('round-out').textContent.split(' of ')[1]"
+HERE_STAY = ("file:", "blob:", "data:", "about:")
+BY_METRES = """\
+ceiling 200; input src: bool; metric 1..60;
+main = rep(200){(d) => minHoodLoc(nbr{d} + nbrLink, mux(sense src, 0, 200))};
+"""
+FAR_HOPS = "ceiling 200; input src: bool;\nmain = rep(200){(d) => minHoodLoc(nbr{d} + 1, mux(sense src, 0, 200))};\n"
+
+
+def answer(words: str, text: str) -> tuple[int, str]:
+    """What the program answers."""
+    done = subprocess.run([FC, *words.split()], input=text.encode(), capture_output=True, check=False)
+    return done.returncode, done.stdout.decode()
+
+
+class Opened(unittest.TestCase):
+    """A browser with the page of today's sources."""
+
+    folder: Path
+    file: Path
+    browser: Browser
+
+    @classmethod
+    def setUpClass(cls) -> None:
+        kept = tempfile.TemporaryDirectory()
+        cls.addClassCleanup(kept.cleanup)
+        cls.folder = Path(kept.name)
+        cls.file = cls.folder / "play.html"
+        cls.file.write_text(page.text(module.MADE.read_bytes()))
+        cls.browser = Browser()
+        cls.addClassCleanup(cls.browser.close)
+
+    def setUp(self) -> None:
+        self.browser.screen(1500, 1000)
+        self.open()
+
+    def tearDown(self) -> None:
+        self.assertEqual(self.browser.failures, [])
+        self.assertEqual([url for url in self.browser.requests if not url.startswith(HERE_STAY)], [])
+
+    def open(self, state: str = "") -> None:
+        """Opens the page, and waits for its answer."""
+        self.browser.open(self.file, state)
+        self.settled()
+
+    def settled(self) -> None:
+        """Waits until nothing is asked any more."""
+        self.browser.until(ANSWERED)
+
+    def of(self, name: str) -> str:
+        """The text of an element."""
+        return str(self.browser.value(f"document.getElementById('{name}').textContent"))
+
+    def numbers(self) -> dict[int, str]:
+        """What is written on the devices."""
+        return dict(self.browser.value(TEXTS))
+
+    def place(self, device: int) -> tuple[float, float]:
+        """Where a device is in the window."""
+        self.browser.middle("#drawing")
+        return self.browser.where(f".device[data-id='{device}'] .body")
+
+    def free(self, x: float, y: float) -> tuple[float, float]:
+        """A place of the drawing in the window, by parts of its width and height."""
+        self.browser.middle("#drawing")
+        left, top, width, height = self.browser.box("#drawing")
+        return left + x * width, top + y * height
+
+    def tool(self, name: str) -> None:
+        """Chooses what a click on the drawing does."""
+        self.browser.click_on(f"input[value={name}] + span")
+
+    def choose(self, name: str, value: str) -> None:
+        """Chooses an entry of a list by keys."""
+        place = f"document.getElementById('{name}')"
+        wanted = self.browser.value(f"[...{place}.options].findIndex((one) => one.value === {json.dumps(value)})")
+        now = self.browser.value(f"{place}.selectedIndex")
+        self.assertGreaterEqual(wanted, 0, value)
+        self.settled()
+        self.browser.value(f"{place}.focus()")
+        for _ in range(abs(wanted - now)):
+            self.browser.press("ArrowDown" if wanted > now else "ArrowUp")
+        self.assertEqual(self.browser.value(f"{place}.selectedIndex"), wanted)
+
+    def write(self, text: str) -> None:
+        """Types a program in the place of the one that is there."""
+        self.browser.click_on("#program")
+        self.browser.value("document.getElementById('program').select()")
+        self.browser.type(text)
+        self.settled()
+
+    def input(self) -> str:
+        """The program and the network as an input of fc, as the page saves it."""
+        (self.folder / "input.txt").unlink(missing_ok=True)
+        self.browser.call("Page.setDownloadBehavior", behavior="allow", downloadPath=str(self.folder))
+        self.browser.value("document.getElementById('making').open = true")
+        self.browser.click_on("#save-input")
+        for _ in range(200):
+            if (self.folder / "input.txt").exists():
+                break
+            self.browser.value("new Promise((done) => setTimeout(done, 20))")
+        return (self.folder / "input.txt").read_text()
+
+    def is_as_program(self) -> None:
+        """The numbers on the devices, the verdict and the settle rounds are the program's."""
+        text = self.input()
+        status, said = answer("check --settle", text)
+        self.assertLessEqual(status, 1)
+        lines = [line.split(" ") for line in said.splitlines()[2:]]
+        self.assertIn(said, self.of("wrote"))
+        words = said.splitlines()[1].split(" ")
+        here = "open here" if words == ["open"] else f"settles here after {words[1]}"
+        self.assertIn(here, self.of("brief"))
+        if said.startswith("yes"):
+            wanted = dict(line.split(" ") for line in answer("stable", text)[1].splitlines())
+        else:
+            wanted = {row[0]: row[2] if len(row) > 2 else "" for row in lines}
+        short = {"true": "T", "false": "F"}
+        self.assertEqual(self.numbers(), {int(device): short.get(value, value) for device, value in wanted.items()})
+        self.browser.click_on("input[value=rounds] + span")
+        rounds = {int(row[0]): row[1] if len(row) > 2 else "" for row in lines}
+        self.assertEqual(self.numbers(), rounds)
+        self.browser.click_on("input[value=values] + span")
+
+
+class Program(Opened):
+    def test_the_first_example_is_answered(self) -> None:
+        self.assertEqual(self.of("brief"), "Yes, 22 rounds \u00b7 settles here after 11")
+        self.is_as_program()
+
+    def test_each_example(self) -> None:
+        for name, _ in page.EXAMPLES:
+            with self.subTest(name):
+                self.choose("example", name)
+                self.settled()
+                self.is_as_program()
+
+    def test_answers_come_while_one_types(self) -> None:
+        self.browser.value("program.focus()")
+        self.browser.value("program.setSelectionRange(...[2, 3].map((by) => program.value.indexOf('+ 1') + by))")
+        self.browser.press("2")
+        self.browser.until("/\\+ 2/.test(program.value)")
+        self.settled()
+        self.is_as_program()
+        self.assertEqual(self.of("fault"), "")
+
+    def test_a_mistake_is_marked_where_it_is(self) -> None:
+        rows = {
+            "ceiling 10;\nmain = 1 +\n  true;\n": ("Line 2, column 8", "1 +\n  true", "types don't fit"),
+            "ceiling 10;\nmain = 1 == 2;\n": ("Line 2, column 11", "=", "isn't in the grammar"),
+            "ceiling 10;\nmain = 1 > 2;\n": ("Line 2, column 10", ">", "No sign of the language"),
+            "ceiling 10;\nmain = hop(1, 2);\n": ("Line 2, column 8", "hop", "or hops meant"),
+            "ceiling 10; input src: bool;\nmain = rep(1){(x) => maxHoodLoc(nbr{x}, 1)};\n": (
+                "Line 2, column 8", "rep(1){(x) => maxHoodLoc(nbr{x}, 1)}", "isn't of a form that is known to settle",
+            ),
+        }  # fmt: skip
+        for text, (place, marked, said) in rows.items():
+            with self.subTest(text):
+                self.write(text)
+                self.browser.until(f"document.getElementById('fault').textContent.includes({json.dumps(place)})")
+                self.assertIn(said, self.of("fault"))
+                marks = "[...document.querySelectorAll('#shown mark')].map((one) => one.textContent)"
+                found = self.browser.value(marks)
+                self.assertEqual("".join(found), marked.replace("\n", ""))
+                self.browser.click_on("#fault button")
+                chosen = self.browser.value("program.value.slice(program.selectionStart, program.selectionEnd)")
+                self.assertEqual(chosen, marked)
+
+    def test_blocks_are_put_in_front(self) -> None:
+        self.write("language 2; ceiling 100; input src: bool;\nmain = ")
+        self.browser.press("End", CONTROL)
+        self.choose("block", "hops")
+        self.browser.click_on("#insert")
+        self.browser.until("/main = hops\\(source, far\\)/.test(program.value)")
+        self.assertIn("how many hops away", self.of("about-block"))
+        self.write("language 2; ceiling 100; input src: bool;\nmain = let p = hops(sense src, 20) in (p, parent(p));\n")
+        self.assertEqual(self.of("blocks-count"), "2 blocks put in front: hops, parent")
+        self.is_as_program()
+
+    def test_the_language_of_a_block_is_put_in_front(self) -> None:
+        self.browser.click_on("#program")
+        self.browser.value("program.select()")
+        self.browser.type("ceiling 100; input src: bool;\nmain = hops(sense src, 20);\n")
+        self.browser.until("/of language 2/.test(document.getElementById('fault').textContent)")
+        self.browser.click_on("#fault button:last-of-type")
+        self.settled()
+        self.assertTrue(self.browser.value("program.value.startsWith('language 2;')"))
+
+    def test_standard_layout(self) -> None:
+        text = "ceiling 010;main=1+(2);"
+        self.write(text)
+        self.browser.click_on("#format")
+        self.browser.until(f"program.value === {json.dumps(answer('format', text)[1])}")
+
+    def test_a_place_is_where_it_is_in_the_tables_of_wrong_inputs(self) -> None:
+        """The page finds the line of each wrong program that `fieldc` finds."""
+        rows = [
+            {"program": case.texts.get("program", wrong_inputs.HOPS), "line": case.line, "wanted": case.at[1]}
+            for _, case in wrong_inputs.all_cases() if case.at and case.at[0] == "program" and case.line != "no walks"
+        ]  # fmt: skip
+        file = self.folder / "rows.json"
+        file.write_text(json.dumps(rows))
+        words = ["node", *map(str, (HERE / "page_places.mjs", page.FOLDER, file))]
+        done = subprocess.run(words, capture_output=True, text=True, check=True)
+        self.assertEqual(done.stdout, f"{len(rows)} passed, 0 failed\n")
+        self.assertGreater(len(rows), 150)
+
+
+class Network(Opened):
+    def count(self) -> tuple[int, int]:
+        """How many devices and links are told of."""
+        devices, links = re.findall(r"(\d[\d,]*) ", self.of("size"))
+        return int(devices.replace(",", "")), int(links.replace(",", ""))
+
+    def test_drawing_by_hand(self) -> None:
+        self.assertEqual(self.count(), (14, 25))
+        self.tool("add")
+        self.browser.click(*self.free(0.9, 0.9))
+        self.assertEqual(self.count()[0], 15)
+        self.settled()
+        self.assertIn(14, self.numbers())
+        self.tool("move")
+        before = self.place(14)
+        self.browser.drag(before, self.free(0.6, 0.9))
+        self.assertLess(self.place(14)[0], before[0] - 100)
+        self.tool("switch")
+        self.browser.click(*self.place(14))
+        self.settled()
+        self.assertEqual(self.numbers()[14], "0")
+        self.is_as_program()
+        self.tool("link")
+        links = self.count()[1]
+        self.browser.click(*self.place(0))
+        self.browser.click(*self.place(3))
+        self.assertEqual(self.count()[1], links + 1)
+        self.assertIn("by hand now", self.of("told"))
+        self.browser.drag(self.place(12), self.place(0))
+        self.assertEqual(self.count()[1], links + 2)
+        self.settled()
+        self.is_as_program()
+        self.tool("remove")
+        self.browser.click(*self.place(14))
+        self.assertEqual(self.count()[0], 14)
+        self.browser.click_on("#undo")
+        self.assertEqual(self.count()[0], 15)
+        self.settled()
+        self.is_as_program()
+
+    def test_drawing_by_keys(self) -> None:
+        self.browser.value("document.getElementById('drawing').focus()")
+        self.browser.press("ArrowRight")
+        self.assertRegex(self.of("told"), r"^Device \d+; src .*final value")
+        self.browser.press("ArrowLeft")
+        self.browser.press("+")
+        self.assertEqual(self.count()[0], 15)
+        where = self.place(14)
+        self.browser.press("ArrowDown", SHIFT)
+        self.assertGreater(self.place(14)[1], where[1])
+        self.browser.value("document.querySelector('input[value=move]').focus()")
+        for _ in range(3):
+            self.browser.press("ArrowRight")
+        self.browser.value("document.getElementById('drawing').focus()")
+        self.browser.press("Enter")
+        self.settled()
+        self.assertEqual(self.numbers()[14], "0")
+        self.browser.press("Delete")
+        self.assertEqual(self.count()[0], 14)
+        self.browser.press("z", CONTROL)
+        self.assertEqual(self.count()[0], 15)
+        self.settled()
+        self.is_as_program()
+
+    def test_range_and_inputs_of_a_device(self) -> None:
+        links = self.count()[1]
+        self.browser.value("document.getElementById('range').focus()")
+        for _ in range(12):
+            self.browser.press("ArrowRight")
+        self.assertGreater(self.count()[1], links)
+        self.browser.click(*self.place(7))
+        self.browser.click_on("#inspector input[type=checkbox]")
+        self.settled()
+        self.assertEqual(self.numbers()[7], "0")
+        self.browser.value("document.getElementById('devices-part').open = true")
+        self.browser.click_on("#table tr:nth-child(8) input[type=checkbox]")
+        self.settled()
+        self.assertNotEqual(self.numbers()[7], "0")
+        self.is_as_program()
+
+    def test_weights(self) -> None:
+        self.write(BY_METRES)
+        self.assertGreater(self.browser.value("document.querySelectorAll('.weights text').length"), 20)
+        self.is_as_program()
+        self.assertRegex(self.input(), r"\[0, ?5, ?[1-9][0-9]\]")
+
+    def make(self, shape: str, count: int) -> None:
+        """Makes a network of a shape."""
+        self.browser.value("document.getElementById('making').open = true")
+        self.choose("shape", shape)
+        self.browser.click_on("#count")
+        self.browser.value("document.getElementById('count').select()")
+        self.browser.type(str(count))
+        self.browser.click_on("#make button")
+        self.settled()
+
+    def test_networks_that_are_made(self) -> None:
+        for shape, links in (("grid", 38), ("line", 23), ("ring", 24), ("random", 30)):
+            self.make(shape, 24)
+            self.assertEqual(self.count()[0], 24)
+            if shape == "random":
+                self.assertGreater(self.count()[1], links)
+            else:
+                self.assertEqual(self.count()[1], links, shape)
+            self.is_as_program()
+
+    def read(self, name: str, text: str) -> None:
+        """Chooses a file."""
+        file = self.folder / name
+        file.write_text(text)
+        self.browser.files("#read", file)
+        self.browser.until("document.getElementById('read').value === ''")
+
+    def test_files_in_and_out(self) -> None:
+        self.read("net.json", network.grid(4, 3).scene())
+        self.assertEqual(self.count(), (12, 17))
+        self.settled()
+        rows = [f"{d},{d % 4},{d // 4},{str(d == 5).lower()}\n" for d in range(12)]
+        self.read("at.csv", "id,x,y,src\n" + "".join(rows))
+        self.assertEqual(self.count(), (12, 17))
+        self.settled()
+        self.assertEqual(self.numbers()[5], "0")
+        self.is_as_program()
+        self.read("other.csv", "id,x,y\n1,0,0\n2,1,0\n")
+        self.assertEqual(self.count()[0], 2)
+        self.settled()
+        self.read("input.txt", (EXAMPLES / "hop_count_line.txt").read_text())
+        self.settled()
+        self.assertEqual(self.count(), (3, 2))
+        self.assertEqual(self.of("brief"), "Yes, 22 rounds \u00b7 settles here after 5")
+        self.is_as_program()
+
+    def test_files_that_cant_be_read(self) -> None:
+        rows = {
+            "id,x\n1,2\n": "line 1: .*y is missing",
+            "id,x,y\n1,2,3\n1,5,6\n": "line 3: device 1 stands in a line above",
+            "id,x,y\n1,2\n": "line 2: it has 2 cells",
+            "id,x,y,src\n1,2,3,maybe\n": 'line 2: "maybe" is no whole number',
+            "id,x,y\n70000,2,3\n": "line 2: id is 70000",
+            '{"devices": [], "links": 3}': "no lists devices and links",
+            '{"devices": [{"id": 0}], "links": [[0, 4, 1]]}': "/links/0 links 0 and 4",
+            '{"devices": [': "it is no JSON",
+        }
+        for text, said in rows.items():
+            self.read("wrong.csv", text)
+            self.assertRegex(self.of("notice"), said)
+            self.assertEqual(self.count(), (14, 25))
+
+    def test_the_largest_network(self) -> None:
+        start = time.monotonic()
+        fixed_work()
+        # about 1 where nothing else runs, and more on a busy machine
+        busy = max(1.0, time.monotonic() - start)
+        self.browser.value(GAPS)
+        self.write(FAR_HOPS)
+        self.browser.value("document.getElementById('making').open = true")
+        self.browser.value("document.getElementById('count').select()")
+        self.browser.type("1024")
+        self.browser.click_on("#make button")
+        took = self.browser.until("document.querySelectorAll('.device').length === 1024") + self.browser.until(
+            f"{ANSWERED} && document.getElementById('size').textContent.startsWith('1,024') && "
+            "document.querySelector('.device .value').textContent !== ''"
+        )
+        gap = self.browser.value("gap")
+        self.assertLess(took, SECONDS * busy, f"{took:.1f} s, and {busy:.1f} s for the fixed work")
+        self.assertLess(gap, STILL * busy, f"{gap:.0f} ms, and {busy:.1f} s for the fixed work")
+        self.is_as_program()
+
+
+class Answers(Opened):
+    def test_cheapest_paths(self) -> None:
+        self.browser.click_on("#paths")
+        self.browser.click(*self.place(12))
+        walks = {line.split(" ")[0]: line.split(" ")[2:] for line in answer("trace", self.input())[1].splitlines()[1:]}
+        self.assertIn(" \u2192 ".join(walks["12"]), self.of("inspector"))
+        stretches = self.browser.value("document.querySelector('.path').getAttribute('d').match(/M/g).length")
+        self.assertEqual(stretches, len(walks["12"]) - 1)
+
+    def test_a_run_from_rubbish(self) -> None:
+        self.browser.click_on("#run")
+        self.browser.until("document.getElementById('round').max === '11'")
+        self.assertRegex(self.of("right"), "^At the start: [0-9] of 14")
+        self.assertGreater(self.browser.value("document.querySelectorAll('.wrong').length"), 4)
+        self.browser.value("document.getElementById('round').focus()")
+        self.browser.press("ArrowRight")
+        self.assertIn("After 1 round:", self.of("right"))
+        self.browser.press("End")
+        self.assertEqual(self.of("right"), "After 11 rounds: 14 of 14 devices hold their final value.")
+        self.assertEqual(self.browser.value("document.querySelectorAll('.wrong').length"), 0)
+        self.browser.click_on("#play")
+        self.browser.until("document.getElementById('round').value === '2'")
+        self.browser.click_on("#play")
+        self.browser.click_on("#end-run")
+        self.is_as_program()
+
+    def test_runs_of_all_examples_end_at_final_values(self) -> None:
+        for name, _ in page.EXAMPLES:
+            self.choose("example", name)
+            self.settled()
+            self.browser.click_on("#run")
+            rounds = self.browser.value("Number(document.getElementById('brief').textContent.match(/after (\\d+)/)[1])")
+            self.browser.until(f"document.getElementById('round').max === '{rounds}'")
+            self.browser.value("document.getElementById('round').focus()")
+            self.browser.press("End")
+            self.assertRegex(self.of("right"), r"(\d+) of \1 devices", name)
+
+    def test_the_state_is_in_the_address(self) -> None:
+        self.tool("add")
+        self.browser.click(*self.free(0.9, 0.9))
+        self.settled()
+        self.browser.click_on("#run")
+        self.browser.until(f"document.getElementById('round').max === {OF_RUN}")
+        self.browser.value("document.getElementById('round').focus()")
+        for _ in range(2):
+            self.browser.press("ArrowRight")
+        seen = self.numbers()
+        self.browser.click_on("#share")
+        self.browser.until("document.getElementById('share').textContent !== 'Copy link'")
+        address = str(self.browser.value("location.hash"))
+        self.open(address)
+        self.browser.until("document.getElementById('round').value === '2'")
+        self.browser.until("!document.getElementById('sliding').hidden")
+        self.assertEqual(self.numbers(), seen)
+        for wrong in ("#1.x", "#1.q1YqSy1SslIqzs8FAA", "#nonsense"):
+            self.open(wrong)
+            self.assertIn("no state that this page can read", self.of("notice"))
+            self.assertEqual(self.of("brief"), "Yes, 22 rounds \u00b7 settles here after 11")
+
+    def test_all_conformance_cases(self) -> None:
+        cases = read_cases()
+        rows = [
+            {
+                "words": case.words, "input": base64.b64encode(case.input).decode(), "status": case.status,
+                "text": case.text.decode(),
+            } for case in cases
+        ]  # fmt: skip
+        differing: list[Any] = []
+        while rows:
+            some, rows = rows[:40], rows[40:]
+            differing += self.browser.value(CASES.format(rows=json.dumps(some)))
+        # a worker has less stack than some programs take that nest as deeply as may be: then it is told
+        deep = [row for row in differing if row[2] == -1 and "RangeError" in row[3]]
+        self.assertEqual([row for row in differing if row not in deep], [])
+        self.assertLessEqual(len(deep), MOST_DEEP)
+        self.assertGreater(len(cases), 500)
+
+    def test_what_may_change_is_shown_where_fc_knows_it(self) -> None:
+        knows = self.browser.value("fc('check --settle --changes', '').then(({status}) => status !== 2)")
+        self.assertEqual(self.browser.value("document.getElementById('changing').hidden"), not knows)
+        if not knows:
+            return
+        self.browser.click_on("#changes")
+        self.browser.type("set 1 src any\n")
+        self.browser.until("/After \\d+ round/.test(document.getElementById('changes-said').textContent)")
+        said = answer("check --settle --changes", self.input() + "%%\nset 1 src any\n")[1]
+        self.assertIn(said, self.of("wrote"))
+
+
+class Access(Opened):
+    def test_the_picture_of_the_readme(self) -> None:
+        """`PICTURES` in the environment draws it again."""
+        self.browser.screen(1360, 800)
+        self.open()
+        self.browser.click_on("#paths")
+        self.browser.click(*self.place(12))
+        self.browser.value("scrollTo(0, 0)")
+        picture = self.folder / "page.png"
+        self.browser.picture(picture)
+        self.assertGreater(picture.stat().st_size, 20_000)
+        if "PICTURES" in os.environ:
+            (TOP / "docs/pictures/page.png").write_bytes(picture.read_bytes())
+        self.assertTrue((TOP / "docs/pictures/page.png").exists())
+
+    def test_everything_has_a_name(self) -> None:
+        self.browser.value("document.querySelectorAll('details').forEach((one) => { one.open = true; })")
+        self.browser.click(*self.place(3))
+        roles = {"button", "checkbox", "combobox", "textbox", "slider", "spinbutton", "radio", "application", "region"}
+        nodes = self.browser.call("Accessibility.getFullAXTree")["nodes"]
+        nodes = [node for node in nodes if not node.get("ignored") and node["role"]["value"] in roles]
+        unnamed = [node["role"] for node in nodes if not node.get("name", {}).get("value")]
+        self.assertEqual(unnamed, [])
+        self.assertGreater(len(nodes), 40)
+
+    def test_every_control_is_reached_by_the_tab_key(self) -> None:
+        self.browser.value("document.activeElement?.blur()")
+        reached = set()
+        for _ in range(60):
+            self.browser.press("Tab")
+            reached.add(self.browser.value("document.activeElement?.id || document.activeElement?.name"))
+        wanted = "program drawing example block insert tool range run paths share colours theme"
+        self.assertLessEqual(set(wanted.split(" ")), reached)
+
+    def test_colours_of_texts(self) -> None:
+        """Texts and what they stand on differ by 4.5 to 1 at least, in both looks."""
+        style = (page.FOLDER / "style.css").read_text()
+        for block in re.findall(r":root[^{]*\{(.*?)\}", style, re.DOTALL):
+            colours = dict(re.findall(r"--([\w-]+): (#[0-9a-f]{6})", block))
+            inks = ("ink", "soft", "word", "number", "comment", "accent", "fault")
+            pairs = [(ink, paper) for ink in inks for paper in ("paper", "panel")]
+            for ink, paper in [*pairs, ("accent-ink", "accent"), ("ink", "fault-paper")]:
+                self.assertGreaterEqual(contrast(colours[ink], colours[paper]), 4.5, (ink, paper))
+
+    def test_a_phone(self) -> None:
+        self.browser.screen(390, 844, 2, is_phone=True)
+        self.open()
+        self.assertLessEqual(self.browser.value("document.scrollingElement.scrollWidth"), 390)
+        for value in ("add", "switch"):
+            x, y = self.browser.middle(f"input[value={value}] + span")
+            self.browser.tap(x, y)
+            self.browser.until(f"document.querySelector('input[value={value}]').checked")
+            self.browser.tap(*(self.free(0.9, 0.9) if value == "add" else self.place(14)))
+            self.browser.until("document.querySelectorAll('.device').length === 15")
+        self.settled()
+        self.browser.until("document.querySelector('.device[data-id=\"14\"] .value').textContent === '0'")
+
+    def test_dark_and_light(self) -> None:
+        for is_dark, wanted in ((True, "dark"), (False, "light")):
+            self.browser.dark(is_dark)
+            self.open()
+            self.assertEqual(self.browser.value("document.documentElement.dataset.look"), wanted)
+        self.choose("theme", "dark")
+        self.assertEqual(self.browser.value("document.documentElement.dataset.look"), "dark")
+
+
+class Sources(unittest.TestCase):
+    def test_types(self) -> None:
+        """The page's scripts have the types that they say."""
+        done = subprocess.run(["tsc", "-p", page.FOLDER / "tsconfig.json"], capture_output=True, text=True, check=False)
+        self.assertEqual((done.returncode, done.stdout), (0, ""))
+
+    def test_lines(self) -> None:
+        for file in sorted(page.FOLDER.glob("*.mjs")):
+            rows = file.read_text().split("\n")
+            self.assertLess(len(rows), 900, file.name)
+            self.assertEqual([row for row in rows if len(row) > 120], [], file.name)
+
+    def test_a_page_is_the_same_each_time(self) -> None:
+        bytes_of_a_module = b"\0asm\1\0\0\0"
+        self.assertEqual(page.text(bytes_of_a_module), page.text(bytes_of_a_module))
+
+
+def contrast(one: str, other: str) -> float:
+    """How much two colours differ in lightness, as 1 to 21."""
+
+    def lightness(colour: str) -> float:
+        parts = [int(colour[at : at + 2], 16) / 255 for at in (1, 3, 5)]
+        linear = [part / 12.92 if part <= 0.04045 else float(((part + 0.055) / 1.055) ** 2.4) for part in parts]
+        return 0.2126 * linear[0] + 0.7152 * linear[1] + 0.0722 * linear[2] + 0.05
+
+    light, dark = sorted((lightness(one), lightness(other)), reverse=True)
+    return light / dark
+
+
+if __name__ == "__main__":
+    unittest.main()
