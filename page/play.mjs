@@ -16,7 +16,7 @@ import { brief, describe, drawLegend, drawTable, inspectDevice, inspectLink, ver
 import { runFromRubbish } from "./rubbish.mjs";
 import { addressOf, stateOf } from "./sharing.mjs";
 import { declaredBy } from "./tokens.mjs";
-import { counted, saidOf, saidOfFailure, saidOfNo } from "./words.mjs";
+import { counted, habitAt, saidOf, saidOfFailure, saidOfNo } from "./words.mjs";
 
 /** @typedef {import("./network.mjs").Network} Network */
 /** @typedef {import("./network.mjs").Device} Device */
@@ -37,7 +37,13 @@ input src: bool;
 main = rep(10){(d) =>
     minHoodLoc(nbr{d} + 1, mux(sense src, 0, 10))};
 `;
-const EMPTY = "ceiling 10;\ninput src: bool;\nmain = mux(sense src, 1, 0);\n";
+const EMPTY = `// Your own. Numbers go from 0 to the ceiling.
+ceiling 10;
+// What each device senses:
+input src: bool;
+// What it computes: is src true at a neighbour?
+main = anyHood(nbr{sense src});
+`;
 const MOST_UNDO = 60, MOST_ROUNDS = 200, ROUNDS_WITHOUT = 30, BUSY = 250, TYPING = 200, SAVING = 400;
 const PLAY = 600, MOST_WEIGHT = 1e6;
 
@@ -473,7 +479,8 @@ async function askChanges(input) {
 function refused(text) {
     forget();
     known.wrote = text;
-    const mark = known.made && markOf(known.made, text), said = saidOf(text);
+    const mark = known.made && markOf(known.made, text);
+    const said = saidOf(text, mark && !mark.block ? habitAt(state.program, mark) : "");
     at("brief").textContent = text === "shape /devices" ? "The network is empty" : "Not an input yet";
     at("verdict").replaceChildren(element("p", { class: "big", text: said.what }), element("p", { text: said.hint }));
     at("wrote").textContent = `${text}\n`;
@@ -643,10 +650,12 @@ function sceneNetwork(text, places) {
 function showExample(name) {
     const found = EXAMPLES.find((one) => one.name === name);
     remember();
-    const next = fresh();
+    const next = fresh(), first = name === "empty" ? "add" : "move";
+    /** @type {HTMLInputElement} */ (document.querySelector(`input[value=${first}]`)).checked = true;
+    drawing.endFirst();
     if (name === "empty") {
         next.program = EMPTY;
-        next.network = { devices: [], links: [], range: 20, weight: 0 };
+        next.network = { devices: [], links: [], range: 27, weight: 0 };
     } else if (found) {
         next.program = found.program;
         next.network = readScene(found.scene);
@@ -796,7 +805,11 @@ function wire() {
         draw();
         saveSoon();
     });
-    on("run", "click", () => startRun());
+    on("run", "click", () => {
+        startRun();
+        // on a narrow screen the slider stands below, and the drawing comes into view
+        if (matchMedia("(max-width: 819px)").matches) at("drawing").scrollIntoView({ block: "center" });
+    });
     on("number", "change", () => {
         const wasRun = state.view.round !== null;
         state.view.number = Math.max(0, Math.min(9999999, Math.round(Number(at("number").value)) || 0));

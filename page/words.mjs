@@ -26,7 +26,8 @@ const KINDS = {
 /** @type {Record<string, Said>} */
 const REASONS = {
     converging: { what: "what is heard may be handed round for ever",
-        hint: "Take a least value that grows from neighbour to neighbour, or collect with a guard nbr{p} < p." },
+        hint: "Take a least value that grows from neighbour to neighbour, collect with a guard nbr{p} < p, or "
+            + "insert a block that does what you want: fadingMax, anywhere, greatestOf64." },
     nested: { what: "its variable is used inside a let, an if, a call or a further rep",
         hint: "Write what is heard where it is used; take mux in place of if." },
     unguarded: { what: "the device reads what it held itself",
@@ -53,6 +54,48 @@ const LIMITS = {
 };
 
 /**
+ * What is written of other languages' habit: what ends before the mark, what begins at it, and what to write here.
+ * @type {[RegExp, RegExp, string][]}
+ */
+const HABITS = [
+    [/\d$/, /^\./, "Numbers are whole, from 0 to the ceiling."],
+    [/$/, /^[|&]/, "Write a or b for a || b, a and b for a && b."],
+    [/$/, /^!=/, "Write not (a = b) for a != b."],
+    [/$/, /^!/, "Write not a for !a."],
+    [/$/, /^\//, "There is no /: the block div divides."],
+    [/$/, /^>=/, "Write not (a < b) for a >= b."],
+    [/$/, /^>/, "Write b < a for a > b."],
+    [/<\s*$/, /^=/, "Write not (b < a) for a <= b."],
+    [/=\s*$/, /^=/, "Write a = b for a == b."],
+    [/[=(,{<]\s*$/, /^-/, "There is nothing below 0: numbers go from 0 to the ceiling."],
+    [/$/, /^else\b/, "An if has no else: if (c) {a} {b}, or mux(c, a, b)."],
+    [/\bif\s*\([^{}]*$/, /^[^{]/, "Both branches of an if stand in braces: if (c) {a} {b}."],
+    [/\bif\b[^;]*\}\s*$/, /^;/, "An if has two branches: if (c) {a} {b}."],
+    [/\b(nbr|if|rep)\s*$/, /^/, "Write nbr{a}, rep(a){(x) => b}, if (c) {a} {b}."],
+    [/\blet\s+\w+\s*=[^;]*$/, /^;/, "Write let x = a in b, with in and no ; between."],
+    [/^\s*input\b[^;]*$/, /^/, "An input is input name: bool; or input name: int 0..9;"],
+    [/^\s*def\b[^;=]*$/, /^/, "A function is def name(a: int, b: bool): int = ..;"],
+];
+
+/**
+ * What to write at a place where fc stops reading, as far as it can be guessed.
+ * @param {string} text the program
+ * @param {{from: number, to: number}} mark
+ */
+export function habitAt(text, { from, to }) {
+    const before = text.slice(0, from).replace(/\/\/.*/g, ""), rest = text.slice(from), behind = text.slice(to);
+    const own = before.slice(before.lastIndexOf(";") + 1), isEnd = !behind.trim() && !/^\s*main\b/.test(own);
+    if (!before.trim() && !/^(ceiling|language)\b/.test(rest)) {
+        return "Begin with ceiling 10; where 10 is the greatest number that there is.";
+    }
+    if (isEnd) return "";
+    if (own.trim() && /[\w)}]$/.test(text.slice(from, to)) && /^\s*(input|metric|def|main)\b/.test(behind)) {
+        return "A ; is missing behind this.";
+    }
+    return HABITS.find(([ends, begins]) => ends.test(own) && begins.test(rest))?.[2] ?? "";
+}
+
+/**
  * The sentence of a no.
  * @param {string} form rep or share, or nothing where it isn't known
  * @param {string} reason
@@ -66,21 +109,25 @@ export function saidOfNo(form, reason) {
 /**
  * The sentence of a line with which fc refuses an input.
  * @param {string} line
+ * @param {string} [habit] what to write at its place, where that can be guessed
  * @returns {Said}
  */
-export function saidOf(line) {
+export function saidOf(line, habit) {
     const [word, second, third] = line.split(" ");
     if (word === "lexical") {
         return { what: "No sign of the language begins here.",
-            hint: "There is no >, ==, / or !: write b < a, a = b, not (b < a)." };
+            hint: habit || "There is no >, ==, / or !: write b < a, a = b, not (b < a)." };
     }
     if (word === "syntax") {
         return { what: `Declaration ${second} isn't in the grammar from here on.`,
-            hint: "Each declaration ends with a ;, the first is ceiling N; and the last main = ..;" };
+            hint: habit || "Each declaration ends with a ;, the first is ceiling N; and the last main = ..;" };
     }
     const found = word === "types" ? KINDS[third] : word === "limit" ? LIMITS[second] : undefined;
     if (found) return { what: `${found.what}.`, hint: found.hint };
-    if (line === "shape /devices") return { what: "The network has no devices.", hint: "Draw one, or make a network." };
+    if (line === "shape /devices") {
+        return { what: "The network has no devices.",
+            hint: "Choose Add devices and click on the drawing, or open Make a network. Then fc can answer." };
+    }
     if (word === "shape" || word === "network" || word === "json") {
         return { what: `The network isn't one for this program: ${line}.`, hint: "" };
     }

@@ -380,7 +380,7 @@ class Deployment(unittest.TestCase):
         outcome = importlib.import_module("deploy").deployed(2)
         self.assertEqual((len(outcome.wanted), outcome.starts), (40, 46))
         self.assertEqual(outcome.found, outcome.wanted)
-        self.assertGreater(len(outcome.changes), 100)
+        self.assertGreater(len(outcome.changes), 40)
 
 
 if __name__ == "__main__":

@@ -216,6 +216,41 @@ class Program(Opened):
                 chosen = self.browser.value("program.value.slice(program.selectionStart, program.selectionEnd)")
                 self.assertEqual(chosen, marked)
 
+    def test_habits_of_other_languages_are_answered(self) -> None:
+        rows = {
+            "main = 1;": "Begin with ceiling 10;", "ceiling 10\nmain = 1;": "A ; is missing",
+            "ceiling 10;\ninput t: int;\nmain = 1;": "input name: int 0..9;",
+            "ceiling 10;\ndef f(a) = 1;\nmain = 1;": "def name(a: int", "ceiling 10;\nmain = 1.5;": "are whole",
+            "ceiling 10;\nmain = 1 <= 2;": "not (b < a) for a <= b", "ceiling 10;\nmain = 1 == 2;": "a = b for a == b",
+            "ceiling 10;\nmain = 1 >= 2;": "not (a < b) for a >= b", "ceiling 10;\nmain = 1 > 2;": "b < a for a > b",
+            "ceiling 10;\nmain = 1 != 2;": "not (a = b)", "ceiling 10;\nmain = !true;": "not a for !a",
+            "ceiling 10;\nmain = true && true;": "a and b for", "ceiling 10;\nmain = -1;": "nothing below 0",
+            "ceiling 10;\nmain = if (true) {1} else {2};": "no else", "ceiling 10;\nmain = if (true) 1;": "in braces",
+            "ceiling 10;\nmain = let x = 1; x;": "x = a in b", "ceiling 10;\nmain = sumHood(nbr(1));": "nbr{a}",
+            "ceiling 10;\nmain = 1 + ;": "Each declaration ends",
+        }  # fmt: skip
+        for text, said in rows.items():
+            with self.subTest(text):
+                self.write(text)
+                self.browser.until(f"document.getElementById('fault').textContent.includes({json.dumps(said)})")
+
+    def test_the_forms_of_the_language_are_those_that_fc_takes(self) -> None:
+        """What the page offers to try as a `main` gets a yes."""
+        tried = self.browser.value("[...document.querySelectorAll('#language p code')].map((one) => one.textContent)")
+        for expression in tried[1:]:
+            self.write(f"ceiling 10;\ninput src: bool;\nmain = {expression};\n")
+            self.assertIn("Yes", self.of("brief"), expression)
+        self.assertEqual(len(tried), 4)
+
+    def test_an_empty_network_is_begun_by_a_click(self) -> None:
+        self.choose("example", "empty")
+        self.browser.until("document.getElementById('brief').textContent === 'The network is empty'")
+        for x in (0.4, 0.6):
+            self.browser.click(*self.free(x, 0.5))
+        self.settled()
+        self.is_as_program()
+        self.assertEqual(self.of("size"), "2 devices, 1 link")
+
     def test_blocks_are_put_in_front(self) -> None:
         self.write("language 2; ceiling 100; input src: bool;\nmain = ")
         self.browser.press("End", CONTROL)
@@ -570,6 +605,19 @@ class Access(Opened):
             self.browser.until("document.querySelectorAll('.device').length === 15")
         self.settled()
         self.browser.until("document.querySelector('.device[data-id=\"14\"] .value').textContent === '0'")
+
+    def test_a_run_on_a_phone(self) -> None:
+        """The drawing and the slider are both in the window."""
+        self.browser.screen(390, 844, 2, is_phone=True)
+        self.open()
+        self.browser.tap(*self.browser.middle("#run"))
+        self.browser.until("document.getElementById('round').max === '11'")
+        (_, top, _, height), (_, slider, _, rest) = self.browser.box("#drawing"), self.browser.box("#sliding")
+        self.assertGreater(top, 0)
+        self.assertLessEqual(top + height, slider)
+        self.assertLessEqual(slider + rest, 844)
+        self.browser.tap(*self.browser.where("#play"))
+        self.browser.until("document.getElementById('round').value === '2'")
 
     def test_dark_and_light(self) -> None:
         for is_dark, wanted in ((True, "dark"), (False, "light")):
