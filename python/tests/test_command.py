@@ -203,9 +203,10 @@ class LongWork(InFolder):
     def test_a_line_says_that_it_goes_on(self) -> None:
         program, scene = self.file(HOPS, "hops.fc"), self.file(LINE, "line.json")
         script = self.file("scramble 1\nrun 20\nmix 3 set 0 src false\nshow\n", "script.txt")
-        said = on_a_terminal("run", program, scene, script, fc=self.slow(2.5))
+        # slower than the line that is wanted, so that a busy machine writes it too
+        said = on_a_terminal("run", program, scene, script, fc=self.slow(4))
         self.assertIn("fieldc: fc run --workers 4, 3 devices", said)
-        self.assertRegex(said, "23 rounds: [1-9][0-9]* s")
+        self.assertIn("23 rounds: 2 s", said)
         self.assertTrue(said.endswith("\r"))
         self.assertEqual(said.split("\r")[-2].strip(), "")
 

@@ -377,10 +377,15 @@ class Deployment(unittest.TestCase):
 
     def test_forty_devices(self) -> None:
         sys.path.insert(0, str(TOP / "examples/firmware"))
-        outcome = importlib.import_module("deploy").deployed(2)
-        self.assertEqual((len(outcome.wanted), outcome.starts), (40, 46))
-        self.assertEqual(outcome.found, outcome.wanted)
-        self.assertGreater(len(outcome.changes), 40)
+        deploy = importlib.import_module("deploy")
+        changes = []
+        # on a busy machine one deployment may see fewer changes; each of them has to end as it should
+        while max(changes, default=0) <= 100 and len(changes) < 3:
+            outcome = deploy.deployed(2 + len(changes))
+            self.assertEqual((len(outcome.wanted), outcome.starts), (40, 46))
+            self.assertEqual(outcome.found, outcome.wanted)
+            changes.append(len(outcome.changes))
+        self.assertGreater(max(changes), 100, changes)
 
 
 if __name__ == "__main__":
