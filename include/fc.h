@@ -31,7 +31,7 @@ enum fc_status {
  * - Each pointer is to as many bytes as its length says. With length 0 it may be NULL.
  * - The room and *needed can be written, and overlap nothing else of the call.
  * - No other thread touches any of them during the call.
- * - FC_STACK bytes of stack are left. Nothing proves this number: programs that nest as deeply as may be took 2.6 MiB.
+ * - FC_STACK bytes of stack are left. Nothing proves this number: the deepest programs take less than 2 MiB.
  *
  * Calls of several threads may overlap. The call is not for a signal handler, nor for the forked child of a process
  * with threads. What it allocates, by malloc, it has freed when it returns. */

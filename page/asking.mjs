@@ -19,6 +19,12 @@ export async function unpacked(text) {
     return new Response(stream).arrayBuffer();
 }
 
+/**
+ * The sections of an input.
+ * @param {...string} sections
+ */
+export const inputOf = (...sections) => sections.map((section) => section.replace(/\n*$/, "\n")).join("%%\n");
+
 export class Asker {
     /**
      * @param {WebAssembly.Module} module
@@ -79,3 +85,10 @@ export class Asker {
         left.forEach(({ reject }) => reject(error));
     }
 }
+
+/**
+ * The workers of the page, once it has begun: one for what stands beside the drawing, and one for runs and the layout
+ * of the program, so that neither ends the other's calls.
+ * @type {{answer: Asker, run: Asker}}
+ */
+export const workers = Object.create(null);

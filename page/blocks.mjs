@@ -3,10 +3,10 @@ import { piecesOf } from "./tokens.mjs";
 
 /** @typedef {import("./tokens.mjs").Token} Token */
 /**
- * A function of the library: how it is called, what it gives, its text, and which functions it calls.
+ * A function of the library: its group, how it is called, what it gives, its text, and which functions it calls.
  * @typedef {{
- *   name: string, call: string, gives: string, needs: string, text: string, calls: string[], isSecond: boolean,
- *   isPart: boolean,
+ *   name: string, group: string, call: string, gives: string, needs: string, text: string, calls: string[],
+ *   isSecond: boolean, isPart: boolean,
  * }} Block
  */
 /**
@@ -88,7 +88,7 @@ export function composed(own, library) {
     for (const token of called) {
         if (library.has(token.text)) continue;
         const near = nearNames(token.text, library);
-        const hint = near.length ? `; is ${near.join(" or ")} meant?` : "; Insert a block has those of the library.";
+        const hint = near.length ? `; did you mean ${near.join(" or ")}?` : "; the list Block has the library's.";
         throw new Misfit(`No function or block is called ${token.text}${hint}`, token);
     }
     const asked = needed(called, library);
@@ -116,13 +116,13 @@ function refuseClashes(pieces, asked, library) {
     for (const piece of pieces) {
         const name = piece[1];
         if (name && ["def", "input"].includes(piece[0].text) && asked.has(name.text)) {
-            throw new Misfit(`${name.text} is the name of a block that is needed here: take another name.`, name);
+            throw new Misfit(`${name.text} is the name of a block that is needed here: choose another name.`, name);
         }
     }
     const isSecond = pieces[0].map((token) => token.text).join(" ") === "language 2 ;";
     const later = [...asked].find(([name]) => library.get(name)?.isSecond);
     if (later && !isSecond) {
-        throw new Misfit(`The block ${later[0]} is of language 2: begin the program with language 2;`, later[1]);
+        throw new Misfit(`The block ${later[0]} needs language 2: begin the program with language 2;`, later[1]);
     }
 }
 

@@ -41,9 +41,11 @@ export function drawAnswerFields({ colours, paths, number, round }, known) {
     at("paths").disabled = !known.paths;
     const none = known.settled && !known.paths;
     at("no-paths").textContent = none ? "only behind a yes, where main itself is a rep of a gradient" : "";
+    // a run shows values alone
+    const shown = round === null ? colours : "values";
     for (const node of document.querySelectorAll("input[name=colours]")) {
         const radio = /** @type {HTMLInputElement} */ (node);
-        radio.checked = radio.value === colours;
+        radio.checked = radio.value === shown;
     }
     at("colouring").disabled = round !== null;
     at("number").value = number;

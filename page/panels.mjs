@@ -44,6 +44,22 @@ export function verdictNodes({ verdict, rounds, byDevice }, count) {
 }
 
 /**
+ * The verdict on a program while its network is empty, in words.
+ * @param {number | null} one the rounds of a yes on one device, or null for a no
+ * @param {number | null} most those on as many devices as there may be
+ */
+export function aloneNodes(one, most) {
+    if (one === null || most === null) {
+        return [element("p", { class: "big no-verdict", text: "No: it isn't known to settle everywhere" })];
+    }
+    const after = `After ${counted(one, "round")} without an edit on one device, after `;
+    return [
+        element("p", { class: "big yes", text: "Yes: it settles on every network" }),
+        element("p", { text: `${after}${most.toLocaleString("en")} on 1,024 devices, the most that there may be.` }),
+    ];
+}
+
+/**
  * The verdict in few words.
  * @param {Settled} settled
  */

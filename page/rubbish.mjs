@@ -2,7 +2,8 @@
 // drawn from a number. Each round is a log that is written here, and fc replays it.
 import { readReplayed } from "./answers.mjs";
 import { formsOf } from "./marking.mjs";
-import { dice, sceneOf } from "./network.mjs";
+import { dice } from "./network.mjs";
+import { sceneOf } from "./scenes.mjs";
 
 /** @typedef {import("./answers.mjs").Value} Value */
 /** @typedef {import("./answers.mjs").Values} Values */

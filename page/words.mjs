@@ -7,29 +7,29 @@
 
 /** @type {Record<string, Said>} */
 const KINDS = {
-    range: { what: "This range isn't one",
+    range: { what: "This range isn't valid",
         hint: "The ceiling is at least 1, and a range goes from its least number to its greatest, up to the ceiling." },
-    twice: { what: "This name is there already", hint: "Take another name." },
+    twice: { what: "This name is taken", hint: "Choose another name." },
     unknown: { what: "Nothing of this name is declared above",
         hint: "Declare an input by input name: bool; and write sense name. A function stands above its first call." },
-    literal: { what: "This number is above the ceiling", hint: "Raise the ceiling, or take a smaller number." },
-    count: { what: "This call has another number of arguments than the function has parameters",
+    literal: { what: "This number is above the ceiling", hint: "Raise the ceiling, or write a smaller number." },
+    count: { what: "This call doesn't have as many arguments as the function has parameters",
         hint: "Compare it with the definition." },
     mismatch: { what: "The types don't fit here",
         hint: "An operator wants int or bool on both sides, and both branches of an if or a mux the same type." },
-    "not-local": { what: "This is a field, a value for each neighbour, and one value is needed",
-        hint: "Take one of it, by minHoodLoc, maxHoodLoc, sumHood, anyHood or allHood." },
-    result: { what: "The body isn't of the type that the function says",
-        hint: "Change the type behind the brackets, or the body." },
-    wide: { what: "This type has more than 8 ints and bools", hint: "Take smaller pairs." },
+    "not-local": { what: "This is a field, a value for each neighbour, but one value is needed",
+        hint: "Make one value of it with minHoodLoc, maxHoodLoc, sumHood, anyHood or allHood." },
+    result: { what: "The body doesn't have the type that the function declares",
+        hint: "Change the type after the brackets, or the body." },
+    wide: { what: "This type has more than 8 ints and bools", hint: "Use smaller pairs." },
 };
 /** @type {Record<string, Said>} */
 const REASONS = {
-    converging: { what: "what is heard may be handed round for ever",
-        hint: "Take a least value that grows from neighbour to neighbour, collect with a guard nbr{p} < p, or "
+    converging: { what: "what is heard may go round in circles for ever",
+        hint: "Use a least value that grows from neighbour to neighbour, collect with a guard nbr{p} < p, or "
             + "insert a block that does what you want: fadingMax, anywhere, greatestOf64." },
     nested: { what: "its variable is used inside a let, an if, a call or a further rep",
-        hint: "Write what is heard where it is used; take mux in place of if." },
+        hint: "Write what is heard where it is used; use mux instead of if." },
     unguarded: { what: "the device reads what it held itself",
         hint: "Use what is heard, nbr{x} in a rep, in a minHoodLoc or behind a guard." },
     potential: { what: "its guards don't compare one integer that is bound outside",
@@ -40,18 +40,21 @@ const REASONS = {
     "lead-at-ceiling": { what: "the first part of its pair may be the ceiling, where pairs can't grow",
         hint: "Keep it below the ceiling: 9 under ceiling 10;" },
     "rise-zero": { what: "the limit of its rise may be 0, so a value may never rise",
-        hint: "Take a limit of at least 1." },
+        hint: "Use a limit of at least 1." },
 };
 /** @type {Record<string, Said>} */
 const LIMITS = {
-    bytes: { what: "The program and the network have more than 1,048,576 bytes", hint: "Take fewer devices or links." },
-    tokens: { what: "A declaration has more than 4,096 tokens", hint: "Cut it into functions." },
+    bytes: { what: "The program and the network have more than 1,048,576 bytes", hint: "Use fewer devices or links." },
+    tokens: { what: "A declaration has more than 4,096 tokens", hint: "Split it into functions." },
     depth: { what: "A declaration has more than 200 open brackets at one place", hint: "Name parts by let or def." },
     nodes: { what: "main has more than 2,048 nodes once its calls are unfolded",
-        hint: "Bind by a let what is called twice." },
-    devices: { what: "The network has more than 1,024 devices", hint: "Take fewer." },
-    degree: { what: "A device has more than 32 links", hint: "Take a shorter range, or remove links." },
+        hint: "Bind what is called twice with a let." },
+    devices: { what: "The network has more than 1,024 devices", hint: "Use fewer." },
+    degree: { what: "A device has more than 32 links", hint: "Choose a shorter range, or remove links." },
 };
+
+/** How fc refuses an empty network. */
+export const NO_DEVICES = "shape /devices";
 
 /**
  * What is written of other languages' habit: what ends before the mark, what begins at it, and what to write here.
@@ -69,10 +72,10 @@ const HABITS = [
     [/=\s*$/, /^=/, "Write a = b for a == b."],
     [/[=(,{<]\s*$/, /^-/, "There is nothing below 0: numbers go from 0 to the ceiling."],
     [/$/, /^else\b/, "An if has no else: if (c) {a} {b}, or mux(c, a, b)."],
-    [/\bif\s*\([^{}]*$/, /^[^{]/, "Both branches of an if stand in braces: if (c) {a} {b}."],
+    [/\bif\s*\([^{}]*$/, /^[^{]/, "Put both branches of an if in braces: if (c) {a} {b}."],
     [/\bif\b[^;]*\}\s*$/, /^;/, "An if has two branches: if (c) {a} {b}."],
     [/\b(nbr|if|rep)\s*$/, /^/, "Write nbr{a}, rep(a){(x) => b}, if (c) {a} {b}."],
-    [/\blet\s+\w+\s*=[^;]*$/, /^;/, "Write let x = a in b, with in and no ; between."],
+    [/\blet\s+\w+\s*=[^;]*$/, /^;/, "Write let x = a in b, with in, and no ; before it."],
     [/^\s*input\b[^;]*$/, /^/, "An input is input name: bool; or input name: int 0..9;"],
     [/^\s*def\b[^;=]*$/, /^/, "A function is def name(a: int, b: bool): int = ..;"],
 ];
@@ -115,21 +118,21 @@ export function saidOfNo(form, reason) {
 export function saidOf(line, habit) {
     const [word, second, third] = line.split(" ");
     if (word === "lexical") {
-        return { what: "No sign of the language begins here.",
+        return { what: "This character isn't in the language.",
             hint: habit || "There is no >, ==, / or !: write b < a, a = b, not (b < a)." };
     }
     if (word === "syntax") {
-        return { what: `Declaration ${second} isn't in the grammar from here on.`,
+        return { what: `Declaration ${second} has a syntax error here.`,
             hint: habit || "Each declaration ends with a ;, the first is ceiling N; and the last main = ..;" };
     }
     const found = word === "types" ? KINDS[third] : word === "limit" ? LIMITS[second] : undefined;
     if (found) return { what: `${found.what}.`, hint: found.hint };
-    if (line === "shape /devices") {
-        return { what: "The network has no devices.",
-            hint: "Choose Add devices and click on the drawing, or open Make a network. Then fc can answer." };
+    if (line === NO_DEVICES) {
+        return { what: "The network has no devices yet.",
+            hint: "Choose Add devices and click on the drawing, or open Make a network: then fc answers for yours." };
     }
     if (word === "shape" || word === "network" || word === "json") {
-        return { what: `The network isn't one for this program: ${line}.`, hint: "" };
+        return { what: `The network doesn't fit this program: ${line}.`, hint: "" };
     }
     if (word === "changes") return { what: `Line ${second} of what may change isn't allowed: ${third}.`, hint: "" };
     return { what: line, hint: "" };

@@ -8,7 +8,7 @@ from dataclasses import dataclass
 WAY = (
     "fc_program/src/top.rt fc",
     "fc_answers/specs/Headline.antt IsKept",
-    "fc_check/specs/Promises.antt ChecksYes",
+    "fc_check/specs/Promises.antt VerdictKept",
     "converge_laws/specs/Stabilising.antt Stabilises",
     "device_eval/specs/Rules.antt Evaluates",
 )
@@ -52,8 +52,9 @@ PROMISES = (
     ),
     Promise(
         "What `check` and `stable` promise",
-        "`ChecksYes` and `SolvesYes`: the yes stands in the text, and the lines of `stable` are the one field.",
-        (CHECK + "ChecksYes", STABLE + "SolvesYes"),
+        "`VerdictKept` and `SolvesYes`: the verdict stands in the text and a yes is kept, and the lines of `stable` "
+        "are the one field.",
+        (CHECK + "VerdictKept", STABLE + "SolvesYes"),
         (EDITS,),
     ),
     Promise(
@@ -63,7 +64,7 @@ PROMISES = (
         (EDITS,),
     ),
     Promise(
-        "What `trace` promises", "`TracesYes`: walks, their costs, and the best.", (TRACE + "TracesYes",), (EDITS,)
+        "What `trace` promises", "`TraceKept`: walks, their costs, and the best.", (TRACE + "TraceKept",), (EDITS,)
     ),
     Promise(
         "What `replay` promises",

@@ -36,19 +36,19 @@ def add_files(parser: argparse.ArgumentParser, kinds: Sequence[str]) -> None:
         "files",
         nargs="+",
         metavar="FILE",
-        help=f"{wanted}: a file each, or joined by lines %%%% in one; - is standard input",
+        help=f"{wanted}: one file each, or one file with lines %%%% between them; - is standard input",
     )
 
 
 def add_answers(parser: argparse.ArgumentParser, names: bool = True, values: bool = False) -> None:
     """How the answer is written; `values` is whether it has values of devices."""
     forms = parser.add_mutually_exclusive_group()
-    forms.add_argument("--json", action="store_true", help="writes the answer, and a refusal, as JSON")
+    forms.add_argument("--json", action="store_true", help="writes the answer, or a refusal, as JSON")
     if values:
-        forms.add_argument("--csv", action="store_true", help="writes the values alone, as a table with a row a device")
+        forms.add_argument("--csv", action="store_true", help="writes only the values, as a table, a row each")
     if names:
         parser.add_argument(
-            "--names", metavar="FILE", help="a file of lines id,name: devices are called by these names"
+            "--names", metavar="FILE", help="a file of lines id,name: the names by which devices are shown"
         )
     if names and values:
         parser.add_argument(
@@ -59,7 +59,7 @@ def add_answers(parser: argparse.ArgumentParser, names: bool = True, values: boo
 
 def add_cut_check(parser: argparse.ArgumentParser) -> None:
     """Whether values are looked at that the ceiling may have cut."""
-    asks = "doesn't ask fc once more, with a greater ceiling, whether values are cut"
+    asks = "doesn't ask fc again, with a greater ceiling, whether values are cut"
     parser.add_argument(cuts.OPTION, action="store_true", help=asks)
 
 
@@ -107,7 +107,7 @@ def parts_of(options: argparse.Namespace, kinds: Sequence[str], names: Mapping[i
     """The sections of the files, and behind them that of the changes, where there are some. Raises Fault."""
     given = getattr(options, "changes", None)
     if given == "-" and "-" in options.files:
-        raise Fault("standard input can be read once: name it by one -")
+        raise Fault("standard input can be read only once: use a single -")
     parts = tuple(numbered(section, names) for section in sections(options.files, kinds))
     return parts if given is None else (*parts, changes.for_fc(Section("changes", given, 1, read(given)), parts, names))
 
@@ -127,7 +127,7 @@ def understood(reader: Callable[[str, Call], Answer], text: str, call: Call) -> 
     try:
         return reader(text, call)
     except (Fault, ValueError, KeyError, IndexError, TypeError):
-        raise Fault(f"{fc.find()} doesn't answer as fc does: {text[:60]!r}") from None
+        raise Fault(f"{fc.find()} doesn't answer like fc: {text[:60]!r}") from None
 
 
 def numbered(section: Section, names: Mapping[int, str]) -> Section:

@@ -55,7 +55,7 @@ def parts_of(script: str) -> list[Part]:
     found = [Part(1, (), 0)]
     for number, words, rounds in steps(script):
         if rounds and words[0] != "run":
-            where = f"line {number} of the script: mix edits among firings, and what devices hold at that moment isn't"
+            where = f"line {number} of the script: mix edits during firings, so what devices hold at that moment isn't"
             raise Fault(f"{where} known: write `{' '.join(words)}` and `run {rounds}` on lines of their own", 3)
         if words[0] in EDITS:
             if found[-1].rounds or not found[-1].edits:
@@ -77,8 +77,8 @@ def judged(program: Section, network: Section, script: Section) -> tuple[Network
     if not any(part.rounds for part in parts):
         raise Fault("the script runs no round", 3)
     if "pending" in made.state and parts[0].edits:
-        line = f"line {parts[0].line} of the script edits while firings are in flight"
-        raise Fault(f"{line}: let a run line stand before", 3)
+        line = f"line {parts[0].line} of the script edits while firings are in progress"
+        raise Fault(f"{line}: put a run line before it", 3)
     return made, parts
 
 

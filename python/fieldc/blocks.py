@@ -192,16 +192,16 @@ def read_library(folders: Iterable[Path]) -> Library:
     for folder in folders:
         paths = sorted(folder.glob("*.fc"))
         if not paths:
-            raise Fault(f"{folder} has no blocks: no file NAME.fc is there", 5)
+            raise Fault(f"{folder} has no blocks: it has no file NAME.fc", 5)
         for path in paths:
             text = read(str(path))
             for function in declarations(text):
                 words = [token.text for token in function.tokens]
                 if words[:1] != ["def"] or words[2:3] != ["("] or words[-1] != ";":
-                    raise Fault(f"{path} line {function.line}: a file of blocks has functions alone", 3)
+                    raise Fault(f"{path} line {function.line}: a file of blocks may have only functions", 3)
                 if function.name in found:
                     other = found[function.name].file
-                    raise Fault(f"{path} line {function.line}: {function.name} stands in {other} too", 3)
+                    raise Fault(f"{path} line {function.line}: {function.name} is in {other} too", 3)
                 found[function.name] = _block(path, text, function)
     return found
 

@@ -112,7 +112,7 @@ def check_forms(section: Section) -> None:
         verb, *rest = line.removesuffix("\r").split(" ")
         where = f"{section.name or section.kind} line {place + section.first_line}"
         if verb not in FORMS and line.strip():
-            raise Fault(f"{where}: {verb[:40]} begins no line of changes; {', '.join(FORMS)} do", 3)
+            raise Fault(f"{where}: {verb[:40]} can't begin a line of changes; {', '.join(FORMS)} can", 3)
         if verb in FORMS and (verb, len(rest)) not in RULES and ((verb, None) not in RULES or not rest):
             raise Fault(f"{where}: it is written {FORMS[verb]}", 3)
 
@@ -165,10 +165,10 @@ def devices_of(word: str, known: Known, where: str) -> list[int]:
         found = [device for device in there if _is_same(there[device].get(name), value)]
     else:
         near = similar(word, known.number)
-        hint = f"; is {near} meant?" if near is not None else "" if known.number else BY_NUMBER
+        hint = f"; did you mean {near}?" if near is not None else "" if known.number else BY_NUMBER
         raise Fault(f"{where}: no device is called {word}{hint}", 3)
     if not found:
-        raise Fault(f"{where}: {word} means no device of the network", 3)
+        raise Fault(f"{where}: no device of the network is {word}", 3)
     return found
 
 
@@ -176,7 +176,7 @@ def _numbers(word: str, where: str) -> Pair:
     """The ends of numbers of devices such as `3..9`. Raises Fault where they are upside down."""
     low, high = map(int, word.split(".."))
     if low > high:
-        raise Fault(f"{where}: {word} is upside down: the least number comes first", 3)
+        raise Fault(f"{where}: {word} is the wrong way round: the least number comes first", 3)
     return low, high
 
 
@@ -233,7 +233,7 @@ def _link(words: Sequence[str], known: Known, where: str) -> Iterator[str]:
         now = known.weights.get((a, b))
         if around is not None and now is None:
             called = f"{known.network.called(a)} and {known.network.called(b)}"
-            raise Fault(f"{where}: {called} aren't linked, so there is no weight that {weight} could be about", 3)
+            raise Fault(f"{where}: {called} aren't linked, so {weight} has no weight to start from", 3)
         yield f"link {a} {b} {_weight(weight, now, known)}"
 
 
@@ -247,7 +247,7 @@ def _pairs(first: str, second: str, known: Known, where: str) -> list[Pair]:
     ones, others = devices_of(first, known, where), devices_of(second, known, where)
     found = sorted({(min(a, b), max(a, b)) for a in ones for b in others if a != b})
     if not found:
-        raise Fault(f"{where}: {first} and {second} mean one device alone, and a link has two", 3)
+        raise Fault(f"{where}: {first} and {second} are the same device, but a link has two", 3)
     return found
 
 
@@ -261,7 +261,7 @@ def _some(pairs: Iterable[Pair], words: str, where: str) -> list[Pair]:
     """The pairs that some words mean, rising. Raises Fault where there are none."""
     found = sorted(pairs)
     if not found:
-        raise Fault(f"{where}: {words} means no link of the network", 3)
+        raise Fault(f"{where}: no link of the network is {words}", 3)
     return found
 
 
@@ -290,9 +290,9 @@ def _join(words: Sequence[str], known: Known, where: str) -> Iterator[str]:
     """A `join` of several devices, which aren't in the network yet, so `3..9` has all these numbers."""
     about = next(filter(around_of, words[1:]), None)
     if about is not None:
-        raise Fault(f"{where}: a device that joins has no value yet that {about} could be about", 3)
+        raise Fault(f"{where}: a device that joins has no value yet from which {about} could start", 3)
     if not NUMBERS.fullmatch(words[0]):
-        raise Fault(f"{where}: {words[0]} is no device that may join: write its number, or numbers as 7..9", 3)
+        raise Fault(f"{where}: {words[0]} can't be a device that joins: write its number, or numbers such as 7..9", 3)
     low, high = _numbers(words[0], where)
     for device in range(low, high + 1):
         yield " ".join(["join", str(device), *words[1:]])

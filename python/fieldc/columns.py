@@ -25,15 +25,15 @@ def decimal(word: str, where: str) -> Decimal:
     """A number with a decimal point or comma. Raises Fault, of status 3, for any other word."""
     if DECIMAL.fullmatch(word):
         return Decimal(word.replace(",", "."))
-    marks = "; parts of thousands can't be set apart" if re.fullmatch(r"[+-]?[0-9][0-9., ]*[0-9]", word) else ""
-    raise Fault(f"{where} is {word!r}, which is no number{marks}", 3)
+    marks = "; don't separate thousands" if re.fullmatch(r"[+-]?[0-9][0-9., ]*[0-9]", word) else ""
+    raise Fault(f"{where} is {word!r}, which isn't a number{marks}", 3)
 
 
 def real(word: str, where: str) -> float:
     """A position or a time. Raises Fault, of status 3, where it is no number, or too great to be reckoned with."""
     found = float(decimal(word, where))
     if not -FARTHEST <= found <= FARTHEST:
-        raise Fault(f"{where} is {word}, and has to be from -{FARTHEST:g} to {FARTHEST:g}", 3)
+        raise Fault(f"{where} is {word}; it has to be from -{FARTHEST:g} to {FARTHEST:g}", 3)
     return found
 
 
@@ -72,7 +72,7 @@ def longitude(word: str, where: str) -> float:
 def _degrees(word: str, where: str, most: int) -> float:
     found = float(decimal(word, where))
     if not -most <= found <= most:
-        raise Fault(f"{where} is {word}, and has to be from -{most} to {most} degrees", 3)
+        raise Fault(f"{where} is {word}; it has to be from -{most} to {most} degrees", 3)
     return found
 
 
@@ -93,7 +93,7 @@ def in_metres(
     if math.hypot(*found[far]) > MOST_METRES:
         away = math.hypot(*found[far]) / 1000
         stands = f"{where[far]}: " if where is not None else ""
-        middle = "km away from the middle of all, and a flat map has at most 500 km"
+        middle = "km away from the middle of all devices; a flat map has at most 500 km"
         raise Fault(f"{stands}a device is {away:,.0f} {middle}", 3)
     return found
 

@@ -39,13 +39,13 @@ COMMANDS = {
     "firmware": "fieldc.commands.firmware",
 }
 DESCRIPTION = """\
-A front for people over fc, the interpreter and proved checker of the first-order field calculus.
-What is computed of the calculus is computed by fc; fieldc reads files, explains refusals and draws."""
+The front end of fc, the interpreter and proved checker of the first-order field calculus.
+fc computes; fieldc reads files, explains refusals and draws."""
 EPILOG = """\
-statuses: 0 done; 1 a no, open, or no walks; 2 wrong words; 3 something is wrong in a file; 4 a limit is passed;
-5 reading failed; 6 writing failed; 7 not enough memory.
+statuses: 0 done; 1 a no, open, or no walks; 2 wrong words; 3 something is wrong in a file; 4 a limit is exceeded;
+5 reading failed; 6 writing failed; 7 memory ran out.
 
-fieldc COMMAND --help tells of a command. The variable FC names the program fc, where it isn't the installed one."""
+fieldc COMMAND --help explains a command. The variable FC names the program fc, if it isn't the installed one."""
 
 
 class Parser(argparse.ArgumentParser):
@@ -94,7 +94,7 @@ def take_rest(options: argparse.Namespace, rest: Sequence[str]) -> None:
     know."""
     wrong = [word for word in rest if not hasattr(options, "files") or (word.startswith("-") and word != "-")]
     if wrong:
-        raise Fault(f"{wrong[0]} is no option of it, nor a word that it takes: fieldc {options.command} --help")
+        raise Fault(f"{wrong[0]} isn't one of its options, nor a word that it takes: fieldc {options.command} --help")
     if rest:
         options.files = [*options.files, *rest]
 
@@ -137,7 +137,7 @@ def performed(words: Sequence[str] | None) -> int:
     except OSError as error:
         return tell(Fault(str(error), 5), options)
     except MemoryError:
-        return tell(Fault("there is not enough memory", 7), options)
+        return tell(Fault("memory ran out", 7), options)
     except KeyboardInterrupt:
         say("\n")
         return 130

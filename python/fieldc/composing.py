@@ -1,4 +1,4 @@
-"""Programs made of blocks: puts the blocks that a program calls in front of it."""
+"""Programs made of blocks: adds the blocks that a program calls."""
 
 from __future__ import annotations
 
@@ -22,7 +22,7 @@ from .sections import cut, read, write
 from .streams import say
 from .telling import place_of, quoted
 
-SUMMARY = "puts the blocks that a program calls in front of it"
+SUMMARY = "adds the blocks that a program calls"
 EPILOG = "docs/blocks.md has the blocks. Example: fieldc compose mine.fc > composed.fc"
 LINE = re.compile(r"\bline (\d+)")
 NUMBERS = re.compile(r"device numbers of 0 to (\d+)")
@@ -107,12 +107,12 @@ def _refuse_clashes(parts: Sequence[Declaration], taken: Sequence[Block], asked:
             users = [f"that {block.name} calls" for block in taken if part.name in block.calls]
             user = (users or ["that is called here"])[0]
             what = f"line {part.line}: {part.kind} {part.name} has the name of a block {user}"
-            raise Fault(f"{what}: take another name", 3)
+            raise Fault(f"{what}: choose another name", 3)
     later = [block.name for block in taken if block.second_language]
     if later and [token.text for token in parts[0].tokens] != ["language", "2", ";"]:
         line = asked[later[0]]
         name = _leading_to(later[0], parts, taken)
-        raise Fault(f"line {line}: the block {name} is of language 2: begin the program with `language 2;`", 3)
+        raise Fault(f"line {line}: the block {name} needs language 2: begin the program with `language 2;`", 3)
 
 
 def composed(text: str, library: Library) -> Composition:
@@ -267,14 +267,14 @@ def built() -> bool:
 def arguments(parser: argparse.ArgumentParser) -> None:
     """The command line of `compose`."""
     add = parser.add_argument
-    joined = "the program, or an input of fc that begins with it (- is standard input)"
+    joined = "the program, or an input of fc that begins with one (- is standard input)"
     add("program", metavar="FILE", nargs="?", default="-", help=joined)
-    add("--network", metavar="FILE", help="a network beside: warns of device numbers that aren't told apart on it")
-    add("--library", metavar="DIR", action="append", default=[], help="a folder of blocks of your own besides")
+    add("--network", metavar="FILE", help="a network: warns of device numbers that can't be told apart on it")
+    add("--library", metavar="DIR", action="append", default=[], help="a further folder, of your own blocks")
     add_cut_check(parser)
-    add("--unjudged", action="store_true", help="doesn't ask fc whether it takes the composed program")
-    add("-o", "--output", metavar="FILE", default="-", help="where the composed program goes; else to standard output")
-    add("--list", action="store_true", help="lists the blocks, a line each")
+    add("--unjudged", action="store_true", help="doesn't ask fc whether it accepts the composed program")
+    add("-o", "--output", metavar="FILE", default="-", help="where to write the composed program (standard output)")
+    add("--list", action="store_true", help="lists the blocks, a line for each")
     add("--show", metavar="NAME", help="shows one block")
 
 

@@ -263,5 +263,5 @@ def perform(call: Call, bounds: Bounds, count: int) -> int:
     if found.broken is not None:
         say(f"fieldc: {found.broken.told(str(found.broken.device))}")
         return DEFECT
-    say(f"fieldc: {counted(found.runs, 'run')}, {counted(found.values, 'value')}, none outside of its bound\n")
+    say(f"fieldc: {counted(found.runs, 'run')}, {counted(found.values, 'value')}, none outside its bound\n")
     return 0

@@ -118,7 +118,7 @@ def cut_of(question: Question) -> Cut | Untold | None:
     """
     declaration = ceiling_of(question.program.text)
     ceiling = int(declaration.text) if declaration is not None else GREATEST_NUMBER
-    greatest = Untold("it is the greatest that there is") if ceiling >= GREATEST_NUMBER else None
+    greatest = Untold("it is the greatest possible") if ceiling >= GREATEST_NUMBER else None
     late = Untold(f"fc took longer than {question.seconds:.0f} s")
     try:
         here = question.values(ceiling)
@@ -175,8 +175,8 @@ def told(found: Cut | Untold, program: Section, names: Mapping[int, str], where:
     number = ceiling_of(program.text)
     ceiling = GREATEST_NUMBER if number is None else int(number.text)
     if isinstance(found, Untold):
-        what = f"Whether the ceiling {ceiling} cuts what is computed {where} can't be told: {found.why}."
-        hint = f"{OPTION} leaves this out."
+        what = f"We can't tell whether the ceiling {ceiling} cuts what is computed {where}: {found.why}."
+        hint = f"{OPTION} skips this check."
     else:
         what = f"The ceiling {ceiling} cuts what is computed {where}: with a greater one {others(found, names)}."
         hint = remedy(found)
@@ -205,10 +205,10 @@ def called(devices: list[str]) -> str:
 
 def remedy(found: Cut) -> str:
     """What is to be done about a cut."""
-    meant = f"If the cut is meant, {OPTION} leaves this out."
+    meant = f"If the cut is meant, {OPTION} skips this check."
     if found.enough is None:
         none = f"up to {GREATEST_NUMBER:,} is enough" if found.least else "that is enough was found in time"
-        return f"No ceiling {none}: where the ceiling is the answer, write a number in its place. {meant}"
+        return f"No ceiling {none}: if the ceiling itself is the answer, write a number instead. {meant}"
     least = "the least that is" if found.least else "which is"
     return f"Write `ceiling {found.enough};`, {least} enough on this network, and leave the other numbers. {meant}"
 

@@ -36,7 +36,7 @@ def pyplot_ready() -> Any:
     try:
         import matplotlib
     except ImportError:
-        raise Fault("matplotlib isn't there (Debian: python3-matplotlib)") from None
+        raise Fault("matplotlib is missing (Debian: python3-matplotlib)") from None
     matplotlib.use("Agg")
     matplotlib.rcParams["svg.hashsalt"] = "fc"
     from matplotlib import pyplot

@@ -57,7 +57,7 @@ def by_numbers(text: str, names: Mapping[int, str], name: str, first_line: int =
         for at in range(first + 1, min(first + 1 + count, len(words))):
             if words[at] not in number and not words[at].isdecimal():
                 near = similar(words[at], names.values())
-                hint = f"; is {near} meant?" if near is not None else ""
+                hint = f"; did you mean {near}?" if near is not None else ""
                 raise Fault(f"{name} line {place + first_line}: no device is called {words[at]}{hint}", 3)
             words[at] = number.get(words[at], words[at])
         lines[place] = " ".join(words) + "\r" * line.endswith("\r")

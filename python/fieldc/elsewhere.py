@@ -5,24 +5,24 @@ from __future__ import annotations
 import difflib
 from collections.abc import Iterable
 
-BRANCHES = "The branches follow each other without a word between: `if (c) {a} {b}`."
-ONE_EXPRESSION = "A body is one expression; `let x = a in b` names a part of it."
-KEPT = "Nothing is assigned: what a device keeps from firing to firing is kept by `rep(e){(x) => b}`."
-LEAST = "The least over the neighbours is `minHoodLoc(f, l)`: of a field, and of a value of the device itself."
-GREATEST = "The greatest over the neighbours is `maxHoodLoc(f, l)`: of a field, and of a value of the device itself."
-FOLDS = "Over the neighbours there are `minHoodLoc`, `maxHoodLoc`, `sumHood`, `anyHood` and `allHood`, and no others."
+BRANCHES = "There is no `then` or `else`: write `if (c) {a} {b}`."
+ONE_EXPRESSION = "A body is one expression; name parts of it with `let x = a in b`."
+KEPT = "There are no assignments: `rep(e){(x) => b}` keeps a value from firing to firing."
+LEAST = "`minHoodLoc(f, l)` is the least of the neighbours' values in `f` and the device's own `l`."
+GREATEST = "`maxHoodLoc(f, l)` is the greatest of the neighbours' values in `f` and the device's own `l`."
+FOLDS = "The only folds over neighbours are `minHoodLoc`, `maxHoodLoc`, `sumHood`, `anyHood` and `allHood`."
 MEAN = (
     "The mean of a number over the neighbours and the device itself is "
     "`div(a + sumHood(nbr{a}), 1 + sumHood(nbr{1}))`; over the whole network it is the block `mean(sink, far, value)`, "
     "over regions `regionMean(leader, far, value)`. `fieldc compose` puts blocks in front."
 )
-FUNCTION = "A function is declared by `def f(x: int): int = x + 1;`."
+FUNCTION = "Declare a function with `def f(x: int): int = x + 1;`."
 WEIGHT = "The weight of the link to each neighbour is `nbrLink`."
 NUMBERS = "The number of the device is `uid`."
 TRUTHS = "Truth values are `true` and `false`."
 PARTS = "The parts of a pair are `fst(p)` and `snd(p)`."
 KINDS = "The types are `int`, `bool`, pairs as `(int, bool)`, and `field` in front of one of these."
-WHOLE = "All numbers are whole: take a smaller unit, as 15 tenths in place of 1.5."
+WHOLE = "All numbers are whole. Choose a smaller unit: 15 tenths instead of 1.5."
 
 HINTS = {
     "else": BRANCHES,
@@ -33,19 +33,19 @@ HINTS = {
     "val": ONE_EXPRESSION,
     "const": ONE_EXPRESSION,
     "mut": ONE_EXPRESSION,
-    "for": "There are no loops: a device fires again and again, and `rep` keeps what it computed.",
-    "while": "There are no loops: a device fires again and again, and `rep` keeps what it computed.",
+    "for": "There are no loops: a device fires again and again, and `rep` keeps what it has computed.",
+    "while": "There are no loops: a device fires again and again, and `rep` keeps what it has computed.",
     "fn": FUNCTION,
     "fun": FUNCTION,
     "func": FUNCTION,
     "function": FUNCTION,
-    "lambda": "Functions are declared by `def` and have a name.",
+    "lambda": "Functions have names: declare them with `def`.",
     "True": TRUTHS,
     "False": TRUTHS,
-    "None": "There is no empty value: take a number that stands for it, such as the ceiling.",
-    "null": "There is no empty value: take a number that stands for it, such as the ceiling.",
-    "Infinity": "The greatest number is the ceiling: write it out.",
-    "inf": "The greatest number is the ceiling: write it out.",
+    "None": "There is no empty value: use a number for it, such as the ceiling.",
+    "null": "There is no empty value: use a number for it, such as the ceiling.",
+    "Infinity": "The greatest number is the ceiling: write it as a number.",
+    "inf": "The greatest number is the ceiling: write it as a number.",
     "self": NUMBERS,
     "mid": NUMBERS,
     "id": NUMBERS,
@@ -65,18 +65,18 @@ HINTS = {
     "averageHood": MEAN,
     "avg": MEAN,
     "average": MEAN,
-    "everyHood": "Whether it is true of all neighbours is `allHood(f)`.",
-    "countHood": "The number of neighbours is `sumHood(nbr{1})`.",
+    "everyHood": "`allHood(f)` is true if `f` is true at all neighbours.",
+    "countHood": "`sumHood(nbr{1})` is the number of neighbours.",
     "nbrRange": WEIGHT,
     "nbrDist": WEIGHT,
     "nbrRangeHood": WEIGHT,
-    "any": "Whether it is true of one neighbour is `anyHood(f)`.",
-    "all": "Whether it is true of all neighbours is `allHood(f)`.",
+    "any": "`anyHood(f)` is true if `f` is true at some neighbour.",
+    "all": "`allHood(f)` is true if `f` is true at all neighbours.",
     "fold": FOLDS,
     "reduce": FOLDS,
-    "branch": "Devices are parted by `if (c) {a} {b}`, and a value is chosen by `mux(c, a, b)`.",
-    "sum": "A sum over the neighbours is `sumHood(f)`; of two numbers it is `a + b`.",
-    "abs": "Numbers are never negative; the distance of two is `max(a - b, b - a)`.",
+    "branch": "`if (c) {a} {b}` separates devices by branch; `mux(c, a, b)` only chooses a value.",
+    "sum": "`sumHood(f)` is a sum over the neighbours, and `a + b` a sum of two numbers.",
+    "abs": "Numbers are never negative; the distance of two numbers is `max(a - b, b - a)`.",
     "first": "The first part of a pair is `fst(p)`.",
     "second": "The second part of a pair is `snd(p)`.",
     "Int": KINDS,
@@ -94,22 +94,22 @@ HINTS = {
 }
 
 CHARACTERS = {
-    "!": "Write `not a`; that two values differ is `not (a = b)`.",
+    "!": "Write `not a`, and `not (a = b)` for two values that differ.",
     "&": "Write `a and b`.",
     "|": "Write `a or b`.",
-    ">": "Write the lesser first: `b < a` in place of `a > b`, and `not (a < b)` in place of `a >= b`.",
-    "/": "The block `div(a, b)` divides, and `fieldc compose` puts it in front. A comment begins with `//`.",
-    "%": "The block `rest(a, b)` is the remainder: `fieldc compose` puts it in front. Lines `%%` part sections.",
+    ">": "Write the lesser first: `b < a` instead of `a > b`, and `not (a < b)` instead of `a >= b`.",
+    "/": "The block `div(a, b)` divides; `fieldc compose` adds it. A comment begins with `//`.",
+    "%": "The block `rest(a, b)` is the remainder; `fieldc compose` adds it. A line `%%` separates sections.",
     "#": "A comment begins with `//`.",
-    '"': "There are no texts; the name of an input stands as it is: `sense src`.",
-    "'": "There are no texts; the name of an input stands as it is: `sense src`.",
-    "[": "There are no lists; a pair is `(a, b)`, and `fst` and `snd` take its parts.",
-    "]": "There are no lists; a pair is `(a, b)`, and `fst` and `snd` take its parts.",
+    '"': "There are no strings; write the name of an input without quotes: `sense src`.",
+    "'": "There are no strings; write the name of an input without quotes: `sense src`.",
+    "[": "There are no lists. A pair is `(a, b)`, and `fst` and `snd` give its parts.",
+    "]": "There are no lists. A pair is `(a, b)`, and `fst` and `snd` give its parts.",
     ".": WHOLE,
-    "_": "A name begins with a letter, and a number is digits alone.",
-    "?": "Choose by `mux(c, a, b)` or `if (c) {a} {b}`.",
+    "_": "A name begins with a letter; a number has digits only.",
+    "?": "Choose with `mux(c, a, b)` or `if (c) {a} {b}`.",
     "\ufeff": "Save the file as UTF-8 without a byte order mark.",
-    "\u00a0": "It is a space of another kind: put a plain one in its place.",
+    "\u00a0": "This is another kind of space: replace it by a plain one.",
 }
 
 

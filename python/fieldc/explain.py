@@ -21,9 +21,9 @@ from .refusals import Call, Explanation, Refusal, Section, plain_explanation
 STATUSES = COMMANDS + "#refusals"
 PROGRAM_LIMITS = ("tokens", "depth", "nodes")
 SILENT = {
-    5: ("Reading the input failed, so nothing was done.", "Try it once more, or give the input as a file."),
-    6: ("Writing the output failed, so only a part of it is there.", "Look whether the disk is full, or a pipe ended."),
-    7: ("There was not enough memory.", "Take fewer devices, or a program of fewer nodes."),
+    5: ("Reading the input failed; nothing was done.", "Try again, or give the input as a file."),
+    6: ("Writing the output failed; only a part of it was written.", "Is the disk full, or has a pipe closed?"),
+    7: ("Memory ran out.", "Use fewer devices, or a program with fewer nodes."),
 }
 
 
@@ -80,7 +80,7 @@ def _no(call: Call, words: list[str]) -> tuple[Section | None, Said | None]:
 def _open(_call: Call, _words: list[str]) -> tuple[Section | None, Said | None]:
     what = "For some device no number of rounds was found after which it holds one value"
     what += ", whatever the devices hold at the start."
-    hint = "`fieldc settle --why` looks for two starts from which the devices come to rest at different values."
+    hint = "`fieldc settle --why` looks for two starts that end at different values."
     return None, Said(what, None, None, hint, "docs/settle.md")
 
 
@@ -169,18 +169,18 @@ def _network_limit(call: Call, name: str, count: int) -> tuple[Section | None, S
 def _other_limit(call: Call, name: str, count: int) -> Said | None:
     words = {
         "workers": (
-            f"{count} workers are asked for, and at most 16 may work.",
+            f"{count} workers are too many; the limit is 16.",
             "Write `--workers 16`.",
             COMMANDS + "#run",
         ),
         "devices": (
-            f"{count} devices are asked for, and a scenario has at most 512.",
+            f"{count} devices are too many; a scenario has at most 512.",
             "Write `--devices 512`.",
             COMMANDS + "#gen",
         ),
         "bytes": (
             "The input has more than 1,048,576 bytes.",
-            "Take a smaller network, or a shorter log.",
+            "Use a smaller network or a shorter log.",
             FORMATS + "#limits",
         ),
         "mail": (
@@ -227,7 +227,7 @@ def warnings(call: Call) -> tuple[Explanation, ...]:
         return ()
     devices = f"device {above[0]}" if len(above) == 1 else f"the {len(above):,} devices from {above[0]} on"
     what = f"`uid` is cut at the ceiling {found.ceiling}, so it is {found.ceiling} at {devices}."
-    hint = f"Raise the ceiling to {above[-1]}, or give the devices lower numbers."
+    hint = f"Raise the ceiling to {above[-1]}, or give these devices lower numbers."
     place = moved(section, uses[0].expr.at)
     return (in_file(section, Said(what, place, "uid", hint, "docs/language.md#what-a-program-means")),)
 

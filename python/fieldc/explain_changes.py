@@ -60,8 +60,8 @@ def ends_of(word: Word) -> list[Word]:
 def _no_device(line: Line, net: Net, _program: Unfolded) -> Said | None:
     for device, word in devices_of(line):
         if device not in net.devices:
-            what = f"Neither the network nor a `join` line has a device {device}."
-            return Said(what, word.at, str(device), "A line `join` says that it may come.", PAGE)
+            what = f"There is no device {device}, neither in the network nor on a `join` line."
+            return Said(what, word.at, str(device), "A line `join` would say that it may come.", PAGE)
     return None
 
 
@@ -77,14 +77,14 @@ def _weight(line: Line, _net: Net, program: Unfolded) -> Said | None:
         return None
     if (low, high) == (1, 1):
         hint = "Write 1, or declare a metric in the program, as `metric 1..9;`."
-        return Said(f"Each link weighs 1 in this program, and here it may weigh {wrong}.", word.at, wrong, hint, PAGE)
-    what = f"The metric of the program is {low} to {high}, and {wrong} is outside."
+        return Said(f"In this program each link weighs 1, but this one may weigh {wrong}.", word.at, wrong, hint, PAGE)
+    what = f"The metric of the program goes from {low} to {high}; {wrong} is outside."
     return Said(what, word.at, wrong, "Change the weight, or the metric in the program.", PAGE)
 
 
 def _no_link(line: Line, _net: Net, _program: Unfolded) -> Said:
     (a, word), (b, _) = devices_of(line)
-    what = f"Neither the network nor a `link` line links {a} and {b}, so no link of theirs can go."
+    what = f"{a} and {b} aren't linked, neither in the network nor by a `link` line, so their link can't go."
     return Said(what, word.at, f"{a} {b}", None, PAGE)
 
 
@@ -93,7 +93,7 @@ def _no_input(line: Line, _net: Net, program: Unfolded) -> Said:
     if line.verb == "join":
         device = line.words[1].text
         given, wanted = counted(len(line.words) - 2, "value"), counted(len(program.inputs), "input")
-        what = f"Device {device} may come with {given}, and the program declares {wanted}."
+        what = f"Device {device} may come with {given}, but the program declares {wanted}."
         return Said(what, line.words[1].at, device, f"Write a value for each, in declared order: {names}.", PAGE)
     name = line.words[2]
     what = f"The program declares no input named `{name.text}`."
@@ -112,7 +112,7 @@ def _input_type(line: Line, _net: Net, program: Unfolded) -> Said | None:
         kinds = {value_of(end).kind for end in ends_of(word)}
         if kinds - {"number" if declared.bounds else "truth"}:
             wanted, remedy = ("an `int`", "2..7") if declared.bounds else ("a `bool`", "any")
-            what = f"The input `{declared.name}` is {wanted}, and `{word.text}` is none."
+            what = f"The input `{declared.name}` is {wanted}; `{word.text}` isn't one."
             return Said(what, word.at, declared.name, f"Write a value of it, or `{remedy}`.", PAGE)
     return None
 
@@ -124,20 +124,20 @@ def _input_range(line: Line, _net: Net, program: Unfolded) -> Said | None:
             for end in ends_of(word):
                 number = value_of(end).whole
                 if number is not None and not low <= number <= high:
-                    what = f"The input `{declared.name}` is {low} to {high}, and {number} is outside."
+                    what = f"The input `{declared.name}` goes from {low} to {high}; {number} is outside."
                     return Said(what, word.at, declared.name, "Change the value, or the range in the program.", PAGE)
     return None
 
 
 def _twice(line: Line, _net: Net, _program: Unfolded) -> Said:
     device, word = devices_of(line)[0]
-    hint = f"Write `leave {device}` if it may leave and come back, or take another number."
+    hint = f"Write `leave {device}` if it may leave and come back; else choose another number."
     return Said(f"Device {device} is in the network already.", word.at, str(device), hint, PAGE)
 
 
 def _last(line: Line, _net: Net, _program: Unfolded) -> Said:
     device, word = devices_of(line)[0]
-    what = f"Device {device} is the only one, and a network has at least one device."
+    what = f"Device {device} is the only one; a network needs at least one."
     return Said(what, word.at, str(device), None, PAGE)
 
 
@@ -166,8 +166,8 @@ def _limit_degree(section: Section, scene: Json) -> Said | None:
         (a, _), (b, _) = ends
         for device, word in ends if b not in net.near.get(a, ()) else ():
             if len(net.near.get(device, ())) >= MOST_PAIRS:
-                what = f"Device {device} may have {MOST_PAIRS} other neighbours by this line, and may have no more."
-                hint = "Choose a smaller range, or a smaller move, or leave out links that are far."
+                what = f"By this line device {device} may have {MOST_PAIRS} other neighbours already, the limit."
+                hint = "Choose a smaller range or a smaller move, or leave out long links."
                 return Said(what, word.at, str(device), hint, PAGE)
         net.near.setdefault(a, set()).add(b)
         net.near.setdefault(b, set()).add(a)

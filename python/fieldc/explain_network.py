@@ -78,7 +78,7 @@ def _object(text: str, found: Json, form: str) -> Said | None:
             "table": "It is an array of rows, or what `--table` writes.",
             "own": f"It has the members {names}; where the device had none, write `null`.",
         }.get(form, f"It has the members {names}.")
-        what = f"{FORMS[form].capitalize()} is an object, and {shown(found, text)} is none."
+        what = f"{FORMS[form].capitalize()} is an object; {shown(found, text)} isn't one."
         return Said(what, found.at, None, hint, SCENE)
     for name, place in found.keys.items():
         if name not in needed + more:
@@ -104,7 +104,7 @@ def _member(text: str, scene: Json, path: str, found: Json, program: Unfolded) -
     if step == "value":
         return _main_value(text, found, program)
     if step == "weight" and found.whole is None:
-        return Said(f"A weight is a whole number, and {shown(found, text)} is none.", found.at, step, None, SCENE)
+        return Said(f"A weight is a whole number; {shown(found, text)} isn't one.", found.at, step, None, SCENE)
     if step == "format":
         what = f"There is no format {shown(found, text)} of tables."
         return Said(what, found.at, step, "Write `2`, as `--table` does.", SCENE)
@@ -113,11 +113,11 @@ def _member(text: str, scene: Json, path: str, found: Json, program: Unfolded) -
 
 def _list(text: str, step: str, found: Json, path: str) -> Said | None:
     if found.kind != "array":
-        return Said(f"`{step}` is an array, and {shown(found, text)} is none.", found.at, step, None, SCENE)
+        return Said(f"`{step}` is an array; {shown(found, text)} isn't one.", found.at, step, None, SCENE)
     if path == "/devices" and not found.items:
-        return Said("A network has at least one device.", found.at, step, None, NETWORK)
+        return Said("A network needs at least one device.", found.at, step, None, NETWORK)
     if step == "near" and len(found.items) > MOST_LINKS:
-        what = f"A pending firing has {len(found.items)} neighbours, and a device has at most {MOST_LINKS} links."
+        what = f"This pending firing has {len(found.items)} neighbours, but a device has at most {MOST_LINKS} links."
         return Said(what, found.items[MOST_LINKS].at, step, None, NETWORK)
     return None
 
@@ -127,11 +127,11 @@ def _link(text: str, scene: Json, path: str, found: Json, _program: Unfolded) ->
     if found.kind != "array" or len(found.items) != 3:
         count = f"has {counted(len(found.items), 'item')}" if found.kind == "array" else "is none"
         return Said(
-            f"A link is an array of three numbers, and {shown(found, text)} {count}.", found.at, None, hint, SCENE
+            f"A link is an array of three numbers; {shown(found, text)} {count}.", found.at, None, hint, SCENE
         )
     for item in found.items:
         if item.whole is None or item.whole > 1_000_000:
-            what = f"A link has whole numbers of at most 1,000,000, and {shown(item, text)} is none of them."
+            what = f"A link has whole numbers of at most 1,000,000; {shown(item, text)} isn't one."
             return Said(what, item.at, None, hint, SCENE)
     ends = {found.items[0].whole, found.items[1].whole}
     links = find(scene, "/links")
@@ -139,15 +139,15 @@ def _link(text: str, scene: Json, path: str, found: Json, _program: Unfolded) ->
         if other.kind == "array" and {item.whole for item in other.items[:2]} == ends:
             a, b = found.items[0].whole, found.items[1].whole
             what = f"The devices {a} and {b} are linked already, on line {other.at.line}, column {other.at.column}."
-            return Said(what, found.at, None, "Take one of the two links away; a link goes both ways.", NETWORK)
+            return Said(what, found.at, None, "Remove one of the two; a link goes both ways.", NETWORK)
     return None
 
 
 def _inputs(text: str, _scene: Json, path: str, found: Json, program: Unfolded) -> Said | None:
     names = [part.name for part in program.inputs]
     if found.kind != "object":
-        hint = 'Write `{"src": true}`, or `{}` where the program has no inputs.'
-        return Said(f"`inputs` is an object, and {shown(found, text)} is none.", found.at, "inputs", hint, SCENE)
+        hint = 'Write `{"src": true}`, or `{}` if the program has no inputs.'
+        return Said(f"`inputs` is an object; {shown(found, text)} isn't one.", found.at, "inputs", hint, SCENE)
     for name, place in found.keys.items():
         if name not in names:
             what = f"The program declares no input named `{name}`."
@@ -170,11 +170,11 @@ def _declared(program: Unfolded) -> str:
 def _value(text: str, _scene: Json, path: str, found: Json, _program: Unfolded) -> Said | None:
     if is_value(found):
         return None
-    none = f"and {shown(found, text)} is none of these"
-    what = f"A value is a whole number, a truth value or an array of two values, {none}."
+    none = f"{shown(found, text)} is none of these"
+    what = f"A value is a whole number, a truth value or an array of two values; {none}."
     hint = "There are no negative numbers and no fractions." if found.kind == "number" else None
     if found.kind == "string":
-        hint = "Values stand without quotes: `true`, `12`."
+        hint = "Write values without quotes: `true`, `12`."
     return Said(what, found.at, path.rpartition("/")[2], hint, SCENE)
 
 
@@ -187,7 +187,7 @@ def is_value(found: Json) -> bool:
 
 def _item(text: str, scene: Json, path: str, found: Json, program: Unfolded) -> Said | None:
     if re.fullmatch(r"/table/rows/\d+/kept/\d+", path):
-        what = f"A kept item of format 2 is an array of a place and a value, and {shown(found, text)} is none."
+        what = f"A kept item of format 2 is an array of a place and a value; {shown(found, text)} isn't one."
         return Said(what, found.at, None, "Write `[4, 10]`.", SCENE)
     return _value(text, scene, path, found, program)
 
@@ -195,7 +195,7 @@ def _item(text: str, scene: Json, path: str, found: Json, program: Unfolded) -> 
 def _id(text: str, scene: Json, path: str, found: Json) -> Said | None:
     number = found.whole
     if number is None or number > MOST_ID:
-        what = f"The number of a device is a whole number of at most 65,535, and {shown(found, text)} is none."
+        what = f"The number of a device is a whole number of at most 65,535; {shown(found, text)} isn't one."
         return Said(what, found.at, "id", None, NETWORK)
     owner = path.rpartition("/")[0]
     before = _before(scene, owner, number)
@@ -205,8 +205,8 @@ def _id(text: str, scene: Json, path: str, found: Json) -> Said | None:
             f"Device {number} has a {kind} already, on line {before.line}.", found.at, str(number), None, NETWORK
         )
     if "/near/" in path:
-        return Said(f"Device {number} is no neighbour of itself.", found.at, str(number), None, NETWORK)
-    return Said(f"There is no device {number} in this network.", found.at, str(number), "Take it away.", NETWORK)
+        return Said(f"Device {number} can't be its own neighbour.", found.at, str(number), None, NETWORK)
+    return Said(f"There is no device {number} in this network.", found.at, str(number), "Remove it.", NETWORK)
 
 
 def _before(scene: Json, path: str, number: int | None) -> At | None:
@@ -223,7 +223,7 @@ def _main_value(text: str, found: Json, program: Unfolded) -> Said | None:
         return _value(text, found, "/value", found, program)
     kind = program.nodes[0].type
     what = f"What is published is a value of `main`, of type `{kind}` with numbers up to {program.ceiling}"
-    return Said(f"{what}, and {shown(found, text)} is none.", found.at, "value", None, NETWORK)
+    return Said(f"{what}; {shown(found, text)} isn't one.", found.at, "value", None, NETWORK)
 
 
 def network(text: str, scene: Json, path: str, word: str, program: Unfolded) -> Said | None:
@@ -245,7 +245,7 @@ def network(text: str, scene: Json, path: str, word: str, program: Unfolded) -> 
         return None
     if word == "self-link":
         what = f"Device {found.items[0].whole} is linked to itself."
-        return Said(what, found.at, str(found.items[0].whole), "Take the link away.", NETWORK)
+        return Said(what, found.at, str(found.items[0].whole), "Remove the link.", NETWORK)
     if word == "no-device":
         devices = device_numbers(scene)
         missing = next((item for item in found.items[:2] if item.whole not in devices), None)
@@ -275,9 +275,9 @@ def _input(text: str, path: str, found: Json, word: str, program: Unfolded) -> S
     if word == "input-type":
         kind = "an `int`" if declared.bounds else "a `bool`"
         hint = "Write a whole number." if declared.bounds else "Write `true` or `false`."
-        return Said(f"The input `{name}` is {kind}, and {shown(found, text)} is none.", found.at, name, hint, NETWORK)
+        return Said(f"The input `{name}` is {kind}; {shown(found, text)} isn't one.", found.at, name, hint, NETWORK)
     low, high = declared.bounds[0][0], declared.bounds[1][0]
-    what = f"The input `{name}` is {low} to {high}, and {shown(found, text)} is outside."
+    what = f"The input `{name}` goes from {low} to {high}; {shown(found, text)} is outside."
     return Said(what, found.at, name, "Change the value, or the range in the program.", NETWORK)
 
 
@@ -285,9 +285,9 @@ def _weight(found: Json, program: Unfolded) -> Said | None:
     low, high = program.metric
     if (low, high) == (1, 1):
         hint = "Write 1, or declare a metric in the program, as `metric 1..9;`."
-        what = f"Each link weighs 1 in this program, and this one {found.whole}."
+        what = f"In this program each link weighs 1, but this one weighs {found.whole}."
         return Said(what, found.at, str(found.whole), hint, NETWORK)
-    what = f"The metric of the program is {low} to {high}, and this link weighs {found.whole}."
+    what = f"The metric of the program goes from {low} to {high}, but this link weighs {found.whole}."
     return Said(what, found.at, str(found.whole), "Change the weight, or the metric in the program.", NETWORK)
 
 
@@ -302,7 +302,7 @@ def degree(scene: Json) -> Said | None:
             if count[item.whole] > MOST_LINKS:
                 total = sum(item.whole in (end.whole for end in other.items[:2]) for other in links)
                 what = (
-                    f"Device {item.whole} has {total} links, and a device has at most {MOST_LINKS}; this is its 33rd."
+                    f"Device {item.whole} has {total} links; the limit is {MOST_LINKS}, and this is its 33rd."
                 )
                 return Said(what, link.at, str(item.whole), "Keep the 32 nearest neighbours of each device.", NETWORK)
     return None

@@ -78,10 +78,9 @@ def _weight(line: Line, kind: str, _net: Net, program: Unfolded) -> Said:
     low, high = program.metric
     if (low, high) == (1, 1):
         hint = "Write 1, or declare a metric in the program, as `metric 1..9;`."
-        return Said(
-            f"Each link weighs 1 in this program, and here it is {word.text}.", word.at, word.text, hint, PAGES[kind]
-        )
-    what = f"The metric of the program is {low} to {high}, and {word.text} is outside."
+        what = f"In this program each link weighs 1, but this one weighs {word.text}."
+        return Said(what, word.at, word.text, hint, PAGES[kind])
+    what = f"The metric of the program goes from {low} to {high}; {word.text} is outside."
     return Said(what, word.at, word.text, "Change the weight, or the metric in the program.", PAGES[kind])
 
 
@@ -95,7 +94,7 @@ def _no_input(line: Line, kind: str, _net: Net, program: Unfolded) -> Said:
     if line.verb == "join":
         device = line.words[1].text
         given, wanted = counted(len(line.words) - 2, "value"), counted(len(program.inputs), "input")
-        what = f"Device {device} joins with {given}, and the program declares {wanted}."
+        what = f"Device {device} joins with {given}, but the program declares {wanted}."
         return Said(what, line.words[1].at, device, f"Write a value for each, in declared order: {names}.", PAGES[kind])
     name = line.words[2]
     what = f"The program declares no input named `{name.text}`."
@@ -113,7 +112,7 @@ def _input_type(line: Line, kind: str, _net: Net, program: Unfolded) -> Said | N
     for declared, word in _inputs(line, program):
         if value_of(word).kind != ("number" if declared.bounds else "truth"):
             wanted = "an `int`" if declared.bounds else "a `bool`"
-            what = f"The input `{declared.name}` is {wanted}, and `{word.text}` is none."
+            what = f"The input `{declared.name}` is {wanted}; `{word.text}` isn't one."
             return Said(what, word.at, declared.name, None, PAGES[kind])
     return None
 
@@ -124,7 +123,7 @@ def _input_range(line: Line, kind: str, _net: Net, program: Unfolded) -> Said | 
             low, high = declared.bounds[0][0], declared.bounds[1][0]
             number = value_of(word).whole
             if number is not None and not low <= number <= high:
-                what = f"The input `{declared.name}` is {low} to {high}, and {number} is outside."
+                what = f"The input `{declared.name}` goes from {low} to {high}; {number} is outside."
                 return Said(what, word.at, declared.name, "Change the value, or the range in the program.", PAGES[kind])
     return None
 
@@ -132,20 +131,20 @@ def _input_range(line: Line, kind: str, _net: Net, program: Unfolded) -> Said | 
 def _twice(line: Line, kind: str, _net: Net, _program: Unfolded) -> Said:
     device, word = devices_of(line)[0]
     return Said(
-        f"Device {device} is in the network already.", word.at, str(device), "Take another number.", PAGES[kind]
+        f"Device {device} is in the network already.", word.at, str(device), "Choose another number.", PAGES[kind]
     )
 
 
 def _last(line: Line, kind: str, _net: Net, _program: Unfolded) -> Said:
     device, word = devices_of(line)[0]
-    what = f"Device {device} is the last one, and a network has at least one device."
+    what = f"Device {device} is the last one; a network needs at least one."
     return Said(what, word.at, str(device), None, PAGES[kind])
 
 
 def _kept(line: Line, kind: str, _net: Net, program: Unfolded) -> Said | None:
     value = line.words[2]
     main = program.nodes[0].type
-    hint = "A `poke` has the value of `main`, and then the kept values in the order of their places."
+    hint = "A `poke` has the value of `main` first, then the kept values in the order of their places."
     if not fits(value_of(value), main.local, program.ceiling):
         upto = f" with numbers up to {program.ceiling}" if "int" in str(main) else ""
         what = f"The value of `main` is of type `{main}`{upto}, and `{value.text}` isn't."
@@ -169,7 +168,7 @@ def _flying(line: Line, kind: str, net: Net, _program: Unfolded) -> Said | None:
         return None
     begun = f"on line {net.flying[device]}" if net.flying[device] else "before the log, as the network says"
     what = f"Device {device} has begun a firing {begun}, and hasn't ended it."
-    return Said(what, word.at, str(device), f"End it by `E{device}` before.", PAGES[kind])
+    return Said(what, word.at, str(device), f"End it first, with `E{device}`.", PAGES[kind])
 
 
 def _not_flying(line: Line, kind: str, net: Net, _program: Unfolded) -> Said | None:
@@ -177,7 +176,7 @@ def _not_flying(line: Line, kind: str, net: Net, _program: Unfolded) -> Said | N
     if device in net.flying:
         return None
     what = f"Device {device} ends a firing that it hasn't begun."
-    return Said(what, word.at, str(device), f"Begin it by `B{device}` before.", PAGES[kind])
+    return Said(what, word.at, str(device), f"Begin it first, with `B{device}`.", PAGES[kind])
 
 
 def _in_flight(line: Line, kind: str, net: Net, _program: Unfolded) -> Said | None:
@@ -185,8 +184,8 @@ def _in_flight(line: Line, kind: str, net: Net, _program: Unfolded) -> Said | No
     if device not in net.flying:
         return None
     begun = f"on line {net.flying[device]}" if net.flying[device] else "before, as the network says"
-    what = f"Device {device} leaves in mid-firing: it was begun {begun}, and isn't ended."
-    hint = f"End it by `E{device}` before." if kind == "log" else "Let a `run` line stand before."
+    what = f"Device {device} leaves during a firing: it was begun {begun}, and isn't ended."
+    hint = f"End it first, with `E{device}`." if kind == "log" else "Put a `run` line before it."
     return Said(what, word.at, str(device), hint, PAGES[kind])
 
 
@@ -226,7 +225,7 @@ def limit_lines(section: Section, count: int) -> Said | None:
     if len(lines) != count:
         return None
     what = f"The script has {count:,} lines, and at most {MOST_LINES:,} are read."
-    return Said(what, lines[MOST_LINES].at, None, "One `run 100` does what a hundred `run 1` do.", PAGES["script"])
+    return Said(what, lines[MOST_LINES].at, None, "One `run 100` does the same as a hundred `run 1`.", PAGES["script"])
 
 
 def limit_scrambles(section: Section) -> Said | None:
@@ -249,7 +248,7 @@ def limit_firings(section: Section, count: int, scene: Json) -> Said | None:
                 return None
             what = f"Up to this line the script asks for {count:,} firings, rounds times devices"
             what += f", and at most {MOST_FIRINGS:,} are run."
-            hint = "Run fewer rounds: `check --settle` says how many are enough."
+            hint = "Run fewer rounds; `check --settle` says how many are enough."
             return Said(what, line.words[1].at, None, hint, PAGES["script"])
         net.step(line)
     return None
@@ -267,7 +266,7 @@ def limit_degree(section: Section, kind: str, scene: Json) -> Said | None:
                     if len(net.near.get(device, ())) >= MOST_LINKS:
                         most = f"and a device has at most {MOST_LINKS}"
                         what = f"Device {device} has {MOST_LINKS} links at this line, {most}."
-                        return Said(what, word.at, str(device), "Take another of its links away before.", PAGES[kind])
+                        return Said(what, word.at, str(device), "Remove another one of its links first.", PAGES[kind])
         net.step(line)
     return None
 
@@ -279,6 +278,6 @@ def limit_devices(section: Section, kind: str, scene: Json) -> Said | None:
         if line.verb == "join" and len(net.devices) >= MOST_DEVICES:
             device = line.words[1]
             what = f"The network has {MOST_DEVICES:,} devices at this line, and may have no more."
-            return Said(what, device.at, device.text, "Let another device leave before.", PAGES[kind])
+            return Said(what, device.at, device.text, "Let another device leave first.", PAGES[kind])
         net.step(line)
     return None

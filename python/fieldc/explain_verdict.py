@@ -54,41 +54,41 @@ class Verdict:
         node, outer = self.nodes[blame.place], self.nodes[blame.round]
         use = f"its `{node.name}` on {self.where(self.nodes[blame.part].expr.at)}"
         if blame.case == "if":
-            hint = f"Choose by `mux`, which parts nobody, or put the whole `{node.form}` into the branches of the `if`."
-            why = f"{use}, stands beneath the `if` on {self.where(outer.expr.at)}"
-            return f"{why}, where only those are heard that take the same branch", hint
+            hint = f"Choose with `mux`, which separates nobody, or put the whole `{node.form}` into the branches."
+            why = f"{use}, is inside the `if` on {self.where(outer.expr.at)}"
+            return f"{why}, where only neighbours in the same branch are heard", hint
         if blame.case == "let" and outer.expr.form == "call":
-            hint = f"Write the body of `{outer.expr.name}` out here, or call it outside of the `{node.form}`."
+            hint = f"Write the body of `{outer.expr.name}` here, or call it outside of the `{node.form}`."
             call = f"the call of `{outer.expr.name}` on {self.where(outer.expr.at)}"
-            return f"{use}, stands beneath {call}, whose arguments are bound by a `let` when it is unfolded", hint
+            return f"{use}, is inside {call}, which is unfolded to a `let` of its arguments", hint
         if blame.case == "nbr":
             if node.form == "share":
                 hint = f"In a `share`, `{node.name}` is what is heard already: leave the `nbr` out."
-                return f"{use}, stands beneath the `nbr` on {self.where(outer.expr.at)}", hint
-            share = f"`{self.heard(blame)} + 1` in place of `nbr{{{node.name} + 1}}`"
+                return f"{use}, is inside the `nbr` on {self.where(outer.expr.at)}", hint
+            share = f"`{self.heard(blame)} + 1` instead of `nbr{{{node.name} + 1}}`"
             hint = f"Share `{node.name}` alone, and compute with what is heard: {share}."
-            return f"{self.part(blame.round)}, shares more than `{node.name}` alone", hint
+            return f"{self.part(blame.round)}, shares more than just `{node.name}`", hint
         hint = f"Move it out of the body, and write `{self.heard(blame)}` where it is used."
-        return f"{use}, stands beneath the `{outer.form}` of `{outer.name}` on {self.where(outer.expr.at)}", hint
+        return f"{use}, is inside the `{outer.form}` of `{outer.name}` on {self.where(outer.expr.at)}", hint
 
     def _unguarded(self, blame: Blame) -> tuple[str, str]:
         name = self.nodes[blame.place].name
         why = f"its `{name}` on {self.where(self.nodes[blame.part].expr.at)}, is what the device itself held"
         if self.nodes[blame.round].name == "rise":
-            return why, f"Only the second argument of a `rise(a, {name}, s)` that is the whole body may be that."
+            return why, f"Only a `rise(a, {name}, s)` that is the whole body may use it, as its second argument."
         heard = f"nbr{{{name}}}"
         guard = GUARD.replace("nbr{x}", heard)
-        return why, f"Use what the neighbours held, `{heard}`, inside `minHoodLoc` or behind a guard `{guard}`."
+        return why, f"Use what the neighbours held, `{heard}`, inside `minHoodLoc` or in a guard `{guard}`."
 
     def _potential(self, blame: Blame) -> tuple[str, str]:
         guard, part = self.part(blame.round), self.nodes[blame.part]
-        hint = "Bind one integer by a `let` outside, as `let p = .. in`, and write `nbr{p} < p` with it in every guard."
+        hint = "Bind one integer outside, `let p = .. in`, and write `nbr{p} < p` in every guard."
         if blame.case == "no-integer":
-            return f"its guard {guard}, compares `{part.name}`, which is a `{part.type}` and no integer", hint
+            return f"its guard {guard}, compares `{part.name}`, which is a `{part.type}` and not an integer", hint
         if blame.case == "another":
             return f"its guard {guard}, compares `{part.name}` with another potential", hint
         compared = quoted(self.program.text, part.expr)
-        return f"its guard {guard}, compares {compared}, which isn't a name that is bound outside", hint
+        return f"its guard {guard}, compares {compared}, which isn't a name bound outside", hint
 
     def _no_growth(self, blame: Blame) -> tuple[str, str]:
         heard, name = self.heard(blame), self.nodes[blame.place].name
@@ -100,29 +100,29 @@ class Verdict:
             return f"what it hears may shrink from neighbour to neighbour, by {part}", hint
         if blame.case == "without":
             hint = self._in_step(blame, heard) or "Move it into the second argument of `minHoodLoc`."
-            return f"{part}, stands beside what it hears, and doesn't grow from neighbour to neighbour", hint
+            return f"{part}, is beside what it hears and doesn't grow from neighbour to neighbour", hint
         if blame.case == "no-integer":
-            hint = "Keep a pair whose first part is an integer that grows, as a hop count."
+            hint = "Keep a pair whose first part is an integer that grows, such as a hop count."
             return (
-                f"what it hears, {part}, is of type `{self.nodes[blame.part].type.local}`, and only an integer grows",
+                f"what it hears, {part}, is of type `{self.nodes[blame.part].type.local}`; only an integer can grow",
                 hint,
             )
         if blame.case == "times-zero":
             return (
                 f"what it hears may be multiplied by 0, in {part}",
-                "Multiply by what is at least 1, such as `max(1, ..)`.",
+                "Multiply by at least 1, as in `max(1, ..)`.",
             )
         if blame.case == "twice":
-            hint = f"Write `{heard}` once: in place of a sum of two, `2 * {heard}`."
-            return f"what it hears stands on both sides of {part}", hint
+            hint = f"Write `{heard}` once: `2 * {heard}` instead of a sum of two."
+            return f"what it hears is on both sides of {part}", hint
         if blame.case == "choice":
             return f"what it hears decides the choice of {part}", f"Choose by what doesn't depend on `{name}`."
         if blame.case == "pair":
             hint = "The first part has to be an integer that grows"
             hint += f", and the second one `snd({heard})`, or without `{name}`."
-            return f"of the pair {part}, it isn't known that it grows", hint
-        why = f"of {part}, it isn't known that it grows from neighbour to neighbour"
-        return why, f"Add to what is heard, as `{heard} + 1`."
+            return f"the pair {part}, isn't known to grow", hint
+        why = f"{part}, isn't known to grow from neighbour to neighbour"
+        return why, f"Add to what is heard, as in `{heard} + 1`."
 
     def _in_step(self, blame: Blame, heard: str) -> str | None:
         """How a value is chosen in place of what is heard, where that depends on the neighbour; else nothing."""
@@ -141,20 +141,20 @@ class Verdict:
             if low == 0:
                 return (
                     f"{why}, as links may weigh 0",
-                    "Declare a metric from 1 on, as `metric 1..9;`, or add 1 besides.",
+                    "Declare a metric from 1 on, as in `metric 1..9;`, or add 1 as well.",
                 )
         if blame.case == "plain":
             return why, f"Add 1: `{self.heard(blame)} + 1`."
-        return why, "Add what is at least 1: a number, or `nbrLink` with a metric from 1 on."
+        return why, "Add at least 1: a number, or `nbrLink` with a metric from 1 on."
 
     def _lead_at_ceiling(self, blame: Blame) -> tuple[str, str]:
         ceiling = self.program.ceiling
         why = f"its local pair {self.part(blame.part)}, may have the ceiling {ceiling} as its first part"
-        return f"{why}, where pairs no longer grow", f"Keep the first part below the ceiling, at {ceiling - 1}."
+        return f"{why}, where pairs no longer grow", f"Keep the first part below the ceiling, at most {ceiling - 1}."
 
     def _rise_zero(self, blame: Blame) -> tuple[str, str]:
-        why = f"the limit of its `rise`, {self.part(blame.part)}, may be 0, and then nothing may rise"
-        return why, "Take a limit of at least 1."
+        why = f"the limit of its `rise`, {self.part(blame.part)}, may be 0, and then a value may never rise"
+        return why, "Use a limit of at least 1."
 
     def _converging(self, blame: Blame) -> tuple[str, str]:
         heard, part = self.heard(blame), self.part(blame.part)
@@ -162,7 +162,7 @@ class Verdict:
         words = self._half_guarded(blame, heard, part, guard) | self._half_formed(blame, heard, part)
         collected = (
             f"{part}, hears all neighbours, without a guard",
-            f"Bind a potential outside, as `let p = .. in`, and hear those alone that are lower: `{guard}`.",
+            f"Bind a potential outside, `let p = .. in`, and hear only those that are lower: `{guard}`.",
         )
         return words.get(blame.case, collected)
 
@@ -171,12 +171,12 @@ class Verdict:
         name = self.nodes[blame.place].name
         return {
             "behind": (
-                f"what stands behind its guard, {part}, isn't `{heard}` alone",
-                f"Guard first, `{guard}`, and compute with that outside of the guard.",
+                f"the second argument of its guard, {part}, isn't just `{heard}`",
+                f"Guard first, `{guard}`, and compute with the result outside of the guard.",
             ),
             "condition": (
                 f"the condition of its guard, {part}, isn't of the form `nbr{{p}} < p`",
-                f"Write `{guard}` with one comparison, and any other condition in a `mux` round it: "
+                f"Write `{guard}` with one comparison, and put any other condition into a `mux` around it: "
                 f"`mux(c, {guard}, 0)`.",
             ),
             "turned": (
@@ -185,12 +185,12 @@ class Verdict:
                 "`let q = far - p` outside, with a number `far` that no `p` is above, and write `nbr{q} < q`.",
             ),
             "otherwise": (
-                f"{part}, stands where its guard isn't true, as the third argument of `mux`",
-                f"Write `{guard}`, with what is heard as the second argument.",
+                f"{part}, is the third argument of `mux`, for neighbours at which the guard is false",
+                f"Write `{guard}`, with what is heard as its second argument.",
             ),
             "both": (
-                f"behind its guard, beside what is heard, {part}, hears `{name}` too",
-                f"Write `{guard}`, with a third argument that is without `{name}`.",
+                f"the third argument of its guard, {part}, hears `{name}` too",
+                f"Write `{guard}`, with a third argument without `{name}`.",
             ),
         }
 
@@ -199,25 +199,25 @@ class Verdict:
         node = self.nodes[blame.place]
         return {
             "maxHoodLoc": (
-                f"{part}, takes a greatest value, which may be handed round for ever",
-                f"Take a least value that grows: `minHoodLoc({heard} + 1, ..)`; "
+                f"{part}, takes a greatest value, which may go round in circles for ever",
+                f"Use a least value that grows: `minHoodLoc({heard} + 1, ..)`; "
                 "or collect along a potential, behind guards.",
             ),
             "minHoodLoc": (
-                f"{part}, isn't the whole body, and what is done with it is of no known form",
+                f"{part}, isn't the whole body, and what is done with it has no known form",
                 f"Keep the `minHoodLoc` alone in the `{node.form}`, and compute with it outside.",
             ),
-            "limit": (f"the limit of its `rise`, {part}, depends on `{node.name}`", "Take a limit that doesn't."),
+            "limit": (f"the limit of its `rise`, {part}, depends on `{node.name}`", "Use a limit that doesn't."),
             "risen": (
                 f"the first argument of its `rise`, {part}, isn't a `minHoodLoc`",
                 f"Write `rise(minHoodLoc({heard} + 1, ..), {node.name}, s)`.",
             ),
             "local": (
                 f"the second argument of its `minHoodLoc`, {part}, hears `{node.name}` too",
-                "Take a second argument that doesn't.",
+                "Use a second argument that doesn't.",
             ),
             "": (
-                f"its body {part}, is none of the known ones",
+                f"its body {part}, has none of the known forms",
                 "Write it as a least value over the neighbours, or collect along a potential.",
             ),
         }
@@ -226,7 +226,7 @@ class Verdict:
 def no_walks(program: Unfolded, main: At) -> Said:
     """What is said where a program has no walks."""
     root = program.nodes[0]
-    what = "The program stabilises, but isn't of the form that has walks."
+    what = "The program stabilises, but doesn't have the form for walks."
     hint = "The root of `main` has to be a `rep` of integers whose body is `minHoodLoc(nbr{x} + s, l)`."
     if root.form == "let":
         hint += f" Here it is a `{'call' if root.expr.form == 'call' else 'let'}`."

@@ -51,7 +51,7 @@ def usage(words: tuple[str, ...]) -> Said | None:
                 return fault
             seen.add(word)
             if word not in VALUED and "=" in words[place - 1]:
-                return Said(f"`{word}` takes no value.", None, word, f"Write `{word}` alone.", CALLS)
+                return Said(f"`{word}` takes no value.", None, word, f"Write `{word}` without a value.", CALLS)
             if word in VALUED:
                 if "=" not in words[place - 1]:
                     value = words[place] if place < len(words) else ""
@@ -68,10 +68,10 @@ def usage(words: tuple[str, ...]) -> Said | None:
     for flag in ("--from-table", "--changes"):
         if flag in seen and "--settle" not in seen:
             return Said(
-                f"`{flag}` stands beside `--settle` alone.", None, flag, f"Write `check --settle {flag}`.", CALLS
+                f"`{flag}` needs `--settle`.", None, flag, f"Write `check --settle {flag}`.", CALLS
             )
     if "--changes" in seen:
-        hint = "It is an older one: build it anew with `./build`."
+        hint = "It is too old: build it again with `./build`."
         return Said("This fc has no flag `--changes`.", None, "--changes", hint, CALLS)
     return None
 
@@ -82,30 +82,30 @@ def _listed(names: Iterable[str]) -> str:
 
 def _no_command(word: str) -> Said:
     if word in ("help", "--help", "-h", "--version", "-V"):
-        hint = f"`fieldc --help` says what there is; the commands of fc are {_listed(FLAGS)}."
-        return Said(f"`{word}` is no command of fc.", None, word, hint, CALLS)
+        hint = f"`fieldc --help` lists the commands; those of fc are {_listed(FLAGS)}."
+        return Said(f"`{word}` isn't a command of fc.", None, word, hint, CALLS)
     near = difflib.get_close_matches(word, FLAGS, 1)
-    hint = f"Is `{near[0]}` meant?" if near else f"The commands are {_listed(FLAGS)}."
-    return Said(f"`{word}` is no command of fc.", None, word, hint, CALLS)
+    hint = f"Did you mean `{near[0]}`?" if near else f"The commands are {_listed(FLAGS)}."
+    return Said(f"`{word}` isn't a command of fc.", None, word, hint, CALLS)
 
 
 def _no_flag(command: str, word: str, seen: set[str]) -> Said | None:
     if word in seen:
-        return Said(f"`{word}` stands there twice.", None, word, "Write it once.", CALLS)
+        return Said(f"`{word}` is given twice.", None, word, "Write it once.", CALLS)
     if word in FLAGS[command]:
         return None
     known = f"It has {_listed(FLAGS[command])}." if FLAGS[command] else "It has no flags."
     others = [name for name, flags in FLAGS.items() if word in flags]
     near = difflib.get_close_matches(word, FLAGS[command], 1)
-    hint = f"Is `{near[0]}` meant?" if near else f"It is a flag of {_listed(others)}." if others else known
+    hint = f"Did you mean `{near[0]}`?" if near else f"It is a flag of {_listed(others)}." if others else known
     return Said(f"`{command}` has no flag `{word}`.", None, word, hint, CALLS)
 
 
 def _no_number(word: str, value: str) -> Said | None:
     least = {"--workers": 1, "--devices": 3, "--number": 0}[word]
     if not NUMBER.fullmatch(value):
-        given = f"`{value}` is none" if value else "none is there"
-        return Said(f"`{word}` needs a number of 1 to 7 digits, and {given}.", None, word, f"Write `{word} 4`.", CALLS)
+        given = f"`{value}` isn't one" if value else "there is none"
+        return Said(f"`{word}` needs a number of 1 to 7 digits, but {given}.", None, word, f"Write `{word} 4`.", CALLS)
     if int(value) < least:
         return Said(f"`{word}` needs a number of at least {least}.", None, word, None, CALLS)
     return None
@@ -115,7 +115,7 @@ def _strange_word(command: str, word: str) -> Said:
     hint = (
         "fc reads its input from standard input; `fieldc` takes files by name." if not NUMBER.fullmatch(word) else None
     )
-    return Said(f"`{command}` takes no word `{word}`.", None, word, hint, CALLS)
+    return Said(f"`{command}` doesn't take the word `{word}`.", None, word, hint, CALLS)
 
 
 def wrong_sections(words: tuple[str, ...], count: int) -> Said | None:
@@ -131,9 +131,9 @@ def wrong_sections(words: tuple[str, ...], count: int) -> Said | None:
     names = " and ".join(", ".join(wanted).rsplit(", ", 1))
     given = f"{count} {'is' if count == 1 else 'are'} given"
     what = f"`{command}` takes {counted(len(wanted), 'section')}, {names}, and {given}."
-    hint = "Two sections are parted by a line that is exactly `%%`."
+    hint = "A line that is exactly `%%` separates two sections."
     if count > len(wanted) and len(wanted) == 2:
-        hint = "No script is wanted: `fieldc network --scene FILE` takes the network out of what `--moves` wrote."
+        hint = "No script is taken here: `fieldc network --scene FILE` extracts the network from what `--moves` wrote."
     if 0 < count < len(wanted):
-        hint = f"The {wanted[count]} is missing: give its file too, or put it behind a line that is exactly `%%`."
+        hint = f"The {wanted[count]} is missing: give its file too, or add it after a line that is exactly `%%`."
     return Said(what, None, command, hint, FORMATS + "#the-input")

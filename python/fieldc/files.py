@@ -76,7 +76,7 @@ def _numbered_rows(columns: Columns) -> tuple[dict[str, int], dict[int, str]]:
     for row in columns.rows if columns.id is not None else ():
         name = columns.id_of(row)
         if name in seen:
-            raise Fault(f"{columns.where(row)}: device {name} stands on line {seen[name]} already", 3)
+            raise Fault(f"{columns.where(row)}: device {name} is on line {seen[name]} already", 3)
         seen[name] = row[0]
     return numbered(list(seen))
 
@@ -154,7 +154,7 @@ def graph(name: str) -> Any:
             found.graph["gml"] = True
             return found
     except Exception as error:  # networkx raises whatever its parsers meet
-        raise Fault(f"{name} is no graph: {error}", 3) from None
+        raise Fault(f"{name} isn't a graph: {error}", 3) from None
     return listed(name, text)
 
 
@@ -205,7 +205,7 @@ def _link(where: str, line: str, delimiter: str | None) -> Any:
 
     head = line.split("{")[0]
     if not head or re.search(r"[<>\[\]\"]", head):
-        raise Fault(f"{where}: this is no list of links", 3)
+        raise Fault(f"{where}: this isn't a list of links", 3)
     words = [word.strip() for word in head.split(delimiter)]
     words = words[:-1] if "{" in line and words and not words[-1] else words
     data: Any = True if "{" in line else (("weight", str),)[: len(words) - 2]
@@ -275,4 +275,4 @@ def table_of(name: str) -> Any:
             return json.loads(lines[-1])
     except (IndexError, ValueError, RecursionError):
         pass
-    raise Fault(f"{name} has no table: fc run --table and fc replay --table write one", 3)
+    raise Fault(f"{name} has no table; fc run --table and fc replay --table write one", 3)

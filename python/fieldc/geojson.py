@@ -21,9 +21,9 @@ def rows_of(name: str, text: str) -> list[tuple[int, list[str]]]:
     try:
         whole = json.loads(text)
     except (ValueError, RecursionError) as error:
-        raise Fault(f"{name} is no GeoJSON: {error}", 3) from None
+        raise Fault(f"{name} isn't GeoJSON: {error}", 3) from None
     if whole.get("type") != "FeatureCollection" or not isinstance(whole.get("features"), list):
-        raise Fault(f'{name} is no GeoJSON of points: it has to be of "type": "FeatureCollection"', 3)
+        raise Fault(f'{name} is not GeoJSON of points: it has to be of "type": "FeatureCollection"', 3)
     found = [(line, _fields(f"{name} line {line}", feature)) for line, feature in _features(text)]
     if not found:
         raise Fault(f"{name} has no features", 3)
@@ -31,7 +31,7 @@ def rows_of(name: str, text: str) -> list[tuple[int, list[str]]]:
     for line, fields in found:
         for word in header:
             if word not in fields:
-                raise Fault(f"{name} line {line}: this feature has no {word}, and others have one", 3)
+                raise Fault(f"{name} line {line}: this feature has no {word}, but others have one", 3)
     return [(found[0][0], header), *((line, [fields[word] for word in header]) for line, fields in found)]
 
 
@@ -67,7 +67,7 @@ def _fields(where: str, feature: Any) -> dict[str, str]:
     geometry = feature.get("geometry") if isinstance(feature, dict) else None
     if not isinstance(geometry, dict) or geometry.get("type") != "Point":
         kind = f"a {geometry.get('type')}" if isinstance(geometry, dict) else "nowhere"
-        raise Fault(f"{where}: this feature is {kind}, and has to be a Point", 3)
+        raise Fault(f"{where}: this feature is {kind}; it has to be a Point", 3)
     at = geometry.get("coordinates")
     if not isinstance(at, list) or len(at) not in (2, 3):
         raise Fault(f"{where}: the coordinates of this feature aren't [longitude, latitude]", 3)

@@ -150,7 +150,7 @@ def _of_node_link(data: Mapping[Any, Any]) -> Any:
     try:
         return _networkx().node_link_graph({**data, "links": edges})
     except Exception as error:  # networkx raises whatever it meets
-        raise Fault(f"this is no node-link data: {type(error).__name__} {error}", 3) from None
+        raise Fault(f"this isn't node-link data: {type(error).__name__} {error}", 3) from None
 
 
 def _of_adjacency(near: Mapping[Any, Any]) -> Any:
@@ -178,7 +178,7 @@ def _of_array(found: Any) -> Any:
     graph.add_nodes_from(range(found.shape[0]))
     for (a, b), weight in there.items():
         if (b, a) not in there:
-            raise Fault(f"the array links {a} to {b} and not {b} to {a}, and a link has no direction", 3)
+            raise Fault(f"the array links {a} to {b} but not {b} to {a}; a link has no direction", 3)
         _link(graph, a, b, weight)
     return graph
 

@@ -87,7 +87,7 @@ class _Reader:
 
     def ended(self, kind: str, start: int) -> JsonFault:
         place = self.at(start)
-        what = f"The text ends inside the {kind} that begins on line {place.line}, column {place.column}."
+        what = f"The text ends within the {kind} that begins on line {place.line}, column {place.column}."
         closer = {"object": "}", "array": "]", "text": '"'}[kind]
         return self.fault(what, None, f"Write `{closer}` where it ends.", len(self.text.rstrip(SPACES)))
 
@@ -120,32 +120,32 @@ class _Reader:
             raise self.fault(f"`{word}` isn't a word of JSON.", word, f"Write {_code(STRANGE[word])}.")
         if word[0] == "'":
             raise self.fault(
-                "A text of JSON stands in double quotes, and this one in single ones.", None, 'Write `"src"`.'
+                "A string in JSON needs double quotes, not single ones.", None, 'Write `"src"`.'
             )
         if word.startswith(("//", "/*", "#")):
-            raise self.fault("JSON has no comments.", None, "Take it away.")
+            raise self.fault("JSON has no comments.", None, "Remove it.")
         if word[0] in "+." or word[0].isdigit():
-            raise self.fault(f"`{word}` isn't a number of JSON.", word, "Numbers are written as `12`.")
+            raise self.fault(f"`{word}` isn't a number of JSON.", word, "Write numbers like `12`.")
         if word[0] in "]},:":
             raise self.fault(
-                f"A value is expected here, and there is `{word[0]}`.", None, _comma_hint(self.text, start)
+                f"Expected a value here, but found `{word[0]}`.", None, _comma_hint(self.text, start)
             )
         if word[0] == "\ufeff":
             raise self.fault("The text begins with a byte order mark.", None, "Save it as UTF-8 without one.")
-        raise self.fault(f"`{_shown(word)}` isn't a value of JSON.", word, "A name or a text stands in double quotes.")
+        raise self.fault(f"`{_shown(word)}` isn't a value of JSON.", word, "Put names and strings in double quotes.")
 
     def number(self) -> Json:
         start = self.place
         found = NUMBER.match(self.text, start)
         word = _whole(LETTERS, self.text, start)
         if found is None or found.group() != word:
-            hint = "A number has no zero in front." if re.match(r"-?0[0-9]", word) else "Numbers are written as `12`."
+            hint = "A number can't begin with a zero." if re.match(r"-?0[0-9]", word) else "Write numbers like `12`."
             raise self.fault(f"`{word}` isn't a number of JSON.", word, hint)
         self.place = found.end()
         whole = found.group(2) is None and found.group(3) is None and not word.startswith("-") and len(word) <= 19
         value = int(word) if whole else float(word)
         if value in (float("inf"), float("-inf")):
-            raise self.fault(f"The number `{word}` is too great.", word, None, start)
+            raise self.fault(f"The number `{word}` is too large.", word, None, start)
         return Json("number", self.at(start), start, self.place, value)
 
     def string(self) -> str:
@@ -162,10 +162,10 @@ class _Reader:
             if sign < " ":
                 place = self.at(start)
                 what = (
-                    f"The text that begins on line {place.line}, column {place.column}, goes over the end of its line."
+                    f"The string that begins on line {place.line}, column {place.column}, isn't closed on its line."
                 )
-                raise self.fault(what, None, 'Close it by `"`.') if sign in "\r\n" else self.fault(
-                    "A text of JSON has no such character."
+                raise self.fault(what, None, 'Close it with `"`.') if sign in "\r\n" else self.fault(
+                    "A string in JSON can't have such a character."
                 )
             if "\udc80" <= sign <= "\udcff":
                 raise self.fault("This isn't UTF-8.", None, "Save the file as UTF-8.")
@@ -181,7 +181,7 @@ class _Reader:
         if sign == "u" and re.fullmatch("[0-9A-Fa-f]{4}", digits):
             self.place += 4
             return chr(int(digits, 16))
-        raise self.fault(f"`\\{sign}` isn't an escape of JSON.", None, "A backslash is written `\\\\`.", self.place - 1)
+        raise self.fault(f"`\\{sign}` isn't an escape of JSON.", None, "Write a backslash as `\\\\`.", self.place - 1)
 
     def array(self, depth: int) -> Json:
         start = self.place
@@ -209,7 +209,7 @@ class _Reader:
         self.place += 1
         if sign == "," and self.spaces() == closer:
             comma = self.text.rindex(",", 0, self.place)
-            raise self.fault(f"A comma stands before `{closer}`.", None, "Take the comma away.", comma)
+            raise self.fault(f"There is a comma before `{closer}`.", None, "Remove the comma.", comma)
         return sign == closer
 
     def object(self, depth: int) -> Json:
@@ -226,13 +226,13 @@ class _Reader:
                 raise self.ended("object", start)
             if sign != '"':
                 word = _whole(NAME, self.text, self.place) or sign
-                what = f"The name of a member stands in double quotes, and here is `{_shown(word)}`."
+                what = f"Expected the name of a member in double quotes, but found `{_shown(word)}`."
                 raise self.fault(what, word, 'Write `"id"`.')
             key_at = self.at(self.place)
             name = self.string()
             if self.spaces() != ":":
                 shown = name if len(name) <= 30 else name[:30] + ".."
-                raise self.fault(f'A `:` is missing behind `"{shown}"`.', name, None)
+                raise self.fault(f'A `:` is missing after `"{shown}"`.', name, None)
             self.place += 1
             members[name] = self.value(depth)
             keys[name] = key_at
@@ -256,7 +256,7 @@ def _shown(word: str) -> str:
 
 def _comma_hint(text: str, offset: int) -> str | None:
     return (
-        "Take one of the commas away." if text[:offset].rstrip(SPACES).endswith(",") and text[offset] == "," else None
+        "Remove one of the commas." if text[:offset].rstrip(SPACES).endswith(",") and text[offset] == "," else None
     )
 
 
@@ -269,10 +269,11 @@ def read(text: str, first_line: int = 1) -> Json:
     sign = reader.spaces()
     if sign in ("}", "]"):
         raise reader.fault(
-            f"This `{sign}` closes nothing.", sign, "Take it away, or look for one that stands too early."
+            f"This `{sign}` closes nothing.", sign, "Remove it, or look for one that comes too early."
         )
     if sign != "":
-        raise reader.fault("More text stands behind the end of the value.", None, "A line `%%` parts two sections.")
+        hint = "A line `%%` separates two sections."
+        raise reader.fault("There is more text after the end of the value.", None, hint)
     return found
 
 

@@ -15,7 +15,7 @@ class Kept(dict[Key, Content]):
         return hash(_frozen(self))
 
     def _refused(self, *_words: object, **_more: object) -> NoReturn:
-        raise TypeError("a result can't be changed: dict(..) makes a copy that can")
+        raise TypeError("a result can't be changed; dict(..) makes a copy that can")
 
     __setitem__ = __delitem__ = __ior__ = update = pop = popitem = clear = setdefault = _refused  # type: ignore
 

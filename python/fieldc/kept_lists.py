@@ -11,7 +11,7 @@ from .places import Said
 from .telling import counted
 
 PAGE = "docs/formats.md#the-network-a-scene-in-json"
-ANEW = "A table is of one program: make it anew by `--table`."
+ANEW = "A table belongs to one program: make a new one with `--table`."
 
 
 def kept_type(node: Node) -> Local:
@@ -71,7 +71,7 @@ def kept_fault(text: str, found: Json, place: int, pairs: bool, program: Unfolde
         return Said(missing(node, program), found.at, str(place), ANEW, PAGE)
     shown = " ".join(text[item.start : item.end].split())
     if pairs and item.items[0].whole != node.place:
-        what = f"The kept value of {part(node, program)}, is expected here, and `{shown}` is of another place."
+        what = f"The kept value of {part(node, program)}, is expected here, but `{shown}` belongs to another place."
         return Said(what, item.at, str(place), ANEW, PAGE)
     return Said(misfit(node, shown, program), item.at, str(place), ANEW, PAGE)
 
@@ -86,7 +86,7 @@ def part(node: Node, program: Unfolded) -> str:
 
 def too_many(count: int) -> str:
     """Said where items are left over."""
-    return f"The export keeps {counted(count, 'value')}, and more are given here."
+    return f"The export keeps {counted(count, 'value')}, but more are given here."
 
 
 def missing(node: Node, program: Unfolded) -> str:

@@ -42,7 +42,7 @@ def kinds_of(word: str, values: Iterable[Value | None], devices: Mapping[int, st
     parts = None if word == "all" else [int(part) for part in word.split(",") if part.isdecimal()]
     most = next((len(parts_of(value)) for value in values if value is not None), 0)
     if not most:
-        raise Fault(f"--kinds {word}: it is of values, and there are none")
+        raise Fault(f"--kinds {word}: it is about values; there are none")
     if parts is not None and (len(parts) != len(word.split(",")) or not all(1 <= part <= most for part in parts)):
         raise Fault(f"--kinds {word}: it is all, or numbers of parts, and a value has {most}")
     return Kinds(None if parts is None else frozenset(parts), devices)

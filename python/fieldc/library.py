@@ -191,7 +191,7 @@ def cut(
 def with_table(asked: Given, table: Mapping[str, Json]) -> Given:
     """The network with a table, and nothing in flight. Raises Fault where it is no network."""
     if asked.network is None:
-        raise Fault("this is no scene: fieldc.check says where it isn't", 3)
+        raise Fault("this isn't a scene; fieldc.check says where it is wrong", 3)
     network = replace(asked.network, state={"table": table})
     return Given(network.scene(), network)
 

@@ -83,7 +83,7 @@ def _within_limit(network: Network, near: Mapping[int, int]) -> None:
     crowded = max(near, key=lambda device: near[device])
     if near[crowded] > MOST_PAIRS:
         raise Fault(
-            f"device {network.called(crowded)} may come within reach of {near[crowded]} others, and fc takes "
+            f"device {network.called(crowded)} may come within reach of {near[crowded]} others, but fc takes "
             f"{MOST_PAIRS}: choose a smaller range, or a smaller move",
             4,
         )
@@ -133,5 +133,5 @@ def _truth(value: Any, where: str) -> bool:
         return found
     word = str(found).lower()
     if word not in TRUTHS and word not in DIGITS:
-        raise Fault(f"{where} is {value!r}, and has to be true or false", 3)
+        raise Fault(f"{where} is {value!r}; it has to be true or false", 3)
     return {**TRUTHS, **DIGITS}[word]

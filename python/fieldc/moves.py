@@ -100,8 +100,8 @@ def _date(word: str, where: str) -> float:
     try:
         found = datetime.fromisoformat(word)
     except ValueError:
-        wanted = "a number, or a date and time as 2026-05-01T12:00:00"
-        raise Fault(f"{where} is {word!r}, and has to be {wanted}", 3) from None
+        wanted = "a number, or a date and time such as 2026-05-01T12:00:00"
+        raise Fault(f"{where} is {word!r}; it has to be {wanted}", 3) from None
     return (found if found.tzinfo is not None else found.replace(tzinfo=timezone.utc)).timestamp()
 
 
@@ -118,7 +118,7 @@ def times_of(moves: Moves, every: float) -> list[float]:
     if 2 * count > MOST_LINES:
         least = (last - first) / (MOST_LINES / 2 - 1)
         steps = f"{count:,} steps from t = {first:g} to {last:g}"
-        lines = f"at least {2 * count:,} lines of a script, and fc takes {MOST_LINES:,}"
+        lines = f"at least {2 * count:,} lines of a script, but fc takes {MOST_LINES:,}"
         raise Fault(f"--every {every:g}: {steps} are {lines}; --every {least:.6g} has few enough steps", 4)
     return [first + place * every for place in range(count)]
 
@@ -159,7 +159,7 @@ def steps(
     for time in times:
         now = there(moves, time, gone_after)
         if not now:
-            raise Fault(f"at t = {time:g} no device is there, and a network has at least one", 3)
+            raise Fault(f"at t = {time:g} there is no device; a network needs at least one", 3)
         places = {device: place for device, (place, _) in now.items()}
         inputs = {device: own for device, (_, own) in now.items()}
         try:
@@ -188,8 +188,8 @@ def script(found: Sequence[Step], rounds: int, declared: Sequence[str] | None) -
     for before, after in zip(found, found[1:]):
         lines += [*edits(before.network, after.network, declared, after.time), f"run {rounds}", "show"]
     if len(lines) > MOST_LINES:
-        fewer = "a greater --every, a smaller --range or a part of the file has fewer"
-        raise Fault(f"the script has {len(lines):,} lines, and fc takes {MOST_LINES:,}: {fewer}", 4)
+        fewer = "choose a greater --every, a smaller --range or a part of the file"
+        raise Fault(f"the script has {len(lines):,} lines, but fc takes {MOST_LINES:,}: {fewer}", 4)
     return "".join(line + "\n" for line in lines)
 
 

@@ -168,7 +168,7 @@ def fitting(value: Any, span: Pair | None, where: str) -> Input:
     found = plain(value)
     truth = isinstance(found, bool)
     if truth != (span is None) or not isinstance(found, int) or (span and not span[0] <= found <= span[1]):
-        raise Fault(f"{where} is {value!r}, and has to be {kind_of(span)}", 3)
+        raise Fault(f"{where} is {value!r}; it has to be {kind_of(span)}", 3)
     return found
 
 
@@ -192,9 +192,9 @@ def weight_of(value: Any, where: str, rounds: bool = False, span: Pair = (0, GRE
         try:
             found = int(found) if found.isdigit() else float(found)
         except ValueError:
-            raise Fault(f"{where} weighs {value!r}, which is no number", 3) from None
+            raise Fault(f"{where} weighs {value!r}, which isn't a number", 3) from None
     if isinstance(found, bool) or not isinstance(found, numbers.Real) or not math.isfinite(found):
-        raise Fault(f"{where} weighs {value!r}, which is no number", 3)
+        raise Fault(f"{where} weighs {value!r}, which isn't a number", 3)
     if found != int(found) and not rounds:
         raise Fault(
             f"{where} weighs {value!r}, and a weight is a whole number: "
@@ -211,9 +211,9 @@ def finite(value: Any, where: str) -> float:
     try:
         found = float(value)
     except (TypeError, ValueError):
-        raise Fault(f"{where} is {value!r}, which is no number", 3) from None
+        raise Fault(f"{where} is {value!r}, which isn't a number", 3) from None
     if not math.isfinite(found):
-        raise Fault(f"{where} is {value!r}, and has to be a finite number", 3)
+        raise Fault(f"{where} is {value!r}; it has to be a finite number", 3)
     return found
 
 
@@ -244,7 +244,7 @@ def from_graph(
     positions = {number[node]: place for node, data in graph.nodes(data=True) if (place := _place(str(node), data))}
     if graph.is_directed() and not undirected:
         direct = "make it undirected (--undirected, or from_graph(.., undirected=True))"
-        raise Fault(f"the graph is directed, and a link has no direction: {direct}", 3)
+        raise Fault(f"the graph is directed, but a link has no direction: {direct}", 3)
     links = _links(graph, number, weight, rounds, wanted.metric if wanted else (0, GREATEST_NUMBER))
     ordered = {device: own[device] for device in sorted(own)}
     places = dict(sorted(positions.items())) if len(positions) == len(own) else {}
@@ -298,7 +298,7 @@ def _links(
     if bare and len(bare) < len(found):
         called = {place: str(node) for node, place in number.items()}
         link = f"the link of {called[bare[0][0]]} and {called[bare[0][1]]}"
-        raise Fault(f"{link} has no weight, and others have one: give it one, or (in Python) pass weight=1", 3)
+        raise Fault(f"{link} has no weight, but others have one: give it one, or (in Python) pass weight=1", 3)
     where = {place: str(node) for node, place in number.items()}
     return tuple(
         (a, b, 1 if value is None else weight_of(value, f"the link of {where[a]} and {where[b]}", rounds, span))
@@ -315,7 +315,7 @@ def read_scene(text: str, name: str = "the network", first_line: int = 1) -> Net
     wrong = next(_wrong_form(scene), None) or next(_wrong_devices(scene["devices"]), None)
     wrong = wrong or next(_wrong_links(scene["links"], {device["id"] for device in scene["devices"]}), None)
     if wrong is not None:
-        raise Fault(f"{name} is no scene: {wrong}", 3)
+        raise Fault(f"{name} isn't a scene: {wrong}", 3)
     inputs = {device["id"]: dict(device["inputs"]) for device in scene["devices"]}
     links = tuple((a, b, weight) for a, b, weight in scene["links"])
     state = {part: scene[part] for part in ("table", "pending") if part in scene}
@@ -329,11 +329,11 @@ def json_of(text: str, name: str, first_line: int = 1) -> Any:
     except json.JSONDecodeError as error:
         what = error.msg[:1].lower() + error.msg[1:]
         place = f"line {error.lineno + first_line - 1}, column {error.colno}"
-        raise Fault(f"{name} is no scene: {place} is no JSON, {what}", 3) from None
+        raise Fault(f"{name} isn't a scene: {place} isn't JSON, {what}", 3) from None
     except ValueError as error:
-        raise Fault(f"{name} is no scene: it is no JSON, {error}", 3) from None
+        raise Fault(f"{name} isn't a scene: it isn't JSON, {error}", 3) from None
     except RecursionError:
-        raise Fault(f"{name} is no scene: objects and arrays are nested too deeply", 3) from None
+        raise Fault(f"{name} isn't a scene: objects and arrays are nested too deeply", 3) from None
 
 
 def is_whole(value: object) -> bool:
@@ -348,12 +348,12 @@ def _wrong_form(scene: Any) -> Iterator[str]:
         return
     for member in scene:
         if member not in ("devices", "links", "table", "pending"):
-            yield f"/{member} is no member of a network: devices, links, table and pending are"
+            yield f"/{member} isn't a member of a network, which has devices, links, table and pending"
     for member in ("devices", "links"):
         if not isinstance(scene[member], list):
             yield f"/{member} has to be a list"
     if not scene["devices"]:
-        yield "/devices is empty, and a network has at least one"
+        yield "/devices is empty; a network needs at least one"
 
 
 def _wrong_devices(devices: list[Any]) -> Iterator[str]:
@@ -365,7 +365,7 @@ def _wrong_devices(devices: list[Any]) -> Iterator[str]:
             yield f'{where}: a device is {{"id": NUMBER, "inputs": {{..}}}}'
             return
         if not is_whole(device["id"]) or device["id"] in seen:
-            yield f"{where}/id: {json.dumps(device['id'])} is no number of a device, or stands there twice"
+            yield f"{where}/id: {json.dumps(device['id'])} isn't the number of a device, or is used twice"
             return
         seen.add(device["id"])
         for name, value in device["inputs"].items():
@@ -385,7 +385,7 @@ def _wrong_links(links: list[Any], devices: set[int]) -> Iterator[str]:
         for device in sorted(pair - devices):
             yield f"{where}: there is no device {device}"
         if len(pair) < 2 or pair in seen:
-            yield f"{where}: {link[0]} and {link[1]} are one device, or linked twice"
+            yield f"{where}: {link[0]} and {link[1]} are the same device, or linked twice"
         seen.add(pair)
 
 
@@ -460,7 +460,7 @@ def disk(count: int, side: float, reach: float, seed: int = 0) -> Network:
 def in_range(positions: Mapping[int, Position], reach: float) -> Network:
     """Devices at positions, linked where they are at most `reach` apart. Raises Fault where `reach` isn't a length."""
     if not math.isfinite(reach) or reach < 0:
-        raise Fault(f"a range of {reach:g}: it has to be a number, and at least 0")
+        raise Fault(f"a range of {reach:g}: it has to be a number of at least 0")
     rows = sorted((x, y, device) for device, (x, y) in positions.items())
     links: list[Pair] = []
     first = 0
@@ -481,7 +481,7 @@ def weighed(network: Network, low: int, high: int, unit: float = 1.0) -> Network
     Raises Fault where there are no positions, or `low` is above `high`.
     """
     if not network.positions:
-        raise Fault("weights by distance need positions, and the network has none")
+        raise Fault("weights by distance need positions, but the network has none")
     if not 0 <= low <= high <= GREATEST_NUMBER:
         raise Fault(f"a metric of {low}..{high}: it goes from its least to its greatest weight")
     if not math.isfinite(unit) or unit <= 0:
@@ -512,7 +512,7 @@ def with_inputs(network: Network, settings: Sequence[tuple[str, Input, Sequence[
     for name, value, devices in settings:
         for device in inputs if devices is None else devices:
             if device not in inputs:
-                raise Fault(f"{name} is set on device {device}, which isn't there")
+                raise Fault(f"{name} is set on device {device}, which doesn't exist")
             inputs[device][name] = value
     for name, value, _ in settings:
         for device, own in inputs.items():
@@ -543,7 +543,7 @@ def nearest(network: Network, most: int) -> Network:
         return math.dist(at[link[0]], at[link[1]]) if at else link[2]
 
     if not at and len({weight for _, _, weight in network.links}) < 2:
-        raise Fault("the nearest neighbours can't be told: there are no positions, and all links weigh the same")
+        raise Fault("the nearest neighbours aren't known: there are no positions, and all links weigh the same")
     count = dict.fromkeys(network.inputs, 0)
     kept = []
     for link in sorted(network.links, key=lambda link: (far(link), link)):
@@ -558,14 +558,14 @@ def within_limits(network: Network) -> Network:
     """The network, where `fc` takes so many devices and links. Raises Fault, of status 4, with what to do."""
     devices = network.devices
     if not 1 <= len(devices) <= MOST_DEVICES:
-        raise Fault(f"{len(devices):,} devices, and fc takes 1 to {MOST_DEVICES:,}", 4)
+        raise Fault(f"{len(devices):,} devices, but fc takes 1 to {MOST_DEVICES:,}", 4)
     if devices[0] < 0 or devices[-1] > GREATEST_DEVICE:
         raise Fault(f"a device's number is 0 to {GREATEST_DEVICE:,}", 3)
     count = degrees(network)
     crowded = max(devices, key=lambda device: count[device])
     if count[crowded] > MOST_LINKS:
         raise Fault(
-            f"device {network.called(crowded)} has {count[crowded]} links, and fc takes {MOST_LINKS}: "
+            f"device {network.called(crowded)} has {count[crowded]} links, but fc takes {MOST_LINKS}: "
             f"--max-degree {MOST_LINKS} keeps the nearest, or choose a smaller range",
             4,
         )

@@ -271,7 +271,7 @@ def confirmed(search: Search, pair: tuple[Rest, Rest]) -> tuple[Rest, Rest]:
     for rest in pair:
         program, scene, log = rest.text.split("\n%%\n")
         if search.replayed(scene, log).values != rest.values:
-            raise Fault("a rest that was found isn't confirmed by fc: please report this with the program and network")
+            raise Fault("fc doesn't confirm a state that was found: please report this, with the program and network")
     return pair
 
 
@@ -283,16 +283,17 @@ def told(found: Openness, names: Sequence[str]) -> str:
         lines = _told_swing(found, found.swing, names[0])
     else:
         things = "orders of firings" if found.from_table else "starts"
-        first = f"No two {things} were found that rest apart. That doesn't say that there are none. Tried from"
+        first = f"No two {things} were found that end at different values. There may be some all the same. Tried from"
         lines = [first, *_told_tries(found)]
     return "\n".join(lines) + "\n"
 
 
 def _told_rests(found: Openness, rests: tuple[Rest, Rest], names: Sequence[str]) -> list[str]:
-    lines = ["Two starts rest apart, so the program doesn't settle on this network:"]
+    lines = ["Two starts end at different values, so the program doesn't settle on this network:"]
     does = "runs one round from there, which changes nothing"
     if found.from_table:
-        lines = ["Two orders of firings rest apart, so the program doesn't settle from the table of this network:"]
+        what = "Two orders of firings end at different values"
+        lines = [f"{what}, so the program doesn't settle from this network's table:"]
         does = "gets there, and ends with a round that changes nothing"
     for rest, name in zip(rests, names):
         lines.append(f"  from {rest.start}, {rest.order}, after at most {counted(rest.rounds, 'round')}:")
@@ -346,7 +347,7 @@ def perform(options: argparse.Namespace, call: Call) -> None:
     """Looks, writes the inputs that show what was found to files here, and tells of it on standard error."""
     texts = {section.kind: section.text for section in call.sections}
     scene = json.loads(texts["network"])
-    with Progress(lambda: "looking for two starts that rest apart") as waiting:
+    with Progress(lambda: "looking for two starts that end at different values") as waiting:
         found = look(texts["program"], scene, from_table=getattr(options, "from_table", False), waiting=waiting)
     inputs = [rest.text for rest in found.rests] if found.rests else [found.swing.text] if found.swing else []
     names = free_names(len(inputs), Path.cwd())

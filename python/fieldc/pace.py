@@ -40,7 +40,7 @@ class Pace:
         parts = [f"each device begins a firing at least every {_plain(self.period)} s"]
         parts += [f"each firing ends within {_plain(self.lasts)} s"]
         if self.delivery is not None:
-            parts += [f"each link brings a message within {_plain(self.delivery)} s more"]
+            parts += [f"each link delivers a message within {_plain(self.delivery)} s more"]
         return f"a round takes at most {_plain(self.of_a_round)} s where " + ", and ".join(parts)
 
 
@@ -56,7 +56,7 @@ def seconds(word: str) -> Decimal:
     except InvalidOperation:
         found = Decimal("NaN")
     if not found.is_finite() or found < 0:
-        raise argparse.ArgumentTypeError(f"{word} isn't a number of seconds, as 0.5")
+        raise argparse.ArgumentTypeError(f"{word} isn't a number of seconds, such as 0.5")
     return found
 
 
@@ -66,10 +66,10 @@ def arguments(parser: argparse.ArgumentParser) -> None:
         "--period", metavar="S", type=seconds,
         help="writes seconds beside rounds: each device begins a firing at least every S; needs --lasts",
     )  # fmt: skip
-    parser.add_argument("--lasts", metavar="S", type=seconds, help="beside --period: a firing takes at most S")
+    parser.add_argument("--lasts", metavar="S", type=seconds, help="with --period: a firing takes at most S")
     parser.add_argument(
         "--delivery", metavar="S", type=seconds,
-        help="beside --period: over message links, each brings a message within S more",
+        help="with --period: over message links, each delivers a message within S more",
     )  # fmt: skip
 
 
@@ -82,12 +82,12 @@ def pace_of(options: argparse.Namespace) -> Pace | None:
     if period is None and lasts is None and delivery is None:
         return None
     if period is None or lasts is None:
-        raise Fault("seconds need --period, how often each device fires, and --lasts, how long a firing takes")
+        raise Fault("seconds need both --period, how often each device fires, and --lasts, how long a firing takes")
     if not period:
-        raise Fault("--period 0: it has to be above 0")
+        raise Fault("--period 0 is too small: it has to be above 0")
     beside = next((name for name in ("from_table", "changes") if getattr(options, name, None)), None)
     if delivery is not None and beside is not None:
-        raise Fault(f"--delivery: nothing is promised over message links beside --{beside.replace('_', '-')}")
+        raise Fault(f"--delivery: nothing is promised over message links with --{beside.replace('_', '-')}")
     return Pace(period, lasts, delivery)
 
 

@@ -98,7 +98,7 @@ def gathered(
     if results.is_bounded(answer):
         return bounding(network, results.bounded(answer), lines, declared(program or ""), rounds)
     if rounds:
-        raise Fault("--rounds is of bounds that hold while a network changes, and these are none")
+        raise Fault("--rounds is for bounds that hold while a network changes; these aren't")
     if any(line == "open" or line.startswith("settles ") for line in texts):
         return settling(network, results.settled(answer), verdict)
     if any(line.startswith("@") for line in texts):
@@ -117,7 +117,7 @@ def _run(network: Network, run: results.Ran, lines: str | None, inputs: tuple[st
     by_line = {moment.line: moment for moment in moments(network, lines, inputs) if moment.line is not None}
     missing = [show.line for show in run.shows if show.line not in by_line]
     if missing or len(by_line) != len(run.shows):
-        raise Fault(f"these shows aren't of this script: line {missing[0] if missing else max(by_line)}", 3)
+        raise Fault(f"these shows don't belong to this script: line {missing[0] if missing else max(by_line)}", 3)
     return tuple(_shown(run, place, by_line[show.line]) for place, show in enumerate(run.shows))
 
 
@@ -150,7 +150,7 @@ def _one(network: Network, answer: str, lines: str | None, inputs: tuple[str, ..
     while texts and results.is_verdict(texts[0]):
         texts.pop(0)
     if not texts or not texts[0][:1].isdigit():
-        raise Fault("there are no values of devices in it", 3)
+        raise Fault("it has no values of devices", 3)
     values = results.replayed("\n".join(texts)).values
     if lines is not None and not is_script(lines):
         network = moments(network, lines, inputs)[0].network
@@ -162,7 +162,7 @@ def _agree(frame: Frame) -> None:
     there = set(frame.network.inputs)
     for device in sorted(there ^ set(results.by_number(frame.values))):
         lacks, has = ("values have", "network hasn't") if device not in there else ("network has", "values haven't")
-        raise Fault(f"the values aren't of this network: the {lacks} device {device}, and the {has}", 3)
+        raise Fault(f"these values don't belong to this network: the {lacks} device {device}, but the {has}", 3)
 
 
 def settling(network: Network, found: results.Settled, verdict: str) -> Picture:
@@ -190,7 +190,7 @@ def bounding(
         network, loose = widest(network, envelope), frozenset(envelope.links) - envelope.sure_links
     elif held.keys() - network.inputs.keys():
         comes = min(held.keys() - network.inputs.keys())
-        raise Fault(f"device {comes} of these bounds isn't in the network, and may come: give its file of changes", 3)
+        raise Fault(f"device {comes} of these bounds isn't in the network but may come: give its file of changes", 3)
     away = frozenset(device for device, one in held.items() if one.away)
 
     def frame(title: str, after: int) -> Frame:
@@ -261,13 +261,13 @@ def at_times(picture: Picture, places: Mapping[float, Mapping[int, Position]]) -
 def check_marks(picture: Picture, marks: Sequence[str]) -> Picture:
     """The picture with marks. Raises Fault where no device has such an input, or there are more than are told apart."""
     if len(marks) > len(OUTLINES):
-        raise Fault(f"--mark: {len(marks)} are given, and at most {len(OUTLINES)} are told apart")
+        raise Fault(f"--mark: {len(marks)} are too many; at most {len(OUTLINES)} can be told apart")
     for name in marks:
         inputs = [own for frame in picture.frames for own in frame.network.inputs.values()]
         if not any(name in own for own in inputs):
             raise Fault(f"--mark {name}: no device has this input")
         if not any(isinstance(own.get(name), bool) for own in inputs):
-            raise Fault(f"--mark {name}: this input is a number, and devices are marked where one is true")
+            raise Fault(f"--mark {name}: this input is a number; only a truth value can mark devices")
     return replace(picture, marks=tuple(marks))
 
 
@@ -279,11 +279,11 @@ def check_kinds(picture: Picture, word: str | None, names: Mapping[int, str]) ->
     if word is None:
         return picture
     if picture.meaning.scale == SETTLING:
-        raise Fault(f"--kinds {word}: it is of values, and these are settle rounds")
+        raise Fault(f"--kinds {word}: it is about values; these are settle rounds")
     shown = [value for frame in picture.frames for value in frame.values.values()]
     values = [value for value in shown if not isinstance(value, Bound)]
     if picture.meaning.bounds:
-        raise Fault(f"--kinds {word}: it is of values, and these are bounds")
+        raise Fault(f"--kinds {word}: it is about values; these are bounds")
     devices = {device: names.get(device, str(device)) for device in everywhere(picture)[0]}
     return replace(picture, meaning=replace(picture.meaning, kinds=kinds_of(word, values, devices)))
 

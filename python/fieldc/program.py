@@ -60,13 +60,13 @@ def find() -> str:
     It is what the variable FC names; else the installed program, under `libexec` of a folder that holds this package or
     Python; else `fc` of the checkout, which runs the proved program, or says that there is none.
 
-    Raises Fault where none is there.
+    Raises Fault where there is none.
     """
     named = os.environ.get("FC")
     if named:
         found = shutil.which(named)
         if found is None:
-            raise Fault(f"{named} isn't a program: the variable FC has to name fc")
+            raise Fault(f"{named} isn't a program; the variable FC has to name fc")
         return found
     for folder in (*PACKAGE.parents, Path(sys.prefix)):
         for place in INSTALLED:
@@ -75,7 +75,7 @@ def find() -> str:
     here = checkout()
     if here is not None:
         return str(here / "fc")
-    raise Fault("fc isn't there: install it with ./build --prefix, or let the variable FC name it")
+    raise Fault("fc is missing: install it with ./build --prefix, or set the variable FC to its name")
 
 
 def built() -> bool:
@@ -142,7 +142,7 @@ def answered(call: Call, waiting: Callable[[], None] | None = None) -> Reply:
     reply = ask(call, waiting)
     if not possible(call, reply):
         wrote = f"it ended with status {reply.status} and wrote {reply.text[:60]!r}"
-        raise Fault(f"{find()} doesn't answer as fc does: {wrote}")
+        raise Fault(f"{find()} doesn't answer like fc: {wrote}")
     if reply.status not in (0, 1):
         line = reply.text.strip("\n") if reply.status in REFUSING else ""
         raise Refusal(reply.status, line.split(" ")[0].rstrip(":"), line, call)

@@ -109,7 +109,7 @@ class Refusal(Error):
 UNSAID = {
     5: "Reading the input failed.",
     6: "Writing the output failed.",
-    7: "There was not enough memory.",
+    7: "Memory ran out.",
 }
 
 
@@ -129,7 +129,7 @@ def has_lark() -> bool:
 def explained(call: Call, refusal: Refusal) -> Explanation:
     """The explanation of a refusal or of a no; only what `fc` said where programs can't be read for want of Lark."""
     if not has_lark():
-        return replace(plain_explanation(refusal), hint="Debian's python3-lark lets fieldc say where and why")
+        return replace(plain_explanation(refusal), hint="with Debian's python3-lark fieldc says where and why")
     from .explain import explain
 
     return as_typed(explain(call, refusal))

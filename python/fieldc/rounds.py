@@ -56,7 +56,7 @@ def promised(program: str, network: Networks, waiting: Callable[[], None] | None
     asked = library.call_of(["check", "--settle"], program=program, network=scene)
     found = results.settled(fc.answered(asked, waiting).text)
     if found.rounds is None:
-        open_too = "and the network is open: not all devices are known to settle (docs/patterns.md)"
+        open_too = "but the network is open: not all devices are known to settle (docs/patterns.md)"
         raise Fault(f"{found.verdict.line}, {open_too}", 1)
     values = found.values
     if None in values.values():

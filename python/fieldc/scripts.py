@@ -101,7 +101,7 @@ def form_fault(line: Line, kind: str) -> Said | None:
     """Why a line is none of its section; nothing where it is one."""
     for word in line.words:
         if word.text == "" or "\t" in word.text or "\r" in word.text:
-            return Said("Words stand one space apart, and none in front or behind.", word.at, None, None, PAGES[kind])
+            return Said("Write one space between words, and no others.", word.at, None, None, PAGES[kind])
     if line.verb not in LINES[kind] or line.words[0].text in ("B", "E"):
         return _strange(line, kind)
     rules = {"mix": _mix, "poke": _poke, "join": _join, "set": _set}
@@ -113,7 +113,7 @@ def _strange(line: Line, kind: str) -> Said:
     hint = None
     for other, lines in LINES.items():
         if line.verb in lines and other != kind:
-            hint = f"It is a line of {TITLES[other]}, and this is {TITLES[kind]}."
+            hint = f"It belongs in {TITLES[other]}; this is {TITLES[kind]}."
             break
     if first.text in ("B", "E") and "B" in LINES[kind]:
         hint = f"Write `{first.text}{line.words[1].text if len(line.words) > 1 else 3}`, without a space."
@@ -126,8 +126,8 @@ def _strange(line: Line, kind: str) -> Said:
     elif hint is None:
         near = difflib.get_close_matches(first.text, LINES[kind], 1)
         forms = ", ".join(f"`{form}`" for form in LINES[kind].values())
-        hint = f"Is `{near[0]}` meant?" if near else f"The lines are {forms}."
-    return Said(f"`{first.text}` begins no line of {TITLES[kind]}.", first.at, first.text, hint, PAGES[kind])
+        hint = f"Did you mean `{near[0]}`?" if near else f"The lines are {forms}."
+    return Said(f"No line of {TITLES[kind]} begins with `{first.text}`.", first.at, first.text, hint, PAGES[kind])
 
 
 def _count(words: tuple[Word, ...], form: str, page: str) -> Said | None:
@@ -138,7 +138,7 @@ def _count(words: tuple[Word, ...], form: str, page: str) -> Said | None:
     verb = words[0].text
     place = words[wanted + 1].at if given > wanted else At(words[-1].at.line, words[-1].at.column + len(words[-1].text))
     numeral = f"{wanted} word{'' if wanted == 1 else 's'}" if wanted else "no word"
-    what = f"Behind `{verb}` stands {numeral}, and {given or 'none'} {'are' if given > 1 else 'is'} given."
+    what = f"`{verb}` takes {numeral}, but {given or 'none'} {'are' if given > 1 else 'is'} given."
     what = what.replace("stands", "stand") if wanted > 1 else what
     return Said(what, place, verb, f"Write `{form}`.", page)
 
@@ -146,7 +146,7 @@ def _count(words: tuple[Word, ...], form: str, page: str) -> Said | None:
 def _number(word: Word, page: str) -> Said | None:
     if NUMBER.fullmatch(word.text):
         return None
-    return Said(f"A number of 1 to 7 digits is expected, and `{word.text}` is none.", word.at, word.text, None, page)
+    return Said(f"Expected a number of 1 to 7 digits; `{word.text}` isn't one.", word.at, word.text, None, page)
 
 
 def _device(word: Word, page: str) -> Said | None:
@@ -158,7 +158,7 @@ def _value(word: Word, page: str) -> Said | None:
     if is_value(word.text):
         return None
     hint = "Values are numbers, `true`, `false`, and pairs as `(1,true)`, without spaces."
-    return Said(f"`{word.text}` is no value.", word.at, word.text, hint, page)
+    return Said(f"`{word.text}` isn't a value.", word.at, word.text, hint, page)
 
 
 def _span(word: Word, page: str) -> Said | None:
@@ -168,11 +168,11 @@ def _span(word: Word, page: str) -> Said | None:
         return None
     if ends is None:
         hint = "Values are numbers, `true`, `false`, two numbers as `2..7`, and `any`, without spaces."
-        return Said(f"`{word.text}` is no value.", word.at, word.text, hint, page)
+        return Said(f"`{word.text}` isn't a value.", word.at, word.text, hint, page)
     if int(ends[1]) <= int(ends[2]):
         return None
     hint = f"Write `{ends[2]}..{ends[1]}`."
-    return Said(f"`{word.text}` is upside down: the least comes first.", word.at, word.text, hint, page)
+    return Said(f"`{word.text}` is the wrong way round: the least comes first.", word.at, word.text, hint, page)
 
 
 def _weight(word: Word, page: str) -> Said | None:
@@ -180,7 +180,7 @@ def _weight(word: Word, page: str) -> Said | None:
     fault = _span(word, page)
     if fault is None and not word.text[0].isdigit() and word.text != "any":
         hint = "A weight is a number, two numbers as `2..7`, or `any`."
-        return Said(f"`{word.text}` is no weight.", word.at, word.text, hint, page)
+        return Said(f"`{word.text}` isn't a weight.", word.at, word.text, hint, page)
     return fault
 
 
@@ -196,7 +196,7 @@ def _plain(words: tuple[Word, ...], kind: str) -> Said | None:
     found = (_device(word, page) if named in ("A", "B", "D") else other(word, page) for word, named in wanted)
     fault = _count(words, form, page) or next(filter(None, found), None)
     if fault is None and verb == "run" and int(words[1].text) == 0:
-        return Said("A `run` has at least one round.", words[1].at, "run", None, page)
+        return Said("A `run` needs at least one round.", words[1].at, "run", None, page)
     return fault
 
 
@@ -205,7 +205,7 @@ def _set(words: tuple[Word, ...], kind: str) -> Said | None:
     fault = _count(words, EDITS["set"], page) or _device(words[1], page)
     if fault is None and (not NAME.fullmatch(words[2].text) or words[2].text in WORDS):
         return Said(
-            f"`{words[2].text}` is no name of an input.", words[2].at, words[2].text, "Write `set 3 src true`.", page
+            f"`{words[2].text}` can't be an input's name.", words[2].at, words[2].text, "Write `set 3 src true`.", page
         )
     return fault or _values(words[3:], kind)
 
@@ -236,15 +236,15 @@ def _mix(words: tuple[Word, ...], kind: str) -> Said | None:
     page = PAGES[kind]
     if len(words) < 3:
         place = At(words[-1].at.line, words[-1].at.column + len(words[-1].text))
-        what = "Behind `mix` stand a number of rounds and an edit."
+        what = "`mix` takes a number of rounds and an edit."
         return Said(what, place, "mix", "Write `mix 5 set 0 src false`.", page)
     fault = _number(words[1], page)
     if fault is not None:
         return fault
     if int(words[1].text) == 0:
-        return Said("A `mix` has at least one round.", words[1].at, "mix", None, page)
+        return Said("A `mix` needs at least one round.", words[1].at, "mix", None, page)
     if words[2].text not in MIXED:
-        what = f"The edit of a `mix` is a `link`, `unlink`, `set` or `poke`, and not `{words[2].text}`."
+        what = f"The edit of a `mix` has to be a `link`, `unlink`, `set` or `poke`, not `{words[2].text}`."
         return Said(what, words[2].at, words[2].text, None, page)
     rules = {"poke": _poke, "set": _set}
     return rules.get(words[2].text, _plain)(words[2:], kind)

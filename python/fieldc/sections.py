@@ -38,7 +38,7 @@ def read(name: str) -> str:
     if content.startswith((codecs.BOM_UTF16_LE, codecs.BOM_UTF16_BE)):
         raise Fault(f"{called} is in UTF-16: save it as UTF-8", 3)
     if b"\0" in content:
-        raise Fault(f"{called} is a binary file and no text: byte {content.index(0):,} is zero", 3)
+        raise Fault(f"{called} is a binary file, not text: byte {content.index(0):,} is zero", 3)
     return text_of(content)
 
 
@@ -75,7 +75,7 @@ def sections(names: Sequence[str], kinds: Sequence[str]) -> tuple[Section, ...]:
     There may be more or fewer sections than kinds: `fc` refuses them. Raises Fault where standard input is named twice.
     """
     if list(names).count("-") > 1:
-        raise Fault("standard input can be read once: name it by one -")
+        raise Fault("standard input can be read only once: use a single -")
     parts = [(name, first, text) for name in names for first, text in cut(name, read(name))]
     named = [kinds[place] if place < len(kinds) else "section" for place in range(len(parts))]
     return tuple(Section(kind, name, first, text) for kind, (name, first, text) in zip(named, parts))

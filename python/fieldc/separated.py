@@ -86,7 +86,7 @@ class Columns:
         where = self.where(row, name)
         value = input_word(row[1][self.header.index(name)], where, name, span is None, self.scale)
         if isinstance(value, str) and self.wanted is None:
-            remedy = "if the column is none, --inputs or --program say which are"
+            remedy = "if the column isn't an input, name the inputs with --inputs or --program"
             raise Fault(f"{where} is {value!r}, and an input is true, false or a whole number; {remedy}", 3)
         return input_of(value, where) if span == () else fitting(value, span or None, where)
 
@@ -191,7 +191,7 @@ def _header(name: str, rows: list[Row], timed: bool) -> tuple[list[str], list[Ro
         if len(set(lowered)) < len(lowered):
             raise Fault(f"{name} line {line}: two columns have one name", 3)
         if len(rows) == 1:
-            raise Fault(f"{name} has no rows behind the names of its columns", 3)
+            raise Fault(f"{name} has no rows after the names of its columns", 3)
         for wanted in (TIMES, IDS) if timed else ():
             if _first(first, wanted) is None:
                 raise Fault(f"{name} line {line}: no column is called {wanted[0]}, nor {' or '.join(wanted[1:])}", 3)
@@ -202,7 +202,7 @@ def _header(name: str, rows: list[Row], timed: bool) -> tuple[list[str], list[Ro
         columns = "names of columns with x and y (or lat and lon) among them"
         raise Fault(f"{name} line {line}: neither a row {said}, nor {columns}", 3)
     if len(first) > width:
-        raise Fault(f"{name} line {line}: {len(first)} fields, and no names of columns stand first", 3)
+        raise Fault(f"{name} line {line}: {len(first)} fields, but no names of columns come first", 3)
     return usual, rows, (width - 2, width - 1)
 
 

@@ -59,7 +59,7 @@ def network(
         made = of_edges(edges, program, weight, round, undirected, inputs)
     elif asked[0] in ("points", "disk"):
         if range is None:
-            raise TypeError(f"{asked[0]} are linked where they are at most a range apart: pass range=")
+            raise TypeError(f"{asked[0]} are linked if they are at most a range apart: pass range=")
         made = networks.disk(disk, side, range, seed) if disk is not None else of_points(points, range, program, scale)
     else:
         made = of_rule(asked[0], shapes[asked[0]])
@@ -86,7 +86,7 @@ def of_rule(shape: str, size: Any) -> Network:
 def at_most(count: int) -> None:
     """Refuses more devices than `fc` takes before they are made."""
     if not 1 <= count <= networks.MOST_DEVICES:
-        raise Fault(f"{count:,} devices, and fc takes 1 to {networks.MOST_DEVICES:,}", 4)
+        raise Fault(f"{count:,} devices, but fc takes 1 to {networks.MOST_DEVICES:,}", 4)
 
 
 def of_edges(

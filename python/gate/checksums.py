@@ -16,6 +16,9 @@ FUNCTION = re.compile(r"( *)(pub |pub\(\w+\) )?(?:const |unsafe )*fn ")
 OF_TRAIT = re.compile(r"( *)(?:(?:pub )?trait |impl\b[^{]* for )")
 CLAUSE = re.compile(r" +(requires|ensures|decreases|where|ghost)\b")
 OWN_IMPORT = re.compile(r" *use ")
+ATTRIBUTE = re.compile(r" *#\[")
+# how a function is compiled, of which proofs know nothing
+APART = re.compile(r" *#\[inline\b.*\]$")
 
 
 def files_of(folder: Path) -> list[Path]:
@@ -43,20 +46,32 @@ def opens_body(head: list[str]) -> bool:
 
 def public_lines(text: str) -> Iterator[str]:
     """The lines of a source in the layout of `rt fmt` on which other crates can lean: all but comments, imports for the
-    crate's own use, bodies of functions, and functions that aren't public."""
+    crate's own use, bodies of functions, functions that aren't public, and whether functions are inlined."""
     lines = iter([line for line in text.splitlines() if line.strip() and not line.lstrip().startswith("//")])
     end_of_trait = ""
+    attributes: list[str] = []
     for line in lines:
         if found := OF_TRAIT.match(line):
             end_of_trait = f"{found[1]}}}"
         elif line == end_of_trait:
             end_of_trait = ""
+        if ATTRIBUTE.match(line):
+            if not APART.match(line):
+                attributes.append(line)
+            continue
         if found := FUNCTION.match(line):
             head = head_of(line, lines)
             if found[2] == "pub " or end_of_trait:
-                yield from head
+                yield from [*attributes, *head]
         elif not OWN_IMPORT.match(line):
-            yield line
+            yield from [*attributes, line]
+        attributes = []
+
+
+def as_proved(path: Path) -> bytes:
+    """The content of a file of a crate, without how its functions are compiled."""
+    lines = path.read_text().splitlines(keepends=True)
+    return "".join(line for line in lines if not APART.match(line.rstrip("\n"))).encode()
 
 
 def digest(parts: Iterable[tuple[str, bytes]]) -> str:
@@ -82,7 +97,7 @@ def seen_from_above(crate: str) -> str:
 def surroundings(crate: str) -> str:
     """The checksum of a crate's files, and of what it sees of the crates that its line in crates.txt names."""
     folders = (CRATES / crate / part for part in ("src", "specs", "proofs"))
-    own = [(named(path), path.read_bytes()) for folder in folders for path in files_of(folder)]
+    own = [(named(path), as_proved(path)) for folder in folders for path in files_of(folder)]
     return digest([*own, *((name, seen_from_above(name).encode()) for name in libraries()[crate])])
 
 

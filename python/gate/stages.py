@@ -74,7 +74,7 @@ def proofs(prove: Callable[[], list[str]]) -> Counts:
     rows = edits.read_rows()
     new = edits.changed(edits.standing(), rows)
     old = edits.sample({*edits.standing()} - {*new}, SAMPLE, commit())
-    say(f"wrong bodies: {len(new)} are tried anew, and of the others {', '.join(map(str, old)) or 'none'}")
+    say(f"wrong bodies: tries {len(new)} that changed, and of the others {', '.join(map(str, old)) or 'none'}")
     with edits.placed([*new, *old]):
         lines = prove()
     tries = read_log(lines)

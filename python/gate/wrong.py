@@ -14,8 +14,9 @@ from .places import TOP
 from .refusals import Try, read_log
 
 EPILOG = """\
-With no words, those are tried that were never tried, or against which something has changed: the edit, a file of its
-crate, or the definitions or public lines of a crate that its crate names. What was seen goes into wrong/tried.json."""
+With no words it tries the edits that were never tried, and those for which something has changed: the edit, a file of
+its crate, or the definitions or public lines of a crate that its crate names. It keeps the results in
+wrong/tried.json."""
 
 
 def must_fail(chosen: list[Edit]) -> Iterator[str]:

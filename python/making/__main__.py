@@ -35,7 +35,7 @@ def main() -> int:
     words = parser.parse_args()
     found = stale()
     for name in found:
-        print(f"{name} {'is out of date: run tools/pages' if words.check else 'is written anew'}")
+        print(f"{name} {'is out of date: run tools/pages' if words.check else 'is rewritten'}")
         if not words.check:
             (TOP / name).parent.mkdir(exist_ok=True)
             (TOP / name).write_text(made()[name])

@@ -25,7 +25,7 @@ def part(line: Line, command: Command) -> str:
     if all(word.takes != FILE for word in command.words):
         text += f"{front} -f\n"
     text += "".join(f"{front} {option_words(option)}\n" for option in command.options)
-    return text + (f"{front} -s h -l help -d 'tells of the command'\n" if line.program == "fieldc" else "")
+    return text + (f"{front} -s h -l help -d 'shows this help'\n" if line.program == "fieldc" else "")
 
 
 def option_words(option: Option) -> str:

@@ -133,29 +133,29 @@ def of_fc() -> Line:
     workers = number("--workers", "N", "threads that fire devices, 1 to 16 (4)")
     table = flag("--table", "adds the table of what the devices have published")
     settle = (
-        flag("--facts", "adds what is known of each node of the unfolded main"),
+        flag("--facts", "adds the facts of each node of the unfolded main"),
         flag("--settle", "adds after how many rounds each device holds its value"),
-        flag("--from-table", "beside --settle: counts from the network's table and pending firings", "--settle"),
+        flag("--from-table", "with --settle: counts from the network's table and pending firings", "--settle"),
     )
-    log = flag("--log", "adds the log of all steps that were taken")
-    rounds = flag("--rounds", "adds how many rounds passed since the last edit")
+    log = flag("--log", "adds the log of all steps")
+    rounds = flag("--rounds", "adds how many rounds the log has after its last edit")
     devices = number("--devices", "D", "devices of the ring, 3 to 512 (64)")
     scenario = Option((), "the number of the scenario", WORD, "N", required=True)
-    mailed = number("--number", "N", "makes the log from this number; then there is no section of it")
+    mailed = number("--number", "N", "makes the log from this number; then the input has no log")
     commands = (
         Command("check", "says whether a program stabilises, and after how many rounds", settle, epilog=CHECK),
         Command("stable", "writes the final value of each device, without running the program", epilog=STABLE),
         Command("trace", "writes for each device its final value and a cheapest path", epilog=TRACE),
         Command(
             "run",
-            "runs a script: rounds on several threads, edits, rubbish tables, shows",
+            "runs a script: rounds on several threads, edits, rubbish, shows",
             (workers, log, table),
             epilog=RUN,
         ),
-        Command("gen", "runs a scenario that is made from a number", (devices, workers), (scenario,), GEN),
-        Command("replay", "goes through a log, and writes what each device then holds", (rounds, table), epilog=REPLAY),
-        Command("mail", "goes through a log of messages, or makes one from a number", (mailed,), epilog=MAIL),
-        Command("format", "writes the canonical text of a program", epilog=FORMAT),
+        Command("gen", "runs a scenario made from a number", (devices, workers), (scenario,), GEN),
+        Command("replay", "replays a log, and writes what each device then holds", (rounds, table), epilog=REPLAY),
+        Command("mail", "replays a log of messages, or makes one from a number", (mailed,), epilog=MAIL),
+        Command("format", "writes a program in its standard layout", epilog=FORMAT),
     )
     return Line("fc", "interpreter and proved checker of the first-order field calculus", (), commands)
 

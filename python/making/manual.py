@@ -18,13 +18,13 @@ def page(line: Line, version: str, date: str) -> str:
     """The whole page."""
     parts = [
         FIRST + f'.TH {line.program.upper()} 1 "{date}" "{line.program} {version}" "User Commands"\n.nh\n.ad l',
-        section("NAME", f"{line.program} \\- a front for people over fc, the checker of the field calculus"),
+        section("NAME", f"{line.program} \\- the front end of fc, the checker of the field calculus"),
         section("SYNOPSIS", "\n.br\n".join(synopsis(line, command) for command in line.commands)),
         section("DESCRIPTION", paragraphs(line.description), files_and_answers()),
         section("OPTIONS", *(described(option) for option in line.options)),
         section("COMMANDS", *(command_part(line, command) for command in line.commands)),
         section("EXIT STATUS", *(tagged(number, text) for number, text in statuses(line.epilog))),
-        section("ENVIRONMENT", tagged("FC", "the program fc that is asked, where it isn't the installed one.")),
+        section("ENVIRONMENT", tagged("FC", "the program fc to ask, if it isn't the installed one.")),
         section("SEE ALSO", "\\fBfc\\fR(1)"),
     ]
     return filled("\n".join(parts) + "\n")
@@ -119,10 +119,10 @@ def files_and_answers() -> str:
     """What holds of all commands."""
     return (
         ".PP\nEach file is a section of the input of fc: a program, a network, and a script or a log. A file may\n"
-        "have several sections, parted by lines that are exactly %%, and \\- is standard input. What is refused is\n"
+        "have several sections, separated by lines that are exactly %%, and \\- is standard input. What is refused is\n"
         "told on standard error, with the line of the file and what to try, and nothing is written on standard\n"
         "output.\n"
-        ".PP\nEach command tells of itself with\n.BR \\-\\-help ."
+        ".PP\nEach command explains itself with\n.BR \\-\\-help ."
     )
 
 

@@ -37,7 +37,7 @@ def completion(line: Line) -> str:
 def part(line: Line, command: Command) -> str:
     """The part of a command."""
     specs = [spec(option) for option in command.options]
-    specs += ["'(- *)'{-h,--help}'[tells of the command]'"] if line.program == "fieldc" else []
+    specs += ["'(- *)'{-h,--help}'[shows this help]'"] if line.program == "fieldc" else []
     for word in command.words:
         where = "*" if word.repeated else "1"
         specs.append(quoted(f"{where}:{word.value}:{'_files' if word.takes == FILE else ' '}"))

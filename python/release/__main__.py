@@ -9,9 +9,8 @@ from . import made
 from .library import Failed
 
 EPILOG = """\
-A release is of the sources that it was made from: call it as the last thing before a commit, once ./build or ./test
-has gone through, and commit the folder release. With --compare nothing is written: the release is made once more, and
-compared."""
+Call it last before a commit, once ./build or ./test has passed, and commit the folder release. With --compare it writes
+nothing: it makes the release again, and compares."""
 
 
 def compare() -> int:

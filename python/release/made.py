@@ -77,14 +77,14 @@ def age() -> str:
     if not (TOP / SOURCES).exists():
         return "there is no release (tools/release)"
     if released_sum(TOP) != sum_of_sources(TOP):
-        return "the release is older than the sources (tools/release makes it anew)"
-    return "" if is_of_these_sources() else "the release was made by other tools than those that are here"
+        return "the release is older than the sources (tools/release makes a new one)"
+    return "" if is_of_these_sources() else "the release was made by other tools than those here"
 
 
 def differences() -> Iterator[str]:
     """Where the release isn't what today's sources give, byte for byte. Raises Failed."""
     if SUMS.read_text() != sums(FOLDER):
-        yield f"{SUMS.relative_to(TOP)} isn't of the files beside it"
+        yield f"{SUMS.relative_to(TOP)} doesn't have the sums of the files beside it"
     library.build()
     compiled = module.make()
     made = {"fc": PROGRAM, "fc.mjs": EMBED / "fc.mjs", "fc.wasm": compiled, "play.html": page.make(compiled)}

@@ -9,18 +9,21 @@ import re
 from collections.abc import Iterator
 from pathlib import Path
 
-from fieldc.blocks import own_library, read_library
+from fieldc.blocks import Block, own_library, read_library
 from fieldc.version import VERSION
 from gate.places import TOP
 
 from .library import OUT, Failed
 
 FOLDER = TOP / "page"
+BLOCKS = TOP / "docs/blocks.md"
 MADE = OUT / "play.html"
 IMPORT = re.compile(r'^import [^;]*? from "([^"]+)";\n', re.MULTILINE | re.DOTALL)
 EXPORT = re.compile(r"^export (?=(?:async )?(?:const|let|function|class) )", re.MULTILINE)
 NAMED = re.compile(r"^(?:async )?(?:const|let|function|class) (\w+)", re.MULTILINE)
 PLACE = re.compile(r"@([A-Z]+)@")
+SECTION = re.compile(r"^## The blocks\n(.*?)^## ", re.MULTILINE | re.DOTALL)
+GROUP = re.compile(r"^### (.*)\n|^\| [^|]* \| `(\w+)\(", re.MULTILINE)
 # a name for people, and the example's program with its network
 EXAMPLES = (
     ("Field: hops to a gateway, with paths", "sensor_field_trace"),
@@ -57,15 +60,34 @@ def script(name: str) -> str:
     return text
 
 
+def groups() -> dict[str, str]:
+    """The group of each block, by name: its heading in docs/blocks.md, in the order of that page."""
+    section, group = SECTION.search(BLOCKS.read_text()), ""
+    found: dict[str, str] = {}
+    for heading, name in GROUP.findall(section[1] if section else ""):
+        group = heading or group
+        if name:
+            found.setdefault(name, group)
+    return found
+
+
+def block_data(block: Block, group: str) -> dict[str, object]:
+    """A block as the page wants it."""
+    return {
+        "name": block.name, "group": group, "call": block.call, "gives": block.gives,
+        "needs": block.notes.get("Needs", ""), "text": block.text, "calls": block.calls,
+        "isSecond": block.second_language, "isPart": block.is_part,
+    }  # fmt: skip
+
+
 def blocks() -> list[dict[str, object]]:
-    """The blocks of the library, by name."""
-    library = read_library([own_library()]).values()
-    return [
-        {
-            "name": block.name, "call": block.call, "gives": block.gives, "needs": block.notes.get("Needs", ""),
-            "text": block.text, "calls": block.calls, "isSecond": block.second_language, "isPart": block.is_part,
-        } for block in sorted(library, key=lambda block: block.name.lower())
-    ]  # fmt: skip
+    """The blocks of the library, in the order of docs/blocks.md; parts of blocks, which it doesn't list, come last.
+    Raises Failed where it doesn't list a block."""
+    library, known = read_library([own_library()]), groups()
+    parts = sorted(name for name, block in library.items() if block.is_part)
+    if missing := sorted({*library} - {*known, *parts}):
+        raise Failed(f"docs/blocks.md has no row for {', '.join(missing)}")
+    return [block_data(library[name], known.get(name, "")) for name in (*known, *parts)]
 
 
 def examples() -> list[dict[str, str]]:

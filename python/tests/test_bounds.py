@@ -102,7 +102,7 @@ class Settled(Played):
     def test_names(self) -> None:
         self.file("id,name\n1,the mill\n2,post\n", "names.csv")
         done = self.of(Case(HOPS, LINE, "leave pots\n", ""), "--names", "names.csv")
-        self.assertIn("no device is called pots; is post meant?", done.errors)
+        self.assertIn("no device is called pots; did you mean post?", done.errors)
         done = self.of(Case(HOPS, LINE, "unlink 1 post\n", ""), "--names", "names.csv")
         wanted = LINK_GOES.written.replace("\n1 ", "\nthe mill ").replace("\n2 ", "\npost ")
         self.assertEqual((done.status, done.output), (0, wanted), done.errors)
@@ -128,9 +128,9 @@ class Settled(Played):
 
     def test_words_that_dont_go_together(self) -> None:
         rows = {
-            "--why is of settle rounds": ("--why",),
-            "--kinds is of values": ("--kinds", "all", "--names", "names.csv"),
-            "--delivery: nothing is promised over message links beside --changes":
+            "--why is about settle rounds": ("--why",),
+            "--kinds is about values": ("--kinds", "all", "--names", "names.csv"),
+            "--delivery: nothing is promised over message links with --changes":
                 ("--period", 1, "--lasts", 1, "--delivery", 1),
             "argument --confirm: 0 isn't a number of runs": ("--confirm", 0),
         }  # fmt: skip
@@ -142,11 +142,11 @@ class Settled(Played):
         for option in ("--changes", "--confirm"):
             done = fieldc("check", "program.fc", "network.json", option, 3, folder=self.folder)
             self.assertEqual((done.status, done.output), (2, ""))
-            self.assertIn(f"{option} stands beside --settle only", done.errors)
+            self.assertIn(f"{option} needs --settle", done.errors)
         done = fieldc("settle", "program.fc", "network.json", "--confirm", 3, folder=self.folder)
-        self.assertIn("--confirm tries runs within changes: give --changes too", done.errors)
+        self.assertIn("--confirm needs --changes: it tries runs within them", done.errors)
         done = fieldc("settle", "-", "network.json", "--changes", "-", folder=self.folder)
-        self.assertIn("standard input can be read once", done.errors)
+        self.assertIn("standard input can be read only once", done.errors)
 
 
 @needs_fc
@@ -272,7 +272,7 @@ class Confirmed(Played):
     def test_the_command(self) -> None:
         done = self.of(LINK_GOES, "--confirm", 5)
         self.assertEqual((done.status, done.output), (0, LINK_GOES.written))
-        self.assertRegex(done.errors, r"^fieldc: 5 runs, \d+ values, none outside of its bound\n$")
+        self.assertRegex(done.errors, r"^fieldc: 5 runs, \d+ values, none outside its bound\n$")
 
     def test_a_defect_is_told_with_its_script(self) -> None:
         wrong = Case(HOPS, LINE, "unlink 1 2\n", LINK_GOES.written.replace("2 3 2..10", "2 3 2..9"))
@@ -321,7 +321,7 @@ class Seconds(Played):
         self.assertEqual(done.errors, f"fieldc: a round takes at most 1.1 s where {premise}\n")
         done = fieldc("check", *files, "--delivery", "0.9", folder=self.folder)
         self.assertEqual(done.output, "yes 22 44s\n")
-        self.assertIn("each link brings a message within 0.9 s more", done.errors)
+        self.assertIn("each link delivers a message within 0.9 s more", done.errors)
         found = json.loads(fieldc("settle", *files, "--json", folder=self.folder).output)
         seconds = found["round_seconds"], found["verdict"]["seconds"], found["settles_seconds"]
         self.assertEqual(seconds, (1.1, 24.2, 5.5))
@@ -336,13 +336,13 @@ class Seconds(Played):
 
     def test_refusals(self) -> None:
         rows = {
-            "seconds need --period, how often each device fires, and --lasts": ("--period", 1),
+            "seconds need both --period, how often each device fires, and --lasts": ("--period", 1),
             "--lasts, how long a firing takes": ("--delivery", 1),
-            "--period 0: it has to be above 0": ("--period", 0, "--lasts", 1),
+            "--period 0 is too small: it has to be above 0": ("--period", 0, "--lasts", 1),
             "argument --lasts: soon isn't a number of seconds": ("--period", 1, "--lasts", "soon"),
             "argument --period: -1 isn't a number of seconds": ("--period", -1, "--lasts", 1),
             "argument --period: inf isn't a number of seconds": ("--period", "inf", "--lasts", 1),
-            "--delivery: nothing is promised over message links beside --from-table":
+            "--delivery: nothing is promised over message links with --from-table":
                 ("--period", 1, "--lasts", 1, "--delivery", 1, "--from-table"),
         }  # fmt: skip
         self.file(HOPS, "hops.fc")
@@ -436,7 +436,7 @@ class Pictures(InFolder):
 
     def test_refusals(self) -> None:
         rows = {
-            "--kinds all: it is of values, and these are bounds": ("--kinds", "all"),
+            "--kinds all: it is about values; these are bounds": ("--kinds", "all"),
             "--arrows: no device holds the number of a neighbour": ("--arrows",),
         }
         for said, words in rows.items():
@@ -445,10 +445,10 @@ class Pictures(InFolder):
         words = ("p.fc", "n.json", "--values", "bounds", "-o", "x.svg")
         done = fieldc("picture", *words, folder=self.folder)
         self.assertEqual(done.status, 3)
-        self.assertIn("device 9 of these bounds isn't in the network, and may come: give its file", done.errors)
+        self.assertIn("device 9 of these bounds isn't in the network but may come: give its file", done.errors)
         self.file("yes 22\nsettles 5\n0 1 0\n", "bounds")
         done = fieldc("picture", "p.fc", "n.json", "--rounds", "--values", "bounds", "-o", "x.svg", folder=self.folder)
-        self.assertIn("--rounds is of bounds", done.errors)
+        self.assertIn("--rounds is for bounds", done.errors)
         done = fieldc("picture", "p.fc", "n.json", "--of", "changes", "-o", "x.svg", folder=self.folder)
         self.assertIn("--of changes: the files have no changes", done.errors)
 

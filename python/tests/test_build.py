@@ -59,8 +59,8 @@ def build_itself() -> Any:
     return made
 
 
-# on what no command leans yet: laws and bounds of networks that change, and the lines of changes
-AHEAD = ("change_envelopes", "change_lines", "envelope_bounds", "last_bounds")
+# on what no command leans yet: the last bounds of networks that change, the lines of changes, and the texts of bounds
+AHEAD = ("bound_texts", "change_bounds", "change_envelopes", "change_lines", "changes", "last_bounds")
 
 
 class Build(InFolder):

@@ -92,23 +92,23 @@ class Patterns(unittest.TestCase):
     def test_mistakes_are_named_with_their_line(self) -> None:
         rows = {
             "leave roof": "no device is called roof",
-            "leave gat": "no device is called gat; is gate meant",
-            "leave 7..9": "7..9 means no device of the network",
-            "leave 9..7": "9..7 is upside down",
-            "leave temp=21": "temp=21 means no device",
-            "leave src=1": "src=1 means no device",
+            "leave gat": "no device is called gat; did you mean gate",
+            "leave 7..9": "no device of the network is 7..9",
+            "leave 9..7": "9..7 is the wrong way round",
+            "leave temp=21": "no device of the network is temp=21",
+            "leave src=1": "no device of the network is src=1",
             "leave tmp=21": "no input is called tmp; the program declares src, temp",
             "set 0 src +-1": r"src is true or false, and \+-1 is about a number; write any",
             "set 0..1 tmp +-1": "no input is called tmp",
             "set 9 temp +-1": "device 9 has no temp",
-            "link 0 3 +-1": r"gate and 3 aren't linked, so there is no weight that \+-1",
-            "link 1..1 mill 2": "1..1 and mill mean one device alone",
+            "link 0 3 +-1": r"gate and 3 aren't linked, so \+-1 has no weight",
+            "link 1..1 mill 2": "1..1 and mill are the same device",
             "links 0 1 2": "it is written links DEVICES VALUE",
-            "links temp=21 2": "temp=21 means no device",
-            "unlink 0 2..4": "0 2..4 means no link of the network",
-            "join 7..9 any +-2": r"a device that joins has no value yet that \+-2",
-            "join * any 2": r"\* is no device that may join",
-            "join 7 any +-2": r"no value yet that \+-2",
+            "links temp=21 2": "no device of the network is temp=21",
+            "unlink 0 2..4": "no link of the network is 0 2..4",
+            "join 7..9 any +-2": r"a device that joins has no value yet from which \+-2",
+            "join * any 2": r"\* can't be a device that joins",
+            "join 7 any +-2": r"no value yet from which \+-2",
         }
         for text, said in rows.items():
             with self.subTest(text), self.assertRaisesRegex(Fault, f"^may.txt line 3: .*{said}") as caught:
@@ -169,8 +169,8 @@ class Command(InFolder):
             "may.txt line 2: no device is called roof; devices have numbers here, and with --names":
                 (3, ("may.txt", "line.json", "hops.fc")),
             "2 sections: CHANGES NETWORK PROGRAM are three": (2, ("may.txt", "line.json")),
-            "hops.fc is no scene: line 1, column 1 is no JSON": (3, ("lines.txt", "hops.fc", "line.json")),
-            "hops.fc line 1: ceiling begins no line of changes; set, link, links,":
+            "hops.fc isn't a scene: line 1, column 1 isn't JSON": (3, ("lines.txt", "hops.fc", "line.json")),
+            "hops.fc line 1: ceiling can't begin a line of changes; set, link, links,":
                 (3, ("hops.fc", "line.json", "may.txt")),
             "short.txt line 3: it is written leave DEVICES": (3, ("short.txt", "line.json", "hops.fc")),
             "joins.txt line 1: it is written join DEVICE VALUE ..": (3, ("joins.txt", "line.json", "hops.fc")),

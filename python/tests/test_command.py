@@ -47,13 +47,13 @@ class Words(unittest.TestCase):
             self.assertIn(f"fieldc {words[0]} --help", done.errors)
         done = fieldc("check", "--from-table", "x", "y")
         self.assertEqual((done.status, done.output), (2, ""))
-        self.assertIn("beside --settle", done.errors)
+        self.assertIn("needs --settle", done.errors)
 
     def test_files_that_arent_there(self) -> None:
         done = fieldc("check", "none.fc", "none.json")
         self.assertEqual((done.status, done.output), (5, ""))
         self.assertIn("none.fc can't be read: No such file", done.errors)
-        self.assertIn("standard input can be read once", fieldc("check", "-", "-").errors)
+        self.assertIn("standard input can be read only once", fieldc("check", "-", "-").errors)
         told = json.loads(fieldc("check", "none.fc", "none.json", "--json").errors)
         self.assertEqual((told["status"], told["line"]), (5, None))
         self.assertIn("can't be read", told["explanation"]["what"])
@@ -242,7 +242,7 @@ class LongWork(InFolder):
     def test_another_program_than_fc(self) -> None:
         done = fieldc("gen", 3, FC=self.slow(0))
         self.assertEqual((done.status, done.output), (2, ""))
-        self.assertIn("doesn't answer as fc does: 'yes 22", done.errors)
+        self.assertIn("doesn't answer like fc: 'yes 22", done.errors)
 
 
 if __name__ == "__main__":

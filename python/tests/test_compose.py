@@ -142,25 +142,25 @@ class Refusing(unittest.TestCase):
 
     def test_a_name_that_a_taken_block_has(self) -> None:
         said = refused(self, FRONT + "def hops(b: bool): int = 1;\nmain = anywhere(sense source, hops(true));")
-        self.assertEqual(said, "line 2: def hops has the name of a block that anywhere calls: take another name")
+        self.assertEqual(said, "line 2: def hops has the name of a block that anywhere calls: choose another name")
         said = refused(self, "language 2; ceiling 9; input parent: bool; main = parent(uid);")
-        self.assertEqual(said, "line 1: input parent has the name of a block that is called here: take another name")
+        self.assertEqual(said, "line 1: input parent has the name of a block that is called here: choose another name")
 
     def test_the_first_language_goes_with_blocks_without_share_and_rise_alone(self) -> None:
         said = refused(self, "ceiling 9;\nmain = hops(true, 9);")
-        self.assertEqual(said, "line 2: the block hops is of language 2: begin the program with `language 2;`")
+        self.assertEqual(said, "line 2: the block hops needs language 2: begin the program with `language 2;`")
         said = refused(self, "ceiling 9;\nmain = parent(uid) +\n summariseSum(true, 5, hops(true, 3)) + leader(4);")
-        self.assertEqual(said, "line 3: the block summariseSum is of language 2: begin the program with `language 2;`")
+        self.assertEqual(said, "line 3: the block summariseSum needs language 2: begin the program with `language 2;`")
         self.assertIn(LIBRARY["parent"].text, compose.compose("ceiling 9; main = parent(uid);", LIBRARY))
 
     def test_a_library_that_is_none(self) -> None:
         with self.assertRaisesRegex(Fault, "has no blocks"):
             library_of()
-        with self.assertRaisesRegex(Fault, "b.fc line 1: f stands in a.fc too"):
+        with self.assertRaisesRegex(Fault, "b.fc line 1: f is in a.fc too"):
             library_of(a="def f(): int = 1;", b="def f(): int = 2;")
-        with self.assertRaisesRegex(Fault, "a.fc line 2: a file of blocks has functions alone"):
+        with self.assertRaisesRegex(Fault, "a.fc line 2: a file of blocks may have only functions"):
             library_of(a="def f(): int = 1;\nmain = 2;")
-        with self.assertRaisesRegex(Fault, "a.fc line 1: a file of blocks has functions alone"):
+        with self.assertRaisesRegex(Fault, "a.fc line 1: a file of blocks may have only functions"):
             library_of(a="def f(): int = 1")
         round_about = library_of(a="def f(): int = g();", b="def g(): int = f();")
         self.assertEqual(refused(self, "ceiling 1; main = f();", round_about), "the library: f calls g calls f")
@@ -186,7 +186,7 @@ class Warning(unittest.TestCase):
 
     def test_a_network_that_is_none(self) -> None:
         for text in ("", "{}", '{"devices": []}', '{"devices": [{"id": "a"}]}', "[]"):
-            with self.assertRaisesRegex(Fault, "net.json is no scene"):
+            with self.assertRaisesRegex(Fault, "net.json isn't a scene"):
                 compose.warnings(compose.Composition("", 0, ""), text, "net.json")
 
 
@@ -294,7 +294,7 @@ class Command(unittest.TestCase):
             status, made, said = asked("--network", str(path), "-", standing=LOW)
             self.assertEqual((status, made[:8]), (0, "language"))
             self.assertIn(f"fieldc: warning: {path}:1:", said)
-            self.assertIn("Each link weighs 1 in this program, and this one 7.", said)
+            self.assertIn("In this program each link weighs 1, but this one weighs 7.", said)
 
     def test_a_no_that_comes_of_a_blocks_arguments(self) -> None:
         text = FRONT + "main = broadcast(sense source, 1, 100, 0);"

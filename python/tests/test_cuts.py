@@ -127,7 +127,7 @@ class Commands(InFolder):
         self.assertEqual((counter.status, counter.output), (0, "no 0 unguarded\nsettles 10\n0 10 10\n"))
         self.assertIn("20 and not 10 at device 0", counter.errors)
         greatest = fieldc("stable", self.file("ceiling 1000000; main = 1000 * 1000 * 2;", "most.fc"), one)
-        self.assertIn("cuts what is computed here can't be told: it is the greatest that there is", greatest.errors)
+        self.assertIn("cuts what is computed here: it is the greatest possible", greatest.errors)
         right = fieldc("stable", self.file("ceiling 1000000; main = 300 * 1000;", "most.fc"), one)
         self.assertEqual((right.output, right.errors), ("0 300000\n", ""))
 

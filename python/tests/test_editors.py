@@ -76,7 +76,7 @@ GROUPS = {
     "string": ("fcString",),
     "member": ("fcMember",),
 }
-# what no example has, and has to be right all the same
+# what no example has; it has to be right all the same
 CORNERS = """\
 language 2; // é is a comment, %% too
 ceiling 007;metric 1..9;

@@ -64,22 +64,22 @@ class Positions(InFolder):
         wrong = {
             "line 2: x is 'nan'": "id,x,y\n0,nan,1\n",
             "line 1: y is 'inf'": "0,1,inf\n",
-            "line 3: device 0 stands on line 1": "0,1,2\n1,2,3\n0,4,4\n",
+            "line 3: device 0 is on line 1": "0,1,2\n1,2,3\n0,4,4\n",
             "line 2: 2 fields, and line 1 has 3": "0,1,2\n1,2\n",
             "line 2: x is '1.000,5'": "id;x;y\n0;1.000,5;2\n",
             "line 2: x is ''": "id,x,y\n0,,2\n",
             "has no rows": "\n\n",
-            "no rows behind the names": "id,x,y\n",
+            "no rows after the names": "id,x,y\n",
             "line 1: 2 numbers; with a line x,y in front": "0,1\n",
             "line 1: not a row": "0\n",
             "neither a row id, x, y, nor names": "name,east,north\n0,1,2\n",
             "two columns have one name": "id,x,y,x\n0,1,2,3\n",
-            "no names of columns stand first": "0,1,2,true\n",
+            "no names of columns come first": "0,1,2,true\n",
             "line 2: the device has no name": "id,x,y\n,1,2\n",
             "isn't in UTF-8": "id,x,y\n0,1,2\udcff\n",
-            "line 3: src is 'so', and has to be true or false": "id,x,y,src,load\n0,1,2,true,1\n1,1,2,so,1\n",
-            "line 2: src is '2', and has to be true or false": "id,x,y,src,load\n0,1,2,2,1\n",
-            "line 2: load is 10, and has to be a whole number from 0 to 9": "id,x,y,src,load\n0,1,2,true,10\n",
+            "line 3: src is 'so'; it has to be true or false": "id,x,y,src,load\n0,1,2,true,1\n1,1,2,so,1\n",
+            "line 2: src is '2'; it has to be true or false": "id,x,y,src,load\n0,1,2,2,1\n",
+            "line 2: load is 10; it has to be a whole number from 0 to 9": "id,x,y,src,load\n0,1,2,true,10\n",
             "load is 2.5, and .*: --scale load=10 takes 25": "id,x,y,src,load\n0,1,2,true,2.5\n",
             "line 2: load is True": "id,x,y,load\n0,1,2,true\n",
         }
@@ -145,18 +145,18 @@ class Graphs(InFolder):
         head = '<graphml xmlns="http://graphml.graphdrawing.org/xmlns"><graph edgedefault="undirected">'
         wrong = {
             "line 2: not a link": "0 1\n2\n",
-            "line 1: not a link": "this is no graph at all\n",
+            "line 1: not a link": "this isn't a graph at all\n",
             "line 1: not a link 'a b' or": "0 1 heavy\n",
-            "no list of links": '{"devices": [\n',
-            "line 1: this is no list": "<html> <body>\n",
+            "isn't a list of links": '{"devices": [\n',
+            "line 1: this isn't a list": "<html> <body>\n",
             "has no links": "# nothing\n",
             "line 2: 1 and 0 are linked already": "0 1 2\n1 0 3\n",
             "device 1 is linked to itself": "0 1\n1 1\n",
             "weighs '2.5', and a weight is a whole number": "0 1 2.5\n",
-            "weighs 'nan', which is no number": "0 1 nan\n",
+            "weighs 'nan', which isn't a number": "0 1 nan\n",
             "weighs '-1'": "0 1 -1\n",
-            "has no weight, and others have one": "0 1 2\n1 2\n",
-            "is no graph": head + "<node id='0'>",
+            "has no weight, but others have one": "0 1 2\n1 2\n",
+            "isn't a graph": head + "<node id='0'>",
             "src of device 0 is 'yes'": head + "<node id='0'><data key='k'>yes</data></node></graph></graphml>",
         }
         for said, text in wrong.items():
@@ -214,8 +214,8 @@ class Command(InFolder):
             ("--points", "points.csv", "--range", "nan"): (2, "isn't a length"),
             ("--points", "points.csv", "--range=-1"): (2, "isn't a length"),
             ("--points", "points.csv", "--range", "inf"): (2, "isn't a length"),
-            ("--points", "points.csv"): (2, "need a --range"),
-            (*points, "--metric", "9..1"): (2, "upside down"),
+            ("--points", "points.csv"): (2, "need --range"),
+            (*points, "--metric", "9..1"): (2, "the wrong way round"),
             (*points, "--metric", "1..9", "--unit", "0"): (2, "above 0"),
             ("--edges", "none.txt"): (5, "can't be read"),
             ("--points", "nan.csv", "--range", 1): (3, "nan.csv line 1: x is 'nan'"),
@@ -233,7 +233,7 @@ class Command(InFolder):
             ("--disk", 40_000, "--range", 1): (4, "40,000 devices"),
             ("--grid", "3y2"): (2, "isn't WxH"),
             ("--disk", 40, "--range", 500): (4, "--max-degree 32"),
-            ("--scene", "points.csv"): (3, "no scene"),
+            ("--scene", "points.csv"): (3, "isn't a scene"),
             ("--line", 2, "--table", "points.csv"): (3, "has no table"),
         }
         for words, (status, said) in wrong.items():
@@ -256,7 +256,7 @@ class Command(InFolder):
     def test_a_network_that_falls_apart_is_told(self) -> None:
         self.file("0,0,0\n1,1,0\n2,2.5,0\n3,3.5,0\n", "row.csv")
         done = self.made("--points", "row.csv", "--range", 2, "--max-degree", 1)
-        self.assertIn("it falls into 2 parts, and was in 1", done.errors)
+        self.assertIn("the network now has 2 parts instead of 1", done.errors)
 
     def test_a_table_is_put_in(self) -> None:
         table = {"format": 2, "rows": [{"id": 0, "kept": [], "value": 4}]}

@@ -378,7 +378,7 @@ class Deployment(unittest.TestCase):
     def test_forty_devices(self) -> None:
         sys.path.insert(0, str(TOP / "examples/firmware"))
         deploy = importlib.import_module("deploy")
-        changes = []
+        changes: list[int] = []
         # on a busy machine one deployment may see fewer changes; each of them has to end as it should
         while max(changes, default=0) <= 100 and len(changes) < 3:
             outcome = deploy.deployed(2 + len(changes))

@@ -30,6 +30,8 @@ pub struct Pair {
 
 impl Pair {
     /// Adds.
+    #[cycle(sum)]
+    #[inline(never)]
     pub fn add(&self) -> u32
         requires { self.left ≤ 9 }
         ensures value { result ≡ self.left + 1
@@ -43,6 +45,7 @@ impl Pair {
         7
     }
 
+    #[cycle(sum)]
     fn private(&self) -> u32
         ensures value { result ≡ 8 }
     {
@@ -74,6 +77,7 @@ pub struct Pair {
     left: u32,
 }
 impl Pair {
+    #[cycle(sum)]
     pub fn add(&self) -> u32
         requires { self.left ≤ 9 }
         ensures value { result ≡ self.left + 1
@@ -144,6 +148,11 @@ class Sums(unittest.TestCase):
                 (Path(folder) / "low/src/lib.rt").write_text(SOURCE.replace(old, new))
                 self.assertEqual(self.sum_in(folder) != before, is_seen, new)
                 (Path(folder) / "low/src/lib.rt").write_text(SOURCE)
+            inlined = SOURCE.replace("    #[inline(never)]\n", "")
+            self.assertNotEqual(inlined, SOURCE)
+            for crate in ("low", "high"):
+                (Path(folder) / crate / "src/lib.rt").write_text(inlined)
+                self.assertEqual(self.sum_in(folder), before, crate)
 
     def sum_in(self, folder: str, edit: str = "new: a") -> str:
         """The checksum of an edit of the crate `high`, which names `low`."""

@@ -67,7 +67,7 @@ class Shown(unittest.TestCase):
             self.assertEqual((done.returncode, done.stdout), (0, ""), name)
 
     def test_lines_that_join_sections(self) -> None:
-        self.assertIn("joined by lines %% in one", re.sub(r"\s+", " ", shown("fieldc.1")))
+        self.assertIn("with lines %% between them", re.sub(r"\s+", " ", shown("fieldc.1")))
 
     def test_fc(self) -> None:
         parts = sections_of_page(shown("fc.1"))

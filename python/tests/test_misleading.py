@@ -32,7 +32,7 @@ class Programs(InFolder):
     def test_words_that_look_like_calls(self) -> None:
         said = self.composed("ceiling 10; input s: bool;\nmain = if (sense s) then (1) else (2);\n")
         self.assertIn("mine.fc:2:21: `then` isn't a word of the language.", said)
-        self.assertIn("without a word between: `if (c) {a} {b}`", said)
+        self.assertIn("There is no `then` or `else`: write `if (c) {a} {b}`", said)
         self.assertNotIn("no block", said)
         said = self.composed("ceiling 9; main = mid();")
         self.assertIn("no block is called mid. The number of the device is `uid`.", said)
@@ -45,7 +45,7 @@ class Programs(InFolder):
     def test_division_has_a_block(self) -> None:
         for command in ("compose", "format"):
             done = fieldc(command, self.file("ceiling 10; main = 4 / 2;", "mine.fc"))
-            self.assertIn("The block `div(a, b)` divides, and `fieldc compose` puts it in front.", done.errors)
+            self.assertIn("The block `div(a, b)` divides; `fieldc compose` adds it.", done.errors)
         done = fieldc("compose", self.file("ceiling 10; main = div(4, 2);", "mine.fc"))
         self.assertEqual(done.status, 0)
 
@@ -69,13 +69,13 @@ class Networks(InFolder):
     def test_where_a_scene_is_wrong(self) -> None:
         device = '{"id": 0, "inputs": {"src": true}}'
         rows = {
-            '{"devices": [%s],}' % device: r"scene.json is no scene: line 1, column \d+ is no JSON",
-            "ceiling 10;\n%%\n[1,\n 2": "scene.json is no scene: line 4, column 3 is no JSON",
+            '{"devices": [%s],}' % device: r"scene.json isn't a scene: line 1, column \d+ isn't JSON",
+            "ceiling 10;\n%%\n[1,\n 2": "scene.json isn't a scene: line 4, column 3 isn't JSON",
             "[1]": 'a network is an object with the members "devices" and "links"',
             '{"devices": [], "links": []}': "/devices is empty",
-            '{"devices": [%s], "links": [], "nodes": 3}' % device: "/nodes is no member of a network",
+            '{"devices": [%s], "links": [], "nodes": 3}' % device: "/nodes isn't a member of a network",
             '{"devices": [%s, {"id": 1}], "links": []}' % device: '/devices/1: a device is {"id": NUMBER',
-            '{"devices": [%s, %s], "links": []}' % (device, device): "/devices/1/id: 0 is no number of a device, or",
+            '{"devices": [%s, %s], "links": []}' % (device, device): "/devices/1/id: 0 isn't the number of a device",
             '{"devices": [%s], "links": [[0, 7, 1]]}' % device: "/links/0: there is no device 7",
             '{"devices": [%s], "links": [[0, 0]]}' % device: r"/links/0: a link is \[DEVICE, DEVICE, WEIGHT\]",
             '{"devices": [%s], "links": []}' % device.replace("true", "-1.5"): "/devices/0/inputs/src: -1.5 is neither",
@@ -91,7 +91,7 @@ class Networks(InFolder):
                 networks.read_scene(text)
         done = fieldc("network", "--scene", self.file("[" * 200_000, "deep.json"))
         self.assertEqual((done.status, done.errors.count("\n")), (3, 1))
-        self.assertIn("deep.json is no scene: objects and arrays are nested too deeply", done.errors)
+        self.assertIn("deep.json isn't a scene: objects and arrays are nested too deeply", done.errors)
 
     def test_names_beside_a_scene(self) -> None:
         points = self.file("name,x,y\nmill,0,0\nweir,1,0\n", "points.csv")
@@ -111,7 +111,7 @@ class Networks(InFolder):
             done: list[Done] = []
             took = used(lambda: done.append(fieldc("network", *words)))
             self.assertEqual((done[0].status, done[0].output), (4, ""), words)
-            self.assertIn("devices, and fc takes 1 to 1,024", done[0].errors)
+            self.assertIn("devices, but fc takes 1 to 1,024", done[0].errors)
             self.assertLess(took / unit, 5, f"{took:.1f} s, and {unit:.1f} s for the fixed work")
 
 
@@ -122,7 +122,7 @@ class Files(InFolder):
         for words in (("check", "photo.png"), ("network", "--scene"), ("compose",)):
             done = fieldc(*words, "photo.png", folder=self.folder)
             self.assertEqual((done.status, done.output), (3, ""), words)
-            self.assertIn("photo.png is a binary file and no text: byte 8 is zero", done.errors)
+            self.assertIn("photo.png is a binary file, not text: byte 8 is zero", done.errors)
         self.assertIn("wide.fc is in UTF-16: save it as UTF-8", fieldc("format", "wide.fc", folder=self.folder).errors)
 
     @needs_fc
@@ -147,7 +147,7 @@ class Files(InFolder):
         self.assertEqual((done.status, done.output), (3, ""))
         self.assertIn("both.txt line 3: no device is called roof\n", done.errors)
         done = fieldc("run", *files, self.file("run 1\nleave mil\n", "script.txt"), *names)
-        self.assertIn("script.txt line 2: no device is called mil; is mill meant?", done.errors)
+        self.assertIn("script.txt line 2: no device is called mil; did you mean mill?", done.errors)
         done = fieldc("run", *files, self.file("run 1\nmix 3 set mill scr true\n", "script.txt"), *names)
         self.assertIn("script.txt:2:16: The program declares no input named `scr`.", done.errors)
         self.assertIn("    mix 3 set mill scr true\n                   ^\n", done.errors)
@@ -190,7 +190,7 @@ class Files(InFolder):
             for words in (("format", program), ("stable", program, scene), ("check", program, scene), ("gen", 3)):
                 done = fieldc(*words, FC=fc)
                 self.assertEqual((done.status, done.output), (2, ""), (fc, words))
-                self.assertIn(f"{fc} doesn't answer as fc does", done.errors)
+                self.assertIn(f"{fc} doesn't answer like fc", done.errors)
 
 
 class Ending(InFolder):
@@ -225,7 +225,7 @@ class Ending(InFolder):
         program = self.file(HOPS, "hops.fc")
         sweep = ("sweep", program, "--line", 3, "--set", "src=true@0", "-o", "rows.csv", "--scheduler")
         for address, says in (
-            ("nonsense", "nonsense is no address of a scheduler: write HOST:PORT"),
+            ("nonsense", "nonsense isn't the address of a scheduler: write HOST:PORT"),
             ("localhost:1", "the scheduler localhost:1 can't be reached"),
         ):
             done = fieldc(*sweep, address, folder=self.folder, seconds=100)

@@ -85,7 +85,7 @@ class Moves(unittest.TestCase):
 
     def test_more_possible_neighbours_than_fc_takes(self) -> None:
         crowd = network.shaped({device: (device * 0.1, 0.0) for device in range(131)}, [])
-        said = "device 0 may come within reach of 130 others, and fc takes 128: choose"
+        said = "device 0 may come within reach of 130 others, but fc takes 128: choose"
         with self.assertRaisesRegex(Fault, said) as found:
             movement.of_moves(crowd, dict.fromkeys(crowd.devices, 5.0), REACH, lambda far: 1)
         self.assertEqual(found.exception.status, 4)
@@ -129,18 +129,18 @@ class Points(InFolder):
         rows = "id,x,y,move\n0,0,0,4\n1,9,0,5\n"
         status, _, said = self.made(rows, "--program", program)
         self.assertEqual(status, 2)
-        self.assertIn("--changes needs a --move", said)
+        self.assertIn("--changes needs --move", said)
         self.assertEqual(self.made(rows, "--program", program, "--move", 1)[:2], (0, ["unlink 0 1"]))
 
     def test_refusals(self) -> None:
         rows = "id,x,y\n0,0,0\n1,6,0\n"
         program = self.file("ceiling 9; metric 1..9; main = minHoodLoc(nbrLink, 9);\n", "p.fc")
         wanted: dict[str, tuple[int, str, tuple[object, ...]]] = {
-            "--changes needs a --move": (2, rows, ()),
-            "--move 1 is of all devices, and at.csv has a column move": (2, "id,x,y,move\n0,0,0,1\n", ("--move", 1)),
+            "--changes needs --move": (2, rows, ()),
+            "--move 1 is for all devices, but at.csv has a column move": (2, "id,x,y,move\n0,0,0,1\n", ("--move", 1)),
             "at.csv line 2: move is -1, and a device moves at least 0": (3, "id,x,y,move\n0,0,0,-1\n", ()),
-            "at.csv line 2: move is 'far', which is no number": (3, "id,x,y,move\n0,0,0,far\n", ()),
-            "--max-degree: which links are the nearest changes": (2, rows, ("--move", 1, "--max-degree", 3)),
+            "at.csv line 2: move is 'far', which isn't a number": (3, "id,x,y,move\n0,0,0,far\n", ()),
+            "--max-degree: which links are nearest changes": (2, rows, ("--move", 1, "--max-degree", 3)),
             "the link that may be of 0 and 1 weighs 10, and a weight is from 1 to 9":
                 (3, "0,0,0\n1,9,0\n", ("--move", 1, "--metric", "1..20", "--program", program)),
             "none/may.txt: there is no folder none": (6, rows, ("--move", 1, "--changes", "none/may.txt")),
@@ -152,9 +152,9 @@ class Points(InFolder):
 
     def test_words_that_dont_go_together(self) -> None:
         rows: dict[str, tuple[object, ...]] = {
-            "--move says what may change: --changes FILE says where": ("--line", 3, "--move", 1),
-            "--changes is of --points, --disk and --edges": ("--line", 3, "--changes", "may.txt"),
-            "--changes isn't taken beside --moves": ("--moves", "m.csv", "--range", 3, "--changes", "may.txt"),
+            "--move needs --changes FILE": ("--line", 3, "--move", 1),
+            "--changes needs --points, --disk or --edges": ("--line", 3, "--changes", "may.txt"),
+            "--changes doesn't go with --moves": ("--moves", "m.csv", "--range", 3, "--changes", "may.txt"),
             "argument --move: -1 isn't a length": ("--disk", 3, "--range", 3, "--move", -1),
         }
         for said, words in rows.items():
@@ -210,8 +210,8 @@ class Links(InFolder):
         head = "a,b,weight,least,greatest,goes\n"
         rows = {
             "the link of 0 and 1 weighs 7, and its least and greatest weight are 2 and 5": head + "0,1,7,2,5,no\n",
-            "goes of the link of 0 and 1 is 'perhaps', and has to be true or false": head + "0,1,3,2,5,perhaps\n",
-            "the least of the link of 0 and 1 weighs 'two', which is no number": head + "0,1,3,two,5,no\n",
+            "goes of the link of 0 and 1 is 'perhaps'; it has to be true or false": head + "0,1,3,2,5,perhaps\n",
+            "the least of the link of 0 and 1 weighs 'two', which isn't a number": head + "0,1,3,two,5,no\n",
             "links.txt line 2: not a link a b weight least greatest goes": head + "0,1,3\n",
         }
         for said, text in rows.items():
@@ -221,7 +221,7 @@ class Links(InFolder):
         for option in ("--weight", "--move"):
             found = self.made(head + "0,1,3,2,5,no\n", option, 1)
             self.assertEqual(found[0], 2, found)
-            self.assertIn(f"{option}: beside --edges and --changes weights are those of the file", found[2])
+            self.assertIn(f"{option}: with --edges and --changes the file gives the weights", found[2])
 
 
 if __name__ == "__main__":

@@ -62,12 +62,12 @@ class Files(InFolder):
     def test_wrong_files(self) -> None:
         rows = [feature(8, 50, t=0, id=1), feature(8, 51, t=1, id=1)]
         wrong = {
-            "line 2: t is 'noon', and has to be a number, or a date and time": HEAD + "noon,0,0,0,true\n",
+            "line 2: t is 'noon'; it has to be a number, or a date and time": HEAD + "noon,0,0,0,true\n",
             "line 3: t is a date, and on line 2 it is a number": HEAD + "0,0,0,0,true\n2026-05-01T12:00,0,0,0,true\n",
             "line 3: device 0 is seen at this time on line 2 already": HEAD + "1,0,0,0,true\n1.0,0,3,4,true\n",
-            "line 3: t is 1e308, and has to be from": HEAD + "0,0,0,0,true\n1e308,1,0,0,true\n",
-            "line 2: x is 1e400, and has to be from": HEAD + "0,0,1e400,0,true\n",
-            "line 2: src is 'so', and an input is true, false or a whole number; .* --inputs or --program say which":
+            "line 3: t is 1e308; it has to be from": HEAD + "0,0,0,0,true\n1e308,1,0,0,true\n",
+            "line 2: x is 1e400; it has to be from": HEAD + "0,0,1e400,0,true\n",
+            "line 2: src is 'so', and an input is true, false or .* name the inputs with --inputs or --program":
                 HEAD + "0,0,0,0,so\n",
             "line 2: x is 'east'": HEAD + "0,0,east,0,true\n",
             "line 2: the device has no name": HEAD + "0,,0,0,true\n",
@@ -75,13 +75,13 @@ class Files(InFolder):
             "line 1: no column is called t, nor time": "id,x,y\n0,0,0\n",
             "line 1: no column is called id, nor device": "t,x,y\n0,0,0\n",
             "line 1: neither a row t, id, x, y, nor names of columns": "0,0,0\n",
-            "line 1: 5 fields, and no names of columns stand first": "0,0,0,0,0\n",
+            "line 1: 5 fields, but no names of columns come first": "0,0,0,0,0\n",
             "line 2: lat is 99": "t,id,lat,lon\n0,0,99,0\n",
             "has no rows": "\n",
-            "is no GeoJSON: ": geojson(*rows)[:-9],
+            "isn't GeoJSON: ": geojson(*rows)[:-9],
             'has to be of "type": "FeatureCollection"': "{}",
             "has no features": geojson(),
-            "line 4: this feature is a LineString, and has to be a Point": geojson(
+            "line 4: this feature is a LineString; it has to be a Point": geojson(
                 rows[0], rows[1].replace("Point", "LineString")
             ),
             "line 3: this feature is nowhere": geojson('{"type": "Feature", "geometry": null}'),
@@ -160,7 +160,7 @@ class Scripts(unittest.TestCase):
                 try:
                     steps = self.steps(seed, gone_after)
                 except Fault as fault:
-                    self.assertRegex(str(fault), r"^at t = [0-9.]+ no device is there")
+                    self.assertRegex(str(fault), r"^at t = [0-9.]+ there is no device")
                     continue
                 text = moves.script(steps, 2, ["w", "src"])
                 kinds |= {line.split()[0] for line in text.splitlines()}
@@ -216,7 +216,7 @@ class Command(InFolder):
     def test_two_sections(self) -> None:
         moved = self.moved("--set", "src=true@gate,ben", "--program", EXAMPLES / "hop_count.fc", "-o", "moves.txt")
         self.assertEqual(moved[:2], (0, ""))
-        self.assertIn("last: gate, post1, post2, post3 (--gone-after S lets them leave)", moved[2])
+        self.assertIn("last seen: gate, post1, post2, post3 (--gone-after S lets them leave)", moved[2])
         scene, script = (self.folder / "moves.txt").read_text().split("%%\n")
         self.assertEqual(len(read_scene(scene).devices), 5)
         self.assertIn("join 5 true\n", script)
@@ -229,16 +229,16 @@ class Command(InFolder):
         crowd = "".join(f"0,{d},0,0\n1,{d},{d * 9},0\n" for d in range(40))
         late = self.file("0,a,0,0\n1,a,0,0\n20,b,0,0\n", "late.csv")
         rows: dict[str, tuple[int, tuple[object, ...]]] = {
-            "--moves needs a --range and --every": (2, ("network", "--moves", MOVES, "--range", 3)),
-            "--every is of --moves": (2, ("network", "--line", 3, "--every", 5)),
-            "--run is of --moves": (2, ("network", "--line", 3, "--run", 5)),
+            "--moves needs --range, and --every": (2, ("network", "--moves", MOVES, "--range", 3)),
+            "--every needs --moves": (2, ("network", "--line", 3, "--every", 5)),
+            "--run needs --moves": (2, ("network", "--line", 3, "--run", 5)),
             "there is no device roof; the devices are called gate": (
                 2, ("network", "--moves", MOVES, "--range", 3, "--every", 5, "--set", "src=true@roof"),
             ),
-            "at t = 0: device 0 has 39 links, and fc takes 32: --max-degree 32": (
+            "at t = 0: device 0 has 39 links, but fc takes 32: --max-degree 32": (
                 4, ("network", "--moves", self.file(crowd, "crowd.csv"), "--range", 3, "--every", 1),
             ),
-            "at t = 15 no device is there": (
+            "at t = 15 there is no device": (
                 3, ("network", "--moves", late, "--range", 3, "--every", 5, "--gone-after", 9),
             ),
             "at t = 0: device gate has no src, which the program declares": (
@@ -360,7 +360,7 @@ class Behind(InFolder):
         for option in ("--number", "--rounds"):
             done = fieldc("rounds", program, scene, script, option, 3, "-o", "x.png", folder=self.folder)
             self.assertEqual((done.status, done.output), (2, ""))
-            self.assertIn(f"{option} isn't taken beside a script", done.errors)
+            self.assertIn(f"{option} doesn't go with a script", done.errors)
 
     @needs("matplotlib")
     def test_the_command(self) -> None:

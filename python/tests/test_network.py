@@ -69,7 +69,7 @@ class Changes(unittest.TestCase):
         self.assertEqual(found.inputs[2], {"w": 4, "src": True})
         with self.assertRaisesRegex(Fault, "w isn't set on device 0"):
             network.with_inputs(network.line(2), [("w", 4, [1])])
-        with self.assertRaisesRegex(Fault, "device 7, which isn't there"):
+        with self.assertRaisesRegex(Fault, "device 7, which doesn't exist"):
             network.with_inputs(network.line(2), [("src", True, [7])])
 
     def test_nearest_links_are_kept(self) -> None:
@@ -122,7 +122,7 @@ class Changes(unittest.TestCase):
             right.replace('"links"', '"more":1,"links"'),
         ]
         for text in wrong:
-            with self.subTest(text), self.assertRaisesRegex(Fault, "no scene"):
+            with self.subTest(text), self.assertRaisesRegex(Fault, "isn't a scene"):
                 read_scene(text)
 
 
@@ -208,7 +208,7 @@ class Graphs(unittest.TestCase):
         one_way = networkx.DiGraph([(0, 1, {"weight": 1}), (1, 0, {"weight": 2})])
         wrong: dict[str, tuple[Any, dict[str, Any]]] = {
             "linked to itself": (loop, {}),
-            "has no weight, and others have one": (mixed, {}),
+            "has no weight, but others have one": (mixed, {}),
             "weighs 2.5, and a weight is a whole number": (half, {}),
             "linked twice": (several, {}),
             "two devices are called 1": (clash, {}),
@@ -220,7 +220,7 @@ class Graphs(unittest.TestCase):
             "x of device 0 is nan": (self.graph(pos=(math.nan, 0)), {}),
             "weighs 3, and a weight is from 4 to 5": (self.graph(), {"program": "metric 4..5; input src: bool;"}),
             "device 0 has no far": (self.graph(), {"program": "metric 1..5; input far: bool;"}),
-            "src of device 0 is True, and has to be a whole": (
+            "src of device 0 is True; it has to be a whole": (
                 self.graph(),
                 {"program": "metric 1..5; input src: int 0..9;"},
             ),

@@ -101,7 +101,7 @@ class Rests(unittest.TestCase):
         self.assertIsNone(found.swing)
         self.assertEqual(len(found.tried), 21)
         text = openness.told(found, [])
-        self.assertIn("No two starts were found that rest apart. That doesn't say that there are none.", text)
+        self.assertIn("No two starts were found that end at different values. There may be some all the same.", text)
         self.assertIn("everything greatest, in 3 orders of firings: at rest after at most 1 round", text)
 
     def test_a_program_that_settles(self) -> None:
@@ -123,7 +123,8 @@ class Rests(unittest.TestCase):
         self.assertIn(
             ("one after the other", "at rest after at most 1 round"), [(t.order, t.outcome) for t in found.tried]
         )
-        self.assertTrue(openness.told(found, []).startswith("No two orders of firings were found that rest apart."))
+        said = "No two orders of firings were found that end at different values."
+        self.assertTrue(openness.told(found, []).startswith(said))
 
 
 @needs_fc

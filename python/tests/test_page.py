@@ -28,6 +28,8 @@ ANSWERED = "!['loading', 'working ..'].includes(document.getElementById('brief')
 SECONDS = 10
 # and for so many milliseconds at most nothing moves meanwhile
 STILL = 1000
+# so many lines has a module of the page at most
+MOST_LINES = 400
 # for so many conformance cases a worker has too little stack
 MOST_DEEP = 6
 GAPS = """
@@ -48,6 +50,8 @@ TEXTS = """
     [...document.querySelectorAll(".device")].map((one) => [
         Number(one.dataset.id), one.querySelector(".value").textContent])
 """
+SECTION = page.BLOCKS.read_text().partition("\n## The blocks\n")[2].partition("\n## ")[0]
+EMPTY = "Yes \u00b7 the network is empty"
 OF_RUN = "document.getElementById('round-out').textContent.split(' of ')[1]"
 HERE_STAY = ("file:", "blob:", "data:", "about:")
 BY_METRES = """\
@@ -197,9 +201,9 @@ class Program(Opened):
     def test_a_mistake_is_marked_where_it_is(self) -> None:
         rows = {
             "ceiling 10;\nmain = 1 +\n  true;\n": ("Line 2, column 8", "1 +\n  true", "types don't fit"),
-            "ceiling 10;\nmain = 1 == 2;\n": ("Line 2, column 11", "=", "isn't in the grammar"),
-            "ceiling 10;\nmain = 1 > 2;\n": ("Line 2, column 10", ">", "No sign of the language"),
-            "ceiling 10;\nmain = hop(1, 2);\n": ("Line 2, column 8", "hop", "or hops meant"),
+            "ceiling 10;\nmain = 1 == 2;\n": ("Line 2, column 11", "=", "has a syntax error"),
+            "ceiling 10;\nmain = 1 > 2;\n": ("Line 2, column 10", ">", "isn't in the language"),
+            "ceiling 10;\nmain = hop(1, 2);\n": ("Line 2, column 8", "hop", "did you mean"),
             "ceiling 10; input src: bool;\nmain = rep(1){(x) => maxHoodLoc(nbr{x}, 1)};\n": (
                 "Line 2, column 8", "rep(1){(x) => maxHoodLoc(nbr{x}, 1)}", "isn't of a form that is known to settle",
             ),
@@ -242,9 +246,31 @@ class Program(Opened):
             self.assertIn("Yes", self.of("brief"), expression)
         self.assertEqual(len(tried), 4)
 
+    def test_a_program_without_a_network_is_answered(self) -> None:
+        """The verdict is the one that the program has on one device, and on 1,024."""
+        self.choose("example", "empty")
+        self.browser.until(f"document.getElementById('brief').textContent === {json.dumps(EMPTY)}")
+        heads = "ceiling 1000; input src: bool;\nmain = heads(uid);\n"
+        for text in ("ceiling 10; input src: bool;\nmain = anyHood(nbr{sense src});\n", FAR_HOPS, heads):
+            self.write("language 2; " + text)
+            self.browser.until(f"document.getElementById('brief').textContent === {json.dumps(EMPTY)}")
+            program = self.input().split("%%\n")[0]
+            for count in (1, 1024):
+                devices = [{"id": device, "inputs": {"src": False}} for device in range(count)]
+                status, said = answer("check", f"{program}%%\n{json.dumps({'devices': devices, 'links': []})}\n")
+                self.assertEqual(status, 0)
+                self.assertIn(said, self.of("wrote"))
+                rounds = f"{int(said.split()[1]):,}"
+                self.assertRegex(self.of("verdict"), rf"[Aa]fter {rounds} .*on (one device|1,024 devices)")
+            self.assertIn("has no devices yet", self.of("verdict"))
+        self.write("ceiling 10; input src: bool;\nmain = rep(1){(x) => maxHoodLoc(nbr{x}, 1)};\n")
+        self.browser.until("document.getElementById('brief').textContent.startsWith('No ')")
+        self.assertIn("isn't of a form that is known to settle", self.of("fault"))
+        self.assertTrue(self.browser.value("document.getElementById('run').disabled"))
+
     def test_an_empty_network_is_begun_by_a_click(self) -> None:
         self.choose("example", "empty")
-        self.browser.until("document.getElementById('brief').textContent === 'The network is empty'")
+        self.browser.until(f"document.getElementById('brief').textContent === {json.dumps(EMPTY)}")
         for x in (0.4, 0.6):
             self.browser.click(*self.free(x, 0.5))
         self.settled()
@@ -262,11 +288,22 @@ class Program(Opened):
         self.assertEqual(self.of("blocks-count"), "2 blocks put in front: hops, parent")
         self.is_as_program()
 
+    def test_blocks_are_in_the_groups_of_their_page(self) -> None:
+        shown = self.browser.value(
+            "[...document.querySelectorAll('#block optgroup')].map((one) => "
+            "[one.label, [...one.children].map((option) => option.value)])"
+        )
+        wanted: dict[str, list[str]] = {}
+        for name, group in page.groups().items():
+            wanted.setdefault(group, []).append(name)
+        self.assertEqual(dict(shown), wanted)
+        self.assertEqual([group for group, _ in shown], re.findall(r"^### (.*)$", SECTION, re.MULTILINE))
+
     def test_the_language_of_a_block_is_put_in_front(self) -> None:
         self.browser.click_on("#program")
         self.browser.value("program.select()")
         self.browser.type("ceiling 100; input src: bool;\nmain = hops(sense src, 20);\n")
-        self.browser.until("/of language 2/.test(document.getElementById('fault').textContent)")
+        self.browser.until("/needs language 2/.test(document.getElementById('fault').textContent)")
         self.browser.click_on("#fault button:last-of-type")
         self.settled()
         self.assertTrue(self.browser.value("program.value.startsWith('language 2;')"))
@@ -426,13 +463,13 @@ class Network(Opened):
     def test_files_that_cant_be_read(self) -> None:
         rows = {
             "id,x\n1,2\n": "line 1: .*y is missing",
-            "id,x,y\n1,2,3\n1,5,6\n": "line 3: device 1 stands in a line above",
+            "id,x,y\n1,2,3\n1,5,6\n": "line 3: device 1 is in a line above",
             "id,x,y\n1,2\n": "line 2: it has 2 cells",
-            "id,x,y,src\n1,2,3,maybe\n": 'line 2: "maybe" is no whole number',
+            "id,x,y,src\n1,2,3,maybe\n": "line 2: \"maybe\" isn't a whole number",
             "id,x,y\n70000,2,3\n": "line 2: id is 70000",
-            '{"devices": [], "links": 3}': "no lists devices and links",
+            '{"devices": [], "links": 3}': "doesn't have the lists devices and links",
             '{"devices": [{"id": 0}], "links": [[0, 4, 1]]}': "/links/0 links 0 and 4",
-            '{"devices": [': "it is no JSON",
+            '{"devices": [': "it isn't JSON",
         }
         for text, said in rows.items():
             self.read("wrong.csv", text)
@@ -485,6 +522,18 @@ class Answers(Opened):
         self.browser.click_on("#play")
         self.browser.click_on("#end-run")
         self.is_as_program()
+
+    def test_a_run_shows_values_alone(self) -> None:
+        lit = "document.querySelector('input[name=colours]:checked').value"
+        self.browser.click_on("input[value=rounds] + span")
+        self.assertEqual(self.browser.value(lit), "rounds")
+        self.browser.click_on("#run")
+        self.browser.until("!document.getElementById('sliding').hidden")
+        self.assertEqual(self.browser.value(lit), "values")
+        self.assertTrue(self.browser.value("document.getElementById('colouring').disabled"))
+        self.browser.click_on("#end-run")
+        self.assertEqual(self.browser.value(lit), "rounds")
+        self.assertFalse(self.browser.value("document.getElementById('colouring').disabled"))
 
     def test_runs_of_all_examples_end_at_final_values(self) -> None:
         for name, _ in page.EXAMPLES:
@@ -637,7 +686,7 @@ class Sources(unittest.TestCase):
     def test_lines(self) -> None:
         for file in sorted(page.FOLDER.glob("*.mjs")):
             rows = file.read_text().split("\n")
-            self.assertLess(len(rows), 900, file.name)
+            self.assertLess(len(rows), MOST_LINES, file.name)
             self.assertEqual([row for row in rows if len(row) > 120], [], file.name)
 
     def test_a_page_is_the_same_each_time(self) -> None:

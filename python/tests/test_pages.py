@@ -120,18 +120,31 @@ class Library(unittest.TestCase):
         self.assertEqual(compared, 5)
 
 
-def vivid(path: Path) -> int:
-    """How many colours that are no grey a picture has, looked at in every fifth place."""
+def colours(path: Path) -> list[list[int]]:
+    """The colours of a picture: those that an SVG names, or what is seen in every fifth place of a PNG."""
     from matplotlib.image import imread
 
-    pixels = (imread(path)[::5, ::5, :3] * 255).round().astype(int).reshape(-1, 3).tolist()
-    return len({tuple(pixel) for pixel in pixels if max(pixel) - min(pixel) > 60})
+    if path.suffix == ".svg":
+        return [[*bytes.fromhex(name)] for name in re.findall(r"(?:fill|stroke): #([0-9a-f]{6})", path.read_text())]
+    pixels: list[list[int]] = (imread(path)[::5, ::5, :3] * 255).round().astype(int).reshape(-1, 3).tolist()
+    return pixels
+
+
+def vivid(path: Path) -> int:
+    """How many colours that are no grey a picture has."""
+    return len({tuple(colour) for colour in colours(path) if max(colour) - min(colour) > 60})
+
+
+def lettering(path: Path) -> list[str]:
+    """The texts in a picture that is an SVG, as matplotlib writes each above its shapes."""
+    return re.findall(r"<!-- (.*?) -->", path.read_text()) if path.suffix == ".svg" else []
 
 
 @needs_fc
 @needs("matplotlib", "networkx")
 class Tour(unittest.TestCase):
-    """`PICTURES` in the environment puts the pictures of a page into docs/pictures."""
+    """`PICTURES` in the environment puts the pictures of a page into docs/pictures. Those in SVG that stand there say
+    what is written on new ones."""
 
     def follow(self, page: str, *made: str) -> None:
         """Types the commands of a page, and looks at its pictures and at the pages that they make."""
@@ -140,9 +153,11 @@ class Tour(unittest.TestCase):
             folder = Path(kept)
             typed(self, folder, commands_of(text))
             for name in PICTURE.findall(text):
-                self.assertGreaterEqual(vivid(folder / "mine" / name), 2, name)
+                drawn, kept_there = folder / "mine" / name, TOP / "docs/pictures" / name
+                self.assertGreaterEqual(vivid(drawn), 2, name)
                 if "PICTURES" in os.environ:
-                    shutil.copy(folder / "mine" / name, TOP / "docs/pictures" / name)
+                    shutil.copy(drawn, kept_there)
+                self.assertEqual(lettering(drawn), lettering(kept_there), name)
             for name in made:
                 self.assertIn("const shows", (folder / "mine" / name).read_text())
 

@@ -48,8 +48,8 @@ class Gathered(unittest.TestCase):
         shows, net = expected("crowd_run"), read_scene(scene)
         wrong = {
             "give its script too": (None, shows),
-            "aren't of this script": ("run 1\nshow\n", shows),
-            "have device 36, and the network hasn't": (None, "".join(f"{d} (0,0)\n" for d in range(37))),
+            "don't belong to this script": ("run 1\nshow\n", shows),
+            "have device 36, but the network hasn't": (None, "".join(f"{d} (0,0)\n" for d in range(37))),
             "the network has device 35": (None, "".join(f"{d} (0,0)\n" for d in range(35))),
             "no values of devices": (None, "no 0 converging\n"),
         }
@@ -269,7 +269,7 @@ class Command(InFolder):
             self.assertIn(f"stroke: {colour}", svg)
         done = self.picture("net.json", *marks, *["--mark", "a"] * 3, "-o", "net.svg")
         self.assertEqual((done.status, done.output), (2, ""))
-        self.assertIn("6 are given, and at most 5 are told apart", done.errors)
+        self.assertIn("6 are too many; at most 5 can be told apart", done.errors)
         self.file(network.with_inputs(network.line(2), [("load", 3, None)]).scene(), "net.json")
         done = self.picture("net.json", "--mark", "load", "-o", "net.svg")
         self.assertEqual((done.status, done.output), (2, ""))

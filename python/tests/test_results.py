@@ -138,9 +138,9 @@ class Refusals(unittest.TestCase):
         self.assertEqual(told(refusal, plainly).splitlines()[0], "fieldc: sections 1")
         self.assertEqual(json.loads(refused(refusal, plainly))["line"], "sections 1")
         self.assertIn(
-            "not enough memory", told(Refusal(7, "", "", self.call), plain_explanation(Refusal(7, "", "", self.call)))
+            "Memory ran out", told(Refusal(7, "", "", self.call), plain_explanation(Refusal(7, "", "", self.call)))
         )
-        self.assertIn("not enough memory", str(Refusal(7, "", "", self.call)))
+        self.assertIn("Memory ran out", str(Refusal(7, "", "", self.call)))
         self.assertTrue(str(refusal).startswith("sections 1"))
         self.assertEqual((refusal.place, Refusal(3, "types", "types 4 mismatch", self.call).place), ("1", "4 mismatch"))
 

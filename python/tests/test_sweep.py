@@ -101,7 +101,7 @@ class Deployments(unittest.TestCase):
     def test_what_makes_no_network(self) -> None:
         for setting, said in {
             Setting("src", True, 6): "6 devices that are drawn, and there are 5",
-            Setting("src", True, (7,)): "device 7, which isn't there",
+            Setting("src", True, (7,)): "device 7, which doesn't exist",
             Setting("load", 3, 2): "load isn't set on device",
         }.items():
             with self.assertRaisesRegex(Fault, said):
@@ -430,13 +430,13 @@ class Sweeps(InFolder):
         said = on_a_terminal(*words, fc=self.slow(0.05))
         self.assertRegex(said, "fieldc: 150 deployments: [0-9]+ s, [1-9][0-9]* done, [0-9]+ a second, [0-9]+ s left")
         self.assertRegex(
-            said, "fieldc sweep: 150 rows in [0-9.]+ s, [0-9.]+ s of a processor in fc and [0-9.]+ s beside it"
+            said, "fieldc sweep: 150 rows in [0-9.]+ s, [0-9.]+ CPU seconds in fc and [0-9.]+ outside"
         )
 
     def test_wrong_words_and_files(self) -> None:
         rows_of = {
-            "--disk needs a --range": ("--disk", 5, "-o", "rows.csv"),
-            "--jitter moves the devices of --points alone": ("--line", 5, "--jitter", 2, "-o", "rows.csv"),
+            "--disk needs --range": ("--disk", 5, "-o", "rows.csv"),
+            "--jitter needs --points, whose devices it moves": ("--line", 5, "--jitter", 2, "-o", "rows.csv"),
             "-o FILE is missing": ("--line", 5),
             "has to end in .csv": ("--line", 5, "-o", "rows.parquet"),
             "has to end in .svg or .png or .pdf or .html": ("--line", 5, "-o", "rows.csv", "--report", "rows.jpg"),
@@ -458,7 +458,7 @@ class Sweeps(InFolder):
             done = fieldc("sweep", load, *words, folder=self.folder)
             self.assertEqual(done.status, status)
             if status:
-                self.assertIn("load of device 0 is 21, and has to be a whole number from 0 to 20", done.errors)
+                self.assertIn("load of device 0 is 21; it has to be a whole number from 0 to 20", done.errors)
         wrong = self.file("ceiling 10;\nmain = 1 == 2;\n", "wrong.fc")
         done = fieldc("sweep", wrong, "--line", 5, "-o", "rows.csv", folder=self.folder)
         self.assertEqual((done.status, done.output), (3, ""))

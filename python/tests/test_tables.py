@@ -35,7 +35,7 @@ class In(InFolder):
         found = files.points(self.file("id,x,y,a,b\n0,0,0,yes,1\n")).inputs
         self.assertEqual(found, {0: {"a": True, "b": 1}})
         for wrong in ("2", "maybe", "1.0", ""):
-            with self.subTest(wrong), self.assertRaisesRegex(Fault, "src is '.*', and has to be true or false"):
+            with self.subTest(wrong), self.assertRaisesRegex(Fault, "src is '.*'; it has to be true or false"):
                 self.read(f"id,x,y,src,load\n0,0,0,{wrong},1\n")
 
     def test_decimal_commas_and_points(self) -> None:
@@ -46,7 +46,7 @@ class In(InFolder):
             'id,x,y\n0,"0,5","-1,25"\n1,1000,2\n',
         ):
             self.assertEqual(files.points(self.file(text)).positions, wanted, text)
-        with self.assertRaisesRegex(Fault, "parts of thousands can't be set apart"):
+        with self.assertRaisesRegex(Fault, "don't separate thousands"):
             files.points(self.file("id;x;y\n0;1.000,5;0\n"))
 
     def test_numbers_of_inputs_are_scaled_or_refused(self) -> None:
@@ -80,9 +80,9 @@ class In(InFolder):
 
     def test_degrees_that_are_none_or_too_far_apart(self) -> None:
         for rows, said in (
-            ("0,91,0\n", "lat is 91, and has to be from -90 to 90 degrees"),
-            ("0,0,200\n", "lng is 200, and has to be from -180 to 180 degrees"),
-            ("0,0,0\n1,0,20\n", "1,112 km away from the middle of all"),
+            ("0,91,0\n", "lat is 91; it has to be from -90 to 90 degrees"),
+            ("0,0,200\n", "lng is 200; it has to be from -180 to 180 degrees"),
+            ("0,0,0\n1,0,20\n", "1,112 km away from the middle of all devices"),
         ):
             with self.assertRaisesRegex(Fault, said):
                 files.points(self.file("id,lat,lng\n" + rows))

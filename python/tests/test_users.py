@@ -173,7 +173,7 @@ class Taken(unittest.TestCase):
         for said, network, program in (
             (r"pass inputs=\{'src': False\}", graph, HOPS),
             ("pass weight=1", weighed, METRIC),
-            ("links 0 to 1 and not 1 to 0", one_way, HOPS),
+            ("links 0 to 1 but not 1 to 0", one_way, HOPS),
             ("the link of 1 and 0 has two weights: 2 and 3", two, METRIC),
             (r"from_graph\(.., undirected=True\)", networkx.DiGraph([(0, 1)]), HOPS),
         ):

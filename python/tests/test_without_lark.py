@@ -58,7 +58,7 @@ class WithoutLark(InFolder):
     def test_what_reads_programs_is_refused(self) -> None:
         done = self.asked("settle", "no.fc", "line.json", "--why")
         self.assertEqual(done.status, 2)
-        self.assertIn("--why reads the program, which needs Lark (Debian: python3-lark)\n", done.errors)
+        self.assertIn("--why needs Lark to read the program (Debian: python3-lark)\n", done.errors)
 
 
 if __name__ == "__main__":

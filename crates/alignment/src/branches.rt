@@ -13,6 +13,7 @@ use smallvec::SmallVec;
 use std::alloc::Global;
 
 /// The exports that took the same branch: those that keep this truth value in the slot of an `if`.
+#[inline(never)]
 pub fn same_branch<'a>(
     alloc: Global,
     env: &Env<'a>,

@@ -25,9 +25,9 @@ module _ {ns : List Node} {lay : LayoutValue} {p : ℕ} {t : ValueType} {ks : Li
       subst (λ u. Did S p u (kept_before ns p) vars F xs b xs) (sym is)
       (record { gives = rw e refl; out = same_out (kept_before ns p) 0 xs })
 
-  pub lit_done : {v : LocalValue} {b : BoundValue} → ReadyAt ns lay p (OfLeaf (Literal v)) t ks F xs → b ≡ exactly v
-      → DidAt S ns p vars F xs (BoundLocal b) xs
-  lit_done {v} {b} h e = leaf_done (Literal v) h (BoundLocal b) (rw e refl)
+  pub lit_done : {v : LocalValue} {b : AnyBound} → ReadyAt ns lay p (OfLeaf (Literal v)) t ks F xs
+      → b ≡ BoundLocal (exactly v) → DidAt S ns p vars F xs b xs
+  lit_done {v} {b} h e = leaf_done (Literal v) h b (sym e)
 
   pub variable_done : {n : ℕ} {b : AnyBound} → ReadyAt ns lay p (OfLeaf (Variable n)) t ks F xs
       → b ≡ cut_to (flat_maybes F.near) (variable_bound n vars) → DidAt S ns p vars F xs b xs
@@ -35,9 +35,9 @@ module _ {ns : List Node} {lay : LayoutValue} {p : ℕ} {t : ValueType} {ks : Li
       let m = seat_maybes (Plain t (Variable n)) (kept_before ns p) F.near in
       leaf_done (Variable n) h b (rw (m, e) refl)
 
-  pub sense_done : {i : ℕ} {b : BoundValue} → ReadyAt ns lay p (OfLeaf (Sense i)) t ks F xs
-      → b ≡ input_bound (slice_get S.inputs i) → DidAt S ns p vars F xs (BoundLocal b) xs
-  sense_done {i} {b} h e = leaf_done (Sense i) h (BoundLocal b) (rw e refl)
+  pub sense_done : {i : ℕ} {b : AnyBound} → ReadyAt ns lay p (OfLeaf (Sense i)) t ks F xs
+      → b ≡ BoundLocal (input_bound (slice_get S.inputs i)) → DidAt S ns p vars F xs b xs
+  sense_done {i} {b} h e = leaf_done (Sense i) h b (sym e)
 
   pub uid_done : {b : BoundValue} → ReadyAt ns lay p (OfLeaf Uid) t ks F xs
       → b ≡ Between (min S.device S.ceiling) (min S.device S.ceiling) → DidAt S ns p vars F xs (BoundLocal b) xs

@@ -1,22 +1,20 @@
 //! Arguments of builtins: bounds that are made for them, and those that binders in scope hold.
 
 ghost use Rattle.std.specs.Prelude.{ℕ, [], ◌∷◌, ◌≡◌, IfOk, IfSome, IsTrue};
+ghost use Rattle.fc_values.specs.Types.{type_of};
+ghost use Rattle.fc_nodes.specs.Terms.{HasNode, OfApply};
 ghost use Rattle.device_eval.specs.Walks.{Stands};
 ghost use Rattle.value_bounds.specs.BoundValues.{Both};
 ghost use Rattle.value_bounds.specs.BoundBuiltins.{BoundLocal, builtin_bound};
 ghost use Rattle.value_bounds.specs.References.{any_bound_in, any_bounds_in, lent_bound_in, lent_bounds_in};
 ghost use Rattle.value_bounds.specs.References.{local_bound_in};
-ghost use Rattle.bound_firing.specs.Firing.{local_part, variable_bound};
-ghost use Rattle.bound_firing.specs.FlatSeats.{flat_maybes};
-ghost use Rattle.bound_firing.specs.References.{flat_seats_in};
-ghost use Rattle.bound_firing.specs.Seats.{cut_to};
-ghost use Rattle.bound_firing.specs.Contexts.{IsHeld, argument_in, vars_in};
+ghost use Rattle.bound_firing.specs.Firing.{local_part};
+ghost use Rattle.bound_firing.specs.Contexts.{IsHeld, argument_in};
 ghost use Rattle.bound_firing.specs.Held.{is_local as is_bound_of_local};
 
-use crate::evaluation::{Context, Scope, Sight};
+use crate::evaluation::{Context, Sight, in_scope};
 use crate::seating::as_it_is;
-use crate::seats::Seats;
-use fc_nodes::Op;
+use fc_nodes::{Node, Op};
 use fc_values::{Builtin, Memory};
 use std::alloc::Global;
 use value_bounds::{Bound, BoundRef, LocalBound, bound_of_builtin, copy_bound, lend};
@@ -39,42 +37,42 @@ pub fn seen<'a>(argument: &'a Argument<'_>) -> BoundRef<'a>
 }
 
 /// The bound of the node at a place, if a binder in scope holds it: that of a variable, or of a component of one.
+#[cycle(held)]
+#[inline(always)]
 pub fn held<'a>(context: &Context<'_>, place: u32, sight: &Sight<'a, '_>) -> Option<BoundRef<'a>>
     requires { Stands context.now.program.now.nodes context.now.layout.now place }
     ensures { IfSome result (λ b. IsHeld context.now place sight.now (lent_bound_in b)) }
 {
     let node = context.program.node(place);
     match &node.op {
-        Op::Var(binder) => held_variable(sight.vars, sight.seats, *binder),
-        Op::Apply(builtin) => {
-            let [kid] = node.kids.as_slice() else {
-                return None;
-            };
-            if !takes_apart(*builtin) {
-                return None;
-            }
-            let whole = held(context, *kid, sight)?;
-            component(*builtin, &whole)
+        Op::Var(binder) => as_it_is(&in_scope(sight.vars, *binder), sight.seats),
+        Op::Apply(builtin) if takes_apart(*builtin) => {
+            held_component(context, place, node, *builtin, sight)
         }
         _ => None,
     }
 }
 
-// The bound of a variable, if it is the same at these seats.
-fn held_variable<'a>(vars: &Scope<'a>, seats: &Seats<'_>, binder: u32) -> Option<BoundRef<'a>>
-    ensures { IfSome result (λ b. lent_bound_in b
-        ≡ cut_to (flat_maybes (flat_seats_in seats.now).near) (variable_bound binder (vars_in vars.now))) }
+// The same of a component, apart so that `held` may be inlined.
+#[cycle(held)]
+#[inline(never)]
+fn held_component<'a>(
+    context: &Context<'_>,
+    place: u32,
+    node: &Node,
+    builtin: Builtin,
+    sight: &Sight<'a, '_>,
+) -> Option<BoundRef<'a>>
+    requires stands { Stands context.now.program.now.nodes context.now.layout.now place }
+    requires node { HasNode context.now.program.now.nodes place (OfApply builtin) (type_of node.now.ty)
+        node.now.kids.items }
+    ensures { IfSome result (λ b. IsHeld context.now place sight.now (lent_bound_in b)) }
 {
-    match vars {
-        Scope::Empty => None,
-        Scope::Bind(place, bound, rest) => {
-            if *place == binder {
-                as_it_is(bound, seats)
-            } else {
-                held_variable(rest, seats, binder)
-            }
-        }
-    }
+    let [kid] = node.kids.as_slice() else {
+        return None;
+    };
+    let whole = held(context, *kid, sight)?;
+    component(builtin, &whole)
 }
 
 // Whether a builtin gives a component of a pair.

@@ -2,11 +2,12 @@
 
 ghost use Rattle.std.specs.Prelude.{[], ◌∷◌, ◌≡◌, ◌<◌, IfOk, OnOk, length, map, min, slice_get, slice_set};
 ghost use Rattle.fc_nodes.specs.Terms.{OfApply, OfNbr, OfEvolve, OfIf, OfLet};
-ghost use Rattle.value_bounds.specs.BoundValues.{Between};
-ghost use Rattle.value_bounds.specs.References.{local_bound_in, local_bounds_in, any_bound_in};
-ghost use Rattle.bound_firing.specs.Seats.{cut_to};
+ghost use Rattle.value_bounds.specs.BoundValues.{Between, exactly as exactly_of};
+ghost use Rattle.value_bounds.specs.BoundBuiltins.{BoundField, BoundLocal};
+ghost use Rattle.fc_values.specs.Values.{local_of};
+ghost use Rattle.value_bounds.specs.References.{local_bound_in, local_bounds_in, any_bound_in, lent_bound_in};
 ghost use Rattle.bound_firing.specs.Firing.{variable_bound, local_part, input_bound as bound_of_input};
-ghost use Rattle.bound_firing.specs.FlatSeats.{SlotsHave, flat_maybes};
+ghost use Rattle.bound_firing.specs.FlatSeats.{SlotsHave, flat_entries, flat_weight};
 ghost use Rattle.bound_firing.specs.References.{flat_seats_in};
 ghost use Rattle.bound_firing.specs.Walks.{started, one_of};
 ghost use Rattle.bound_firing.specs.Contexts.{vars_in, evolution_in, maybe_in, ReadyIn, ReadyFor, FiredTo, ReadyKids};
@@ -20,7 +21,7 @@ use crate::seating::{
 };
 use crate::seats::Seats;
 use fc_nodes::{Layout, Node, Op, Unfolded, ceiling_of, least_weight, slot_of};
-use fc_values::{Builtin, Memory};
+use fc_values::{Builtin, Local, Memory};
 use std::alloc::Global;
 use value_bounds::{
     Bound, BoundRef, LocalBound, bound_of_builtin, copy_bound, either, exactly, lend,
@@ -70,14 +71,11 @@ pub fn eval(
 {
     let node = context.program.node(place);
     match &node.op {
-        Op::Lit(value) => Ok(Bound::Local(exactly(alloc, value)?)),
-        Op::Var(binder) => Ok(variable(alloc, sight.vars, *binder, sight.seats)?),
-        Op::Sense(input) => Ok(Bound::Local(input_bound(alloc, context.inputs, *input)?)),
+        Op::Lit(value) => literal(alloc, value),
+        Op::Var(binder) => cut_to_seats(alloc, &in_scope(sight.vars, *binder), sight.seats),
+        Op::Sense(input) => sensed(alloc, context.inputs, *input),
         Op::Uid => Ok(Bound::Local(uid(context.device, context.program))),
-        Op::NbrLink => {
-            let least = least_weight(context.program);
-            Ok(Bound::Field(seat_weights(alloc, sight.seats, least)?))
-        }
+        Op::NbrLink => links(alloc, sight.seats, least_weight(context.program)),
         Op::Apply(builtin) => eval_apply(alloc, context, place, node, *builtin, sight, draft),
         Op::Nbr => eval_nbr(alloc, context, place, node, sight, draft),
         Op::If => eval_if(alloc, context, place, node, sight, draft),
@@ -101,10 +99,10 @@ fn eval_apply(
     ensures { IfOk result (FiredTo context.now place sight.now draft.old draft.new) }
 {
     match node.kids.as_slice() {
-        [a] => Ok(eval_one(alloc, context, *a, builtin, sight, draft)?),
-        [a, b] => Ok(eval_two(alloc, context, *a, *b, builtin, sight, draft)?),
-        [a, b, c] => Ok(eval_three(alloc, context, *a, *b, *c, builtin, sight, draft)?),
-        kids => Ok(eval_more(alloc, context, kids, builtin, sight, draft)?),
+        [a] => eval_one(alloc, context, *a, builtin, sight, draft),
+        [a, b] => eval_two(alloc, context, *a, *b, builtin, sight, draft),
+        [a, b, c] => eval_three(alloc, context, *a, *b, *c, builtin, sight, draft),
+        kids => eval_more(alloc, context, kids, builtin, sight, draft),
     }
 }
 
@@ -123,8 +121,7 @@ fn eval_one(
 {
     let a = eval_argument(alloc, context, kid, sight, draft)?;
     let ceiling = ceiling_of(context.program);
-    let bound = of_one(alloc, builtin, seen(&a), context.device, ceiling)?;
-    Ok(bound)
+    of_one(alloc, builtin, seen(&a), context.device, ceiling)
 }
 
 // What a builtin makes of two arguments.
@@ -144,14 +141,12 @@ fn eval_two(
     let a = eval_argument(alloc, context, first, sight, draft)?;
     let b = eval_argument(alloc, context, second, sight, draft)?;
     if makes_pair(builtin, &a, &b) {
-        let bound = paired(alloc, a, b)?;
-        return Ok(bound);
+        return paired(alloc, a, b);
     }
     let ceiling = ceiling_of(context.program);
     let first = seen(&a);
     let second = seen(&b);
-    let bound = of_two(alloc, builtin, first, second, context.device, ceiling)?;
-    Ok(bound)
+    of_two(alloc, builtin, first, second, context.device, ceiling)
 }
 
 // What a builtin makes of three arguments.
@@ -176,7 +171,7 @@ fn eval_three(
     let first = seen(&a);
     let second = seen(&b);
     let third = seen(&c);
-    let bound = of_three(
+    of_three(
         alloc,
         builtin,
         first,
@@ -184,8 +179,7 @@ fn eval_three(
         third,
         context.device,
         ceiling,
-    )?;
-    Ok(bound)
+    )
 }
 
 // What a builtin makes of any number of arguments.
@@ -234,6 +228,7 @@ fn eval_kids(
 
 // Evaluates a node whose bound is only looked at: one that a binder holds isn't copied.
 #[cycle(eval)]
+#[inline(always)]
 fn eval_argument<'a>(
     alloc: Global,
     context: &Context<'_>,
@@ -365,40 +360,47 @@ fn eval_let(
         seats: sight.seats,
         vars: &inner,
     };
-    let bound = eval(alloc, context, node.kids[1], &body, draft)?;
-    Ok(bound)
+    eval(alloc, context, node.kids[1], &body, draft)
 }
 
-// The bound of a variable at the seats of a node.
-fn variable(
-    alloc: Global,
-    vars: &Scope<'_>,
-    binder: u32,
-    seats: &Seats<'_>,
-) -> Result<Bound, Memory>
-    ensures { IfOk result (λ b. any_bound_in b ≡ cut_to (flat_maybes (flat_seats_in seats.now).near)
-        (variable_bound binder (vars_in vars.now))) }
+/// The bound of a binder's value: that of the nearest binder in scope with its place.
+pub fn in_scope<'a>(vars: &Scope<'a>, binder: u32) -> BoundRef<'a>
+    ensures { lent_bound_in result ≡ variable_bound binder (vars_in vars.now) }
 {
-    match vars {
-        Scope::Empty => Ok(Bound::Any),
-        Scope::Bind(place, bound, rest) => {
-            if *place == binder {
-                Ok(cut_to_seats(alloc, bound, seats)?)
-            } else {
-                Ok(variable(alloc, rest, binder, seats)?)
-            }
+    let mut scope = vars;
+    while let Scope::Bind(place, bound, rest) = scope {
+        if *place == binder {
+            return *bound;
         }
+        scope = rest;
     }
+    BoundRef::Any
+}
+
+// The bound of a literal.
+fn literal(alloc: Global, value: &Local) -> Result<Bound, Memory>
+    ensures { IfOk result (λ b. any_bound_in b ≡ BoundLocal (exactly_of (local_of value.now))) }
+{
+    Ok(Bound::Local(exactly(alloc, value)?))
 }
 
 // The bound of an input.
-fn input_bound(alloc: Global, inputs: &[LocalBound], index: u32) -> Result<LocalBound, Memory>
-    ensures { IfOk result (λ b. local_bound_in b ≡ bound_of_input (slice_get (local_bounds_in inputs.now) index)) }
+fn sensed(alloc: Global, inputs: &[LocalBound], index: u32) -> Result<Bound, Memory>
+    ensures { IfOk result (λ b. any_bound_in b
+        ≡ BoundLocal (bound_of_input (slice_get (local_bounds_in inputs.now) index))) }
 {
     match inputs.get(index as usize) {
-        Some(bound) => Ok(copy_bound(alloc, bound)?),
-        None => Ok(LocalBound::Unbounded),
+        Some(bound) => Ok(Bound::Local(copy_bound(alloc, bound)?)),
+        None => Ok(Bound::Local(LocalBound::Unbounded)),
     }
+}
+
+// The bound of the field of the links' weights.
+fn links(alloc: Global, seats: &Seats<'_>, least: u32) -> Result<Bound, Memory>
+    ensures { IfOk result (λ b. any_bound_in b ≡ BoundField (Between least least)
+        (flat_entries flat_weight (flat_seats_in seats.now).near)) }
+{
+    Ok(Bound::Field(seat_weights(alloc, seats, least)?))
 }
 
 // The bound of a device's number, capped at the ceiling.

@@ -1,8 +1,9 @@
 -- Tables of bounds over an envelope, and rounds over them.
-use Rattle.std.specs.Prelude.{ℕ, Bool, zero, suc, true, ◌≡◌, ◌&&◌, ◌||◌, [], map, nat_eq, Some}
+use Rattle.std.specs.Prelude.{ℕ, Bool, zero, suc, true, false, ◌≡◌, ◌⊎◌, ◌&&◌, ◌||◌, [], map, nat_eq, Some}
 use Rattle.fc_values.specs.Fields.{is_in}
 use Rattle.fc_nodes.specs.Program.{Unfolding}
 use Rattle.topology.specs.Networks.{Network}
+use Rattle.value_bounds.specs.BoundValues.{BoundValue}
 use Rattle.bound_firing.specs.Exports.{ExportBound, bound_export}
 use Rattle.bound_firing.specs.Seats.{NearSeat, Seats}
 use Rattle.bound_firing.specs.Firing.{BoundSituation, bound_of}
@@ -58,6 +59,12 @@ rounds_within U E start j d = table_within kind.Firing U E start j d
 
 abbrev pub grown_within : Unfolding → Envelope → BoundTable → ℕ → BoundTable
 grown_within U E start i d = table_within kind.Growing U E start i d
+
+-- the bound of a device's value in the table after r rounds, where the export is there for sure or the device may be
+-- away
+pub record HasBound (U : Unfolding) (E : Envelope) (start : BoundTable) (r d : ℕ) (b : BoundValue) : Type 0 where
+  pub is : (rounds_within U E start r d).value ≡ b
+  pub there : ((rounds_within U E start r d).sure ≡ true) ⊎ (surely_lives E d ≡ false)
 
 -- a round changes no bound of a device that may be there
 abbrev pub IsFixedWithin : RoundKind → Unfolding → Envelope → BoundTable → Type 0

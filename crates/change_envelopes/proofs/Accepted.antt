@@ -1,5 +1,5 @@
 -- Where no line is refused, none has a fault.
-use Rattle.std.proofs.Common.{ℕ, ◌≡◌, ◌&&◌, ◌||◌, Bool, true, false, not, nat_eq, nat_le, List, [], ◌∷◌, ◌++◌, length, refl, sym, ap, ◌∙◌, inl, inr, Some, None, if◌then◌else◌}
+use Rattle.std.proofs.Common.{ℕ, ◌≡◌, Bool, true, false, not, nat_eq, List, [], ◌∷◌, refl, sym, ap, ◌∙◌, inl, inr, Some, None}
 use Rattle.std.specs.Prelude.{◌⊎◌, Option, option_map}
 use Rattle.std.specs.Option.{option_or}
 use Rattle.topology.specs.declared.types.NetFault.{NetFault}
@@ -7,11 +7,12 @@ use Rattle.topology.specs.declared.types.NetFault.TheVariants as net
 use Rattle.topology.specs.Inputs.{or_fault}
 use Rattle.topology.specs.Networks.{Network, lives}
 use Rattle.topology.specs.Changes.{first_fault}
-use Rattle.change_lines.specs.declared.types.Possible.{Possible}
-use Rattle.change_lines.specs.declared.types.Weights.{Weights}
-use Rattle.change_lines.specs.Changes.{ChangeValue, LinkChange, LeaveChange, JoinChange}
-use Rattle.change_envelopes.specs.Hand.{said, said_first, at_hand}
-use Rattle.change_envelopes.specs.Faults.{ChangeFault, NoForm, Refuses, change_fault, fault_of, numbered_fault, first_from, NoneRefused}
+use Rattle.changes.specs.declared.types.ChangeFault.TheVariants as line
+use Rattle.changes.specs.declared.types.Possible.{Possible}
+use Rattle.changes.specs.declared.types.Weights.{Weights}
+use Rattle.changes.specs.Changes.{ChangeValue, LinkChange, LeaveChange, JoinChange}
+use Rattle.changes.specs.Hand.{said, said_first, at_hand}
+use Rattle.changes.specs.Faults.{change_fault, fault_of_line, numbered_fault, first_from, NoneRefused}
 use Rattle.change_envelopes.specs.Laws.{IsSaid}
 
 -- a line has no fault behind some lines
@@ -23,18 +24,18 @@ module _ (n : Network) (all : List ChangeValue) where
   accepted_from before [] c h s = absurd s
   accepted_from before (l ∷ ls) c h s = by_line l.1 h s (λ next g t. accepted_from next ls c g t)
     where
-      by_line : (o : Option ChangeValue) → option_or (numbered_fault l.0 (fault_of n all before o)) (first_from n all (before ++ said_first o []) ls) ≡ None → IsSaid c (said_first o (said ls))
+      by_line : (o : Option ChangeValue) → option_or (numbered_fault l.0 (fault_of_line n all before o)) (first_from n all (said_first o before) ls) ≡ None → IsSaid c (said_first o (said ls))
           → ((next : List ChangeValue) → first_from n all next ls ≡ None → IsSaid c (said ls) → IsAccepted n all c) → IsAccepted n all c
       by_line None g s later = absurd cc
       by_line (Some x) g s later = by_fault (change_fault n all before x) refl g
         where
-          by_fault : (f : Option NetFault) → change_fault n all before x ≡ f → option_or (numbered_fault l.0 (option_map Refuses f)) (first_from n all (before ++ x ∷ []) ls) ≡ None → IsAccepted n all c
+          by_fault : (f : Option NetFault) → change_fault n all before x ≡ f → option_or (numbered_fault l.0 (option_map line.Net f)) (first_from n all (x ∷ before) ls) ≡ None → IsAccepted n all c
           by_fault (Some f) q g = absurd cc
           by_fault None q g = by_place s
             where
               by_place : ((x ≡ c) ⊎ IsSaid c (said ls)) → IsAccepted n all c
               by_place (inl e) = (before, ap (change_fault n all before) (sym e) ∙ q)
-              by_place (inr t) = later (before ++ x ∷ []) g t
+              by_place (inr t) = later (x ∷ before) g t
 
 pub accepted : (n : Network) (ls : List (ℕ × Option ChangeValue)) (c : ChangeValue) → NoneRefused n ls → IsSaid c (said ls) → IsAccepted n (said ls) c
 accepted n ls c h s = accepted_from n (said ls) [] ls c h s

@@ -1,5 +1,5 @@
 -- What lies in one of some bounds lies in the least that holds all.
-use Rattle.std.proofs.Common.{ℕ, zero, suc, ◌≡◌, ◌+◌, ◌≤◌, ◌&&◌, Bool, true, false, nat_eq, min, max, List, [], ◌∷◌, ◌++◌, refl, sym, ap, subst, ◌∙◌, arith, inl, inr, Some, None, if◌then◌else◌}
+use Rattle.std.proofs.Common.{ℕ, zero, suc, ◌≡◌, ◌+◌, true, min, max, List, [], ◌∷◌, ◌++◌, refl, sym, ap, subst, ◌∙◌, arith, inl, inr, Some}
 use Rattle.std.specs.Prelude.{◌⊎◌, Option, option_map, slice_get}
 use Rattle.fc_values.specs.Types.{Declarations, Input}
 use Rattle.fc_values.specs.Values.{LocalValue}
@@ -8,12 +8,12 @@ use Rattle.value_bounds.specs.BoundValues.{BoundValue, Lies, either}
 use Rattle.value_bounds.proofs.Values.{either_left, either_right, itself}
 use Rattle.bound_firing.specs.Firing.{InputsLie, input_bound}
 use Rattle.topology.specs.Networks.{Network}
-use Rattle.change_lines.specs.declared.types.Range.{Range}
-use Rattle.change_lines.specs.declared.types.Possible.{Possible}
-use Rattle.change_lines.specs.declared.types.Weights.{Weights}
-use Rattle.change_lines.specs.Changes.{ChangeValue, SetChange, LinkChange, UnlinkChange, LeaveChange, JoinChange}
-use Rattle.change_envelopes.specs.Hand.{are_pair}
-use Rattle.change_envelopes.specs.Bounds.{possible_bound, as_list, said_bound, said_bounds, scene_bound, hull_from, hull, bound_of_input, bounds_from, weights_range, said_weight, said_weights, wider, widest_from, widest, weights_of_pair, scene_weight}
+use Rattle.changes.specs.declared.types.Range.{Range}
+use Rattle.changes.specs.declared.types.Possible.{Possible}
+use Rattle.changes.specs.declared.types.Weights.{Weights}
+use Rattle.changes.specs.Changes.{ChangeValue, SetChange, LinkChange, JoinChange}
+use Rattle.changes.specs.Hand.{are_pair}
+use Rattle.change_bounds.specs.Bounds.{possible_bound, as_list, said_bound, said_bounds, scene_bound, joint_bound_from, joint_bound, bound_of_input, bounds_from, weights_range, said_weight, said_weights, wider, widest_from, widest, weights_of_pair, scene_weight}
 use Rattle.change_envelopes.specs.Allowed.{IsPossible, ArePossible, InRange}
 use Rattle.change_envelopes.specs.Laws.{IsSaid}
 
@@ -30,16 +30,16 @@ pub some_right : (v : LocalValue) (bs cs : List BoundValue) → SomeLies v cs �
 some_right v [] cs h = h
 some_right v (b ∷ bs) cs h = inr (some_right v bs cs h)
 
-hull_first : (b : BoundValue) (bs : List BoundValue) (v : LocalValue) → Lies b v → Lies (hull_from b bs) v
+hull_first : (b : BoundValue) (bs : List BoundValue) (v : LocalValue) → Lies b v → Lies (joint_bound_from b bs) v
 hull_first b [] v h = h
 hull_first b (c ∷ cs) v h = hull_first (either b c) cs v (either_left b c v h)
 
-hull_rest : (b : BoundValue) (bs : List BoundValue) (v : LocalValue) → SomeLies v bs → Lies (hull_from b bs) v
+hull_rest : (b : BoundValue) (bs : List BoundValue) (v : LocalValue) → SomeLies v bs → Lies (joint_bound_from b bs) v
 hull_rest b [] v h = absurd h
 hull_rest b (c ∷ cs) v (inl h) = hull_first (either b c) cs v (either_right b c v h)
 hull_rest b (c ∷ cs) v (inr h) = hull_rest (either b c) cs v h
 
-pub lies_hull : (bs : List BoundValue) (v : LocalValue) → SomeLies v bs → Lies (hull bs) v
+pub lies_hull : (bs : List BoundValue) (v : LocalValue) → SomeLies v bs → Lies (joint_bound bs) v
 lies_hull [] v h = absurd h
 lies_hull (b ∷ bs) v (inl h) = hull_first b bs v h
 lies_hull (b ∷ bs) v (inr h) = hull_rest b bs v h

@@ -1,9 +1,9 @@
 -- Each edit that a line allows is one that the envelope allows.
-use Rattle.std.proofs.Common.{ℕ, ◌≡◌, ◌≤◌, ◌&&◌, ◌||◌, Bool, true, false, not, nat_eq, min, max, map, List, [], ◌∷◌, refl, sym, ap, subst, ◌∙◌, arith, inl, inr, Some, None, if◌then◌else◌}
-use Rattle.std.specs.Prelude.{◌⊎◌, Option, slice_get}
+use Rattle.std.proofs.Common.{ℕ, ◌≡◌, ◌≤◌, ◌&&◌, ◌||◌, Bool, true, false, nat_eq, min, max, map, List, [], ◌∷◌, refl, sym, ap, subst, ◌∙◌, arith, inl, inr, Some, if◌then◌else◌}
+use Rattle.std.specs.Prelude.{Option, slice_get}
 use Rattle.fc_values.specs.Values.{LocalValue}
-use Rattle.firing_core.specs.Entries.{EditValue, LinkEdit, UnlinkEdit, SetEdit, PokeEdit, JoinEdit, LeaveEdit}
-use Rattle.value_bounds.specs.BoundValues.{BoundValue, Lies}
+use Rattle.firing_core.specs.Entries.{EditValue}
+use Rattle.value_bounds.specs.BoundValues.{Lies}
 use Rattle.value_bounds.proofs.Values.{itself, nat_same}
 use Rattle.bound_firing.specs.Firing.{InputsLie, input_bound}
 use Rattle.topology.specs.Networks.{NetDevice, Network, lives, LinksFit}
@@ -11,15 +11,16 @@ use Rattle.topology.specs.Changes.{are_linked}
 use Rattle.envelopes.specs.Envelopes.{MaybeDevice, MaybeLink, Envelope, MayLive, may_live, surely_lives, bounds_in, ids, least_edge}
 use Rattle.fc_values.specs.Types.{Declarations}
 use Rattle.fc_values.specs.Fields.{is_in}
-use Rattle.envelopes.specs.Edits.{is_pair_of, sure_link, MayLink, MayEdit}
-use Rattle.change_lines.specs.declared.types.Range.{Range}
-use Rattle.change_lines.specs.declared.types.Possible.{Possible}
-use Rattle.change_lines.specs.Possibles.{range}
-use Rattle.change_lines.specs.Changes.{ChangeValue, SetChange, LinkChange, UnlinkChange, LeaveChange, JoinChange}
-use Rattle.change_envelopes.specs.Hand.{at_hand, joins, leaves, unlinks, are_pair, some_line, said}
-use Rattle.change_envelopes.specs.Faults.{NoneRefused}
-use Rattle.change_envelopes.specs.Bounds.{bounds_of_device, weights_of_pair}
-use Rattle.change_envelopes.specs.Envelopes.{stays, stays_linked, weights_in, IsEnvelopeOf}
+use Rattle.envelopes.specs.Edits.{sure_link, MayLink, MayEdit}
+use Rattle.changes.specs.declared.types.Range.{Range}
+use Rattle.changes.specs.declared.types.Possible.{Possible}
+use Rattle.changes.specs.Changes.{range}
+use Rattle.changes.specs.Changes.{ChangeValue, SetChange, LinkChange, UnlinkChange, LeaveChange, JoinChange}
+use Rattle.changes.specs.Hand.{at_hand, joins_device, leaves_device, unlinks_pair, some_line, said}
+use Rattle.changes.specs.Faults.{NoneRefused}
+use Rattle.change_bounds.specs.Bounds.{bounds_of_device, weights_of_pair}
+use Rattle.change_bounds.specs.Bounds.{stays, stays_linked}
+use Rattle.change_envelopes.specs.Envelopes.{weights_in, IsEnvelopeOf}
 use Rattle.change_envelopes.specs.Allowed.{Allows, set_to, linked_by, unlinked, gone, back, come, gone_again, linked_again, InRange}
 use Rattle.change_envelopes.specs.Laws.{IsSaid, LinesMayHappen}
 use Rattle.change_envelopes.proofs.Hulls.{HasRange, set_lies, come_lies, linked_lies, own_pair}
@@ -96,17 +97,17 @@ or_true false = refl
 
 module _ (n : Network) (ls : List (ℕ × Option ChangeValue)) (E : Envelope) (none : NoneRefused n ls) (h : IsEnvelopeOf n (said ls) E) where
   said_leave : (d : ℕ) → IsSaid (LeaveChange d) (said ls) → stays n (said ls) d ≡ false
-  said_leave d s = let g = some_says (leaves d) (LeaveChange d) (said ls) s (itself d) in rw g (and_false (lives n d))
+  said_leave d s = let g = some_says (leaves_device d) (LeaveChange d) (said ls) s (itself d) in rw g (and_false (lives n d))
 
   said_join : (d : ℕ) (ps : List Possible) → IsSaid (JoinChange d ps) (said ls) → stays n (said ls) d ≡ false
   said_join d ps s = let g = not_there n (said ls) d ps (accepted n ls (JoinChange d ps) none s) in rw g refl
 
   joined_there : (d : ℕ) (ps : List Possible) → IsSaid (JoinChange d ps) (said ls) → at_hand n (said ls) d ≡ true
-  joined_there d ps s = let g = some_says (joins d) (JoinChange d ps) (said ls) s (itself d) in rw g (or_true (lives n d))
+  joined_there d ps s = let g = some_says (joins_device d) (JoinChange d ps) (said ls) s (itself d) in rw g (or_true (lives n d))
 
   said_unlink : (a b : ℕ) → IsSaid (UnlinkChange a b) (said ls) → stays_linked n (said ls) a b ≡ false
   said_unlink a b s =
-      let g = some_says (unlinks a b) (UnlinkChange a b) (said ls) s (own_pair a b) in
+      let g = some_says (unlinks_pair a b) (UnlinkChange a b) (said ls) s (own_pair a b) in
       rw g (off (are_linked n a b))
     where
       off : (t : Bool) → (t && false && stays n (said ls) a && stays n (said ls) b) ≡ false

@@ -1,29 +1,28 @@
 -- The scene lies within the envelope of the scene and lines, and links that are always there join devices that are.
-use Rattle.std.proofs.Common.{ℕ, zero, suc, ◌≡◌, ◌+◌, ◌≤◌, ◌<◌, ◌&&◌, ◌||◌, Bool, true, false, not, nat_eq, nat_lt, min, max, map, append_assoc, List, [], ◌∷◌, ◌++◌, refl, sym, ap, subst, ◌∙◌, arith, inl, inr, Some, None, if◌then◌else◌}
+use Rattle.std.proofs.Common.{ℕ, suc, ◌≡◌, ◌+◌, ◌≤◌, ◌<◌, ◌&&◌, ◌||◌, Bool, true, false, not, nat_eq, nat_lt, min, max, append_assoc, List, [], ◌∷◌, ◌++◌, refl, sym, ap, subst, ◌∙◌, arith, inl, inr, if◌then◌else◌}
 use Rattle.std.proofs.Math.Bool.{or-true}
 use Rattle.std.proofs.lemmas.Bool.Decides.{nat_tests}
-use Rattle.std.specs.Prelude.{◌⊎◌, Option, option_map, slice_get}
+use Rattle.std.specs.Prelude.{option_map, slice_get}
 use Rattle.fc_values.specs.Types.{Declarations, Input}
 use Rattle.fc_values.specs.Values.{LocalValue}
 use Rattle.fc_values.specs.Fields.{is_in}
 use Rattle.fc_values.specs.Inputs.{InputsFit}
-use Rattle.topology.specs.Networks.{NetDevice, Edge, Network, IsNetwork, Lives, lives, numbers, inputs_in, DevicesFit, LinksFit}
-use Rattle.topology.specs.Changes.{has_pair, is_pair, are_linked}
-use Rattle.value_bounds.specs.BoundValues.{BoundValue, Lies, exactly}
-use Rattle.value_bounds.proofs.Values.{lies_exactly, itself, nat_same}
+use Rattle.topology.specs.Networks.{NetDevice, Edge, Network, IsNetwork, lives, numbers, inputs_in, DevicesFit, LinksFit}
+use Rattle.topology.specs.Changes.{has_pair, are_linked}
+use Rattle.value_bounds.specs.BoundValues.{exactly}
+use Rattle.value_bounds.proofs.Values.{lies_exactly, itself}
 use Rattle.bound_firing.specs.Firing.{InputsLie}
-use Rattle.envelopes.specs.Envelopes.{MaybeDevice, MaybeLink, Envelope, MayLive, may_live, surely_lives, sure_in, bounds_in, ids, least_edge}
+use Rattle.envelopes.specs.Envelopes.{MaybeLink, Envelope, ids}
 use Rattle.envelopes.specs.Edits.{is_pair_of, sure_link, MayLink, SureEnds}
 use Rattle.envelopes.specs.Lookups.{AllMayLink, LiesByLookups}
-use Rattle.change_lines.specs.declared.types.Range.{Range}
-use Rattle.change_lines.specs.Possibles.{range}
-use Rattle.change_lines.specs.Changes.{ChangeValue}
-use Rattle.change_envelopes.specs.Hand.{at_hand, leaves, unlinks, some_line}
-use Rattle.change_envelopes.specs.Bounds.{as_list, scene_bound, said_bounds, bound_of_input, bounds_from, bounds_of_device, scene_weight, said_weights, weights_of_pair}
-use Rattle.change_envelopes.specs.Envelopes.{stays, stays_linked, IsEnvelopeOf}
-use Rattle.change_envelopes.specs.Allowed.{InRange}
+use Rattle.changes.specs.Changes.{range}
+use Rattle.changes.specs.Changes.{ChangeValue}
+use Rattle.changes.specs.Hand.{leaves_device, unlinks_pair, some_line}
+use Rattle.change_bounds.specs.Bounds.{scene_bound, said_bounds, bounds_from, scene_weight, said_weights, weights_of_pair}
+use Rattle.change_bounds.specs.Bounds.{stays, stays_linked}
+use Rattle.change_envelopes.specs.Envelopes.{IsEnvelopeOf}
 use Rattle.change_envelopes.specs.Laws.{ScenesLie, EndsStay}
-use Rattle.change_envelopes.proofs.Hulls.{SomeLies, some_left, lies_hull, listed, SomeIn, in_left, in_widest, HasRange}
+use Rattle.change_envelopes.proofs.Hulls.{some_left, lies_hull, listed, SomeIn, in_left, in_widest, HasRange}
 use Rattle.change_envelopes.proofs.MayHappen.{links_lie, no_link_back}
 
 clash : (b : Bool) → b ≡ true → b ≡ false → ⊥
@@ -121,7 +120,7 @@ module _ (n : Network) (cs : List ChangeValue) (E : Envelope) (h : IsEnvelopeOf 
       let greater : max a b ≡ b = omega (arith, o) in
       let g : sure_link (min a b) (max a b) E.links ≡ true = ap (λ x. sure_link x (max a b) E.links) lesser ∙ ap (λ y. sure_link a y E.links) greater ∙ s in
       let all : stays_linked n cs a b ≡ true = sym (h.sure_links a b (apart a b o)) ∙ g in
-      let k = four (are_linked n a b) (not (some_line (unlinks a b) cs)) (stays n cs a) (stays n cs b) all in
+      let k = four (are_linked n a b) (not (some_line (unlinks_pair a b) cs)) (stays n cs a) (stays n cs b) all in
       (sym (ap (λ x. has_pair x (max a b) n.links) lesser ∙ ap (λ y. has_pair a y n.links) greater) ∙ k.0, k.2, k.3)
 
   pub scene_within : IsNetwork n → LiesByLookups E n
@@ -131,7 +130,7 @@ module _ (n : Network) (cs : List ChangeValue) (E : Envelope) (h : IsEnvelopeOf 
     inputs = λ d l.
         subst (λ bs. InputsLie bs (inputs_in d n.devices)) (sym (h.inputs d (h.devices d ∙ rw l refl)))
         (scene_lies n cs d n.declared.inputs 0 (inputs_in d n.devices) (λ j. ap (slice_get (inputs_in d n.devices)) (omega arith)) (fits_in n.declared d n.devices net.devices l));
-    sure = λ d s. (both (lives n d) (not (some_line (leaves d) cs)) (sym (h.sure d) ∙ s)).0;
+    sure = λ d s. (both (lives n d) (not (some_line (leaves_device d) cs)) (sym (h.sure d) ∙ s)).0;
     links = links_may [] n.links refl net.links;
     sure_links = λ a b s. (stays_by a b s).0;
   }

@@ -6,11 +6,11 @@ use Rattle.topology.specs.Networks.{NetDevice, Network}
 use Rattle.firing_core.specs.Entries.{EditValue, LinkEdit, UnlinkEdit, SetEdit, JoinEdit, LeaveEdit}
 use Rattle.value_bounds.specs.BoundValues.{Lies}
 use Rattle.bound_firing.specs.Firing.{InputsLie}
-use Rattle.change_lines.specs.declared.types.Range.{Range}
-use Rattle.change_lines.specs.declared.types.Possible.{Possible}
-use Rattle.change_lines.specs.declared.types.Weights.{Weights}
-use Rattle.change_lines.specs.Changes.{ChangeValue, SetChange, LinkChange, UnlinkChange, LeaveChange, JoinChange}
-use Rattle.change_envelopes.specs.Bounds.{possible_bound, weights_range, bounds_of_device, weights_of_pair}
+use Rattle.changes.specs.declared.types.Range.{Range}
+use Rattle.changes.specs.declared.types.Possible.{Possible}
+use Rattle.changes.specs.declared.types.Weights.{Weights}
+use Rattle.changes.specs.Changes.{ChangeValue, SetChange, LinkChange, UnlinkChange, LeaveChange, JoinChange}
+use Rattle.change_bounds.specs.Bounds.{possible_bound, weights_range, bounds_of_device, weights_of_pair}
 
 -- a value is one that is said of the input of a number
 abbrev pub IsPossible : List Input → ℕ → Possible → LocalValue → Type 0

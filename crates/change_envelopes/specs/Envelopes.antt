@@ -1,26 +1,17 @@
 -- The least envelope within which a scene lies, and every network that lines of changes allow.
-use Rattle.std.specs.Prelude.{ℕ, Bool, true, false, ◌≡◌, ◌≤◌, ◌&&◌, not, min, max, nat_eq, if◌then◌else◌}
+use Rattle.std.specs.Prelude.{ℕ, false, ◌≡◌, ◌≤◌, ◌&&◌, min, max, nat_eq, if◌then◌else◌}
 use Rattle.std.specs.Prelude.{List, [], ◌∷◌, length, Option, Some, None}
 use Rattle.topology.specs.declared.types.TheConstants.{MOST_DEVICES}
-use Rattle.topology.specs.Networks.{Network, lives}
-use Rattle.topology.specs.Changes.{are_linked}
+use Rattle.topology.specs.Networks.{Network}
 use Rattle.envelopes.specs.Envelopes.{MaybeLink, Envelope, IsEnvelope, MayLive, may_live, surely_lives, bounds_in}
 use Rattle.envelopes.specs.Envelopes.{maybe_near}
-use Rattle.envelopes.specs.Edits.{SureEnds, sure_link}
-use Rattle.change_lines.specs.declared.types.Range.{Range}
-use Rattle.change_lines.specs.Possibles.{range}
-use Rattle.change_lines.specs.Changes.{ChangeValue}
-use Rattle.change_envelopes.specs.Hand.{at_hand, leaves, unlinks, some_line}
-use Rattle.change_envelopes.specs.Faults.{MOST_PAIRS}
-use Rattle.change_envelopes.specs.Bounds.{bounds_of_device, weights_of_pair}
-
--- a device is always there where it is in the scene and no line says that it leaves
-abbrev pub stays : Network → List ChangeValue → ℕ → Bool
-stays n cs d = lives n d && not (some_line (leaves d) cs)
-
--- a link is always there where it is in the scene, no line says that it goes, and both devices are always there
-abbrev pub stays_linked : Network → List ChangeValue → ℕ → ℕ → Bool
-stays_linked n cs a b = are_linked n a b && not (some_line (unlinks a b) cs) && stays n cs a && stays n cs b
+use Rattle.envelopes.specs.Edits.{sure_link}
+use Rattle.changes.specs.declared.types.Range.{Range}
+use Rattle.changes.specs.Changes.{range}
+use Rattle.changes.specs.Changes.{ChangeValue}
+use Rattle.changes.specs.Hand.{at_hand}
+use Rattle.changes.specs.declared.types.TheConstants.{MOST_PAIRS}
+use Rattle.change_bounds.specs.Bounds.{stays, stays_linked, bounds_of_device, weights_of_pair}
 
 -- the weights that the link of two devices may have, the lesser first, where it may be there
 abbrev pub weights_in : ℕ → ℕ → List MaybeLink → Option Range

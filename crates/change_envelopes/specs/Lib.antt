@@ -1,6 +1,4 @@
-pub mod Hand
-pub mod Faults
-pub mod Bounds
 pub mod Envelopes
 pub mod Allowed
 pub mod Laws
+pub mod Written

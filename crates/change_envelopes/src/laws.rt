@@ -1,6 +1,6 @@
 //! What the envelope of lines is for.
 
-ghost use Rattle.change_envelopes.specs.Laws.{EndsStay, LinesMayHappen, ScenesLie};
+ghost use Rattle.change_envelopes.specs.Laws.{EndsStay, LinesMayHappen, OneEnvelope, ScenesLie, SomeEnvelope};
 
 /// The scene lies within the envelope of the scene and lines.
 pub fn scenes_lie()
@@ -15,4 +15,14 @@ pub fn ends_stay()
 /// Each edit that a line allows is one that the envelope allows, if no line is refused.
 pub fn lines_may_happen()
     ensures { LinesMayHappen }
+{}
+
+/// A scene and lines have at most one envelope.
+pub fn one_envelope()
+    ensures { OneEnvelope }
+{}
+
+/// They have one, if no line is refused.
+pub fn some_envelope()
+    ensures { SomeEnvelope }
 {}

@@ -6,7 +6,8 @@ use Rattle.fc_values.specs.Types.{Input}
 use Rattle.fc_io.specs.Lines.{lines_of}
 use Rattle.edit_commands.specs.Lines.{words_of}
 use Rattle.edit_commands.proofs.CutLines.{IsCut}
-use Rattle.change_lines.specs.Changes.{ChangeValue, change_of, changes_from, changes_in}
+use Rattle.changes.specs.Changes.{ChangeValue}
+use Rattle.change_lines.specs.Changes.{change_of, changes_from, changes_in}
 
 -- the lines that were read, and the rest of the text, beside the number of the lines before it
 pub record IsReadTo (is : List Input) (text : List ℕ) (number : ℕ) (rest : List ℕ) (lines : List (ℕ × Option ChangeValue)) : Type 0 where

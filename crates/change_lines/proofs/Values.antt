@@ -4,11 +4,11 @@ use Rattle.std.specs.Prelude.{Option, option_map}
 use Rattle.fc_values.specs.Values.{LocalValue}
 use Rattle.edit_commands.specs.EditLines.{with_two}
 use Rattle.edit_commands.specs.Narrow.{narrow}
-use Rattle.change_lines.specs.declared.types.Possible.{Possible}
-use Rattle.change_lines.specs.Possibles.{only, possible_of, possibles_of}
+use Rattle.changes.specs.declared.types.Possible.{Possible}
+use Rattle.change_lines.specs.Possibles.{one_value, possible_of, possibles_of}
 
 -- a value that isn't read says nothing
-pub none_said : (o : Option LocalValue) → None ≡ option_map narrow o → None ≡ option_map only o
+pub none_said : (o : Option LocalValue) → None ≡ option_map narrow o → None ≡ option_map one_value o
 none_said None e = refl
 none_said (Some v) e = absurd cc
 

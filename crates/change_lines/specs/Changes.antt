@@ -1,4 +1,4 @@
--- The lines of changes: what may happen while a network runs, at any time and any number of times.
+-- The lines of changes, and what each says.
 use Rattle.std.specs.Prelude.{ℕ, ◌+◌, if◌then◌else◌, List, [], ◌∷◌, Option, Some, None, option_map, codes}
 use Rattle.std.specs.Str.{bytes_eq}
 use Rattle.fc_values.specs.Types.{Input}
@@ -8,21 +8,10 @@ use Rattle.fc_io.specs.Lines.{lines_of, line_text, is_empty}
 use Rattle.edit_commands.specs.Lines.{words_of}
 use Rattle.edit_commands.specs.Words.{device_of}
 use Rattle.edit_commands.specs.EditLines.{with_two, with_three, input_number}
-use Rattle.change_lines.specs.declared.types.Possible.{Possible}
-use Rattle.change_lines.specs.declared.types.Weights.{Weights}
+use Rattle.changes.specs.Changes.{ChangeValue, SetChange, LinkChange, UnlinkChange, LeaveChange, JoinChange}
 use Rattle.change_lines.specs.declared.lines.ChangeWord.{ChangeWord}
 use Rattle.change_lines.specs.declared.lines.ChangeWord.TheVariants as first
 use Rattle.change_lines.specs.Possibles.{possible_of, possibles_of, weights_of}
-
--- A line: an input of a device is set to one of some values, two devices are linked with one of some weights, the link
--- of two devices goes, a device leaves and comes back, or a device comes that isn't in the scene. An input is named by
--- its number.
-pub data ChangeValue : Type 0 where
-  SetChange : ℕ → ℕ → Possible → ChangeValue
-  LinkChange : ℕ → ℕ → Weights → ChangeValue
-  UnlinkChange : ℕ → ℕ → ChangeValue
-  LeaveChange : ℕ → ChangeValue
-  JoinChange : ℕ → List Possible → ChangeValue
 
 -- ---- the words after the first one of a line
 

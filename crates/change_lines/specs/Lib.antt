@@ -1,3 +1,2 @@
 pub mod Possibles
 pub mod Changes
-pub mod Code

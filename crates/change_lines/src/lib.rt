@@ -3,8 +3,6 @@
 
 mod lines;
 mod texts;
-mod types;
 mod words;
 
 pub use texts::read_changes;
-pub use types::{Change, ChangeLine, Possible, Range, Weights};

@@ -5,10 +5,10 @@ ghost use Rattle.fc_values.specs.Types.{input_of};
 ghost use Rattle.edit_commands.specs.Code.{texts};
 ghost use Rattle.change_lines.specs.Changes.{set_words, link_words, unlink_words, leave_words, join_words};
 ghost use Rattle.change_lines.specs.Changes.{change_word, change_of};
-ghost use Rattle.change_lines.specs.Code.{change_in};
+ghost use Rattle.changes.specs.Code.{change_in};
 
-use crate::types::Change;
 use crate::words::{possible, possibles, weights};
+use changes::Change;
 use edit_commands::{device_number, input_number};
 use fc_values::{InputDecl, Memory, is_name, number};
 use std::alloc::Global;

@@ -4,10 +4,10 @@ ghost use Rattle.std.specs.Prelude.{◌≡◌, ◌<◌, ◌^◌, length, map, op
 ghost use Rattle.fc_values.specs.Types.{input_of};
 ghost use Rattle.edit_commands.specs.Lines.{words_of};
 ghost use Rattle.change_lines.specs.Changes.{change_of, changes_in};
-ghost use Rattle.change_lines.specs.Code.{change_in, line_in};
+ghost use Rattle.changes.specs.Code.{change_in, line_in};
 
 use crate::lines::change;
-use crate::types::{Change, ChangeLine};
+use changes::{Change, ChangeLine};
 use edit_commands::line_words;
 use fc_io::{first_line, line_text};
 use fc_values::{InputDecl, Memory};

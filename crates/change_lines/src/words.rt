@@ -5,10 +5,10 @@ ghost use Rattle.std.specs.List.{prefix_len};
 ghost use Rattle.fc_values.specs.Values.{local_of};
 ghost use Rattle.edit_commands.specs.Code.{texts};
 ghost use Rattle.edit_commands.specs.Values.{value_of};
-ghost use Rattle.change_lines.specs.Possibles.{before_dot, dotted, range_of, range_with, numbers_of, one_number, only};
-ghost use Rattle.change_lines.specs.Possibles.{possible_of, possibles_of, weights_of};
+ghost use Rattle.change_lines.specs.Possibles.{before_dot, dotted, range_of_word, range_with};
+ghost use Rattle.change_lines.specs.Possibles.{numbers_of, one_number, one_value, possible_of, possibles_of, weights_of};
 
-use crate::types::{Possible, Range, Weights};
+use changes::{Possible, Range, Weights};
 use edit_commands::read_value;
 use fc_values::{Local, Memory, number};
 use std::alloc::Global;
@@ -48,7 +48,7 @@ fn dotted(low: &[u8], behind: &[u8]) -> Option<Range>
 
 // The range that a word says.
 fn read_range(word: &[u8]) -> Option<Range>
-    ensures { result ≡ range_of word.now }
+    ensures { result ≡ range_of_word word.now }
 {
     let (low, behind) = word.split_at(before_dot(word));
     dotted(low, behind)
@@ -65,8 +65,8 @@ fn one_number(number: u32) -> Range
 }
 
 // What one value says.
-fn only(value: &Local) -> Possible
-    ensures { result ≡ only (local_of value.now) }
+fn one_value(value: &Local) -> Possible
+    ensures { result ≡ one_value (local_of value.now) }
 {
     match value {
         Local::Int(number) => Possible::Numbers(one_number(*number)),
@@ -77,12 +77,12 @@ fn only(value: &Local) -> Possible
 
 // What a word says that writes a value.
 fn value(alloc: Global, word: &[u8]) -> Result<Option<Possible>, Memory>
-    ensures { IfOk result (λ p. p ≡ option_map only (value_of word.now)) }
+    ensures { IfOk result (λ p. p ≡ option_map one_value (value_of word.now)) }
 {
     let Some(value) = read_value(alloc, word)? else {
         return Ok(None);
     };
-    Ok(Some(only(&value)))
+    Ok(Some(one_value(&value)))
 }
 
 /// The values that a word says an input may have.

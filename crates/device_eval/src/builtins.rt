@@ -42,6 +42,7 @@ pub fn fill_rows(words: &mut Vec<u32>, ty: &Ty, at: usize, rows: usize) -> Resul
 
 /// Puts the value of a node's builtin in place of its arguments, which are the last of the words, from `at` on. Fields
 /// are over so many devices, of which the firing one has the row `own`.
+#[inline(never)]
 pub fn apply_builtin(
     words: &mut Vec<u32>,
     program: &Unfolded,

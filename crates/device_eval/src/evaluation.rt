@@ -26,7 +26,8 @@ pub struct Context<'a> {
     pub inputs: &'a [Local],
 }
 
-/// Evaluates a node: its value behind the words, and its slots in the draft.
+/// Evaluates a node: its value behind the words, and its slots in the draft. Programs may be thousands of nodes deep, so
+/// each kind of node has a function of its own, and a level takes little of the stack.
 #[cycle(eval)]
 pub fn eval(
     alloc: Global,
@@ -74,6 +75,7 @@ pub fn eval(
 }
 
 #[cycle(eval)]
+#[inline(never)]
 fn eval_apply(
     alloc: Global,
     words: &mut Vec<u32>,
@@ -129,6 +131,7 @@ fn eval_kids(
 }
 
 #[cycle(eval)]
+#[inline(never)]
 fn eval_nbr(
     alloc: Global,
     words: &mut Vec<u32>,
@@ -153,6 +156,7 @@ fn eval_nbr(
 }
 
 #[cycle(eval)]
+#[inline(never)]
 fn eval_rep(
     alloc: Global,
     words: &mut Vec<u32>,
@@ -196,6 +200,7 @@ fn eval_rep(
 }
 
 #[cycle(eval)]
+#[inline(never)]
 fn eval_share(
     alloc: Global,
     words: &mut Vec<u32>,
@@ -246,6 +251,7 @@ fn eval_share(
 }
 
 #[cycle(eval)]
+#[inline(never)]
 fn eval_let(
     alloc: Global,
     words: &mut Vec<u32>,
@@ -305,6 +311,7 @@ fn eval_body(
 }
 
 #[cycle(eval)]
+#[inline(never)]
 fn eval_if(
     alloc: Global,
     words: &mut Vec<u32>,
@@ -322,11 +329,15 @@ fn eval_if(
     eval(alloc, words, context, node.kids[0], sight, draft)?;
     let truth = words[at] != 0;
     words.truncate(at);
-    let branch = same_branch(alloc, sight.env, slot, truth)?;
+    // borrowed where it is made: it is the largest thing that a level has on the stack
+    let made = same_branch(alloc, sight.env, slot, truth);
+    let Ok(branch) = &made else {
+        return Err(Memory);
+    };
     let kid = branch_of(&node.kids, truth);
     let taken = Sight {
-        env: &branch,
-        own: own_row(&branch, context.device),
+        env: branch,
+        own: own_row(branch, context.device),
         vars: sight.vars,
     };
     eval(alloc, words, context, kid, &taken, draft)?;

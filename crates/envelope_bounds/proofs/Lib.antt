@@ -2,5 +2,4 @@ mod EditsStay
 mod LookedUp
 mod LogRounds
 mod Exact
-mod Lines
 mod Yes

@@ -8,9 +8,8 @@ use Rattle.firing_core.specs.Rounds.{has_edit, HasRounds}
 use Rattle.net_moves.specs.Moves.{HasRoundsThere}
 use Rattle.envelopes.specs.Envelopes.{Envelope, IsEnvelope, LiesWithin}
 use Rattle.envelopes.specs.Exactly.{exact_envelope}
-use Rattle.settle_rounds.specs.Within.{StaysWithin}
 use Rattle.envelopes.specs.Edits.{SureEnds, AllMayEnter}
-use Rattle.envelope_bounds.specs.Logs.{HasRoundsWithin}
+use Rattle.envelope_bounds.specs.Logs.{HasRoundsWithin, StaysWithin}
 use Rattle.envelopes.specs.Lookups.{LiesByLookups}
 
 -- a log each of whose edits an envelope allows stays within it

@@ -1,4 +1,3 @@
 pub mod Logs
 pub mod Laws
-pub mod Lines
 pub mod Yes

@@ -1,9 +1,13 @@
--- Rounds of logs within an envelope.
+-- Logs that stay within an envelope, and their rounds.
 use Rattle.std.specs.Prelude.{ℕ, List}
 use Rattle.topology.specs.Networks.{Network}
 use Rattle.firing_core.specs.Entries.{EntryValue}
-use Rattle.net_moves.specs.Moves.{CoversAmong, HasRoundsAmong}
-use Rattle.envelopes.specs.Envelopes.{Envelope, ids}
+use Rattle.net_moves.specs.Moves.{CoversAmong, HasRoundsAmong, Stays}
+use Rattle.envelopes.specs.Envelopes.{Envelope, ids, LiesWithin}
+
+-- the network, and the one after each entry of a log, lies within the envelope, and no entry pokes
+abbrev pub StaysWithin : Envelope → Network → List EntryValue → Type 0
+StaysWithin E n log = Stays (LiesWithin E) n log
 
 -- a stretch of a log in which each device of the envelope fires, or isn't there at some moment
 abbrev pub CoversWithin : Envelope → Network → List EntryValue → Type 0

@@ -1,11 +1,9 @@
-//! What envelopes allow, and what lines of bounds within one promise.
+//! What envelopes allow, and what a yes promises on each network within one.
 
 ghost use Rattle.envelope_bounds.specs.Laws.{EditsStayWithin, EnvelopesAreExact, LookupsAgree, RoundsAreWithin};
-ghost use Rattle.envelope_bounds.specs.Lines.{LinesHold, LinesHoldAnyhow};
 ghost use Rattle.envelope_bounds.specs.Yes.{VerdictsRise, YesHoldsWithin};
 
 use converge_laws::yes_stabilises;
-use settle_rounds::{bounds_hold_within, bounds_hold_within_from, starts_hold_within};
 
 /// A log whose edits are all such as the envelope allows stays within it.
 pub fn edits_stay_within()
@@ -27,21 +25,6 @@ pub fn envelopes_are_exact()
 pub fn rounds_are_within()
     ensures { RoundsAreWithin }
 {}
-
-/// From a core, the bounds after so many rounds hold from then on.
-pub fn lines_hold()
-    ensures { LinesHold }
-{
-    bounds_hold_within_from();
-    starts_hold_within();
-}
-
-/// The same from every good core, with the tables from any exports.
-pub fn lines_hold_anyhow()
-    ensures { LinesHoldAnyhow }
-{
-    bounds_hold_within();
-}
 
 /// A yes for some devices is one for fewer devices, with no more rounds.
 pub fn verdicts_rise()

@@ -1,5 +1,5 @@
 -- What an answer promises: that a yes is kept.
-use Rattle.std.specs.Prelude.{ℕ, ◌≡◌, List, Option, Some, None}
+use Rattle.std.specs.Prelude.{ℕ, ◌≡◌, ◌≤◌, List, Option, Some, None}
 use Rattle.command_words.specs.declared.commands.Command.{Command}
 use Rattle.command_words.specs.declared.commands.Command.TheVariants as command
 use Rattle.command_words.specs.declared.commands.Quiet.{Quiet}
@@ -9,10 +9,10 @@ use Rattle.command_words.specs.declared.commands.Work.TheVariants.{Run, Gen}
 use Rattle.fc_inputs.specs.Answers.{AnswerValue}
 use Rattle.fc_inputs.specs.Owing.{OfThree, OfTwo}
 use Rattle.fc_inputs.specs.Sections.{sections_of}
-use Rattle.fc_check.specs.Promises.{CheckPromises, IsChecked}
+use Rattle.fc_check.specs.Promises.{CheckPromises}
 use Rattle.fc_stable.specs.Promises.{SolvesYes}
 use Rattle.fc_replay.specs.Promises.{ReplaysKept}
-use Rattle.fc_trace.specs.Promises.{TracesYes}
+use Rattle.fc_trace.specs.Promises.{TraceKept}
 use Rattle.fc_mail.specs.Promises.{MailPromises}
 use Rattle.fc_run.specs.Promises.{RunKeepsYes}
 use Rattle.fc_gen.specs.Promises.{ScenarioAgrees}
@@ -20,7 +20,8 @@ use Rattle.fc_answers.specs.Answers.{Answers}
 
 -- the statuses of a quiet command's answers that promise something
 abbrev pub IsAnswered : Quiet → ℕ → Type 0
-IsAnswered (Check options) status = IsChecked options.settle status
+IsAnswered (Check options) status = status ≤ 1
+IsAnswered Trace status = status ≤ 1
 IsAnswered quiet status = status ≡ 0
 
 -- what a quiet command promises of an answer with such a status to these sections
@@ -31,7 +32,8 @@ Promises Stable sections answer = OfTwo (λ program network. SolvesYes program n
 Promises Format sections answer = Unit {0}
 Promises (Replay options) sections answer =
     OfThree (λ program network log. ReplaysKept options program network log answer) sections
-Promises Trace sections answer = OfTwo (λ program network. TracesYes program network answer.text) sections
+Promises Trace sections answer =
+    OfTwo (λ program network. TraceKept program network answer.status answer.text) sections
 Promises (Mail options) sections answer = MailPromises options.number sections answer
 
 -- what work promises of an answer with status 0 to these sections

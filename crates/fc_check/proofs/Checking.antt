@@ -1,5 +1,5 @@
 -- What `check` owes.
-use Rattle.std.proofs.Common.{ℕ, ◌≡◌, ◌≤◌, ◌++◌, Bool, false, List, length, refl, ap, ◌∙◌, sym, arith, Option, Some, None}
+use Rattle.std.proofs.Common.{ℕ, ◌≡◌, ◌≤◌, Bool, false, List, length, refl, ap, ◌∙◌, arith, Option, Some, None}
 use Rattle.fc_nodes.specs.Program.{IsProgram, Program, Unfolding, unfolding_of}
 use Rattle.fc_nodes.specs.declared.verdicts.Verdict.{Verdict}
 use Rattle.fc_nodes.specs.declared.verdicts.Verdict.TheVariants as verdict
@@ -13,7 +13,7 @@ use Rattle.settle_rounds.specs.StartTimes.{SettlesFrom, StartTimesHold}
 use Rattle.settle_rounds.specs.Within.{OneStartWithin, StartsHoldWithin}
 use Rattle.net_json.specs.Scenes.{SceneValue}
 use Rattle.report.specs.Facts.{facts_text}
-use Rattle.report.specs.Verdicts.{verdict_text}
+use Rattle.verdict_texts.specs.VerdictTexts.{checked_text, facts_behind}
 use Rattle.command_words.specs.declared.commands.Start.{Start}
 use Rattle.command_words.specs.declared.commands.Start.TheVariants.{Any, Table}
 use Rattle.fc_inputs.specs.Agreement.{Agree}
@@ -23,11 +23,11 @@ use Rattle.fc_inputs.specs.Inputs.{InputOf, ReadsInput}
 use Rattle.fc_inputs.specs.Owing.{HasStatus}
 use Rattle.fc_inputs.specs.Starts.{InputsAreRead, start_of}
 use Rattle.fc_inputs.proofs.Agreeing.{both_plain}
-use Rattle.fc_inputs.proofs.KeptYes.{at_program, has_yes, yes_kept}
-use Rattle.fc_inputs.proofs.Owed.{OwesScenes, plain_status, texts_owe, two_owe, zero_low}
-use Rattle.fc_check.specs.Checks.{ChecksScene, checked_text, facts_behind, verdict_status}
+use Rattle.fc_inputs.proofs.KeptYes.{at_program, yes_kept}
+use Rattle.fc_inputs.proofs.Owed.{OwesScenes, plain_status, texts_owe, two_owe}
+use Rattle.fc_check.specs.Checks.{ChecksScene, verdict_status}
 use Rattle.fc_check.specs.Commands.{Checks, ChecksFrom}
-use Rattle.fc_check.specs.Promises.{CheckOwes, CheckPromises, ChecksYes, IsChecked, SettlesKept, StartKept}
+use Rattle.fc_check.specs.Promises.{CheckOwes, CheckPromises, KeepsYesOnEach, SettlesKept, StartKept, VerdictKept}
 use Rattle.fc_check.specs.Settles.{SettlesScene, StartsFrom, settle_status, settling_of, time_of}
 use Rattle.fc_check.proofs.Settling.{one_scene, some_table}
 
@@ -42,20 +42,28 @@ time_low None = omega arith
 module _ (laws : InputsAreRead) (law : YesStabilises) (one : OneStartWithin) (starts : StartsHoldWithin)
     (hold : SettleTimesHold) (hold_from : StartTimesHold) (facts : Bool) where
   -- ---- what is promised
-  check_by : (program network : List ℕ) (i : InputOf) → ReadsInput program network (Accepted i) → (a : AnswerValue)
-      → ChecksScene facts i.0 i.1 (Accepted a) → a.status ≡ 0 → (v : Verdict)
-      → verdict_of i.0 (length i.1.net.devices) ≡ v → ChecksYes program network a.text
-  check_by program network i reads a e zero (verdict.Yes rounds) said =
+  -- a yes is kept on each network
+  on_each : (program network : List ℕ) (i : InputOf) → ReadsInput program network (Accepted i)
+      → KeepsYesOnEach i.0 (length i.1.net.devices)
+  on_each program network i reads =
+      at_program laws program network i reads (λ U. KeepsYesOnEach U (length i.1.net.devices))
+      (λ P is good K said N net declared many.
+      law P N K is net declared (ap (verdict_of (unfolding_of P)) many ∙ said))
+
+  check_keeps : (program network : List ℕ) (i : InputOf) → ReadsInput program network (Accepted i) → (a : AnswerValue)
+      → ChecksScene facts i.0 i.1 (Accepted a) → VerdictKept program network a.status a.text
+  check_keeps program network i reads a e =
       let n = length i.1.net.devices in
-      let behind = facts_behind facts (verdict_of i.0 n) (facts_text i.0 (ranges_of i.0) (levels_of i.0 n)) in
       record {
-        yes = has_yes laws program network i reads law rounds said;
-        facts = behind;
-        writes = ap (λ j. (answer_of j).text) e ∙ ap (λ v. verdict_text v ++ behind) said;
+        unfolded = i.0;
+        scene = i.1;
+        reads = reads;
+        yes = yes_kept laws program network i reads law;
+        each = on_each program network i reads;
+        ends = ap (λ j. (answer_of j).status) e;
+        facts = facts_behind facts (verdict_of i.0 n) (facts_text i.0 (ranges_of i.0) (levels_of i.0 n));
+        writes = ap (λ j. (answer_of j).text) e;
       }
-  check_by program network i reads a e zero (verdict.No place why) said =
-      let none : 0 ≡ 1 = sym zero ∙ ap (λ j. (answer_of j).status) e ∙ ap verdict_status said in
-      absurd (cc none)
 
   settle_keeps : (program network : List ℕ) (i : InputOf) → ReadsInput program network (Accepted i) → (a : AnswerValue)
       → SettlesScene facts Any i.0 i.1 (Accepted a) → SettlesKept facts program network a.status a.text
@@ -68,6 +76,7 @@ module _ (laws : InputsAreRead) (law : YesStabilises) (one : OneStartWithin) (st
         scene = i.1;
         reads = reads;
         yes = yes_kept laws program network i reads law;
+        each = on_each program network i reads;
         well = at_program laws program network i reads (λ U. SettlesWell U i.1.net)
             (λ P is good. hold P i.1.net is good.net good.declared);
         ends = ap (λ j. (answer_of j).status) settled;
@@ -81,6 +90,7 @@ module _ (laws : InputsAreRead) (law : YesStabilises) (one : OneStartWithin) (st
     scene = i.1;
     reads = reads;
     yes = yes_kept laws program network i reads law;
+    each = on_each program network i reads;
     table = e.table;
     starts = e.starts;
     from = at_program laws program network i reads
@@ -114,31 +124,26 @@ module _ (laws : InputsAreRead) (law : YesStabilises) (one : OneStartWithin) (st
   statuses_from None U s j h = plain_status j _ _ (verdict_low (verdict_of U (length s.net.devices))) h
   statuses_from (Some from) U s j h = plain_status j _ _ (time_low (time_of U s.net h.table)) h.settled
 
-  low_from : (o : Option Start) (status : ℕ) → IsChecked o status → status ≤ 1
-  low_from None = zero_low
-  low_from (Some from) = λ status low. low
-
   keeps_from : (o : Option Start) (program network : List ℕ) (i : InputOf) → ReadsInput program network (Accepted i)
-      → (a : AnswerValue) → ChecksFrom facts o i.0 i.1 (Accepted a) → IsChecked o a.status
+      → (a : AnswerValue) → ChecksFrom facts o i.0 i.1 (Accepted a) → a.status ≤ 1
       → CheckPromises facts o program network a
-  keeps_from None program network i reads a h zero =
-      check_by program network i reads a h zero (verdict_of i.0 (length i.1.net.devices)) refl
+  keeps_from None program network i reads a h low = check_keeps program network i reads a h
   keeps_from (Some Any) program network i reads a h low = settle_keeps program network i reads a h
   keeps_from (Some Table) program network i reads a h low = start_keeps program network i reads a h
 
   pub scenes_owe : (o : Option Start)
-      → OwesScenes false (λ U s j. ChecksFrom facts o U s j) (IsChecked o) (CheckPromises facts o)
+      → OwesScenes false (λ U s j. ChecksFrom facts o U s j) (λ status. status ≤ 1) (CheckPromises facts o)
   scenes_owe o = record {
     some = some_from o;
     one = one_from o;
     statuses = statuses_from o;
-    low = low_from o;
+    low = λ status low. low;
     keeps = keeps_from o;
   }
 
 pub check_owes : InputsAreRead → YesStabilises → OneStartWithin → StartsHoldWithin → SettleTimesHold → StartTimesHold
     → CheckOwes
 check_owes laws law one starts hold hold_from o =
-    two_owe false (Checks o) (IsChecked o.settle) (CheckPromises o.facts o.settle)
-    (texts_owe laws false (λ U s j. ChecksFrom o.facts o.settle U s j) (IsChecked o.settle)
+    two_owe false (Checks o) (λ status. status ≤ 1) (CheckPromises o.facts o.settle)
+    (texts_owe laws false (λ U s j. ChecksFrom o.facts o.settle U s j) (λ status. status ≤ 1)
     (CheckPromises o.facts o.settle) (scenes_owe laws law one starts hold hold_from o.facts o.settle))

@@ -1,4 +1,3 @@
-pub mod LevelCounts
 mod Lines
 mod SameRounds
 mod Settling

@@ -15,10 +15,10 @@ use Rattle.net_json.specs.Scenes.{SceneValue}
 use Rattle.command_words.specs.declared.commands.Start.{Start}
 use Rattle.command_words.specs.declared.commands.Start.TheVariants.{Any, Table}
 use Rattle.report.specs.Settling.{settling_text}
+use Rattle.verdict_texts.specs.VerdictTexts.{checked_text}
 use Rattle.fc_inputs.specs.Answers.{AnswerValue, plain}
 use Rattle.fc_inputs.specs.Causes.{Judged, Accepted}
 use Rattle.fc_inputs.specs.Starts.{start_of}
-use Rattle.fc_check.specs.Checks.{checked_text}
 
 -- each device, rising, with its settle round from a table of bounds and its value then
 abbrev pub settled_devices : Unfolding → Network → BoundTable → List (ℕ × Option (ℕ × LocalValue))

@@ -9,7 +9,8 @@ ghost use Rattle.fc_inputs.specs.Causes.{Accepted, Refused};
 ghost use Rattle.fc_inputs.specs.Code.{value_of};
 ghost use Rattle.fc_inputs.specs.Sections.{AreWithin, WithTwo};
 ghost use Rattle.fc_inputs.specs.Stops.{StopsFor};
-ghost use Rattle.fc_check.specs.Checks.{checked_text, verdict_status};
+ghost use Rattle.verdict_texts.specs.VerdictTexts.{checked_text};
+ghost use Rattle.fc_check.specs.Checks.{verdict_status};
 ghost use Rattle.fc_check.specs.Commands.{Checks, ChecksFrom};
 
 use crate::settles::{settle_any, settle_scene};
@@ -18,36 +19,9 @@ use fc_inputs::{Answer, Stop, read_input, two_sections};
 use fc_nodes::{Unfolded, Verdict};
 use fc_values::Memory;
 use net_json::Scene;
-use report::{facts as write_facts, verdict_line};
-use round_bound::Analysis;
 use std::alloc::Global;
 use topology::Network;
-
-/// The verdict on a program for so many devices, with its text: after a yes the facts of each node, where they are
-/// asked for.
-pub(crate) fn verdict_text(
-    alloc: Global,
-    facts: bool,
-    program: &Unfolded,
-    devices: u32,
-) -> Result<(Verdict, Vec<u8>), Memory>
-    requires { 1 ≤ devices }
-    ensures verdict { IfOk result (λ r. r.0 ≡ verdict_of (unfolding_of program.now) devices) }
-    ensures text { IfOk result (λ r. r.1.items ≡ checked_text facts (unfolding_of program.now) devices) }
-{
-    let analysis = Analysis::new(alloc, program)?;
-    let (verdict, levels) = analysis.verdict_with_levels(alloc, devices)?;
-    let mut text = verdict_line(alloc, &verdict)?;
-    // Its clause: the nodes are a program, and so each has a level.
-    let _size = program.size();
-    match verdict {
-        Verdict::Yes(_) if facts => {
-            write_facts(alloc, &mut text, program, analysis.ranges(), &levels)?
-        }
-        _ => {}
-    }
-    Ok((verdict, text))
-}
+use verdict_texts::verdict_text;
 
 // What is written of a program and a network without settle rounds.
 fn verdict_answer(

@@ -15,7 +15,6 @@ ghost use Rattle.command_words.specs.declared.commands.Start.TheVariants.{Table}
 ghost use Rattle.fc_check.specs.Code.{settled_answer};
 ghost use Rattle.fc_check.specs.Settles.{SettlesScene, settle_status, settling_of};
 
-use crate::checks::verdict_text;
 use fc_inputs::{Answer, start};
 use fc_nodes::{Unfolded, Verdict};
 use fc_values::{Local, Memory};
@@ -25,6 +24,7 @@ use settle_rounds::{Settled, settle, settle_cap, settle_from, settle_time};
 use std::alloc::Global;
 use std::sync::Arc;
 use topology::Network;
+use verdict_texts::verdict_text;
 
 // A settle round and its value, to be shown.
 fn shown(settled: &Option<Settled>) -> Option<(u32, &Local)>

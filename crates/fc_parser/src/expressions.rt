@@ -1,11 +1,12 @@
 //! Reading an expression.
 
-ghost use Rattle.std.specs.Prelude.{◌≡◌, ◌<◌, ◌≤◌, ◌^◌, length, IfOk};
+ghost use Rattle.std.specs.Prelude.{◌≡◌, ◌+◌, ◌<◌, ◌≤◌, ◌^◌, length, IfOk};
 ghost use Rattle.fc_lexer.specs.Kinds.{tokens_of};
 ghost use Rattle.fc_syntax.specs.Terms.{term_of};
 ghost use Rattle.fc_parser.specs.Programs.{kinds};
 ghost use Rattle.fc_parser.specs.Expressions.{GivesArguments, GivesBinding, GivesExpression, arguments_with};
-ghost use Rattle.fc_parser.specs.Expressions.{atom_with, binding_with, bracketed_with, builtin_with, choice_with};
+ghost use Rattle.fc_parser.specs.Expressions.{atom_with, binding_with, bracketed_with, builtin_with, chain_with};
+ghost use Rattle.fc_parser.specs.Expressions.{choice_with, named_with};
 ghost use Rattle.fc_parser.specs.Expressions.{enclosed_with, expression_at, expression_read, fold_with};
 ghost use Rattle.fc_parser.specs.Expressions.{kinds_of, nested, operations_with, unary_with, word_with};
 
@@ -67,6 +68,7 @@ fn expression_within<'a>(
 // `NAME = expr in`
 #[cycle(expressions)]
 #[tactic(auto, unfolding(crate::specs::Expressions::binding_with))]
+#[inline(never)]
 fn binding<'a>(
     alloc: Global,
     second: bool,
@@ -83,6 +85,7 @@ fn binding<'a>(
 }
 
 // A body behind these bindings.
+#[inline(never)]
 fn bind_all(alloc: Global, mut bindings: Vec<(Name, Expr)>, body: Expr) -> Result<Expr, Memory>
     ensures { IfOk result (λ e. term_of e ≡ nested bindings.items (term_of body)) }
 {
@@ -109,12 +112,35 @@ fn operations<'a>(
     if strength == NOT {
         return unary(alloc, second, budget, tokens);
     }
-    let (mut left, mut rest) = operations(alloc, second, budget, strength + 1, tokens)?;
-    let mut turns = if strength == COMPARISON {
+    let (first, rest) = operations(alloc, second, budget, strength + 1, tokens)?;
+    let turns = if strength == COMPARISON {
         1
     } else {
         rest.len()
     };
+    chain(alloc, second, budget, strength, turns, first, rest)
+}
+
+// At most so many operators of a strength, each with its right operand, behind what stands left of them.
+#[cycle(expressions)]
+#[inline(never)]
+fn chain<'a>(
+    alloc: Global,
+    second: bool,
+    budget: usize,
+    strength: u32,
+    most: usize,
+    first: Expr,
+    tokens: &'a [Token],
+) -> Result<(Expr, &'a [Token]), Refused>
+    requires { strength ≤ 5 }
+    ensures { GivesExpression result
+        (chain_with strength (operations_with (atom_with second (expression_at second budget)) (strength + 1)) most
+        (term_of first) (kinds_of tokens.now)) }
+{
+    let mut left = first;
+    let mut rest = tokens;
+    let mut turns = most;
     'turns: while turns > 0 {
         let Some((builtin, after)) = operator(rest, strength) else {
             return Ok((left, rest));
@@ -130,6 +156,7 @@ fn operations<'a>(
 // `{ not } atom`
 #[cycle(expressions)]
 #[tactic(auto, unfolding(crate::specs::Expressions::unary_with))]
+#[inline(never)]
 fn unary<'a>(
     alloc: Global,
     second: bool,
@@ -146,7 +173,8 @@ fn unary<'a>(
 
 // An atom.
 #[cycle(expressions)]
-#[tactic(auto, unfolding(crate::specs::Expressions::atom_with, crate::specs::Expressions::named_with))]
+#[tactic(auto, unfolding(crate::specs::Expressions::atom_with))]
+#[inline(never)]
 fn atom<'a>(
     alloc: Global,
     second: bool,
@@ -161,21 +189,39 @@ fn atom<'a>(
     match &first.kind {
         Kind::Number(n) if *n <= GREATEST => Ok((Expr::Int(*n), rest)),
         Kind::Word(word) => word_form(alloc, second, budget, *word, rest),
-        Kind::Name(name) => match mark(rest, Mark::OpenRound) {
-            Some(rest) => {
-                let (args, rest) = arguments(alloc, second, budget, rest)?;
-                Ok((Expr::Call(copy_name(alloc, name)?, args), rest))
-            }
-            None => Ok((Expr::Var(copy_name(alloc, name)?), rest)),
-        },
+        Kind::Name(name) => named(alloc, second, budget, name, rest),
         Kind::Mark(Mark::OpenRound) => bracketed(alloc, second, budget, rest),
         _ => Err(Refused::Outside),
+    }
+}
+
+// A call of this name, where brackets follow it, or else the variable.
+#[cycle(expressions)]
+#[tactic(auto, unfolding(crate::specs::Expressions::named_with))]
+#[inline(never)]
+fn named<'a>(
+    alloc: Global,
+    second: bool,
+    budget: usize,
+    name: &Name,
+    tokens: &'a [Token],
+) -> Result<(Expr, &'a [Token]), Refused>
+    ensures { GivesExpression result
+        (named_with (expression_at second budget) name.now.text.items (kinds_of tokens.now)) }
+{
+    match mark(tokens, Mark::OpenRound) {
+        Some(rest) => {
+            let (args, rest) = arguments(alloc, second, budget, rest)?;
+            Ok((Expr::Call(copy_name(alloc, name)?, args), rest))
+        }
+        None => Ok((Expr::Var(copy_name(alloc, name)?), tokens)),
     }
 }
 
 // The form that begins with this word.
 #[cycle(expressions)]
 #[tactic(auto, unfolding(crate::specs::Expressions::word_with))]
+#[inline(never)]
 fn word_form<'a>(
     alloc: Global,
     second: bool,
@@ -215,6 +261,7 @@ fn word_form<'a>(
 // A builtin, where the word names one, and its arguments.
 #[cycle(expressions)]
 #[tactic(auto, unfolding(crate::specs::Expressions::builtin_with))]
+#[inline(never)]
 fn builtin<'a>(
     alloc: Global,
     second: bool,
@@ -241,6 +288,7 @@ fn builtin<'a>(
 
 // `[ expr { , expr } ] )`
 #[cycle(expressions)]
+#[inline(never)]
 fn arguments<'a>(
     alloc: Global,
     second: bool,
@@ -272,6 +320,7 @@ fn arguments<'a>(
 // `( expr ) { ( NAME ) => expr }`, of `share` or `rep`.
 #[cycle(expressions)]
 #[tactic(auto, unfolding(crate::specs::Expressions::fold_with))]
+#[inline(never)]
 fn fold<'a>(
     alloc: Global,
     second: bool,
@@ -305,6 +354,7 @@ fn fold<'a>(
 // `( expr ) { expr } { expr }`
 #[cycle(expressions)]
 #[tactic(auto, unfolding(crate::specs::Expressions::choice_with))]
+#[inline(never)]
 fn choice<'a>(
     alloc: Global,
     second: bool,
@@ -343,6 +393,7 @@ fn choice<'a>(
 // `expr )` or `expr , expr )`
 #[cycle(expressions)]
 #[tactic(auto, unfolding(crate::specs::Expressions::bracketed_with))]
+#[inline(never)]
 fn bracketed<'a>(
     alloc: Global,
     second: bool,
@@ -365,6 +416,7 @@ fn bracketed<'a>(
 // An expression between two marks.
 #[cycle(expressions)]
 #[tactic(auto, unfolding(crate::specs::Expressions::enclosed_with))]
+#[inline(never)]
 fn enclosed<'a>(
     alloc: Global,
     second: bool,

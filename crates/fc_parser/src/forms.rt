@@ -125,6 +125,7 @@ pub fn binder(tokens: &[Token]) -> Result<(&Name, &[Token]), Refused>
 }
 
 /// How many `not` stand in front, and what follows them.
+#[inline(never)]
 pub fn nots(tokens: &[Token]) -> (usize, &[Token])
     ensures many { result.0 ≡ count_nots (kinds_of tokens.now) }
     ensures rest { kinds_of result.1.now ≡ after_nots (kinds_of tokens.now) }
@@ -156,6 +157,7 @@ fn builtin_between(kind: &Kind) -> Option<Builtin>
 
 /// The operator of this strength that stands in front, if one does, and what follows it.
 #[tactic(auto, unfolding(crate::specs::Expressions::operator_read))]
+#[inline(never)]
 pub fn operator(tokens: &[Token], wanted: u32) -> Option<(Builtin, &[Token])>
     ensures { GivesOperator result (operator_read wanted (kinds_of tokens.now)) }
 {
@@ -211,6 +213,7 @@ pub fn arity(builtin: Builtin) -> usize
 }
 
 /// A copy of a name.
+#[inline(never)]
 pub fn copy_name(alloc: Global, name: &Name) -> Result<Name, Memory>
     ensures { IfOk result (λ copy. copy.text.items ≡ name.now.text.items) }
 {
@@ -220,6 +223,7 @@ pub fn copy_name(alloc: Global, name: &Name) -> Result<Name, Memory>
 }
 
 /// A builtin of two operands.
+#[inline(never)]
 pub fn apply_two(alloc: Global, builtin: Builtin, left: Expr, right: Expr) -> Result<Expr, Memory>
     ensures { IfOk result (λ e. term_of e ≡ ApplyTerm builtin (two (term_of left) (term_of right))) }
 {
@@ -230,6 +234,7 @@ pub fn apply_two(alloc: Global, builtin: Builtin, left: Expr, right: Expr) -> Re
 }
 
 /// An operand with `many` times `not` before it.
+#[inline(never)]
 pub fn negate(alloc: Global, operand: Expr, many: usize) -> Result<Expr, Memory>
     ensures { IfOk result (λ e. term_of e ≡ negated many (term_of operand)) }
 {

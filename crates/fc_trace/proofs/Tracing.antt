@@ -1,5 +1,5 @@
 -- What `trace` owes.
-use Rattle.std.proofs.Common.{ℕ, ◌≡◌, ◌≤◌, false, List, ◌++◌, length, refl, ap, ◌∙◌, sym, subst, arith, Option, Some, None}
+use Rattle.std.proofs.Common.{ℕ, ◌≡◌, ◌≤◌, false, List, [], ◌++◌, append-nil, length, refl, ap, ◌∙◌, sym, subst, arith, Option, Some, None}
 use Rattle.std.specs.Prelude.{codes}
 use Rattle.fc_values.specs.Values.{LocalValue}
 use Rattle.fc_nodes.specs.Program.{IsProgram, Program, Unfolding, unfolding_of}
@@ -21,12 +21,12 @@ use Rattle.fc_inputs.specs.Agreement.{Agree}
 use Rattle.fc_inputs.specs.Answers.{AnswerValue, plain}
 use Rattle.fc_inputs.specs.Causes.{Judged, Accepted, answer_of}
 use Rattle.fc_inputs.specs.Inputs.{InputOf, ReadsInput}
-use Rattle.fc_inputs.specs.Owing.{HasStatus, IsZero}
+use Rattle.fc_inputs.specs.Owing.{HasStatus}
 use Rattle.fc_inputs.specs.Starts.{InputsAreRead, start_of}
 use Rattle.fc_inputs.proofs.Agreeing.{both_plain}
-use Rattle.fc_inputs.proofs.KeptYes.{at_program, has_yes}
-use Rattle.fc_inputs.proofs.Owed.{plain_status, texts_owe, two_owe, zero_low}
-use Rattle.fc_trace.specs.Promises.{TraceOwes, TracesYes}
+use Rattle.fc_inputs.proofs.KeptYes.{at_program, has_yes, yes_kept}
+use Rattle.fc_inputs.proofs.Owed.{plain_status, texts_owe, two_owe}
+use Rattle.fc_trace.specs.Promises.{TraceKept, TraceOwes, TracesYes}
 use Rattle.fc_trace.specs.Texts.{walks_text}
 use Rattle.fc_trace.specs.Traces.{WritesWalks, TracedBy, TracesScene, Traces}
 use Rattle.fc_trace.proofs.LineValues.{traced_values}
@@ -133,16 +133,37 @@ module _ (laws : InputsAreRead) (law : YesStabilises) (least : SolutionsAreLeast
   keeps_by a e zero (verdict.No place why) said o form h =
       none a e.answer e.is (ap (λ (x : AnswerValue). x.status) h) zero
 
+  -- the line of the verdict, and what stands behind it
+  line_of : (v : Verdict) (o : Option WalkTerms) (U : Unfolding) (N : Network) (b : AnswerValue) → TracedBy v o U N b
+      → (behind : List ℕ) × (b.text ≡ verdict_text v ++ behind)
+  line_of (verdict.Yes rounds) None U N b h = (codes "no walks\n", ap (λ (x : AnswerValue). x.text) h)
+  line_of (verdict.Yes rounds) (Some w) U N b h = (walks_text h.claim, ap (λ (x : AnswerValue). x.text) h.is)
+  line_of (verdict.No place why) o U N b h =
+      ([], ap (λ (x : AnswerValue). x.text) h ∙ sym (append-nil (verdict_text (verdict.No place why))))
+
+  pub trace_keeps : (a : AnswerValue) → TracesScene i.0 i.1 (Accepted a) → TraceKept program network a.status a.text
+  trace_keeps a e =
+      let line = line_of (verdict_of i.0 (length i.1.net.devices)) (walk_terms i.0) i.0 i.1.net e.answer e.writes in
+      record {
+        unfolded = i.0;
+        scene = i.1;
+        reads = reads;
+        yes = yes_kept laws program network i reads law;
+        behind = line.0;
+        writes = ap (λ j. (answer_of j).text) e.is ∙ line.1;
+        walks = λ zero.
+            keeps_by a e zero (verdict_of i.0 (length i.1.net.devices)) refl (walk_terms i.0) refl e.writes;
+      }
+
 pub trace_owes : InputsAreRead → YesStabilises → FormsHaveCosts → OneCosts → SolutionsAreLeast → OneLeastCost → OneTrace
     → SomeTrace → TraceOwes
 trace_owes laws law forms costs least one trace some =
-    two_owe false Traces IsZero (λ program network a. TracesYes program network a.text)
-    (texts_owe laws false TracesScene IsZero (λ program network a. TracesYes program network a.text) (record {
+    two_owe false Traces (λ status. status ≤ 1) (λ program network a. TraceKept program network a.status a.text)
+    (texts_owe laws false TracesScene (λ status. status ≤ 1)
+    (λ program network a. TraceKept program network a.status a.text) (record {
       some = some_scene forms some;
       one = one_scene costs trace;
       statuses = status_of_scene;
-      low = zero_low;
-      keeps = λ program network i reads a e zero.
-          keeps_by laws law least one program network i reads a e zero (verdict_of i.0 (length i.1.net.devices)) refl
-          (walk_terms i.0) refl e.writes;
+      low = λ status low. low;
+      keeps = λ program network i reads a e low. trace_keeps laws law least one program network i reads a e;
     }))

@@ -1,17 +1,22 @@
 -- What `trace` promises.
-use Rattle.std.specs.Prelude.{ℕ, false, ◌≡◌, ◌++◌, List}
+use Rattle.std.specs.Prelude.{ℕ, false, ◌≡◌, ◌≤◌, ◌++◌, List, length}
 use Rattle.std.specs.List.{All}
 use Rattle.fc_values.specs.Values.{IntValue}
+use Rattle.fc_nodes.specs.Program.{Unfolding}
 use Rattle.fc_nodes.specs.declared.verdicts.Verdict.TheVariants as verdict
 use Rattle.topology.specs.Networks.{Lives}
+use Rattle.fragment_check.specs.Verdicts.{verdict_of}
+use Rattle.net_json.specs.Scenes.{SceneValue}
 use Rattle.walks.specs.Walks.{AreTraced, CostsValue, EvidenceValue}
 use Rattle.walk_form.specs.Costs.{AreCostsOf}
 use Rattle.walk_form.specs.Laws.{IsLeastAt}
 use Rattle.report.specs.Verdicts.{verdict_text}
 use Rattle.fc_values.specs.declared.limits.TheConstants.{MOST_BYTES}
-use Rattle.fc_inputs.specs.Owing.{IsZero, OfTwo, Owes}
+use Rattle.fc_inputs.specs.Causes.{Accepted}
+use Rattle.fc_inputs.specs.Inputs.{ReadsInput}
+use Rattle.fc_inputs.specs.Owing.{OfTwo, Owes}
 use Rattle.fc_inputs.specs.Sections.{AreWithin, WithTwo}
-use Rattle.fc_inputs.specs.Yes.{HasYes}
+use Rattle.fc_inputs.specs.Yes.{HasYes, KeepsYes}
 use Rattle.fc_trace.specs.Texts.{walks_text}
 use Rattle.fc_trace.specs.Traces.{Traces}
 
@@ -28,8 +33,20 @@ pub record TracesYes (program network text : List ℕ) : Type 0 where
   pub values : All (λ (e : EvidenceValue). yes.stabilises.one.field e.device ≡ IntValue e.value) claim
   pub writes : text ≡ verdict_text (verdict.Yes yes.rounds) ++ walks_text claim
 
--- `trace` owes two sections an answer
+-- `trace` writes the verdict's line. A yes is kept, also where the program has no walk form; and where the status is 0,
+-- what stands behind the line is the walks
+pub record TraceKept (program network : List ℕ) (status : ℕ) (text : List ℕ) : Type 0 where
+  pub unfolded : Unfolding
+  pub scene : SceneValue
+  pub reads : ReadsInput program network (Accepted (unfolded, scene))
+  pub yes : KeepsYes unfolded scene.net
+  pub behind : List ℕ
+  pub writes : text ≡ verdict_text (verdict_of unfolded (length scene.net.devices)) ++ behind
+  pub walks : status ≡ 0 → TracesYes program network text
+
+-- `trace` owes two sections an answer, and what it promises is kept also with status 1: behind a no, and above `no
+-- walks`
 abbrev pub TraceOwes : Type 0
 TraceOwes =
-    Owes false (AreWithin MOST_BYTES) (λ sections j. WithTwo Traces sections j) IsZero
-    (λ sections answer. OfTwo (λ program network. TracesYes program network answer.text) sections)
+    Owes false (AreWithin MOST_BYTES) (λ sections j. WithTwo Traces sections j) (λ status. status ≤ 1)
+    (λ sections answer. OfTwo (λ program network. TraceKept program network answer.status answer.text) sections)

@@ -15,6 +15,7 @@ use fc_values::{Builtin, LocalTy, Ty, inner};
 use std::alloc::Global;
 
 /// The type of a builtin's value, from the types of its arguments.
+#[inline(never)]
 pub fn builtin_type(alloc: Global, builtin: Builtin, args: &[Ty]) -> Result<Ty, Refusal>
     ensures { Gives result (judge_builtin builtin (map type_of args.now)) }
 {

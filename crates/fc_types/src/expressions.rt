@@ -2,7 +2,7 @@
 
 ghost use Rattle.std.specs.Prelude.{◌≡◌, IfOk, is_some, map, nat_le};
 ghost use Rattle.fc_syntax.specs.Terms.{ApplyTerm, CallTerm, IfTerm, LetTerm, NbrTerm, RepTerm, ShareTerm};
-ghost use Rattle.fc_syntax.specs.Terms.{parameter_of, term_of, terms};
+ghost use Rattle.fc_syntax.specs.Terms.{MoreTerms, NoTerms, parameter_of, term_of, terms};
 ghost use Rattle.fc_values.specs.Types.{type_of};
 ghost use Rattle.fc_types.specs.Before.{function_named, input_named, type_in};
 ghost use Rattle.fc_types.specs.Faults.{shared_type as shared};
@@ -40,7 +40,10 @@ pub fn judge(
         Expr::Uid => Ok(Ty::Local(LocalTy::Int)),
         Expr::NbrLink => Ok(Ty::Field(LocalTy::Int)),
         Expr::Sense(name) => sense_type(&*known, name),
-        Expr::Apply(builtin, args) => judge_apply(alloc, &*known, &*scope, *builtin, args),
+        Expr::Apply(builtin, args) => match args.as_slice() {
+            [arg] => judge_one(alloc, &*known, &*scope, *builtin, arg),
+            args => judge_apply(alloc, &*known, &*scope, *builtin, args),
+        },
         Expr::Nbr(inner) => judge_nbr(alloc, &*known, &*scope, inner),
         Expr::Rep(first, name, body) => judge_rep(alloc, &*known, &*scope, first, &*name, body),
         Expr::Share(first, name, body) => judge_share(alloc, &*known, &*scope, first, &*name, body),
@@ -50,6 +53,22 @@ pub fn judge(
         Expr::Let(name, bound, body) => judge_let(alloc, &*known, &*scope, &*name, bound, body),
         Expr::Call(name, args) => judge_call(alloc, &*known, &*scope, &*name, args),
     }
+}
+
+#[cycle(judge)]
+#[inline(never)]
+fn judge_one(
+    alloc: Global,
+    known: &Known<'_>,
+    scope: &Scope<'_>,
+    builtin: Builtin,
+    arg: &Expr,
+) -> Result<Ty, Refusal>
+    ensures { Gives result (judgement (known_of known.now) (scope_of scope.now)
+        (ApplyTerm builtin (MoreTerms (term_of arg.now) NoTerms))) }
+{
+    let types = [judge(alloc, &*known, &*scope, &*arg)?];
+    builtin_type(alloc, builtin, &types)
 }
 
 #[cycle(judge)]

@@ -9,13 +9,13 @@ use Rattle.value_bounds.specs.References.{local_bound_in}
 use Rattle.bound_firing.specs.declared.firing.ExportBound.{ExportBound as FlatBound}
 use Rattle.bound_firing.specs.Exports.{ExportBound}
 use Rattle.envelopes.specs.Envelopes.{Envelope, ids, MayLive, surely_lives}
-use Rattle.bound_rounds.specs.Rounds.{BoundTable, rounds_within}
+use Rattle.bound_rounds.specs.Rounds.{BoundTable, rounds_within, HasBound}
 use Rattle.bound_rounds.specs.Tables.{Stand, device_at}
 use Rattle.bound_rounds.proofs.Standing.{stand_at, many_numbers}
 use Rattle.bound_rounds.proofs.Rounding.{at_lives}
 use Rattle.last_bounds.specs.declared.changes.Change.{Change}
 use Rattle.last_bounds.specs.declared.lasts.LastBound.{LastBound as FlatLast}
-use Rattle.last_bounds.specs.LastBounds.{LastBound, EndsAfter, HasBound, HasBoundFirst, IsLastBound, AreLastBounds}
+use Rattle.last_bounds.specs.LastBounds.{LastBound, EndsAfter, HasBoundFirst, IsLastBound, AreLastBounds}
 use Rattle.last_bounds.specs.References.{ChangeValue, IsFirst, EachIs, InTurn, FoundBy, AreChanges, HasEnded, IsMade}
 use Rattle.last_bounds.specs.References.{AreMade, changes_in, last_bound_in}
 
@@ -77,7 +77,7 @@ module _ (U : Unfolding) (E : Envelope) (start : BoundTable) where
       }
 
   -- in the last table each device that is always there has its export for sure
-  last_there : (cap n d : ℕ) → 1 ≤ cap → MayLive E d → EndsAfter U E start cap n
+  pub last_there : (cap n d : ℕ) → 1 ≤ cap → MayLive E d → EndsAfter U E start cap n
       → HasBound U E start n d (rounds_within U E start n d).value
   last_there cap n d c m e = record { is = refl; there = by_sure (surely_lives E d) refl n e }
     where

@@ -1,3 +1,5 @@
 mod Noting
 mod Making
 mod Ending
+mod OneList
+mod SomeList

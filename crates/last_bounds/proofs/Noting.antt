@@ -12,11 +12,10 @@ use Rattle.value_bounds.specs.References.{local_bound_in}
 use Rattle.bound_firing.specs.declared.firing.ExportBound.{ExportBound as FlatBound}
 use Rattle.bound_firing.specs.Exports.{ExportBound}
 use Rattle.envelopes.specs.Envelopes.{Envelope, surely_lives}
-use Rattle.bound_rounds.specs.Rounds.{BoundTable, rounds_within}
+use Rattle.bound_rounds.specs.Rounds.{BoundTable, rounds_within, HasBound}
 use Rattle.bound_rounds.specs.Tables.{Stand, device_at}
 use Rattle.bound_rounds.proofs.Standing.{stand_at}
 use Rattle.last_bounds.specs.declared.changes.Change.{Change}
-use Rattle.last_bounds.specs.LastBounds.{HasBound}
 use Rattle.last_bounds.specs.References.{ChangeValue, change_in, changes_in, NoneNoted, SomeTo, IsNoted, known, added}
 use Rattle.last_bounds.specs.References.{IsNotedIf, AreNoted, EachIs, InTurn, FoundBy, AreChanges, AllChanges}
 

@@ -1,23 +1,17 @@
 -- Last bounds within an envelope: with which table rounds end, and after how many a device has the bound that it has
 -- there.
-use Rattle.std.specs.Prelude.{ℕ, Bool, true, false, ◌≡◌, ◌<◌, ◌≤◌, ◌⊎◌, List, map, not, All}
+use Rattle.std.specs.Prelude.{ℕ, Bool, ◌≡◌, ◌<◌, ◌≤◌, List, map, not, All}
 use Rattle.fc_nodes.specs.Program.{Unfolding}
 use Rattle.value_bounds.specs.BoundValues.{BoundValue}
 use Rattle.envelopes.specs.Envelopes.{Envelope, ids, surely_lives}
 use Rattle.bound_rounds.specs.declared.rounds.RoundKind.TheVariants as kind
-use Rattle.bound_rounds.specs.Rounds.{BoundTable, rounds_within, IsFixedWithin}
+use Rattle.bound_rounds.specs.Rounds.{BoundTable, rounds_within, HasBound, IsFixedWithin}
 
 -- the last table is the one after n rounds: the first that one round more leaves as it is, or that at the cap
 pub record EndsAfter (U : Unfolding) (E : Envelope) (start : BoundTable) (cap n : ℕ) : Type 0 where
   pub within : n ≤ cap
   pub fixed : n < cap → IsFixedWithin kind.Firing U E (rounds_within U E start n)
   pub first : (i : ℕ) → i < n → IsFixedWithin kind.Firing U E (rounds_within U E start i) → ⊥
-
--- the bound of a device's value in the table after r rounds, where the export is there for sure or the device may be
--- away
-pub record HasBound (U : Unfolding) (E : Envelope) (start : BoundTable) (r d : ℕ) (b : BoundValue) : Type 0 where
-  pub is : (rounds_within U E start r d).value ≡ b
-  pub there : ((rounds_within U E start r d).sure ≡ true) ⊎ (surely_lives E d ≡ false)
 
 -- r is the least number of rounds after which it is
 pub record HasBoundFirst (U : Unfolding) (E : Envelope) (start : BoundTable) (r d : ℕ) (b : BoundValue) : Type 0 where

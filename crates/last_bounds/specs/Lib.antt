@@ -1,2 +1,3 @@
 pub mod LastBounds
 pub mod References
+pub mod Laws

@@ -9,11 +9,11 @@ use Rattle.value_bounds.specs.BoundValues.{BoundValue}
 use Rattle.value_bounds.specs.References.{local_bound_in}
 use Rattle.bound_firing.specs.declared.firing.ExportBound.{ExportBound as FlatBound}
 use Rattle.envelopes.specs.Envelopes.{Envelope, surely_lives}
-use Rattle.bound_rounds.specs.Rounds.{BoundTable, rounds_within}
+use Rattle.bound_rounds.specs.Rounds.{BoundTable, rounds_within, HasBound}
 use Rattle.bound_rounds.specs.Tables.{Stand, device_at}
 use Rattle.last_bounds.specs.declared.changes.Change.{Change}
 use Rattle.last_bounds.specs.declared.lasts.LastBound.{LastBound as FlatLast}
-use Rattle.last_bounds.specs.LastBounds.{LastBound, EndsAfter, HasBound}
+use Rattle.last_bounds.specs.LastBounds.{LastBound, EndsAfter}
 
 abbrev pub last_bound_in : FlatLast → LastBound
 last_bound_in l = record {

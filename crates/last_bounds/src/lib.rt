@@ -5,5 +5,7 @@
 mod changes;
 mod ends;
 mod lasts;
+mod laws;
 
 pub use lasts::{LastBound, last_bounds};
+pub use laws::{one_list, some_list};

@@ -14,6 +14,7 @@ use alignment::NearRef;
 use fc_values::Memory;
 
 /// Adds the weights of the links, and the least weight at the device itself.
+#[inline(never)]
 pub fn push_links(
     words: &mut Vec<u32>,
     sight: &Sight<'_, '_>,

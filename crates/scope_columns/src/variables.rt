@@ -17,6 +17,7 @@ use std::alloc::Global;
 use value_columns::{choose_rows, width};
 
 /// Adds the value of a variable, restricted to the device and the aligned neighbours.
+#[inline(never)]
 pub fn push_variable(
     alloc: Global,
     words: &mut Vec<u32>,

@@ -10,5 +10,6 @@ mod MailRounds
 mod Times
 mod Growing
 mod StartTables
+mod Lines
 mod Settles
 mod States

@@ -10,9 +10,10 @@ use Rattle.bound_firing.specs.Exports.{ExportBound}
 use Rattle.envelopes.specs.Envelopes.{LiesWithin}
 use Rattle.envelopes.specs.Exactly.{exact_envelope}
 use Rattle.envelopes.proofs.Exact.{exact_is, exact_within, exact_may_live}
+use Rattle.envelope_bounds.specs.Logs.{StaysWithin}
 use Rattle.bound_rounds.specs.Rounds.{rounds_from}
 use Rattle.settle_rounds.specs.Rounds.{any_table, BoundsReach}
-use Rattle.settle_rounds.specs.Within.{MaybeLies, StaysWithin, StandsIn, RoundsWithin, BoundsHoldWithinFrom}
+use Rattle.settle_rounds.specs.Within.{MaybeLies, StandsIn, RoundsWithin, BoundsHoldWithinFrom}
 use Rattle.settle_rounds.specs.Starts.{RoundsFrom, BoundsHoldFrom, BoundsReachFrom}
 use Rattle.settle_rounds.proofs.HoldWithin.{any_closed_within, any_holds_within}
 use Rattle.settle_rounds.proofs.Rising.{has_value}

@@ -1,5 +1,6 @@
 pub mod Rounds
 pub mod Within
+pub mod Lines
 pub mod Starts
 pub mod Settling
 pub mod Mail

@@ -14,7 +14,8 @@ use Rattle.bound_firing.specs.Firing.{bound_of}
 use Rattle.export_bounds.specs.Exports.{exact_export, either_export}
 use Rattle.envelopes.specs.Envelopes.{Envelope, MayLive, surely_lives, IsEnvelope, LiesWithin}
 use Rattle.envelopes.specs.Exactly.{exact_envelope}
-use Rattle.net_moves.specs.Moves.{Stays, HasRoundsThere}
+use Rattle.net_moves.specs.Moves.{HasRoundsThere}
+use Rattle.envelope_bounds.specs.Logs.{StaysWithin}
 use Rattle.bound_rounds.specs.Rounds.{BoundTable, situation_in, fired_within, rounds_within, grown_within, IsFullWithin}
 use Rattle.settle_rounds.specs.Rounds.{any_table}
 
@@ -31,10 +32,6 @@ FiringsLandWithin = (U : Unfolding) (E : Envelope) (N : Network) → IsEnvelope 
     → ((d : ℕ) → MayLive E d → MaybeLies U (bounds d) (table d))
     → (d : ℕ) → Lives N d → (e : TreeExport) → EvaluatesCopy U (copy_of N table d) e
     → ExportLies U (fired_within U E bounds d) e
-
--- the network, and the one after each entry of a log, lies within the envelope, and no entry pokes
-abbrev pub StaysWithin : Envelope → Network → List EntryValue → Type 0
-StaysWithin E n log = Stays (LiesWithin E) n log
 
 -- a log from a core that stays in the envelope and has so many rounds
 pub record RoundsWithin (U : Unfolding) (E : Envelope) (m : ℕ) (start last : Core) : Type 0 where

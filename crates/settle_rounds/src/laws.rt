@@ -1,5 +1,6 @@
 //! What rounds of bounds promise.
 
+ghost use Rattle.settle_rounds.specs.Lines.{LinesHold, LinesHoldAnyhow, StartsStay};
 ghost use Rattle.settle_rounds.specs.Mail.{BoundsReachMail};
 ghost use Rattle.settle_rounds.specs.Rounds.{BoundsReach};
 ghost use Rattle.settle_rounds.specs.SettleTimes.{SettleTimesHold};
@@ -64,6 +65,29 @@ pub fn starts_hold_within()
 {
     faultless_steps();
     exports_hold();
+}
+
+/// From a core, the bounds after so many rounds hold from then on.
+pub fn lines_hold()
+    ensures { LinesHold }
+{
+    bounds_hold_within_from();
+    starts_hold_within();
+}
+
+/// The same from every good core, with the tables from any exports.
+pub fn lines_hold_anyhow()
+    ensures { LinesHoldAnyhow }
+{
+    bounds_hold_within();
+}
+
+/// No export ever leaves the bounds from which the rounds of a core are counted.
+pub fn starts_stay()
+    ensures { StartsStay }
+{
+    bounds_hold_within_from();
+    starts_hold_within();
 }
 
 /// Once a round over an envelope would change no bound, no later round changes any.

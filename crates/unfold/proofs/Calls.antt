@@ -1,6 +1,6 @@
 -- Calls and expressions in a row, as their nodes are written.
 use Rattle.std.proofs.Common.{◌≡◌, refl, sym, ap, subst, ◌∙◌, ℕ, zero, suc, ◌+◌, ◌-◌, ◌<◌, ◌≤◌, arith, List, [], ◌∷◌, ◌++◌, length, map, take, drop, get_or, Option, append_assoc}
-use Rattle.std.specs.Prelude.{slice_set}
+use Rattle.std.specs.Prelude.{slice_set, Result, Ok, Err, IfOk}
 use Rattle.std.proofs.lemmas.List.{length-append, take_all}
 use Rattle.fc_values.specs.declared.types.Ty.{Ty}
 use Rattle.fc_values.specs.Types.{ValueType, type_of}
@@ -15,7 +15,7 @@ use Rattle.unfold.specs.Nodes.{listed, all_listed}
 use Rattle.unfold.specs.Counting.{count, size_of}
 use Rattle.unfold.specs.Unfolding.{Scope, bind, Meaning, meaning_of, params_of, body_of, with_argument, behind_first, untyped, unfolded_call}
 use Rattle.unfold.specs.Views.{counted}
-use Rattle.unfold.specs.Writing.{IsWritten, SameCall, arguments, first_meanings, unfolded_in, all_unfolded_in, call_by, call_in}
+use Rattle.unfold.specs.Writing.{ComesTo, IsWritten, SameCall, arguments, first_meanings, unfolded_in, all_unfolded_in, call_by, call_in}
 use Rattle.unfold.proofs.Firsts.{meaning_found, meaning_none, size_found, size_none}
 use Rattle.unfold.proofs.Written.{size_is, two_kids, two_behind}
 
@@ -74,6 +74,17 @@ module _ (B : Before) (n : ℕ) (S : Scope) (f : List ℕ) where
       let c' = c ∙ j in
       record { nodes = rw c' at g'; type = j }
 
+  pub call_ended : {E : Type 0} → (e : Expression) (es : Expressions) (N0 N1 N2 N3 N4 : List Node) (v : View) (place : ℕ) (given more : List (ℕ × ValueType)) (start end : Ty) (second : ℕ) (r : Result Ty E) →
+      place ≡ length N0 → length N1 ≡ length N0 + 1 → map view_of N1 ≡ map view_of N0 ++ v ∷ [] →
+      length N2 ≡ length N1 + count (counted B n) e → IsWritten N1 N2 start (unfolded_in B n S (length N1) e) →
+      more ≡ given ++ (place, type_of start) ∷ [] → IsWritten N2 N3 end (call_in B n S f more (length N2) es) → second ≡ length N2 →
+      IfOk r (λ t. type_of t ≡ type_of end) → IfOk r (λ t. map view_of N4 ≡ slice_set (map view_of N3) place (Has OfLet (type_of t) ((place + 1) ∷ second ∷ []))) →
+      IfOk r (λ t. IsWritten N0 N4 t (call_in B n S f given (length N0) (MoreTerms e es)))
+  call_ended e es N0 N1 N2 N3 N4 v place given more start end second (Ok t) p after begun l h m i q c g =
+      let w = call_written e es N0 N1 N2 N3 N4 v place given more start end t second ((place + 1) ∷ second ∷ []) p after begun l h m i q c refl g in
+      record { nodes = w.nodes; type = c ∙ w.type }
+  call_ended e es N0 N1 N2 N3 N4 v place given more start end second (Err m') p after begun l h m i q c g = tt
+
 -- the body
 module _ (B : Before) (n : ℕ) (x : List ℕ) where
   pub found_body : (j : ℕ) (g : Function) (given : List (ℕ × ValueType)) (N0 N1 : List Node) (t : Ty) → FirstAt x B.functions j g → j < n →
@@ -127,6 +138,12 @@ module _ (B : Before) (n : ℕ) (S : Scope) (e : Expression) (es : Expressions) 
       let us = all_unfolded_in B n S (length N0 + size (unfolded_in B n S (length N0) e)) es in
       h' ∙ ap (λ (l : List ValueType). l ++ types_of us) (f ∙ ap (λ (m : ValueType). ss ++ m ∷ []) (q ∙ w.type)) ∙ append_assoc ss (term_type (unfolded_in B n S (length N0) e) ∷ []) _
 
+-- an expression alone
+pub only_one : (xs : List Expr) (x : Expr) → length xs ≡ 1 → x ≡ get_or xs 0 x → terms (map term_of xs) ≡ MoreTerms (term_of x) NoTerms
+only_one [] x l e = absurd (omega (arith, l))
+only_one (y ∷ []) x l e = ap (λ (z : Expr). MoreTerms (term_of z) NoTerms) (sym e)
+only_one (y ∷ z ∷ zs) x l e = absurd (omega (arith, l))
+
 -- a call without arguments whose body is one
 bare_term : (B : Before) (n j : ℕ) (x y : List ℕ) (g : Function) → FirstAt x B.functions j g → j < n → g.body ≡ CallTerm y NoTerms → (S : Scope) (p : ℕ) → unfolded_in B n S p (CallTerm x NoTerms) ≡ unfolded_in B j S p (CallTerm y NoTerms)
 bare_term B n j x y g first l e S p =
@@ -143,3 +160,18 @@ bare_same B v n j f x y r h =
 pub same_written : (B : Before) (n : ℕ) (f : List ℕ) (m : ℕ) (g : List ℕ) (N0 N1 : List Node) (t : Ty) → SameCall B n f m g →
     IsWritten N0 N1 t (call_in B m [] g [] (length N0) NoTerms) → IsWritten N0 N1 t (call_in B n [] f [] (length N0) NoTerms)
 same_written B n f m g N0 N1 t h w = let P : Term → Type 0 = (λ u. IsWritten N0 N1 t u) in subst P (sym (h.term [] (length N0))) w
+
+pub last_written : (B : Before) (n : ℕ) (f : List ℕ) (j : ℕ) (body : Expression) (N0 N1 : List Node) (t : Ty) → ComesTo B n f j body → IsWritten N0 N1 t (unfolded_in B j [] (length N0) body) →
+    IsWritten N0 N1 t (call_in B n [] f [] (length N0) NoTerms)
+last_written B n f j body N0 N1 t h w =
+    let w' = subst (λ (b : Expression). IsWritten N0 N1 t (unfolded_in B j [] (length N0) b)) (sym h.body_is) w in
+    same_written B n f h.seen h.last N0 N1 t h.same (found_body B h.seen h.last j h.function [] N0 N1 t h.first h.earlier w')
+
+-- what is written is the same, if memory suffices
+pub ended_as : {E : Type 0} → (r : Result Ty E) (N0 N1 : List Node) (u v : Term) → ((t : Ty) → IsWritten N0 N1 t u → IsWritten N0 N1 t v) → IfOk r (λ t. IsWritten N0 N1 t u) → IfOk r (λ t. IsWritten N0 N1 t v)
+ended_as (Ok t) N0 N1 u v f h = f t h
+ended_as (Err m) N0 N1 u v f h = tt
+
+pub longer_as : {E : Type 0} → (r : Result Ty E) (k m n : ℕ) → m ≡ n → IfOk r (λ _. k ≡ m) → IfOk r (λ _. k ≡ n)
+longer_as (Ok t) k m n e h = h ∙ e
+longer_as (Err x) k m n e h = tt

@@ -5,7 +5,8 @@ use Rattle.fc_values.specs.declared.types.InputTy.{InputTy}
 use Rattle.fc_values.specs.declared.types.Name.{Name}
 use Rattle.fc_values.specs.declared.types.Ty.{Ty}
 use Rattle.fc_values.specs.Types.{ValueType, TypeLocal, input_type, type_of}
-use Rattle.fc_syntax.specs.Terms.{Term as Expression, Terms as Expressions, CallTerm, NoTerms, Parameter, parameter_of}
+use Rattle.fc_syntax.specs.declared.tree.Expr.{Expr}
+use Rattle.fc_syntax.specs.Terms.{Term as Expression, Terms as Expressions, CallTerm, NoTerms, Parameter, parameter_of, term_of}
 use Rattle.fc_types.specs.Before.{Before, Function}
 use Rattle.fc_types.specs.Views.{known_of}
 use Rattle.fc_nodes.specs.declared.nodes.Node.{Node}
@@ -18,7 +19,7 @@ use Rattle.unfold.specs.declared.scopes.Scope.TheVariants as scope
 use Rattle.unfold.specs.declared.scopes.Surroundings.{Surroundings as LentSurroundings}
 use Rattle.fc_values.specs.declared.limits.TheConstants.{MOST_NODES}
 use Rattle.unfold.specs.Counting.{count, count_all, count_arguments, size_of}
-use Rattle.unfold.specs.Found.{FirstAt}
+use Rattle.unfold.specs.Found.{FirstAt, NoneAmong}
 use Rattle.unfold.specs.Nodes.{listed}
 use Rattle.unfold.specs.Unfolding.{Scope, bind, Meaning, meaning_of, meanings, params_of, body_of, untyped, unfolded, unfolded_call, unfolded_all}
 use Rattle.unfold.specs.Views.{counted}
@@ -121,6 +122,22 @@ pub record SameCall (B : Before) (n : ℕ) (f : List ℕ) (m : ℕ) (g : List �
   pub term : (scope : Scope) (p : ℕ) → unfolded_in B n scope p (CallTerm f NoTerms)
       ≡ unfolded_in B m scope p (CallTerm g NoTerms)
   pub size : size_of f (counted B n) ≡ size_of g (counted B m)
+
+-- a call without arguments comes to the body of this function
+pub record ComesTo (B : Before) (n : ℕ) (f : List ℕ) (j : ℕ) (body : Expression) : Type 0 where
+  pub seen : ℕ
+  pub last : List ℕ
+  pub function : Function
+  pub same : SameCall B n f seen last
+  pub fewer : seen ≤ n
+  pub first : FirstAt last B.functions j function
+  pub earlier : j < seen
+  pub body_is : function.body ≡ body
+
+-- such a body, with how many functions it sees; or the call comes to one of a function that isn't there
+abbrev pub IsLastBody : Before → ℕ → List ℕ → Option (ℕ × Bor Expr) → Type 0
+IsLastBody B n f None = (m : ℕ) × (g : List ℕ) × SameCall B n f m g × NoneAmong g B.functions m
+IsLastBody B n f (Some r) = ComesTo B n f r.0 (term_of r.1.now)
 
 -- what is said of the size of a program that is too large
 abbrev pub IfTooLarge : UnfoldFault → (ℕ → Type 0) → Type 0

@@ -4,7 +4,7 @@ ghost use Rattle.std.specs.Prelude.{◌≡◌, ◌<◌, ◌≤◌, ◌^◌, IfSo
 ghost use Rattle.fc_types.specs.Views.{known_of};
 ghost use Rattle.unfold.specs.Unfolding.{input_number, sense_by};
 ghost use Rattle.unfold.specs.Views.{IsFound};
-ghost use Rattle.unfold.specs.Writing.{IsBareCall, SameCall, input_term};
+ghost use Rattle.unfold.specs.Writing.{IsBareCall, IsLastBody, SameCall, input_term};
 
 use fc_syntax::Expr;
 use fc_types::{Function, Known};
@@ -38,9 +38,9 @@ fn bare_call<'k>(known: &Known<'k>, visible: usize, name: &Name) -> Option<(usiz
     }
 }
 
-/// The last of a chain of calls without arguments, each of which is the body of the function called
-/// before. Chains may be longer than the stack is deep, so a loop follows them.
-pub fn last_call<'a>(known: &'a Known<'_>, visible: usize, name: &'a Name) -> (usize, &'a Name)
+// The last of a chain of calls without arguments, each of which is the body of the function called before. Chains may
+// be longer than the stack is deep, so a loop follows them.
+fn last_call<'a>(known: &'a Known<'_>, visible: usize, name: &'a Name) -> (usize, &'a Name)
     ensures same { SameCall (known_of known.now) visible name.now.text.items result.0 result.1.now.text.items }
     ensures fewer { result.0 ≤ visible }
 {
@@ -51,6 +51,22 @@ pub fn last_call<'a>(known: &'a Known<'_>, visible: usize, name: &'a Name) -> (u
         last = &*next;
     }
     (seen, last)
+}
+
+/// The body of the function that a call without arguments comes to, through others that are such calls, and how many
+/// functions it sees.
+#[inline(never)]
+pub fn last_body<'a>(
+    known: &'a Known<'_>,
+    visible: usize,
+    name: &'a Name,
+) -> Option<(usize, &'a Expr)>
+    ensures body { IsLastBody (known_of known.now) visible name.now.text.items result }
+    ensures earlier { IfSome result (λ r. r.0 < visible) }
+{
+    let (seen, last) = last_call(known, visible, name);
+    let (number, function) = find(known, seen, last)?;
+    Some((number, function.body))
 }
 
 /// The number of an input, in declared order, and its type.

@@ -1,19 +1,30 @@
 //! The names in scope.
 
-ghost use Rattle.std.specs.Prelude.{◌≡◌, map};
+ghost use Rattle.std.specs.Prelude.{◌≡◌, ◌++◌, [], ◌∷◌, IfOk, map};
 ghost use Rattle.fc_syntax.specs.Terms.{parameter_of};
 ghost use Rattle.unfold.specs.Unfolding.{binder_of, variable_term};
 ghost use Rattle.unfold.specs.Writing.{argument_of, arguments, found_term, scope_of};
 
 use fc_syntax::Param;
 use fc_types::Known;
-use fc_values::{Name, Ty};
+use fc_values::{Memory, Name, Ty};
 
 /// An argument of a call: the place of the `let` that binds it, and its type.
 #[derive(Drop)]
 pub struct Argument {
     pub place: u32,
     pub ty: Ty,
+}
+
+/// Arguments with one more.
+#[inline(never)]
+pub fn with_argument(given: Vec<Argument>, argument: Argument) -> Result<Vec<Argument>, Memory>
+    ensures { IfOk result (λ more. map argument_of more.items
+        ≡ map argument_of given.items ++ argument_of argument ∷ []) }
+{
+    let mut more = given;
+    more.push(argument)?;
+    Ok(more)
 }
 
 /// The names in scope, each with the place of the node that binds it and its type: those of binders, the nearest first,

@@ -1,7 +1,7 @@
 //! Writing the nodes of expressions in preorder.
 
 ghost use Rattle.std.specs.Prelude.{◌≡◌, ◌≤◌, ◌<◌, ◌+◌, ◌^◌, ◌++◌, [], ◌∷◌, IfOk, length, map};
-ghost use Rattle.fc_syntax.specs.Terms.{ApplyTerm, CallTerm, IfTerm, LetTerm, NbrTerm, RepTerm, ShareTerm, NoTerms, term_of, terms};
+ghost use Rattle.fc_syntax.specs.Terms.{ApplyTerm, CallTerm, IfTerm, LetTerm, NbrTerm, RepTerm, ShareTerm, MoreTerms, NoTerms, term_of, terms};
 ghost use Rattle.fc_values.specs.Types.{type_of};
 ghost use Rattle.fc_nodes.specs.Terms.{places as places_of, view_of};
 ghost use Rattle.fc_nodes.specs.Typing.{types_of};
@@ -11,15 +11,16 @@ ghost use Rattle.unfold.specs.Nodes.{all_listed};
 ghost use Rattle.unfold.specs.Views.{counted};
 ghost use Rattle.unfold.specs.Writing.{HasRoom, IsLonger, IsWritten, all_nodes_in, all_unfolded_by, argument_of, call_within, call_in, call_nodes_in, nodes_in, surroundings_of, unfolded_by};
 
-use crate::names::{find, last_call};
+use crate::names::{find, last_body};
 use crate::putting::{
-    begin_node, end_node, field_type, given_type, put_input, put_leaf, put_untyped, put_variable,
+    begin_node, end_builtin, end_let, end_nbr, end_node, given_type, put_input, put_links,
+    put_number, put_truth, put_uid, put_untyped, put_variable,
 };
-use crate::scopes::{Argument, Scope, Surroundings};
+use crate::scopes::{Argument, Scope, Surroundings, with_argument};
 use fc_nodes::{Node, Op};
 use fc_syntax::Expr;
 use fc_types::{Known, copy_type, shared_type};
-use fc_values::{Builtin, Local, LocalTy, Memory, Name, Ty};
+use fc_values::{Builtin, Memory, Name, Ty};
 use std::alloc::Global;
 
 /// The nodes of an expression behind others, with its type. Expressions may be thousands of levels deep, so each form
@@ -39,22 +40,15 @@ pub fn write(
         (unfolded_by (surroundings_of around.now) (length nodes.old.items) (term_of expr.now))) }
 {
     match expr {
-        Expr::Int(n) => put_leaf(
-            alloc,
-            nodes,
-            Op::Lit(Local::Int(*n)),
-            Ty::Local(LocalTy::Int),
-        ),
-        Expr::Truth(b) => put_leaf(
-            alloc,
-            nodes,
-            Op::Lit(Local::Bool(*b)),
-            Ty::Local(LocalTy::Bool),
-        ),
+        Expr::Int(n) => put_number(alloc, nodes, *n),
+        Expr::Truth(b) => put_truth(alloc, nodes, *b),
         Expr::Var(name) => put_variable(alloc, around.scope, name, nodes),
-        Expr::Uid => put_leaf(alloc, nodes, Op::Uid, Ty::Local(LocalTy::Int)),
-        Expr::NbrLink => put_leaf(alloc, nodes, Op::NbrLink, Ty::Field(LocalTy::Int)),
+        Expr::Uid => put_uid(alloc, nodes),
+        Expr::NbrLink => put_links(alloc, nodes),
         Expr::Sense(name) => put_input(alloc, around.known, name, nodes),
+        Expr::Apply(builtin, args) if args.len() == 1 => {
+            write_one(alloc, around, *builtin, args, nodes)
+        }
         Expr::Apply(builtin, args) => write_apply(alloc, around, *builtin, args, nodes),
         Expr::Nbr(inner) => write_nbr(alloc, around, inner, nodes),
         Expr::Rep(first, name, body) => write_rep(alloc, around, first, name, body, nodes),
@@ -64,11 +58,33 @@ pub fn write(
         Expr::Call(name, args) if args.is_empty() => {
             write_bare_call(alloc, around.known, around.visible, name, nodes)
         }
-        Expr::Call(name, args) => {
-            let given = Vec::new(alloc);
-            write_call(alloc, around, name, given, args, nodes)
-        }
+        Expr::Call(name, args) => write_call(alloc, around, name, args, nodes),
     }
+}
+
+// A builtin of one argument.
+#[cycle(write)]
+#[inline(never)]
+fn write_one(
+    alloc: Global,
+    around: &Surroundings<'_, '_>,
+    builtin: Builtin,
+    args: &[Expr],
+    nodes: &mut Vec<Node>,
+) -> Result<Ty, Memory>
+    requires one { length args.now ≡ 1 }
+    requires inputs { length (known_of around.now.known.now).inputs < 2 ^ 32 }
+    requires room { HasRoom nodes.old.items
+        (nodes_in (surroundings_of around.now) (ApplyTerm builtin (terms (map term_of args.now)))) }
+    ensures long { IfOk result (λ _. IsLonger nodes.old.items nodes.new.items
+        (nodes_in (surroundings_of around.now) (ApplyTerm builtin (terms (map term_of args.now))))) }
+    ensures written { IfOk result (λ ty. IsWritten nodes.old.items nodes.new.items ty
+        (unfolded_by (surroundings_of around.now) (length nodes.old.items)
+        (ApplyTerm builtin (terms (map term_of args.now))))) }
+{
+    let place = begin_node(alloc, nodes)?;
+    let kid = write(alloc, around, &args[0], nodes)?;
+    end_builtin(alloc, nodes, place, builtin, kid)
 }
 
 // A builtin.
@@ -156,10 +172,8 @@ fn write_nbr(
         (unfolded_by (surroundings_of around.now) (length nodes.old.items) (NbrTerm (term_of inner.now)))) }
 {
     let place = begin_node(alloc, nodes)?;
-    let ty = field_type(write(alloc, around, inner, nodes)?);
-    let kids = vec![in alloc; place + 1]?;
-    end_node(nodes, place, Op::Nbr, copy_type(alloc, &ty)?, kids);
-    Ok(ty)
+    let kid = write(alloc, around, inner, nodes)?;
+    end_nbr(alloc, nodes, place, kid)
 }
 
 // A value that evolves by `rep`.
@@ -297,15 +311,36 @@ fn write_let(
         scope: &scope,
     };
     let ty = write(alloc, &inner, body, nodes)?;
-    let kids = vec![in alloc; place + 1, second]?;
-    end_node(nodes, place, Op::Let, copy_type(alloc, &ty)?, kids);
-    Ok(ty)
+    end_let(alloc, nodes, place, second, ty)
+}
+
+// A call with arguments.
+#[cycle(write)]
+#[inline(never)]
+fn write_call(
+    alloc: Global,
+    around: &Surroundings<'_, '_>,
+    name: &Name,
+    args: &[Expr],
+    nodes: &mut Vec<Node>,
+) -> Result<Ty, Memory>
+    requires inputs { length (known_of around.now.known.now).inputs < 2 ^ 32 }
+    requires room { HasRoom nodes.old.items
+        (nodes_in (surroundings_of around.now) (CallTerm name.now.text.items (terms (map term_of args.now)))) }
+    ensures long { IfOk result (λ _. IsLonger nodes.old.items nodes.new.items
+        (nodes_in (surroundings_of around.now) (CallTerm name.now.text.items (terms (map term_of args.now))))) }
+    ensures written { IfOk result (λ ty. IsWritten nodes.old.items nodes.new.items ty
+        (unfolded_by (surroundings_of around.now) (length nodes.old.items)
+        (CallTerm name.now.text.items (terms (map term_of args.now))))) }
+{
+    let given = Vec::new(alloc);
+    write_given(alloc, around, name, given, args, nodes)
 }
 
 // What is left of a call, behind the arguments that are given: a `let` for each further one, around the body.
 #[cycle(write)]
 #[inline(never)]
-fn write_call(
+fn write_given(
     alloc: Global,
     around: &Surroundings<'_, '_>,
     name: &Name,
@@ -322,18 +357,40 @@ fn write_call(
         (call_within (surroundings_of around.now) name.now.text.items (map argument_of given.items)
         (length nodes.old.items) (terms (map term_of args.now)))) }
 {
-    let [arg, rest @ ..] = args else {
-        return write_body(alloc, around.known, around.visible, name, &given, nodes);
-    };
+    match args {
+        [] => write_body(alloc, around.known, around.visible, name, &given, nodes),
+        [arg, rest @ ..] => write_argument(alloc, around, name, given, arg, rest, nodes),
+    }
+}
+
+// The next argument of a call, and what is left behind it.
+#[cycle(write)]
+#[inline(never)]
+fn write_argument(
+    alloc: Global,
+    around: &Surroundings<'_, '_>,
+    name: &Name,
+    given: Vec<Argument>,
+    arg: &Expr,
+    rest: &[Expr],
+    nodes: &mut Vec<Node>,
+) -> Result<Ty, Memory>
+    requires inputs { length (known_of around.now.known.now).inputs < 2 ^ 32 }
+    requires room { HasRoom nodes.old.items (call_nodes_in (surroundings_of around.now) name.now.text.items
+        (MoreTerms (term_of arg.now) (terms (map term_of rest.now)))) }
+    ensures long { IfOk result (λ _. IsLonger nodes.old.items nodes.new.items
+        (call_nodes_in (surroundings_of around.now) name.now.text.items
+        (MoreTerms (term_of arg.now) (terms (map term_of rest.now))))) }
+    ensures written { IfOk result (λ ty. IsWritten nodes.old.items nodes.new.items ty
+        (call_within (surroundings_of around.now) name.now.text.items (map argument_of given.items)
+        (length nodes.old.items) (MoreTerms (term_of arg.now) (terms (map term_of rest.now))))) }
+{
     let place = begin_node(alloc, nodes)?;
     let ty = write(alloc, around, arg, nodes)?;
     let second = nodes.len() as u32;
-    let mut given = given;
-    given.push(Argument { place, ty })?;
-    let ty = write_call(alloc, around, name, given, rest, nodes)?;
-    let kids = vec![in alloc; place + 1, second]?;
-    end_node(nodes, place, Op::Let, copy_type(alloc, &ty)?, kids);
-    Ok(ty)
+    let given = with_argument(given, Argument { place, ty })?;
+    let ty = write_given(alloc, around, name, given, rest, nodes)?;
+    end_let(alloc, nodes, place, second, ty)
 }
 
 // A function's body, with its arguments.
@@ -362,13 +419,9 @@ fn write_body(
                 visible: number,
                 scope: &Scope::Arguments(function.params, given),
             };
-            let ty = write(alloc, &around, function.body, nodes)?;
-            Ok(ty)
+            write(alloc, &around, function.body, nodes)
         }
-        None => {
-            let ty = put_untyped(alloc, nodes)?;
-            Ok(ty)
-        }
+        None => put_untyped(alloc, nodes),
     }
 }
 
@@ -389,7 +442,15 @@ fn write_bare_call(
     ensures written { IfOk result (λ ty. IsWritten nodes.old.items nodes.new.items ty
         (call_in (known_of known.now) visible [] name.now.text.items [] (length nodes.old.items) NoTerms)) }
 {
-    let (seen, last) = last_call(&*known, visible, &*name);
-    let ty = write_body(alloc, known, seen, last, &[], nodes)?;
-    Ok(ty)
+    match last_body(&*known, visible, &*name) {
+        Some((seen, body)) => {
+            let around = Surroundings {
+                known: &*known,
+                visible: seen,
+                scope: &Scope::Arguments(&[], &[]),
+            };
+            write(alloc, &around, body, nodes)
+        }
+        None => put_untyped(alloc, nodes),
+    }
 }

@@ -94,6 +94,7 @@ pub fn anything(alloc: Global, ceiling: u32, ty: &LocalTy) -> Result<LocalBound,
 
 /// A copy of a bound. One of integers or truth values takes no memory.
 #[cycle(copy)]
+#[inline(always)]
 pub fn copy_bound(alloc: Global, bound: &LocalBound) -> Result<LocalBound, Memory>
     ensures { IfOk result (λ b. local_bound_in b ≡ local_bound_in bound.now) }
 {

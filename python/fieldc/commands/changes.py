@@ -33,7 +33,7 @@ KINDS = ("changes", "network", "program")
 
 def arguments(parser: argparse.ArgumentParser) -> None:
     add_files(parser, KINDS)
-    parser.add_argument("--names", metavar="FILE", help="a file of lines id,name: devices are called by these names")
+    parser.add_argument("--names", metavar="FILE", help="a file of lines id,name: the names by which devices are shown")
 
 
 def perform(options: argparse.Namespace) -> int:

@@ -16,7 +16,7 @@ KINDS = ("program", "network")
 
 def arguments(parser: argparse.ArgumentParser) -> None:
     add_files(parser, KINDS)
-    parser.add_argument("--facts", action="store_true", help="adds what is known of each node of the unfolded main")
+    parser.add_argument("--facts", action="store_true", help="adds the facts of each node of the unfolded main")
     parser.add_argument("--settle", action="store_true", help="adds after how many rounds each device holds its value")
     settle.settle_arguments(parser)
     add_cut_check(parser)
@@ -32,11 +32,11 @@ def arguments(parser: argparse.ArgumentParser) -> None:
 def perform(options: argparse.Namespace) -> int:
     for name in ("from_table", "why", "changes", "confirm"):
         if getattr(options, name) and not options.settle:
-            raise Fault(f"--{name.replace('_', '-')} stands beside --settle only")
+            raise Fault(f"--{name.replace('_', '-')} needs --settle")
     words = ["check"] + ["--facts"] * options.facts
     if options.format == "gcc":
         if options.settle or options.facts or options.json or options.names:
-            raise Fault("--format=gcc stands alone: an editor wants what is wrong, and no answer")
+            raise Fault("--format=gcc goes with no other option: an editor wants only what is wrong")
         return diagnosed(options.files, words)
     if options.settle:
         return settle.perform(options)

@@ -14,7 +14,7 @@ from ..refusals import Call, Fault, Refusal, Section, has_lark
 from ..sections import cut, read, write
 from ..streams import say
 
-SUMMARY = "writes a program as C for devices, with what it costs"
+SUMMARY = "writes a program as C for devices, or says what it costs"
 EPILOG = "docs/firmware.md says what to call when. Example: fieldc firmware mine/hops.fc --name hops -o mine"
 MOST = 32
 
@@ -32,28 +32,28 @@ def arguments(parser: argparse.ArgumentParser) -> None:
     add(
         "--name",
         metavar="NAME",
-        help="what all names in C begin with, and the files (the name of the program's file)",
+        help="the prefix of all names in C and of the files (the name of the program's file)",
     )
     add(
         "--neighbours",
         metavar="N",
         type=neighbours,
         default=MOST,
-        help=f"for how many a device has room, 1 to {MOST} ({MOST})",
+        help=f"the room of a device, in neighbours, 1 to {MOST} ({MOST})",
     )
     add("-o", "--output", metavar="FOLDER", default=".", help="where NAME.h and NAME.c go (here)")
     shown = parser.add_mutually_exclusive_group()
     shown.add_argument("--cost", action="store_true", help="says what it costs, and writes no files")
     shown.add_argument("--layout", action="store_true", help="writes what a message is like, as JSON, and no files")
-    add("--network", metavar="FILE", help="a network: with a no of check it is asked what --settle says")
-    add("--library", metavar="DIR", action="append", default=[], help="a folder of blocks of your own besides")
+    add("--network", metavar="FILE", help="a network: if check says no, asks --settle on it")
+    add("--library", metavar="DIR", action="append", default=[], help="a further folder, of your own blocks")
     add("--unjudged", action="store_true", help="doesn't ask fc for the verdict")
 
 
 def perform(options: argparse.Namespace) -> int:
     """The command: 0, or the status of what `fc` refuses."""
     if not has_lark():
-        raise Fault("it reads the program, which needs Lark (Debian: python3-lark)")
+        raise Fault("reading the program needs Lark (Debian: python3-lark)")
     from .. import firmware
     from ..firmware.cost import cost_text
     from ..firmware.names import firmware_name, name_of_file

@@ -6,7 +6,7 @@ import argparse
 
 from ..asking import add_answers, add_files, ask
 
-SUMMARY = "writes the canonical text of a program, or says what is wrong with it and where"
+SUMMARY = "writes a program in its standard layout, or says what is wrong with it and where"
 
 
 def arguments(parser: argparse.ArgumentParser) -> None:

@@ -7,7 +7,7 @@ import argparse
 from .. import results
 from ..asking import add_answers, ask
 
-SUMMARY = "runs a scenario that is made from a number: a hop count on a ring of devices that hold rubbish"
+SUMMARY = "runs a scenario made from a number: a hop count on a ring of devices that hold rubbish"
 
 
 def arguments(parser: argparse.ArgumentParser) -> None:

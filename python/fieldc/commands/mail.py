@@ -7,7 +7,7 @@ import argparse
 from .. import results
 from ..asking import add_answers, add_cut_check, add_files, ask
 
-SUMMARY = "goes through a log of messages, which links lose, repeat and deliver late, or makes one from a number"
+SUMMARY = "replays a log of messages, which links lose, repeat and deliver late, or makes one from a number"
 
 
 def arguments(parser: argparse.ArgumentParser) -> None:

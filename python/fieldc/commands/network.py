@@ -16,24 +16,24 @@ from ..refusals import Fault
 from ..sections import cut, read, writable, write
 
 MOST_CALLED = 5
-SUMMARY = "makes a network: a line, ring, grid, torus, devices in a square, or from positions, links, a graph or moves"
+SUMMARY = "makes a network: a line, a ring, a grid, a torus, random places, or from positions, links, a graph or moves"
 EPILOG = """\
 Example: fieldc network --grid 8x5 --set source=true@0 > grid.json
 
-Names of devices that are no numbers are numbered in the order of the file, and kept in a file of lines id,name:
-NET.names.csv beside -o NET.json, or where --names says. fieldc picture --names and the commands that write values
-take it.
+If the names of devices aren't numbers, devices are numbered in the order of the file, and their names kept in a file
+of lines id,name: NET.names.csv beside NET.json, or the file of --names. fieldc picture --names and the commands that
+write values take it.
 
 Example: fieldc network --moves moves.csv --range 20 --every 5 --program hops.fc --positions at.csv -o moves.txt
 
-With --moves two sections are written: the network at the first time, and a script that edits it at each step. So
-fieldc run hops.fc moves.txt runs it, fieldc picture draws a page that moves, and fieldc rounds draws how far behind the
-motion the values are.
+With --moves it writes two sections: the network at the first time, and a script that edits it at each step. So fieldc
+run hops.fc moves.txt runs it, fieldc picture draws a page that moves, and fieldc rounds draws how far the values lag
+behind the motion.
 
 Example: fieldc network --points at.csv --range 20 --metric 1..20 --move 2 --changes walk.txt -o now.json
 
-With --changes the network of now is written, and what may change while each device is at most so far from its place:
-links whose weight may change, that may go and that may come, as lines that fieldc settle --changes takes."""
+With --changes it writes the network as it is now, and what may change while each device stays near its place, as lines
+for fieldc settle --changes: links whose weight may change, that may go, and that may come."""
 ONLY_CHANGING = ("changes", "move")
 ONLY_MOVING = {"every": "--every", "run": "--run", "gone_after": "--gone-after"}
 
@@ -56,7 +56,7 @@ def length(word: str) -> float:
     except ValueError:
         found = math.nan
     if not math.isfinite(found) or found < 0:
-        raise argparse.ArgumentTypeError(f"{word} isn't a length: a number, and at least 0")
+        raise argparse.ArgumentTypeError(f"{word} isn't a length: a number of at least 0")
     return found
 
 
@@ -64,7 +64,7 @@ def sides(word: str) -> tuple[int, int]:
     """WxH."""
     width, cross, height = word.partition("x")
     if not cross or not width.isdecimal() or not height.isdecimal() or not int(width) or not int(height):
-        raise argparse.ArgumentTypeError(f"{word} isn't WxH, as 8x5")
+        raise argparse.ArgumentTypeError(f"{word} isn't WxH, such as 8x5")
     return int(width), int(height)
 
 
@@ -72,9 +72,9 @@ def span(word: str) -> tuple[int, int]:
     """LOW..HIGH."""
     low, dots, high = word.partition("..")
     if not dots or not low.isdecimal() or not high.isdecimal():
-        raise argparse.ArgumentTypeError(f"{word} isn't LOW..HIGH, as 1..9")
+        raise argparse.ArgumentTypeError(f"{word} isn't LOW..HIGH, such as 1..9")
     if int(low) > int(high):
-        raise argparse.ArgumentTypeError(f"{word} is upside down: the least weight comes first")
+        raise argparse.ArgumentTypeError(f"{word} is the wrong way round: the least weight comes first")
     return int(low), int(high)
 
 
@@ -99,7 +99,7 @@ def factor(word: str) -> tuple[str, float]:
     except ValueError:
         found = 0.0
     if not name or not 0 < found < math.inf:
-        raise argparse.ArgumentTypeError(f"{word} isn't NAME=F with a number above 0, as load=10")
+        raise argparse.ArgumentTypeError(f"{word} isn't NAME=F with a number above 0, such as load=10")
     return name, found
 
 
@@ -112,9 +112,9 @@ def arguments(parser: argparse.ArgumentParser) -> None:
     shape.add_argument("--torus", metavar="WxH", type=sides, help="a grid whose opposite borders are linked")
     shape.add_argument("--disk", metavar="N", type=count, help="N devices at random in a square; needs --range")
     shape.add_argument(
-        "--points", metavar="FILE", help="rows id, x, y, or with the names of columns first; needs --range"
+        "--points", metavar="FILE", help="rows id, x, y, or columns with their names in the first line; needs --range"
     )
-    shape.add_argument("--edges", metavar="FILE", help="links, one line 'a b' or 'a b weight' each, or GraphML, or GML")
+    shape.add_argument("--edges", metavar="FILE", help="links: a line 'a b' or 'a b weight' for each, GraphML, or GML")
     shape.add_argument(
         "--scene", metavar="FILE", help="a network in JSON, or an input of fc that has one"
     )
@@ -133,21 +133,21 @@ def arguments(parser: argparse.ArgumentParser) -> None:
 def _changing(parser: argparse.ArgumentParser) -> None:
     parser.add_argument(
         "--changes", metavar="FILE",
-        help="writes there what may change while devices move about, or by columns least, greatest and goes of --edges",
+        help="writes to FILE what may change as devices move, or by the columns least, greatest and goes of --edges",
     )  # fmt: skip
     parser.add_argument(
         "--move", metavar="M", type=length,
-        help="beside --changes: how far a device may be from its place (the column move of --points)",
+        help="with --changes: how far a device may be from its place (the column move of --points)",
     )  # fmt: skip
 
 
 def _moving(parser: argparse.ArgumentParser) -> None:
-    parser.add_argument("--every", metavar="S", type=length, help="beside --moves: a step each S of the file's time")
+    parser.add_argument("--every", metavar="S", type=length, help="with --moves: a step every S, in the file's time")
     rounds = whole(1, "a number of rounds")
-    parser.add_argument("--run", metavar="N", type=rounds, help="beside --moves: the rounds of each step (1)")
+    parser.add_argument("--run", metavar="N", type=rounds, help="with --moves: the rounds of each step (1)")
     parser.add_argument(
         "--gone-after", metavar="S", type=length,
-        help="beside --moves: a device isn't there once it was last seen more than S before",
+        help="with --moves: a device leaves when it was last seen more than S ago",
     )  # fmt: skip
 
 
@@ -159,7 +159,7 @@ def _shaping(parser: argparse.ArgumentParser) -> None:
     )  # fmt: skip
     parser.add_argument("--side", metavar="S", type=length, default=100.0, help="the side of the square (100)")
     parser.add_argument("--seed", metavar="S", type=whole(0, "a seed"), default=0, help="the seed of --disk (0)")
-    parser.add_argument("--undirected", action="store_true", help="the edges of a directed graph are links both ways")
+    parser.add_argument("--undirected", action="store_true", help="takes each edge of a directed graph as a link")
     weight = whole(0, "a weight")
     parser.add_argument("--weight", metavar="W", type=weight, help="the weight of each link (1, or that of the file)")
     parser.add_argument("--metric", metavar="LOW..HIGH", type=span, help="weights by distance, rounded into this range")
@@ -181,18 +181,18 @@ def _filling(parser: argparse.ArgumentParser) -> None:
         help="an input of all devices, or of those named; else it is as in the file, or false",
     )
     parser.add_argument(
-        "--inputs", metavar="NAME,NAME..", help="the columns or attributes of the file that are inputs (all)"
+        "--inputs", metavar="NAME,NAME..", help="the columns or attributes of the file to take as inputs (all)"
     )
     parser.add_argument(
-        "--program", metavar="FILE", help="a program whose inputs are taken, and checked with the weights"
+        "--program", metavar="FILE", help="a program: takes the inputs that it declares, and checks all values"
     )
     parser.add_argument(
         "--table", metavar="FILE", help="starts from the table of fc run --table, with nothing in flight"
     )
     parser.add_argument(
-        "--positions", metavar="FILE", help="writes the positions there, one line id,x,y each, with --moves t,id,x,y"
+        "--positions", metavar="FILE", help="writes the positions to FILE: lines id,x,y, or t,id,x,y with --moves"
     )
-    parser.add_argument("--names", metavar="FILE", help="writes the names of devices there, one line id,name each")
+    parser.add_argument("--names", metavar="FILE", help="writes the names of devices to FILE, a line id,name for each")
 
 
 def perform(options: argparse.Namespace) -> int:
@@ -203,13 +203,13 @@ def perform(options: argparse.Namespace) -> int:
     if options.moves:
         for name in ONLY_CHANGING:
             if getattr(options, name) is not None:
-                raise Fault(f"--{name} isn't taken beside --moves")
+                raise Fault(f"--{name} doesn't go with --moves")
         return perform_moves(options, program)
     for name, option in ONLY_MOVING.items():
         if getattr(options, name) is not None:
-            raise Fault(f"{option} is of --moves")
+            raise Fault(f"{option} needs --moves")
     if options.move is not None and options.changes is None:
-        raise Fault("--move says what may change: --changes FILE says where that is written")
+        raise Fault("--move needs --changes FILE, to which what may change is written")
     found = shaped(options, program)
     found, lost = finished(found, options, program, by_name(found.devices, found.names))
     tell_lost(options, lost)
@@ -226,13 +226,13 @@ def perform(options: argparse.Namespace) -> int:
 def changing(options: argparse.Namespace, program: str | None, found: Network) -> list[str]:
     """What may change about a network, as lines: by how far devices move, or by the columns of a file of links."""
     if options.max_degree is not None:
-        raise Fault("--max-degree: which links are the nearest changes where devices move; choose a smaller --range")
+        raise Fault("--max-degree: which links are nearest changes as devices move; choose a smaller --range")
     if options.edges:
         lines = by_columns(options, found)
     elif options.points or options.disk:
         lines = movement.of_moves(found, moves_of(options, program, found), options.range, weight_by_length(options))
     else:
-        raise Fault("--changes is of --points, --disk and --edges")
+        raise Fault("--changes needs --points, --disk or --edges")
     return lines if program is None else movement.judged(lines, found, network.declared(program))
 
 
@@ -240,7 +240,7 @@ def by_columns(options: argparse.Namespace, found: Network) -> list[str]:
     """What may change by the columns of a file of links."""
     given = next((name for name in ("metric", "weight", "move") if getattr(options, name) is not None), None)
     if given is not None:
-        raise Fault(f"--{given}: beside --edges and --changes weights are those of the file")
+        raise Fault(f"--{given}: with --edges and --changes the file gives the weights")
     return movement.of_graph(files.graph(options.edges), found, options.round)
 
 
@@ -256,9 +256,9 @@ def moves_of(options: argparse.Namespace, program: str | None, found: Network) -
     """How far each device may be from its place: so far as one number says of all, or a column of the file."""
     in_file = points_of(options, program).moves if options.points else {}
     if in_file and options.move is not None:
-        raise Fault(f"--move {options.move:g} is of all devices, and {options.points} has a column move: leave one out")
+        raise Fault(f"--move {options.move:g} is for all devices, but {options.points} has a column move: omit one")
     if not in_file and options.move is None:
-        raise Fault("--changes needs a --move, how far a device may be from its place, or a column move of --points")
+        raise Fault("--changes needs --move, how far a device may be from its place, or a column move in --points")
     return in_file or dict.fromkeys(found.devices, options.move)
 
 
@@ -285,7 +285,7 @@ def finished(
 def perform_moves(options: argparse.Namespace, program: str | None) -> int:
     """Writes the first network of devices that move, and the script that makes the others of it."""
     if options.range is None or options.every is None:
-        raise Fault("--moves needs a --range and --every, the time of a step")
+        raise Fault("--moves needs --range, and --every, the time of a step")
     found = moves.read(options.moves, program, inputs_of(options), dict(options.scale))
     say_left_out(options.moves, found.left_out)
     numbers, lost = by_name(found.seen, found.names), list[str]()
@@ -307,7 +307,7 @@ def perform_moves(options: argparse.Namespace, program: str | None) -> int:
     still = moves.still_there(found, times) if options.gone_after is None else []
     if still:
         called = first_of([found.names.get(device, str(device)) for device in still])
-        say(f"not seen any more at the end, and still where they were last: {called} (--gone-after S lets them leave)")
+        say(f"not seen at the end, and left where they were last seen: {called} (--gone-after S lets them leave)")
     keep_beside(options, found.names, moves.positions_text(steps))
     write(options.output, f"{steps[0].network.scene()}%%\n{script}")
     return 0
@@ -331,7 +331,7 @@ def shaped(options: argparse.Namespace, program: str | None) -> Network:
         at_most(width * height)
         return network.grid(width, height, closed=options.torus is not None)
     if options.range is None:
-        raise Fault("--disk and --points need a --range")
+        raise Fault("--disk and --points need --range")
     if options.disk is not None:
         return network.disk(at_most(options.disk), options.side, options.range, options.seed)
     points = points_of(options, program)
@@ -352,7 +352,7 @@ def with_names_beside(found: Network, name: str) -> Network:
 def at_most(count: int) -> int:
     """A number of devices that `fc` takes, so that no more are linked in vain."""
     if count > network.MOST_DEVICES:
-        raise Fault(f"{count:,} devices, and fc takes 1 to {network.MOST_DEVICES:,}", 4)
+        raise Fault(f"{count:,} devices, but fc takes 1 to {network.MOST_DEVICES:,}", 4)
     return count
 
 
@@ -364,7 +364,7 @@ def inputs_of(options: argparse.Namespace) -> list[str] | None:
 def say_left_out(name: str, left_out: Sequence[str]) -> None:
     """Says which columns of a file are nothing."""
     if left_out:
-        say(f"{name}: left out, as no inputs: {', '.join(left_out)}")
+        say(f"{name}: left out, not being inputs: {', '.join(left_out)}")
 
 
 def by_name(devices: Iterable[int], names: Mapping[int, str]) -> dict[str, int]:
@@ -407,7 +407,7 @@ def thinned(found: Network, most: int | None) -> tuple[Network, str]:
         return found, ""
     kept = network.nearest(found, most)
     lost = len(found.links) - len(kept.links)
-    more = f"; it falls into {parts(kept)} parts, and was in {parts(found)}" if parts(kept) > parts(found) else ""
+    more = f"; the network now has {parts(kept)} parts instead of {parts(found)}" if parts(kept) > parts(found) else ""
     return kept, f"{lost} of {len(found.links)} links are left out{more}"
 
 
@@ -443,7 +443,7 @@ def keep_beside(options: argparse.Namespace, names: Mapping[int, str], positions
     if names:
         name = options.names or (files.beside(options.output, "names") if options.output != "-" else None)
         if name is None:
-            say(f"{len(names)} devices have names: --names FILE keeps them")
+            say(f"{len(names)} devices have names; --names FILE would keep them")
         else:
             write(name, files.names_text(names))
             say(f"the names of the devices are in {name}")

@@ -20,13 +20,13 @@ from ..progress import Progress, described
 from ..refusals import Call, Fault, Section
 from ..sections import PAGES, PICTURES, read, sections, writable, write
 
-SUMMARY = "draws a network with the values of its devices, or a run as a page with a slider over its shows"
+SUMMARY = "draws a network with the values of its devices, or a run as a page with a slider"
 EPILOG = """\
 Example: fieldc picture hops.fc net.json --of stable --positions points.csv -o hops.svg
 
-The files are a program and a network; for a run its script too, and for a replay its log, since each show is drawn on
-the network as it is then; for bounds that hold while the network changes the file of changes, so that all is drawn that
-may come. A network alone is drawn without values. What fc wrote is read by --values, or asked for by --of."""
+The files are a program and a network; for a run also its script, and for a replay its log, since each show is drawn on
+the network of that moment; for bounds while the network changes also the file of changes, so that everything that may
+come is drawn. A network alone is drawn without values. --values reads what fc wrote, and --of asks fc."""
 OF: dict[str, tuple[tuple[str, ...], Callable[[str], results.Result]]] = {
     "stable": (("stable",), results.stable),
     "settle": (("check", "--settle"), results.settled),
@@ -45,7 +45,8 @@ KINDS = ("program", "network", "script")
 
 def arguments(parser: argparse.ArgumentParser) -> None:
     parser.add_argument(
-        "files", nargs="+", metavar="FILE", help="PROGRAM NETWORK [SCRIPT, LOG or CHANGES], joined or not; or a network"
+        "files", nargs="+", metavar="FILE",
+        help="PROGRAM NETWORK [SCRIPT, LOG or CHANGES], in one file or several; or just a network",
     )
     parser.add_argument(
         "-o", "--output", metavar="FILE", required=True, help="the picture, by its ending .svg, .png, .pdf, .html"
@@ -53,21 +54,21 @@ def arguments(parser: argparse.ArgumentParser) -> None:
     values = parser.add_mutually_exclusive_group()
     values.add_argument("--values", metavar="FILE", help="what fc wrote of this network (- is standard input)")
     values.add_argument("--of", choices=tuple(OF), help="asks fc for the values")
-    parser.add_argument("--show", metavar="N", type=int, help="which show of a run is drawn, from 1 (the last)")
+    parser.add_argument("--show", metavar="N", type=int, help="which show of a run to draw, from 1 (the last)")
     parser.add_argument("--page", action="store_true", help="a page of HTML, with a slider over all shows")
     parser.add_argument(
-        "--rounds", action="store_true", help="of bounds while the network changes: a show for each number of rounds"
+        "--rounds", action="store_true", help="for bounds while the network changes: a show for each number of rounds"
     )
     parser.add_argument(
-        "--positions", metavar="FILE", help="positions, lines id,x,y, or t,id,x,y with a time for each show (a layout)"
+        "--positions", metavar="FILE", help="positions: lines id,x,y, or t,id,x,y with a time for each show (a layout)"
     )
-    parser.add_argument("--names", metavar="FILE", help="names of devices, one line id,name each")
+    parser.add_argument("--names", metavar="FILE", help="names of devices: a line id,name for each")
     parser.add_argument("--numbers", action="store_true", help="writes the number, or name, beside each device")
     parser.add_argument(
         "--mark", metavar="NAME", action="append", default=[], help="marks devices whose input NAME is true"
     )
     parser.add_argument(
-        "--kinds", metavar="PARTS", help="numbers are names, and no amounts: in all parts of the values, or 2, or 1,3"
+        "--kinds", metavar="PARTS", help="numbers are names, not amounts: in all parts of the values, or 2, or 1,3"
     )
     parser.add_argument("--arrows", action="store_true", help="arrows to the neighbour whose number a device holds")
     parser.add_argument("--title", default="", help="a line above the picture")
@@ -79,7 +80,7 @@ def perform(options: argparse.Namespace) -> int:
     writable(options.output, PAGES if as_page else (*PICTURES, *PAGES))
     pyplot_ready()
     if options.values == "-" and "-" in options.files:
-        raise Fault("standard input can be read once: name it by one -")
+        raise Fault("standard input can be read only once: use a single -")
     names = names_from(options.names) if options.names else {}
     answer = read(options.values) if options.values else None
     of_changes = options.of in CHANGING or (answer is not None and results.is_bounded(answer))

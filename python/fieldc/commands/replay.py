@@ -7,7 +7,7 @@ import argparse
 from .. import results
 from ..asking import add_answers, add_cut_check, add_files, ask
 
-SUMMARY = "goes through a log, and writes what each device then holds"
+SUMMARY = "replays a log, and writes what each device then holds"
 KINDS = ("program", "network", "log")
 
 

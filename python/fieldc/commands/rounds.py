@@ -15,14 +15,14 @@ from ..refusals import Call, Fault, Section
 from ..sections import PICTURES, sections, writable, write
 from ..tables import table_of_rounds
 
-SUMMARY = "draws against the rounds how many devices hold their value, from rubbish, or how far they are behind edits"
+SUMMARY = "draws how many devices hold their value after each round, from rubbish, or how far they lag behind edits"
 EPILOG = """\
 Example: fieldc rounds hops.fc net.json --number 1 --number 2 -o rounds.svg
 
 For each table it writes NUMBER ROUNDS R K: after how many rounds it had settled, the settle time and the bound of the
 verdict (- with a no).
 
-With a script it runs that, and draws for each group of edits the settle time from what devices hold then, beside the
+With a script it runs the script, and draws for each group of edits the settle time from what devices hold then, and the
 rounds until the next edit. It writes LINE BEFORE R ROUNDS LATE: the line of the first edit, the rounds that had run,
 the settle time (- where it is open), the rounds until the next edit, and how many devices don't hold their value
 then."""
@@ -31,7 +31,7 @@ NOT_OF_SCRIPTS = {"number": "--number", "rounds": "--rounds", "csv": "--csv"}
 
 def arguments(parser: argparse.ArgumentParser) -> None:
     parser.add_argument(
-        "files", nargs="+", metavar="FILE", help="PROGRAM NETWORK [SCRIPT], joined or not"
+        "files", nargs="+", metavar="FILE", help="PROGRAM NETWORK [SCRIPT], in one file or several"
     )
     parser.add_argument(
         "-o", "--output", metavar="FILE", required=True, help="the picture, by its ending .svg, .png or .pdf"
@@ -41,15 +41,15 @@ def arguments(parser: argparse.ArgumentParser) -> None:
         metavar="N",
         type=int,
         action="append",
-        help="the rubbish of this number (1); several give several curves",
+        help="the number from which rubbish is made (1); several give several curves",
     )
     parser.add_argument(
-        "--rounds", metavar="R", type=int, help=f"how many rounds are run (R, at most {rounds.MOST_ROUNDS:,})"
+        "--rounds", metavar="R", type=int, help=f"how many rounds to run (R, at most {rounds.MOST_ROUNDS:,})"
     )
     parser.add_argument("--workers", metavar="W", type=int, default=4, help="threads that fire devices in each run (4)")
     parser.add_argument("--title", default="", help="a line above the picture")
-    parser.add_argument("--csv", metavar="FILE", help="writes there what each device holds after each round")
-    parser.add_argument("--names", metavar="FILE", help="a file of lines id,name: devices in --csv and in a script")
+    parser.add_argument("--csv", metavar="FILE", help="writes to FILE what each device holds after each round")
+    parser.add_argument("--names", metavar="FILE", help="lines id,name: names of devices in --csv and in a script")
     add_cut_check(parser)
 
 
@@ -91,7 +91,7 @@ def perform_script(options: argparse.Namespace, parts: Sequence[Section]) -> int
     """Draws how far behind the edits of a script the values are."""
     for name, option in NOT_OF_SCRIPTS.items():
         if getattr(options, name) is not None:
-            raise Fault(f"{option} isn't taken beside a script, which says itself what happens")
+            raise Fault(f"{option} doesn't go with a script, which itself says what happens")
     network, lines = behind.judged(*parts)
     with Progress(lambda: f"runs the script on {len(network.devices):,} devices") as waiting:
         found = behind.stretches(parts[0].text, network, lines, options.workers, waiting)

@@ -9,14 +9,14 @@ from ..asking import add_answers, add_cut_check, add_files, ask
 from ..library import with_rounds
 from ..refusals import Call
 
-SUMMARY = "runs a script: rounds on several threads, edits, rubbish tables, and what is shown"
+SUMMARY = "runs a script: rounds on several threads, edits, rubbish, and what to show"
 KINDS = ("program", "network", "script")
 
 
 def arguments(parser: argparse.ArgumentParser) -> None:
     add_files(parser, KINDS)
     parser.add_argument("--workers", metavar="N", type=int, default=4, help="threads that fire devices, 1 to 16 (4)")
-    parser.add_argument("--log", action="store_true", help="adds the log of all steps that were taken")
+    parser.add_argument("--log", action="store_true", help="adds the log of all steps")
     parser.add_argument("--table", action="store_true", help="adds the table of what the devices have published")
     add_cut_check(parser)
     add_answers(parser, values=True)

@@ -20,7 +20,7 @@ KINDS = ("program", "network")
 
 def arguments(parser: argparse.ArgumentParser) -> None:
     add_files(parser, KINDS)
-    parser.add_argument("--facts", action="store_true", help="adds what is known of each node of the unfolded main")
+    parser.add_argument("--facts", action="store_true", help="adds the facts of each node of the unfolded main")
     settle_arguments(parser)
     add_cut_check(parser)
     add_answers(parser, values=True)
@@ -31,14 +31,15 @@ def settle_arguments(parser: argparse.ArgumentParser) -> None:
     parser.add_argument(
         "--from-table",
         action="store_true",
-        help="counts from the network's table and pending firings, as after an edit, in place of every start",
+        help="counts from the network's table and pending firings, as after an edit, instead of from every start",
     )
-    parser.add_argument("--why", action="store_true", help="where it is open, looks for two starts that rest apart")
+    why = "if it is open, looks for two starts that end at different values"
+    parser.add_argument("--why", action="store_true", help=why)
     parser.add_argument(
-        "--changes", metavar="FILE", help="a file of what may change: bounds that hold meanwhile, in place of values"
+        "--changes", metavar="FILE", help="a file of what may change: gives bounds that hold meanwhile, not values"
     )
     parser.add_argument(
-        "--confirm", metavar="N", type=confirm.runs, help="beside --changes: tries N random runs within the changes"
+        "--confirm", metavar="N", type=confirm.runs, help="with --changes: tries N random runs within the changes"
     )
     pace.arguments(parser)
 
@@ -48,7 +49,7 @@ def perform(options: argparse.Namespace) -> int:
     if options.changes is not None:
         return bounds(options, words)
     if options.confirm is not None:
-        raise Fault("--confirm tries runs within changes: give --changes too")
+        raise Fault("--confirm needs --changes: it tries runs within them")
     call, found, status = ask(options, words, KINDS, lambda text, _: results.settled(text, options.from_table))
     why_open(options, call, found)
     return status
@@ -58,9 +59,9 @@ def bounds(options: argparse.Namespace, words: list[str]) -> int:
     """Asks for the bounds that hold while the network changes, tries them where that is wanted, and answers the
     status."""
     if options.why:
-        raise Fault("--why is of settle rounds, and beside --changes there are bounds")
+        raise Fault("--why is about settle rounds; with --changes there are bounds")
     if getattr(options, "kinds", None):
-        raise Fault("--kinds is of values, and beside --changes there are bounds")
+        raise Fault("--kinds is about values; with --changes there are bounds")
     call, found, status = ask(options, [*words, "--changes"], KINDS, lambda text, _: results.bounded(text))
     return status if options.confirm is None else confirm.perform(call, found, options.confirm) or status
 
@@ -72,10 +73,10 @@ def why_open(options: argparse.Namespace, call: Call, found: results.Settled) ->
     count = sum(rounds is None for rounds in found.by_device.values())
     say(f"fieldc: open: no number of rounds is known for {count} of {len(found.by_device)} devices\n")
     if not options.why:
-        say("try: fieldc settle --why, which looks for two starts that rest apart\n")
+        say("try: fieldc settle --why, which looks for two starts that end at different values\n")
         return
     if not has_lark():
-        raise Fault("--why reads the program, which needs Lark (Debian: python3-lark)")
+        raise Fault("--why needs Lark to read the program (Debian: python3-lark)")
     from .. import openness
 
     openness.perform(options, call)

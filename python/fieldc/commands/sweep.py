@@ -28,13 +28,13 @@ from ..sweep.running import Spent
 from .network import length, sides, span, whole
 
 MOST_LOOKED_AT = 1_000
-SUMMARY = "asks after how many rounds a program settles on many deployments that are drawn"
+SUMMARY = "says after how many rounds a program settles on many random networks"
 EPILOG = """\
 Example: fieldc sweep hops.fc --disk 60 --range 20 --set src=true@random:2 --count 1000 -o hops.csv --report hops.html
 
-Each deployment is drawn from its seed alone, and has a row in the file: seed, devices, links, components, diameter,
-verdict, K, R (or open), and the device that is known last with its rounds. A sweep that was stopped goes on where it
-was. fieldc sweep with the same options and --again SEED makes the network of a seed."""
+Each deployment depends only on its seed, and has a row in the file: seed, devices, links, components, diameter,
+verdict, K, R (or open), and the device that settles last, with its rounds. The same command continues a sweep that was
+stopped. With the same options and --again SEED it makes the network of a seed."""
 
 
 def numbers(word: str) -> Pair:
@@ -52,7 +52,7 @@ def probability(word: str) -> float:
     except ValueError:
         found = math.nan
     if not 0 <= found <= 1:
-        raise argparse.ArgumentTypeError(f"{word} isn't a probability: a number from 0 to 1")
+        raise argparse.ArgumentTypeError(f"{word} isn't a probability, a number from 0 to 1")
     return found
 
 
@@ -96,7 +96,7 @@ def arguments(parser: argparse.ArgumentParser) -> None:
     shape.add_argument(
         "--points", metavar="FILE", help="rows id, x, y of positions, which --jitter moves; needs --range"
     )
-    shape.add_argument("--edges", metavar="FILE", help="links, GraphML or GML, of which --fail takes some away")
+    shape.add_argument("--edges", metavar="FILE", help="links, GraphML or GML, of which --fail removes some")
     _drawing(parser)
     _asking(parser)
 
@@ -141,7 +141,7 @@ def _asking(parser: argparse.ArgumentParser) -> None:
         "--seed", metavar="S", type=whole(0, "a seed"), default=0, help="the first seed (0); the others follow"
     )
     parser.add_argument(
-        "--values", action="store_true", help="keeps the stabilised values too, as fc stable writes them"
+        "--values", action="store_true", help="also keeps the final values, as fc stable writes them"
     )
     parser.add_argument("-o", "--output", metavar="FILE", help="the rows, a file .csv; with --again the network")
     parser.add_argument(
@@ -149,15 +149,15 @@ def _asking(parser: argparse.ArgumentParser) -> None:
     )
     parser.add_argument("--title", help="a line above the report (the program's name)")
     parser.add_argument(
-        "--workers", metavar="W", type=whole(1, "a number of processes"), help="processes (one a processor)"
+        "--workers", metavar="W", type=whole(1, "a number of processes"), help="processes (one for each processor)"
     )
     parser.add_argument("--scheduler", metavar="ADDRESS", help="asks on the Dask cluster of this scheduler, host:port")
     add_cut_check(parser)
     parser.add_argument(
-        "--again", metavar="SEED", type=whole(0, "a seed"), help="makes the network of this seed, asks nothing"
+        "--again", metavar="SEED", type=whole(0, "a seed"), help="makes the network of this seed, and asks nothing"
     )
     parser.add_argument(
-        "--positions", metavar="FILE", help="with --again: writes the positions there, one line id,x,y each"
+        "--positions", metavar="FILE", help="with --again: writes the positions to FILE, a line id,x,y for each"
     )
 
 
@@ -167,7 +167,7 @@ def perform(options: argparse.Namespace) -> int:
     if options.again is not None:
         return again(rule, options)
     if options.output is None:
-        raise Fault("-o FILE is missing: where the rows are kept")
+        raise Fault("-o FILE is missing: it keeps the rows")
     writable(options.output, (".csv",))
     for name in options.report:
         writable(name, (*PICTURES, *PAGES))
@@ -194,9 +194,9 @@ def rule_of(options: argparse.Namespace, program: str) -> Rule:
         name for name in ("line", "ring", "grid", "torus", "disk", "points", "edges") if getattr(options, name)
     )
     if shape in ("disk", "points") and options.range is None:
-        raise Fault(f"--{shape} needs a --range")
+        raise Fault(f"--{shape} needs --range")
     if options.jitter and shape != "points":
-        raise Fault("--jitter moves the devices of --points alone")
+        raise Fault("--jitter needs --points, whose devices it moves")
     given = getattr(options, shape)
     base = None
     if shape == "points":
@@ -285,7 +285,7 @@ def asked(question: Question, options: argparse.Namespace) -> Spent:
 def tell(spent: Spent) -> None:
     """Says on standard error what the sweep took."""
     if spent.rows:
-        used = f"{spent.inside:.1f} s of a processor in fc and {spent.beside:.1f} s beside it"
+        used = f"{spent.inside:.1f} CPU seconds in fc and {spent.beside:.1f} outside"
         say(f"fieldc sweep: {spent.rows:,} rows in {spent.clock:.1f} s, {used}\n")
 
 

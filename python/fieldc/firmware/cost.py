@@ -98,7 +98,7 @@ def cost_text(firmware: Firmware) -> str:
     ]
     for machine in MACHINES:
         if shutil.which(machine.front + "gcc") is None:
-            lines.append(f"{machine.name}: {machine.front}gcc isn't there (Debian: gcc-{machine.front.strip('-')})")
+            lines.append(f"{machine.name}: {machine.front}gcc is missing (Debian: gcc-{machine.front.strip('-')})")
         else:
             found = machine_cost(replace(firmware, neighbours=8), machine)
             bytes_ = f"{found.text} bytes of code, {found.stack} of stack, {found.device} of a device"

@@ -15,7 +15,7 @@ from .tree import At, Declaration, Expr, Parameter, Type, quoted
 if TYPE_CHECKING:
     from .types import Bound, Known
 
-OUT_OF_A_FIELD = "One value is taken out of a field by `minHoodLoc`, `maxHoodLoc`, `sumHood`, `anyHood` or `allHood`."
+OUT_OF_A_FIELD = "Make one value of a field with `minHoodLoc`, `maxHoodLoc`, `sumHood`, `anyHood` or `allHood`."
 ANOTHER_NAME = "Give one of them another name."
 PLURAL = {"int": "integers", "bool": "truth values"}
 CALLED = [
@@ -40,8 +40,8 @@ def kind_text(kind: Type) -> str:
 
 def no_ceiling(place: At) -> Complaint:
     """A ceiling of 0."""
-    what = "The ceiling is 0, and has to be at least 1."
-    return Complaint(what, place, "ceiling", "Take the greatest number that is needed.")
+    what = "The ceiling is 0; it has to be at least 1."
+    return Complaint(what, place, "ceiling", "Write the greatest number that the program needs.")
 
 
 def bad_range(declaration: Declaration, ceiling: int) -> Complaint:
@@ -50,10 +50,10 @@ def bad_range(declaration: Declaration, ceiling: int) -> Complaint:
     of = f"the input `{declaration.name}`" if declaration.form == "input" else "the metric"
     name = declaration.name or "metric"
     if low > high:
-        what = f"The range of {of} has its least, {low}, above its greatest, {high}."
-        return Complaint(what, low_at, name, "Turn them round.")
+        what = f"The range of {of} begins at {low} and ends at {high}, which is less."
+        return Complaint(what, low_at, name, "Swap them.")
     hint = f"Lower it, or raise the ceiling to {high}."
-    return Complaint(f"The range of {of} ends at {high}, above the ceiling {ceiling}.", high_at, name, hint)
+    return Complaint(f"The range of {of} ends at {high}, which is above the ceiling {ceiling}.", high_at, name, hint)
 
 
 def twice(what: str, name: str, place: At | None, before: At | None) -> Complaint:
@@ -64,20 +64,20 @@ def twice(what: str, name: str, place: At | None, before: At | None) -> Complain
 
 def second_metric(place: At, before: At) -> Complaint:
     """A metric behind another one."""
-    what = f"A second metric is declared; the first stands on line {before.line}, column {before.column}."
+    what = f"This is a second metric; the first is on line {before.line}, column {before.column}."
     return Complaint(what, place, "metric", "Keep one of them.")
 
 
 def bound_twice(expr: Expr, before: At) -> Complaint:
     """A `let`, `rep` or `share` that binds a name which is bound round it."""
-    what = f"`{expr.name}` is bound here, and round it already, on line {before.line}, column {before.column}."
-    return Complaint(what, expr.bound, expr.name, "Give one of them another name: no name hides another.")
+    what = f"`{expr.name}` is bound here, but also around it, on line {before.line}, column {before.column}."
+    return Complaint(what, expr.bound, expr.name, "Give one of them another name: a name can't hide another one.")
 
 
 def wide(what: str, count: int, place: At | None) -> Complaint:
     """A type of more than 8 integers and truth values."""
-    hint = "Keep what belongs together in two values, or put two small numbers into one."
-    return Complaint(f"{what} has {count} integers and truth values, and at most 8 are allowed.", place, None, hint)
+    hint = "Split it into two values, or pack two small numbers into one."
+    return Complaint(f"{what} has {count} integers and truth values; the limit is 8.", place, None, hint)
 
 
 def great_literal(expr: Expr, ceiling: int) -> Complaint:
@@ -93,18 +93,18 @@ def unknown_variable(expr: Expr, scope: Mapping[str, Bound], known: Known) -> Co
     near = similar(name, [*scope, "uid", "true", "false", "nbrLink"])
     hint: str | None
     if name in known.inputs:
-        hint = f"An input is read by `sense {name}`."
+        hint = f"Read an input with `sense {name}`."
     elif name in known.functions:
         dots = ", ".join(".." for _ in known.functions[name].parameters)
-        hint = f"A function is called with round brackets: `{name}({dots})`."
+        hint = f"Call a function with round brackets: `{name}({dots})`."
     elif hint_for(name):
         hint = hint_for(name)
     elif near:
-        hint = f"Is `{near}` meant?"
+        hint = f"Did you mean `{near}`?"
     elif similar(name, known.inputs):
-        hint = f"Is the input `sense {similar(name, known.inputs)}` meant?"
+        hint = f"Did you mean the input `sense {similar(name, known.inputs)}`?"
     else:
-        hint = "A name is a parameter, or is bound round its place by `let`, `rep` or `share`."
+        hint = "A name has to be a parameter, or be bound around this place by `let`, `rep` or `share`."
     return Complaint(what, expr.at, name, hint)
 
 
@@ -114,11 +114,11 @@ def unknown_input(expr: Expr, scope: Mapping[str, Bound], known: Known) -> Compl
     what = f"No input named `{name}` is declared before."
     near = similar(name, known.inputs)
     if any(part.form == "input" and part.name == name for part in known.later):
-        hint = "It is declared further down: move its declaration up."
+        hint = "It is declared below: move its declaration up."
     elif name in scope:
         hint = f"`{name}` is a variable: write it without `sense`."
     elif near:
-        hint = f"Is `sense {near}` meant?"
+        hint = f"Did you mean `sense {near}`?"
     else:
         hint = f"Declare it: `input {name}: bool;`."
     return Complaint(what, expr.bound, name, hint)
@@ -144,15 +144,15 @@ def unknown_function(expr: Expr, scope: Mapping[str, Bound], known: Known) -> Co
     later = [part for part in known.later if part.form == "def" and part.name == name]
     hint: str | None
     if later and later[0] is known.later[0]:
-        hint = "A function can't call itself: what goes on from firing to firing is kept by `rep`."
+        hint = "A function can't call itself. What goes on from firing to firing is kept by `rep`."
     elif later:
-        hint = "It is declared further down: move its declaration up."
+        hint = "It is declared below: move its declaration up."
     elif hint_for(name):
         hint = hint_for(name)
     elif near:
-        hint = f"Is `{near}` meant?"
+        hint = f"Did you mean `{near}`?"
     elif name in scope:
-        hint = f"`{name}` is a variable, and has no brackets."
+        hint = f"`{name}` is a variable and takes no brackets."
     elif block_hint(name):
         hint = block_hint(name)
     else:
@@ -164,7 +164,7 @@ def other_count(expr: Expr, function: Declaration) -> Complaint:
     """A call with another number of arguments."""
     count = len(function.parameters)
     wanted = f"{count} argument{'' if count == 1 else 's'}"
-    what = f"`{expr.name}` takes {wanted}, and is given {len(expr.kids)}."
+    what = f"`{expr.name}` takes {wanted}, but gets {len(expr.kids)}."
     names = ", ".join(f"{part.name}: {part.type}" for part in function.parameters)
     return Complaint(what, expr.at, expr.name, f"It is declared as `{expr.name}({names})`.")
 
@@ -172,7 +172,7 @@ def other_count(expr: Expr, function: Declaration) -> Complaint:
 def other_argument(text: str, expr: Expr, kid: Expr, found: Type, parameter: Parameter) -> Complaint:
     """An argument of another type than its parameter."""
     wanted = f"The argument `{parameter.name}` of `{expr.name}` is {kind_text(parameter.type)}"
-    what = f"{wanted}, and {quoted(text, kid)} is {kind_text(found)}."
+    what = f"{wanted}, but {quoted(text, kid)} is {kind_text(found)}."
     return Complaint(what, kid.at, parameter.name, _towards(parameter.type, found))
 
 
@@ -180,56 +180,56 @@ def other_result(declaration: Declaration, found: Type) -> Complaint:
     """A body of another type than the result of its function."""
     assert declaration.result is not None and declaration.body is not None
     what = f"The body of `{declaration.name}` is {kind_text(found)}"
-    what += f", and its result is declared as {kind_text(declaration.result)}."
+    what += f", but its result is declared as {kind_text(declaration.result)}."
     hint = _towards(declaration.result, found) or f"Declare the result as `{found}`, or change the body."
     return Complaint(what, declaration.body.at, declaration.name, hint)
 
 
 def field_in_main(text: str, body: Expr) -> Complaint:
     """A `main` that is a field."""
-    return Complaint(f"`main` has to be local, and {quoted(text, body)} is a field.", body.at, "main", OUT_OF_A_FIELD)
+    return Complaint(f"`main` has to be local, but {quoted(text, body)} is a field.", body.at, "main", OUT_OF_A_FIELD)
 
 
 def field_in_nbr(text: str, expr: Expr) -> Complaint:
     """A field that would be shared."""
     kid = expr.kids[0]
-    already = f"It is heard from the neighbours already: write `{kid.name}` in place of `nbr{{{kid.name}}}`."
+    already = f"It is heard from the neighbours already: write `{kid.name}` instead of `nbr{{{kid.name}}}`."
     hint = already if kid.form == "variable" else OUT_OF_A_FIELD
-    return Complaint(f"`nbr` shares a local value, and {quoted(text, kid)} is a field.", kid.at, "nbr", hint)
+    return Complaint(f"`nbr` shares a local value, but {quoted(text, kid)} is a field.", kid.at, "nbr", hint)
 
 
 def field_in_keeping(text: str, expr: Expr, part: Expr) -> Complaint:
     """A `rep` or `share` whose first value or body is a field."""
     of = "first value" if part is expr.kids[0] else "body"
-    what = f"The {of} of a `{expr.form}` has to be local, and {quoted(text, part)} is a field."
+    what = f"The {of} of a `{expr.form}` has to be local, but {quoted(text, part)} is a field."
     return Complaint(what, part.at, expr.name, OUT_OF_A_FIELD)
 
 
 def field_in_if(text: str, expr: Expr, kid: Expr) -> Complaint:
     """An `if` with a part that is a field."""
     of = "condition" if kid is expr.kids[0] else "branch"
-    what = f"The {of} of an `if` has to be local, and {quoted(text, kid)} is a field."
+    what = f"The {of} of an `if` has to be local, but {quoted(text, kid)} is a field."
     return Complaint(what, kid.at, "if", "`mux(c, a, b)` chooses between fields, neighbour by neighbour.")
 
 
 def other_body(text: str, expr: Expr, first: Type, body: Type) -> Complaint:
     """A `rep` or `share` whose body is of another type than its first value."""
     what = f"The body of this `{expr.form}` is {kind_text(body)}"
-    what += f", and its first value {quoted(text, expr.kids[0])} is {kind_text(first)}."
-    return Complaint(what, expr.kids[1].at, expr.name, "Both have the type of what is kept.")
+    what += f", but its first value {quoted(text, expr.kids[0])} is {kind_text(first)}."
+    return Complaint(what, expr.kids[1].at, expr.name, "Both need the type of what is kept.")
 
 
 def no_condition(text: str, word: str, kid: Expr, found: Type) -> Complaint:
     """A condition that is no truth value."""
-    what = f"The condition of `{word}` is a truth value, and {quoted(text, kid)} is {kind_text(found)}."
+    what = f"The condition of `{word}` is a truth value, but {quoted(text, kid)} is {kind_text(found)}."
     hint = "Compare it, as in `x = 1`." if found.local == "int" else None
     return Complaint(what, kid.at, word, hint)
 
 
 def other_choices(text: str, word: str, kid: Expr, first: Type, second: Type) -> Complaint:
     """Two choices of different types."""
-    what = f"Both choices of `{word}` have one type; the first is {kind_text(first)}"
-    what += f", and {quoted(text, kid)} is {kind_text(second)}."
+    what = f"Both choices of `{word}` need the same type; the first is {kind_text(first)}"
+    what += f", but {quoted(text, kid)} is {kind_text(second)}."
     return Complaint(what, kid.at, word, None)
 
 
@@ -243,19 +243,19 @@ def mismatch(text: str, expr: Expr, found: list[Type]) -> Complaint:
             return no_condition(text, "mux", expr.kids[0], found[0])
         return other_choices(text, "mux", expr.kids[2], found[1], found[2])
     if name in ("fst", "snd"):
-        what = f"`{name}` takes a part of a pair, and {quoted(text, expr.kids[0])} is {kind_text(found[0])}."
+        what = f"`{name}` takes a pair, but {quoted(text, expr.kids[0])} is {kind_text(found[0])}."
         return Complaint(what, expr.kids[0].at, name, None)
     if name in ("min", "max", "<", "="):
-        what = f"`{name}` takes two values of one type; the first is {kind_text(found[0])}"
+        what = f"`{name}` takes two values of the same type; the first is {kind_text(found[0])}"
         what += f", and the second is {kind_text(found[1])}."
         return Complaint(what, expr.kids[1].at, name, None)
     wanted = "bool" if name in ("and", "or", "not") else "int"
     place = next(place for place, kind in enumerate(found) if kind.local != wanted)
-    what = f"`{name}` takes {PLURAL[wanted]}, and {quoted(text, expr.kids[place])} is {kind_text(found[place])}."
+    what = f"`{name}` takes {PLURAL[wanted]}, but {quoted(text, expr.kids[place])} is {kind_text(found[place])}."
     if len(found) == 1:
-        what = f"`{name}` takes a truth value, and {quoted(text, expr.kids[0])} is {kind_text(found[0])}."
+        what = f"`{name}` takes a truth value, but {quoted(text, expr.kids[0])} is {kind_text(found[0])}."
     hint = (
-        "A truth value is made a number by `mux(c, 1, 0)`."
+        "Make a truth value a number with `mux(c, 1, 0)`."
         if wanted == "int" and found[place].local == "bool"
         else None
     )
@@ -266,16 +266,16 @@ def mismatch(text: str, expr: Expr, found: list[Type]) -> Complaint:
 def _hood_mismatch(text: str, expr: Expr, found: list[Type]) -> Complaint:
     name, kid = expr.name, expr.kids[0]
     if not found[0].field:
-        what = f"`{name}` takes a field of what the neighbours share, and {quoted(text, kid)} is {kind_text(found[0])}."
-        return Complaint(what, kid.at, name, "What the neighbours share is `nbr{..}`.")
+        what = f"`{name}` takes a field of what the neighbours share, but {quoted(text, kid)} is {kind_text(found[0])}."
+        return Complaint(what, kid.at, name, "`nbr{..}` is what the neighbours share.")
     if name in ("minHoodLoc", "maxHoodLoc"):
         second = expr.kids[1]
         what = f"The second argument of `{name}` is one value of the type of the first one's; "
         what += f"{quoted(text, second)} is {kind_text(found[1])}, and wanted is {kind_text(Type(found[0].local))}."
         return Complaint(what, second.at, name, OUT_OF_A_FIELD if found[1].field else None)
     wanted = "int" if name == "sumHood" else "bool"
-    what = f"`{name}` takes a field of {PLURAL[wanted]}, and {quoted(text, kid)} is {kind_text(found[0])}."
-    hint = "Count what is true by `sumHood(mux(f, 1, 0))`." if wanted == "int" and found[0].local == "bool" else None
+    what = f"`{name}` takes a field of {PLURAL[wanted]}, but {quoted(text, kid)} is {kind_text(found[0])}."
+    hint = "Count what is true with `sumHood(mux(f, 1, 0))`." if wanted == "int" and found[0].local == "bool" else None
     return Complaint(what, kid.at, name, hint)
 
 
@@ -284,5 +284,5 @@ def _towards(wanted: Type, found: Type) -> str | None:
     if found.field and not wanted.field:
         return OUT_OF_A_FIELD
     if wanted.field and not found.field:
-        return "The field of what the neighbours have is `nbr{..}`."
+        return "`nbr{..}` is the field of what the neighbours have."
     return None

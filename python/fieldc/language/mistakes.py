@@ -14,7 +14,7 @@ from .stuck import DECLARING, Advice, Stuck, advice, behind, code
 from .tree import At
 
 NAMED = "Write `let x = a in b` in the body of a function or of `main`."
-SIGNS = "There are letters, digits, spaces, comments behind `//`, and `( ) { } , ; : .. = => + - * <`."
+SIGNS = "It has letters, digits, spaces, comments after `//`, and `( ) { } , ; : .. = => + - * <`."
 
 
 def lexical(text: str, offset: int, place: At) -> Fault:
@@ -25,19 +25,19 @@ def lexical(text: str, offset: int, place: At) -> Fault:
     what = f"`{shown}` isn't a character of the language."
     hint = CHARACTERS.get(sign, SIGNS)
     if text.lstrip().startswith("{"):
-        hint = "This begins like a network. The program comes first."
+        hint = "This looks like a network. The program comes first."
     elif around.startswith("->"):
         place, what = At(place.line, place.column - 1), "`->` isn't a mark of the language."
         hint = (
-            "Behind the variable of a `rep` stands `=>`, and before the type of a result `:`, as `def f(x: int): int`."
+            "`=>` follows the variable of a `rep`, and `:` precedes the type of a result: `def f(x: int): int`."
         )
         shown = "->"
     elif sign == "." and text[:offset].endswith(")"):
         hint = PARTS
     elif sign == "." and offset and text[offset - 1].isalpha():
-        hint = "Nothing has members: a function is called by its name alone, as `f(x)`."
+        hint = "Nothing has members: call a function by its name alone, as in `f(x)`."
     elif sign.isalpha():
-        hint = "Names are of the letters a to z and A to Z, digits and `_`; other letters stand in comments alone."
+        hint = "Names have the letters a to z and A to Z, digits and `_`; use other letters in comments only."
     line = f"lexical {len(text[:offset].encode('utf-8', 'surrogateescape'))}"
     return Fault(line, what, place, shown, hint, TOKENS)
 
@@ -47,11 +47,11 @@ def missing_main(number: int, tokens: list[Token], forms: list[str]) -> Fault:
     line = tokens[-1].line if tokens else 1
     place = behind(tokens[-1]) if tokens else At(1, 1)
     what = "The program has no `main`." if tokens else "The program is empty."
-    hint = "End it with `main = ..;`, whose value each device publishes."
+    hint = "End it with `main = ..;`: each device publishes its value."
     if not tokens:
         hint = "It begins with `ceiling 10;` and ends with `main = ..;`."
     elif forms == ["language"]:
-        what, hint = "The program has no ceiling.", "Write `ceiling 10;` behind `language 2;`."
+        what, hint = "The program has no ceiling.", "Write `ceiling 10;` after `language 2;`."
     return Fault(f"syntax {number} {line}", what, place, "main" if tokens else None, hint, GRAMMAR)
 
 
@@ -61,17 +61,17 @@ def first_of(stuck: Stuck) -> Advice | None:
         return None
     here = stuck.here
     if stuck.kind == "SEMI":
-        return advice(here, "This `;` ends nothing.", "Take it away: each declaration has one `;`.")
+        return advice(here, "This `;` ends nothing.", "Remove it: each declaration has one `;`.")
     if stuck.start == "end":
         if stuck.kind == "MAIN":
             return advice(here, "`main` is declared a second time.", "A program has one `main`, at its end.")
-        return advice(here, f"Nothing may stand behind `main`, and {code(here)} does.", "Move it above `main`.")
+        return advice(here, f"Nothing may follow `main`, but {code(here)} does.", "Move it above `main`.")
     if stuck.start == "first":
-        what = f"A program begins with its ceiling, and this one with {code(here)}."
-        return advice(here, what, "Write `ceiling 10;` in front, with the greatest number that the program needs.")
+        what = f"A program begins with its ceiling, but this one begins with {code(here)}."
+        return advice(here, what, "Write `ceiling 10;` first, with the greatest number that the program needs.")
     if stuck.start == "second":
         return advice(
-            here, f"Behind `language 2;` comes the ceiling, and not {code(here)}.", "Write `ceiling 10;` there."
+            here, f"The ceiling has to follow `language 2;`, not {code(here)}.", "Write `ceiling 10;` there."
         )
     return _no_declaration(stuck)
 
@@ -79,17 +79,17 @@ def first_of(stuck: Stuck) -> Advice | None:
 def _no_declaration(stuck: Stuck) -> Advice:
     here = stuck.here
     if stuck.kind == "CEILING":
-        return advice(here, "The ceiling is declared a second time.", "It is declared once, in front.")
+        return advice(here, "The ceiling is declared a second time.", "Declare it once, at the beginning.")
     if stuck.kind == "LANGUAGE":
-        return advice(here, "`language 2;` stands in front of all other declarations.", "Move it to the front.", TWO)
+        return advice(here, "`language 2;` comes before all other declarations.", "Move it to the front.", TWO)
     if stuck.kind == "LET" or stuck.kind_of(1) == "IS":
-        return advice(here, f"A value is named inside an expression alone, and {code(here)} stands outside.", NAMED)
+        return advice(here, f"A value can be named only inside an expression, and {code(here)} is outside.", NAMED)
     hint = (
         hint_for(here.value if here is not None else "")
-        or "Inputs, metrics, functions and `main` are declared, each ending with `;`."
+        or "Declare inputs, a metric, functions and `main`, and end each with `;`."
     )
     return advice(
-        here, f"A declaration begins with `input`, `metric`, `def` or `main`, and not with {code(here)}.", hint
+        here, f"A declaration begins with `input`, `metric`, `def` or `main`, not with {code(here)}.", hint
     )
 
 
@@ -97,7 +97,7 @@ def other_language(stuck: Stuck) -> Advice | None:
     """Where a number of a language other than 2 stands."""
     if stuck.kind_of(0) != "LANGUAGE" or stuck.index != 1 or stuck.kind != "NUMBER" or stuck.here is None:
         return None
-    hint = "Write `language 2;`, or leave it out, which is language 1."
+    hint = "Write `language 2;`, or leave it out for language 1."
     return advice(stuck.here, f"There is no language {stuck.here.value}.", hint, TWO)
 
 
@@ -105,8 +105,8 @@ def second_language(stuck: Stuck) -> Advice | None:
     """Where a form of language 2 stands in a program of language 1."""
     if stuck.kind not in ("SHARE", "RISE") or stuck.second or not stuck.operand:
         return None
-    what = f"{code(stuck.here)} is a form of language 2, and this program is of language 1."
-    return advice(stuck.here, what, "Write `language 2;` in front of the ceiling.", TWO)
+    what = f"{code(stuck.here)} belongs to language 2, but this program is in language 1."
+    return advice(stuck.here, what, "Write `language 2;` before the ceiling.", TWO)
 
 
 def great_number(stuck: Stuck) -> Advice | None:
@@ -114,7 +114,7 @@ def great_number(stuck: Stuck) -> Advice | None:
     if stuck.kind != "GREAT" or stuck.here is None:
         return None
     what = f"The number {stuck.here.value} is above 1,000,000, the greatest that a program may have."
-    return advice(stuck.here, what, "Take a greater unit, so that the numbers are smaller.")
+    return advice(stuck.here, what, "Choose a greater unit, so that the numbers get smaller.")
 
 
 def doubled_marks(stuck: Stuck) -> Advice | None:
@@ -123,10 +123,10 @@ def doubled_marks(stuck: Stuck) -> Advice | None:
         return None
     both = stuck.before.value + stuck.here.value
     hints = {
-        "==": "Two values are compared by one `=`.",
-        "<=": "Write `not (b < a)` in place of `a <= b`.",
-        "=<": "Write `not (b < a)` in place of `a <= b`.",
-        "<-": "A `rep` is written `rep(0){(x) => x + 1}`: the first value, then the variable and the body.",
+        "==": "Compare two values with a single `=`.",
+        "<=": "Write `not (b < a)` instead of `a <= b`.",
+        "=<": "Write `not (b < a)` instead of `a <= b`.",
+        "<-": "Write a `rep` as `rep(0){(x) => x + 1}`: the first value, then the variable and the body.",
         "**": "Write the product out: `x * x`.",
         "+=": KEPT,
         "-=": KEPT,
@@ -146,9 +146,9 @@ def word_as_name(stuck: Stuck) -> Advice | None:
         return None
     if stuck.start == "item" and stuck.kind in ("INT", "BOOL") and stuck.kind_of(0) == "DEF" and stuck.index > 2:
         what = "The name of a parameter comes before its type."
-        return advice(stuck.here, what, "Write `x: int`, with a `:` between.")
-    what = f"{code(stuck.here)} is a word of the language, and so never a name."
-    return advice(stuck.here, what, "Take another name.", TOKENS)
+        return advice(stuck.here, what, "Write `x: int`, with a `:` between them.")
+    what = f"{code(stuck.here)} is a word of the language, so it can't be a name."
+    return advice(stuck.here, what, "Choose another name.", TOKENS)
 
 
 def strange_word(stuck: Stuck) -> Advice | None:
@@ -178,44 +178,44 @@ def in_head(stuck: Stuck) -> Advice | None:
 
 def _in_ceiling(stuck: Stuck) -> Advice | None:
     if stuck.index == 1:
-        return advice(stuck.here, "Behind `ceiling` stands a number alone.", "Write `ceiling 10;`.")
+        return advice(stuck.here, "Only a number may follow `ceiling`.", "Write `ceiling 10;`.")
     return None
 
 
 def _in_input(stuck: Stuck) -> Advice | None:
     here = stuck.here
     if stuck.index == 1 and stuck.expected == {"NAME"} and here is not None and here.value not in WORDS:
-        return advice(here, f"An input has a name, and here is {code(here)}.", "Write `input src: bool;`.")
+        return advice(here, f"An input needs a name here, not {code(here)}.", "Write `input src: bool;`.")
     if "COLON" in stuck.expected:
-        return advice(here, "Between the name of an input and its type stands `:`.", "Write `input src: bool;`.")
+        return advice(here, "`:` is missing between the name of an input and its type.", "Write `input src: bool;`.")
     if "BOOL" in stuck.expected:
-        hint = "The types of inputs are `bool`, and `int` with a range: `int 0..10`."
-        return advice(here, f"An input is a truth value or a whole number, and {code(here)} is neither.", hint, TYPES)
+        hint = "The types of inputs are `bool` and `int` with a range, as in `int 0..10`."
+        return advice(here, f"An input is a truth value or a whole number; {code(here)} is neither.", hint, TYPES)
     if "NUMBER" in stuck.expected and stuck.kind_of(stuck.index - 1) in ("INT", "METRIC"):
-        what = "The range is missing here: a least number, `..` and a greatest."
+        what = "A range is missing here: a least number, `..` and a greatest number."
         return advice(here, what, "Write `int 0..10`." if stuck.kind_of(0) == "INPUT" else "Write `metric 1..9;`.")
     if "DOTS" in stuck.expected:
-        return advice(here, "Between the least and the greatest number of a range stands `..`.", "Write `0..10`.")
+        return advice(here, "`..` is missing between the least and the greatest number of a range.", "Write `0..10`.")
     if stuck.kind == "COMMA" and stuck.expected == {"SEMI"}:
-        return advice(here, "Each input has a declaration of its own.", "Write `input a: bool; input b: bool;`.")
+        return advice(here, "Each input needs its own declaration.", "Write `input a: bool; input b: bool;`.")
     if stuck.kind == "IS":
-        return advice(here, "An input gets its value from the network, and none in the program.", "End it with `;`.")
+        return advice(here, "An input gets its value from the network, not from the program.", "End it with `;`.")
     return None
 
 
 def _in_define(stuck: Stuck) -> Advice | None:
     here, expected = stuck.here, stuck.expected
     if stuck.index == 1 and here is not None and here.value not in WORDS:
-        return advice(here, f"A function has a name, and here is {code(here)}.", "Write `def f(x: int): int = x;`.")
+        return advice(here, f"A function needs a name here, not {code(here)}.", "Write `def f(x: int): int = x;`.")
     if stuck.index == 2 and expected == {"OPEN"}:
-        what = "Behind the name of a function stand round brackets, also where it has no parameters."
+        what = "Round brackets follow the name of a function, even if it has no parameters."
         return advice(here, what, "Write `def f(): int = 1;`.")
     if "BOOL" in expected:
         if stuck.kind == "FIELD":
-            return advice(here, "A field is of a local type, and no part of a pair or of a field.", KINDS, TYPES)
-        return advice(here, f"A type is missing here, and {code(here)} is none.", KINDS, TYPES)
+            return advice(here, "A field can't be part of a pair or of a field.", KINDS, TYPES)
+        return advice(here, f"A type is missing here; {code(here)} isn't one.", KINDS, TYPES)
     if expected == {"COMMA"} and stuck.kind == "CLOSE":
-        what = "Brackets of a type hold a pair, which has two parts."
+        what = "Brackets in a type are for a pair, which has two parts."
         return advice(here, what, "Write `(int, bool)`, or one type without brackets.", TYPES)
     if expected == {"COLON"}:
         if stuck.kind in ("COMMA", "CLOSE") and stuck.before is not None:
@@ -224,16 +224,16 @@ def _in_define(stuck: Stuck) -> Advice | None:
         return advice(here, "The type of the result is missing.", "Write `def f(x: int): int = x;`.", TYPES)
     if expected == {"IS"}:
         return advice(
-            here, "Between the type of the result and the body stands `=`.", "Write `def f(x: int): int = x;`."
+            here, "`=` is missing between the type of the result and the body.", "Write `def f(x: int): int = x;`."
         )
     if "NAME" in expected and not stuck.operand and stuck.kind == "CLOSE":
-        return advice(here, "A parameter is missing behind the comma.", "Take the comma away.")
+        return advice(here, "A parameter is missing after the comma.", "Remove the comma.")
     return None
 
 
 def _in_main(stuck: Stuck) -> Advice | None:
     if stuck.index == 1:
-        return advice(stuck.here, "Behind `main` stands `=` and one expression.", "Write `main = ..;`.")
+        return advice(stuck.here, "`=` and one expression follow `main`.", "Write `main = ..;`.")
     return None
 
 
@@ -242,7 +242,7 @@ def missing_end(stuck: Stuck) -> Advice | None:
     if "SEMI" not in stuck.expected:
         return None
     if stuck.here is None or stuck.kind in DECLARING:
-        what = f"A `;` is missing behind {code(stuck.before)}."
+        what = f"A `;` is missing after {code(stuck.before)}."
         return advice(stuck.before, what, "Each declaration ends with `;`.", end=True)
     return None
 
@@ -255,10 +255,10 @@ def anything_else(stuck: Stuck) -> Advice:
     found = code(stuck.here)
     if 0 < len(names) <= 4:
         return advice(
-            stuck.here or stuck.before, f"Here {wanted} is expected, and there is {found}.", end=stuck.here is None
+            stuck.here or stuck.before, f"Expected {wanted} here, but found {found}.", end=stuck.here is None
         )
     hint = NAMED if stuck.here is not None and stuck.here.value == ":" else None
-    return advice(stuck.here or stuck.before, f"{found} can't stand here.".capitalize(), hint, end=stuck.here is None)
+    return advice(stuck.here or stuck.before, f"{found} isn't allowed here.".capitalize(), hint, end=stuck.here is None)
 
 
 RULES = (

@@ -209,7 +209,7 @@ def within_limits(piece: Piece) -> None:
     if count > MOST_TOKENS:
         raise Fault(
             f"limit tokens {count}",
-            f"Declaration {piece.number} has {count:,} tokens, and at most {MOST_TOKENS:,} are read.",
+            f"Declaration {piece.number} has {count:,} tokens; the limit is {MOST_TOKENS:,}.",
             at(piece.tokens[0]),
             hint="Move parts of it into functions.",
             page=LIMITS,
@@ -223,7 +223,7 @@ def within_limits(piece: Piece) -> None:
         if depth > MOST_DEPTH:
             raise Fault(
                 f"limit depth {depth}",
-                f"This bracket is open inside {MOST_DEPTH} others, and so many may be open at one place.",
+                f"This bracket is inside {MOST_DEPTH} others, and no more than that may be open at one place.",
                 at(token),
                 hint="Move the inner parts into functions or a `let`; look for a bracket that is never closed.",
                 page=LIMITS,

@@ -140,10 +140,10 @@ def unfolded(known: Known, main: Expr) -> Unfolded:
         shown = "1,000,000 or more" if count == MOST_COUNT else f"{count:,}"
         raise Fault(
             f"limit nodes {count}",
-            f"`main` has {shown} nodes with each call replaced by the function's body, and at most 2,048 are run.",
+            f"`main` has {shown} nodes with each call replaced by the function's body; the limit is 2,048.",
             main.at,
             "main",
-            "Bind what is used several times by one `let`, and call a function once in place of often.",
+            "Bind what is used several times with one `let`, and call a function once instead of often.",
             LANGUAGE + "#types",
         )
     work = _Unfolding(known)

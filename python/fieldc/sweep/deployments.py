@@ -143,7 +143,7 @@ def _chosen(found: Network, one: Setting, dice: Random) -> Sequence[int]:
     if isinstance(one.devices, tuple):
         for device in one.devices:
             if device not in found.inputs:
-                raise Fault(f"{one.name} is set on device {device}, which isn't there")
+                raise Fault(f"{one.name} is set on device {device}, which doesn't exist")
         return one.devices
     if one.devices > len(devices):
         raise Fault(f"{one.name} is set on {one.devices:,} devices that are drawn, and there are {len(devices):,}")

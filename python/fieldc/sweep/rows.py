@@ -67,7 +67,7 @@ def row_of(shape: tuple[int, int, int, int, int], settling: Sequence[str], value
         rounds = None if settling[1] == OPEN else int(settling[1].removeprefix("settles "))
         last, late = min((_lateness(line) for line in settling[2:]), key=lambda found: (-found[1], found[0]))
     except (IndexError, ValueError):
-        raise Fault(f"fc doesn't answer as check --settle does: {settling[:2]}") from None
+        raise Fault(f"fc doesn't answer like check --settle: {settling[:2]}") from None
     word = "yes" if verdict.stabilises else verdict.line
     return Row(*shape, word, verdict.rounds, rounds, last, None if late == math.inf else int(late), tuple(values))
 
@@ -150,7 +150,7 @@ def taken_up(files: Files, sweep: Mapping[str, object], values: bool) -> int:
     for path, lines in zip((files.rows, files.seconds), kept):
         _cut(path, sum(len(line) for line in lines[:count]))
     if not count:
-        raise Fault(f"{files.rows} is there, and has no rows of a sweep: choose another file", 3)
+        raise Fault(f"{files.rows} exists but has no rows of a sweep: choose another file", 3)
     return count - 1
 
 
@@ -160,7 +160,7 @@ def _same(files: Files, sweep: Mapping[str, object]) -> None:
         found = json.loads(files.sweep.read_text())
     except (OSError, ValueError):
         raise Fault(
-            f"{files.rows} is there, and {files.sweep} doesn't say of which sweep: choose another file", 3
+            f"{files.rows} exists, but {files.sweep} doesn't say of which sweep: choose another file", 3
         ) from None
     wanted = json.loads(json.dumps(sweep))
     other = [name for name in wanted if not isinstance(found, dict) or found.get(name) != wanted[name]]

@@ -114,7 +114,7 @@ def in_order(
 def checked(batch: Batch) -> Batch:
     """A batch that was made by the same `fc` and the same rules as here. Raises Fault for any other."""
     if batch.made_by != made_by():
-        raise Fault("a worker has another fc or another fieldc than this machine: install the same on all")
+        raise Fault("a worker has another fc or fieldc than this machine: install the same on all")
     return batch
 
 
@@ -133,7 +133,7 @@ def on_this_machine(workers: int) -> Iterator[Place]:
         with ProcessPoolExecutor(workers, initializer=_begun, initargs=(os.getpid(),)) as pool:
             yield Place(pool, 8 * workers)
     except BrokenProcessPool:
-        raise Fault("a process of the sweep was ended: the same command goes on where it was", 7) from None
+        raise Fault("a process of the sweep was ended; the same command resumes it", 7) from None
 
 
 def _begun(parent: int) -> None:
@@ -165,7 +165,7 @@ def on_a_cluster(address: str) -> Iterator[Place]:
         raise Fault(f"the scheduler {address} can't be reached: {error}") from None
     for name in LOUD:
         logging.getLogger(name).setLevel(logging.CRITICAL)
-    gone = Fault(f"the scheduler {address} went away: the same command goes on where it was", 7)
+    gone = Fault(f"the scheduler {address} went away; the same command resumes the sweep", 7)
     with client, _told(address, gone):
 
         def check() -> None:
@@ -179,7 +179,7 @@ def reached(address: str) -> None:
     """Raises Fault where nobody answers at an address: Dask's own client would say it in many lines, and late."""
     found = re.fullmatch(r"(?:(?:tcp|tls)://)?(\[[^]]+\]|[^:/]+):([0-9]+)", address)
     if found is None:
-        raise Fault(f"{address} is no address of a scheduler: write HOST:PORT, as north:8786")
+        raise Fault(f"{address} isn't the address of a scheduler: write HOST:PORT, such as north:8786")
     try:
         socket.create_connection((found[1].strip("[]"), int(found[2])), PATIENCE).close()
     except (OSError, OverflowError) as error:

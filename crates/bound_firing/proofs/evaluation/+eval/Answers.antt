@@ -1,5 +1,6 @@
 use Rattle.std.proofs.Common.{◌∙◌, [], ◌∷◌, arith, ap, refl, sym}
 use Rattle.std.proofs.lemmas.List.{map-append}
+use Rattle.std.proofs.lemmas.Result.{IfOk-weaker}
 use Rattle.value_bounds.specs.References.{any_bound_in, any_bounds_in}
 use Rattle.bound_firing.proofs.SlotReads.{slots_long}
 use Rattle.bound_firing.proofs.LeafAt.{lit_done, variable_done, sense_done, uid_done, links_done}
@@ -14,28 +15,29 @@ use Rattle.bound_firing.proofs.HeldAt.{one_item, two_items, three_items}
 use Rattle.bound_firing.proofs.KidsAt.{ready_at}
 use Rattle.bound_firing.proofs.evaluation.+eval.Goals as goal
 
-pub eval-returns-in_ok-exactly-in-Lit : goal.eval-returns-in_ok-exactly-in-Lit
-eval-returns-in_ok-exactly-in-Lit t c =
-    lit_done _ _ (ready_at c.requires (rw c.in-Lit.is at c.node-node.ensures.node)) c.in_ok-exactly-in-Lit.ensures
+pub eval-returns-in-Lit : goal.eval-returns-in-Lit
+eval-returns-in-Lit t c =
+    IfOk-weaker _ _ _ (λ b e. lit_done _ _ (ready_at c.requires (rw c.in-Lit.is at c.node-node.ensures.node)) e)
+    c.literal.ensures
 
-pub eval-returns-in_ok-variable-in-Var : goal.eval-returns-in_ok-variable-in-Var
-eval-returns-in_ok-variable-in-Var t c =
-    variable_done _ _ (ready_at c.requires (rw c.in-Var.is at c.node-node.ensures.node))
-    c.in_ok-variable-in-Var.ensures
+pub eval-returns-in-Var : goal.eval-returns-in-Var
+eval-returns-in-Var t c =
+    IfOk-weaker _ _ _ (λ b e. variable_done _ _ (ready_at c.requires (rw c.in-Var.is at c.node-node.ensures.node))
+    (rw c.in_scope.ensures at e)) c.cut_to_seats.ensures
 
-pub eval-returns-in_ok-input_bound-in-Sense : goal.eval-returns-in_ok-input_bound-in-Sense
-eval-returns-in_ok-input_bound-in-Sense t c =
-    sense_done _ _ (ready_at c.requires (rw c.in-Sense.is at c.node-node.ensures.node))
-    c.in_ok-input_bound-in-Sense.ensures
+pub eval-returns-in-Sense : goal.eval-returns-in-Sense
+eval-returns-in-Sense t c =
+    IfOk-weaker _ _ _ (λ b e. sense_done _ _ (ready_at c.requires (rw c.in-Sense.is at c.node-node.ensures.node)) e)
+    c.sensed.ensures
 
 pub eval-returns-in-Uid : goal.eval-returns-in-Uid
 eval-returns-in-Uid t c =
     uid_done _ _ (ready_at c.requires (rw c.in-Uid.is at c.node-node.ensures.node)) c.uid.ensures
 
-pub eval-returns-in_ok-seat_weights-in-NbrLink : goal.eval-returns-in_ok-seat_weights-in-NbrLink
-eval-returns-in_ok-seat_weights-in-NbrLink t c =
-    links_done _ _ (ready_at c.requires (rw c.in-NbrLink.is at c.node-node.ensures.node))
-    (rw c.least_weight-least.ensures at c.in_ok-seat_weights-in-NbrLink.ensures)
+pub eval-returns-in-NbrLink : goal.eval-returns-in-NbrLink
+eval-returns-in-NbrLink t c =
+    IfOk-weaker _ _ _ (λ b e. links_done _ _ (ready_at c.requires (rw c.in-NbrLink.is at c.node-node.ensures.node))
+    (rw c.least_weight.ensures at e)) c.links.ensures
 
 pub eval_apply-eval_one-requires : goal.eval_apply-eval_one-requires
 eval_apply-eval_one-requires t c =
@@ -45,10 +47,10 @@ eval_apply-eval_one-requires t c =
     let w = c.requires.ready.stands.within in
     (omega (arith, d, l, w), apply_ready c.requires _ _ e)
 
-pub eval_apply-returns-in_ok-eval_one-in-len1 : goal.eval_apply-returns-in_ok-eval_one-in-len1
-eval_apply-returns-in_ok-eval_one-in-len1 t c =
+pub eval_apply-returns-in-len1 : goal.eval_apply-returns-in-len1
+eval_apply-returns-in-len1 t c =
     let e = one_item c.as_slice.result.now c.in-len1.len_at_least c.in-len1.len_below ∙ c.as_slice.ensures.value in
-    apply_built c.requires _ _ e c.in_ok-eval_one-in-len1.ensures
+    IfOk-weaker _ _ _ (λ b d. apply_built c.requires _ _ e d) c.eval_one.ensures
 
 pub eval_apply-eval_two-requires : goal.eval_apply-eval_two-requires
 eval_apply-eval_two-requires t c =
@@ -58,10 +60,10 @@ eval_apply-eval_two-requires t c =
     let w = c.requires.ready.stands.within in
     (omega (arith, d, l, w), apply_ready c.requires _ _ e)
 
-pub eval_apply-returns-in_ok-eval_two-in-len2 : goal.eval_apply-returns-in_ok-eval_two-in-len2
-eval_apply-returns-in_ok-eval_two-in-len2 t c =
+pub eval_apply-returns-in-len2 : goal.eval_apply-returns-in-len2
+eval_apply-returns-in-len2 t c =
     let e = two_items c.as_slice.result.now c.in-len2.len_at_least c.in-len2.len_below ∙ c.as_slice.ensures.value in
-    apply_built c.requires _ _ e c.in_ok-eval_two-in-len2.ensures
+    IfOk-weaker _ _ _ (λ b d. apply_built c.requires _ _ e d) c.eval_two.ensures
 
 pub eval_apply-eval_three-requires : goal.eval_apply-eval_three-requires
 eval_apply-eval_three-requires t c =
@@ -71,10 +73,10 @@ eval_apply-eval_three-requires t c =
     let w = c.requires.ready.stands.within in
     (omega (arith, d, l, w), apply_ready c.requires _ _ e)
 
-pub eval_apply-returns-in_ok-eval_three-in-len3 : goal.eval_apply-returns-in_ok-eval_three-in-len3
-eval_apply-returns-in_ok-eval_three-in-len3 t c =
+pub eval_apply-returns-in-len3 : goal.eval_apply-returns-in-len3
+eval_apply-returns-in-len3 t c =
     let e = three_items c.as_slice.result.now c.in-len3.len_at_least c.in-len3.len_below ∙ c.as_slice.ensures.value in
-    apply_built c.requires _ _ e c.in_ok-eval_three-in-len3.ensures
+    IfOk-weaker _ _ _ (λ b d. apply_built c.requires _ _ e d) c.eval_three.ensures
 
 pub eval_apply-eval_more-requires : goal.eval_apply-eval_more-requires
 eval_apply-eval_more-requires t c =
@@ -83,9 +85,9 @@ eval_apply-eval_more-requires t c =
     let w = c.requires.ready.stands.within in
     (omega (arith, d, l, w), apply_ready c.requires _ _ c.as_slice.ensures.value)
 
-pub eval_apply-returns-in_ok-eval_more-in_default : goal.eval_apply-returns-in_ok-eval_more-in_default
-eval_apply-returns-in_ok-eval_more-in_default t c =
-    apply_built c.requires _ _ c.as_slice.ensures.value c.in_ok-eval_more-in_default.ensures
+pub eval_apply-returns-in_default : goal.eval_apply-returns-in_default
+eval_apply-returns-in_default t c =
+    IfOk-weaker _ _ _ (λ b d. apply_built c.requires _ _ c.as_slice.ensures.value d) c.eval_more.ensures
 
 pub eval_more-eval_kids-requires : goal.eval_more-eval_kids-requires
 eval_more-eval_kids-requires t c =
@@ -105,7 +107,8 @@ eval_one-eval_argument-requires t c =
 
 pub eval_one-returns : goal.eval_one-returns
 eval_one-returns t c =
-    built_one c.args.kid c.in_ok-a.ensures (rw (c.seen.ensures, c.ceiling_of-ceiling.ensures) at c.in_ok-bound.ensures)
+    IfOk-weaker _ _ _ (λ b e. built_one c.args.kid c.in_ok-a.ensures
+    (rw (c.seen.ensures, c.ceiling_of-ceiling.ensures) at e)) c.of_one.ensures
 
 pub eval_two-eval_argument-requires : goal.eval_two-eval_argument-requires
 eval_two-eval_argument-requires t c =
@@ -121,13 +124,13 @@ eval_two-eval_argument-requires-2 t c =
 
 pub eval_two-returns : goal.eval_two-returns
 eval_two-returns t c =
-    built_two c.args.first c.args.second c.in_ok-a.ensures c.in_ok-b.ensures
-    (rw (c.seen-first.ensures, c.seen-second.ensures, c.ceiling_of-ceiling.ensures) at c.in_ok-bound-2.ensures)
+    IfOk-weaker _ _ _ (λ b e. built_two c.args.first c.args.second c.in_ok-a.ensures c.in_ok-b.ensures
+    (rw (c.seen-first.ensures, c.seen-second.ensures, c.ceiling_of-ceiling.ensures) at e)) c.of_two.ensures
 
 pub eval_two-returns-then-makes_pair : goal.eval_two-returns-then-makes_pair
 eval_two-returns-then-makes_pair t c =
-    built_two c.args.first c.args.second c.in_ok-a.ensures c.in_ok-b.ensures
-    (c.in_ok-bound.ensures ∙ sym (c.makes_pair.ensures c.if-makes_pair.true _ _))
+    IfOk-weaker _ _ _ (λ b e. built_two c.args.first c.args.second c.in_ok-a.ensures c.in_ok-b.ensures
+    (e ∙ sym (c.makes_pair.ensures c.if-makes_pair.true _ _))) c.paired.ensures
 
 pub eval_three-eval_argument-requires : goal.eval_three-eval_argument-requires
 eval_three-eval_argument-requires t c =
@@ -152,9 +155,10 @@ eval_three-eval_argument-requires-3 t c =
 
 pub eval_three-returns : goal.eval_three-returns
 eval_three-returns t c =
-    built_three c.args.first c.args.second c.args.third c.in_ok-a.ensures c.in_ok-b.ensures c.in_ok-c.ensures
-    (rw (c.seen-first.ensures, c.seen-second.ensures, c.seen-third.ensures, c.ceiling_of-ceiling.ensures)
-    at c.in_ok-bound.ensures)
+    IfOk-weaker _ _ _ (λ b e. built_three c.args.first c.args.second c.args.third c.in_ok-a.ensures c.in_ok-b.ensures
+    c.in_ok-c.ensures
+    (rw (c.seen-first.ensures, c.seen-second.ensures, c.seen-third.ensures, c.ceiling_of-ceiling.ensures) at e))
+    c.of_three.ensures
 
 pub eval_argument-held-requires : goal.eval_argument-held-requires
 eval_argument-held-requires t c = c.requires.stands
@@ -339,5 +343,5 @@ eval_let-eval-requires t c =
 
 pub eval_let-returns : goal.eval_let-returns
 eval_let-returns t c =
-    let_done c.requires _ _ c.index.ensures c.in_ok-value.ensures c.index-2.ensures
-    (rw c.seen.ensures at c.in_ok-bound.ensures)
+    IfOk-weaker _ _ _ (λ b d. let_done c.requires _ _ c.index.ensures c.in_ok-value.ensures c.index-2.ensures
+    (rw c.seen.ensures at d)) c.eval.ensures

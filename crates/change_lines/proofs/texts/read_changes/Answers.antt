@@ -2,7 +2,7 @@ use Rattle.std.proofs.Common.{map, ap, ◌∙◌}
 use Rattle.std.proofs.lemmas.List.{map-append}
 use Rattle.fc_values.specs.Types.{input_of}
 use Rattle.edit_commands.proofs.CutLines.{cut_at}
-use Rattle.change_lines.specs.Code.{line_in}
+use Rattle.changes.specs.Code.{line_in}
 use Rattle.change_lines.proofs.ReadChanges.{read_none, skipped, read, read_whole}
 use Rattle.change_lines.proofs.texts.read_changes.Goals as goal
 

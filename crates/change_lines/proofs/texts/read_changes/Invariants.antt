@@ -1,6 +1,6 @@
 use Rattle.std.proofs.Common.{length, map}
 use Rattle.fc_values.specs.Types.{input_of}
-use Rattle.change_lines.specs.Code.{line_in}
+use Rattle.changes.specs.Code.{line_in}
 use Rattle.change_lines.proofs.ReadChanges.{IsReadTo}
 use Rattle.change_lines.proofs.texts.read_changes.Given as goal
 

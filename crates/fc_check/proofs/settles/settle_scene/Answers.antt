@@ -8,8 +8,8 @@ use Rattle.firing_core.specs.Cores.{Core}
 use Rattle.fragment_check.specs.Verdicts.{verdict_of}
 use Rattle.settle_rounds.specs.References.{settled_in}
 use Rattle.net_json.specs.SceneCode.{value_of_scene}
+use Rattle.verdict_texts.specs.VerdictTexts.{checked_text}
 use Rattle.fc_inputs.specs.Causes.{Accepted}
-use Rattle.fc_check.specs.Checks.{checked_text}
 use Rattle.fc_inputs.specs.Starts.{start_of}
 use Rattle.fc_check.specs.Code.{settled_answer}
 use Rattle.fc_check.proofs.Lines.{are_settling, as_many}

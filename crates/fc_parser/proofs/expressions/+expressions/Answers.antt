@@ -3,7 +3,7 @@ use Rattle.std.proofs.lemmas.Result.{err_from_is_err_and}
 use Rattle.fc_lexer.specs.declared.tokens.Mark.TheVariants as mark
 use Rattle.fc_syntax.specs.Terms.{NoTerms, term_of}
 use Rattle.fc_parser.specs.Reading.{Got}
-use Rattle.fc_parser.specs.Expressions.{kinds_of, has_builtin, mark_read, more_with, arguments_with, atom_with, unary_with, turns, operations_with, binding_with, expression_at}
+use Rattle.fc_parser.specs.Expressions.{kinds_of, has_builtin, mark_read, more_with, arguments_with, atom_with, unary_with, turns, chain_with, operations_with, binding_with, expression_at}
 use Rattle.fc_parser.proofs.ExpressionLoops.{kinds_length, pushed, pushed_first, passes, passes_argument, passes_rest, passes_binding, read_as, arguments_end, arguments_none, arguments_start, arguments_more, arguments_fail, more_end, more_stop, arguments_closed, arguments_open, apply_is, builtin_done, builtin_miscounted, turns_once, turns_many, operations_start, operations_none, operations_strongest, operations_more, operations_fail, operations_stop, operations_end, within_end, within_body, within_none, within_fail, within_more}
 use Rattle.fc_parser.proofs.expressions.+expressions.Goals as goal
 use Rattle.fc_parser.proofs.expressions.+expressions.Goals.{arguments-else-turns-test, arguments-then-turns-test+in_default-mark, operations-then-strength-eq-COMPARISON, operations-else-strength-eq-COMPARISON}
@@ -106,42 +106,43 @@ operations-returns-then-strength-eq-NOT t c =
     let read = atom_with c.args.second (expression_at c.args.second c.args.budget) in
     read_as c.unary.result (unary_with read (kinds_of c.args.tokens.now)) (operations_with read c.args.strength (kinds_of c.args.tokens.now)) (operations_strongest read c.args.strength (kinds_of c.args.tokens.now) (omega arith)) c.unary.ensures
 
-pub operations-returns-in_err-left : goal.operations-returns-in_err-left
-operations-returns-in_err-left t c =
+pub operations-returns-in_err-first : goal.operations-returns-in_err-first
+operations-returns-in_err-first t c =
     let p = err_from_is_err_and c.from_residual.result c.from_residual.ensures.1 in
     let read = atom_with c.args.second (expression_at c.args.second c.args.budget) in
-    rw (p.1, p.2) (passes c.in_err-left.field-0.0 (operations_with read (c.args.strength + 1) (kinds_of c.args.tokens.now)) (operations_with read c.args.strength (kinds_of c.args.tokens.now)) c.in_err-left.ensures
+    rw (p.1, p.2) (passes c.in_err-first.field-0.0 (operations_with read (c.args.strength + 1) (kinds_of c.args.tokens.now)) (operations_with read c.args.strength (kinds_of c.args.tokens.now)) c.in_err-first.ensures
     (operations_none read c.args.strength (kinds_of c.args.tokens.now) (omega arith)))
-
-pub operations-turns-init : goal.operations-turns-init
-operations-turns-init t c =
-    let read = atom_with c.args.second (expression_at c.args.second c.args.budget) in
-    let start : c.if-strength-eq-COMPARISON.turns ≡ turns c.args.strength (length (kinds_of c.in_ok-left.rest.now)) = elim c.if-strength-eq-COMPARISON.branch [
-      | operations-then-strength-eq-COMPARISON w ↦ w.turns-is ∙ turns_once c.args.strength (length (kinds_of c.in_ok-left.rest.now)) (omega arith)
-      | operations-else-strength-eq-COMPARISON w ↦ w.turns-is ∙ sym (kinds_length c.in_ok-left.rest.now) ∙ turns_many c.args.strength (length (kinds_of c.in_ok-left.rest.now)) w.if-strength-eq-COMPARISON.false
-    ] in
-    operations_start read c.args.strength (kinds_of c.args.tokens.now) (term_of c.in_ok-left.left) c.if-strength-eq-COMPARISON.turns (kinds_of c.in_ok-left.rest.now) (omega arith) c.in_ok-left.ensures start
-
-pub operations-returns-in_default : goal.operations-returns-in_default
-operations-returns-in_default t c =
-    let read = atom_with c.args.second (expression_at c.args.second c.args.budget) in
-    operations_stop c.args.strength (operations_with read (c.args.strength + 1)) c.turns.turns (term_of c.turns.left) (kinds_of c.turns.rest.now) (operations_with read c.args.strength (kinds_of c.args.tokens.now)) c.turns.invariant c.in_default.ensures
-
-pub operations-returns-in_err-right : goal.operations-returns-in_err-right
-operations-returns-in_err-right t c =
-    let p = err_from_is_err_and c.from_residual-in_err-right.result c.from_residual-in_err-right.ensures.1 in
-    let read = atom_with c.args.second (expression_at c.args.second c.args.budget) in
-    rw (p.1, p.2) (passes c.in_err-right.field-0.0 (operations_with read (c.args.strength + 1) (kinds_of c.in-Some.after.now)) (operations_with read c.args.strength (kinds_of c.args.tokens.now)) c.in_err-right.ensures
-    (operations_fail c.args.strength (operations_with read (c.args.strength + 1)) c.turns.turns (term_of c.turns.left) c.in-Some.builtin (kinds_of c.turns.rest.now) (kinds_of c.in-Some.after.now) (operations_with read c.args.strength (kinds_of c.args.tokens.now))
-    c.turns.invariant (omega arith) c.in-Some.ensures))
-
-pub operations-turns-preserved : goal.operations-turns-preserved
-operations-turns-preserved t c =
-    let read = atom_with c.args.second (expression_at c.args.second c.args.budget) in
-    operations_more c.args.strength (operations_with read (c.args.strength + 1)) c.turns.turns (term_of c.turns.left) (term_of c.in_ok-right.right) (term_of c.in_ok-left-2.left) c.in-Some.builtin (kinds_of c.turns.rest.now)
-    (kinds_of c.in-Some.after.now) (kinds_of c.in_ok-right.next.now) (operations_with read c.args.strength (kinds_of c.args.tokens.now)) c.turns.invariant (omega arith) c.in-Some.ensures c.in_ok-right.ensures c.in_ok-left-2.ensures
 
 pub operations-returns : goal.operations-returns
 operations-returns t c =
     let read = atom_with c.args.second (expression_at c.args.second c.args.budget) in
-    operations_end c.args.strength (operations_with read (c.args.strength + 1)) c.turns.turns (term_of c.turns.left) (kinds_of c.turns.rest.now) (operations_with read c.args.strength (kinds_of c.args.tokens.now)) c.turns.invariant (omega arith)
+    let start : c.if-strength-eq-COMPARISON.turns ≡ turns c.args.strength (length (kinds_of c.in_ok-first.rest.now)) = elim c.if-strength-eq-COMPARISON.branch [
+      | operations-then-strength-eq-COMPARISON w ↦ w.turns-is ∙ turns_once c.args.strength (length (kinds_of c.in_ok-first.rest.now)) (omega arith)
+      | operations-else-strength-eq-COMPARISON w ↦ w.turns-is ∙ sym (kinds_length c.in_ok-first.rest.now) ∙ turns_many c.args.strength (length (kinds_of c.in_ok-first.rest.now)) w.if-strength-eq-COMPARISON.false
+    ] in
+    read_as c.chain.result (chain_with c.args.strength (operations_with read (c.args.strength + 1)) c.if-strength-eq-COMPARISON.turns (term_of c.in_ok-first.first) (kinds_of c.in_ok-first.rest.now)) (operations_with read c.args.strength (kinds_of c.args.tokens.now))
+    (operations_start read c.args.strength (kinds_of c.args.tokens.now) (term_of c.in_ok-first.first) c.if-strength-eq-COMPARISON.turns (kinds_of c.in_ok-first.rest.now) (omega arith) c.in_ok-first.ensures start) c.chain.ensures
+
+pub chain-returns-in_default : goal.chain-returns-in_default
+chain-returns-in_default t c =
+    let read = atom_with c.args.second (expression_at c.args.second c.args.budget) in
+    operations_stop c.args.strength (operations_with read (c.args.strength + 1)) c.turns.turns (term_of c.turns.left) (kinds_of c.turns.rest.now) (chain_with c.args.strength (operations_with read (c.args.strength + 1)) c.args.most (term_of c.args.first) (kinds_of c.args.tokens.now)) c.turns.invariant c.in_default.ensures
+
+pub chain-returns-in_err-right : goal.chain-returns-in_err-right
+chain-returns-in_err-right t c =
+    let p = err_from_is_err_and c.from_residual.result c.from_residual.ensures.1 in
+    let read = atom_with c.args.second (expression_at c.args.second c.args.budget) in
+    rw (p.1, p.2) (passes c.in_err-right.field-0.0 (operations_with read (c.args.strength + 1) (kinds_of c.in-Some.after.now)) (chain_with c.args.strength (operations_with read (c.args.strength + 1)) c.args.most (term_of c.args.first) (kinds_of c.args.tokens.now)) c.in_err-right.ensures
+    (operations_fail c.args.strength (operations_with read (c.args.strength + 1)) c.turns.turns (term_of c.turns.left) c.in-Some.builtin (kinds_of c.turns.rest.now) (kinds_of c.in-Some.after.now) (chain_with c.args.strength (operations_with read (c.args.strength + 1)) c.args.most (term_of c.args.first) (kinds_of c.args.tokens.now))
+    c.turns.invariant (omega arith) c.in-Some.ensures))
+
+pub chain-turns-preserved : goal.chain-turns-preserved
+chain-turns-preserved t c =
+    let read = atom_with c.args.second (expression_at c.args.second c.args.budget) in
+    operations_more c.args.strength (operations_with read (c.args.strength + 1)) c.turns.turns (term_of c.turns.left) (term_of c.in_ok-right.right) (term_of c.in_ok-left.left) c.in-Some.builtin (kinds_of c.turns.rest.now)
+    (kinds_of c.in-Some.after.now) (kinds_of c.in_ok-right.next.now) (chain_with c.args.strength (operations_with read (c.args.strength + 1)) c.args.most (term_of c.args.first) (kinds_of c.args.tokens.now)) c.turns.invariant (omega arith) c.in-Some.ensures c.in_ok-right.ensures c.in_ok-left.ensures
+
+pub chain-returns : goal.chain-returns
+chain-returns t c =
+    let read = atom_with c.args.second (expression_at c.args.second c.args.budget) in
+    operations_end c.args.strength (operations_with read (c.args.strength + 1)) c.turns.turns (term_of c.turns.left) (kinds_of c.turns.rest.now) (chain_with c.args.strength (operations_with read (c.args.strength + 1)) c.args.most (term_of c.args.first) (kinds_of c.args.tokens.now)) c.turns.invariant (omega arith)

@@ -7,40 +7,46 @@ use Rattle.fc_parser.proofs.ExpressionLoops.{behind, onto}
 use Rattle.fc_parser.proofs.expressions.+expressions.Given as goal
 
 abbrev pub decreases-expression_within : goal.decreases-expression_within
-decreases-expression_within l = 16 * l.budget
+decreases-expression_within l = 20 * l.budget
 
 abbrev pub decreases-binding : goal.decreases-binding
-decreases-binding l = 16 * l.budget + 1
+decreases-binding l = 20 * l.budget + 1
 
 abbrev pub decreases-enclosed : goal.decreases-enclosed
-decreases-enclosed l = 16 * l.budget + 1
+decreases-enclosed l = 20 * l.budget + 1
 
 abbrev pub decreases-bracketed : goal.decreases-bracketed
-decreases-bracketed l = 16 * l.budget + 1
+decreases-bracketed l = 20 * l.budget + 1
 
 abbrev pub decreases-arguments : goal.decreases-arguments
-decreases-arguments l = 16 * l.budget + 1
+decreases-arguments l = 20 * l.budget + 1
 
 abbrev pub decreases-fold : goal.decreases-fold
-decreases-fold l = 16 * l.budget + 2
+decreases-fold l = 20 * l.budget + 2
 
 abbrev pub decreases-choice : goal.decreases-choice
-decreases-choice l = 16 * l.budget + 2
+decreases-choice l = 20 * l.budget + 2
 
 abbrev pub decreases-builtin : goal.decreases-builtin
-decreases-builtin l = 16 * l.budget + 2
+decreases-builtin l = 20 * l.budget + 2
+
+abbrev pub decreases-named : goal.decreases-named
+decreases-named l = 20 * l.budget + 2
 
 abbrev pub decreases-word_form : goal.decreases-word_form
-decreases-word_form l = 16 * l.budget + 3
+decreases-word_form l = 20 * l.budget + 3
 
 abbrev pub decreases-atom : goal.decreases-atom
-decreases-atom l = 16 * l.budget + 4
+decreases-atom l = 20 * l.budget + 4
 
 abbrev pub decreases-unary : goal.decreases-unary
-decreases-unary l = 16 * l.budget + 5
+decreases-unary l = 20 * l.budget + 5
 
 abbrev pub decreases-operations : goal.decreases-operations
-decreases-operations l = 16 * l.budget + (12 - l.strength)
+decreases-operations l = 20 * l.budget + (18 - 2 * l.strength)
+
+abbrev pub decreases-chain : goal.decreases-chain
+decreases-chain l = 20 * l.budget + (17 - 2 * l.strength)
 
 abbrev pub invariant-arguments-turns : goal.invariant-arguments-turns
 invariant-arguments-turns l =
@@ -59,10 +65,10 @@ invariant-expression_within-bindings l = record {
 abbrev pub decreases-expression_within-bindings : goal.decreases-expression_within-bindings
 decreases-expression_within-bindings l = l.left
 
-abbrev pub invariant-operations-turns : goal.invariant-operations-turns
-invariant-operations-turns l =
+abbrev pub invariant-chain-turns : goal.invariant-chain-turns
+invariant-chain-turns l =
     chain_with l.strength (operations_with (atom_with l.second (expression_at l.second l.budget)) (l.strength + 1)) l.turns (term_of l.left) (kinds_of l.rest)
-    ≡ operations_with (atom_with l.second (expression_at l.second l.budget)) l.strength (kinds_of l.fn.tokens)
+    ≡ chain_with l.strength (operations_with (atom_with l.second (expression_at l.second l.budget)) (l.strength + 1)) l.most (term_of l.fn.first) (kinds_of l.fn.tokens)
 
-abbrev pub decreases-operations-turns : goal.decreases-operations-turns
-decreases-operations-turns l = l.turns
+abbrev pub decreases-chain-turns : goal.decreases-chain-turns
+decreases-chain-turns l = l.turns

@@ -13,6 +13,9 @@ decreases-judge l = 3 * the_size l.expr.now
 abbrev pub decreases-judge_all : goal.decreases-judge_all
 decreases-judge_all l = 3 * most the_size l.args.now + 1
 
+abbrev pub decreases-judge_one : goal.decreases-judge_one
+decreases-judge_one l = 3 * the_size l.arg.now + 1
+
 abbrev pub decreases-judge_apply : goal.decreases-judge_apply
 decreases-judge_apply l = 3 * most the_size l.args.now + 2
 

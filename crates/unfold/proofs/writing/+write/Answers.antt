@@ -1,14 +1,17 @@
-use Rattle.std.proofs.Common.{◌∙◌, ap, refl, ◌-◌, ◌∷◌, [], arith, map, take, drop, length}
+use Rattle.std.proofs.Common.{◌∙◌, ap, refl, ◌+◌, ◌-◌, ◌∷◌, [], arith, map, take, drop, length}
 use Rattle.std.proofs.lemmas.List.{map-append}
+use Rattle.fc_syntax.specs.Pieces.{weight, weights}
 use Rattle.fc_syntax.specs.Terms.{term_of, terms}
 use Rattle.fc_values.specs.Types.{type_of}
 use Rattle.fc_types.specs.Judging.{judge_builtin}
 use Rattle.fc_types.specs.Views.{known_of, function_of}
 use Rattle.fc_nodes.specs.Terms.{ByRep, ByShare}
+use Rattle.unfold.specs.Counting.{count, count_all}
 use Rattle.unfold.specs.Unfolding.{type_given}
+use Rattle.unfold.specs.Views.{counted}
 use Rattle.unfold.specs.Writing.{scope_of, argument_of}
-use Rattle.unfold.proofs.Written.{nbr_written, evolve_written, let_written, if_written, apply_written}
-use Rattle.unfold.proofs.Calls.{call_written, found_body, no_body, found_size, no_size, first_and_rest, row_nodes, row_places, row_types, same_written}
+use Rattle.unfold.proofs.Written.{evolve_written, if_written, apply_written, one_ended, nbr_ended, let_ended}
+use Rattle.unfold.proofs.Calls.{call_ended, only_one, ended_as, longer_as, found_body, no_body, found_size, no_size, first_and_rest, row_nodes, row_places, row_types, same_written, last_written}
 use Rattle.unfold.proofs.Weights.{first_lighter, fewer_lighter}
 use Rattle.unfold.proofs.writing.+write.Goals as goal
 
@@ -47,35 +50,58 @@ write_body-write-requires t c =
     let s = found_size (known_of c.args.known.now) c.args.visible c.args.name.now.text.items c.in-Some.number (function_of f.0 c.in-Some.function) f.1 c.in-Some.ensures.earlier in
     (omega (arith, d, w), (c.requires.inputs, omega (arith, r, s)))
 
-pub write_body-returns-in_ok-ty-in-Some-clause-long : goal.write_body-returns-in_ok-ty-in-Some-clause-long
-write_body-returns-in_ok-ty-in-Some-clause-long t c =
+pub write_body-returns-in-Some-clause-long : goal.write_body-returns-in-Some-clause-long
+write_body-returns-in-Some-clause-long t c =
     let f = c.in-Some.ensures.function in
-    let l = c.in_ok-ty-in-Some.ensures.long in
     let s = found_size (known_of c.args.known.now) c.args.visible c.args.name.now.text.items c.in-Some.number (function_of f.0 c.in-Some.function) f.1 c.in-Some.ensures.earlier in
-    omega (arith, l, s)
+    longer_as c.write.result _ _ _ (omega (arith, s)) c.write.ensures.long
 
-pub write_body-returns-in_ok-ty-in-Some-clause-written : goal.write_body-returns-in_ok-ty-in-Some-clause-written
-write_body-returns-in_ok-ty-in-Some-clause-written t c =
+pub write_body-returns-in-Some-clause-written : goal.write_body-returns-in-Some-clause-written
+write_body-returns-in-Some-clause-written t c =
     let f = c.in-Some.ensures.function in
-    found_body (known_of c.args.known.now) c.args.visible c.args.name.now.text.items c.in-Some.number (function_of f.0 c.in-Some.function) (map argument_of c.args.given.now) c.args.nodes.now.items c.write.new.nodes.items c.in_ok-ty-in-Some.ty f.1 c.in-Some.ensures.earlier
-    c.in_ok-ty-in-Some.ensures.written
+    ended_as c.write.result c.args.nodes.now.items c.write.new.nodes.items _ _
+    (λ ty w. found_body (known_of c.args.known.now) c.args.visible c.args.name.now.text.items c.in-Some.number (function_of f.0 c.in-Some.function) (map argument_of c.args.given.now) c.args.nodes.now.items c.write.new.nodes.items ty f.1 c.in-Some.ensures.earlier w)
+    c.write.ensures.written
 
-pub write_body-returns-in_ok-ty-in-None-clause-long : goal.write_body-returns-in_ok-ty-in-None-clause-long
-write_body-returns-in_ok-ty-in-None-clause-long t c =
-    let l = c.in_ok-ty-in-None.ensures.long in
+pub write_body-returns-in-None-clause-long : goal.write_body-returns-in-None-clause-long
+write_body-returns-in-None-clause-long t c =
     let s = no_size (known_of c.args.known.now) c.args.visible c.args.name.now.text.items c.in-None.ensures.function in
-    omega (arith, l, s)
+    longer_as c.put_untyped.result _ _ _ (omega (arith, s)) c.put_untyped.ensures.long
 
-pub write_body-returns-in_ok-ty-in-None-clause-written : goal.write_body-returns-in_ok-ty-in-None-clause-written
-write_body-returns-in_ok-ty-in-None-clause-written t c =
-    no_body (known_of c.args.known.now) c.args.visible c.args.name.now.text.items (map argument_of c.args.given.now) c.args.nodes.now.items c.put_untyped.new.nodes.items c.in_ok-ty-in-None.ty c.in-None.ensures.function c.in_ok-ty-in-None.ensures.written
+pub write_body-returns-in-None-clause-written : goal.write_body-returns-in-None-clause-written
+write_body-returns-in-None-clause-written t c =
+    ended_as c.put_untyped.result c.args.nodes.now.items c.put_untyped.new.nodes.items _ _
+    (λ ty w. no_body (known_of c.args.known.now) c.args.visible c.args.name.now.text.items (map argument_of c.args.given.now) c.args.nodes.now.items c.put_untyped.new.nodes.items ty c.in-None.ensures.function w) c.put_untyped.ensures.written
 
-pub write_call-returns-clause-written : goal.write_call-returns-clause-written
-write_call-returns-clause-written t c =
-    let s = first_and_rest c.args.args.now c.arg-item.result c.in-len1-up.len_at_least c.arg-item.is in
-    rw s (call_written (known_of c.args.around.now.known.now) c.args.around.now.visible (scope_of c.args.around.now.scope.now) c.args.name.now.text.items (term_of c.arg-item.result) (terms (map term_of (take (length c.args.args.now - 1) (drop 1 c.args.args.now))))
-    c.args.nodes.now.items c.begin_node.new.nodes.items c.write.new.nodes.items c.write_call.new.nodes.items c.end_node.new.nodes.items _ c.in_ok-place.place (map argument_of c.args.given.items) (map argument_of c.push.new.self.items) c.in_ok-ty.ty c.in_ok-ty-2.ty c.in_ok-copy_type.field-0 c.len-second.result c.in_ok-kids.kids.items
-    c.in_ok-place.ensures.place c.in_ok-place.ensures.long c.in_ok-place.ensures.behind c.in_ok-ty.ensures.long c.in_ok-ty.ensures.written (ap (map argument_of) c.in_ok-push.ensures.items ∙ map-append argument_of c.args.given.items _) c.in_ok-ty-2.ensures.written (c.len-second.ensures ∙ c.write.new.nodes.ok.0) c.in_ok-copy_type.ensures c.in_ok-kids.ensures.items c.end_node.ensures.set)
+pub write_one-write-requires : goal.write_one-write-requires
+write_one-write-requires t c =
+    let s = only_one c.args.args.now c.index-args-0.result c.requires.one c.index-args-0.is in
+    let d = c.decreases in
+    let r = c.requires.room in
+    let l = c.in_ok-place.ensures.long in
+    let w = ap weights s in
+    let n = ap (count_all (counted (known_of c.args.around.now.known.now) c.args.around.now.visible)) s in
+    (omega (arith, d, w), (c.requires.inputs, omega (arith, r, l, n)))
+
+pub write_one-returns-clause-long : goal.write_one-returns-clause-long
+write_one-returns-clause-long t c =
+    let s = only_one c.args.args.now c.index-args-0.result c.requires.one c.index-args-0.is in
+    let b = c.in_ok-place.ensures.long in
+    let l = c.in_ok-kid.ensures.long in
+    let n = ap (count_all (counted (known_of c.args.around.now.known.now) c.args.around.now.visible)) s in
+    longer_as c.end_builtin.result _ _ _ (omega (arith, b, l, n)) c.end_builtin.ensures.long
+
+pub write_one-returns-clause-written : goal.write_one-returns-clause-written
+write_one-returns-clause-written t c =
+    let s = only_one c.args.args.now c.index-args-0.result c.requires.one c.index-args-0.is in
+    rw s (one_ended (known_of c.args.around.now.known.now) c.args.around.now.visible (scope_of c.args.around.now.scope.now) c.args.nodes.now.items c.begin_node.new.nodes.items _ c.in_ok-place.place c.in_ok-place.ensures.place c.in_ok-place.ensures.long c.in_ok-place.ensures.behind
+    c.args.builtin (term_of c.index-args-0.result) c.write.new.nodes.items c.end_builtin.new.nodes.items c.in_ok-kid.kid c.end_builtin.result c.in_ok-kid.ensures.written c.end_builtin.ensures.ty c.end_builtin.ensures.set)
+
+pub write_argument-returns-clause-written : goal.write_argument-returns-clause-written
+write_argument-returns-clause-written t c =
+    call_ended (known_of c.args.around.now.known.now) c.args.around.now.visible (scope_of c.args.around.now.scope.now) c.args.name.now.text.items (term_of c.args.arg.now) (terms (map term_of c.args.rest.now))
+    c.args.nodes.now.items c.begin_node.new.nodes.items c.write.new.nodes.items c.write_given.new.nodes.items c.end_let.new.nodes.items _ c.in_ok-place.place (map argument_of c.args.given.items) (map argument_of c.in_ok-given.given.items) c.in_ok-ty.ty c.in_ok-ty-2.ty c.len-second.result c.end_let.result
+    c.in_ok-place.ensures.place c.in_ok-place.ensures.long c.in_ok-place.ensures.behind c.in_ok-ty.ensures.long c.in_ok-ty.ensures.written c.in_ok-given.ensures c.in_ok-ty-2.ensures.written (c.len-second.ensures ∙ c.write.new.nodes.ok.0) c.end_let.ensures.same c.end_let.ensures.set
 
 pub write_if-returns-clause-written : goal.write_if-returns-clause-written
 write_if-returns-clause-written t c =
@@ -85,15 +111,14 @@ write_if-returns-clause-written t c =
 
 pub write_let-returns-clause-written : goal.write_let-returns-clause-written
 write_let-returns-clause-written t c =
-    let_written (known_of c.args.around.now.known.now) c.args.around.now.visible (scope_of c.args.around.now.scope.now) c.args.nodes.now.items c.begin_node.new.nodes.items _ c.in_ok-place.place c.in_ok-place.ensures.place c.in_ok-place.ensures.long c.in_ok-place.ensures.behind
-    c.args.name.now.text.items (term_of c.args.bound.now) (term_of c.args.body.now) c.write.new.nodes.items c.write-2.new.nodes.items c.end_node.new.nodes.items c.in_ok-bound.bound c.in_ok-ty.ty c.in_ok-copy_type.field-0 c.len-second.result c.in_ok-kids.kids.items
-    c.in_ok-bound.ensures.long c.in_ok-bound.ensures.written c.in_ok-ty.ensures.written (c.len-second.ensures ∙ c.write.new.nodes.ok.0) c.in_ok-copy_type.ensures c.in_ok-kids.ensures.items c.end_node.ensures.set
+    let_ended (known_of c.args.around.now.known.now) c.args.around.now.visible (scope_of c.args.around.now.scope.now) c.args.nodes.now.items c.begin_node.new.nodes.items _ c.in_ok-place.place c.in_ok-place.ensures.place c.in_ok-place.ensures.long c.in_ok-place.ensures.behind
+    c.args.name.now.text.items (term_of c.args.bound.now) (term_of c.args.body.now) c.write.new.nodes.items c.write-2.new.nodes.items c.end_let.new.nodes.items c.in_ok-bound.bound c.in_ok-ty.ty c.len-second.result c.end_let.result
+    c.in_ok-bound.ensures.long c.in_ok-bound.ensures.written c.in_ok-ty.ensures.written (c.len-second.ensures ∙ c.write.new.nodes.ok.0) c.end_let.ensures.same c.end_let.ensures.set
 
 pub write_nbr-returns-clause-written : goal.write_nbr-returns-clause-written
 write_nbr-returns-clause-written t c =
-    nbr_written (known_of c.args.around.now.known.now) c.args.around.now.visible (scope_of c.args.around.now.scope.now) c.args.nodes.now.items c.begin_node.new.nodes.items _ c.in_ok-place.place c.in_ok-place.ensures.place c.in_ok-place.ensures.long c.in_ok-place.ensures.behind
-    (term_of c.args.inner.now) c.write.new.nodes.items c.end_node.new.nodes.items c.in_ok-write.field-0 c.field_type-ty.result c.in_ok-copy_type.field-0 c.in_ok-kids.kids.items
-    c.in_ok-write.ensures.written c.field_type-ty.ensures c.in_ok-copy_type.ensures c.in_ok-kids.ensures.items c.end_node.ensures.set
+    nbr_ended (known_of c.args.around.now.known.now) c.args.around.now.visible (scope_of c.args.around.now.scope.now) c.args.nodes.now.items c.begin_node.new.nodes.items _ c.in_ok-place.place c.in_ok-place.ensures.place c.in_ok-place.ensures.long c.in_ok-place.ensures.behind
+    (term_of c.args.inner.now) c.write.new.nodes.items c.end_nbr.new.nodes.items c.in_ok-kid.kid c.end_nbr.result c.in_ok-kid.ensures.written c.end_nbr.ensures.ty c.end_nbr.ensures.set
 
 pub write_rep-returns-clause-written : goal.write_rep-returns-clause-written
 write_rep-returns-clause-written t c =
@@ -107,20 +132,45 @@ write_share-returns-clause-written t c =
     ByShare c.args.name.now.text.items (term_of c.args.first.now) (term_of c.args.body.now) c.write.new.nodes.items c.write-2.new.nodes.items c.end_node.new.nodes.items c.in_ok-ty.ty c.in_ok-write.field-0 c.in_ok-copy_type.field-0 (type_of c.in_ok-shared.shared) c.len-second.result c.in_ok-kids.kids.items
     c.in_ok-ty.ensures.long c.in_ok-ty.ensures.written c.in_ok-shared.ensures c.in_ok-write.ensures.written (c.len-second.ensures ∙ c.write.new.nodes.ok.0) c.in_ok-copy_type.ensures c.in_ok-kids.ensures.items c.end_node.ensures.set
 
-pub write_bare_call-write_body-requires : goal.write_bare_call-write_body-requires
-write_bare_call-write_body-requires t c =
+pub write_bare_call-write-requires : goal.write_bare_call-write-requires
+write_bare_call-write-requires t c =
     let d = c.decreases in
     let r = c.requires.room in
-    let w = fewer_lighter (known_of c.args.known.now).functions c.last_call-seen.result.0 c.args.visible c.last_call-seen.ensures.fewer in
-    let s = c.last_call-seen.ensures.same.size in
-    (omega (arith, d, w), (c.requires.inputs, omega (arith, r, s)))
+    let h = c.in-Some.ensures.body in
+    let B = known_of c.args.known.now in
+    let w = first_lighter h.first h.seen h.earlier in
+    let v = fewer_lighter B.functions h.seen c.args.visible h.fewer in
+    let k = ap weight h.body_is in
+    let s = h.same.size in
+    let z = found_size B h.seen h.last c.in-Some.seen h.function h.first h.earlier in
+    let n = ap (count (counted B c.in-Some.seen)) h.body_is in
+    (omega (arith, d, w, v, k), (c.requires.inputs, omega (arith, r, s, z, n)))
 
-pub write_bare_call-returns-clause-long : goal.write_bare_call-returns-clause-long
-write_bare_call-returns-clause-long t c =
-    let l = c.in_ok-ty.ensures.long in
-    let s = c.last_call-seen.ensures.same.size in
-    omega (arith, l, s)
+pub write_bare_call-returns-in-Some-clause-long : goal.write_bare_call-returns-in-Some-clause-long
+write_bare_call-returns-in-Some-clause-long t c =
+    let h = c.in-Some.ensures.body in
+    let B = known_of c.args.known.now in
+    let s = h.same.size in
+    let z = found_size B h.seen h.last c.in-Some.seen h.function h.first h.earlier in
+    let n = ap (count (counted B c.in-Some.seen)) h.body_is in
+    longer_as c.write.result _ _ _ (omega (arith, s, z, n)) c.write.ensures.long
 
-pub write_bare_call-returns-clause-written : goal.write_bare_call-returns-clause-written
-write_bare_call-returns-clause-written t c =
-    same_written (known_of c.args.known.now) c.args.visible c.args.name.now.text.items c.last_call-seen.result.0 c.last_call-seen.result.1.now.text.items c.args.nodes.now.items c.write_body.new.nodes.items c.in_ok-ty.ty c.last_call-seen.ensures.same c.in_ok-ty.ensures.written
+pub write_bare_call-returns-in-Some-clause-written : goal.write_bare_call-returns-in-Some-clause-written
+write_bare_call-returns-in-Some-clause-written t c =
+    ended_as c.write.result c.args.nodes.now.items c.write.new.nodes.items _ _
+    (λ ty w. last_written (known_of c.args.known.now) c.args.visible c.args.name.now.text.items c.in-Some.seen (term_of c.in-Some.body.now) c.args.nodes.now.items c.write.new.nodes.items ty c.in-Some.ensures.body w) c.write.ensures.written
+
+pub write_bare_call-returns-in-None-clause-long : goal.write_bare_call-returns-in-None-clause-long
+write_bare_call-returns-in-None-clause-long t c =
+    let h = c.in-None.ensures.body in
+    let s = h.2.size in
+    let z = no_size (known_of c.args.known.now) h.0 h.1 h.3 in
+    longer_as c.put_untyped.result _ _ _ (omega (arith, s, z)) c.put_untyped.ensures.long
+
+pub write_bare_call-returns-in-None-clause-written : goal.write_bare_call-returns-in-None-clause-written
+write_bare_call-returns-in-None-clause-written t c =
+    let h = c.in-None.ensures.body in
+    let B = known_of c.args.known.now in
+    ended_as c.put_untyped.result c.args.nodes.now.items c.put_untyped.new.nodes.items _ _
+    (λ ty w. same_written B c.args.visible c.args.name.now.text.items h.0 h.1 c.args.nodes.now.items c.put_untyped.new.nodes.items ty h.2
+    (no_body B h.0 h.1 [] c.args.nodes.now.items c.put_untyped.new.nodes.items ty h.3 w)) c.put_untyped.ensures.written

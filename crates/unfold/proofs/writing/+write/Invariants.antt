@@ -29,8 +29,17 @@ decreases-write_if l = seen (known_of l.around.now.known.now) l.around.now.visib
 abbrev pub decreases-write_let : goal.decreases-write_let
 decreases-write_let l = seen (known_of l.around.now.known.now) l.around.now.visible + weight (term_of l.bound.now) + weight (term_of l.body.now) + 1
 
+abbrev pub decreases-write_one : goal.decreases-write_one
+decreases-write_one l = seen (known_of l.around.now.known.now) l.around.now.visible + weights (terms (map term_of l.args.now)) + 3
+
 abbrev pub decreases-write_call : goal.decreases-write_call
-decreases-write_call l = seen (known_of l.around.now.known.now) l.around.now.visible + weights (terms (map term_of l.args.now)) + 3
+decreases-write_call l = seen (known_of l.around.now.known.now) l.around.now.visible + weights (terms (map term_of l.args.now)) + 4
+
+abbrev pub decreases-write_argument : goal.decreases-write_argument
+decreases-write_argument l = seen (known_of l.around.now.known.now) l.around.now.visible + weight (term_of l.arg.now) + weights (terms (map term_of l.rest.now)) + 4
+
+abbrev pub decreases-write_given : goal.decreases-write_given
+decreases-write_given l = seen (known_of l.around.now.known.now) l.around.now.visible + weights (terms (map term_of l.args.now)) + 3
 
 abbrev pub decreases-write_body : goal.decreases-write_body
 decreases-write_body l = seen (known_of l.known.now) l.visible + 1

@@ -1,0 +1,2 @@
+mod KnownTexts
+mod LineTexts

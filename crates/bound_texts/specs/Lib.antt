@@ -1,0 +1,3 @@
+pub mod BoundTexts
+pub mod KnownBounds
+pub mod References

@@ -1,0 +1,5 @@
+mod Lines
+pub mod Keys
+mod Presence
+mod Told
+mod Widened

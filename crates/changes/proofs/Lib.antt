@@ -1,0 +1,4 @@
+pub mod AtHand
+pub mod Few
+pub mod Adding
+pub mod Lines

@@ -1,0 +1,5 @@
+pub mod Changes
+pub mod Code
+pub mod Hand
+pub mod Faults
+pub mod Kept

@@ -1,5 +1,0 @@
-use Rattle.envelope_bounds.proofs.Lines.{lines_hold_anyhow}
-use Rattle.envelope_bounds.proofs.laws.lines_hold_anyhow.Goals as goal
-
-pub returns : goal.returns
-returns c = lines_hold_anyhow c.bounds_hold_within.ensures

@@ -1,0 +1,124 @@
+// What is opened in the place of the state: an address, an example, a file, what was before. And what is saved.
+import { inputOf } from "./asking.mjs";
+import { change } from "./editing.mjs";
+import { at, element, save } from "./elements.mjs";
+import { linked } from "./network.mjs";
+import { usualRange } from "./places.mjs";
+import { editor } from "./program.mjs";
+import { forgetRun } from "./run.mjs";
+import { Unread, readScene, readTable, sceneOf, writeTable } from "./scenes.mjs";
+import { stateOf } from "./sharing.mjs";
+import { drawing } from "./showing.mjs";
+import {
+    askSoon, draw, empty, forget, fresh, known, lastAddress, now, remember, remembered, saveNow,
+} from "./state.mjs";
+import { declaredBy } from "./tokens.mjs";
+
+/** @typedef {{name: string, program: string, scene: string}} Example */
+
+/** @param {import("./sharing.mjs").State} next */
+function restore(next) {
+    forgetRun();
+    now.state = next;
+    now.chosenLink = null;
+    editor.text = next.program;
+    at("changes").value = next.changes;
+    now.declared = declaredBy(next.program);
+    next.network = linked(next.network, now.declared);
+    forget();
+    editor.mark(null);
+    draw();
+    askSoon(0);
+}
+
+export function undo() {
+    const last = remembered(), { state } = now;
+    if (last) restore({ ...state, ...last, view: { ...state.view, chosen: null, round: null } });
+}
+
+// The address.
+
+export async function fromAddress() {
+    if (location.hash === lastAddress) return;
+    const found = location.hash.length > 1 ? await stateOf(location.hash) : fresh();
+    at("notice").hidden = found !== null;
+    at("notice").textContent = found
+        ? "" : "This address has no state that this page can read, so the first example is shown.";
+    restore(found ?? fresh());
+}
+
+export async function share() {
+    await saveNow();
+    const address = location.href.split("#")[0] + lastAddress;
+    try {
+        await navigator.clipboard.writeText(address);
+        at("share").textContent = "Copied";
+    } catch {
+        at("share").textContent = "It is in the address bar";
+    }
+    setTimeout(() => { at("share").textContent = "Copy link"; }, 3000);
+}
+
+// Examples.
+
+/** @type {Example[]} */
+let examples = [];
+
+/** @param {Example[]} offered */
+export function offerExamples(offered) {
+    examples = offered;
+    const firsts = [["", "Hop count"], ["empty", "Empty, for your own"]];
+    const options = [...firsts, ...examples.map(({ name }) => [name, name])];
+    at("example").replaceChildren(...options.map(([value, text]) => element("option", { value, text })));
+}
+
+/** @param {string} name */
+export function showExample(name) {
+    const found = examples.find((one) => one.name === name), first = name === "empty" ? "add" : "move";
+    remember();
+    /** @type {HTMLInputElement} */ (document.querySelector(`input[value=${first}]`)).checked = true;
+    drawing.endFirst();
+    if (name === "empty") restore(empty());
+    else restore(found ? { ...fresh(), program: found.program, network: readScene(found.scene) } : fresh());
+}
+
+// Files.
+
+/**
+ * Opens a file: a table of devices, a scene, or an input of fc with both sections.
+ * @param {string} text
+ */
+function readFile(text) {
+    const { network } = now.state, [front, ...others] = text.split(/^%%\r?\n/m);
+    if (others.length) {
+        remember();
+        return restore({ ...fresh(), program: front, network: readScene(others[0], network.devices) });
+    }
+    if (/^\s*[{[]/.test(text)) return change({ ...readScene(text, network.devices) });
+    const devices = readTable(text), ids = new Set(network.devices.map(({ id }) => id));
+    const isSame = devices.length === ids.size && devices.every(({ id }) => ids.has(id));
+    const old = new Map(network.devices.map((one) => [one.id, one.inputs]));
+    const merged = devices.map((one) => ({ ...one, inputs: { ...old.get(one.id), ...one.inputs } }));
+    if (isSame) change({ devices: merged });
+    else change({ devices, links: [], range: usualRange(devices.length) });
+}
+
+/** @param {Event} event */
+export async function readChosen(event) {
+    const field = /** @type {HTMLInputElement} */ (event.target), file = field.files?.[0];
+    if (!file) return;
+    try {
+        readFile(await file.text());
+        at("notice").hidden = true;
+    } catch (error) {
+        if (!(error instanceof Unread)) throw error;
+        at("notice").hidden = false;
+        at("notice").textContent = `${file.name} can't be read: ${error.message}.`;
+    }
+    field.value = "";
+}
+
+export const saveScene = () => save("network.json", sceneOf(now.state.network, now.declared));
+export const saveTable = () => save("devices.csv", writeTable(now.state.network, now.declared));
+export const saveInput = () => save(
+    "input.txt", inputOf(known.made?.text ?? now.state.program, sceneOf(now.state.network, now.declared)));
