@@ -136,6 +136,7 @@ def of_fc() -> Line:
         flag("--facts", "adds the facts of each node of the unfolded main"),
         flag("--settle", "adds after how many rounds each device holds its value"),
         flag("--from-table", "with --settle: counts from the network's table and pending firings", "--settle"),
+        flag("--changes", "with --settle: what holds while the network changes as a third section allows", "--settle"),
     )
     log = flag("--log", "adds the log of all steps")
     rounds = flag("--rounds", "adds how many rounds the log has after its last edit")

@@ -1,5 +1,5 @@
 -- What words ask for is a command: there is at least one worker, and `gen` has at least three devices.
-use Rattle.std.proofs.Common.{ℕ, ◌≡◌, ◌≤◌, Bool, true, false, true≢false, ◌&&◌, not, if◌then◌else◌, List, [], ◌∷◌}
+use Rattle.std.proofs.Common.{ℕ, ◌≡◌, ◌≤◌, Bool, true, false, true≢false, ◌&&◌, ◌||◌, not, if◌then◌else◌, List, [], ◌∷◌}
 use Rattle.std.proofs.Common.{refl, sym, subst, arith, Option, Some, None, option_and_then}
 use Rattle.std.specs.Prelude.{IfSome, is_some, unwrap_or, option_map}
 use Rattle.std.specs.List.{list_all}
@@ -13,7 +13,7 @@ use Rattle.command_words.specs.declared.commands.Work.TheVariants as work
 use Rattle.command_words.specs.declared.settings.Numbered.TheVariants.{Workers, Devices, Number}
 use Rattle.command_words.specs.declared.settings.Setting.{Setting}
 use Rattle.command_words.specs.declared.settings.Setting.TheVariants as set
-use Rattle.command_words.specs.Commands.{IsCommand, start_asked}
+use Rattle.command_words.specs.Commands.{IsCommand, start_asked, start_from}
 use Rattle.command_words.specs.Settings.{settings_of}
 use Rattle.command_words.specs.Words.{all_set, allows, asked, command_from, WordsAskForCommands, command_with, name_of}
 use Rattle.command_words.specs.Words.{no_choices, with_setting, worked_by}
@@ -55,6 +55,8 @@ set_enough name set.Settle c d allowed enough h =
     subst Enough (chosen_once c.settle (record c { settle = true }) d h) enough
 set_enough name set.FromTable c d allowed enough h =
     subst Enough (chosen_once c.from_table (record c { from_table = true }) d h) enough
+set_enough name set.Changes c d allowed enough h =
+    subst Enough (chosen_once c.changes (record c { changes = true }) d h) enough
 set_enough name set.Log c d allowed enough h =
     subst Enough (chosen_once c.log (record c { log = true }) d h) enough
 set_enough name set.Table c d allowed enough h =
@@ -93,12 +95,15 @@ least m other None h k = h
 least m other (Some n) h k = k
 
 chosen_enough : (n : Name) (c : Choices) → Enough c → IfSome (command_with n c) IsCommand
-chosen_enough Check c enough = checked (c.from_table && not c.settle)
+chosen_enough Check c enough = checked ((c.from_table || c.changes) && not c.settle) c.changes
   where
-    checked : (b : Bool) → IfSome (if b then None else Some (command.Quiet (quiet.Check
-        (record { facts = c.facts; settle = start_asked c.settle c.from_table })))) IsCommand
-    checked true = tt
-    checked false = tt
+    checked : (b d : Bool) → IfSome (if b then None else (if d
+        then Some (command.Quiet (quiet.Changes (record { facts = c.facts; start = start_from c.from_table })))
+        else Some (command.Quiet (quiet.Check (record { facts = c.facts; settle = start_asked c.settle c.from_table })))))
+        IsCommand
+    checked true d = tt
+    checked false true = tt
+    checked false false = tt
 chosen_enough Stable c enough = tt
 chosen_enough Run c enough = record { some = least 1 4 c.workers (omega (arith)) enough.0; work = tt }
 chosen_enough Replay c enough = tt

@@ -21,7 +21,7 @@ use Rattle.command_words.specs.Settings.{settings_of}
 use Rattle.command_words.specs.Words.{all_set, allows, asked, command_from, command_with, no_choices, with_setting}
 use Rattle.command_words.proofs.ClapWalk.{IsNamed, end_of, rows_are, rows_from, takes_from, takes_is, words_pass}
 use Rattle.command_words.proofs.Pieces.{Digits, Piece, Written, alone, apart, are_written, digits_text}
-use Rattle.command_words.proofs.Pieces.{facts, from_table, joined, log, one, rounds, setting_by, settle, table}
+use Rattle.command_words.proofs.Pieces.{changes, facts, from_table, joined, log, one, rounds, setting_by, settle, table}
 use Rattle.command_words.proofs.Pieces.{word_text}
 use Rattle.command_words.proofs.Pieces.{written_settings, written_words}
 
@@ -47,6 +47,7 @@ with_text alone d t = record t { alone = Some (digits_text d) }
 with_text facts d t = t
 with_text settle d t = t
 with_text from_table d t = t
+with_text changes d t = t
 with_text log d t = t
 with_text table d t = t
 with_text rounds d t = t
@@ -61,6 +62,7 @@ pub record Read : Type 0 where
   pub facts : Option (List ℕ) × Bool
   pub settle : Option (List ℕ) × Bool
   pub from_table : Option (List ℕ) × Bool
+  pub changes : Option (List ℕ) × Bool
   pub log : Option (List ℕ) × Bool
   pub table : Option (List ℕ) × Bool
   pub rounds : Option (List ℕ) × Bool
@@ -72,6 +74,7 @@ read_rows takes rows c = record {
   facts = (one_of (codes "facts") rows, c.facts);
   settle = (one_of (codes "settle") rows, c.settle);
   from_table = (one_of (codes "from-table") rows, c.from_table);
+  changes = (one_of (codes "changes") rows, c.changes);
   log = (one_of (codes "log") rows, c.log);
   table = (one_of (codes "table") rows, c.table);
   rounds = (one_of (codes "rounds") rows, c.rounds);
@@ -103,6 +106,7 @@ expected name c t = record {
   facts = flag_as (allows name set.Facts) c.facts;
   settle = flag_as (allows name set.Settle) c.settle;
   from_table = flag_as (allows name set.FromTable) c.from_table;
+  changes = flag_as (allows name set.Changes) c.changes;
   log = flag_as (allows name set.Log) c.log;
   table = flag_as (allows name set.Table) c.table;
   rounds = flag_as (allows name set.Rounds) c.rounds;
@@ -112,7 +116,7 @@ expected name c t = record {
 -- ---- all the lists of pieces
 abbrev all_pieces : List Piece
 all_pieces =
-    facts ∷ settle ∷ from_table ∷ log ∷ table ∷ rounds ∷ apart Workers ∷ apart Devices ∷ apart Number ∷ joined Workers
+    facts ∷ settle ∷ from_table ∷ changes ∷ log ∷ table ∷ rounds ∷ apart Workers ∷ apart Devices ∷ apart Number ∷ joined Workers
     ∷ joined Devices ∷ joined Number ∷ alone ∷ []
 
 abbrev three : Digits
@@ -169,39 +173,41 @@ split_same (r ∷ rs) ss h =
     ((h.0, rest.0), rest.1)
 
 of_each : (f : Piece → Pairs) → AllSame (each f all_pieces) → (m : Piece) → AllSame (f m)
-of_each f h =
-    let a = split_same (f facts) _ h in
+of_each f all =
+    let a = split_same (f facts) _ all in
     let b = split_same (f settle) _ a.1 in
     let c = split_same (f from_table) _ b.1 in
-    let d = split_same (f log) _ c.1 in
-    let e = split_same (f table) _ d.1 in
-    let g = split_same (f rounds) _ e.1 in
-    let i = split_same (f (apart Workers)) _ g.1 in
+    let d = split_same (f changes) _ c.1 in
+    let e = split_same (f log) _ d.1 in
+    let g = split_same (f table) _ e.1 in
+    let h = split_same (f rounds) _ g.1 in
+    let i = split_same (f (apart Workers)) _ h.1 in
     let j = split_same (f (apart Devices)) _ i.1 in
     let k = split_same (f (apart Number)) _ j.1 in
     let l = split_same (f (joined Workers)) _ k.1 in
-    let m = split_same (f (joined Devices)) _ l.1 in
-    let n = split_same (f (joined Number)) _ m.1 in
-    let o = split_same (f alone) _ n.1 in
-    go a.0 b.0 c.0 d.0 e.0 g.0 i.0 j.0 k.0 l.0 m.0 n.0 o.0
+    let n = split_same (f (joined Devices)) _ l.1 in
+    let o = split_same (f (joined Number)) _ n.1 in
+    let q = split_same (f alone) _ o.1 in
+    go a.0 b.0 c.0 d.0 e.0 g.0 h.0 i.0 j.0 k.0 l.0 n.0 o.0 q.0
   where
-    go : AllSame (f facts) → AllSame (f settle) → AllSame (f from_table) → AllSame (f log) → AllSame (f table)
-        → AllSame (f rounds) → AllSame (f (apart Workers)) → AllSame (f (apart Devices)) → AllSame (f (apart Number))
-        → AllSame (f (joined Workers)) → AllSame (f (joined Devices)) → AllSame (f (joined Number)) → AllSame (f alone)
-        → (m : Piece) → AllSame (f m)
-    go a b c d e g i j k l m n o facts = a
-    go a b c d e g i j k l m n o settle = b
-    go a b c d e g i j k l m n o from_table = c
-    go a b c d e g i j k l m n o log = d
-    go a b c d e g i j k l m n o table = e
-    go a b c d e g i j k l m n o rounds = g
-    go a b c d e g i j k l m n o (apart Workers) = i
-    go a b c d e g i j k l m n o (apart Devices) = j
-    go a b c d e g i j k l m n o (apart Number) = k
-    go a b c d e g i j k l m n o (joined Workers) = l
-    go a b c d e g i j k l m n o (joined Devices) = m
-    go a b c d e g i j k l m n o (joined Number) = n
-    go a b c d e g i j k l m n o alone = o
+    go : AllSame (f facts) → AllSame (f settle) → AllSame (f from_table) → AllSame (f changes) → AllSame (f log)
+        → AllSame (f table) → AllSame (f rounds) → AllSame (f (apart Workers)) → AllSame (f (apart Devices))
+        → AllSame (f (apart Number)) → AllSame (f (joined Workers)) → AllSame (f (joined Devices))
+        → AllSame (f (joined Number)) → AllSame (f alone) → (m : Piece) → AllSame (f m)
+    go a b c d e g h i j k l n o q facts = a
+    go a b c d e g h i j k l n o q settle = b
+    go a b c d e g h i j k l n o q from_table = c
+    go a b c d e g h i j k l n o q changes = d
+    go a b c d e g h i j k l n o q log = e
+    go a b c d e g h i j k l n o q table = g
+    go a b c d e g h i j k l n o q rounds = h
+    go a b c d e g h i j k l n o q (apart Workers) = i
+    go a b c d e g h i j k l n o q (apart Devices) = j
+    go a b c d e g h i j k l n o q (apart Number) = k
+    go a b c d e g h i j k l n o q (joined Workers) = l
+    go a b c d e g h i j k l n o q (joined Devices) = n
+    go a b c d e g h i j k l n o q (joined Number) = o
+    go a b c d e g h i j k l n o q alone = q
 
 option_allowed : (name : Name) (o : Numbered) (n : ℕ) → allows name (set.Option o n) ≡ true
     → allows name (set.Option o 3) ≡ true
@@ -244,6 +250,7 @@ piece_allowed : (name : Name) (m : Piece) (d : Digits) → allows name (setting_
 piece_allowed name facts d e = e
 piece_allowed name settle d e = e
 piece_allowed name from_table d e = e
+piece_allowed name changes d e = e
 piece_allowed name log d e = e
 piece_allowed name table d e = e
 piece_allowed name rounds d e = e
@@ -378,6 +385,8 @@ linked_more settle dg t c d l h =
 linked_more from_table dg t c d l h =
     subst (Linked t) (chosen_once c.from_table (record c { from_table = true }) d h)
     (linked_as t c _ l refl refl refl refl)
+linked_more changes dg t c d l h =
+    subst (Linked t) (chosen_once c.changes (record c { changes = true }) d h) (linked_as t c _ l refl refl refl refl)
 linked_more log dg t c d l h =
     subst (Linked t) (chosen_once c.log (record c { log = true }) d h) (linked_as t c _ l refl refl refl refl)
 linked_more table dg t c d l h =
@@ -417,6 +426,7 @@ are_read name takes rows c t e l = record {
   facts = is_flag (allows name set.Facts) c.facts _ (ap (λ (r : Read). r.facts) e);
   settle = is_flag (allows name set.Settle) c.settle _ (ap (λ (r : Read). r.settle) e);
   from_table = is_flag (allows name set.FromTable) c.from_table _ (ap (λ (r : Read). r.from_table) e);
+  changes = is_flag (allows name set.Changes) c.changes _ (ap (λ (r : Read). r.changes) e);
   log = is_flag (allows name set.Log) c.log _ (ap (λ (r : Read). r.log) e);
   table = is_flag (allows name set.Table) c.table _ (ap (λ (r : Read). r.table) e);
   rounds = is_flag (allows name set.Rounds) c.rounds _ (ap (λ (r : Read). r.rounds) e);

@@ -32,6 +32,7 @@ pub data Piece : Type 0 where
   facts : Piece
   settle : Piece
   from_table : Piece
+  changes : Piece
   log : Piece
   table : Piece
   rounds : Piece
@@ -57,6 +58,7 @@ abbrev pub words_by : Piece → Digits → List Word
 words_by facts d = spelled (codes "--facts") ∷ []
 words_by settle d = spelled (codes "--settle") ∷ []
 words_by from_table d = spelled (codes "--from-table") ∷ []
+words_by changes d = spelled (codes "--changes") ∷ []
 words_by log d = spelled (codes "--log") ∷ []
 words_by table d = spelled (codes "--table") ∷ []
 words_by rounds d = spelled (codes "--rounds") ∷ []
@@ -68,6 +70,7 @@ abbrev pub setting_by : Piece → Digits → Setting
 setting_by facts d = set.Facts
 setting_by settle d = set.Settle
 setting_by from_table d = set.FromTable
+setting_by changes d = set.Changes
 setting_by log d = set.Log
 setting_by table d = set.Table
 setting_by rounds d = set.Rounds
@@ -143,9 +146,10 @@ flag_written word s =
     if_flag word (codes "--facts") facts s _ refl
     (if_flag word (codes "--settle") settle s _ refl
     (if_flag word (codes "--from-table") from_table s _ refl
+    (if_flag word (codes "--changes") changes s _ refl
     (if_flag word (codes "--log") log s _ refl
     (if_flag word (codes "--table") table s _ refl
-    (if_flag word (codes "--rounds") rounds s _ refl (λ e. cc))))))
+    (if_flag word (codes "--rounds") rounds s _ refl (λ e. cc)))))))
 
 -- ---- options
 if_option : (word name : List ℕ) (o p : Numbered) (rest : Option Numbered) → name ≡ option_name p

@@ -9,7 +9,7 @@ use Rattle.command_words.specs.Options.{run_app}
 use Rattle.command_words.proofs.ClapWalk.{IsNamed}
 use Rattle.command_words.proofs.Enumerated.{Reads, ReadsAll, reads_words}
 
-check_reads : (name : List ℕ) → ReadsAll (check_app name) Check 3
+check_reads : (name : List ℕ) → ReadsAll (check_app name) Check 4
 unfolding clap_on_literals check_app plain_app
 check_reads name p = refl
 
@@ -42,7 +42,7 @@ unfolding clap_on_literals plain_app
 trace_reads name p = refl
 
 abbrev most_of : Name → ℕ
-most_of Check = 3
+most_of Check = 4
 most_of Stable = 0
 most_of Run = 3
 most_of Replay = 2

@@ -7,11 +7,12 @@ use Rattle.clap.proofs.WalkLemmas.{one_text-rows}
 use Rattle.command_words.specs.declared.choices.Choices.{Choices}
 use Rattle.command_words.specs.Options.{IsFlag}
 
-abbrev made : Bool → Bool → Bool → Bool → Bool → Bool → Option ℕ → Option ℕ → Option ℕ → Option ℕ → Choices
-made facts settle from_table log table rounds workers devices number alone = record {
+abbrev made : Bool → Bool → Bool → Bool → Bool → Bool → Bool → Option ℕ → Option ℕ → Option ℕ → Option ℕ → Choices
+made facts settle from_table changes log table rounds workers devices number alone = record {
   facts = facts;
   settle = settle;
   from_table = from_table;
+  changes = changes;
   log = log;
   table = table;
   rounds = rounds;
@@ -25,6 +26,7 @@ pub record AreSame (a b : Choices) : Type 0 where
   pub facts : a.facts ≡ b.facts
   pub settle : a.settle ≡ b.settle
   pub from_table : a.from_table ≡ b.from_table
+  pub changes : a.changes ≡ b.changes
   pub log : a.log ≡ b.log
   pub table : a.table ≡ b.table
   pub rounds : a.rounds ≡ b.rounds
@@ -35,11 +37,18 @@ pub record AreSame (a b : Choices) : Type 0 where
 
 pub same_choices : (a b : Choices) → AreSame a b → a ≡ b
 same_choices a b s =
-    ap₂ (λ f g. made f g a.from_table a.log a.table a.rounds a.workers a.devices a.number a.alone) s.facts s.settle
-    ∙ ap₂ (λ f g. made b.facts b.settle f g a.table a.rounds a.workers a.devices a.number a.alone) s.from_table s.log
-    ∙ ap₂ (λ f g. made b.facts b.settle b.from_table b.log f g a.workers a.devices a.number a.alone) s.table s.rounds
-    ∙ ap₂ (λ f g. made b.facts b.settle b.from_table b.log b.table b.rounds f g a.number a.alone) s.workers s.devices
-    ∙ ap₂ (λ f g. made b.facts b.settle b.from_table b.log b.table b.rounds b.workers b.devices f g) s.number s.alone
+    ap₂ (λ f g. made f g a.from_table a.changes a.log a.table a.rounds a.workers a.devices a.number a.alone)
+    s.facts s.settle
+    ∙ ap₂ (λ f g. made b.facts b.settle f g a.log a.table a.rounds a.workers a.devices a.number a.alone)
+    s.from_table s.changes
+    ∙ ap₂ (λ f g. made b.facts b.settle b.from_table b.changes f g a.rounds a.workers a.devices a.number a.alone)
+    s.log s.table
+    ∙ ap₂ (λ f g. made b.facts b.settle b.from_table b.changes b.log b.table f g a.devices a.number a.alone)
+    s.rounds s.workers
+    ∙ ap₂ (λ f g. made b.facts b.settle b.from_table b.changes b.log b.table b.rounds b.workers f g a.alone)
+    s.devices s.number
+    ∙ ap (λ f. made b.facts b.settle b.from_table b.changes b.log b.table b.rounds b.workers b.devices b.number f)
+    s.alone
 
 -- what is read of a flag
 flag_read : (text : Option (List ℕ)) (b result : Bool) → IsFlag text b → (text ≡ None → result ≡ false)

@@ -12,11 +12,15 @@ use Rattle.command_words.specs.declared.commands.Limit.TheVariants.{Workers, Dev
 use Rattle.command_words.specs.declared.commands.Start.{Start}
 use Rattle.command_words.specs.declared.commands.Start.TheVariants as start
 
--- from which exports settle rounds are counted, where they are asked for
+-- from which exports rounds are counted
+abbrev pub start_from : Bool → Start
+start_from false = start.Any
+start_from true = start.Table
+
+-- the same of settle rounds, where they are asked for
 abbrev pub start_asked : Bool → Bool → Option Start
 start_asked false from_table = None
-start_asked true false = Some start.Any
-start_asked true true = Some start.Table
+start_asked true from_table = Some (start_from from_table)
 
 -- work with numbers that words can give it: a scenario has at least 3 devices
 abbrev pub IsWork : Work → Type 0

@@ -33,8 +33,10 @@ plain_app name = on_top without_help (new_app name)
 
 unfoldable pub check_app : List ℕ → App
 check_app name =
-    with_rule (with_rule (with_rule (plain_app name) (flag_rule (codes "facts"))) (flag_rule (codes "settle")))
-    (flag_rule (codes "from-table"))
+    with_rule
+    (with_rule (with_rule (with_rule (plain_app name) (flag_rule (codes "facts"))) (flag_rule (codes "settle")))
+    (flag_rule (codes "from-table")))
+    (flag_rule (codes "changes"))
 
 unfoldable pub replay_app : List ℕ → App
 replay_app name =
@@ -81,6 +83,7 @@ pub record IsRead (rows : List Row) (c : Choices) : Type 0 where
   pub facts : IsFlag (one_of (codes "facts") rows) c.facts
   pub settle : IsFlag (one_of (codes "settle") rows) c.settle
   pub from_table : IsFlag (one_of (codes "from-table") rows) c.from_table
+  pub changes : IsFlag (one_of (codes "changes") rows) c.changes
   pub log : IsFlag (one_of (codes "log") rows) c.log
   pub table : IsFlag (one_of (codes "table") rows) c.table
   pub rounds : IsFlag (one_of (codes "rounds") rows) c.rounds

@@ -16,6 +16,7 @@ flag_of word =
     if bytes_eq word (codes "--facts") then Some set.Facts else
     if bytes_eq word (codes "--settle") then Some set.Settle else
     if bytes_eq word (codes "--from-table") then Some set.FromTable else
+    if bytes_eq word (codes "--changes") then Some set.Changes else
     if bytes_eq word (codes "--log") then Some set.Log else
     if bytes_eq word (codes "--table") then Some set.Table else
     if bytes_eq word (codes "--rounds") then Some set.Rounds else None

@@ -1,5 +1,5 @@
 -- The command that the words of a command line ask for.
-use Rattle.std.specs.Prelude.{ℕ, Bool, true, false, ◌&&◌, not, nat_le, is_some, if◌then◌else◌, List, [], ◌∷◌, codes}
+use Rattle.std.specs.Prelude.{ℕ, Bool, true, false, ◌&&◌, ◌||◌, not, nat_le, is_some, if◌then◌else◌, List, [], ◌∷◌, codes}
 use Rattle.std.specs.Prelude.{IfSome, Option, Some, None, option_map, option_and_then, unwrap_or}
 use Rattle.std.specs.List.{list_all}
 use Rattle.std.specs.Str.{bytes_eq}
@@ -14,7 +14,7 @@ use Rattle.command_words.specs.declared.choices.Choices.{Choices}
 use Rattle.command_words.specs.declared.settings.Numbered.TheVariants.{Workers, Devices, Number}
 use Rattle.command_words.specs.declared.settings.Setting.{Setting}
 use Rattle.command_words.specs.declared.settings.Setting.TheVariants as set
-use Rattle.command_words.specs.Commands.{IsCommand, start_asked}
+use Rattle.command_words.specs.Commands.{IsCommand, start_asked, start_from}
 use Rattle.command_words.specs.Settings.{settings_of}
 
 -- the command that a word names
@@ -34,6 +34,7 @@ abbrev pub allows : Name → Setting → Bool
 allows Check set.Facts = true
 allows Check set.Settle = true
 allows Check set.FromTable = true
+allows Check set.Changes = true
 allows Run (set.Option Workers n) = nat_le 1 n
 allows Run set.Log = true
 allows Run set.Table = true
@@ -51,6 +52,7 @@ no_choices = record {
   facts = false;
   settle = false;
   from_table = false;
+  changes = false;
   log = false;
   table = false;
   rounds = false;
@@ -65,6 +67,7 @@ abbrev pub with_setting : Setting → Choices → Option Choices
 with_setting set.Facts c = if c.facts then None else Some (record c { facts = true })
 with_setting set.Settle c = if c.settle then None else Some (record c { settle = true })
 with_setting set.FromTable c = if c.from_table then None else Some (record c { from_table = true })
+with_setting set.Changes c = if c.changes then None else Some (record c { changes = true })
 with_setting set.Log c = if c.log then None else Some (record c { log = true })
 with_setting set.Table c = if c.table then None else Some (record c { table = true })
 with_setting set.Rounds c = if c.rounds then None else Some (record c { rounds = true })
@@ -78,11 +81,13 @@ abbrev pub all_set : Choices → List Setting → Option Choices
 all_set c [] = Some c
 all_set c (s ∷ more) = option_and_then (λ d. all_set d more) (with_setting s c)
 
--- the `check` with its flags: `--from-table` stands beside `--settle` only
-abbrev pub check_with : Bool → Bool → Bool → Option Command
-check_with facts settle from_table =
-    if from_table && not settle then None
-    else Some (command.Quiet (quiet.Check (record { facts = facts; settle = start_asked settle from_table })))
+-- the `check` with its flags: `--from-table` and `--changes` stand beside `--settle` only
+abbrev pub check_with : Bool → Bool → Bool → Bool → Option Command
+check_with facts settle from_table changes =
+    if (from_table || changes) && not settle then None
+    else (if changes
+    then Some (command.Quiet (quiet.Changes (record { facts = facts; start = start_from from_table })))
+    else Some (command.Quiet (quiet.Check (record { facts = facts; settle = start_asked settle from_table }))))
 
 -- the command of some work: 4 workers do it, if the words don't say how many
 abbrev pub worked_by : Option ℕ → Work → Command
@@ -90,7 +95,7 @@ worked_by workers work = command.Threaded (record { workers = unwrap_or workers 
 
 -- the command with what is set, and the defaults for the rest: 4 workers and 64 devices. `gen` needs its number
 abbrev pub command_with : Name → Choices → Option Command
-command_with Check c = check_with c.facts c.settle c.from_table
+command_with Check c = check_with c.facts c.settle c.from_table c.changes
 command_with Stable c = Some (command.Quiet quiet.Stable)
 command_with Run c = Some (worked_by c.workers (work.Run (record { log = c.log; table = c.table })))
 command_with Replay c = Some (command.Quiet (quiet.Replay (record { rounds = c.rounds; table = c.table })))

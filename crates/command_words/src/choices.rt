@@ -6,8 +6,8 @@ ghost use Rattle.command_words.specs.Words.{all_set, allows, check_with, command
 ghost use Rattle.command_words.specs.Words.{no_choices, with_setting, worked_by};
 
 use crate::commands::{
-    CheckOptions, Command, GenOptions, MailOptions, Quiet, ReplayOptions, RunOptions, Threaded,
-    Work, start_asked,
+    ChangesOptions, CheckOptions, Command, GenOptions, MailOptions, Quiet, ReplayOptions,
+    RunOptions, Threaded, Work, start_asked, start_from,
 };
 use crate::settings::{Numbered, Setting};
 
@@ -30,6 +30,7 @@ pub struct Choices {
     pub facts: bool,
     pub settle: bool,
     pub from_table: bool,
+    pub changes: bool,
     pub log: bool,
     pub table: bool,
     pub rounds: bool,
@@ -78,6 +79,7 @@ fn takes(name: Name, setting: Setting) -> bool
         (Name::Check, Setting::Facts) => true,
         (Name::Check, Setting::Settle) => true,
         (Name::Check, Setting::FromTable) => true,
+        (Name::Check, Setting::Changes) => true,
         (Name::Run, Setting::Option(Numbered::Workers, count)) => 1 <= count,
         (Name::Run, Setting::Log) => true,
         (Name::Run, Setting::Table) => true,
@@ -106,6 +108,10 @@ fn with(choices: Choices, setting: Setting) -> Option<Choices>
         }),
         Setting::FromTable if !choices.from_table => Some(Choices {
             from_table: true,
+            ..choices
+        }),
+        Setting::Changes if !choices.changes => Some(Choices {
+            changes: true,
             ..choices
         }),
         Setting::Log if !choices.log => Some(Choices {
@@ -148,6 +154,7 @@ fn collected(settings: &[Setting]) -> Option<Choices>
         facts: false,
         settle: false,
         from_table: false,
+        changes: false,
         log: false,
         table: false,
         rounds: false,
@@ -162,12 +169,18 @@ fn collected(settings: &[Setting]) -> Option<Choices>
     Some(choices)
 }
 
-// The `check` of its flags: `--from-table` stands beside `--settle` only.
-fn check_with(facts: bool, settle: bool, from_table: bool) -> Option<Command>
-    ensures { result ≡ check_with facts settle from_table }
+// The `check` of its flags: `--from-table` and `--changes` stand beside `--settle` only.
+fn check_with(facts: bool, settle: bool, from_table: bool, changes: bool) -> Option<Command>
+    ensures { result ≡ check_with facts settle from_table changes }
 {
-    if from_table && !settle {
+    if (from_table || changes) && !settle {
         return None;
+    }
+    if changes {
+        return Some(Command::Quiet(Quiet::Changes(ChangesOptions {
+            facts,
+            start: start_from(from_table),
+        })));
     }
     Some(Command::Quiet(Quiet::Check(CheckOptions {
         facts,
@@ -193,6 +206,7 @@ pub fn chosen(name: Name, choices: Choices) -> Option<Command>
         facts,
         settle,
         from_table,
+        changes,
         log,
         table,
         rounds,
@@ -202,7 +216,7 @@ pub fn chosen(name: Name, choices: Choices) -> Option<Command>
         alone,
     } = choices;
     match name {
-        Name::Check => check_with(facts, settle, from_table),
+        Name::Check => check_with(facts, settle, from_table, changes),
         Name::Stable => Some(Command::Quiet(Quiet::Stable)),
         Name::Run => Some(worked_by(workers, Work::Run(RunOptions { log, table }))),
         Name::Replay => Some(Command::Quiet(Quiet::Replay(ReplayOptions { rounds, table }))),

@@ -1,7 +1,7 @@
 //! The commands, and the limits of their numbers.
 
 ghost use Rattle.std.specs.Prelude.{◌≡◌};
-ghost use Rattle.command_words.specs.Commands.{limit_of, limit_name, start_asked};
+ghost use Rattle.command_words.specs.Commands.{limit_of, limit_name, start_asked, start_from};
 
 use fc_values::{MOST_SCENARIO_DEVICES, MOST_WORKERS};
 
@@ -19,6 +19,15 @@ pub struct CheckOptions {
     pub facts: bool,
     /// From which exports the rounds that each device needs are counted, where they are asked for.
     pub settle: Option<Start>,
+}
+
+/// The options of `check` where the network changes.
+#[derive(Clone, Copy, Debug, PartialEq, Eq)]
+pub struct ChangesOptions {
+    /// Whether the facts of each node are written.
+    pub facts: bool,
+    /// From which exports the rounds that each device needs are counted.
+    pub start: Start,
 }
 
 /// The options of `replay`: what is written after the values.
@@ -60,6 +69,9 @@ pub struct GenOptions {
 pub enum Quiet {
     /// The verdict, and where they are asked for the facts of each node and the rounds that each device needs.
     Check(CheckOptions),
+    /// The verdict, the facts where they are asked for, and between which values each device stays while the network
+    /// changes.
+    Changes(ChangesOptions),
     /// The stabilised field.
     Stable,
     /// The values after a log, and its rounds and table where they are asked for.
@@ -119,14 +131,21 @@ impl Limit {
     }
 }
 
-/// The start from which settle rounds are counted, where they are asked for.
+/// The start from which rounds are counted.
+pub fn start_from(from_table: bool) -> Start
+    ensures { result ≡ start_from from_table }
+{
+    if from_table { Start::Table } else { Start::Any }
+}
+
+/// The same of settle rounds, where they are asked for.
 pub fn start_asked(settle: bool, from_table: bool) -> Option<Start>
     ensures { result ≡ start_asked settle from_table }
 {
-    match (settle, from_table) {
-        (true, true) => Some(Start::Table),
-        (true, false) => Some(Start::Any),
-        (false, _) => None,
+    if settle {
+        Some(start_from(from_table))
+    } else {
+        None
     }
 }
 

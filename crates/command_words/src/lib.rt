@@ -8,7 +8,7 @@ mod settings;
 mod words;
 
 pub use commands::{
-    CheckOptions, Command, GenOptions, Limit, MailOptions, Quiet, ReplayOptions, RunOptions, Start,
-    Threaded, Work, passed_limit,
+    ChangesOptions, CheckOptions, Command, GenOptions, Limit, MailOptions, Quiet, ReplayOptions,
+    RunOptions, Start, Threaded, Work, passed_limit,
 };
 pub use words::{command, words_ask_for_commands};

@@ -52,7 +52,12 @@ fn check_options<'a>(alloc: Global, name: &'a str) -> Result<Command<'a>, AllocE
     let facts = flag(alloc, "facts");
     let settle = flag(alloc, "settle");
     let from_table = flag(alloc, "from-table");
-    plain(alloc, name).arg(facts)?.arg(settle)?.arg(from_table)
+    let changes = flag(alloc, "changes");
+    plain(alloc, name)
+        .arg(facts)?
+        .arg(settle)?
+        .arg(from_table)?
+        .arg(changes)
 }
 
 fn replay_options<'a>(alloc: Global, name: &'a str) -> Result<Command<'a>, AllocError>
@@ -135,6 +140,7 @@ fn choices_in(matches: &ArgMatches) -> Choices
         facts: matches.get_flag("facts"),
         settle: matches.get_flag("settle"),
         from_table: matches.get_flag("from-table"),
+        changes: matches.get_flag("changes"),
         log: matches.get_flag("log"),
         table: matches.get_flag("table"),
         rounds: matches.get_flag("rounds"),

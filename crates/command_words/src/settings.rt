@@ -26,6 +26,8 @@ pub enum Setting {
     Settle,
     /// `--from-table`
     FromTable,
+    /// `--changes`
+    Changes,
     /// `--log`
     Log,
     /// `--table`
@@ -50,6 +52,9 @@ fn flag(word: &str) -> Option<Setting>
     }
     if word == "--from-table" {
         return Some(Setting::FromTable);
+    }
+    if word == "--changes" {
+        return Some(Setting::Changes);
     }
     if word == "--log" {
         return Some(Setting::Log);

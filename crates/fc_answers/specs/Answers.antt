@@ -4,7 +4,7 @@ use Rattle.command_words.specs.declared.commands.Command.{Command}
 use Rattle.command_words.specs.declared.commands.Command.TheVariants as command
 use Rattle.command_words.specs.declared.commands.Limit.{Limit}
 use Rattle.command_words.specs.declared.commands.Quiet.{Quiet}
-use Rattle.command_words.specs.declared.commands.Quiet.TheVariants.{Check, Stable, Replay, Format, Trace, Mail}
+use Rattle.command_words.specs.declared.commands.Quiet.TheVariants.{Check, Changes, Stable, Replay, Format, Trace, Mail}
 use Rattle.command_words.specs.declared.commands.Work.{Work}
 use Rattle.command_words.specs.declared.commands.Work.TheVariants.{Run, Gen}
 use Rattle.command_words.specs.Commands.{limit_of}
@@ -14,6 +14,7 @@ use Rattle.fc_inputs.specs.Answers.{AnswerValue}
 use Rattle.fc_inputs.specs.Causes.{Plainly, Judged, Refused, answer_of}
 use Rattle.fc_inputs.specs.Sections.{sections_of, WithOne, WithTwo, WithThree}
 use Rattle.fc_check.specs.Commands.{Checks}
+use Rattle.fc_changes.specs.Commands.{ChecksChanges}
 use Rattle.fc_stable.specs.Stabilised.{Stabilised}
 use Rattle.fc_replay.specs.Replays.{Replays}
 use Rattle.fc_format.specs.Formats.{Formats}
@@ -26,6 +27,7 @@ use Rattle.fc_answers.specs.Asked.{limit_refusal}
 -- a quiet command over the sections of an input within the limit
 abbrev pub AnswersSections : Quiet → List (List ℕ) → Judged AnswerValue → Type 0
 AnswersSections (Check options) sections j = WithTwo (Checks options) sections j
+AnswersSections (Changes options) sections j = WithThree (ChecksChanges options) sections j
 AnswersSections Stable sections j = WithTwo Stabilised sections j
 AnswersSections (Replay options) sections j = WithThree (Replays options) sections j
 AnswersSections Format sections j = WithOne Formats sections j

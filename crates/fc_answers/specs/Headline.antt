@@ -3,13 +3,14 @@ use Rattle.std.specs.Prelude.{ℕ, ◌≡◌, ◌≤◌, List, Option, Some, Non
 use Rattle.command_words.specs.declared.commands.Command.{Command}
 use Rattle.command_words.specs.declared.commands.Command.TheVariants as command
 use Rattle.command_words.specs.declared.commands.Quiet.{Quiet}
-use Rattle.command_words.specs.declared.commands.Quiet.TheVariants.{Check, Stable, Replay, Format, Trace, Mail}
+use Rattle.command_words.specs.declared.commands.Quiet.TheVariants.{Check, Changes, Stable, Replay, Format, Trace, Mail}
 use Rattle.command_words.specs.declared.commands.Work.{Work}
 use Rattle.command_words.specs.declared.commands.Work.TheVariants.{Run, Gen}
 use Rattle.fc_inputs.specs.Answers.{AnswerValue}
 use Rattle.fc_inputs.specs.Owing.{OfThree, OfTwo}
 use Rattle.fc_inputs.specs.Sections.{sections_of}
 use Rattle.fc_check.specs.Promises.{CheckPromises}
+use Rattle.fc_changes.specs.Promises.{ChangesKept}
 use Rattle.fc_stable.specs.Promises.{SolvesYes}
 use Rattle.fc_replay.specs.Promises.{ReplaysKept}
 use Rattle.fc_trace.specs.Promises.{TraceKept}
@@ -28,6 +29,8 @@ IsAnswered quiet status = status ≡ 0
 abbrev pub Promises : Quiet → List (List ℕ) → AnswerValue → Type 0
 Promises (Check options) sections answer =
     OfTwo (λ program network. CheckPromises options.facts options.settle program network answer) sections
+Promises (Changes options) sections answer =
+    OfThree (λ program network changes. ChangesKept options program network changes answer) sections
 Promises Stable sections answer = OfTwo (λ program network. SolvesYes program network answer.text) sections
 Promises Format sections answer = Unit {0}
 Promises (Replay options) sections answer =

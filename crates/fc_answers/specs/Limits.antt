@@ -4,6 +4,7 @@ use Rattle.std.specs.Prelude.{◌≡◌}
 use Rattle.fc_values.specs.declared.limits.TheConstants.{MOST_BYTES, GREATEST, MOST_NODES, MOST_LINKS}
 use Rattle.fc_values.specs.declared.limits.TheConstants.{MOST_SCENARIO_DEVICES, MOST_WORKERS}
 use Rattle.topology.specs.declared.types.TheConstants.{MOST_DEVICES, GREATEST_NUMBER}
+use Rattle.changes.specs.declared.types.TheConstants.{MOST_PAIRS}
 use Rattle.fc_parser.specs.declared.limits.TheConstants.{MOST_TOKENS, MOST_BRACKETS}
 use Rattle.unfold.specs.declared.count.TheConstants.{MOST_COUNTED}
 use Rattle.edit_commands.specs.declared.values.TheConstants.{MOST_LEAVES}
@@ -29,6 +30,8 @@ pub record LimitsAre : Type 0 where
   pub devices : MOST_DEVICES ≡ 1024
   pub device_number : GREATEST_NUMBER ≡ 65535
   pub links : MOST_LINKS ≡ 32
+  -- the pairs of a device while the network changes
+  pub pairs : MOST_PAIRS ≡ 128
   -- the lines of a script, its scrambles, and its firings
   pub lines : MOST_LINES ≡ 4096
   pub scrambles : MOST_SCRAMBLES ≡ 4

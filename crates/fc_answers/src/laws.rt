@@ -4,6 +4,7 @@ ghost use Rattle.fc_answers.specs.Laws.{AnswerStatuses, CommandsOwe, OneAnswer, 
 ghost use Rattle.fc_answers.specs.Limits.{LimitsAre};
 ghost use Rattle.fc_answers.specs.LogsOfRuns.{RunsReplay};
 
+use fc_changes::changes_owe;
 use fc_check::check_owes;
 use fc_format::format_owes;
 use fc_gen::gen_owes;
@@ -20,6 +21,7 @@ pub(crate) fn commands_owe()
     ensures { CommandsOwe }
 {
     check_owes();
+    changes_owe();
     stable_owes();
     replay_owes();
     format_owes();

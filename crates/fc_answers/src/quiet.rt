@@ -10,6 +10,7 @@ ghost use Rattle.fc_answers.specs.Headline.{IsKept};
 
 use crate::laws::answers_keep;
 use command_words::{Command, Quiet};
+use fc_changes::check_changes;
 use fc_check::check;
 use fc_format::format;
 use fc_inputs::{Answer, Refusal, Stop, refuse, sections, stopped};
@@ -30,6 +31,7 @@ fn of_sections(alloc: Global, command: Quiet, input: &[u8]) -> Result<Answer, St
     let sections = sections(alloc, input)?;
     match command {
         Quiet::Check(options) => check(alloc, options, &sections),
+        Quiet::Changes(options) => check_changes(alloc, options, &sections),
         Quiet::Stable => stable(alloc, &sections),
         Quiet::Replay(options) => replay(alloc, options, &sections),
         Quiet::Format => format(alloc, &sections),

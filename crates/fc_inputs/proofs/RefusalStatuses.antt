@@ -10,7 +10,8 @@ use Rattle.fc_inputs.specs.declared.refusal.LineFault.{LineFault}
 use Rattle.fc_inputs.specs.declared.refusal.LineFault.TheVariants as line_fault
 use Rattle.fc_inputs.specs.declared.refusal.Refusal.{Refusal}
 use Rattle.fc_inputs.specs.declared.refusal.Refusal.TheVariants as refusal
-use Rattle.fc_inputs.specs.Refusals.{status_of, limit_of, limit_in, or_refusal, log_refusal, script_refusal}
+use Rattle.fc_inputs.specs.Refusals.{status_of, limit_of, limit_in, pairs_limit, pairs_limit_of, or_refusal}
+use Rattle.fc_inputs.specs.Refusals.{log_refusal, script_refusal, changes_refusal}
 use Rattle.fc_inputs.specs.Causes.{Cause, Plainly, InScene, answer_to, or_network, scene_refused, Judged, Accepted, Refused, AndThen}
 use Rattle.fc_inputs.specs.Sources.{IsNoSource, lexical, tokens, depth, syntax, IsNoProgram, no_source, ill_typed, too_large, ReadsSource, ReadsProgram}
 use Rattle.fc_inputs.specs.Inputs.{InputOf, with_scene, ReadsInput}
@@ -54,6 +55,31 @@ log_status at fault = limit_status (limit_in fault) (refusal.Log at fault) by_th
 
 pub script_status : (at : ℕ) (fault : LineFault) → RefusesBy (status_of (script_refusal at fault))
 script_status at fault = limit_status (limit_in fault) (refusal.Script at fault) by_three (line_limit fault)
+
+net_pairs : (fault : NetFault) (r : Refusal) → pairs_limit_of fault ≡ Some r → RefusesBy (status_of r)
+net_pairs net.Degree r e = let is : refusal.Pairs ≡ r = cc in subst (λ x. RefusesBy (status_of x)) is by_four
+net_pairs net.Devices r e = let is : refusal.Devices 1025 ≡ r = cc in subst (λ x. RefusesBy (status_of x)) is by_four
+net_pairs net.Twice r e = absurd cc
+net_pairs net.NoDevice r e = absurd cc
+net_pairs net.SelfLink r e = absurd cc
+net_pairs net.Weight r e = absurd cc
+net_pairs net.NoLink r e = absurd cc
+net_pairs net.NoInput r e = absurd cc
+net_pairs net.InputType r e = absurd cc
+net_pairs net.InputRange r e = absurd cc
+net_pairs net.InFlight r e = absurd cc
+net_pairs net.Last r e = absurd cc
+
+line_pairs : (fault : LineFault) (r : Refusal) → pairs_limit fault ≡ Some r → RefusesBy (status_of r)
+line_pairs line_fault.Form r e = absurd cc
+line_pairs (line_fault.Net fault) r e = net_pairs fault r e
+line_pairs line_fault.Kept r e = absurd cc
+line_pairs line_fault.Flying r e = absurd cc
+line_pairs line_fault.NotFlying r e = absurd cc
+line_pairs line_fault.Empty r e = absurd cc
+
+pub changes_status : (at : ℕ) (fault : LineFault) → RefusesBy (status_of (changes_refusal at fault))
+changes_status at fault = limit_status (pairs_limit fault) (refusal.Changes at fault) by_three (line_pairs fault)
 
 network_status : (o : Option Refusal) (path : List ℕ) (fault : NetFault)
     → ((r : Refusal) → o ≡ Some r → RefusesBy (status_of r)) → RefusesBy (or_network o path fault).status

@@ -6,7 +6,10 @@ use Rattle.topology.specs.declared.types.NetFault.TheVariants as net
 use Rattle.fc_inputs.specs.declared.refusal.LineFault.{LineFault}
 use Rattle.fc_inputs.specs.declared.refusal.LineFault.TheVariants as line_fault
 use Rattle.fc_inputs.specs.declared.refusal.Refusal.{Refusal}
-use Rattle.fc_inputs.specs.declared.refusal.Refusal.TheVariants.{Usage, Workers, Bytes, Sections, Lexical, Tokens, Depth, Syntax, Types, Nodes, Devices, Degree, Lines, Scrambles, Firings, Script, Log, Mail}
+use Rattle.fc_inputs.specs.declared.refusal.Refusal.TheVariants.{Usage, Workers, Bytes, Sections, Lexical, Tokens}
+use Rattle.fc_inputs.specs.declared.refusal.Refusal.TheVariants.{Depth, Syntax, Types, Nodes, Devices, Degree, Pairs}
+use Rattle.fc_inputs.specs.declared.refusal.Refusal.TheVariants.{Lines, Scrambles, Firings}
+use Rattle.fc_inputs.specs.declared.refusal.Refusal.TheVariants.{Script, Log, Changes, Mail}
 use Rattle.fc_inputs.specs.Answers.{AnswerValue, plain}
 use Rattle.fc_inputs.specs.FaultWords.{kind_word, line_word}
 
@@ -28,11 +31,13 @@ line_of (Types declaration kind) = line (codes "types " ++ decimal declaration +
 line_of (Nodes size) = line (codes "limit nodes " ++ decimal size)
 line_of (Devices count) = line (codes "limit devices " ++ decimal count)
 line_of Degree = line (codes "limit degree 33")
+line_of Pairs = line (codes "limit degree 129")
 line_of (Lines count) = line (codes "limit lines " ++ decimal count)
 line_of (Scrambles count) = line (codes "limit scrambles " ++ decimal count)
 line_of (Firings count) = line (codes "limit firings " ++ decimal count)
 line_of (Script at fault) = line (codes "script " ++ decimal at ++ codes " " ++ line_word fault)
 line_of (Log at fault) = line (codes "log " ++ decimal at ++ codes " " ++ line_word fault)
+line_of (Changes at fault) = line (codes "changes " ++ decimal at ++ codes " " ++ line_word fault)
 line_of (Mail count) = line (codes "limit mail " ++ decimal count)
 
 -- the status of a refusal: 2 for the words, 4 for a limit, and 3 for all else
@@ -49,11 +54,13 @@ status_of (Types declaration kind) = 3
 status_of (Nodes size) = 4
 status_of (Devices count) = 4
 status_of Degree = 4
+status_of Pairs = 4
 status_of (Lines count) = 4
 status_of (Scrambles count) = 4
 status_of (Firings count) = 4
 status_of (Script at fault) = 3
 status_of (Log at fault) = 3
+status_of (Changes at fault) = 3
 status_of (Mail count) = 4
 
 -- the answer of a refusal
@@ -94,3 +101,31 @@ log_refusal at fault = or_refusal (limit_in fault) (Log at fault)
 
 abbrev pub script_refusal : ℕ → LineFault → Refusal
 script_refusal at fault = or_refusal (limit_in fault) (Script at fault)
+
+-- the limit that a fault of a line of changes is: of a device in more pairs than it may be in, that limit, which is
+-- another than that of links
+abbrev pub pairs_limit_of : NetFault → Option Refusal
+pairs_limit_of net.Degree = Some Pairs
+pairs_limit_of net.Devices = Some (Devices 1025)
+pairs_limit_of net.Twice = None
+pairs_limit_of net.NoDevice = None
+pairs_limit_of net.SelfLink = None
+pairs_limit_of net.Weight = None
+pairs_limit_of net.NoLink = None
+pairs_limit_of net.NoInput = None
+pairs_limit_of net.InputType = None
+pairs_limit_of net.InputRange = None
+pairs_limit_of net.InFlight = None
+pairs_limit_of net.Last = None
+
+abbrev pub pairs_limit : LineFault → Option Refusal
+pairs_limit line_fault.Form = None
+pairs_limit (line_fault.Net fault) = pairs_limit_of fault
+pairs_limit line_fault.Kept = None
+pairs_limit line_fault.Flying = None
+pairs_limit line_fault.NotFlying = None
+pairs_limit line_fault.Empty = None
+
+-- the refusal of a line of changes
+abbrev pub changes_refusal : ℕ → LineFault → Refusal
+changes_refusal at fault = or_refusal (pairs_limit fault) (Changes at fault)

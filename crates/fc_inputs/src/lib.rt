@@ -21,7 +21,9 @@ pub use laws::{
     inputs_are_read, inputs_start, one_input, one_program_text, one_source, sections_are_within,
     tables_resume, texts_name_inputs, texts_unfold,
 };
-pub use refusal::{LineFault, Refusal, fault_in, log_refusal, script_refusal, step_fault};
+pub use refusal::{
+    LineFault, Refusal, changes_refusal, fault_in, log_refusal, script_refusal, step_fault,
+};
 pub use rendering::{refuse, stopped};
 pub use sources::{read_program, read_source};
 pub use starts::start;

@@ -53,6 +53,8 @@ pub enum Refusal {
     Devices(usize),
     /// A device has more links than the limit.
     Degree,
+    /// A device may have more links than the limit, while the network changes.
+    Pairs,
     /// The script has so many lines, more than the limit.
     Lines(u32),
     /// The script has so many `scramble` lines, more than the limit.
@@ -63,6 +65,8 @@ pub enum Refusal {
     Script(u32, LineFault),
     /// The line of this number of the log, from 1, is at fault.
     Log(u32, LineFault),
+    /// The line of this number of the changes, from 1, is at fault.
+    Changes(u32, LineFault),
     /// So many messages are asked for, more than the limit.
     Mail(u64),
 }
@@ -92,11 +96,13 @@ impl fmt::Display for Refusal {
             Refusal::Nodes(size) => writeln!(f, "limit nodes {size}"),
             Refusal::Devices(count) => writeln!(f, "limit devices {count}"),
             Refusal::Degree => writeln!(f, "limit degree 33"),
+            Refusal::Pairs => writeln!(f, "limit degree 129"),
             Refusal::Lines(count) => writeln!(f, "limit lines {count}"),
             Refusal::Scrambles(count) => writeln!(f, "limit scrambles {count}"),
             Refusal::Firings(count) => writeln!(f, "limit firings {count}"),
             Refusal::Script(line, fault) => writeln!(f, "script {line} {}", line_word(*fault)),
             Refusal::Log(line, fault) => writeln!(f, "log {line} {}", line_word(*fault)),
+            Refusal::Changes(line, fault) => writeln!(f, "changes {line} {}", line_word(*fault)),
             Refusal::Mail(count) => writeln!(f, "limit mail {count}"),
         }
     }
@@ -117,7 +123,8 @@ impl Refusal {
             | Refusal::Syntax(_, _)
             | Refusal::Types(_, _)
             | Refusal::Script(_, _)
-            | Refusal::Log(_, _) => 3,
+            | Refusal::Log(_, _)
+            | Refusal::Changes(_, _) => 3,
             Refusal::Workers(_)
             | Refusal::Bytes
             | Refusal::Tokens(_)
@@ -125,6 +132,7 @@ impl Refusal {
             | Refusal::Nodes(_)
             | Refusal::Devices(_)
             | Refusal::Degree
+            | Refusal::Pairs
             | Refusal::Lines(_)
             | Refusal::Scrambles(_)
             | Refusal::Firings(_)
@@ -142,7 +150,8 @@ impl Refusal {
 
 ghost use Rattle.std.specs.Prelude.{◌≡◌};
 ghost use Rattle.fc_inputs.specs.LineFaults.{fault_in, step_fault};
-ghost use Rattle.fc_inputs.specs.Refusals.{limit_of, limit_in, log_refusal as refusal_of_log, script_refusal as refusal_of_script};
+ghost use Rattle.fc_inputs.specs.Refusals.{limit_of, limit_in, pairs_limit, log_refusal as refusal_of_log};
+ghost use Rattle.fc_inputs.specs.Refusals.{script_refusal as refusal_of_script, changes_refusal as refusal_of_changes};
 
 /// The limit that a network's refusal is, if it is one.
 pub fn limit(fault: NetFault) -> Option<Refusal>
@@ -177,6 +186,23 @@ pub fn script_refusal(line: u32, fault: LineFault) -> Refusal
     ensures { result ≡ refusal_of_script line fault }
 {
     limit_in(fault).unwrap_or(Refusal::Script(line, fault))
+}
+
+// The limit that a fault of a line of changes is, if it is one.
+fn pairs_limit(fault: LineFault) -> Option<Refusal>
+    ensures { result ≡ pairs_limit fault }
+{
+    match fault {
+        LineFault::Net(NetFault::Degree) => Some(Refusal::Pairs),
+        _ => limit_in(fault),
+    }
+}
+
+/// The refusal of a line of changes.
+pub fn changes_refusal(line: u32, fault: LineFault) -> Refusal
+    ensures { result ≡ refusal_of_changes line fault }
+{
+    pairs_limit(fault).unwrap_or(Refusal::Changes(line, fault))
 }
 
 /// A fault that is found in a line by itself, as refusals name it.

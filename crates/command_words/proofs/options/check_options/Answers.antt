@@ -11,6 +11,8 @@ returns c =
     ∙ ap₂ with_rule c.plain.ensures c.flag-facts.ensures.rule in
     let second = c.in_ok-arg-2.ensures.shape c.flag-settle.ensures.local
     ∙ ap₂ with_rule first c.flag-settle.ensures.rule in
-    IfOk-weaker c.arg-3.result _ _
-    (λ k h. h.shape c.flag-from_table.ensures.local ∙ ap₂ with_rule second c.flag-from_table.ensures.rule)
-    c.arg-3.ensures
+    let third = c.in_ok-arg-3.ensures.shape c.flag-from_table.ensures.local
+    ∙ ap₂ with_rule second c.flag-from_table.ensures.rule in
+    IfOk-weaker c.arg-4.result _ _
+    (λ k h. h.shape c.flag-changes.ensures.local ∙ ap₂ with_rule third c.flag-changes.ensures.rule)
+    c.arg-4.ensures

@@ -16,12 +16,14 @@ returns c = λ k h.
           c.get_flag-2.ensures.none c.get_flag-2.ensures.value c.get_flag-2.ensures.other;
       from_table = flag_of_rows found (codes "from-table") k.from_table c.get_flag-3.result h.from_table
           c.get_flag-3.ensures.none c.get_flag-3.ensures.value c.get_flag-3.ensures.other;
-      log = flag_of_rows found (codes "log") k.log c.get_flag-4.result h.log
+      changes = flag_of_rows found (codes "changes") k.changes c.get_flag-4.result h.changes
           c.get_flag-4.ensures.none c.get_flag-4.ensures.value c.get_flag-4.ensures.other;
-      table = flag_of_rows found (codes "table") k.table c.get_flag-5.result h.table
+      log = flag_of_rows found (codes "log") k.log c.get_flag-5.result h.log
           c.get_flag-5.ensures.none c.get_flag-5.ensures.value c.get_flag-5.ensures.other;
-      rounds = flag_of_rows found (codes "rounds") k.rounds c.get_flag-6.result h.rounds
+      table = flag_of_rows found (codes "table") k.table c.get_flag-6.result h.table
           c.get_flag-6.ensures.none c.get_flag-6.ensures.value c.get_flag-6.ensures.other;
+      rounds = flag_of_rows found (codes "rounds") k.rounds c.get_flag-7.result h.rounds
+          c.get_flag-7.ensures.none c.get_flag-7.ensures.value c.get_flag-7.ensures.other;
       workers = c.number_in.ensures ∙ read (codes "workers") ∙ h.workers;
       devices = c.number_in-2.ensures ∙ read (codes "devices") ∙ h.devices;
       number = c.number_in-3.ensures ∙ read (codes "number") ∙ h.number;

@@ -1,0 +1,5 @@
+mod Envelopes
+mod Lasts
+mod Kept
+mod ChangesOwed
+mod Checking
