@@ -94,8 +94,8 @@ module _ (laws : Laws) (options : ChangesOptions) where
       → BoundsWithin options U s E a → BoundsWithin options U s E b → a ≡ b
   one_within U s E envelope a b h g =
       let same = laws.one_list U E envelope h.table g.table
-          (tables_agree options.start U s E envelope h.table g.table h.starts g.starts)
-          (growing_cap (length E.devices)) h.written.lasts g.written.lasts h.written.are g.written.are in
+      (tables_agree options.start U s E envelope h.table g.table h.starts g.starts)
+      (growing_cap (length E.devices)) h.written.lasts g.written.lasts h.written.are g.written.are in
       h.written.writes ∙ ap (λ (ls : List LastBound). plain 0 (bounds_text options.facts options.start U E ls)) same
       ∙ sym g.written.writes
 
@@ -104,7 +104,7 @@ module _ (laws : Laws) (options : ChangesOptions) where
   both_within U s cs j k h g =
       let same : h.envelope ≡ g.envelope = laws.one_envelope s.net cs h.envelope g.envelope h.is g.is in
       let answers : h.answer ≡ g.answer = one_within U s g.envelope g.is.envelope h.answer g.answer
-          (subst (λ (E : Envelope). BoundsWithin options U s E h.answer) same h.bounds) g.bounds in
+      (subst (λ (E : Envelope). BoundsWithin options U s E h.answer) same h.bounds) g.bounds in
       both_plain false j k 0 (bounds_text options.facts options.start U g.envelope g.bounds.written.lasts)
       (h.accepted ∙ ap Accepted (answers ∙ g.bounds.written.writes)) (g.accepted ∙ ap Accepted g.bounds.written.writes)
 
@@ -119,10 +119,10 @@ module _ (laws : Laws) (options : ChangesOptions) where
         by_line (Some line) e = (Refused (Plainly (changes_refusal line.0 (line_fault_of line.1))), refl)
         by_line None e =
             let metric : s.net.declared.least ≤ s.net.declared.greatest =
-                subst (λ (D : Declarations). D.least ≤ D.greatest) (sym good.declared) is.lawful.metric.0 in
+            subst (λ (D : Declarations). D.least ≤ D.greatest) (sym good.declared) is.lawful.metric.0 in
             let envelope = laws.some_envelope s.net (change_lines_in s text) good.net e metric in
             let made = some_within Q s is good envelope.0 envelope.1.envelope
-                (some_round s.net (said (change_lines_in s text)) envelope.0 good.net envelope.1) in (
+            (some_round s.net (said (change_lines_in s text)) envelope.0 good.net envelope.1) in (
               Accepted made.0,
               record {
                 envelope = envelope.0;
