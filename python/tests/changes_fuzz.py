@@ -316,7 +316,7 @@ def huge() -> Iterator[tuple[Base, bytes]]:
     plain = Base("ceiling 4; main = 3;\n", '{"devices": [{"id": 0, "inputs": {}}], "links": []}\n', ())
     rest = MOST_BYTES - len(f"{plain.program}%%\n{plain.network}%%\n")
     joins = [b"join %d\n" % device for device in range(1, MOST_DEVICES + 1)]
-    pairs = [b"link %d %d any\n" % (a, (a + far) % MOST_DEVICES) for far in range(1, 65) for a in range(MOST_DEVICES)]
+    pairs = [b"link %d %d 1\n" % (a, (a + far) % MOST_DEVICES) for far in range(1, 65) for a in range(MOST_DEVICES)]
     yield plain, b"\n" * rest
     yield plain, b"\n" * (rest + 1)
     yield plain, b"x" * rest
@@ -327,8 +327,8 @@ def huge() -> Iterator[tuple[Base, bytes]]:
     yield plain, b"join 1\n" + b"link 0 1 1\n" * ((rest - 7) // 11)
     yield plain, b"".join(joins[:-1])
     yield plain, b"".join(joins)
-    yield plain, b"".join([*joins[:-1], *pairs[: len(pairs) // 2]])
-    yield plain, b"".join([*joins[:-1], *pairs[: 63 * MOST_DEVICES], pairs[-1], b"link 0 512 any\n"])[:rest]
+    yield plain, b"".join([*joins[:-1], *pairs])
+    yield plain, b"".join([*joins[:-1], *pairs, b"link 0 512 1\n"])
     yield plain, b"".join(joins[:200]) + b"".join(b"link 0 %d 1\n" % device for device in range(1, 129))
     yield plain, b"".join(joins[:200]) + b"".join(b"link 0 %d 1\n" % device for device in range(1, 130))
     yield plain, b"%%\n" * 300_000
