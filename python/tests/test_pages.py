@@ -1,8 +1,8 @@
 """The pages stay true: the programs of docs/patterns.md have the verdicts and settle lines that stand there, the
-commands of README.md, docs/tour.md and docs/fieldc.md write what stands below them, the programs of docs/language.md
-are read, the example of docs/commands.md and the examples write what is expected, the calls of docs/fieldc.md answer
-what stands beside them, the commands of docs/proofs.md list files as it says, and each page, anchor and picture that a
-page names is there."""
+commands of README.md, docs/tour.md, docs/fieldc.md and docs/changes.md write what stands below them, the programs of
+docs/language.md are read, the example of docs/commands.md and the examples write what is expected, the calls of
+docs/fieldc.md answer what stands beside them, the commands of docs/proofs.md list files as it says, and each page,
+anchor and picture that a page names is there."""
 
 # mypy: no-strict-optional
 
@@ -167,6 +167,9 @@ class Tour(unittest.TestCase):
     def test_commands_of_networks_that_move(self) -> None:
         self.follow("docs/fieldc.md", "moves.html")
 
+    def test_commands_of_networks_that_change(self) -> None:
+        self.follow("docs/changes.md")
+
 
 @needs_fc
 class Readme(unittest.TestCase):
@@ -226,8 +229,9 @@ class Specs(unittest.TestCase):
 
 
 class Words(unittest.TestCase):
-    def test_the_readme_is_short(self) -> None:
-        self.assertLessEqual(len((TOP / "README.md").read_text().split()), 900)
+    def test_pages_that_are_short(self) -> None:
+        for page, most in (("README.md", 900), ("docs/changes.md", 1500)):
+            self.assertLessEqual(len((TOP / page).read_text().split()), most, page)
 
 
 @needs_fc
