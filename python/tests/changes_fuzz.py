@@ -183,7 +183,7 @@ class Judge:
             return "twice"
         if device not in self.there and len(self.there) >= MOST_DEVICES:
             return f"limit devices {MOST_DEVICES + 1}"
-        self.there = self.there | {device}
+        self.there.add(device)
         if len(words) - 1 != len(self.wanted.inputs):
             return "no-input"
         faults = (input_fault(span, word) for span, word in zip(self.wanted.inputs.values(), words[1:]))

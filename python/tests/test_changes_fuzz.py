@@ -49,10 +49,16 @@ class Judged(unittest.TestCase):
 @needs_fc
 class Fuzzed(unittest.TestCase):
     def test_lines_that_were_changed(self) -> None:
-        found = changes_fuzz.looked(400, 1)
-        self.assertEqual(found.total(), 400)
+        found = changes_fuzz.looked(600, 1)
+        self.assertEqual(found.total(), 600)
         wanted = {"answered", "form", "no-device", "no-link", "no-input", "input-type", "input-range", "weight", "last"}
         self.assertLessEqual({*wanted, "self-link", "twice"}, {*found})
+
+    def test_long_lines_and_limits(self) -> None:
+        """Of the huge inputs those that have few lines, which are judged soon."""
+        few = [(base, text) for base, text in changes_fuzz.huge() if text.count(b"\n") < 2000]
+        found = [changes_fuzz.look(base, text, ("check", "--settle", "--changes")) for base, text in few]
+        self.assertEqual({*found}, {"form", "no-input", "answered", "limit"})
 
 
 if __name__ == "__main__":

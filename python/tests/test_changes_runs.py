@@ -44,8 +44,8 @@ class Counted(unittest.TestCase):
 class ChangesRuns(unittest.TestCase):
     def test_no_line_is_broken(self) -> None:
         for from_table in (False, True):
-            found = changes_runs.looked(15, 1, from_table)
-            self.assertGreater(min(found.lines, found.values, found.edits), 20)
+            found = changes_runs.looked(40, 1, from_table)
+            self.assertGreater(min(found.lines, found.values, found.edits), 100)
 
     def test_a_bound_that_is_one_narrower_is_broken(self) -> None:
         for from_table in (False, True):

@@ -18,7 +18,7 @@ import unittest
 from collections.abc import Mapping
 from pathlib import Path
 
-from helping import TOP, needs, needs_fc
+from helping import HOPS, LINE, TOP, needs, needs_fc
 
 import fieldc
 from fieldc import networks as network
@@ -266,6 +266,13 @@ class Commands(unittest.TestCase):
         done = subprocess.run(
             [fc.find(), "check", "--settle", "--from-table"], input=given, capture_output=True, text=True, check=False
         )
+        self.assertEqual((done.returncode, done.stdout), (0, wanted))
+
+    def test_the_example_of_changes(self) -> None:
+        (wanted,) = re.findall(r"(?ms)^```\n(.*?)^```", self.text.split("### `--changes`")[1].split("\n## ")[0])
+        given = "%%\n".join((HOPS, LINE, "unlink 1 2\n"))
+        words = [fc.find(), "check", "--settle", "--changes"]
+        done = subprocess.run(words, input=given, capture_output=True, text=True, check=False)
         self.assertEqual((done.returncode, done.stdout), (0, wanted))
 
 
