@@ -32,11 +32,11 @@ def calls() -> list[str]:
     return CALLS.findall((TOP / "docs/blocks.md").read_text())
 
 
-def lines_of_moves() -> list[str]:
-    """What may change while each device of the page's network is up to a quarter of the range from its place."""
+def lines_of_moves(far: float = QUARTER) -> list[str]:
+    """What may change while each device of the page's network is up to so far from its place."""
     made = networks.weighed(networks.in_range(cases.positions(), REACH), *METRIC, UNIT)
-    moves = dict.fromkeys(made.devices, QUARTER)
-    return movement.of_moves(made, moves, REACH, lambda far: networks.weight_at(far, *METRIC, UNIT))
+    moves = dict.fromkeys(made.devices, far)
+    return movement.of_moves(made, moves, REACH, lambda length: networks.weight_at(length, *METRIC, UNIT))
 
 
 def width(low: Value, high: Value) -> int:

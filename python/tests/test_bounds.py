@@ -8,6 +8,7 @@ from __future__ import annotations
 import csv
 import io
 import json
+import os
 import random
 import re
 import subprocess
@@ -72,11 +73,11 @@ class Readers(unittest.TestCase):
 class Played(InFolder):
     """Commands on a case, of the files `program.fc`, `network.json` and `may.txt`."""
 
-    def of(self, case: Case, *words: object, command: str = "settle", **variables: str) -> Done:
+    def of(self, case: Case, *words: object, command: str = "settle", program: str = "") -> Done:
         for text, name in ((case.program, "program.fc"), (case.network, "network.json"), (case.changes, "may.txt")):
             self.file(text, name)
         files = ("program.fc", "network.json", "--changes", "may.txt", *["--from-table"] * case.from_table)
-        return fieldc(command, *files, *words, folder=self.folder, **variables)
+        return fieldc(command, *files, *words, folder=self.folder, FC=program or os.environ["FC"])
 
 
 @needs_fc
@@ -268,8 +269,8 @@ class Confirmed(Played):
 
     def test_a_defect_is_told_with_its_script(self) -> None:
         wrong = Case(HOPS, LINE, "unlink 1 2\n", LINK_GOES.written.replace("2 3 2..10", "2 3 2..9"))
-        player = bounds_of_fc.wrong_program(self.folder, wrong.written)
-        done = self.of(wrong, "--confirm", 400, FC=player)
+        program = bounds_of_fc.wrong_program(self.folder, wrong.written)
+        done = self.of(wrong, "--confirm", 400, program=program)
         self.assertEqual((done.status, done.output), (confirm.DEFECT, wrong.written))
         said = r"^fieldc: device 2 holds 10 on line (\d+) of this script, after \d+ rounds?, and its bound is 2..9. "
         self.assertRegex(done.errors, said)

@@ -191,7 +191,10 @@ class Readme(unittest.TestCase):
             self.assertEqual(subprocess.run(words, input=given, capture_output=True, check=False).returncode, 0, words)
 
     def test_examples_write_what_is_expected(self) -> None:
-        commands = {"stable": "stable", "trace": "trace", "settle": "check --settle", "run": "run", "line": "mail"}
+        commands = {
+            "stable": "stable", "trace": "trace", "settle": "check --settle", "changes": "check --settle --changes",
+            "run": "run", "line": "mail",
+        }  # fmt: skip
         for path in sorted((TOP / "examples").glob("*.expected")):
             if path.stem.startswith("blocks_"):
                 continue

@@ -18,6 +18,16 @@ class Widths(unittest.TestCase):
 
         self.assertIn(f"```\n{block_widths.table()}```\n", PAGE.read_text())
 
+    def test_less_movement(self) -> None:
+        import block_cases
+        import block_widths
+
+        import fieldc
+
+        program, lines = block_widths.composed("hops(sense source, 12)"), block_widths.lines_of_moves(24 / 16)
+        wide = block_widths.mean_width(fieldc.bounds(program, block_cases.scenes()[0].text(), lines))
+        self.assertIn(f"With a sixteenth `hops` has {wide}.", PAGE.read_text())
+
     def test_each_block_is_in_it(self) -> None:
         import block_widths
 
