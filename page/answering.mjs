@@ -2,10 +2,13 @@
 import { readBounds, readPaths, readSettled, readStable, readValues, readVerdict } from "./answers.mjs";
 import { Stopped, inputOf, workers } from "./asking.mjs";
 import { Misfit, composed } from "./blocks.mjs";
+import { wordsOf } from "./changes.mjs";
+import { dropRow, field, hasChanges, mayChange } from "./changing.mjs";
 import { at, button, element } from "./elements.mjs";
+import { saidOfLine, stretchOf } from "./lines.mjs";
 import { formsOf, markOf } from "./marking.mjs";
 import { MOST_DEVICES } from "./network.mjs";
-import { aloneNodes, brief, verdictNodes } from "./panels.mjs";
+import { aloneNodes, boundsNodes, brief, verdictNodes } from "./panels.mjs";
 import { madeNetwork } from "./places.mjs";
 import { clearFault, complain, drawBlocks, library, program } from "./program.mjs";
 import { startRun } from "./run.mjs";
@@ -79,8 +82,9 @@ async function answered(input, isNew) {
         if (traced.status === 0) wrote += `\ntrace\n${traced.text}`;
     }
     if (!isNew()) return;
-    Object.assign(known, { settled, values, paths, bounds: new Map(), wrote });
-    await askChanges(input);
+    Object.assign(known, { settled, values, paths, bounds: null, wrote });
+    const soon = setTimeout(showAnswer, BUSY);
+    await askChanges(input, isNew).finally(() => clearTimeout(soon));
     if (isNew()) showAnswer();
 }
 
@@ -107,34 +111,67 @@ async function withoutDevices(line, isNew) {
     return true;
 }
 
-// What may change, for an fc that knows it.
-
-let hasChanges = false;
-
-/** Shows the field for what may change, where fc knows it. */
-export async function offerChanges() {
-    hasChanges = (await workers.run.ask("check --settle --changes", "")).status !== 2;
-    at("changing").hidden = !hasChanges;
-}
+// What may change.
 
 /**
  * Asks for bounds while the network changes, where lines say what may.
  * @param {string} input
+ * @param {() => boolean} isNew
  */
-async function askChanges(input) {
-    const said = at("changes-said"), { changes } = now.state;
-    said.textContent = "";
-    if (!hasChanges || !changes.trim()) return;
-    const { status, text } = await workers.answer.ask("check --settle --changes", inputOf(input, changes));
-    known.wrote += `\ncheck --settle --changes\n${text}`;
-    if (status > 1) {
-        said.textContent = saidOf(text.trim()).what;
-        return;
+async function askChanges(input, isNew) {
+    const { written } = mayChange();
+    refuseLine(null);
+    if (!hasChanges()) return;
+    if (written.wrong) return refuseLine({ ...written.wrong, at: null });
+    try {
+        const text = written.lines.join("\n"), words = "check --settle --changes";
+        const reply = await workers.answer.ask(words, inputOf(input, text));
+        if (!isNew()) return;
+        known.wrote += `\n${words}\n${reply.text}`;
+        if (reply.status === 0) known.bounds = readBounds(reply.text);
+        else refusedLine(reply.text.trim(), written);
+    } catch (error) {
+        if (error instanceof Stopped || !isNew()) throw error;
+        refuseLine({ ...saidOfFailure(/** @type {Error} */ (error)), row: null, at: null });
     }
-    known.bounds = readBounds(text);
-    const within = /^within (\d+)$/m.exec(text);
-    const after = within ? counted(Number(within[1]), "round") : "";
-    said.textContent = after && `After ${after} each device stays within the bounds in the table.`;
+}
+
+/**
+ * Says what fc means by refusing lines.
+ * @param {string} line
+ * @param {import("./changes.mjs").Written} written
+ */
+function refusedLine(line, written) {
+    const [word, number, reason] = line.split(" "), at = Number(number) - 1, row = written.rows[at];
+    if (word !== "changes" || row === undefined) return refuseLine({ ...saidOf(line), row: null, at: null });
+    const { state: { network, changes }, declared } = now;
+    const ids = new Set([...network.devices.map(({ id }) => id), ...mayChange().changes.coming.keys()]);
+    const words = written.lines[at].split(" "), found = saidOfLine({ words, reason, declared, ids });
+    const isTyped = wordsOf(changes.split("\n")[row]).join(" ") === written.lines[at];
+    refuseLine({ ...found.said, row, at: isTyped ? found.at : null });
+}
+
+/**
+ * Says what is wrong with a line, and marks it; or takes that away.
+ * @param {{what: string, hint: string, row: number | null, at: [number, number] | null} | null} refused
+ */
+function refuseLine(refused) {
+    const said = at("changes-fault");
+    field.field.setAttribute("aria-invalid", String(refused !== null));
+    if (!refused) {
+        said.replaceChildren();
+        return field.mark(null);
+    }
+    const { what, hint, row } = refused, { changes } = now.state, nodes = [];
+    const mark = row === null ? null : stretchOf(changes, row, refused.at ?? [0, Infinity]);
+    if (mark && row !== null) {
+        nodes.push(button(`Line ${row + 1}`, () => field.select(mark.from, mark.to), "plain"), ": ");
+    }
+    const away = row === null ? [] : [" ", button("Remove this line", () => dropRow(row))];
+    said.replaceChildren(element("div", { class: "said" }, element("p", {}, ...nodes, what, ...away),
+        ...hint ? [element("p", { class: "small", text: hint })] : []));
+    field.mark(mark && { ...mark, kind: "" });
+    at("changing").open = true;
 }
 
 // How an answer is shown.
@@ -142,8 +179,9 @@ async function askChanges(input) {
 function showAnswer() {
     const { settled, made } = known;
     if (!settled || !made) return;
-    at("verdict").replaceChildren(...verdictNodes(settled, now.state.network.devices.length));
-    at("brief").textContent = brief(settled);
+    const { bounds } = known, nodes = verdictNodes(settled, now.state.network.devices.length);
+    at("verdict").replaceChildren(...nodes, ...bounds ? boundsNodes(bounds, settled) : []);
+    at("brief").textContent = brief(settled, bounds);
     at("wrote").textContent = known.wrote;
     if (settled.verdict.rounds === null) complainOfNo(made, settled.verdict);
     else warnOfNumbers(made.text);

@@ -15,6 +15,20 @@
  * open; and by device its settle round and its value, where they are known.
  * @typedef {{verdict: Verdict, rounds: number | null, byDevice: Map<number, number>, values: Values}} Settled
  */
+/**
+ * Between which two values one stays.
+ * @typedef {{low: Value, high: Value}} Bound
+ */
+/**
+ * What is said of a device while the network changes: after how many rounds it stays within a bound, that bound and
+ * its text, and whether it may be away.
+ * @typedef {{round: number, text: string, bound: Bound, isAway: boolean}} Bounded
+ */
+/**
+ * What `check --settle --changes` answers: the verdict for as many devices as there may be, the greatest round of a
+ * device, and what is said of each.
+ * @typedef {{verdict: Verdict, rounds: number, byDevice: Map<number, Bounded>}} Bounds
+ */
 
 /** @param {string} text */
 const linesOf = (text) => text.split("\n").filter((line) => line !== "");
@@ -103,11 +117,30 @@ export function readReplayed(text) {
 }
 
 /**
- * What `check --settle --changes` adds of a device: from a round on its value stays between two ends.
+ * A bound as fc writes it: its two ends.
  * @param {string} text
- * @returns {Map<number, string>}
+ * @returns {Bound}
+ */
+export const readBound = (text) => ({
+    low: readValue(text.replace(/\.\.\d+/g, "").replace(/any/g, "false")),
+    high: readValue(text.replace(/\d+\.\./g, "").replace(/any/g, "true")),
+});
+
+/**
+ * Whether a bound is one value.
+ * @param {Bound} bound
+ */
+export const isOne = ({ low, high }) => writtenValue(low) === writtenValue(high);
+
+/**
+ * @param {string} text
+ * @returns {Bounds}
  */
 export function readBounds(text) {
-    const rows = linesOf(text).map((row) => row.split(" ")).filter(([id]) => /^\d+$/.test(id));
-    return new Map(rows.map(([id, ...rest]) => [Number(id), rest.join(" ")]));
+    const [first, second, ...rows] = linesOf(text);
+    const byDevice = new Map(rows.map((row) => {
+        const [id, round, bound, away] = row.split(" ");
+        return [Number(id), { round: Number(round), text: bound, bound: readBound(bound), isAway: away !== undefined }];
+    }));
+    return { verdict: readVerdict(first), rounds: Number(second.split(" ")[1]), byDevice };
 }

@@ -3,17 +3,22 @@
 import { writtenValue } from "./answers.mjs";
 
 /** @typedef {import("./answers.mjs").Value} Value */
+/** @typedef {import("./answers.mjs").Bounded} Bounded */
 /**
- * A colour, the ink upon it, and what is written.
- * @typedef {{fill: string, ink: string, text: string}} Look
+ * A colour (and another for the right half), the ink upon it, and what is written.
+ * @typedef {{fill: string, half?: string, ink: string, text: string}} Look
  */
 /**
  * An entry of the legend.
  * @typedef {{fill: string, text: string}} Entry
  */
 /**
- * How values look, and the legend: a scale between two texts, and single entries.
- * @typedef {{look: (value: Value | undefined) => Look, scale: [string, string] | null, entries: Entry[]}} Colours
+ * The legend: a scale between two texts, and single entries.
+ * @typedef {{scale: [string, string] | null, entries: Entry[]}} Legend
+ */
+/**
+ * How values look, and the legend.
+ * @typedef {Legend & {look: (value: Value | undefined) => Look}} Colours
  */
 
 const STOPS = ["#00224e", "#1a386f", "#434e6c", "#61646f", "#7d7c78", "#9b9476", "#bcae6c", "#dfc95a", "#fee838"];
@@ -117,4 +122,23 @@ export function ofValues(found, ceiling) {
         },
         scale: sorted.length ? [writtenValue(sorted[0]), writtenValue(sorted[sorted.length - 1])] : null, entries: [],
     };
+}
+
+/**
+ * Colours of bounds: the left half is that of the least value, the right half that of the greatest.
+ * @param {Bounded[]} found
+ * @param {number} ceiling
+ */
+export function ofBounds(found, ceiling) {
+    const { look: one, scale, entries } = ofValues(found.flatMap(({ bound }) => [bound.low, bound.high]), ceiling);
+    /**
+     * @param {Bounded | undefined} bounded
+     * @returns {Look}
+     */
+    const looks = (bounded) => {
+        if (!bounded) return look(NOTHING, "");
+        const { bound, text } = bounded, [low, high] = [one(bound.low), one(bound.high)];
+        return low.text === high.text ? low : { fill: low.fill, half: high.fill, ink: "#000000", text };
+    };
+    return { look: looks, scale, entries };
 }

@@ -32,6 +32,14 @@ export function drawNetworkFields({ devices, links, range, weight }, { inputs, m
 }
 
 /**
+ * What the devices show: bounds only where there are any.
+ * @param {string} colours
+ * @param {import("./panels.mjs").Known} known
+ */
+export const shownColours = (colours, { bounds }) => (
+    bounds || !["bounds", "within"].includes(colours) ? colours : "values");
+
+/**
  * The fields of the answer.
  * @param {import("./sharing.mjs").View} view
  * @param {import("./panels.mjs").Known} known
@@ -42,12 +50,15 @@ export function drawAnswerFields({ colours, paths, number, round }, known) {
     const none = known.settled && !known.paths;
     at("no-paths").textContent = none ? "only behind a yes, where main itself is a rep of a gradient" : "";
     // a run shows values alone
-    const shown = round === null ? colours : "values";
+    const shown = round === null ? shownColours(colours, known) : "values";
     for (const node of document.querySelectorAll("input[name=colours]")) {
         const radio = /** @type {HTMLInputElement} */ (node);
         radio.checked = radio.value === shown;
     }
     at("colouring").disabled = round !== null;
+    document.querySelectorAll(".of-bounds").forEach((node) => {
+        /** @type {HTMLElement} */ (node).hidden = !known.bounds;
+    });
     at("number").value = number;
     at("run").disabled = !known.settled;
 }

@@ -1,4 +1,4 @@
-// The network as a picture, and what a pointer and keys do to it.
+// The network as a picture.
 import { HEIGHT, WIDTH, apart } from "./network.mjs";
 
 /** @typedef {import("./network.mjs").Network} Network */
@@ -7,32 +7,20 @@ import { HEIGHT, WIDTH, apart } from "./network.mjs";
 /** @typedef {import("./colours.mjs").Look} Look */
 /**
  * What is drawn: the network, the look of a device, the outlines of those whose inputs are true, which are chosen,
- * which aren't right yet, links of paths as a device and the one before it, and whether weights are written.
+ * which aren't right yet, links of paths as a device and the one before it, and what is written of weights. Of what may
+ * change: which devices may be away, which of these aren't in the network, whose inputs may change, which links may be
+ * missing, and which pairs may be linked.
  * @typedef {{
  *   network: Network, look: (id: number) => Look, rings: (device: Device) => number[], chosen: number | null,
  *   chosenLink: Link | null, isWrong: (id: number) => boolean, isLast: (id: number) => boolean,
- *   paths: [number, number][], path: number[], weights: boolean,
+ *   paths: [number, number][], path: number[], weights: Map<string, string>,
+ *   isAway: (id: number) => boolean, isComing: (id: number) => boolean, mayChange: (id: number) => boolean,
+ *   isSure: (link: Link) => boolean, possible: [number, number][],
  * }} Picture
  */
-/**
- * What the page does when the picture is worked on.
- * @typedef {{
- *   tool: () => string, grabbed: () => void, moved: (id: number, x: number, y: number) => void, dropped: () => void,
- *   chose: (id: number | null) => void, choseLink: (link: Link | null) => void, added: (x: number, y: number) => void,
- *   linked: (a: number, b: number) => void, switched: (id: number) => void, removed: (id: number) => void,
- *   unlinked: (link: Link) => void, told: (id: number | null, said?: string) => void,
- * }} Hooks
- */
-/**
- * What a pointer is doing: the device on which it began, and whether it has moved.
- * @typedef {{id: number, hasMoved: boolean, x: number, y: number}} Grip
- */
-
 const SVG = "http://www.w3.org/2000/svg";
-/** @type {Record<string, [number, number]>} */
-const ARROWS = { ArrowLeft: [-1, 0], ArrowRight: [1, 0], ArrowUp: [0, -1], ArrowDown: [0, 1] };
 export const MOST_OUTLINES = 3;
-const STEP = 2, MOST_WEIGHTS = 80, NEAR_LINK = 1.5, CLICK = 0.6;
+const MOST_WEIGHTS = 80, NEAR_LINK = 1.5, LONG = 7, MOST_MIXES = 400;
 
 /**
  * @param {string} name
@@ -57,23 +45,23 @@ function fromLine({ x, y }, a, b) {
 }
 
 export class Drawing {
-    /**
-     * @param {SVGSVGElement} svg
-     * @param {Hooks} hooks
-     */
-    constructor(svg, hooks) {
+    /** @param {SVGSVGElement} svg */
+    constructor(svg) {
         this.svg = svg;
-        this.hooks = hooks;
         /** @type {Picture | null} */
         this.picture = null;
         /** @type {Map<number, SVGElement>} */
         this.nodes = new Map();
-        /** @type {Grip | null} */
-        this.grip = null;
-        /** @type {number | null} */
+        /**
+         * The device at which a link begins.
+         * @type {number | null}
+         */
         this.firstEnd = null;
         this.radius = 2;
+        this.mixes = svg.appendChild(made("defs"));
         this.links = svg.appendChild(made("path", { class: "links" }));
+        this.mayGo = svg.appendChild(made("path", { class: "may-go" }));
+        this.mayCome = svg.appendChild(made("path", { class: "may-come" }));
         this.paths = svg.appendChild(made("path", { class: "paths" }));
         this.path = svg.appendChild(made("path", { class: "path" }));
         this.linkMark = svg.appendChild(made("path", { class: "chosen-link" }));
@@ -81,12 +69,6 @@ export class Drawing {
         this.weights = svg.appendChild(made("g", { class: "weights", "aria-hidden": "true" }));
         this.devices = svg.appendChild(made("g", { class: "devices" }));
         svg.setAttribute("viewBox", `0 0 ${WIDTH} ${HEIGHT}`);
-        svg.addEventListener("pointerdown", (event) => this.press(event));
-        svg.addEventListener("pointermove", (event) => this.move(event));
-        svg.addEventListener("pointerup", (event) => this.release(event));
-        svg.addEventListener("pointercancel", () => this.letGo());
-        svg.addEventListener("keydown", (event) => this.key(event));
-        svg.addEventListener("focus", () => this.hooks.told(this.picture?.chosen ?? null));
     }
 
     /** @param {Picture} picture */
@@ -111,12 +93,15 @@ export class Drawing {
      * @param {Picture} picture
      */
     place(device, picture) {
-        const { id, x, y } = device, { fill, ink, text } = picture.look(id), { radius } = this;
-        const outlines = picture.rings(device), kinds = [
+        const { id, x, y } = device, { fill, half, ink, text } = picture.look(id), { radius } = this;
+        const outlines = picture.rings(device), sign = picture.mayChange(id) ? "\u00b1" : "";
+        const kinds = [
             "device", picture.chosen === id ? "chosen" : "", this.firstEnd === id ? "first-end" : "",
-            picture.isWrong(id) ? "wrong" : "", picture.isLast(id) ? "last" : "",
+            picture.isWrong(id) ? "wrong" : "", picture.isLast(id) ? "last" : "", picture.isAway(id) ? "away" : "",
+            half ? "mixed" : "",
         ].join(" ").trim();
-        const node = this.nodes.get(id) ?? this.newDevice(id), key = [x, y, radius, fill, text, kinds, outlines].join();
+        const node = this.nodes.get(id) ?? this.newDevice(id);
+        const key = [x, y, radius, fill, half, text, sign, kinds, outlines].join();
         // what looks as before stays as it is
         if (node.dataset.key === key) return;
         node.dataset.key = key;
@@ -125,18 +110,56 @@ export class Drawing {
         node.setAttribute("class", kinds);
         hit.setAttribute("r", String(Math.max(radius, 2.6)));
         body.setAttribute("r", String(radius));
-        body.setAttribute("fill", fill);
+        body.setAttribute("fill", half ? this.mixOf(fill, half) : fill);
         rings.forEach((ring) => ring.remove());
         const wider = (/** @type {number} */ at) => radius * (1.3 + 0.22 * at);
         node.append(...outlines.map((at) => made("circle", { class: `ring ring${at}`, r: wider(at) })));
-        value.textContent = text;
+        this.write(value, text);
         value.setAttribute("fill", ink);
-        value.setAttribute("font-size", String(Math.min(radius * 0.95, radius * 3.2 / Math.max(1, text.length))));
-        number.textContent = String(id);
+        number.textContent = `${id}${sign}`;
         number.setAttribute("x", String(radius * (outlines.length ? 1.2 : 0.9)));
         number.setAttribute("y", String(-radius * (outlines.length ? 1.1 : 0.9)));
         number.setAttribute("font-size", String(Math.max(1.1, radius * 0.55)));
         title.textContent = `device ${id}${text === "" ? "" : `: ${text}`}`;
+    }
+
+    /**
+     * Writes a text on a device: a long pair in two rows.
+     * @param {Element} node
+     * @param {string} text
+     */
+    write(node, text) {
+        const { radius } = this, cut = text.length > LONG ? text.indexOf(",") + 1 : 0;
+        const rows = cut ? [text.slice(0, cut), text.slice(cut)] : [text];
+        const size = Math.min(radius * 0.95, radius * 3.2 / Math.max(1, ...rows.map(({ length }) => length)));
+        node.setAttribute("font-size", String(size));
+        if (!cut) node.textContent = text;
+        else {
+            node.replaceChildren(...rows.map((row, at) => {
+                const part = made("tspan", { x: 0, dy: at ? size : -size / 2 });
+                part.textContent = row;
+                return part;
+            }));
+        }
+    }
+
+    /**
+     * A fill of two colours, the left one and the right one.
+     * @param {string} left
+     * @param {string} right
+     */
+    mixOf(left, right) {
+        const name = `mix${left}${right}`.replace(/#/g, "-");
+        if (!this.mixes.querySelector(`[id="${name}"]`)) {
+            if (this.mixes.children.length > MOST_MIXES) {
+                this.mixes.replaceChildren();
+                this.nodes.forEach((node) => { delete node.dataset.key; });
+            }
+            const mix = made("linearGradient", { id: name });
+            mix.append(...[left, right].map((colour) => made("stop", { offset: 0.5, "stop-color": colour })));
+            this.mixes.append(mix);
+        }
+        return `url(#${name})`;
     }
 
     /** @param {number} id */
@@ -159,17 +182,20 @@ export class Drawing {
             const [one, other] = [at.get(a), at.get(b)];
             return one && other ? `M${one.x} ${one.y}L${other.x} ${other.y}` : "";
         };
-        const { path, chosenLink, network: { links } } = picture;
-        this.links.setAttribute("d", links.map(([a, b]) => stroke([a, b])).join(""));
+        const { path, chosenLink, network: { links }, possible } = picture;
+        const [sure, others] = [true, false].map((is) => links.filter((link) => picture.isSure(link) === is));
+        this.links.setAttribute("d", sure.map(([a, b]) => stroke([a, b])).join(""));
+        this.mayGo.setAttribute("d", others.map(([a, b]) => stroke([a, b])).join(""));
+        this.mayCome.setAttribute("d", possible.map(stroke).join(""));
         this.paths.setAttribute("d", picture.paths.map(stroke).join(""));
         this.path.setAttribute("d", path.slice(1).map((id, place) => stroke([path[place], id])).join(""));
         this.linkMark.setAttribute("d", chosenLink ? stroke([chosenLink[0], chosenLink[1]]) : "");
-        const isWritten = picture.weights && links.length <= MOST_WEIGHTS;
-        this.weights.replaceChildren(...(isWritten ? links : []).flatMap(([a, b, weight]) => {
-            const [one, other] = [at.get(a), at.get(b)];
+        const written = picture.weights.size <= MOST_WEIGHTS ? [...picture.weights] : [];
+        this.weights.replaceChildren(...written.flatMap(([pair, weight]) => {
+            const [one, other] = pair.split(" ").map((id) => at.get(Number(id)));
             if (!one || !other) return [];
             const text = made("text", { x: (one.x + other.x) / 2, y: (one.y + other.y) / 2, "font-size": 1.6 });
-            text.textContent = String(weight);
+            text.textContent = weight;
             return [text];
         }));
     }
@@ -200,16 +226,17 @@ export class Drawing {
     }
 
     /**
-     * The link at a place.
+     * The link at a place, or the pair that may be linked, with a weight of 0.
      * @param {{x: number, y: number}} place
      */
     linkAt(place) {
-        const { devices, links } = this.picture?.network ?? { devices: [], links: [] };
+        if (!this.picture) return null;
+        const { network: { devices, links }, possible } = this.picture;
         const at = new Map(devices.map((one) => [one.id, one]));
         /** @type {Link | null} */
         let found = null;
         let least = NEAR_LINK;
-        for (const link of links) {
+        for (const link of [...links, ...possible.map(([a, b]) => /** @type {Link} */ ([a, b, 0]))]) {
             const [a, b] = [at.get(link[0]), at.get(link[1])];
             const far = a && b ? fromLine(place, a, b) : Infinity;
             if (far < least) [found, least] = [link, far];
@@ -217,78 +244,24 @@ export class Drawing {
         return found;
     }
 
-    /** @param {PointerEvent} event */
-    press(event) {
-        if (event.button !== 0) return;
-        const place = this.at(event), device = this.deviceAt(place), tool = this.hooks.tool();
-        this.svg.focus({ preventScroll: true });
-        if (device) {
-            if (tool === "switch") return this.hooks.switched(device.id);
-            if (tool === "remove") return this.hooks.removed(device.id);
-            this.svg.setPointerCapture(event.pointerId);
-            this.grip = { id: device.id, hasMoved: false, ...place };
-            return;
-        }
-        if (tool === "add") return this.hooks.added(place.x, place.y);
-        const link = this.linkAt(place);
-        if (tool === "remove" && link) return this.hooks.unlinked(link);
-        this.endFirst();
-        this.hooks.choseLink(link);
-        if (!link) this.hooks.chose(null);
-    }
-
-    /** @param {PointerEvent} event */
-    move(event) {
-        const { grip } = this;
-        if (!grip) return;
-        const place = this.at(event);
-        if (!grip.hasMoved && Math.hypot(place.x - grip.x, place.y - grip.y) < CLICK) return;
-        if (this.hooks.tool() === "link") {
-            const from = this.picture?.network.devices.find(({ id }) => id === grip.id);
-            this.rubber.setAttribute("d", from ? `M${from.x} ${from.y}L${place.x} ${place.y}` : "");
-        } else {
-            if (!grip.hasMoved) this.hooks.grabbed();
-            this.hooks.moved(grip.id, place.x, place.y);
-        }
-        grip.hasMoved = true;
-    }
-
-    /** @param {PointerEvent} event */
-    release(event) {
-        const { grip } = this;
-        if (!grip) return;
-        const isLink = this.hooks.tool() === "link", end = this.deviceAt(this.at(event));
-        this.letGo();
-        if (isLink) {
-            if (!grip.hasMoved) this.linkEnd(grip.id);
-            else if (end && end.id !== grip.id) this.hooks.linked(grip.id, end.id);
-        } else if (grip.hasMoved) this.hooks.dropped();
-        else this.hooks.chose(grip.id);
-    }
-
-    letGo() {
-        this.grip = null;
-        this.rubber.setAttribute("d", "");
-    }
-
-    endFirst() {
-        if (this.firstEnd === null) return;
-        this.nodes.get(this.firstEnd)?.classList.remove("first-end");
-        this.firstEnd = null;
+    /**
+     * Marks the device at which a link begins, or none.
+     * @param {number | null} id
+     */
+    begin(id) {
+        if (this.firstEnd !== null) this.nodes.get(this.firstEnd)?.classList.remove("first-end");
+        this.firstEnd = id;
+        if (id !== null) this.nodes.get(id)?.classList.add("first-end");
     }
 
     /**
-     * One end of a link: the first, or the second.
+     * Draws the stretch from a device to a place, or none.
      * @param {number} id
+     * @param {{x: number, y: number} | null} place
      */
-    linkEnd(id) {
-        const first = this.firstEnd;
-        this.endFirst();
-        if (first !== null && first !== id && this.nodes.has(first)) return this.hooks.linked(first, id);
-        if (first === id) return;
-        this.firstEnd = id;
-        this.nodes.get(id)?.classList.add("first-end");
-        this.hooks.told(id, "a link begins here; choose its other end");
+    stretch(id, place) {
+        const from = this.picture?.network.devices.find((one) => one.id === id);
+        this.rubber.setAttribute("d", from && place ? `M${from.x} ${from.y}L${place.x} ${place.y}` : "");
     }
 
     /**
@@ -306,36 +279,5 @@ export class Drawing {
             if (cost < least) [found, least] = [device, cost];
         }
         return found;
-    }
-
-    /** @param {KeyboardEvent} event */
-    key(event) {
-        const devices = this.picture?.network.devices ?? [], { hooks } = this, way = ARROWS[event.key];
-        const chosen = devices.find(({ id }) => id === this.picture?.chosen);
-        if (event.ctrlKey || event.metaKey || event.altKey) return;
-        if (way && chosen && event.shiftKey) {
-            hooks.grabbed();
-            hooks.moved(chosen.id, chosen.x + STEP * way[0], chosen.y + STEP * way[1]);
-            hooks.dropped();
-        } else if (way) hooks.chose((chosen ? this.nearest(chosen, way) ?? chosen : devices[0])?.id ?? null);
-        else if (event.key === "+") hooks.added((chosen?.x ?? WIDTH / 2) + 3 * STEP, chosen?.y ?? HEIGHT / 2);
-        else if (!chosen) return;
-        else if (event.key === "Delete" || event.key === "Backspace") hooks.removed(chosen.id);
-        else if (event.key === "Enter" || event.key === " ") this.use(chosen.id);
-        else if (event.key === "Escape") this.endFirst();
-        else return;
-        event.preventDefault();
-    }
-
-    /**
-     * Does to a device what a click with the tool of the moment does.
-     * @param {number} id
-     */
-    use(id) {
-        const tool = this.hooks.tool();
-        if (tool === "switch") this.hooks.switched(id);
-        else if (tool === "remove") this.hooks.removed(id);
-        else if (tool === "link") this.linkEnd(id);
-        else this.hooks.told(id);
     }
 }

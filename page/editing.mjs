@@ -1,8 +1,9 @@
 // What a user does to the network.
 import { writtenValue } from "./answers.mjs";
+import { dropDevice, dropLink, mayChange } from "./changing.mjs";
 import { at } from "./elements.mjs";
 import { MOST_DEVICES, MOST_ID, WIDTH, fitting, linked, rounded, toggledLink } from "./network.mjs";
-import { describe } from "./panels.mjs";
+import { describe, describeBound } from "./panels.mjs";
 import { forgetRun, shownFrame } from "./run.mjs";
 import { askSoon, draw, known, now, remember, saveSoon, tell } from "./state.mjs";
 
@@ -27,8 +28,8 @@ export function change(next) {
 export function put(next, wait = 0) {
     const { state, declared, chosenLink } = now;
     state.network = linked({ ...state.network, ...next }, declared);
-    const { devices, links } = state.network;
-    if (!devices.some(({ id }) => id === state.view.chosen)) state.view.chosen = null;
+    const { view: { chosen }, network: { links } } = state;
+    if (chosen !== null && !isThere(chosen) && !mayChange().changes.coming.has(chosen)) state.view.chosen = null;
     now.chosenLink = chosenLink && (links.find(([a, b]) => a === chosenLink[0] && b === chosenLink[1]) ?? null);
     forgetRun();
     draw();
@@ -37,6 +38,12 @@ export function put(next, wait = 0) {
 
 /** @param {number} id */
 const deviceNumbered = (id) => now.state.network.devices.find((one) => one.id === id);
+
+/**
+ * Whether a device is in the network.
+ * @param {number} id
+ */
+export const isThere = (id) => now.state.network.devices.some((one) => one.id === id);
 
 /**
  * All devices, one of them changed.
@@ -64,7 +71,9 @@ export function add(x, y) {
 /** @param {number} id */
 export function remove(id) {
     const { devices, links } = now.state.network;
-    change({ devices: devices.filter((one) => one.id !== id), links: links.filter(([a, b]) => a !== id && b !== id) });
+    remember();
+    dropDevice(id);
+    put({ devices: devices.filter((one) => one.id !== id), links: links.filter(([a, b]) => a !== id && b !== id) });
     tell(`Device ${id} is removed.`);
 }
 
@@ -74,10 +83,13 @@ export function remove(id) {
  * @param {number} b
  */
 export function toggleLink(a, b) {
-    const { state: { network }, declared } = now, { links, full, isThere } = toggledLink(network, declared, a, b);
+    const { state: { network }, declared } = now;
+    const { links, full, isThere: wasThere } = toggledLink(network, declared, a, b);
     if (full !== undefined) return tell(`Device ${full} has 32 links, and more aren't allowed.`);
-    change({ links, range: null });
-    tell(`${a} and ${b} are ${isThere ? "no longer " : ""}linked.${byHand(network)}`);
+    remember();
+    if (wasThere) dropLink(a, b);
+    put({ links, range: null });
+    tell(`${a} and ${b} are ${wasThere ? "no longer " : ""}linked.${byHand(network)}`);
 }
 
 /** @param {Network} network as it was */
@@ -112,7 +124,8 @@ export function setInput(id, name, value) {
 /** @param {number} id */
 export function switchInput(id) {
     const input = now.declared.inputs.find(({ name }) => name === at("input").value), device = deviceNumbered(id);
-    if (!input || !device) return tell("The program declares no input.");
+    if (!input) return tell("The program declares no input.");
+    if (!device) return tell(`Device ${id} isn't in the network yet; its inputs stand in its line.`);
     const value = input.low === undefined ? device.inputs[input.name] !== true : Number(at("amount").value);
     setInput(id, input.name, value);
     tell(`${input.name} of device ${id} is ${fitting(input, value)}.`);
@@ -140,7 +153,8 @@ export function chooseLink(link) {
  */
 export function tellOf(id, more) {
     const device = id === null ? undefined : deviceNumbered(id);
-    if (!device || id === null) return tell("");
+    if (id === null) return tell("");
+    if (!device) return tell([`Device ${id} may come`, describeBound(id, known), more].filter(Boolean).join("; "));
     const inputs = now.declared.inputs.map((input) => `${input.name} ${fitting(input, device.inputs[input.name])}`);
     const held = shownFrame()?.get(id), holds = held === undefined ? [] : [`holds ${writtenValue(held)}`];
     tell([`Device ${id}`, ...inputs, ...holds, describe(id, known), more ?? ""].filter(Boolean).join("; "));

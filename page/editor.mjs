@@ -11,10 +11,12 @@ export class Editor {
     /**
      * @param {HTMLTextAreaElement} field
      * @param {HTMLElement} shown
+     * @param {(text: string) => import("./tokens.mjs").Token[]} tokens
      */
-    constructor(field, shown) {
+    constructor(field, shown, tokens = allTokens) {
         this.field = field;
         this.shown = shown;
+        this.tokens = tokens;
         /** @type {Stretch | null} */
         this.stretch = null;
         field.addEventListener("scroll", () => this.follow());
@@ -57,7 +59,7 @@ export class Editor {
             node.textContent = part;
             lines[lines.length - 1].append(node);
         };
-        for (const { kind, from, to } of allTokens(text)) {
+        for (const { kind, from, to } of this.tokens(text)) {
             const cuts = [from, ...ends.filter((end) => from < end && end < to), to];
             for (let at = 0; at + 1 < cuts.length; at++) {
                 const isMarked = ends.length > 0 && ends[0] <= cuts[at] && cuts[at] < ends[1];

@@ -1,5 +1,6 @@
 // What is opened in the place of the state: an address, an example, a file, what was before. And what is saved.
 import { inputOf } from "./asking.mjs";
+import { field, hasChanges, mayChange } from "./changing.mjs";
 import { change } from "./editing.mjs";
 import { at, element, save } from "./elements.mjs";
 import { linked } from "./network.mjs";
@@ -22,7 +23,9 @@ function restore(next) {
     now.state = next;
     now.chosenLink = null;
     editor.text = next.program;
-    at("changes").value = next.changes;
+    field.text = next.changes;
+    field.mark(null);
+    at("changing").open = next.changes.trim() !== "";
     now.declared = declaredBy(next.program);
     next.network = linked(next.network, now.declared);
     forget();
@@ -77,7 +80,7 @@ export function showExample(name) {
     const found = examples.find((one) => one.name === name), first = name === "empty" ? "add" : "move";
     remember();
     /** @type {HTMLInputElement} */ (document.querySelector(`input[value=${first}]`)).checked = true;
-    drawing.endFirst();
+    drawing.begin(null);
     if (name === "empty") restore(empty());
     else restore(found ? { ...fresh(), program: found.program, network: readScene(found.scene) } : fresh());
 }
@@ -91,8 +94,10 @@ export function showExample(name) {
 function readFile(text) {
     const { network } = now.state, [front, ...others] = text.split(/^%%\r?\n/m);
     if (others.length) {
+        const [scene, rest = ""] = others, rows = rest.split("\n");
+        const changes = rows.every((row) => /^(set |link |unlink |leave |join |\s*$)/.test(row)) ? rest : "";
         remember();
-        return restore({ ...fresh(), program: front, network: readScene(others[0], network.devices) });
+        return restore({ ...fresh(), program: front, network: readScene(scene, network.devices), changes });
     }
     if (/^\s*[{[]/.test(text)) return change({ ...readScene(text, network.devices) });
     const devices = readTable(text), ids = new Set(network.devices.map(({ id }) => id));
@@ -120,5 +125,6 @@ export async function readChosen(event) {
 
 export const saveScene = () => save("network.json", sceneOf(now.state.network, now.declared));
 export const saveTable = () => save("devices.csv", writeTable(now.state.network, now.declared));
-export const saveInput = () => save(
-    "input.txt", inputOf(known.made?.text ?? now.state.program, sceneOf(now.state.network, now.declared)));
+export const saveInput = () => save("input.txt", inputOf(
+    known.made?.text ?? now.state.program, sceneOf(now.state.network, now.declared),
+    ...hasChanges() ? [mayChange().written.lines.join("\n")] : []));

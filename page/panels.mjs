@@ -1,5 +1,5 @@
 // What stands around the drawing: the verdict, the legend, the chosen device or link, and the table of all devices.
-import { writtenValue } from "./answers.mjs";
+import { isOne, writtenValue } from "./answers.mjs";
 import { SCALE } from "./colours.mjs";
 import { at, button, element, valueField } from "./elements.mjs";
 import { fitting, neighboursOf } from "./network.mjs";
@@ -11,10 +11,11 @@ import { counted } from "./words.mjs";
 /** @typedef {import("./network.mjs").Declared} Declared */
 /** @typedef {import("./answers.mjs").Settled} Settled */
 /** @typedef {import("./answers.mjs").Values} Values */
+/** @typedef {import("./answers.mjs").Bounds} Bounds */
 /**
  * What is known of the devices: final values, settle rounds, paths, and bounds while the network changes.
  * @typedef {{
- *   settled: Settled | null, values: Values, paths: Map<number, number[]> | null, bounds: Map<number, string>,
+ *   settled: Settled | null, values: Values, paths: Map<number, number[]> | null, bounds: Bounds | null,
  * }} Known
  */
 /** @typedef {(id: number, name: string, value: number | boolean) => void} SetInput */
@@ -44,6 +45,25 @@ export function verdictNodes({ verdict, rounds, byDevice }, count) {
 }
 
 /**
+ * What holds while the network changes, in words.
+ * @param {Bounds} bounds
+ * @param {Settled} settled
+ */
+export function boundsNodes({ verdict, rounds, byDevice }, settled) {
+    const found = [...byDevice.values()], devices = counted(found.length, "device");
+    const fixed = found.filter(({ bound }) => isOne(bound)).length, after = `fter ${counted(rounds, "round")}`;
+    const known = fixed === found.length ? "Each of them keeps one value." : `${fixed} of ${devices} keep one value.`;
+    const isOther = verdict.rounds !== null && verdict.rounds !== settled.verdict.rounds;
+    const more = `As up to ${devices} may be there, the yes means ${verdict.rounds} rounds without an edit.`;
+    return [
+        element("p", { class: "big", text: `While it changes: bounds hold a${after}` }),
+        element("p", { text: `A${after}, from every start and in every order of firings, each device's value lies `
+            + `within its bounds, and stays there as long as nothing happens but what your lines allow. ${known}` }),
+        ...isOther ? [element("p", { text: more })] : [],
+    ];
+}
+
+/**
  * The verdict on a program while its network is empty, in words.
  * @param {number | null} one the rounds of a yes on one device, or null for a no
  * @param {number | null} most those on as many devices as there may be
@@ -62,14 +82,16 @@ export function aloneNodes(one, most) {
 /**
  * The verdict in few words.
  * @param {Settled} settled
+ * @param {Bounds | null} bounds
  */
-export function brief({ verdict, rounds }) {
+export function brief({ verdict, rounds }, bounds) {
     const here = rounds === null ? "open here" : `settles here after ${rounds}`;
-    return `${verdict.rounds === null ? "No" : `Yes, ${counted(verdict.rounds, "round")}`} \u00b7 ${here}`;
+    const said = [verdict.rounds === null ? "No" : `Yes, ${counted(verdict.rounds, "round")}`, here];
+    return [...said, ...bounds ? [`bounds hold after ${bounds.rounds}`] : []].join(" \u00b7 ");
 }
 
 /**
- * @param {import("./colours.mjs").Colours} colours
+ * @param {import("./colours.mjs").Legend} legend
  * @param {string[]} outlines names of the inputs that outlines show
  * @param {string[]} more
  */
@@ -93,19 +115,34 @@ export function drawLegend({ scale, entries }, outlines, more) {
 }
 
 /**
+ * What is known of a device while the network changes.
+ * @param {number} id
+ * @param {Known} known
+ */
+export function describeBound(id, { bounds }) {
+    const bounded = bounds?.byDevice.get(id);
+    if (!bounded) return "";
+    const { text, round, isAway } = bounded;
+    const there = isAway ? " whenever it is there" : "", after = round ? ` after ${counted(round, "round")}` : "";
+    return `while it changes ${text}${after}${there}`;
+}
+
+/**
  * What is known of a device, in a sentence.
  * @param {number} id
  * @param {Known} known
  */
-export function describe(id, { settled, values, paths, bounds }) {
-    const value = values.get(id), round = settled?.byDevice.get(id), path = paths?.get(id), said = [];
+export function describe(id, known) {
+    const { settled, values, paths } = known;
+    const value = values.get(id), round = settled?.byDevice.get(id), path = paths?.get(id);
+    /** @type {string[]} */
+    const said = [];
     if (value !== undefined) said.push(`final value ${writtenValue(value)}`);
     if (round !== undefined) said.push(`held after ${counted(round, "round")}`);
     else if (settled?.verdict.rounds) said.push(`held after ${counted(settled.verdict.rounds, "round")}`);
     else if (settled) said.push("no settle round");
     if (path && path.length > 1) said.push(`cheapest path ${path.join(" \u2192 ")}`);
-    if (bounds.has(id)) said.push(`while the network changes, from a round on: ${bounds.get(id)}`);
-    return said.join("; ");
+    return [...said, describeBound(id, known)].filter(Boolean).join("; ");
 }
 
 /**
@@ -126,8 +163,9 @@ function inputField({ id, inputs }, input, setInput) {
  * @param {Declared} declared
  * @param {Known} known
  * @param {{setInput: SetInput, remove: (id: number) => void}} does
+ * @param {Node} chances
  */
-export function inspectDevice(device, network, declared, known, does) {
+export function inspectDevice(device, network, declared, known, does, chances) {
     const { id } = device, near = neighboursOf(network).get(id) ?? [];
     const fields = declared.inputs.map((input) => (
         element("label", {}, input.name, inputField(device, input, does.setInput))));
@@ -135,21 +173,37 @@ export function inspectDevice(device, network, declared, known, does) {
     const head = [element("strong", { text: `Device ${id}` }), ...fields, button("Remove", () => does.remove(id))];
     at("inspector").replaceChildren(
         element("div", { class: "row" }, ...head),
-        element("p", { class: "small row", text: [describe(id, known), linkedTo].filter(Boolean).join("; ") }));
+        element("p", { class: "small row", text: [describe(id, known), linkedTo].filter(Boolean).join("; ") }),
+        chances);
 }
 
 /**
- * The chosen link, with its weight.
+ * The chosen device, where it isn't in the network and may come.
+ * @param {number} id
+ * @param {Known} known
+ * @param {(id: number) => void} remove
+ */
+export function inspectComing(id, known, remove) {
+    at("inspector").replaceChildren(
+        element("div", { class: "row" }, element("strong", { text: `Device ${id}, which may come` }),
+            button("Remove", () => remove(id))),
+        element("p", { class: "small row", text: describeBound(id, known) }));
+}
+
+/**
+ * The chosen link, with its weight; or the pair that may be linked, with a weight of 0.
  * @param {Link} link
  * @param {Declared} declared
  * @param {{weigh: (link: Link, weight: number) => void, unlink: (link: Link) => void}} does
+ * @param {Node} chances
  */
-export function inspectLink(link, { metric: [low, high] }, does) {
-    const input = { name: "weight", low, high };
-    const field = valueField(input, link[2], (value) => does.weigh(link, Number(value)), "weight");
-    at("inspector").replaceChildren(element("div", { class: "row" },
-        element("strong", { text: `Link ${link[0]}\u2013${link[1]}` }), element("label", {}, "weight", field),
-        button("Remove", () => does.unlink(link))));
+export function inspectLink(link, { metric: [low, high] }, does, chances) {
+    const input = { name: "weight", low, high }, [a, b, weight] = link;
+    const field = () => valueField(input, weight, (value) => does.weigh(link, Number(value)), "weight");
+    const row = element("div", { class: "row" },
+        element("strong", { text: `Link ${a}\u2013${b}${weight ? "" : ", which may come"}` }),
+        ...weight ? [element("label", {}, "weight", field())] : [], button("Remove", () => does.unlink(link)));
+    at("inspector").replaceChildren(row, chances);
 }
 
 /**
@@ -160,32 +214,45 @@ export function inspectLink(link, { metric: [low, high] }, does) {
  * @param {SetInput} setInput
  */
 export function drawTable({ devices }, { inputs }, known, setInput) {
-    const holder = at("table"), key = JSON.stringify([devices.map(({ id }) => id), inputs]);
+    const holder = at("table"), there = new Set(devices.map(({ id }) => id)), { bounds } = known;
+    const coming = [...bounds?.byDevice.keys() ?? []].filter((id) => !there.has(id));
+    const key = JSON.stringify([devices.map(({ id }) => id), coming, inputs]);
     if (holder.dataset.key !== key) {
         holder.dataset.key = key;
-        const head = ["device", ...inputs.map(({ name }) => name), "final value", "held after", "bounds"];
+        const head = ["device", ...inputs.map(({ name }) => name), "final value", "held after", "bounds", "within"];
+        const answers = () => head.slice(inputs.length + 1).map(() => element("td"));
         const rows = devices.map((device) => element("tr", {}, element("th", { scope: "row", text: device.id }),
-            ...inputs.map((input) => element("td", {}, inputField(device, input, setInput))),
-            element("td"), element("td"), element("td")));
+            ...inputs.map((input) => element("td", {}, inputField(device, input, setInput))), ...answers()));
+        const more = coming.map((id) => element("tr", {}, element("th", { scope: "row", text: id }),
+            ...inputs.map(() => element("td", { text: "may come" })), ...answers()));
         holder.replaceChildren(element("table", {},
             element("thead", {}, element("tr", {}, ...head.map((text) => element("th", { scope: "col", text })))),
-            element("tbody", {}, ...rows)));
+            element("tbody", {}, ...rows, ...more)));
     }
-    const hasBounds = known.bounds.size > 0;
-    holder.querySelector("thead th:last-child").hidden = !hasBounds;
+    holder.firstChild.classList.toggle("without-bounds", !bounds);
+    const ids = [...there, ...coming];
     holder.querySelectorAll("tbody tr").forEach((/** @type {HTMLElement} */ row, /** @type {number} */ place) => {
-        const { id, inputs: given } = devices[place], cells = [...row.children].slice(1);
+        const given = devices[place]?.inputs, cells = [...row.children].slice(1), id = ids[place];
         inputs.forEach((input, column) => {
+            if (!given) return;
             const field = /** @type {HTMLInputElement} */ (cells[column].firstChild),
                 value = fitting(input, given[input.name]);
             if (typeof value === "boolean") field.checked = value;
             else if (field !== document.activeElement) field.value = String(value);
         });
-        const value = known.values.get(id), round = known.settled?.byDevice.get(id);
-        const [ofValue, ofRound, ofBounds] = cells.slice(inputs.length);
-        ofValue.textContent = value === undefined ? "" : writtenValue(value);
-        ofRound.textContent = round === undefined ? known.settled ? "\u2013" : "" : String(round);
-        ofBounds.textContent = known.bounds.get(id) ?? "";
-        /** @type {HTMLElement} */ (ofBounds).hidden = !hasBounds;
+        answersOf(id, known).forEach((text, column) => { cells[inputs.length + column].textContent = text; });
     });
+}
+
+/**
+ * What the table says of a device: its value, its settle round, its bounds, and their round.
+ * @param {number} id
+ * @param {Known} known
+ */
+function answersOf(id, { values, settled, bounds }) {
+    const value = values.get(id), round = settled?.byDevice.get(id), bounded = bounds?.byDevice.get(id);
+    return [
+        value === undefined ? "" : writtenValue(value), round === undefined ? settled ? "\u2013" : "" : String(round),
+        bounded ? `${bounded.text}${bounded.isAway ? ", may be away" : ""}` : "", bounded ? String(bounded.round) : "",
+    ];
 }

@@ -113,6 +113,48 @@ export function filling(devices) {
         { ...one, x: rounded(across + (one.x - left) * scale), y: rounded(down + (one.y - top) * scale) }));
 }
 
+/**
+ * Devices at free places: each near those to which it may be linked, if there are any.
+ * @param {number[]} ids
+ * @param {Device[]} devices that have places
+ * @param {[number, number][]} pairs that may be linked
+ * @returns {Device[]}
+ */
+export function besideOthers(ids, devices, pairs) {
+    const placed = new Map(devices.map((one) => [one.id, one])), next = dice(5);
+    /** @type {Map<number, number[]>} */
+    const near = new Map(ids.map((id) => [id, []]));
+    for (const [a, b] of pairs) {
+        near.get(a)?.push(b);
+        near.get(b)?.push(a);
+    }
+    return ids.map((id) => {
+        const others = (near.get(id) ?? []).flatMap((other) => placed.get(other) ?? []);
+        const [x, y] = ["x", "y"].map((axis) => (
+            others.reduce((sum, one) => sum + one[/** @type {"x" | "y"} */ (axis)], 0) / others.length));
+        /** @type {Device} */
+        let best = { id, x: WIDTH / 2, y: HEIGHT / 2, inputs: {} };
+        let most = -1;
+        for (let turn = 0; turn < TURNS; turn++) {
+            const angle = 2 * Math.PI * next(), reach = MARGIN * (1.2 + turn / TURNS);
+            const place = others.length ? [x + reach * Math.cos(angle), y + reach * Math.sin(angle)]
+                : [next() * WIDTH, next() * HEIGHT];
+            const one = { ...best, x: within(place[0], WIDTH), y: within(place[1], HEIGHT) };
+            const room = Math.min(...[...placed.values()].map((other) => apart(one, other)), 2 * MARGIN);
+            if (room > most) [best, most] = [one, room];
+        }
+        placed.set(id, best);
+        return best;
+    });
+}
+
+/**
+ * A coordinate that isn't too near to an edge.
+ * @param {number} at
+ * @param {number} most
+ */
+const within = (at, most) => rounded(Math.max(MARGIN / 2, Math.min(most - MARGIN / 2, at)));
+
 // A layout.
 
 /**

@@ -1,6 +1,7 @@
 // The page begins here: what a user does is wired to what follows of it, and fc is started.
-import { ask, isAsking, offerChanges } from "./answering.mjs";
+import { ask, isAsking } from "./answering.mjs";
 import { Asker, unpacked, workers } from "./asking.mjs";
+import { typedChanges } from "./changing.mjs";
 import { change, put } from "./editing.mjs";
 import { at } from "./elements.mjs";
 import {
@@ -10,7 +11,7 @@ import { madeNetwork, usualRange } from "./places.mjs";
 import { format, insertBlock, offerBlocks, tellOfBlock, typed } from "./program.mjs";
 import { drawNumber, endRun, play, showRound, startRun } from "./run.mjs";
 import { drawAll, drawControls, drawing } from "./showing.mjs";
-import { TYPING, askSoon, draw, now, onChange, saveSoon } from "./state.mjs";
+import { TYPING, draw, now, onChange, saveSoon } from "./state.mjs";
 
 const MOST_WEIGHT = 1e6;
 
@@ -37,7 +38,7 @@ function wireProgram() {
 function wireNetwork() {
     on("undo", "click", undo);
     on("tools", "change", () => {
-        drawing.endFirst();
+        drawing.begin(null);
         drawControls();
     });
     on("input", "change", drawControls);
@@ -83,10 +84,7 @@ function wireAnswer() {
     on("end-run", "click", endRun);
     on("round", "input", () => showRound(Number(at("round").value)));
     on("play", "click", play);
-    on("changes", "input", () => {
-        now.state.changes = at("changes").value;
-        askSoon();
-    });
+    on("changes", "input", typedChanges);
     on("devices-part", "toggle", draw);
 }
 
@@ -115,7 +113,6 @@ async function start() {
     const module = await WebAssembly.compile(await unpacked(at("module").textContent));
     [workers.answer, workers.run] = [new Asker(module, script), new Asker(module, script)];
     const spare = new Asker(module, script);
-    await offerChanges();
     // For whoever wants to ask more, in the browser's console: await fc("stable", "ceiling 1; ..")
     /**
      * @param {string} words

@@ -3,13 +3,13 @@ import { HEIGHT, MOST_DEVICES, MOST_ID, WIDTH } from "./network.mjs";
 
 /** @typedef {import("./network.mjs").Network} Network */
 /**
- * What is shown beside: the colours (of values or of settle rounds), paths, the chosen device, and the number and the
- * round of the run from rubbish.
+ * What is shown beside: the colours (of values, settle rounds, bounds, or the rounds of these), paths, the chosen
+ * device, and the number and the round of the run from rubbish.
  * @typedef {{colours: string, paths: boolean, chosen: number | null, number: number, round: number | null}} View
  */
 /** @typedef {{program: string, network: Network, changes: string, view: View}} State */
 
-const FORM = "1.", MOST_TEXT = 1048576;
+const FORM = "1.", MOST_TEXT = 1048576, COLOURS = ["values", "rounds", "bounds", "within"];
 
 /** @param {Uint8Array} bytes */
 function written(bytes) {
@@ -66,7 +66,8 @@ function isDevice(row) {
 function isState(found) {
     const { program, devices, links, range, weight, changes, view } = Object(found);
     const { colours, paths, chosen, number, round } = Object(view);
-    if (typeof program !== "string" || program.length > MOST_TEXT || typeof changes !== "string") return false;
+    const isText = (/** @type {unknown} */ text) => typeof text === "string" && text.length <= MOST_TEXT;
+    if (!isText(program) || !isText(changes)) return false;
     if (!Array.isArray(devices) || devices.length > MOST_DEVICES || !devices.every(isDevice)) return false;
     const ids = new Set(devices.map((row) => row[0]));
     /** @param {any} row */
@@ -74,8 +75,8 @@ function isState(found) {
         && row[0] < row[1] && isWhole(row[2], 1e6);
     return ids.size === devices.length && Array.isArray(links) && links.every(isLink)
         && new Set(links.map(([a, b]) => `${a} ${b}`)).size === links.length
-        && (range === null || isWithin(range, 0, 200)) && isWhole(weight, 1e6) && ["values", "rounds"].includes(colours)
-        && typeof paths === "boolean" && (chosen === null || ids.has(chosen)) && isWhole(number, 9999999)
+        && (range === null || isWithin(range, 0, 200)) && isWhole(weight, 1e6) && COLOURS.includes(colours)
+        && typeof paths === "boolean" && (chosen === null || isWhole(chosen, MOST_ID)) && isWhole(number, 9999999)
         && (round === null || isWhole(round, 1e6));
 }
 

@@ -70,13 +70,16 @@ export const known = {
     values: new Map(),
     /** @type {Map<number, number[]> | null} */
     paths: null,
-    /** @type {Map<number, string>} */
-    bounds: new Map(),
+    /**
+     * What holds while the network changes, where lines say what may.
+     * @type {import("./answers.mjs").Bounds | null}
+     */
+    bounds: null,
     wrote: "",
 };
 
 export function forget() {
-    Object.assign(known, { settled: null, values: new Map(), paths: null, bounds: new Map(), wrote: "" });
+    Object.assign(known, { settled: null, values: new Map(), paths: null, bounds: null, wrote: "" });
 }
 
 /** @param {string} said what a screen reader says, too */
@@ -121,11 +124,12 @@ export async function saveNow() {
 
 // What was before, for Undo.
 
-/** @type {{program: string, network: Network}[]} */
+/** @type {{program: string, network: Network, changes: string}[]} */
 const before = [];
 
 export function remember() {
-    before.push({ program: now.state.program, network: now.state.network });
+    const { program, network, changes } = now.state;
+    before.push({ program, network, changes });
     if (before.length > MOST_UNDO) before.shift();
     at("undo").disabled = false;
 }

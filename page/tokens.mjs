@@ -30,6 +30,18 @@ export function allTokens(text) {
     });
 }
 
+const LINE_WORDS = new Set("set link links unlink leave join any true false".split(" "));
+
+/**
+ * All tokens of lines of what may change.
+ * @param {string} text
+ * @returns {Token[]}
+ */
+export const lineTokens = (text) => allTokens(text).map((token) => {
+    const isName = token.kind === "name" || token.kind === "word";
+    return { ...token, kind: !isName ? token.kind : LINE_WORDS.has(token.text) ? "word" : "name" };
+});
+
 /**
  * The tokens that mean something.
  * @param {string} text

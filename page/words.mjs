@@ -55,6 +55,7 @@ const LIMITS = {
 
 /** How fc refuses an empty network. */
 export const NO_DEVICES = "shape /devices";
+const MANY_PAIRS = "limit degree 129";
 
 /**
  * What is written of other languages' habit: what ends before the mark, what begins at it, and what to write here.
@@ -126,6 +127,9 @@ export function saidOf(line, habit) {
             hint: habit || "Each declaration ends with a ;, the first is ceiling N; and the last main = ..;" };
     }
     const found = word === "types" ? KINDS[third] : word === "limit" ? LIMITS[second] : undefined;
+    if (line === MANY_PAIRS) {
+        return { what: "A device has more than 128 links that are there or may come.", hint: "Leave some lines out." };
+    }
     if (found) return { what: `${found.what}.`, hint: found.hint };
     if (line === NO_DEVICES) {
         return { what: "The network has no devices yet.",
@@ -134,7 +138,6 @@ export function saidOf(line, habit) {
     if (word === "shape" || word === "network" || word === "json") {
         return { what: `The network doesn't fit this program: ${line}.`, hint: "" };
     }
-    if (word === "changes") return { what: `Line ${second} of what may change isn't allowed: ${third}.`, hint: "" };
     return { what: line, hint: "" };
 }
 
