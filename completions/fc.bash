@@ -36,7 +36,7 @@ _fc_words() {
     esac
     case $command in
         "") words="check stable trace run gen replay mail format" ;;
-        check) words="--facts --settle --from-table" ;;
+        check) words="--facts --settle --from-table --changes" ;;
         stable) words="" ;;
         trace) words="" ;;
         run) words="--workers --log --table" ;;

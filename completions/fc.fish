@@ -15,6 +15,7 @@ complete -c fc -n '__fish_seen_subcommand_from check' -f
 complete -c fc -n '__fish_seen_subcommand_from check' -l facts -d 'adds the facts of each node of the unfolded main'
 complete -c fc -n '__fish_seen_subcommand_from check' -l settle -d 'adds after how many rounds each device holds its value'
 complete -c fc -n '__fish_seen_subcommand_from check' -l from-table -d 'with --settle: counts from the network\'s table and pending firings'
+complete -c fc -n '__fish_seen_subcommand_from check' -l changes -d 'with --settle: what holds while the network changes as a third section allows'
 
 # stable
 complete -c fc -n '__fish_seen_subcommand_from stable' -f

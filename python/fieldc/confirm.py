@@ -69,12 +69,14 @@ class Question:
 
 
 class Walk:
-    """A network that changes at random within an envelope: each edit is one that the lines of changes allow."""
+    """A network that changes at random within an envelope: each edit is one that the lines of changes allow. `there`
+    are the devices of now; those of `flying` can't leave, as their firings are under way."""
 
     def __init__(self, asked: Question, dice: Random) -> None:
         self.envelope = asked.envelope
         self.order = asked.order
         self.dice = dice
+        self.flying: set[int] = set()
         self.there = set(asked.scene.inputs)
         self.near: dict[int, set[int]] = {device: set() for device in asked.envelope.inputs}
         for a, b, _ in asked.scene.links:
@@ -126,7 +128,7 @@ class Walk:
         return f"unlink {a} {b}"
 
     def _leave(self) -> str | None:
-        found = sorted(self.there & self.envelope.away)
+        found = sorted((self.there & self.envelope.away) - self.flying)
         if not found or len(self.there) == 1:
             return None
         device = self.dice.choice(found)

@@ -42,7 +42,7 @@ PAGES = {
     "script": "docs/formats.md#the-script",
     "log": "docs/formats.md#the-log",
     "mail": "docs/formats.md#the-mail-log",
-    "changes": "docs/fieldc.md#networks-that-change",
+    "changes": "docs/changes.md#the-lines",
 }
 MIXED = ("link", "unlink", "set", "poke")
 

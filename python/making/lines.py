@@ -167,7 +167,12 @@ Input: a program and a network. The verdict is "yes K" or "no PLACE REASON". Aft
 every device has its final value, whatever it held at the start. With --facts and a yes a line for each node of the \
 unfolded program follows. With --settle a line "settles R" follows, or "open", and then for each device of this \
 network after how many rounds it holds which value; with --from-table the rounds are counted from the network's table \
-and pending firings, as after an edit."""
+and pending firings, as after an edit. With --settle --changes the input has a third section, of lines "set D NAME V", \
+"link A B W", "unlink A B", "leave D" and "join D V1 V2 ..": what may happen to the network, at any time and any \
+number of times. A value V or W is one, LO..HI, or "any". Then a line "within R" follows, and for each device that may \
+be there "ID ROUNDS BOUND": after so many rounds its value is within the bound, as long as nothing else happens; \
+"away" behind it says that the device may be away. With --from-table a second bound follows, which holds from now \
+on."""
 STABLE = "Input: a program and a network."
 TRACE = "Input: a program and a network. The verdict comes first; where no walks are to be had, it writes \"no walks\"."
 RUN = """\

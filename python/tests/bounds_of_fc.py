@@ -1,15 +1,15 @@
 """Programs on networks that change, and what `fc check --settle --changes` writes of them: by the definition, worked
-out apart from the program. Where `fc` hasn't the flag, a program stands for it that knows these answers alone."""
+out apart from the program."""
 
 from __future__ import annotations
 
 import json
 import os
-import sys
+import shlex
 from dataclasses import dataclass
 from pathlib import Path
 
-from helping import BUILT, HOPS, LINE, knows_changes
+from helping import HOPS, LINE
 
 
 @dataclass(frozen=True)
@@ -110,42 +110,18 @@ AWAY_FROM_TABLE = Case(
 EXAMPLES = {"crowd": CROWD, "smoke": SMOKE, "drift": DRIFT, "guide": GUIDE, "away": AWAY, "table": AWAY_FROM_TABLE}
 OTHERS = (NOTHING, LINK_GOES, LINK_COMES, MIDDLE_AWAY, ONE_COMES, ANY_SOURCE)
 
-PLAYER = """#!{python}
-import json, os, sys
-
-def line_of(text):
-    words = text.split()
-    return words[:1] + sorted(words[1:3]) + words[3:] if words[:1] in (["link"], ["unlink"]) else words
-
-def key(words, text):
-    program, network, changes = [*text.split("%%\\n"), "", ""][:3]
-    try:
-        found = json.loads(network)
-    except ValueError:
-        return ""
-    links = sorted([min(a, b), max(a, b), w] for a, b, w in found["links"])
-    lines = sorted(map(line_of, changes.split("\\n")))
-    return json.dumps([sorted(words), program.split(), found["devices"], links, found.get("table"), lines])
-
-if "--changes" not in sys.argv:
-    os.execv({real!r}, [{real!r}, *sys.argv[1:]])
-known = {{key(words, text): answer for words, text, answer in json.load(open({known!r}))}}
-answer = known.get(key(sys.argv[1:], sys.stdin.read()))
-print("usage: an input that isn't known here" if answer is None else answer, end="\\n" if answer is None else "")
-sys.exit(2 if answer is None else 0)
+PLAYER = """#!/bin/sh
+case "$*" in
+    *--changes*) cat >/dev/null && exec cat {answer} ;;
+    *) exec {real} "$@" ;;
+esac
 """
 
 
-def player(folder: Path, *more: Case) -> str:
-    """A program that answers as `fc` does: `fc` itself, where it has the flag; else one that knows the answers to the
-    cases above, and to some more, and asks `fc` for all else."""
-    real = os.environ.get("FC", str(BUILT))
-    if knows_changes() and not more:
-        return real
-    cases = [*more, *OTHERS, *EXAMPLES.values()]
-    known = [(case.words, "%%\n".join((case.program, case.network, case.changes)), case.written) for case in cases]
-    (folder / "known.json").write_text(json.dumps(known[::-1]))
-    path = folder / "fc_player"
-    path.write_text(PLAYER.format(python=sys.executable, real=real, known=str(folder / "known.json")))
+def wrong_program(folder: Path, written: str) -> str:
+    """A program that writes this text where it is asked what holds while a network changes, and is `fc` else."""
+    path, answer = folder / "wrong_fc", folder / "written.txt"
+    answer.write_text(written)
+    path.write_text(PLAYER.format(answer=shlex.quote(str(answer)), real=shlex.quote(os.environ["FC"])))
     path.chmod(0o755)
     return str(path)

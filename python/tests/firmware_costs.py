@@ -1,13 +1,15 @@
 #!/usr/bin/env python3
-"""Writes the table of docs/firmware.md: what each call of docs/blocks.md costs as firmware with eight neighbours.
+"""Writes docs/firmware_costs.csv: what each call of docs/blocks.md costs as firmware with eight neighbours.
 
 The columns of the two machines need their compilers.
 """
 
 from __future__ import annotations
 
+import csv
 import re
 import shutil
+import sys
 
 import helping
 
@@ -20,9 +22,9 @@ PAGE = helping.TOP / "docs/blocks.md"
 HEAD = (helping.TOP / "examples/blocks_head.fc").read_text()
 CALL = re.compile(r"^\| [^|`]+ \| `(\w+\([^|`]*\))` \|", re.MULTILINE)
 TITLE = (
-    "| Call | message | device | expressions | for each neighbour | Cortex-M0 code | stack | AVR code | stack |\n"
-    "|---|---|---|---|---|---|---|---|---|\n"
-)
+    "call", "message", "device", "expressions", "for each neighbour", "Cortex-M0 code", "Cortex-M0 stack", "AVR code",
+    "AVR stack",
+)  # fmt: skip
 ROOM = 8
 
 
@@ -31,22 +33,24 @@ def calls() -> list[str]:
     return list(dict.fromkeys(CALL.findall(PAGE.read_text())))
 
 
-def row(call: str, library: Library, machines: bool) -> str:
-    """The line of a call; without machines up to their columns."""
+def row(call: str, library: Library, machines: bool) -> list[str]:
+    """The cells of a call; without machines up to their columns."""
     firmware = firmware_of(compose(f"{HEAD}main = {call};\n", library), "block", ROOM)
     spent = work(firmware)
-    cells = [f"`{call}`", firmware.layout.message_bytes, device_bytes(firmware, ROOM), spent.once, spent.each]
+    cells = [call, firmware.layout.message_bytes, device_bytes(firmware, ROOM), spent.once, spent.each]
     if machines:
         for machine in MACHINES:
             found = machine_cost(firmware, machine)
             cells += [found.text, found.stack]
-    return "| " + " | ".join(map(str, cells)) + " |"
+    return list(map(str, cells))
 
 
 def main() -> None:
     library = read_library([own_library()])
     there = all(shutil.which(machine.front + "gcc") for machine in MACHINES)
-    print(TITLE + "\n".join(row(call, library, there) for call in calls()))
+    table = csv.writer(sys.stdout, lineterminator="\n")
+    table.writerow(TITLE)
+    table.writerows(row(call, library, there) for call in calls())
 
 
 if __name__ == "__main__":

@@ -11,7 +11,6 @@ import sys
 import unittest
 from collections.abc import Callable
 from dataclasses import dataclass
-from functools import lru_cache
 from pathlib import Path
 from typing import Any, TypeVar
 
@@ -51,13 +50,6 @@ def needs(*modules: str) -> Callable[[Test], Test]:
     """Skips a test where one of some modules is missing."""
     skips: Callable[[Test], Test] = unittest.skipIf(bool(missing(*modules)), missing(*modules))
     return skips
-
-
-@lru_cache
-def knows_changes() -> bool:
-    """Whether `fc` has the flag `--changes`, and so takes three sections with it."""
-    words = [os.environ.get("FC", str(BUILT)), "check", "--settle", "--changes"]
-    return subprocess.run(words, input=b"", capture_output=True, check=False).returncode != 2
 
 
 needs_fc = unittest.skipIf(bool(missing_fc()), missing_fc())

@@ -23,6 +23,7 @@ import helping  # noqa: F401
 
 from fieldc import Call, Section
 from fieldc import program as fc
+from fieldc.networks import declared
 
 HOP = "rep({c}){{(d) => minHoodLoc(nbr{{d}} + 1, mux(sense src, 0, {c}))}}"
 PROGRAMS = (
@@ -63,11 +64,14 @@ def run_fc(words: Sequence[str], sections: Sequence[str]) -> str:
 
 
 def weight(dice: Random, program: str) -> int:
-    return dice.randint(1, 9) if "metric" in program else 1
+    """A weight of the metric."""
+    return dice.randint(*declared(program).metric)
 
 
 def inputs(dice: Random, program: str) -> Json:
-    return {"src": dice.random() < 0.3} if "input" in program else {}
+    """A value for each input; a truth value is mostly false."""
+    spans = declared(program).inputs
+    return {name: dice.random() < 0.3 if span is None else dice.randint(*span) for name, span in spans.items()}
 
 
 def numbers_of(scene: Json) -> list[int]:
@@ -85,10 +89,10 @@ def network(dice: Random, program: str) -> Json:
     }
 
 
-def one_round(dice: Random, numbers: list[int], flying: set[int]) -> list[str]:
-    """A stretch in which each device begins a firing and ends it: all begin before one ends, or one after another, or
-    as the dice fall. Firings from before end in it, and some that begin in it fly on."""
-    kind = dice.randrange(3)
+def one_round(dice: Random, numbers: list[int], flying: set[int], kind: int | None = None) -> list[str]:
+    """A stretch in which each device begins a firing and ends it: as the dice fall, or (`kind` is 1) all begin before
+    one ends, or (2) one after another. Firings from before end in it, and some that begin in it fly on."""
+    kind = dice.randrange(3) if kind is None else kind
     todo = {n: (["E"] if n in flying else []) + ["B", "E"] * (1 if kind else dice.randint(1, 2)) for n in numbers}
     flying.clear()
     log = []

@@ -24,6 +24,7 @@ TABLE = (
     '"table":{"format":2,"rows":[{"id":0,"kept":[[0,0],[4,0]],"value":0},{"id":1,"kept":[[0,9],[4,9]],"value":9}]}}\n'
 )
 SCRIPT = "scramble 7\nrun 2\nmix 2 set 0 src false\nlink 0 2 1\njoin 5 true\nlink 2 5 1\nrun 22\nshow\nleave 5\n"
+CHANGES = "unlink 1 2\nset 2 src any\nleave 1\nlink 0 2 1\njoin 5 any\nlink 5 2 1\n"
 LOG = "B0\nE0\nB1\nE1\nset 1 src true\nB1\nB2\nE2\nE1\n"
 MAIL = "B0\nE0\nB1\nE1\nlose 0 1 0\nB0\nE0\nagain 0 1\ndeliver 1 2\nB1\nE1\n"
 # words, and the sections of the input
@@ -31,6 +32,9 @@ COMMANDS = (
     ("check --facts", HOPS, LINE),
     ("check --settle", HOPS, LINE),
     ("check --settle --from-table", HOPS, TABLE),
+    ("check --settle --changes", HOPS, LINE, CHANGES),
+    ("check --settle --from-table --changes", HOPS, TABLE, "set 1 src any\nunlink 0 1\njoin 4 false\nlink 0 4 1\n"),
+    ("check --settle --changes", HOPS, LINE, "leave 4\n"),
     ("check", HOPS, "{}"),
     ("stable", HOPS, LINE),
     ("trace", HOPS, LINE),

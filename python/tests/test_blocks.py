@@ -186,17 +186,16 @@ class Page(unittest.TestCase):
 
     def test_the_table_of_blocks(self) -> None:
         seen = set()
-        for purpose, call, elsewhere, k, rounds, settles, nodes in self.rows("What you want"):
+        for purpose, call, rounds, settles, nodes in self.rows("What you want"):
             with self.subTest(call=call):
                 code = call.strip("`")
                 block = LIBRARY[code.split("(")[0]]
                 seen.add(block.name)
-                self.assertEqual(k.strip("`"), formula(block))
                 verdict, settled = self.said(whole(code))
                 self.assertEqual((f"yes {rounds}", f"settles {settles}"), (verdict, settled))
                 facts = ask(["check", "--facts"], whole(code), self.network).splitlines()
                 self.assertEqual(int(nodes), len(facts) - 1)
-                self.assertTrue(purpose and elsewhere)
+                self.assertTrue(purpose)
         self.assertEqual(seen, {block.name for block in LIBRARY.values() if not block.is_part})
 
     def test_the_table_of_idioms(self) -> None:

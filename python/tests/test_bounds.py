@@ -73,12 +73,11 @@ class Readers(unittest.TestCase):
 class Played(InFolder):
     """Commands on a case, of the files `program.fc`, `network.json` and `may.txt`."""
 
-    def of(self, case: Case, *words: object, command: str = "settle", played: Case | None = None) -> Done:
+    def of(self, case: Case, *words: object, command: str = "settle", program: str = "") -> Done:
         for text, name in ((case.program, "program.fc"), (case.network, "network.json"), (case.changes, "may.txt")):
             self.file(text, name)
         files = ("program.fc", "network.json", "--changes", "may.txt", *["--from-table"] * case.from_table)
-        player = bounds_of_fc.player(self.folder, *([played] if played is not None else []))
-        return fieldc(command, *files, *words, folder=self.folder, FC=player)
+        return fieldc(command, *files, *words, folder=self.folder, FC=program or os.environ["FC"])
 
 
 @needs_fc
@@ -150,13 +149,7 @@ class Settled(Played):
 
 
 @needs_fc
-class Library(Played):
-    def setUp(self) -> None:
-        super().setUp()
-        player = bounds_of_fc.player(self.folder)
-        self.addCleanup(os.environ.__setitem__, "FC", os.environ["FC"])
-        os.environ["FC"] = player
-
+class Library(unittest.TestCase):
     def test_calls(self) -> None:
         found = library.bounds(HOPS, LINE, ["unlink 1 2"])
         self.assertEqual(found, results.bounded(LINK_GOES.written))
@@ -276,7 +269,8 @@ class Confirmed(Played):
 
     def test_a_defect_is_told_with_its_script(self) -> None:
         wrong = Case(HOPS, LINE, "unlink 1 2\n", LINK_GOES.written.replace("2 3 2..10", "2 3 2..9"))
-        done = self.of(wrong, "--confirm", 400, played=wrong)
+        program = bounds_of_fc.wrong_program(self.folder, wrong.written)
+        done = self.of(wrong, "--confirm", 400, program=program)
         self.assertEqual((done.status, done.output), (confirm.DEFECT, wrong.written))
         said = r"^fieldc: device 2 holds 10 on line (\d+) of this script, after \d+ rounds?, and its bound is 2..9. "
         self.assertRegex(done.errors, said)
@@ -455,9 +449,8 @@ class Pictures(InFolder):
     @needs_fc
     def test_bounds_that_are_asked_for(self) -> None:
         self.drawn(GUIDE, "-o", "guide.svg")
-        player = bounds_of_fc.player(self.folder)
         words = ("p.fc", "n.json", "may.txt", "--of", "changes", "-o", "asked.svg")
-        done = fieldc("picture", *words, folder=self.folder, FC=player)
+        done = fieldc("picture", *words, folder=self.folder)
         self.assertEqual((done.status, done.errors), (0, ""))
         self.assertEqual((self.folder / "asked.svg").read_text(), (self.folder / "guide.svg").read_text())
 

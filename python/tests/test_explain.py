@@ -10,7 +10,7 @@ import subprocess
 import unittest
 from pathlib import Path
 
-from helping import TOP, knows_changes, missing, needs_fc
+from helping import TOP, missing, needs_fc
 
 if missing("lark"):
     raise unittest.SkipTest(missing("lark"))
@@ -78,7 +78,7 @@ class Tables(unittest.TestCase):
     @needs_fc
     def test_lines_of_fc(self) -> None:
         for file, case in CASES:
-            if case.status in (5, 6, 7) or ("--changes" in case.words and not knows_changes()):
+            if case.status in (5, 6, 7):
                 continue
             with self.subTest(file=file, case=case.name):
                 words = [os.environ["FC"], *case.words]

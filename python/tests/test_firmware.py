@@ -2,6 +2,7 @@
 
 from __future__ import annotations
 
+import csv
 import ctypes
 import importlib
 import json
@@ -331,15 +332,20 @@ class Page(unittest.TestCase):
             typed(self, Path(folder), commands_of(self.text))
 
     def test_costs(self) -> None:
-        rows = [line for line in self.text.splitlines() if line.startswith("| `") and line.count("|") == 10]
+        with (TOP / "docs/firmware_costs.csv").open(newline="") as file:
+            title, *rows = csv.reader(file)
+        self.assertEqual(title, list(firmware_costs.TITLE))
         found = firmware_costs.calls()
         library = read_library([own_library()])
         blocks = {name for name, block in library.items() if not block.is_part}
         self.assertEqual({call.partition("(")[0] for call in found}, blocks)
         machines = all(shutil.which(machine.front + "gcc") for machine in MACHINES)
-        for line, call in zip(rows, found, strict=True):
+        for cells, call in zip(rows, found, strict=True):
             mine = firmware_costs.row(call, library, machines and call.startswith("hops("))
-            self.assertTrue(line.startswith(mine.removesuffix(" |") + " |"), f"{mine}\n{line}")
+            self.assertEqual((cells[: len(mine)], len(cells)), (mine, len(title)))
+        shown = [line for line in self.text.splitlines() if line.startswith("| `") and line.count("|") == 10]
+        wanted = [f"| `{call}` | {' | '.join(costs)} |" for call, *costs in rows]
+        self.assertEqual((len(shown), set(shown) - set(wanted)), (5, set()))
 
     @needs_gcc
     def test_the_loop_compiles(self) -> None:

@@ -1,8 +1,8 @@
 """The pages stay true: the programs of docs/patterns.md have the verdicts and settle lines that stand there, the
-commands of README.md, docs/tour.md and docs/fieldc.md write what stands below them, the programs of docs/language.md
-are read, the example of docs/commands.md and the examples write what is expected, the calls of docs/fieldc.md answer
-what stands beside them, the commands of docs/proofs.md list files as it says, and each page, anchor and picture that a
-page names is there."""
+commands of README.md, docs/tour.md, docs/fieldc.md and docs/changes.md write what stands below them, the programs of
+docs/language.md are read, the example of docs/commands.md and the examples write what is expected, the calls of
+docs/fieldc.md answer what stands beside them, the commands of docs/proofs.md list files as it says, and each page,
+anchor and picture that a page names is there."""
 
 # mypy: no-strict-optional
 
@@ -18,7 +18,7 @@ import unittest
 from collections.abc import Mapping
 from pathlib import Path
 
-from helping import TOP, needs, needs_fc
+from helping import HOPS, LINE, TOP, needs, needs_fc
 
 import fieldc
 from fieldc import networks as network
@@ -167,6 +167,9 @@ class Tour(unittest.TestCase):
     def test_commands_of_networks_that_move(self) -> None:
         self.follow("docs/fieldc.md", "moves.html")
 
+    def test_commands_of_networks_that_change(self) -> None:
+        self.follow("docs/changes.md")
+
 
 @needs_fc
 class Readme(unittest.TestCase):
@@ -188,7 +191,10 @@ class Readme(unittest.TestCase):
             self.assertEqual(subprocess.run(words, input=given, capture_output=True, check=False).returncode, 0, words)
 
     def test_examples_write_what_is_expected(self) -> None:
-        commands = {"stable": "stable", "trace": "trace", "settle": "check --settle", "run": "run", "line": "mail"}
+        commands = {
+            "stable": "stable", "trace": "trace", "settle": "check --settle", "changes": "check --settle --changes",
+            "run": "run", "line": "mail",
+        }  # fmt: skip
         for path in sorted((TOP / "examples").glob("*.expected")):
             if path.stem.startswith("blocks_"):
                 continue
@@ -226,8 +232,9 @@ class Specs(unittest.TestCase):
 
 
 class Words(unittest.TestCase):
-    def test_the_readme_is_short(self) -> None:
-        self.assertLessEqual(len((TOP / "README.md").read_text().split()), 900)
+    def test_pages_that_are_short(self) -> None:
+        for page, most in (("README.md", 900), ("docs/changes.md", 1500)):
+            self.assertLessEqual(len((TOP / page).read_text().split()), most, page)
 
 
 @needs_fc
@@ -262,6 +269,13 @@ class Commands(unittest.TestCase):
         done = subprocess.run(
             [fc.find(), "check", "--settle", "--from-table"], input=given, capture_output=True, text=True, check=False
         )
+        self.assertEqual((done.returncode, done.stdout), (0, wanted))
+
+    def test_the_example_of_changes(self) -> None:
+        (wanted,) = re.findall(r"(?ms)^```\n(.*?)^```", self.text.split("### `--changes`")[1].split("\n## ")[0])
+        given = "%%\n".join((HOPS, LINE, "unlink 1 2\n"))
+        words = [fc.find(), "check", "--settle", "--changes"]
+        done = subprocess.run(words, input=given, capture_output=True, text=True, check=False)
         self.assertEqual((done.returncode, done.stdout), (0, wanted))
 
 

@@ -20,10 +20,12 @@ PAGES = ("README.md", "docs/headline.md", "docs/commands.md")
 NETWORK = '%%\n{"devices":[{"id":0,"inputs":{}},{"id":1,"inputs":{}}],"links":[[0,1,1]]}\n'
 LOG = "%%\nB0\nE0\nB1\nE1\n"
 SCRIPT = "%%\nrun 2\nshow\n"
+CHANGES = "%%\nunlink 0 1\nleave 1\njoin 2\nlink 1 2 1\n"
 COMMANDS = {
     "format": "",
     "check": NETWORK,
     "check --settle": NETWORK,
+    "check --settle --changes": NETWORK + CHANGES,
     "stable": NETWORK,
     "trace": NETWORK,
     "run --workers 1": NETWORK + SCRIPT,

@@ -37,8 +37,8 @@ away_text true = codes " away"
 away_text false = []
 
 -- the line of a device
-abbrev pub line_text : BoundLine → List ℕ
-line_text l =
+abbrev pub bound_line_text : BoundLine → List ℕ
+bound_line_text l =
     decimal l.device ++ codes " " ++ decimal l.rounds ++ after_space l.bound ++ before_text l.before
     ++ away_text l.away ++ codes "\n"
 
@@ -53,4 +53,4 @@ within_text rounds = codes "within " ++ decimal rounds ++ codes "\n"
 
 -- the line of the greatest number of rounds, and a line for each device
 abbrev pub lines_text : List BoundLine → List ℕ
-lines_text ls = within_text (most_rounds ls) ++ flat_map line_text ls
+lines_text ls = within_text (most_rounds ls) ++ flat_map bound_line_text ls

@@ -2,7 +2,7 @@
 
 ghost use Rattle.std.specs.Prelude.{◌≡◌, ◌++◌, IfOk, OnErr, OnOk, option_map};
 ghost use Rattle.value_bounds.specs.References.{local_bound_in};
-ghost use Rattle.bound_texts.specs.BoundTexts.{away_text, before_text, line_text, lines_text, most_rounds};
+ghost use Rattle.bound_texts.specs.BoundTexts.{away_text, before_text, bound_line_text, lines_text, most_rounds};
 ghost use Rattle.bound_texts.specs.References.{line_in, lines_in};
 
 use crate::writing::{write_after_space, write_number};
@@ -55,7 +55,7 @@ fn write_away(out: &mut Vec<u8>, away: bool) -> Result<(), Memory>
 
 // Appends the line of a device.
 fn write_line(alloc: Global, out: &mut Vec<u8>, line: &BoundLine<'_>) -> Result<(), Memory>
-    ensures { OnOk result (out.new.items ≡ out.old.items ++ line_text (line_in line.now)) }
+    ensures { OnOk result (out.new.items ≡ out.old.items ++ bound_line_text (line_in line.now)) }
 {
     write_number(alloc, out, line.device)?;
     out.push(b' ')?;

@@ -1,6 +1,6 @@
 -- The words of a command line, as the code takes them apart.
 use Rattle.std.proofs.Common.{ℕ, ◌≡◌, ◌-◌, ◌≤◌, List, [], ◌∷◌, map, take, drop, length, get_or}
-use Rattle.std.proofs.Common.{refl, sym, ap, ap₂, ◌∙◌, arith, Bool, true, true≢false, not, is_some, Option, Some, None}
+use Rattle.std.proofs.Common.{sym, ap, ap₂, ◌∙◌, arith, Some}
 use Rattle.std.proofs.lemmas.List.{length-drop, take_all}
 use Rattle.command_words.specs.declared.choices.Name.{Name}
 use Rattle.command_words.specs.Options.{asked_of}
@@ -43,7 +43,3 @@ asked_is f n (program ∷ name ∷ words) word some more is named =
     let same : word ≡ name = is ∙ ap (λ ws. get_or ws 0 word) first in
     ap (λ ws. asked_of n (map f ws)) first
     ∙ ap (λ o. asked o (settings_of (map f words))) (sym named ∙ ap (λ w. name_of (f w)) same)
-
-pub none_of : {A : Type 0} (o : Option A) (none : Bool) → is_some o ≡ not none → none ≡ true → o ≡ None
-none_of None none h e = refl
-none_of (Some x) none h e = absurd (true≢false (h ∙ ap not e))

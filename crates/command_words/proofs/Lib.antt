@@ -2,7 +2,10 @@ mod Apps
 mod Taken
 mod Pieces
 mod ClapWalk
-mod Enumerated
+mod Rows
+mod Steps
+mod Offered
+mod Listed
 mod ReadWords
 mod SameChoices
 mod AskedWords

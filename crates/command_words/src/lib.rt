@@ -11,4 +11,4 @@ pub use commands::{
     ChangesOptions, CheckOptions, Command, GenOptions, Limit, MailOptions, Quiet, ReplayOptions,
     RunOptions, Start, Threaded, Work, passed_limit,
 };
-pub use words::{command, words_ask_for_commands};
+pub use words::{command, read_command, words_ask_for_commands};

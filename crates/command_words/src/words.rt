@@ -10,8 +10,9 @@ use crate::settings::settings;
 use fc_values::Memory;
 use std::alloc::Global;
 
-/// The command that the words ask for, if they ask for one: the first word is the program's name.
-pub fn command(alloc: Global, words: &[String]) -> Result<Option<Command>, Memory>
+/// The command that the words ask for, if they ask for one, by our own reading alone: the first word is the program's
+/// name. A library that is to be small takes this one, which needs no `clap`.
+pub fn read_command(alloc: Global, words: &[String]) -> Result<Option<Command>, Memory>
     ensures { IfOk result (λ command. command ≡ command_of (map string_bytes words.now)) }
 {
     let [_, asked @ ..] = words else {
@@ -26,7 +27,23 @@ pub fn command(alloc: Global, words: &[String]) -> Result<Option<Command>, Memor
     let Some(settings) = settings(alloc, further)? else {
         return Ok(None);
     };
-    if command_of_settings(name, settings.as_slice()).is_none() {
+    Ok(command_of_settings(name, settings.as_slice()))
+}
+
+/// The same, as `clap` reads the words that ask for a command.
+pub fn command(alloc: Global, words: &[String]) -> Result<Option<Command>, Memory>
+    ensures { IfOk result (λ command. command ≡ command_of (map string_bytes words.now)) }
+{
+    let [_, asked @ ..] = words else {
+        return Ok(None);
+    };
+    let [word, ..] = asked else {
+        return Ok(None);
+    };
+    let Some(name) = named(word.as_str()) else {
+        return Ok(None);
+    };
+    if read_command(alloc, words)?.is_none() {
         return Ok(None);
     }
     let choices = choices(alloc, name, word.as_str(), asked)?;

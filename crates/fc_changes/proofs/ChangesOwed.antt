@@ -35,7 +35,7 @@ use Rattle.fc_inputs.proofs.KeptYes.{at_program}
 use Rattle.fc_inputs.proofs.Owed.{OwesScenes, plain_status, refused_status, texts_owe, three_owe, zero_low}
 use Rattle.fc_inputs.proofs.RefusalStatuses.{changes_status}
 use Rattle.fc_changes.specs.Commands.{BoundsChanges, BoundsLines, BoundsText, BoundsWithin, ChecksChanges}
-use Rattle.fc_changes.specs.Commands.{StartsFrom, fault_in, lines_in}
+use Rattle.fc_changes.specs.Commands.{CountsFrom, line_fault_of, change_lines_in}
 use Rattle.fc_changes.specs.Lines.{bounds_text}
 use Rattle.fc_changes.specs.Promises.{ChangesKept, ChangesOwe, EnvelopeHolds, KeepsYesWithin, LineHolds}
 use Rattle.fc_changes.proofs.Envelopes.{some_round}
@@ -63,7 +63,7 @@ pub record Laws : Type 0 where
 module _ (laws : Laws) (options : ChangesOptions) where
   -- ---- something is made, within an envelope
   some_start : (from : Start) (Q : Program) (s : SceneValue) → IsProgram Q → IsGood (unfolding_of Q) (start_of s)
-      → (E : Envelope) → (table : BoundTable) × StartsFrom from (unfolding_of Q) E s table
+      → (E : Envelope) → (table : BoundTable) × CountsFrom from (unfolding_of Q) E s table
   some_start Any Q s is good E = (any_table (unfolding_of Q), refl)
   some_start Table Q s is good E =
       (laws.starts Q E is (start_of s) good (growing_cap (length E.devices))).some
@@ -85,7 +85,7 @@ module _ (laws : Laws) (options : ChangesOptions) where
 
   -- ---- and one thing
   tables_agree : (from : Start) (U : Unfolding) (s : SceneValue) (E : Envelope) → IsEnvelope E → (a b : BoundTable)
-      → StartsFrom from U E s a → StartsFrom from U E s b → (d : ℕ) → MayLive E d → a d ≡ b d
+      → CountsFrom from U E s a → CountsFrom from U E s b → (d : ℕ) → MayLive E d → a d ≡ b d
   tables_agree Any U s E envelope a b h g d live = ap (λ (t : BoundTable). t d) (h ∙ sym g)
   tables_agree Table U s E envelope a b h g d live =
       laws.one_start U E s.net envelope (growing_cap (length E.devices)) (start_of s) a b h g d live
@@ -94,8 +94,8 @@ module _ (laws : Laws) (options : ChangesOptions) where
       → BoundsWithin options U s E a → BoundsWithin options U s E b → a ≡ b
   one_within U s E envelope a b h g =
       let same = laws.one_list U E envelope h.table g.table
-          (tables_agree options.start U s E envelope h.table g.table h.starts g.starts)
-          (growing_cap (length E.devices)) h.written.lasts g.written.lasts h.written.are g.written.are in
+      (tables_agree options.start U s E envelope h.table g.table h.starts g.starts)
+      (growing_cap (length E.devices)) h.written.lasts g.written.lasts h.written.are g.written.are in
       h.written.writes ∙ ap (λ (ls : List LastBound). plain 0 (bounds_text options.facts options.start U E ls)) same
       ∙ sym g.written.writes
 
@@ -104,7 +104,7 @@ module _ (laws : Laws) (options : ChangesOptions) where
   both_within U s cs j k h g =
       let same : h.envelope ≡ g.envelope = laws.one_envelope s.net cs h.envelope g.envelope h.is g.is in
       let answers : h.answer ≡ g.answer = one_within U s g.envelope g.is.envelope h.answer g.answer
-          (subst (λ (E : Envelope). BoundsWithin options U s E h.answer) same h.bounds) g.bounds in
+      (subst (λ (E : Envelope). BoundsWithin options U s E h.answer) same h.bounds) g.bounds in
       both_plain false j k 0 (bounds_text options.facts options.start U g.envelope g.bounds.written.lasts)
       (h.accepted ∙ ap Accepted (answers ∙ g.bounds.written.writes)) (g.accepted ∙ ap Accepted g.bounds.written.writes)
 
@@ -112,17 +112,17 @@ module _ (laws : Laws) (options : ChangesOptions) where
     -- ---- of a text
     some_text : (Q : Program) (s : SceneValue) → IsProgram Q → IsGood (unfolding_of Q) (start_of s)
         → (j : Judged AnswerValue) × BoundsText options text (unfolding_of Q) s j
-    some_text Q s is good = by_line (refused_line s.net (lines_in s text)) refl
+    some_text Q s is good = by_line (refused_line s.net (change_lines_in s text)) refl
       where
-        by_line : (o : Option (ℕ × ChangeFault)) → refused_line s.net (lines_in s text) ≡ o
-            → (j : Judged AnswerValue) × BoundsLines options (unfolding_of Q) s (lines_in s text) o j
-        by_line (Some line) e = (Refused (Plainly (changes_refusal line.0 (fault_in line.1))), refl)
+        by_line : (o : Option (ℕ × ChangeFault)) → refused_line s.net (change_lines_in s text) ≡ o
+            → (j : Judged AnswerValue) × BoundsLines options (unfolding_of Q) s (change_lines_in s text) o j
+        by_line (Some line) e = (Refused (Plainly (changes_refusal line.0 (line_fault_of line.1))), refl)
         by_line None e =
             let metric : s.net.declared.least ≤ s.net.declared.greatest =
-                subst (λ (D : Declarations). D.least ≤ D.greatest) (sym good.declared) is.lawful.metric.0 in
-            let envelope = laws.some_envelope s.net (lines_in s text) good.net e metric in
+            subst (λ (D : Declarations). D.least ≤ D.greatest) (sym good.declared) is.lawful.metric.0 in
+            let envelope = laws.some_envelope s.net (change_lines_in s text) good.net e metric in
             let made = some_within Q s is good envelope.0 envelope.1.envelope
-                (some_round s.net (said (lines_in s text)) envelope.0 good.net envelope.1) in (
+            (some_round s.net (said (change_lines_in s text)) envelope.0 good.net envelope.1) in (
               Accepted made.0,
               record {
                 envelope = envelope.0;
@@ -136,36 +136,36 @@ module _ (laws : Laws) (options : ChangesOptions) where
     one_text : (Q : Program) (s : SceneValue) → IsProgram Q → IsGood (unfolding_of Q) (start_of s)
         → (j k : Judged AnswerValue) → BoundsText options text (unfolding_of Q) s j
         → BoundsText options text (unfolding_of Q) s k → Agree false j k
-    one_text Q s is good j k h g = by_line (refused_line s.net (lines_in s text)) h g
+    one_text Q s is good j k h g = by_line (refused_line s.net (change_lines_in s text)) h g
       where
-        by_line : (o : Option (ℕ × ChangeFault)) → BoundsLines options (unfolding_of Q) s (lines_in s text) o j
-            → BoundsLines options (unfolding_of Q) s (lines_in s text) o k → Agree false j k
+        by_line : (o : Option (ℕ × ChangeFault)) → BoundsLines options (unfolding_of Q) s (change_lines_in s text) o j
+            → BoundsLines options (unfolding_of Q) s (change_lines_in s text) o k → Agree false j k
         by_line (Some line) h g = both_refused false j k _ h g
-        by_line None h g = both_within (unfolding_of Q) s (said (lines_in s text)) j k h g
+        by_line None h g = both_within (unfolding_of Q) s (said (change_lines_in s text)) j k h g
 
     has_status : (U : Unfolding) (s : SceneValue) (j : Judged AnswerValue) → BoundsText options text U s j → HasStatus j
-    has_status U s j h = by_line (refused_line s.net (lines_in s text)) h
+    has_status U s j h = by_line (refused_line s.net (change_lines_in s text)) h
       where
-        by_line : (o : Option (ℕ × ChangeFault)) → BoundsLines options U s (lines_in s text) o j → HasStatus j
-        by_line (Some line) e = refused_status j _ (changes_status line.0 (fault_in line.1)) e
+        by_line : (o : Option (ℕ × ChangeFault)) → BoundsLines options U s (change_lines_in s text) o j → HasStatus j
+        by_line (Some line) e = refused_status j _ (changes_status line.0 (line_fault_of line.1)) e
         by_line None h =
             plain_status j 0 (bounds_text options.facts options.start U h.envelope h.bounds.written.lasts)
             (omega arith) (h.accepted ∙ ap Accepted h.bounds.written.writes)
 
     -- ---- what is promised
     module _ (program network : List ℕ) (i : InputOf) (reads : ReadsInput program network (Accepted i)) where
-      all_hold : (E : Envelope) → IsEnvelope E → (table : BoundTable) → StartsFrom options.start i.0 E i.1 table
+      all_hold : (E : Envelope) → IsEnvelope E → (table : BoundTable) → CountsFrom options.start i.0 E i.1 table
           → (ls : List LastBound) → AreLastBounds i.0 E table (growing_cap (length E.devices)) ls
           → All (LineHolds options.start i.0 E i.1) ls
       all_hold E envelope table starts ls are =
           at_program laws.inputs program network i reads
-          (λ U. StartsFrom options.start U E i.1 table → AreLastBounds U E table (growing_cap (length E.devices)) ls
+          (λ U. CountsFrom options.start U E i.1 table → AreLastBounds U E table (growing_cap (length E.devices)) ls
           → All (LineHolds options.start U E i.1) ls)
           (λ P is good starts are.
           lines_kept laws.hold laws.anyhow laws.stay P is E envelope i.1 good options.start table starts ls are) starts are
 
-      kept : (a : AnswerValue) → NoneRefused i.1.net (lines_in i.1 text)
-          → BoundsChanges options i.0 i.1 (said (lines_in i.1 text)) (Accepted a)
+      kept : (a : AnswerValue) → NoneRefused i.1.net (change_lines_in i.1 text)
+          → BoundsChanges options i.0 i.1 (said (change_lines_in i.1 text)) (Accepted a)
           → ChangesKept options program network text a
       kept a accepted h =
           let E = h.envelope in
@@ -179,8 +179,8 @@ module _ (laws : Laws) (options : ChangesOptions) where
             envelope = E;
             is = h.is;
             within = at_program laws.inputs program network i reads
-                (λ U. EnvelopeHolds U i.1.net (said (lines_in i.1 text)) E)
-                (λ P is good. envelope_holds laws.happen i.1.net (lines_in i.1 text) E accepted h.is laws.scenes
+                (λ U. EnvelopeHolds U i.1.net (said (change_lines_in i.1 text)) E)
+                (λ P is good. envelope_holds laws.happen i.1.net (change_lines_in i.1 text) E accepted h.is laws.scenes
                 laws.ends laws.lookups laws.edits good.net (unfolding_of P));
             yes = at_program laws.inputs program network i reads (λ U. KeepsYesWithin U E)
                 (λ P is good. keeps_yes laws.yes P E is (h.is.declared ∙ good.declared));
@@ -193,10 +193,10 @@ module _ (laws : Laws) (options : ChangesOptions) where
 
       keeps : (a : AnswerValue) → BoundsText options text i.0 i.1 (Accepted a) → a.status ≡ 0
           → ChangesKept options program network text a
-      keeps a h zero = by_line (refused_line i.1.net (lines_in i.1 text)) refl h
+      keeps a h zero = by_line (refused_line i.1.net (change_lines_in i.1 text)) refl h
         where
-          by_line : (o : Option (ℕ × ChangeFault)) → refused_line i.1.net (lines_in i.1 text) ≡ o
-              → BoundsLines options i.0 i.1 (lines_in i.1 text) o (Accepted a)
+          by_line : (o : Option (ℕ × ChangeFault)) → refused_line i.1.net (change_lines_in i.1 text) ≡ o
+              → BoundsLines options i.0 i.1 (change_lines_in i.1 text) o (Accepted a)
               → ChangesKept options program network text a
           by_line (Some line) e h = absurd (cc h)
           by_line None e h = kept a e h

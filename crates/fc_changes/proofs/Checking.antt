@@ -12,28 +12,28 @@ use Rattle.fc_inputs.specs.Answers.{AnswerValue}
 use Rattle.fc_inputs.specs.Causes.{Cause, Accepted, Refused}
 use Rattle.fc_inputs.specs.Inputs.{ReadsInput}
 use Rattle.fc_changes.specs.Code.{IsRefused}
-use Rattle.fc_changes.specs.Commands.{BoundsLines, BoundsWithin, ChecksChanges, lines_in}
+use Rattle.fc_changes.specs.Commands.{BoundsLines, BoundsWithin, ChecksChanges, change_lines_in}
 
 module _ (options : ChangesOptions) (program network changes : List ℕ) (U : Unfolding) (s : SceneValue)
     (reads : ReadsInput program network (Accepted (U, s))) where
-  pub lines_refused : (cause : Cause) → IsRefused s.net (lines_in s changes) cause
+  pub lines_refused : (cause : Cause) → IsRefused s.net (change_lines_in s changes) cause
       → ChecksChanges options program network changes (Refused cause)
   lines_refused cause h = record {
     judged = Accepted (U, s);
     reads = reads;
     ends = subst
-        (λ (o : Option (ℕ × ChangeFault)). BoundsLines options U s (lines_in s changes) o (Refused cause))
+        (λ (o : Option (ℕ × ChangeFault)). BoundsLines options U s (change_lines_in s changes) o (Refused cause))
         (sym h.refused) (ap Refused h.is);
   }
 
-  pub lines_checked : NoneRefused s.net (lines_in s changes) → (E : Envelope)
-      → IsEnvelopeOf s.net (said (lines_in s changes)) E → (a : AnswerValue) → BoundsWithin options U s E a
+  pub lines_checked : NoneRefused s.net (change_lines_in s changes) → (E : Envelope)
+      → IsEnvelopeOf s.net (said (change_lines_in s changes)) E → (a : AnswerValue) → BoundsWithin options U s E a
       → ChecksChanges options program network changes (Accepted a)
   lines_checked accepted E is a bounds = record {
     judged = Accepted (U, s);
     reads = reads;
     ends = subst
-        (λ (o : Option (ℕ × ChangeFault)). BoundsLines options U s (lines_in s changes) o (Accepted a))
+        (λ (o : Option (ℕ × ChangeFault)). BoundsLines options U s (change_lines_in s changes) o (Accepted a))
         (sym accepted)
         (record { envelope = E; is = is; answer = a; bounds = bounds; accepted = refl });
   }

@@ -24,7 +24,7 @@ use Rattle.net_json.specs.Scenes.{SceneValue}
 use Rattle.command_words.specs.declared.commands.Start.{Start}
 use Rattle.command_words.specs.declared.commands.Start.TheVariants.{Any, Table}
 use Rattle.fc_inputs.specs.Starts.{start_of}
-use Rattle.fc_changes.specs.Commands.{StartsFrom}
+use Rattle.fc_changes.specs.Commands.{CountsFrom}
 use Rattle.fc_changes.specs.Promises.{EnvelopeHolds, IsAllowed, KeepsYesWithin, LineHolds}
 use Rattle.fc_changes.proofs.Lasts.{all_of}
 
@@ -64,7 +64,7 @@ all_away U E table cap ls are =
 
 module _ (hold : LinesHold) (anyhow : LinesHoldAnyhow) (stay : StartsStay) (P : Program) (is : IsProgram P)
     (E : Envelope) (envelope : IsEnvelope E) (s : SceneValue) (good : IsGood (unfolding_of P) (start_of s)) where
-  pub lines_kept : (from : Start) (table : BoundTable) → StartsFrom from (unfolding_of P) E s table
+  pub lines_kept : (from : Start) (table : BoundTable) → CountsFrom from (unfolding_of P) E s table
       → (ls : List LastBound) → AreLastBounds (unfolding_of P) E table (growing_cap (length E.devices)) ls
       → All (LineHolds from (unfolding_of P) E s) ls
   lines_kept Any table starts ls are =

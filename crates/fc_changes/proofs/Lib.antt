@@ -1,4 +1,5 @@
 mod Envelopes
+mod Starting
 mod Lasts
 mod Kept
 mod ChangesOwed

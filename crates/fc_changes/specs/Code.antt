@@ -15,14 +15,14 @@ use Rattle.fc_inputs.specs.Answers.{AnswerValue}
 use Rattle.fc_inputs.specs.Causes.{Cause, Plainly}
 use Rattle.fc_inputs.specs.Refusals.{changes_refusal}
 use Rattle.fc_inputs.specs.Starts.{start_of}
-use Rattle.fc_changes.specs.Commands.{IsWritten, fault_in}
+use Rattle.fc_changes.specs.Commands.{IsWritten, line_fault_of}
 
 -- a cause is the refusal of the first faulty line
 pub record IsRefused (n : Network) (ls : List (ℕ × Option ChangeValue)) (cause : Cause) : Type 0 where
   pub line : ℕ
   pub fault : ChangeFault
   pub refused : refused_line n ls ≡ Some (line, fault)
-  pub is : cause ≡ Plainly (changes_refusal line (fault_in fault))
+  pub is : cause ≡ Plainly (changes_refusal line (line_fault_of fault))
 
 -- the answer where rounds are counted from a scene
 pub record IsWrittenFrom (options : ChangesOptions) (U : Unfolding) (E : Envelope) (s : SceneValue)

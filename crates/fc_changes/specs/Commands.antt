@@ -29,9 +29,9 @@ use Rattle.fc_changes.specs.Lines.{bounds_text}
 
 -- the table of bounds from which rounds within an envelope are counted: that of any exports, or the one to which the
 -- scene's exports and copies in flight grow; where they grow for too many rounds, that of any exports as well
-abbrev pub StartsFrom : Start → Unfolding → Envelope → SceneValue → BoundTable → Type 0
-StartsFrom Any U E s table = table ≡ any_table U
-StartsFrom Table U E s table = StartTableWithin U E s.net (growing_cap (length E.devices)) (start_of s) table
+abbrev pub CountsFrom : Start → Unfolding → Envelope → SceneValue → BoundTable → Type 0
+CountsFrom Any U E s table = table ≡ any_table U
+CountsFrom Table U E s table = StartTableWithin U E s.net (growing_cap (length E.devices)) (start_of s) table
 
 -- what is written of the last bounds from a table, with at most as many rounds as it may grow
 pub record IsWritten (options : ChangesOptions) (U : Unfolding) (E : Envelope) (table : BoundTable)
@@ -44,7 +44,7 @@ pub record IsWritten (options : ChangesOptions) (U : Unfolding) (E : Envelope) (
 pub record BoundsWithin (options : ChangesOptions) (U : Unfolding) (s : SceneValue) (E : Envelope)
     (answer : AnswerValue) : Type 0 where
   pub table : BoundTable
-  pub starts : StartsFrom options.start U E s table
+  pub starts : CountsFrom options.start U E s table
   pub written : IsWritten options U E table answer
 
 -- the envelope is that of the scene and of what may happen
@@ -57,22 +57,23 @@ pub record BoundsChanges (options : ChangesOptions) (U : Unfolding) (s : SceneVa
   pub accepted : j ≡ Accepted answer
 
 -- why a line is refused, as refusals name it
-abbrev pub fault_in : ChangeFault → LineFault
-fault_in changed.Form = Form
-fault_in (changed.Net fault) = Net fault
+abbrev pub line_fault_of : ChangeFault → LineFault
+line_fault_of changed.Form = Form
+line_fault_of (changed.Net fault) = Net fault
 
 -- lines of changes, of which the first faulty one is refused
 abbrev pub BoundsLines : ChangesOptions → Unfolding → SceneValue → List (ℕ × Option ChangeValue)
     → Option (ℕ × ChangeFault) → Judged AnswerValue → Type 0
-BoundsLines options U s ls (Some line) j = j ≡ Refused (Plainly (changes_refusal line.0 (fault_in line.1)))
+BoundsLines options U s ls (Some line) j = j ≡ Refused (Plainly (changes_refusal line.0 (line_fault_of line.1)))
 BoundsLines options U s ls None j = BoundsChanges options U s (said ls) j
 
 -- those of a text
-abbrev pub lines_in : SceneValue → List ℕ → List (ℕ × Option ChangeValue)
-lines_in s text = changes_in s.net.declared.inputs text
+abbrev pub change_lines_in : SceneValue → List ℕ → List (ℕ × Option ChangeValue)
+change_lines_in s text = changes_in s.net.declared.inputs text
 
 abbrev pub BoundsText : ChangesOptions → List ℕ → Unfolding → SceneValue → Judged AnswerValue → Type 0
-BoundsText options text U s j = BoundsLines options U s (lines_in s text) (refused_line s.net (lines_in s text)) j
+BoundsText options text U s j =
+    let ls = change_lines_in s text in BoundsLines options U s ls (refused_line s.net ls) j
 
 -- the texts of a program, a scene and changes
 abbrev pub ChecksChanges : ChangesOptions → List ℕ → List ℕ → List ℕ → Judged AnswerValue → Type 0

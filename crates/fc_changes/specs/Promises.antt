@@ -32,7 +32,7 @@ use Rattle.fc_inputs.specs.Inputs.{ReadsInput}
 use Rattle.fc_inputs.specs.Owing.{IsZero, OfThree, Owes}
 use Rattle.fc_inputs.specs.Sections.{AreWithin, WithThree}
 use Rattle.fc_inputs.specs.Starts.{start_of}
-use Rattle.fc_changes.specs.Commands.{ChecksChanges, lines_in}
+use Rattle.fc_changes.specs.Commands.{ChecksChanges, change_lines_in}
 use Rattle.fc_changes.specs.Lines.{bounds_text}
 
 -- a log each of whose edits is one that some line allows
@@ -74,10 +74,10 @@ pub record ChangesKept (options : ChangesOptions) (program network changes : Lis
   pub unfolded : Unfolding
   pub scene : SceneValue
   pub reads : ReadsInput program network (Accepted (unfolded, scene))
-  pub accepted : NoneRefused scene.net (lines_in scene changes)
+  pub accepted : NoneRefused scene.net (change_lines_in scene changes)
   pub envelope : Envelope
-  pub is : IsEnvelopeOf scene.net (said (lines_in scene changes)) envelope
-  pub within : EnvelopeHolds unfolded scene.net (said (lines_in scene changes)) envelope
+  pub is : IsEnvelopeOf scene.net (said (change_lines_in scene changes)) envelope
+  pub within : EnvelopeHolds unfolded scene.net (said (change_lines_in scene changes)) envelope
   pub yes : KeepsYesWithin unfolded envelope
   pub lasts : List LastBound
   pub devices : map (λ (l : LastBound). l.device) lasts ≡ ids envelope.devices

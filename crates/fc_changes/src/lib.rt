@@ -1,5 +1,5 @@
-//! `check --settle --changes`: between which values each device stays while the network changes as lines allow, and after
-//! how many rounds.
+//! `check --settle --changes`: between which values each device stays while the network changes as lines allow, and
+//! after how many rounds.
 #![tactic(auto)]
 
 mod checks;

@@ -10,7 +10,7 @@ ghost use Rattle.change_envelopes.specs.Envelopes.{IsEnvelopeOf};
 ghost use Rattle.change_lines.specs.Changes.{changes_in};
 ghost use Rattle.fc_inputs.specs.Stops.{StopsFor};
 ghost use Rattle.fc_changes.specs.Code.{IsRefused};
-ghost use Rattle.fc_changes.specs.Commands.{fault_in};
+ghost use Rattle.fc_changes.specs.Commands.{line_fault_of};
 
 use change_envelopes::envelope_of_changes;
 use change_lines::read_changes;
@@ -23,8 +23,8 @@ use std::alloc::Global;
 use topology::Network;
 
 // Why a line is refused, as refusals name it.
-fn fault_in(fault: ChangeFault) -> LineFault
-    ensures { result ≡ fault_in fault }
+fn line_fault_of(fault: ChangeFault) -> LineFault
+    ensures { result ≡ line_fault_of fault }
 {
     match fault {
         ChangeFault::Form => LineFault::Form,
@@ -49,7 +49,7 @@ pub(crate) fn accepted_lines(
     match judge_changes(alloc, net, &lines) {
         Ok(()) => Ok(lines),
         Err(RefusedChange::Line(line, fault)) => {
-            Err(Stop::Refused(changes_refusal(line, fault_in(fault))))
+            Err(Stop::Refused(changes_refusal(line, line_fault_of(fault))))
         }
         Err(RefusedChange::Memory) => Err(Stop::Memory),
     }

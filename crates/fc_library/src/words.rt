@@ -2,7 +2,7 @@
 ghost use Rattle.std.specs.Prelude.{◌≡◌, ◌∷◌, IfOk, IfSome, None, codes, length, map, string_bytes};
 ghost use Rattle.fc_library.specs.Words.{AreTexts, Asks, words_of};
 
-use command_words::{Command, command};
+use command_words::{Command, read_command};
 use fc_values::Memory;
 use std::alloc::{AllocError, Global};
 use std::str;
@@ -38,7 +38,7 @@ pub fn asked(alloc: Global, text: &[u8]) -> Result<Option<Command>, Memory>
     ensures { IfOk result (Asks text.now) }
 {
     match words_in(alloc, text)? {
-        Some(words) => command(alloc, &words),
+        Some(words) => read_command(alloc, &words),
         None => Ok(None),
     }
 }

@@ -5,7 +5,7 @@ use Rattle.fc_inputs.specs.Inputs.{ReadsInput}
 use Rattle.fc_inputs.proofs.Stopping.{stop_is, stops_map}
 use Rattle.fc_inputs.proofs.Unread.{unread}
 use Rattle.fc_changes.specs.Code.{IsRefused}
-use Rattle.fc_changes.specs.Commands.{BoundsText, ChecksChanges, lines_in}
+use Rattle.fc_changes.specs.Commands.{BoundsText, ChecksChanges, change_lines_in}
 use Rattle.fc_changes.proofs.Checking.{lines_refused}
 use Rattle.fc_changes.proofs.checks.of_texts.Goals as goal
 
@@ -26,7 +26,7 @@ returns-in_err-lines-clause-refused c =
     stop_is
     (λ cause. ChecksChanges c.args.options c.args.program.now c.args.network.now c.args.changes.now (Refused cause))
     c.from_residual-in_err-lines.result _ c.from_residual-in_err-lines.ensures.1
-    (stops_map (IsRefused s.net (lines_in s c.args.changes.now)) _
+    (stops_map (IsRefused s.net (change_lines_in s c.args.changes.now)) _
     (λ cause k. lines_refused c.args.options c.args.program.now c.args.network.now c.args.changes.now U s
     c.in_ok-program.ensures.input cause k)
     c.in_err-lines.field-0.0 c.in_err-lines.ensures.refused)
