@@ -11,7 +11,7 @@ import { Unread, readScene, readTable, sceneOf, writeTable } from "./scenes.mjs"
 import { stateOf } from "./sharing.mjs";
 import { drawing } from "./showing.mjs";
 import {
-    askSoon, draw, empty, forget, fresh, known, lastAddress, now, remember, remembered, saveNow,
+    askSoon, draw, empty, forget, fresh, known, lastAddress, moving, now, remember, remembered, saveNow,
 } from "./state.mjs";
 import { declaredBy } from "./tokens.mjs";
 
@@ -64,25 +64,29 @@ export async function share() {
 
 // Examples.
 
+const FIRSTS = [
+    { value: "", name: "Hop count", state: fresh },
+    { value: "moving", name: "Hop count, while the network changes", state: moving },
+    { value: "empty", name: "Empty, for your own", state: empty },
+];
 /** @type {Example[]} */
 let examples = [];
 
 /** @param {Example[]} offered */
 export function offerExamples(offered) {
     examples = offered;
-    const firsts = [["", "Hop count"], ["empty", "Empty, for your own"]];
-    const options = [...firsts, ...examples.map(({ name }) => [name, name])];
+    const options = [...FIRSTS.map(({ value, name }) => [value, name]), ...examples.map(({ name }) => [name, name])];
     at("example").replaceChildren(...options.map(([value, text]) => element("option", { value, text })));
 }
 
 /** @param {string} name */
 export function showExample(name) {
     const found = examples.find((one) => one.name === name), first = name === "empty" ? "add" : "move";
+    const own = FIRSTS.find(({ value }) => value === name) ?? FIRSTS[0];
     remember();
     /** @type {HTMLInputElement} */ (document.querySelector(`input[value=${first}]`)).checked = true;
     drawing.begin(null);
-    if (name === "empty") restore(empty());
-    else restore(found ? { ...fresh(), program: found.program, network: readScene(found.scene) } : fresh());
+    restore(found ? { ...fresh(), program: found.program, network: readScene(found.scene) } : own.state());
 }
 
 // Files.

@@ -23,6 +23,7 @@ input src: bool;
 // What it computes: is src true at a neighbour?
 main = anyHood(nbr{sense src});
 `;
+const CHANGES = "unlink 9 10\nunlink 9 13\nleave 7\nset 3 src any\n";
 const RANGE = 27, MOST_UNDO = 60, SAVING = 400;
 /** So many milliseconds after a change by typing or dragging fc is asked. */
 export const TYPING = 200;
@@ -44,6 +45,13 @@ export const fresh = () => ({
  */
 export const empty = () => (
     { ...fresh(), program: EMPTY, network: { devices: [], links: [], range: RANGE, weight: 0 } });
+
+/**
+ * The state with which the page begins, and what may change in it.
+ * @returns {State}
+ */
+export const moving = () => (
+    { ...fresh(), changes: CHANGES, view: { ...fresh().view, colours: "bounds" } });
 
 /** What a user has made, what its program declares, and what is shown of it. */
 export const now = {

@@ -17,7 +17,8 @@ STACK = 8 << 20
 WASM = "wasm64-unknown-unknown"
 LAYOUT = "e-m:e-p:64:64-p10:8:8-p20:8:8-i64:64-i128:128-n32:64-S128-ni:1:10:20"
 PROCESSOR = '"target-cpu"="lime1"'
-CLANG = ("--no-default-config", "-no-canonical-prefixes", "-fno-crash-diagnostics", "-O3")
+# For size: the module is a third smaller than by -O3, about as fast, and its functions take less of an engine's stack.
+CLANG = ("--no-default-config", "-no-canonical-prefixes", "-fno-crash-diagnostics", "-Os")
 OF_RATTLE = (
     "-expand-div-rem-bits=64", "-expand-fp-convert-bits=64", "-trap-unreachable", "-no-x86-call-frame-opt",
     "-disable-machine-licm", "-disable-postra-machine-licm", "-sink-common-insts=false",
