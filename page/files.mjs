@@ -11,13 +11,14 @@ import { Unread, readScene, readTable, sceneOf, writeTable } from "./scenes.mjs"
 import { stateOf } from "./sharing.mjs";
 import { drawing } from "./showing.mjs";
 import {
-    askSoon, draw, empty, forget, fresh, known, lastAddress, moving, now, remember, remembered, saveNow,
+    askSoon, draw, empty, forget, fresh, known, lastAddress, moving, now, remember, remembered, saveNow, withChanges,
 } from "./state.mjs";
 import { declaredBy } from "./tokens.mjs";
 
-/** @typedef {{name: string, program: string, scene: string}} Example */
+/** @typedef {import("./sharing.mjs").State} State */
+/** @typedef {{name: string, program: string, scene: string, changes: string}} Example */
 
-/** @param {import("./sharing.mjs").State} next */
+/** @param {State} next */
 function restore(next) {
     forgetRun();
     now.state = next;
@@ -86,7 +87,8 @@ export function showExample(name) {
     remember();
     /** @type {HTMLInputElement} */ (document.querySelector(`input[value=${first}]`)).checked = true;
     drawing.begin(null);
-    restore(found ? { ...fresh(), program: found.program, network: readScene(found.scene) } : own.state());
+    if (!found) restore(own.state());
+    else restore(withChanges({ ...fresh(), program: found.program, network: readScene(found.scene) }, found.changes));
 }
 
 // Files.
@@ -100,8 +102,9 @@ function readFile(text) {
     if (others.length) {
         const [scene, rest = ""] = others, rows = rest.split("\n");
         const changes = rows.every((row) => /^(set |link |unlink |leave |join |\s*$)/.test(row)) ? rest : "";
+        const read = { ...fresh(), program: front, network: readScene(scene, network.devices) };
         remember();
-        return restore({ ...fresh(), program: front, network: readScene(scene, network.devices), changes });
+        return restore(withChanges(read, changes));
     }
     if (/^\s*[{[]/.test(text)) return change({ ...readScene(text, network.devices) });
     const devices = readTable(text), ids = new Set(network.devices.map(({ id }) => id));

@@ -47,11 +47,16 @@ export const empty = () => (
     { ...fresh(), program: EMPTY, network: { devices: [], links: [], range: RANGE, weight: 0 } });
 
 /**
- * The state with which the page begins, and what may change in it.
+ * A state with what may change, whose devices show bounds if anything may.
+ * @param {State} state
+ * @param {string} changes
  * @returns {State}
  */
-export const moving = () => (
-    { ...fresh(), changes: CHANGES, view: { ...fresh().view, colours: "bounds" } });
+export const withChanges = (state, changes) => (
+    { ...state, changes, view: { ...state.view, colours: changes.trim() ? "bounds" : "values" } });
+
+/** The state with which the page begins, and what may change in it. */
+export const moving = () => withChanges(fresh(), CHANGES);
 
 /** What a user has made, what its program declares, and what is shown of it. */
 export const now = {

@@ -24,13 +24,14 @@ NAMED = re.compile(r"^(?:async )?(?:const|let|function|class) (\w+)", re.MULTILI
 PLACE = re.compile(r"@([A-Z]+)@")
 SECTION = re.compile(r"^## The blocks\n(.*?)^## ", re.MULTILINE | re.DOTALL)
 GROUP = re.compile(r"^### (.*)\n|^\| [^|]* \| `(\w+)\(", re.MULTILINE)
-# a name for people, and the example's program with its network
+# a name for people, and the example's program with its network, and what may change in those that are called so
 EXAMPLES = (
     ("Field: hops to a gateway, with paths", "sensor_field_trace"),
     ("Field: the next mote on the way", "blocks_field"),
     ("Channel between two groups", "channel_stable"),
     ("Crowd: nearest beacon, a no that settles", "crowd_settle"),
     ("Crowd: where it is too crowded", "blocks_crowd"),
+    ("Crowd: phones that walk, with bounds", "phones_changes"),
     ("Leader: the least number of all", "blocks_leader"),
     ("Regions: the mean of each", "blocks_region_mean"),
     ("Building: ways out of a fire", "blocks_evacuation"),
@@ -91,12 +92,13 @@ def blocks() -> list[dict[str, object]]:
 
 
 def examples() -> list[dict[str, str]]:
-    """The examples: programs as a user writes them, with their networks."""
+    """The examples: programs as a user writes them, with their networks and what may change in them."""
     folder, found = TOP / "examples", []
     for name, file in EXAMPLES:
-        program, scene = (folder / f"{file}.txt").read_text().split("\n%%\n")[:2]
-        own = folder / f"{file}.fc"
-        found.append({"name": name, "program": own.read_text() if own.exists() else f"{program}\n", "scene": scene})
+        program, scene, *rest = (folder / f"{file}.txt").read_text().split("\n%%\n")
+        own, changes = folder / f"{file}.fc", rest[0] if file.endswith("_changes") else ""
+        text = own.read_text() if own.exists() else f"{program}\n"
+        found.append({"name": name, "program": text, "scene": scene, "changes": changes})
     return found
 
 
