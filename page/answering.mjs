@@ -3,9 +3,9 @@ import { readBounds, readPaths, readSettled, readStable, readValues, readVerdict
 import { Stopped, inputOf, workers } from "./asking.mjs";
 import { Misfit, composed } from "./blocks.mjs";
 import { wordsOf } from "./changes.mjs";
-import { dropRow, field, hasChanges, mayChange } from "./changing.mjs";
+import { hasChanges, isRefused, mayChange, refuseLine } from "./changing.mjs";
 import { at, button, element } from "./elements.mjs";
-import { saidOfLine, stretchOf } from "./lines.mjs";
+import { saidOfLine } from "./lines.mjs";
 import { formsOf, markOf } from "./marking.mjs";
 import { MOST_DEVICES } from "./network.mjs";
 import { aloneNodes, boundsNodes, brief, verdictNodes } from "./panels.mjs";
@@ -151,36 +151,15 @@ function refusedLine(line, written) {
     refuseLine({ ...found.said, row, at: isTyped ? found.at : null });
 }
 
-/**
- * Says what is wrong with a line, and marks it; or takes that away.
- * @param {{what: string, hint: string, row: number | null, at: [number, number] | null} | null} refused
- */
-function refuseLine(refused) {
-    const said = at("changes-fault");
-    field.field.setAttribute("aria-invalid", String(refused !== null));
-    if (!refused) {
-        said.replaceChildren();
-        return field.mark(null);
-    }
-    const { what, hint, row } = refused, { changes } = now.state, nodes = [];
-    const mark = row === null ? null : stretchOf(changes, row, refused.at ?? [0, Infinity]);
-    if (mark && row !== null) {
-        nodes.push(button(`Line ${row + 1}`, () => field.select(mark.from, mark.to), "plain"), ": ");
-    }
-    const away = row === null ? [] : [" ", button("Remove this line", () => dropRow(row))];
-    said.replaceChildren(element("div", { class: "said" }, element("p", {}, ...nodes, what, ...away),
-        ...hint ? [element("p", { class: "small", text: hint })] : []));
-    field.mark(mark && { ...mark, kind: "" });
-    at("changing").open = true;
-}
-
 // How an answer is shown.
 
 function showAnswer() {
     const { settled, made } = known;
     if (!settled || !made) return;
     const { bounds } = known, nodes = verdictNodes(settled, now.state.network.devices.length);
-    at("verdict").replaceChildren(...nodes, ...bounds ? boundsNodes(bounds, settled) : []);
+    if (bounds) nodes.push(...boundsNodes(bounds, settled));
+    else if (isRefused()) nodes.push(element("p", { text: "No bounds: see the lines of what may change." }));
+    at("verdict").replaceChildren(...nodes);
     at("brief").textContent = brief(settled, bounds);
     at("wrote").textContent = known.wrote;
     if (settled.verdict.rounds === null) complainOfNo(made, settled.verdict);

@@ -20,8 +20,10 @@ import { fitting } from "./network.mjs";
  * }} Changes
  */
 
-/** What a pattern means nothing for. */
+/** Why a pattern means nothing. */
 class Nothing extends Error {}
+
+const DEVICES = "Devices are written 3, * for all, 3..6, or src=false for those whose input is that.";
 
 const ABOUT = /^\+-(\d{1,7})$/, NUMBERS = /^(\d{1,7})\.\.(\d{1,7})$/;
 const WITH_INPUT = /^([A-Za-z]\w*)=(true|false|\d{1,7})$/, MOST_COMING = 1024, MOST_LINES = 40000;
@@ -144,6 +146,7 @@ function linesFor(words, network, declared) {
     }
     if (verb === "set" && words.length === 4 && (!isPlain(one) || ABOUT.test(three))) {
         const input = declared.inputs.find(({ name }) => name === two);
+        if (declared.inputs.some(({ name }) => name === one)) throw new Nothing(`write set ${two} ${one} ${three}`);
         if (!input) throw new Nothing(`no input is called ${two}`);
         const at = new Map(network.devices.map((device) => [device.id, device.inputs[two]]));
         return devicesOf(one, network, declared).map((id) => (
@@ -171,7 +174,7 @@ export function writtenOut(text, network, declared) {
             lines = linesFor(wordsOf(typed), network, declared) ?? lines;
         } catch (error) {
             if (!(error instanceof Nothing)) throw error;
-            made.wrong ??= { row, what: `${error.message[0].toUpperCase()}${error.message.slice(1)}.`, hint: "" };
+            made.wrong ??= { row, what: `${error.message[0].toUpperCase()}${error.message.slice(1)}.`, hint: DEVICES };
         }
         for (const line of lines) {
             made.lines.push(line);

@@ -2,7 +2,7 @@
 import { changesOf, keyOf, spanOf, wordsOf, writtenOut, writtenSpan } from "./changes.mjs";
 import { Editor } from "./editor.mjs";
 import { at, button, element } from "./elements.mjs";
-import { joining } from "./lines.mjs";
+import { joining, stretchOf } from "./lines.mjs";
 import { MOST_ID, weightOf } from "./network.mjs";
 import { askSoon, draw, now, remember, tell } from "./state.mjs";
 import { lineTokens } from "./tokens.mjs";
@@ -51,7 +51,7 @@ function putLines(text, wait) {
     if (chosenLink && !chosenLink[2] && !mayChange().changes.linked.has(keyOf(chosenLink[0], chosenLink[1]))) {
         now.chosenLink = null;
     }
-    field.mark(null);
+    refuseLine(null);
     draw();
     askSoon(wait);
 }
@@ -269,4 +269,30 @@ export function drawChanging() {
     const text = active && holder.contains(active) ? active.textContent : null;
     holder.replaceChildren(...all);
     all.find((node) => node.textContent === text)?.focus();
+}
+
+/** Whether it is said that a line is wrong. */
+export const isRefused = () => at("changes-fault").childElementCount > 0;
+
+/**
+ * Says what is wrong with a line, and marks it; or takes that away.
+ * @param {{what: string, hint: string, row: number | null, at: [number, number] | null} | null} refused
+ */
+export function refuseLine(refused) {
+    const said = at("changes-fault");
+    field.field.setAttribute("aria-invalid", String(refused !== null));
+    if (!refused) {
+        said.replaceChildren();
+        return field.mark(null);
+    }
+    const { what, hint, row } = refused, { changes } = now.state, nodes = [];
+    const mark = row === null ? null : stretchOf(changes, row, refused.at ?? [0, Infinity]);
+    if (mark && row !== null) {
+        nodes.push(button(`Line ${row + 1}`, () => field.select(mark.from, mark.to), "plain"), ": ");
+    }
+    const away = row === null ? [] : [" ", button("Remove this line", () => dropRow(row))];
+    said.replaceChildren(element("div", { class: "said" }, element("p", {}, ...nodes, what, ...away),
+        ...hint ? [element("p", { class: "small", text: hint })] : []));
+    field.mark(mark && { ...mark, kind: "" });
+    at("changing").open = true;
 }

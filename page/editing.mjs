@@ -152,10 +152,12 @@ export function chooseLink(link) {
  * @param {string} [more]
  */
 export function tellOf(id, more) {
-    const device = id === null ? undefined : deviceNumbered(id);
     if (id === null) return tell("");
-    if (!device) return tell([`Device ${id} may come`, describeBound(id, known), more].filter(Boolean).join("; "));
-    const inputs = now.declared.inputs.map((input) => `${input.name} ${fitting(input, device.inputs[input.name])}`);
-    const held = shownFrame()?.get(id), holds = held === undefined ? [] : [`holds ${writtenValue(held)}`];
-    tell([`Device ${id}`, ...inputs, ...holds, describe(id, known), more ?? ""].filter(Boolean).join("; "));
+    const device = deviceNumbered(id), held = shownFrame()?.get(id);
+    const said = !device ? [`Device ${id} may come`, describeBound(id, known)] : [
+        `Device ${id}`,
+        ...now.declared.inputs.map((input) => `${input.name} ${fitting(input, device.inputs[input.name])}`),
+        held === undefined ? "" : `holds ${writtenValue(held)}`, describe(id, known),
+    ];
+    tell([...said, more].filter(Boolean).join("; "), id === now.state.view.chosen && !more);
 }

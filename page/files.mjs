@@ -1,6 +1,6 @@
 // What is opened in the place of the state: an address, an example, a file, what was before. And what is saved.
 import { inputOf } from "./asking.mjs";
-import { field, hasChanges, mayChange } from "./changing.mjs";
+import { field, hasChanges, mayChange, refuseLine } from "./changing.mjs";
 import { change } from "./editing.mjs";
 import { at, element, save } from "./elements.mjs";
 import { linked } from "./network.mjs";
@@ -25,7 +25,7 @@ function restore(next) {
     now.chosenLink = null;
     editor.text = next.program;
     field.text = next.changes;
-    field.mark(null);
+    refuseLine(null);
     at("changing").open = next.changes.trim() !== "";
     now.declared = declaredBy(next.program);
     next.network = linked(next.network, now.declared);

@@ -95,9 +95,13 @@ export function forget() {
     Object.assign(known, { settled: null, values: new Map(), paths: null, bounds: null, wrote: "" });
 }
 
-/** @param {string} said what a screen reader says, too */
-export function tell(said) {
+/**
+ * @param {string} said what a screen reader says, too
+ * @param {boolean} [isShown] whether the page shows it elsewhere
+ */
+export function tell(said, isShown = false) {
     at("told").textContent = said;
+    at("told").classList.toggle("spoken", isShown);
 }
 
 // What follows from a change: the state is drawn, asked of fc, and kept in the address.

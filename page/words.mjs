@@ -71,6 +71,7 @@ const HABITS = [
     [/$/, /^>/, "Write b < a for a > b."],
     [/<\s*$/, /^=/, "Write not (b < a) for a <= b."],
     [/=\s*$/, /^=/, "Write a = b for a == b."],
+    [/\bm(in|ax)\s*\(\s*nbr\s*\{[^}]*\}\s*$/, /^\)/, "Of neighbours: minHoodLoc(nbr{a}, b), maxHoodLoc(nbr{a}, b)."],
     [/[=(,{<]\s*$/, /^-/, "There is nothing below 0: numbers go from 0 to the ceiling."],
     [/$/, /^else\b/, "An if has no else: if (c) {a} {b}, or mux(c, a, b)."],
     [/\bif\s*\([^{}]*$/, /^[^{]/, "Put both branches of an if in braces: if (c) {a} {b}."],

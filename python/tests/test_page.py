@@ -114,6 +114,7 @@ class Program(Opened):
             "ceiling 10;\nmain = if (true) {1} else {2};": "no else", "ceiling 10;\nmain = if (true) 1;": "in braces",
             "ceiling 10;\nmain = let x = 1; x;": "x = a in b", "ceiling 10;\nmain = sumHood(nbr(1));": "nbr{a}",
             "ceiling 10;\nmain = 1 + ;": "Each declaration ends",
+            "ceiling 10;\nmain = max(nbr{uid});": "Of neighbours: minHoodLoc",
         }  # fmt: skip
         for text, said in rows.items():
             with self.subTest(text):
@@ -616,6 +617,7 @@ class Changes(Opened):
             "unlink 0 12": (1, "012", "aren't linked"),
             "leave  3\nset src=true heat any": (2, "setsrc=trueheatany", "[nN]o input is called heat"),
             "leave 70..80": (1, "leave70..80", "[nN]o device of the network is 70..80"),
+            "set src 3 any": (1, "setsrc3any", "[wW]rite set 3 src any"),
             "poke 3 1": (1, "poke31", "can't begin with poke"),
         }
         for text, (line, marked, said) in rows.items():
