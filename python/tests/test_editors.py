@@ -30,10 +30,12 @@ WORDS = {
     "builtin": "min max mux fst snd minHoodLoc maxHoodLoc sumHood anyHood allHood rise",
 }
 KIND_OF_WORD = {word: kind for kind, words in WORDS.items() for word in words.split()}
+# the values that are words, behind a program
+TRUTHS = "true false null any".split()
 STEPS = "link unlink set poke join leave run mix show scramble deliver again lose".split()
 EITHER = r"(?P<space>[ \t\r\n]+)|(?P<number>[0-9]+)|(?P<name>[A-Za-z][A-Za-z0-9_]*)"
 TOKEN = re.compile(EITHER + r"|(?P<comment>//[^\n]*)|(?P<mark>=>|\.\.|.)", re.S)
-PART = re.compile(EITHER + r'|(?P<string>"(?:[^"\\\n]|\\.)*")|(?P<mark>.)', re.S)
+PART = re.compile(EITHER + r'|(?P<string>"(?:[^"\\\n]|\\.)*")|(?P<mark>\.\.|.)', re.S)
 SCOPES = {
     "comment": "comment.line.double-slash.fc",
     "number": "constant.numeric.fc",
@@ -68,7 +70,7 @@ GROUPS = {
     "function": ("fcFunction",),
     "input": ("fcInput", "fcOf"),
     "name": ("fcName",),
-    "operator": ("fcOperator",),
+    "operator": ("fcOperator", "fcRange"),
     "bracket": ("fcPunctuation", "fcMark"),
     "wrong": ("fcInvalid", "fcWrong"),
     "separator": ("fcSeparator",),
@@ -95,6 +97,7 @@ mix 3 set 2 lets (1,true)
 poke 0 1 2
 showing
 show
+link 0 1 2..any
 %% %%
 lose 1 2 3
 """
@@ -139,7 +142,7 @@ def mark(sign: str) -> str:
 
 
 def of_sections(text: str, start: int) -> Iterator[Token]:
-    """The tokens of a network, and of the lines of a log or script."""
+    """The tokens of a network, and of the lines of a log, a script or changes."""
     for line in re.finditer(r"[^\n]+", text[start:]):
         first, row = start + line.start(), line.group().rstrip("\r")
         if row == "%%":
@@ -162,11 +165,11 @@ def of_row(row: str) -> Iterator[Token]:
         if kind == "name":
             is_edit = edit and hit.start() == edit.end() and hit.group() in STEPS[:4]
             is_step = is_edit or hit.start() == 0 and hit.group() in STEPS
-            kind = "step" if is_step else "truth" if hit.group() in ("true", "false", "null") else "input"
+            kind = "step" if is_step else "truth" if hit.group() in TRUTHS else "input"
         elif kind == "string":
             kind = "member" if re.match(r"\s*:", row[hit.end() :]) else "string"
         elif kind == "mark":
-            kind = "bracket" if hit.group() in "[]{}(),:" else "wrong"
+            kind = "operator" if hit.group() == ".." else "bracket" if hit.group() in "[]{}(),:" else "wrong"
         yield Token(hit.start(), hit.end(), kind)
 
 

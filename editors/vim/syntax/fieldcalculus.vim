@@ -31,15 +31,16 @@ syntax match fcDeclaration /input[A-Za-z0-9_]\@!/ nextgroup=fcInput skipwhite sk
 syntax match fcInput /[A-Za-z][A-Za-z0-9_]*/ contained
 syntax match fcComment /\/\/.*$/ contains=@Spell
 
-" ---- the sections behind it: a network, and a log or script
+" ---- the sections behind it: a network, and a log, a script or changes
 
 syntax region fcSections matchgroup=fcSeparator start=/^%%\ze\r\?$/ end=/\%$/ contains=@fcInSections keepend
-syntax cluster fcInSections contains=fcWrong,fcMark,fcOf,fcCount,fcTruth,fcString,fcMember,fcStep,fcSeparator
+syntax cluster fcInSections contains=fcWrong,fcMark,fcRange,fcOf,fcCount,fcTruth,fcString,fcMember,fcStep,fcSeparator
 syntax match fcWrong /\S/ contained
 syntax match fcMark /[][{}(),:]/ contained
+syntax match fcRange /\.\./ contained
 syntax match fcOf /[A-Za-z][A-Za-z0-9_]*/ contained
 syntax match fcCount /[0-9]\+/ contained
-syntax match fcTruth /\%(true\|false\|null\)[A-Za-z0-9_]\@!/ contained
+syntax match fcTruth /\%(true\|false\|null\|any\)[A-Za-z0-9_]\@!/ contained
 syntax match fcString /"\%([^"\\]\|\\.\)*"/ contained
 syntax match fcMember /"\%([^"\\]\|\\.\)*"\ze\s*:/ contained
 syntax match fcStep /^\%(link\|unlink\|set\|poke\|join\|leave\|run\|mix\|show\|scramble\|deliver\|again\|lose\)[A-Za-z0-9_]\@!/ contained
@@ -67,6 +68,7 @@ highlight default link fcInvalid Error
 highlight default link fcSeparator Special
 highlight default link fcWrong Error
 highlight default link fcMark Delimiter
+highlight default link fcRange Operator
 highlight default link fcOf PreProc
 highlight default link fcCount Number
 highlight default link fcTruth Boolean
