@@ -13,7 +13,7 @@ from dataclasses import dataclass, replace
 
 from .edits import DEVICES_OF
 from .elsewhere import similar
-from .networks import Declared, Input, Network, Pair, declared, kind_of, read_scene
+from .networks import GREATEST_DEVICE, Declared, Input, Network, Pair, declared, kind_of, read_scene
 from .refusals import Fault, Section
 
 FORMS = {
@@ -294,6 +294,8 @@ def _join(words: Sequence[str], known: Known, where: str) -> Iterator[str]:
     if not NUMBERS.fullmatch(words[0]):
         raise Fault(f"{where}: {words[0]} can't be a device that joins: write its number, or numbers such as 7..9", 3)
     low, high = _numbers(words[0], where)
+    if high > GREATEST_DEVICE:
+        raise Fault(f"{where}: {words[0]} goes too far: the number of a device is at most {GREATEST_DEVICE:,}", 3)
     for device in range(low, high + 1):
         yield " ".join(["join", str(device), *words[1:]])
 

@@ -1,8 +1,8 @@
 #!/usr/bin/env python3
 """Looks for a log that breaks a line of `fc check --settle --changes`: programs of a list and random ones, on random
 networks, with random lines of what may change. Logs have firings in any order and edits that the lines allow at any
-moment, also between the begin and the end of a firing, and begin from random exports and copies. `fc` makes tables,
-bounds and values; rounds are counted here.
+moment, also between the begin and the end of a firing, and begin from random exports and copies, on any network that
+the lines allow. `fc` makes tables, bounds and values; rounds are counted here.
 
 With --from-table the lines are those of `check --settle --from-table --changes`, and a log begins from the table and
 the copies of the network: the second bound of a device has to hold at once.
@@ -27,6 +27,7 @@ from firmware_programs import made
 from settle_runs import Broken, Json, numbers_of, run_fc
 
 from fieldc import Bound, Bounds, Call, Held, Section, confirm, results
+from fieldc.edits import moments
 from fieldc.networks import Declared, Pair, declared
 from fieldc.results import Value, by_number
 
@@ -58,6 +59,14 @@ def program_of(dice: Random) -> str:
         found = made(str(dice.random()))
         if found.ceiling <= GREATEST_CEILING:
             return found.text
+
+
+def moved(asked: confirm.Question, dice: Random) -> confirm.Question:
+    """The question with another network of its envelope: the one to which some edits lead."""
+    walk = confirm.Walk(asked, dice)
+    edits = [edit for edit in (walk.edit() for _ in range(dice.choice([0, 0, 2, 9]))) if edit is not None]
+    script = "".join(line + "\n" for line in [*edits, "show"])
+    return replace(asked, scene=moments(asked.scene, script, asked.order)[0].network)
 
 
 def anywhere(dice: Random, program: str, scene: Json) -> Json:
@@ -245,15 +254,18 @@ def tried(dice: Random, from_table: bool, spoil: Spoil | None = None) -> Found:
     words = ["check", "--settle", *["--from-table"] * from_table, "--changes"]
     written = run_fc(words, [program, json.dumps(scene), changes])
     bounds = results.bounded(written) if spoil is None else spoil(dice, results.bounded(written))
-    start = scene if from_table else anywhere(dice, program, scene)
     parts = ((program, "program"), (json.dumps(scene), "network"), (changes, "changes"))
     call = Call(tuple(words), tuple(Section(kind, "", 1, text) for text, kind in parts))
+    asked = confirm.Question.of(call, bounds)
+    if not from_table:
+        asked = moved(asked, dice)
+    start = scene if from_table else anywhere(dice, program, json.loads(asked.scene.scene()))
     flying = [copy["id"] for copy in start.get("pending", [])]
-    log = log_of(confirm.Question.of(call, bounds), flying, dice, min(bounds.within + 2, MOST_ROUNDS))
+    log = log_of(asked, flying, dice, min(bounds.within + 2, MOST_ROUNDS))
     try:
         values = held_against(program, start, bounds, log, dice)
     except Broken as broken:
-        parts_told = [program, json.dumps(start), changes, written, "\n".join(log.entries)]
+        parts_told = [program, json.dumps(scene), changes, written, json.dumps(start), "\n".join(log.entries)]
         raise Broken("\n%%\n".join([str(broken), *parts_told])) from None
     edits = sum(entry[0] not in "BE" for entry in log.entries)
     return Found(len(bounds.by_device), values, len(log.entries), edits)

@@ -200,7 +200,7 @@ class Page(unittest.TestCase):
 
     def test_the_table_of_idioms(self) -> None:
         rows, counted = self.rows("You would write"), {"no": 0, "settles": 0}
-        for theirs, no, ours, yes in rows:
+        for theirs, no, ours in rows:
             with self.subTest(theirs=theirs):
                 left = whole(re.search(r": `(.*)`$", theirs).group(1))
                 verdict, settled = self.said(left)
@@ -210,8 +210,7 @@ class Page(unittest.TestCase):
                 if ours == "-":
                     continue
                 right = whole(ours.strip("`"))
-                self.assertEqual(yes, "`{}, {}`".format(*self.said(right)))
-                self.assertTrue(yes.startswith("`yes "))
+                self.assertTrue(self.said(right)[0].startswith("yes "))
                 if settled != "open":
                     self.assertEqual(self.settled(left) == self.settled(right), not theirs.startswith(OTHERWISE))
         self.assertIn("of the {} programs on the left, {no} do.".format(len(rows), **counted), self.text)

@@ -108,6 +108,7 @@ class Patterns(unittest.TestCase):
             "unlink 0 2..4": "no link of the network is 0 2..4",
             "join 7..9 any +-2": r"a device that joins has no value yet from which \+-2",
             "join * any 2": r"\* can't be a device that joins",
+            "join 9..65536 any 2": "9..65536 goes too far: the number of a device is at most 65,535",
             "join 7 any +-2": r"no value yet from which \+-2",
         }
         for text, said in rows.items():

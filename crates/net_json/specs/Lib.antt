@@ -2,6 +2,7 @@ pub mod Judging
 pub mod Places
 pub mod Reading
 pub mod Inputs
+pub mod InputCode
 pub mod Devices
 pub mod Links
 pub mod KeptItems

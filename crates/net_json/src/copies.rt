@@ -21,7 +21,7 @@ ghost use Rattle.net_json.specs.SceneCode.{AreCopies, IsCopy};
 
 use crate::copy_forms::{CopyForm, form, near_form};
 use crate::exports::read_export;
-use crate::inputs::read_inputs;
+use crate::inputs::{read_inputs, wanted_inputs};
 use crate::kept::Format;
 use crate::numbers::live_number;
 use crate::places::Place;
@@ -260,7 +260,8 @@ fn read_parts(
 {
     let declared = program.declared();
     let place = Place::Member(here, b"inputs");
-    let inputs = read_inputs(alloc, &declared.inputs, &place, form.inputs)?;
+    let wanted = wanted_inputs(alloc, &declared.inputs)?;
+    let inputs = read_inputs(alloc, &wanted, &place, form.inputs)?;
     let place = Place::Member(here, b"own");
     let own = read_own(alloc, program, &place, form.own)?;
     let place = Place::Member(here, b"near");

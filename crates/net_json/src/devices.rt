@@ -10,7 +10,7 @@ ghost use Rattle.net_json.specs.Judging.{at_member, Accepts, Refuses};
 ghost use Rattle.net_json.specs.Devices.{device_form, device_number, device_judged, number_of, devices_judged};
 ghost use Rattle.net_json.specs.Places.{IsPlace};
 
-use crate::inputs::read_inputs;
+use crate::inputs::{Wanted, read_inputs, wanted_inputs};
 use crate::places::Place;
 use crate::readers::{Found, Reader, gather};
 use crate::rising::room;
@@ -69,12 +69,10 @@ fn number(
 // What reads the devices of a scene.
 #[derive(Clone, Copy)]
 struct Devices<'d> {
-    inputs: &'d [InputDecl],
+    inputs: &'d [Wanted<'d>],
 }
 
 impl Reader for Devices<'_> {
-    ghost use Rattle.std.specs.Prelude.{map};
-    ghost use Rattle.fc_values.specs.Types.{input_of};
     ghost use Rattle.topology.specs.Networks.{NetDevice, device_of};
     ghost use Rattle.net_json.specs.Devices.{device_judged, number_of};
 
@@ -86,7 +84,7 @@ impl Reader for Devices<'_> {
 
     ghost number = { number_of };
 
-    ghost judge = { λ s. device_judged (map input_of s.inputs.now) };
+    ghost judge = { λ s. device_judged s.inputs.now };
 
     ghost fits = { λ _ _. Unit {0} };
 
@@ -105,18 +103,17 @@ impl Reader for Devices<'_> {
 #[tactic(auto, using(crate::proofs::Judgements::refused_next))]
 fn read_device(
     alloc: Global,
-    inputs: &[InputDecl],
+    inputs: &[Wanted<'_>],
     numbers: &[u32],
     here: &Place<'_>,
     value: &Value,
 ) -> Result<Found<Device>, JsonFault>
     requires { Rises numbers.now }
     ensures ok { Accepts result (λ d. device_of d.thing)
-        (device_judged (map input_of inputs.now) numbers.now (path_of here.now) (view value.now)) }
+        (device_judged inputs.now numbers.now (path_of here.now) (view value.now)) }
     ensures place { IfOk result (λ d. IsPlace numbers.now d.number d.at) }
     ensures number { IfOk result (λ d. d.number ≡ d.thing.id) }
-    ensures refused { Refuses result
-        (device_judged (map input_of inputs.now) numbers.now (path_of here.now) (view value.now)) }
+    ensures refused { Refuses result (device_judged inputs.now numbers.now (path_of here.now) (view value.now)) }
 {
     let (id, members) = form(alloc, here, value)?;
     let (at, id) = number(alloc, numbers, here, id)?;
@@ -147,5 +144,6 @@ pub(crate) fn read_devices(
     if items.len() > MOST_DEVICES {
         return Err(JsonFault::Devices(items.len()));
     }
-    gather(alloc, &Devices { inputs }, here, items)
+    let wanted = wanted_inputs(alloc, inputs)?;
+    gather(alloc, &Devices { inputs: &wanted }, here, items)
 }

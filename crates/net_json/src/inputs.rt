@@ -13,28 +13,56 @@ ghost use Rattle.net_json.specs.Inputs.{has_names, has_exactly, input_judged, va
 use crate::places::Place;
 use crate::types::JsonFault;
 use crate::values::{has_size, local};
-use fc_values::{InputDecl, Local, Name};
+use fc_values::{InputDecl, Local, Memory};
 use serde_json::Value;
 use std::alloc::Global;
+use std::marker::Model;
 use topology::input_fault;
 
-// The member of a declared name.
-fn member<'v>(value: &'v Value, name: &Name) -> Option<&'v Value>
-    ensures { option_map (λ v. view v.now) result ≡ get name.now.text.items (view value.now) }
-{
-    let members = value.as_object()?;
-    match std::str::from_utf8(&name.text) {
-        Ok(name) => members.get(name),
-        Err(_) => None,
-    }
+/// A declared input, with its name as text. A name that isn't UTF-8 is no member's.
+#[derive(Drop)]
+pub(crate) struct Wanted<'d> {
+    input: &'d InputDecl,
+    name: Option<&'d str>,
 }
 
-// Whether the declared names are members of an object.
-fn has_names(inputs: &[InputDecl], value: &Value) -> bool
-    ensures { result ≡ has_names (map input_of inputs.now) (view value.now) }
+impl<'d> Model for Wanted<'d> {
+    ghost use Rattle.fc_values.specs.Types.{Input, input_of};
+    ghost use Rattle.net_json.specs.InputCode.{IsTextOf};
+
+    ghost Value = { Input };
+
+    ghost view = { λ w. input_of w.input.now };
+
+    ghost invariant = { λ w. IsTextOf w.input.now.name.text.items w.name };
+}
+
+/// The declared inputs, with their names as text.
+pub(crate) fn wanted_inputs(alloc: Global, inputs: &[InputDecl]) -> Result<Vec<Wanted<'_>>, Memory>
+    ensures { IfOk result (λ ws. ws.items ≡ map input_of inputs.now) }
+{
+    let mut found = Vec::with_capacity(alloc, inputs.len())?;
+    for input in inputs {
+        let name = std::str::from_utf8(&input.name.text).ok();
+        found.push(Wanted { input, name })?;
+    }
+    Ok(found)
+}
+
+// The member that an input names.
+fn member<'v>(value: &'v Value, input: &Wanted<'_>) -> Option<&'v Value>
+    ensures { option_map (λ v. view v.now) result ≡ get input.now.name (view value.now) }
+{
+    let members = value.as_object()?;
+    members.get(input.name?)
+}
+
+// Whether the names of inputs are members of an object.
+fn has_names(inputs: &[Wanted<'_>], value: &Value) -> bool
+    ensures { result ≡ has_names inputs.now (view value.now) }
 {
     for input in inputs {
-        if member(value, &input.name).is_none() {
+        if member(value, input).is_none() {
             return false;
         }
     }
@@ -45,26 +73,27 @@ fn has_names(inputs: &[InputDecl], value: &Value) -> bool
 #[tactic(auto, using(crate::proofs::Judgements::refused_next))]
 fn input(
     alloc: Global,
-    input: &InputDecl,
+    input: &Wanted<'_>,
     here: &Place<'_>,
     value: &Value,
 ) -> Result<Local, JsonFault>
     ensures ok { Accepts result local_of
-        (input_judged input.now.ty (at_member (path_of here.now) input.now.name.text.items)
-        (get input.now.name.text.items (view value.now))) }
+        (input_judged input.now.type (at_member (path_of here.now) input.now.name)
+        (get input.now.name (view value.now))) }
     ensures refused { Refuses result
-        (input_judged input.now.ty (at_member (path_of here.now) input.now.name.text.items)
-        (get input.now.name.text.items (view value.now))) }
+        (input_judged input.now.type (at_member (path_of here.now) input.now.name)
+        (get input.now.name (view value.now))) }
 {
-    let Some(found) = member(value, &input.name) else {
-        return Err(JsonFault::Shape(here.member(alloc, &input.name.text)?));
+    let InputDecl { name, ty } = input.input;
+    let Some(found) = member(value, input) else {
+        return Err(JsonFault::Shape(here.member(alloc, &name.text)?));
     };
     let Some(local) = local(alloc, found)? else {
-        return Err(JsonFault::Shape(here.member(alloc, &input.name.text)?));
+        return Err(JsonFault::Shape(here.member(alloc, &name.text)?));
     };
-    match input_fault(input.ty, &local) {
+    match input_fault(*ty, &local) {
         None => Ok(local),
-        Some(fault) => Err(JsonFault::Net(here.member(alloc, &input.name.text)?, fault)),
+        Some(fault) => Err(JsonFault::Net(here.member(alloc, &name.text)?, fault)),
     }
 }
 
@@ -72,14 +101,14 @@ fn input(
 #[tactic(auto, using(crate::proofs::Judgements::refused_next))]
 pub(crate) fn read_inputs(
     alloc: Global,
-    inputs: &[InputDecl],
+    inputs: &[Wanted<'_>],
     here: &Place<'_>,
     value: &Value,
 ) -> Result<Vec<Local>, JsonFault>
     ensures ok { Accepts result (λ vs. map local_of vs.items)
-        (inputs_judged (map input_of inputs.now) (path_of here.now) (view value.now)) }
-    ensures fit { IfOk result (λ vs. InputsFit (map input_of inputs.now) (map local_of vs.items)) }
-    ensures refused { Refuses result (inputs_judged (map input_of inputs.now) (path_of here.now) (view value.now)) }
+        (inputs_judged inputs.now (path_of here.now) (view value.now)) }
+    ensures fit { IfOk result (λ vs. InputsFit inputs.now (map local_of vs.items)) }
+    ensures refused { Refuses result (inputs_judged inputs.now (path_of here.now) (view value.now)) }
 {
     if !has_size(value, inputs.len()) {
         return Err(JsonFault::Shape(here.path(alloc)?));
@@ -94,16 +123,16 @@ pub(crate) fn read_inputs(
 
 fn read_values(
     alloc: Global,
-    inputs: &[InputDecl],
+    inputs: &[Wanted<'_>],
     here: &Place<'_>,
     value: &Value,
 ) -> Result<Vec<Local>, JsonFault>
     ensures ok { Accepts result (λ vs. map local_of vs.items)
-        (values_judged (path_of here.now) (view value.now) [] (map input_of inputs.now)) }
-    ensures fit { IfOk result (λ vs. InputsFit (map input_of inputs.now) (map local_of vs.items)) }
-    ensures refused { Refuses result (values_judged (path_of here.now) (view value.now) [] (map input_of inputs.now)) }
+        (values_judged (path_of here.now) (view value.now) [] inputs.now) }
+    ensures fit { IfOk result (λ vs. InputsFit inputs.now (map local_of vs.items)) }
+    ensures refused { Refuses result (values_judged (path_of here.now) (view value.now) [] inputs.now) }
 {
-    let mut values = Vec::new(alloc);
+    let mut values = Vec::with_capacity(alloc, inputs.len())?;
     for one in inputs {
         values.push(input(alloc, one, here, value)?)?;
     }

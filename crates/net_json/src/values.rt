@@ -40,6 +40,7 @@ fn integer(n: u64) -> Local
 
 /// A local value, if this is one.
 #[cycle(local)]
+#[inline(always)]
 pub(crate) fn local(alloc: Global, value: &Value) -> Result<Option<Local>, Memory>
     ensures { IfOk result (λ v. option_map local_of v ≡ value_of (view value.now)) }
 {
@@ -51,8 +52,9 @@ pub(crate) fn local(alloc: Global, value: &Value) -> Result<Option<Local>, Memor
     }
 }
 
-// The pair that an array of two values is.
+// The pair that an array of two values is, apart so that `local` may be inlined.
 #[cycle(local)]
+#[inline(never)]
 fn pair(alloc: Global, items: &[Value]) -> Result<Option<Local>, Memory>
     ensures { IfOk result (λ v. option_map local_of v ≡ value_of (array (items_view items.now))) }
 {

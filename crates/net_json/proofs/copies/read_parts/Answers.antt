@@ -24,7 +24,7 @@ returns-in_err-near-clause-refused c =
     let f = c.in_err-near.field-0.0 in
     let vs = map local_of c.in_ok-inputs.inputs.items in
     let own = option_map (tree_of U) c.in_ok-own.own in
-    let declared = ap (map input_of) c.deref.ensures.value ∙ ap (λ (d : Declarations). d.inputs) c.declared-declared.ensures.value in
+    let declared = c.deref-2.ensures.value ∙ c.in_ok-wanted.ensures ∙ ap (map input_of) c.deref.ensures.value ∙ ap (λ (d : Declarations). d.inputs) c.declared-declared.ensures.value in
     let first = ap (λ (is : List Input). inputs_judged is (at_member path (codes "inputs")) form.inputs) (sym declared) ∙ c.in_ok-inputs.ensures.ok in
     rw (p.1, p.2) (refused_later (inputs_judged U.declared.inputs (at_member path (codes "inputs")) form.inputs)
     (λ vs. and_then (own_judged U (at_member path (codes "own")) form.own) (λ own. and_then (nears_judged U c.args.device (at_member path (codes "near")) form.near) (λ ns. Accepted (record { device = c.args.device; inputs = vs; own = own; near = ns })))) vs f first
@@ -36,7 +36,7 @@ pub returns-clause-snap : goal.returns-clause-snap
 returns-clause-snap c =
     let U = unfolding_of c.args.program.now in
     let vs = map local_of c.in_ok-inputs.inputs.items in
-    let declared = ap (map input_of) c.deref.ensures.value ∙ ap (λ (d : Declarations). d.inputs) c.declared-declared.ensures.value in
+    let declared = c.deref-2.ensures.value ∙ c.in_ok-wanted.ensures ∙ ap (map input_of) c.deref.ensures.value ∙ ap (λ (d : Declarations). d.inputs) c.declared-declared.ensures.value in
     parts_fit U (record { device = c.args.device; inputs = c.in_ok-inputs.inputs; own = c.in_ok-own.own; near = c.in_ok-near.near })
     (subst (λ (is : List Input). InputsFit is vs) declared c.in_ok-inputs.ensures.fit)
     c.in_ok-own.ensures.export c.in_ok-near.ensures.near c.in_ok-near.ensures.few

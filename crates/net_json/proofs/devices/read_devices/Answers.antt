@@ -1,7 +1,7 @@
-use Rattle.std.proofs.Common.{◌≡◌, ◌∙◌, sym, ap, subst, map, arith, length, IfOk, IfErr}
+use Rattle.std.proofs.Common.{◌≡◌, ◌∙◌, sym, ap, subst, map, arith, length, List, IfOk, IfErr}
 use Rattle.std.proofs.lemmas.Bool.{eqb-false}
 use Rattle.serde_json.specs.View.{items_view}
-use Rattle.fc_values.specs.Types.{input_of}
+use Rattle.fc_values.specs.Types.{Input, input_of}
 use Rattle.topology.specs.Networks.{device_of}
 use Rattle.net_json.specs.PlaceCode.{path_of}
 use Rattle.net_json.specs.Judging.{Accepted, Refused, Misshaped, TooManyDevices, RefusedWith, gather}
@@ -21,7 +21,8 @@ pub returns-clause-ok : goal.returns-clause-ok
 returns-clause-ok c =
     let u = eqb-false (length c.args.items.now) 0 (sym c.if-is_empty.ensures) in
     subst (λ j. IfOk c.gather.result (λ ds. j ≡ Accepted (map device_of ds.items)))
-    (sym (within (Misshaped (path_of c.args.here.now)) (TooManyDevices (count_items (items_view c.args.items.now))) (gather number_of (device_judged (map input_of c.args.inputs.now)) (path_of c.args.here.now) (items_view c.args.items.now))
+    (ap (λ (is : List Input). gather number_of (device_judged is) (path_of c.args.here.now) (items_view c.args.items.now)) (c.deref.ensures.value ∙ c.in_ok-wanted.ensures)
+    ∙ sym (within (Misshaped (path_of c.args.here.now)) (TooManyDevices (count_items (items_view c.args.items.now))) (gather number_of (device_judged (map input_of c.args.inputs.now)) (path_of c.args.here.now) (items_view c.args.items.now))
     (count_items (items_view c.args.items.now)) (length c.args.items.now) (count_values c.args.items.now) (omega (arith, u)) c.if-items-gt-MOST_DEVICES.false))
     c.gather.ensures.ok
 
@@ -29,6 +30,7 @@ pub returns-clause-refused : goal.returns-clause-refused
 returns-clause-refused c =
     let u = eqb-false (length c.args.items.now) 0 (sym c.if-is_empty.ensures) in
     subst (λ j. IfErr c.gather.result (RefusedWith j))
-    (sym (within (Misshaped (path_of c.args.here.now)) (TooManyDevices (count_items (items_view c.args.items.now))) (gather number_of (device_judged (map input_of c.args.inputs.now)) (path_of c.args.here.now) (items_view c.args.items.now))
+    (ap (λ (is : List Input). gather number_of (device_judged is) (path_of c.args.here.now) (items_view c.args.items.now)) (c.deref.ensures.value ∙ c.in_ok-wanted.ensures)
+    ∙ sym (within (Misshaped (path_of c.args.here.now)) (TooManyDevices (count_items (items_view c.args.items.now))) (gather number_of (device_judged (map input_of c.args.inputs.now)) (path_of c.args.here.now) (items_view c.args.items.now))
     (count_items (items_view c.args.items.now)) (length c.args.items.now) (count_values c.args.items.now) (omega (arith, u)) c.if-items-gt-MOST_DEVICES.false))
     c.gather.ensures.refused

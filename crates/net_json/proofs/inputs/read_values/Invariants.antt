@@ -1,6 +1,5 @@
 use Rattle.std.proofs.Common.{◌≡◌, drop, map, []}
 use Rattle.serde_json.specs.View.{view}
-use Rattle.fc_values.specs.Types.{input_of}
 use Rattle.fc_values.specs.Values.{local_of}
 use Rattle.net_json.specs.PlaceCode.{path_of}
 use Rattle.net_json.specs.Inputs.{values_judged}
@@ -8,5 +7,5 @@ use Rattle.net_json.proofs.inputs.read_values.Given as goal
 
 abbrev pub invariant-loop-one : goal.invariant-loop-one
 invariant-loop-one l =
-    values_judged (path_of l.here) (view l.value) (map local_of l.values.items) (map input_of (drop l.one-index l.inputs))
-    ≡ values_judged (path_of l.here) (view l.value) [] (map input_of l.inputs)
+    values_judged (path_of l.here) (view l.value) (map local_of l.values.items) (drop l.one-index l.inputs)
+    ≡ values_judged (path_of l.here) (view l.value) [] l.inputs
