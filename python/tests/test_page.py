@@ -17,8 +17,10 @@ from typing import Any
 
 import bounds_of_fc
 import test_changes
+import test_stack
 import wrong_inputs
 from browsing import CONTROL, SHIFT
+from deep_programs import programs
 from helping import EXAMPLES, HERE, TOP, fixed_work
 from opened_page import ANSWERED, Opened, answer
 from test_embedded import Given, read_cases
@@ -462,6 +464,15 @@ class Answers(Opened):
         cases = read_cases()
         self.assertEqual(self.differing(cases), [])
         self.assertGreater(len(cases), 500)
+
+    def test_the_deepest_programs(self) -> None:
+        cases = []
+        for program in programs().values():
+            text = program + test_stack.NETWORK
+            for words in ("check --settle", "stable", "trace"):
+                status, said = answer(words, text)
+                cases.append(Given(words, text.encode(), status, said.encode()))
+        self.assertEqual(self.differing(cases), [])
 
     def test_deep_cases_where_calls_have_no_stack_of_their_own(self) -> None:
         """A worker of a browser that can't suspend calls has less stack than some programs take: then it is told."""
