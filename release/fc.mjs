@@ -7,6 +7,10 @@
 // The statuses are those of the program. A call takes as long as it takes: a page makes it in a worker. Pointers and
 // lengths are BigInts, since the module was compiled for addresses of 64 bits.
 
+// Where the engine can suspend calls of WebAssembly, a call that may be suspended has a stack of its own. In a worker that
+// is larger than the worker's.
+const withStack = (call) => WebAssembly.promising?.(call) ?? call;
+
 const LIMIT = 4, MEMORY = 7, THREADS = 8;
 // One byte beyond what fc takes says all that more of them would.
 const MOST_BYTES = 1048576 + 1;
@@ -19,6 +23,7 @@ export const compiled = (bytes) => WebAssembly.compile(bytes);
 // is wanting, and an Error where the words ask for threads.
 export async function answer(module, words, input) {
     const { malloc, fc_reply, memory } = (await WebAssembly.instantiate(module, {})).exports;
+    const reply = withStack(fc_reply);
     const encoder = new TextEncoder();
 
     function room(length) {
@@ -37,7 +42,7 @@ export async function answer(module, words, input) {
     const asked = [...given(words), ...given(input)], needed = room(8);
     for (let length = FIRST_ROOM; ;) {
         const at = room(length);
-        const status = fc_reply(...asked, at, BigInt(length), needed);
+        const status = await reply(...asked, at, BigInt(length), needed);
         if (status === MEMORY) throw new RangeError("no memory");
         if (status === THREADS) throw new Error(`no threads here for: ${words}`);
         if (status > LIMIT) throw new Error(`status ${status}`);
