@@ -24,7 +24,7 @@ QUARTER = REACH / 4
 UNIT = 3.0
 METRIC = (1, 9)
 LIBRARY = blocks.read_library([TOP / "library"])
-CALLS = re.compile(r"^\| [^|]+ \| `([^`]+)` \| .* \| \d+ \| \d+ \| \d+ \|$", re.MULTILINE)
+CALLS = re.compile(r"^\| [^|]+ \| `([^`]+)` \| .* \| \d+ \| \d+ \|$", re.MULTILINE)
 
 
 def calls() -> list[str]:

@@ -8,11 +8,9 @@ import json
 import os
 import re
 import subprocess
-import tempfile
 import time
 import unittest
 from dataclasses import replace
-from pathlib import Path
 from typing import Any
 
 import bounds_of_fc
@@ -27,7 +25,7 @@ from test_embedded import Given, read_cases
 
 from fieldc import Section, networks as network
 from fieldc.changes import written_out
-from release import module, page
+from release import page
 
 # within these the largest network is answered, where nothing else runs
 SECONDS = 10
