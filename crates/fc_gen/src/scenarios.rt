@@ -23,7 +23,7 @@ ghost use Rattle.fc_inputs.specs.Code.{value_of};
 use crate::counts::{agreeing, firings, held_sum};
 use crate::summaries::{Counts, summary};
 use command_words::GenOptions;
-use edit_commands::{Command, Line};
+use edit_commands::{ScriptCommand, Line};
 use export_table::Gate;
 use fc_inputs::Answer;
 use fc_nodes::Unfolded;
@@ -100,11 +100,11 @@ fn lines_of(number: u32, rounds: u32) -> [Line; 2]
     [
         Line {
             number: 1,
-            command: Command::Scramble(number),
+            command: ScriptCommand::Scramble(number),
         },
         Line {
             number: 2,
-            command: Command::Run(rounds),
+            command: ScriptCommand::Run(rounds),
         },
     ]
 }

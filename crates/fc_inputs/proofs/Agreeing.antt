@@ -7,7 +7,7 @@ use Rattle.fc_inputs.specs.Agreement.{Agree, AnswersAgree, OfBooks, SameBook, Sa
 use Rattle.fc_inputs.specs.Answers.{AnswerValue, plain}
 use Rattle.fc_inputs.specs.Causes.{Cause, Plainly, InScene, Judged, Accepted, Refused, answer_of, answer_to, or_network}
 use Rattle.fc_inputs.specs.Ledgers.{Ledger}
-use Rattle.fc_inputs.specs.Refusals.{limit_of}
+use Rattle.fc_inputs.specs.Refusals.{network_limit}
 
 pub by_threads : (b : Bool) (x y : AnswerValue) → x.text ≡ y.text → SameText b x y
 by_threads false x y e = e
@@ -36,7 +36,7 @@ no_book : (cause : Cause) → (answer_to cause).book ≡ None
 no_book (Plainly refusal) = refl
 no_book (InScene NotJson) = refl
 no_book (InScene (Misshaped path)) = refl
-no_book (InScene (BadNetwork path fault)) = no_network_book (limit_of fault) path fault
+no_book (InScene (BadNetwork path fault)) = no_network_book (network_limit fault) path fault
 no_book (InScene (BadKept path place)) = refl
 no_book (InScene (TooManyDevices count)) = refl
 

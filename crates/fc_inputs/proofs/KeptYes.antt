@@ -8,7 +8,7 @@ use Rattle.converge_laws.specs.Verdicts.{YesStabilises}
 use Rattle.fc_inputs.specs.Causes.{Accepted}
 use Rattle.fc_inputs.specs.Inputs.{InputOf, ReadsInput}
 use Rattle.fc_inputs.specs.Starts.{InputsAreRead, start_of}
-use Rattle.fc_inputs.specs.Yes.{HasYes, KeepsYes}
+use Rattle.fc_inputs.specs.Yes.{HasYes, YesHolds}
 
 module _ (laws : InputsAreRead) (program network : List ℕ) (i : InputOf)
     (reads : ReadsInput program network (Accepted i)) where
@@ -21,9 +21,9 @@ module _ (laws : InputsAreRead) (program network : List ℕ) (i : InputOf)
       (laws.start program network i reads).good
 
   -- a yes is kept
-  pub yes_kept : YesStabilises → KeepsYes i.0 i.1.net
+  pub yes_kept : YesStabilises → YesHolds i.0 i.1.net
   yes_kept law =
-      at_program (λ U. KeepsYes U i.1.net) (λ P is good k said. law P i.1.net k is good.net good.declared said)
+      at_program (λ U. YesHolds U i.1.net) (λ P is good k said. law P i.1.net k is good.net good.declared said)
 
   abbrev pub has_yes : YesStabilises → (k : ℕ) → verdict_of i.0 (length i.1.net.devices) ≡ verdict.Yes k
       → HasYes program network

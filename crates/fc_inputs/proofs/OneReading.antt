@@ -3,7 +3,7 @@ use Rattle.std.proofs.Common.{ℕ, ◌≡◌, ◌⊎◌, inl, inr, ◌<◌, Bool
 use Rattle.std.specs.Prelude.{nat_le}
 use Rattle.std.proofs.lemmas.Bool.Decides.{nat_tests}
 use Rattle.fc_lexer.specs.Kinds.{TokenView}
-use Rattle.fc_lexer.specs.Lexes.{Lexes, StopsAt}
+use Rattle.fc_lexer.specs.Lexes.{Lexes, IsStuckAt}
 use Rattle.fc_lexer.specs.Laws as lexer
 use Rattle.fc_syntax.specs.Terms.{Declaration}
 use Rattle.fc_parser.specs.Limits.{Passed, TooMany, TooDeep, limit_passed}
@@ -85,7 +85,7 @@ module _ (one_list : lexer.OneList) (one_stop : lexer.OneStop) (stops_or_lexes :
   by_limit text ts l (Some (TooMany number count)) e = (Refused (Plainly (Tokens count)), tokens ts number count l e)
   by_limit text ts l (Some (TooDeep number)) e = (Refused (Plainly Depth), depth ts number l e)
 
-  by_tokens : (text : List ℕ) → ((ts : List TokenView) × Lexes text ts) ⊎ ((i : ℕ) × StopsAt text i) → Read text
+  by_tokens : (text : List ℕ) → ((ts : List TokenView) × Lexes text ts) ⊎ ((i : ℕ) × IsStuckAt text i) → Read text
   by_tokens text (inl a) = by_limit text a.0 a.1 (limit_passed a.0) refl
   by_tokens text (inr a) = (Refused (Plainly (Lexical a.0)), lexical a.0 a.1)
 

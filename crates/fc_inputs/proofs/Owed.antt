@@ -9,7 +9,7 @@ use Rattle.fc_inputs.specs.Answers.{AnswerValue, plain}
 use Rattle.fc_inputs.specs.Causes.{Cause, Judged, Accepted, Refused, AndThen}
 use Rattle.fc_inputs.specs.Inputs.{InputOf, OfScene, ReadsInput}
 use Rattle.fc_inputs.specs.Owing.{HasStatus, IsZero, OfThree, OfTwo, Owes}
-use Rattle.fc_inputs.specs.Sections.{AreWithin, WithThree, WithTwo, other_number}
+use Rattle.fc_inputs.specs.Sections.{AreWithin, WithThree, WithTwo, other_section_count}
 use Rattle.fc_inputs.specs.Starts.{InputsAreRead, start_of}
 use Rattle.fc_inputs.proofs.Agreeing.{both_refused}
 use Rattle.fc_inputs.proofs.RefusalStatuses.{IfRefused, by_three, input_refused}
@@ -116,19 +116,19 @@ module _ (laws : InputsAreRead) (threads : Bool) (Makes : Unfolding → SceneVal
 
 -- ---- sections
 abbrev Other : List (List ℕ) → Judged AnswerValue → Type 0
-Other ss j = j ≡ Refused (other_number ss)
+Other ss j = j ≡ Refused (other_section_count ss)
 
 other_status : (ss : List (List ℕ)) (j : Judged AnswerValue) → Other ss j → HasStatus j
-other_status ss j e = refused_status j (other_number ss) by_three e
+other_status ss j e = refused_status j (other_section_count ss) by_three e
 
 -- two of them
 module _ (threads : Bool) (Makes : List ℕ → List ℕ → Judged AnswerValue → Type 0) (IsYes : ℕ → Type 0)
     (P : List ℕ → List ℕ → AnswerValue → Type 0) (owes : OwesTexts threads Makes IsYes P) where
   some_two : (ss : List (List ℕ)) → AreWithin MOST_BYTES ss → (j : Judged AnswerValue) × WithTwo Makes ss j
-  some_two [] w = (Refused (other_number []), refl)
-  some_two (a ∷ []) w = (Refused (other_number (a ∷ [])), refl)
+  some_two [] w = (Refused (other_section_count []), refl)
+  some_two (a ∷ []) w = (Refused (other_section_count (a ∷ [])), refl)
   some_two (a ∷ b ∷ []) w = owes.some a b w.0
-  some_two (a ∷ b ∷ c ∷ ss) w = (Refused (other_number (a ∷ b ∷ c ∷ ss)), refl)
+  some_two (a ∷ b ∷ c ∷ ss) w = (Refused (other_section_count (a ∷ b ∷ c ∷ ss)), refl)
 
   one_two : (ss : List (List ℕ)) (j k : Judged AnswerValue) → WithTwo Makes ss j → WithTwo Makes ss k
       → Agree threads j k
@@ -166,11 +166,11 @@ module _ (threads : Bool) (Makes : List ℕ → List ℕ → List ℕ → Judged
     (owes : (third : List ℕ) → OwesTexts threads (λ one two. Makes one two third) IsYes (λ one two. P one two third))
   where
     some_three : (ss : List (List ℕ)) → AreWithin MOST_BYTES ss → (j : Judged AnswerValue) × WithThree Makes ss j
-    some_three [] w = (Refused (other_number []), refl)
-    some_three (a ∷ []) w = (Refused (other_number (a ∷ [])), refl)
-    some_three (a ∷ b ∷ []) w = (Refused (other_number (a ∷ b ∷ [])), refl)
+    some_three [] w = (Refused (other_section_count []), refl)
+    some_three (a ∷ []) w = (Refused (other_section_count (a ∷ [])), refl)
+    some_three (a ∷ b ∷ []) w = (Refused (other_section_count (a ∷ b ∷ [])), refl)
     some_three (a ∷ b ∷ c ∷ []) w = (owes c).some a b w.0
-    some_three (a ∷ b ∷ c ∷ d ∷ ss) w = (Refused (other_number (a ∷ b ∷ c ∷ d ∷ ss)), refl)
+    some_three (a ∷ b ∷ c ∷ d ∷ ss) w = (Refused (other_section_count (a ∷ b ∷ c ∷ d ∷ ss)), refl)
 
     one_three : (ss : List (List ℕ)) (j k : Judged AnswerValue) → WithThree Makes ss j → WithThree Makes ss k
         → Agree threads j k

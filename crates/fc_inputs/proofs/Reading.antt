@@ -65,7 +65,7 @@ by_program program network short s h =
     stops_map (λ cause. ReadsProgram program (Refused cause)) (λ cause. ReadsInput program network (Refused cause)) (λ cause k. record { short = short; judged = Refused cause; reads = k; scene = refl }) s h
 
 module _ (program network : List ℕ) (short : length program ≤ MOST_BYTES) (U : Unfolding) (h : ReadsProgram program (Accepted U)) where
-  scene_refused : (refusal : scene.Refusal) → scene_of U network ≡ scene.Refused refusal → ReadsInput program network (Refused (InScene refusal))
+  scene_refused : (refusal : scene.SceneRefusal) → scene_of U network ≡ scene.Refused refusal → ReadsInput program network (Refused (InScene refusal))
   scene_refused refusal e = record { short = short; judged = Accepted U; reads = h; scene = sym (ap (with_scene U) e) }
 
   pub by_scene : (f : JsonFault) → scene.RefusedWith (scene_of U network) f → StopsFor (λ cause. ReadsInput program network (Refused cause)) (stop.Scene f)

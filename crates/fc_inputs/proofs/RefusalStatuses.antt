@@ -10,7 +10,7 @@ use Rattle.fc_inputs.specs.declared.refusal.LineFault.{LineFault}
 use Rattle.fc_inputs.specs.declared.refusal.LineFault.TheVariants as line_fault
 use Rattle.fc_inputs.specs.declared.refusal.Refusal.{Refusal}
 use Rattle.fc_inputs.specs.declared.refusal.Refusal.TheVariants as refusal
-use Rattle.fc_inputs.specs.Refusals.{status_of, limit_of, limit_in, pairs_limit, pairs_limit_of, or_refusal}
+use Rattle.fc_inputs.specs.Refusals.{status_of, network_limit, limit_in, pairs_limit, pairs_limit_of, or_refusal}
 use Rattle.fc_inputs.specs.Refusals.{log_refusal, script_refusal, changes_refusal}
 use Rattle.fc_inputs.specs.Causes.{Cause, Plainly, InScene, answer_to, or_network, scene_refused, Judged, Accepted, Refused, AndThen}
 use Rattle.fc_inputs.specs.Sources.{IsNoSource, lexical, tokens, depth, syntax, IsNoProgram, no_source, ill_typed, too_large, ReadsSource, ReadsProgram}
@@ -28,7 +28,7 @@ limit_status : (o : Option Refusal) (other : Refusal) → RefusesBy (status_of o
 limit_status None other h k = h
 limit_status (Some r) other h k = k r refl
 
-net_limit : (fault : NetFault) (r : Refusal) → limit_of fault ≡ Some r → RefusesBy (status_of r)
+net_limit : (fault : NetFault) (r : Refusal) → network_limit fault ≡ Some r → RefusesBy (status_of r)
 net_limit net.Degree r e = let is : refusal.Degree ≡ r = cc in subst (λ x. RefusesBy (status_of x)) is by_four
 net_limit net.Devices r e = let is : refusal.Devices 1025 ≡ r = cc in subst (λ x. RefusesBy (status_of x)) is by_four
 net_limit net.Twice r e = absurd cc
@@ -86,10 +86,10 @@ network_status : (o : Option Refusal) (path : List ℕ) (fault : NetFault)
 network_status None path fault k = by_three
 network_status (Some r) path fault k = k r refl
 
-scene_status : (r : scene.Refusal) → RefusesBy (scene_refused r).status
+scene_status : (r : scene.SceneRefusal) → RefusesBy (scene_refused r).status
 scene_status scene.NotJson = by_three
 scene_status (scene.Misshaped path) = by_three
-scene_status (scene.BadNetwork path fault) = network_status (limit_of fault) path fault (net_limit fault)
+scene_status (scene.BadNetwork path fault) = network_status (network_limit fault) path fault (net_limit fault)
 scene_status (scene.BadKept path place) = by_three
 scene_status (scene.TooManyDevices count) = by_four
 

@@ -9,7 +9,7 @@ use Rattle.fc_values.proofs.Rising.{rises_tail, rises_weaker}
 use Rattle.fc_values.specs.Trees.{TreeExport}
 use Rattle.fc_nodes.specs.Program.{Unfolding}
 use Rattle.topology.specs.declared.types.Device.{Device}
-use Rattle.topology.specs.Networks.{NetDevice, IsNetwork, device_of, numbers}
+use Rattle.topology.specs.Networks.{NetDevice, IsNetwork, net_device_of, numbers}
 use Rattle.firing_core.specs.Cores.{Core}
 use Rattle.net_json.specs.SceneCode.{borrowed_row}
 use Rattle.net_json.specs.Tables.{Row}
@@ -17,7 +17,7 @@ use Rattle.fc_inputs.specs.Tables.{row_of, rows_of}
 
 -- ---- the rows of a core's table, device by device
 pub record IsTo (U : Unfolding) (core : Core) (items : List Device) (rows : List Row) (n : ℕ) : Type 0 where
-  pub so_far : rows ++ rows_of core (map device_of (drop n items)) ≡ rows_of core (map device_of items)
+  pub so_far : rows ++ rows_of core (map net_device_of (drop n items)) ≡ rows_of core (map net_device_of items)
 
 here : (items : List Device) (n : ℕ) (x : Device) → n < length items → x ≡ get_or items n x
     → drop n items ≡ x ∷ drop (n + 1) items
@@ -25,10 +25,10 @@ here items n x more is = drop-cons items n x more ∙ ap (λ y. y ∷ drop (suc 
     ∙ ap (λ k. x ∷ drop k items) (sym (add-one n))
 
 pub rows_all : (U : Unfolding) (core : Core) (items : List Device) (rows : List Row) (n : ℕ)
-    → IsTo U core items rows n → length items ≤ n → map device_of items ≡ core.net.devices
+    → IsTo U core items rows n → length items ≤ n → map net_device_of items ≡ core.net.devices
     → rows ≡ rows_of core core.net.devices
 rows_all U core items rows n w end same =
-    sym (append-nil rows) ∙ ap (λ l. rows ++ rows_of core (map device_of l)) (sym (drop_all n items end)) ∙ w.so_far
+    sym (append-nil rows) ∙ ap (λ l. rows ++ rows_of core (map net_device_of l)) (sym (drop_all n items end)) ∙ w.so_far
     ∙ ap (rows_of core) same
 
 -- the devices of the rows rise

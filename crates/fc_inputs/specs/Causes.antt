@@ -10,12 +10,12 @@ use Rattle.fc_inputs.specs.declared.refusal.Refusal.{Refusal}
 use Rattle.fc_inputs.specs.declared.refusal.Refusal.TheVariants.{Devices}
 use Rattle.fc_inputs.specs.FaultWords.{net_word}
 use Rattle.fc_inputs.specs.Answers.{AnswerValue, plain}
-use Rattle.fc_inputs.specs.Refusals.{line, refused, limit_of}
+use Rattle.fc_inputs.specs.Refusals.{line, refused, network_limit}
 
 -- a refusal, or the first fault of a scene
 pub data Cause : Type 0 where
   Plainly : Refusal → Cause
-  InScene : scene.Refusal → Cause
+  InScene : scene.SceneRefusal → Cause
 
 -- a path as text: that of the scene itself is `/`
 abbrev pub path_text : List ℕ → List ℕ
@@ -31,10 +31,10 @@ or_network None path fault = scene_answer (codes "network " ++ path_text path ++
 or_network (Some limit) path fault = refused limit
 
 -- the answer to the first fault of a scene
-abbrev pub scene_refused : scene.Refusal → AnswerValue
+abbrev pub scene_refused : scene.SceneRefusal → AnswerValue
 scene_refused NotJson = scene_answer (codes "json")
 scene_refused (Misshaped path) = scene_answer (codes "shape " ++ path_text path)
-scene_refused (BadNetwork path fault) = or_network (limit_of fault) path fault
+scene_refused (BadNetwork path fault) = or_network (network_limit fault) path fault
 scene_refused (BadKept path place) = scene_answer (codes "kept " ++ path_text path ++ codes " " ++ decimal place)
 scene_refused (TooManyDevices count) = refused (Devices count)
 

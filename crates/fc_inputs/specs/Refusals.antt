@@ -18,27 +18,27 @@ abbrev pub line : List ℕ → List ℕ
 line text = text ++ 10 ∷ []
 
 -- the line that a refusal writes
-abbrev pub line_of : Refusal → List ℕ
-line_of Usage = line (codes "usage: fc check|stable|run|replay|format|gen|trace|mail")
-line_of (Workers count) = line (codes "limit workers " ++ decimal count)
-line_of Bytes = line (codes "limit bytes 1048577")
-line_of (Sections count) = line (codes "sections " ++ decimal count)
-line_of (Lexical at) = line (codes "lexical " ++ decimal at)
-line_of (Tokens count) = line (codes "limit tokens " ++ decimal count)
-line_of Depth = line (codes "limit depth 201")
-line_of (Syntax declaration at) = line (codes "syntax " ++ decimal declaration ++ codes " " ++ decimal at)
-line_of (Types declaration kind) = line (codes "types " ++ decimal declaration ++ codes " " ++ kind_word kind)
-line_of (Nodes size) = line (codes "limit nodes " ++ decimal size)
-line_of (Devices count) = line (codes "limit devices " ++ decimal count)
-line_of Degree = line (codes "limit degree 33")
-line_of Pairs = line (codes "limit degree 129")
-line_of (Lines count) = line (codes "limit lines " ++ decimal count)
-line_of (Scrambles count) = line (codes "limit scrambles " ++ decimal count)
-line_of (Firings count) = line (codes "limit firings " ++ decimal count)
-line_of (Script at fault) = line (codes "script " ++ decimal at ++ codes " " ++ line_word fault)
-line_of (Log at fault) = line (codes "log " ++ decimal at ++ codes " " ++ line_word fault)
-line_of (Changes at fault) = line (codes "changes " ++ decimal at ++ codes " " ++ line_word fault)
-line_of (Mail count) = line (codes "limit mail " ++ decimal count)
+abbrev pub refusal_line : Refusal → List ℕ
+refusal_line Usage = line (codes "usage: fc check|stable|run|replay|format|gen|trace|mail")
+refusal_line (Workers count) = line (codes "limit workers " ++ decimal count)
+refusal_line Bytes = line (codes "limit bytes 1048577")
+refusal_line (Sections count) = line (codes "sections " ++ decimal count)
+refusal_line (Lexical at) = line (codes "lexical " ++ decimal at)
+refusal_line (Tokens count) = line (codes "limit tokens " ++ decimal count)
+refusal_line Depth = line (codes "limit depth 201")
+refusal_line (Syntax declaration at) = line (codes "syntax " ++ decimal declaration ++ codes " " ++ decimal at)
+refusal_line (Types declaration kind) = line (codes "types " ++ decimal declaration ++ codes " " ++ kind_word kind)
+refusal_line (Nodes size) = line (codes "limit nodes " ++ decimal size)
+refusal_line (Devices count) = line (codes "limit devices " ++ decimal count)
+refusal_line Degree = line (codes "limit degree 33")
+refusal_line Pairs = line (codes "limit degree 129")
+refusal_line (Lines count) = line (codes "limit lines " ++ decimal count)
+refusal_line (Scrambles count) = line (codes "limit scrambles " ++ decimal count)
+refusal_line (Firings count) = line (codes "limit firings " ++ decimal count)
+refusal_line (Script at fault) = line (codes "script " ++ decimal at ++ codes " " ++ line_word fault)
+refusal_line (Log at fault) = line (codes "log " ++ decimal at ++ codes " " ++ line_word fault)
+refusal_line (Changes at fault) = line (codes "changes " ++ decimal at ++ codes " " ++ line_word fault)
+refusal_line (Mail count) = line (codes "limit mail " ++ decimal count)
 
 -- the status of a refusal: 2 for the words, 4 for a limit, and 3 for all else
 abbrev pub status_of : Refusal → ℕ
@@ -65,22 +65,22 @@ status_of (Mail count) = 4
 
 -- the answer of a refusal
 abbrev pub refused : Refusal → AnswerValue
-refused refusal = plain (status_of refusal) (line_of refusal)
+refused refusal = plain (status_of refusal) (refusal_line refusal)
 
 -- the limit that a network's refusal is: too many links of a device, or too many devices at a join
-abbrev pub limit_of : NetFault → Option Refusal
-limit_of net.Degree = Some Degree
-limit_of net.Devices = Some (Devices 1025)
-limit_of net.Twice = None
-limit_of net.NoDevice = None
-limit_of net.SelfLink = None
-limit_of net.Weight = None
-limit_of net.NoLink = None
-limit_of net.NoInput = None
-limit_of net.InputType = None
-limit_of net.InputRange = None
-limit_of net.InFlight = None
-limit_of net.Last = None
+abbrev pub network_limit : NetFault → Option Refusal
+network_limit net.Degree = Some Degree
+network_limit net.Devices = Some (Devices 1025)
+network_limit net.Twice = None
+network_limit net.NoDevice = None
+network_limit net.SelfLink = None
+network_limit net.Weight = None
+network_limit net.NoLink = None
+network_limit net.NoInput = None
+network_limit net.InputType = None
+network_limit net.InputRange = None
+network_limit net.InFlight = None
+network_limit net.Last = None
 
 abbrev pub or_refusal : Option Refusal → Refusal → Refusal
 or_refusal None refusal = refusal
@@ -89,7 +89,7 @@ or_refusal (Some limit) refusal = limit
 -- the limit that a fault of a line is
 abbrev pub limit_in : LineFault → Option Refusal
 limit_in line_fault.Form = None
-limit_in (line_fault.Net fault) = limit_of fault
+limit_in (line_fault.Net fault) = network_limit fault
 limit_in line_fault.Kept = None
 limit_in line_fault.Flying = None
 limit_in line_fault.NotFlying = None

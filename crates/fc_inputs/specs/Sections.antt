@@ -30,26 +30,26 @@ AreWithin most [] = Unit {0}
 AreWithin most (section ∷ sections) = (length section ≤ most) × AreWithin most sections
 
 -- the cause where a command takes another number of sections
-abbrev pub other_number : List (List ℕ) → Cause
-other_number sections = Plainly (Sections (length sections))
+abbrev pub other_section_count : List (List ℕ) → Cause
+other_section_count sections = Plainly (Sections (length sections))
 
 -- what a command that takes one section, two, or three, does with the sections of an input. Any other number is refused
 abbrev pub WithOne : {A : Type 0} → (List ℕ → Judged A → Type 0) → List (List ℕ) → Judged A → Type 0
 WithOne P (one ∷ []) j = P one j
-WithOne P sections j = j ≡ Refused (other_number sections)
+WithOne P sections j = j ≡ Refused (other_section_count sections)
 
 abbrev pub WithTwo : {A : Type 0} → (List ℕ → List ℕ → Judged A → Type 0) → List (List ℕ) → Judged A → Type 0
 WithTwo P (one ∷ two ∷ []) j = P one two j
-WithTwo P sections j = j ≡ Refused (other_number sections)
+WithTwo P sections j = j ≡ Refused (other_section_count sections)
 
 abbrev pub WithThree : {A : Type 0} → (List ℕ → List ℕ → List ℕ → Judged A → Type 0) → List (List ℕ) → Judged A
     → Type 0
 WithThree P (one ∷ two ∷ three ∷ []) j = P one two three j
-WithThree P sections j = j ≡ Refused (other_number sections)
+WithThree P sections j = j ≡ Refused (other_section_count sections)
 
 -- sections of another number, and the cause that this is
 abbrev pub IsOther : ℕ → List (List ℕ) → Cause → Type 0
-IsOther takes sections cause = (length sections ≢ takes) × (cause ≡ other_number sections)
+IsOther takes sections cause = (length sections ≢ takes) × (cause ≡ other_section_count sections)
 
 -- the law: no section is longer than its input
 abbrev pub SectionsAreWithin : Type 0

@@ -1,7 +1,7 @@
 -- What the text of a program's section is: by tokens and grammar, and by types and unfolding.
 use Rattle.std.specs.Prelude.{ℕ, ◌≡◌, ◌≤◌, ◌<◌, min, length, List, Some, None}
 use Rattle.fc_lexer.specs.Kinds.{TokenView}
-use Rattle.fc_lexer.specs.Lexes.{Lexes, StopsAt}
+use Rattle.fc_lexer.specs.Lexes.{Lexes, IsStuckAt}
 use Rattle.fc_syntax.specs.Terms.{Declaration}
 use Rattle.fc_parser.specs.Programs.{Derives}
 use Rattle.fc_parser.specs.Limits.{TooMany, TooDeep, limit_passed}
@@ -29,7 +29,7 @@ pub record IsSource (text : List ℕ) (ds : List Declaration) : Type 0 where
 
 -- the text is refused: no token begins at a byte that reading reaches, a declaration passes a limit, or one is at fault
 pub data IsNoSource (text : List ℕ) : Refusal → Type 0 where
-  lexical : (at : ℕ) → StopsAt text at → IsNoSource text (Lexical at)
+  lexical : (at : ℕ) → IsStuckAt text at → IsNoSource text (Lexical at)
   tokens : (tokens : List TokenView) (number count : ℕ) → Lexes text tokens
       → limit_passed tokens ≡ Some (TooMany number count) → IsNoSource text (Tokens count)
   depth : (tokens : List TokenView) (number : ℕ) → Lexes text tokens

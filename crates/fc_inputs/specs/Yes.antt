@@ -21,5 +21,5 @@ pub record HasYes (program network : List ℕ) : Type 0 where
   pub stabilises : Stabilises unfolded scene.net rounds
 
 -- a yes for the devices of a network is kept there: within its rounds the program stabilises
-abbrev pub KeepsYes : Unfolding → Network → Type 0
-KeepsYes U N = (K : ℕ) → verdict_of U (length N.devices) ≡ verdict.Yes K → Stabilises U N K
+abbrev pub YesHolds : Unfolding → Network → Type 0
+YesHolds U N = (K : ℕ) → verdict_of U (length N.devices) ≡ verdict.Yes K → Stabilises U N K

@@ -73,9 +73,9 @@ pub enum Refusal {
 
 impl fmt::Display for Refusal {
     ghost use Rattle.std.specs.Prelude.{Some};
-    ghost use Rattle.fc_inputs.specs.Refusals.{line_of};
+    ghost use Rattle.fc_inputs.specs.Refusals.{refusal_line};
 
-    ghost output = { λ r. Some (line_of r) };
+    ghost output = { λ r. Some (refusal_line r) };
 
     fn fmt<W: fmt::Write>(&self, f: &mut fmt::Formatter<W>) -> fmt::Result {
         match self {
@@ -110,7 +110,7 @@ impl fmt::Display for Refusal {
 
 impl Refusal {
     ghost use Rattle.std.specs.Prelude.{◌≡◌, IfOk};
-    ghost use Rattle.fc_inputs.specs.Refusals.{line_of, status_of};
+    ghost use Rattle.fc_inputs.specs.Refusals.{refusal_line, status_of};
 
     /// The status that the program ends with.
     pub fn status(self) -> u8
@@ -142,7 +142,7 @@ impl Refusal {
 
     /// The line that is written.
     pub fn line(self, alloc: Global) -> Result<Vec<u8>, Memory>
-        ensures { IfOk result (λ v. v.items ≡ line_of self) }
+        ensures { IfOk result (λ v. v.items ≡ refusal_line self) }
     {
         Ok(self.to_string(alloc)?.into_bytes())
     }
@@ -150,12 +150,12 @@ impl Refusal {
 
 ghost use Rattle.std.specs.Prelude.{◌≡◌};
 ghost use Rattle.fc_inputs.specs.LineFaults.{fault_in, step_fault};
-ghost use Rattle.fc_inputs.specs.Refusals.{limit_of, limit_in, pairs_limit, log_refusal as refusal_of_log};
+ghost use Rattle.fc_inputs.specs.Refusals.{network_limit, limit_in, pairs_limit, log_refusal as refusal_of_log};
 ghost use Rattle.fc_inputs.specs.Refusals.{script_refusal as refusal_of_script, changes_refusal as refusal_of_changes};
 
 /// The limit that a network's refusal is, if it is one.
 pub fn limit(fault: NetFault) -> Option<Refusal>
-    ensures { result ≡ limit_of fault }
+    ensures { result ≡ network_limit fault }
 {
     match fault {
         NetFault::Degree => Some(Refusal::Degree),

@@ -24,7 +24,7 @@ use Rattle.fc_inputs.specs.Refusals.{log_refusal}
 use Rattle.fc_inputs.specs.Stops.{stop_at}
 use Rattle.net_json.specs.Scenes.{SceneValue}
 use Rattle.fc_mail.specs.Drives.{Settles}
-use Rattle.fc_mail.specs.Mails.{Mailed, entries_in, line_at, mail_line_fault}
+use Rattle.fc_mail.specs.Mails.{Mailed, mail_entries_in, line_of_entry, mail_line_fault}
 
 -- behind a text, the values of a core and the greatest number of rounds of a mail log
 pub record ShowsBehind (N : Network) (p : Posts) (log : List MailEntryValue) (last : Core) (old new : List ℕ)
@@ -55,10 +55,10 @@ pub record IsMailed (U : Unfolding) (start : MailCore) (log : List MailEntryValu
 pub record IsStoppedMail (U : Unfolding) (start : MailCore) (log : Mailed) (cause : Cause) : Type 0 where
   pub index : ℕ
   pub fault : MailFault
-  pub fails : FailsMailAt U start (entries_in log) index fault
+  pub fails : FailsMailAt U start (mail_entries_in log) index fault
   pub why : LineFault
   pub told : mail_line_fault fault ≡ Some why
-  pub is : cause ≡ Plainly (log_refusal (line_at log index) why)
+  pub is : cause ≡ Plainly (log_refusal (line_of_entry log index) why)
 
 -- the stop of a mail log that isn't replayed, from the numbers of its lines
 abbrev pub mail_stop : List ℕ → MailReplay → Stop

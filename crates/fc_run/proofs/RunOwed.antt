@@ -6,7 +6,7 @@ use Rattle.edit_commands.specs.Agreement.{CommandsAgree}
 use Rattle.edit_commands.specs.JudgedCommands.{ScriptsAreJudged}
 use Rattle.edit_commands.specs.LineByLine.{AllLines, StopsAt}
 use Rattle.edit_commands.specs.ScriptCommands.{ScriptsHaveCommands}
-use Rattle.edit_commands.specs.Scripts.{LineFault, OfLine, OfScrambles, OfFirings}
+use Rattle.edit_commands.specs.Scripts.{ScriptLineFault, OfLine, OfScrambles, OfFirings}
 use Rattle.edit_commands.specs.Scripts.{Script, TooManyLines, Within, script_of}
 use Rattle.session.specs.Laws.{OneScriptRun, SomeScriptRun}
 use Rattle.session.specs.Promises.{ScriptsKeepYes}
@@ -25,7 +25,7 @@ use Rattle.fc_run.proofs.KeptYes.{by_script}
 use Rattle.fc_run.proofs.OneRuns.{one_script}
 use Rattle.fc_run.proofs.SomeRuns.{some_script}
 
-line_status : (at : ℕ) (fault : LineFault) → RefusesBy (status_of (line_refusal at fault))
+line_status : (at : ℕ) (fault : ScriptLineFault) → RefusesBy (status_of (line_refusal at fault))
 line_status at (OfLine fault) = script_status at (fault_in fault)
 line_status at (OfScrambles count) = by_four
 line_status at (OfFirings count) = by_four

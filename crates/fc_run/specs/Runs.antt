@@ -5,7 +5,7 @@ use Rattle.firing_core.specs.declared.entries.Part.{Part}
 use Rattle.firing_core.specs.Cores.{Core}
 use Rattle.firing_core.specs.Entries.{EntryValue}
 use Rattle.edit_commands.specs.LineByLine.{AllLines, StopsAt, AreSaid}
-use Rattle.edit_commands.specs.Scripts.{ScriptLine, LineFault, OfLine, OfScrambles, OfFirings, CommandValue, IsCommand}
+use Rattle.edit_commands.specs.Scripts.{ScriptLine, ScriptLineFault, OfLine, OfScrambles, OfFirings, CommandValue, IsCommand}
 use Rattle.edit_commands.specs.Scripts.{Script, TooManyLines, Within, script_of}
 use Rattle.report.specs.Logs.{log_text}
 use Rattle.session.specs.ScriptRuns.{ScriptRun}
@@ -44,7 +44,7 @@ pub record RunsLines (options : RunOptions) (U : Unfolding) (start : Core) (line
   pub runs : RunsCommands options U start commands j
 
 -- the refusal of a line of a script, or of the limit that it passes
-abbrev pub line_refusal : ℕ → LineFault → Refusal
+abbrev pub line_refusal : ℕ → ScriptLineFault → Refusal
 line_refusal at (OfLine fault) = script_refusal at (fault_in fault)
 line_refusal at (OfScrambles count) = Scrambles count
 line_refusal at (OfFirings count) = Firings count
