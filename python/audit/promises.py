@@ -31,7 +31,7 @@ class Promise:
     cut: tuple[str, ...] = ()
 
 
-YES = "fc_inputs/specs/Yes.antt HasYes"
+YES = "command_frame/specs/Yes.antt HasYes"
 CHECK = "fc_check/specs/Promises.antt "
 STABLE = "fc_stable/specs/Promises.antt "
 TRACE = "fc_trace/specs/Promises.antt "
@@ -47,7 +47,7 @@ PROMISES = (
     Promise(
         "Which program and which network two texts are",
         "Tokens, grammar, calls replaced by what they call, and JSON: `ReadsInput`. With them `HasYes` can be read.",
-        ("fc_inputs/specs/Inputs.antt ReadsInput", YES),
+        ("command_frame/specs/Inputs.antt ReadsInput", YES),
         (EDITS,),
     ),
     Promise(
@@ -115,7 +115,7 @@ CUTS = {
     "settle_rounds/specs/Within.antt StartTable": "the same, from one start",
     "settle_rounds/specs/Starts.antt growing_cap": "the same",
     "bound_rounds/specs/Rounds.antt BoundTable": "the same",
-    "fc_inputs/specs/Sources.antt IsNoProgram": "why a text is refused: where it is, nothing is promised of it",
+    "command_frame/specs/Sources.antt IsNoProgram": "why a text is refused: where it is, nothing is promised of it",
     "fc_types/specs/Typing.antt IsTyped": "which programs are accepted beyond grammar: a promise is of one that was",
     "fc_parser/specs/Limits.antt limit_passed": "the same",
     "unfold/specs/Nodes.antt Nodes": "the same",

@@ -152,7 +152,12 @@ fn choices_in(matches: &ArgMatches) -> Choices
 }
 
 /// The choices of words that ask for a command, as `clap` reads them. The command's word is the first.
-pub fn choices(alloc: Global, name: CommandName, word: &str, words: &[String]) -> Result<Choices, Memory>
+pub fn choices(
+    alloc: Global,
+    name: CommandName,
+    word: &str,
+    words: &[String],
+) -> Result<Choices, Memory>
     requires { is_some (asked_of name (map string_bytes words.now)) ≡ true }
     ensures { IfOk result (λ c. asked_of name (map string_bytes words.now) ≡ command_with name c) }
 {

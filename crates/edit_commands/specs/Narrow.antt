@@ -93,10 +93,12 @@ ReadsTo i ps o next = (text : List ℕ) → i ≤ length text → option_map (re
 abbrev pub ReadsOpening : ℕ → SinceCode → List (Option ValuePart) → List (Option ValuePart) → Option SinceCode → Type 0
 ReadsOpening i s old new o = ReadsTo (i + 1) new o (λ text. opens (open_of old) (since_of text i s))
 
-abbrev pub ReadsComma : ℕ → Option ValuePart → List (Option ValuePart) → List (Option ValuePart) → Option SinceCode → Type 0
+abbrev pub ReadsComma : ℕ → Option ValuePart → List (Option ValuePart) → List (Option ValuePart) → Option SinceCode
+    → Type 0
 ReadsComma i p old new o = ReadsTo (i + 1) new o (λ text. parts (open_of old) (half_of p))
 
-abbrev pub ReadsClosing : Option ValuePart → List (Option ValuePart) → List (Option ValuePart) → Option ValuePart → Type 0
+abbrev pub ReadsClosing : Option ValuePart → List (Option ValuePart) → List (Option ValuePart) → Option ValuePart
+    → Type 0
 ReadsClosing p old new o =
     option_map (λ q. reading (open_of new) (Closed (part_of q))) o ≡ closes pair_part (open_of old) (half_of p)
 
@@ -105,6 +107,8 @@ ReadsOther i s o =
     (os : List (Option PartValue)) (text : List ℕ) → i < length text
     → option_map (λ t. reading os (since_of text (i + 1) t)) o ≡ goes_on os (since_of text i s) (slice_index text i)
 
-abbrev pub ReadsByte : List ℕ → ℕ → SinceCode → List (Option ValuePart) → List (Option ValuePart) → Option SinceCode → Type 0
+abbrev pub ReadsByte : List ℕ → ℕ → SinceCode → List (Option ValuePart) → List (Option ValuePart) → Option SinceCode
+    → Type 0
 ReadsByte text i s old new o =
-    option_map (reading_of text (i + 1) new) o ≡ read_byte atom_part pair_part (reading_of text i old s) (slice_index text i)
+    option_map (reading_of text (i + 1) new) o
+    ≡ read_byte atom_part pair_part (reading_of text i old s) (slice_index text i)

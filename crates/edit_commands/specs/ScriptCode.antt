@@ -44,7 +44,8 @@ abbrev pub seen : LineContext → ProgressCode → Option ScriptLine → Judgeme
 seen s p line = script_line_judged (program_in s) (start_in s) (progress_of p) line
 
 -- the command of a line that has no fault, with what it leaves
-pub record Leaves (s : LineContext) (p after : ProgressCode) (line : Option ScriptLine) (c : ScriptCommand) : Type 0 where
+pub record Leaves (s : LineContext) (p after : ProgressCode) (line : Option ScriptLine) (c : ScriptCommand)
+    : Type 0 where
   pub does :
       WhereAccepted (DoesCommand (program_in s) (progress_of p) (progress_of after) (command_of c)) (seen s p line)
   pub within : IsWithin (progress_of after)

@@ -19,7 +19,7 @@ ghost use Rattle.edit_commands.specs.ScriptCode.{edit_in, mixed_in, mix_in, line
 use crate::edits::{EditLine, edit_line};
 use crate::judging::judge;
 use crate::lines::{count_lines, line_words};
-use crate::types::{ScriptCommand, Fault, Line, LineFailure, ScriptFault};
+use crate::types::{Fault, Line, LineFailure, ScriptCommand, ScriptFault};
 use fc_io::{first_line, line_text};
 use fc_nodes::Unfolded;
 use fc_values::{InputDecl, Memory, number};

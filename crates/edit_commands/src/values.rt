@@ -97,7 +97,11 @@ fn pop_half(halves: &mut Vec<Option<ValuePart>>) -> Option<Option<ValuePart>>
 }
 
 // A bracket opens at an index, where nothing stands since the last mark.
-fn opens(halves: &mut Vec<Option<ValuePart>>, since: Since, at: usize) -> Result<Option<Since>, Memory>
+fn opens(
+    halves: &mut Vec<Option<ValuePart>>,
+    since: Since,
+    at: usize,
+) -> Result<Option<Since>, Memory>
     requires room { at < 2 ^ 63 }
     requires before { StandsBefore at since }
     ensures reads { IfOk result (ReadsOpening at since halves.old.items halves.new.items) }

@@ -9,15 +9,15 @@ ghost use Rattle.bound_rounds.specs.Tables.{FitTable, Stand};
 ghost use Rattle.last_bounds.specs.References.{last_bound_in};
 ghost use Rattle.bound_texts.specs.BoundTexts.{lines_text};
 ghost use Rattle.bound_texts.specs.References.{line_in};
-ghost use Rattle.fc_inputs.specs.Code.{value_of};
+ghost use Rattle.command_frame.specs.Code.{value_of};
 ghost use Rattle.fc_changes.specs.Commands.{IsWritten};
 ghost use Rattle.fc_changes.specs.Lines.{before_asked, bound_line_of};
 
 use bound_firing::ExportBound;
 use bound_texts::{BoundLine, bound_lines};
+use command_frame::Answer;
 use command_words::{ChangesOptions, Start};
 use envelopes::Envelope;
-use fc_inputs::Answer;
 use fc_nodes::Unfolded;
 use fc_values::Memory;
 use last_bounds::{LastBound, last_bounds};

@@ -16,7 +16,7 @@ use Rattle.settle_rounds.specs.References.{settled_in}
 use Rattle.settle_rounds.specs.SettleTimes.{all_settle_to, settle_cap, settle_time, settled_from, settles_to}
 use Rattle.report.specs.Settling.{settled_device_text, settling_text}
 use Rattle.verdict_texts.specs.VerdictTexts.{checked_text}
-use Rattle.fc_inputs.specs.Answers.{plain}
+use Rattle.command_frame.specs.Answers.{plain}
 use Rattle.fc_check.specs.Settles.{settle_status, settled_devices, settling_of, time_of}
 use Rattle.fc_check.specs.Code.{settled_answer}
 

@@ -17,13 +17,13 @@ use Rattle.command_words.specs.declared.commands.CheckOptions.{CheckOptions}
 use Rattle.command_words.specs.declared.commands.Start.{Start}
 use Rattle.command_words.specs.declared.commands.Start.TheVariants.{Any, Table}
 use Rattle.fc_values.specs.declared.limits.TheConstants.{MOST_BYTES}
-use Rattle.fc_inputs.specs.Answers.{AnswerValue}
-use Rattle.fc_inputs.specs.Causes.{Accepted}
-use Rattle.fc_inputs.specs.Inputs.{ReadsInput}
-use Rattle.fc_inputs.specs.Owing.{OfTwo, Owes}
-use Rattle.fc_inputs.specs.Sections.{AreWithin, WithTwo}
-use Rattle.fc_inputs.specs.Starts.{start_of}
-use Rattle.fc_inputs.specs.Yes.{YesHolds}
+use Rattle.command_frame.specs.Answers.{AnswerValue}
+use Rattle.command_frame.specs.Causes.{Accepted}
+use Rattle.command_frame.specs.Inputs.{ReadsInput}
+use Rattle.command_frame.specs.Owing.{OfTwo, Owes}
+use Rattle.command_frame.specs.Sections.{AreWithin, WithTwo}
+use Rattle.command_frame.specs.Starts.{start_of}
+use Rattle.command_frame.specs.Yes.{YesHolds}
 use Rattle.fc_check.specs.Checks.{verdict_status}
 use Rattle.fc_check.specs.Commands.{Checks}
 use Rattle.fc_check.specs.Settles.{settle_status, settles_text, time_of}

@@ -2,19 +2,19 @@
 use Rattle.std.proofs.Common.{ℕ, ◌≡◌, ◌≤◌, false, List, [], ◌∷◌, refl, ap, ◌∙◌, arith}
 use Rattle.fc_syntax.specs.Terms.{Declaration}
 use Rattle.fc_syntax.specs.Text.{program_text}
-use Rattle.fc_inputs.specs.Agreement.{Agree}
-use Rattle.fc_inputs.specs.Answers.{AnswerValue, plain}
-use Rattle.fc_inputs.specs.declared.stop.Stop.{Stop}
-use Rattle.fc_inputs.specs.Causes.{Judged, Accepted, Refused, judged_map}
-use Rattle.fc_inputs.specs.Inputs.{OneSource}
-use Rattle.fc_inputs.specs.Owing.{HasStatus}
-use Rattle.fc_inputs.specs.Sections.{WithOne, other_section_count}
-use Rattle.fc_inputs.specs.Sources.{ReadsSource}
-use Rattle.fc_inputs.specs.Stops.{StopsFor}
-use Rattle.fc_inputs.proofs.Agreeing.{both_plain, both_refused}
-use Rattle.fc_inputs.proofs.Owed.{plain_status, refused_status, zero_low}
-use Rattle.fc_inputs.proofs.RefusalStatuses.{IfRefused, by_three, source_refused}
-use Rattle.fc_inputs.proofs.Stopping.{stops_map}
+use Rattle.command_frame.specs.Agreement.{Agree}
+use Rattle.command_frame.specs.Answers.{AnswerValue, plain}
+use Rattle.command_frame.specs.declared.stop.Stop.{Stop}
+use Rattle.command_frame.specs.Causes.{Judged, Accepted, Refused, judged_map}
+use Rattle.command_frame.specs.Inputs.{OneSource}
+use Rattle.command_frame.specs.Owing.{HasStatus}
+use Rattle.command_frame.specs.Sections.{WithOne, other_section_count}
+use Rattle.command_frame.specs.Sources.{ReadsSource}
+use Rattle.command_frame.specs.Stops.{StopsFor}
+use Rattle.command_frame.proofs.Agreeing.{both_plain, both_refused}
+use Rattle.command_frame.proofs.Owed.{plain_status, refused_status, zero_low}
+use Rattle.command_frame.proofs.RefusalStatuses.{IfRefused, by_three, source_refused}
+use Rattle.command_frame.proofs.Stopping.{stops_map}
 use Rattle.fc_format.specs.Formats.{FormatOwes, Formats}
 
 abbrev printed : Judged (List Declaration) → Judged AnswerValue

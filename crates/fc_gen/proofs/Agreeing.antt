@@ -27,7 +27,7 @@ use Rattle.fc_gen.proofs.Cutting.{Cut, cut_of, run_firings}
 use Rattle.fc_gen.proofs.Firings.{run_ends}
 use Rattle.fc_gen.proofs.OneGens.{rounds_are}
 use Rattle.fc_gen.proofs.EachScenario.{empty_good, nodes_of, ring_stabilises}
-use Rattle.fc_inputs.specs.Answers.{AnswerValue}
+use Rattle.command_frame.specs.Answers.{AnswerValue}
 
 -- pokes keep the network
 poked_net : (U : Unfolding) (c last : Core) (xs : List (ℕ × FlatExport)) → Run U c (map poke xs) last → last.net ≡ c.net

@@ -55,7 +55,8 @@ pub record IsStuckAt (text : List ℕ) (i : ℕ) : Type 0 where
 
 -- no other list is one of these tokens, and reading reaches no byte at which nothing begins
 abbrev pub IsAlone : List ℕ → List TokenView → Type 0
-IsAlone text tokens = ((others : List TokenView) → Lexes text others → others ≡ tokens) × ((i : ℕ) → IsStuckAt text i → ⊥)
+IsAlone text tokens =
+    ((others : List TokenView) → Lexes text others → others ≡ tokens) × ((i : ℕ) → IsStuckAt text i → ⊥)
 
 -- a fault at a byte: reading reaches it, and nothing begins there
 abbrev pub Stops : List ℕ → LexFault → Type 0
@@ -65,4 +66,5 @@ Stops text (fault.At i) = IsStuckAt text i
 -- a fault at a byte: the text has no list of tokens, and reading stops at no other byte
 abbrev pub StopsAlone : List ℕ → LexFault → Type 0
 StopsAlone text fault.Memory = Unit {0}
-StopsAlone text (fault.At i) = ((tokens : List TokenView) → Lexes text tokens → ⊥) × ((j : ℕ) → IsStuckAt text j → j ≡ i)
+StopsAlone text (fault.At i) =
+    ((tokens : List TokenView) → Lexes text tokens → ⊥) × ((j : ℕ) → IsStuckAt text j → j ≡ i)

@@ -16,7 +16,7 @@ use Rattle.scramble.specs.Words.{stream_of}
 use Rattle.session.specs.Promises.{HoldsField, field_on}
 use Rattle.session.proofs.ShownFields.{values_held}
 use Rattle.mail_drive.specs.Drives.{driven}
-use Rattle.mail_drive.specs.Laws.{nothing_in_transit, IsStill, DrivenLeads}
+use Rattle.mail_drive.specs.Laws.{no_posts, IsStill, DrivenLeads}
 use Rattle.mail_book.specs.MailLaws.{MailLogsLeadOrFail}
 use Rattle.mail_book.specs.MailReplays.{FailsMailAt}
 use Rattle.mail_book.specs.MailViews.{quiet}
@@ -26,9 +26,9 @@ use Rattle.net_json.specs.Scenes.{SceneValue}
 use Rattle.net_json.specs.SceneCode.{value_of_scene}
 use Rattle.report.specs.Texts.{values_text, field_text}
 use Rattle.report.specs.Verdicts.{rounds_text, verdict_text}
-use Rattle.fc_inputs.specs.Answers.{AnswerValue, plain}
-use Rattle.fc_inputs.specs.Causes.{Accepted}
-use Rattle.fc_inputs.specs.Starts.{start_of}
+use Rattle.command_frame.specs.Answers.{AnswerValue, plain}
+use Rattle.command_frame.specs.Causes.{Accepted}
+use Rattle.command_frame.specs.Starts.{start_of}
 use Rattle.fc_mail.specs.Code.{IsSettledOf, ShowsBehind}
 use Rattle.fc_mail.specs.Drives.{Settles, driven_log, WritesDriven}
 
@@ -84,7 +84,7 @@ module _ (number rounds : ℕ) (U : Unfolding) (s : SceneValue) (last : MailCore
         last = last;
         leads = subst (λ es. MailRun U 0 (quiet core) es last) same run;
         count = shows.rounds;
-        counted = subst (λ l. IsGreatestMail s.net nothing_in_transit l shows.rounds) same (subst (λ (n : Network). IsGreatestMail n nothing_in_transit log shows.rounds) net shows.counted);
+        counted = subst (λ l. IsGreatestMail s.net no_posts l shows.rounds) same (subst (λ (n : Network). IsGreatestMail n no_posts log shows.rounds) net shows.counted);
         is = ap (λ x. Accepted x) (is ∙ ap (plain 0)
             (shows.is ∙ ap (λ l. (l ++ values_text last.core) ++ rounds_text shows.rounds) line));
       }

@@ -18,13 +18,13 @@ use Rattle.mail_book.specs.MailLaws.{MailLogsEnd, MailLogsLeadToOne, MailLogsFai
 use Rattle.mail_count.specs.Laws.{IsGreatestMail, SomeGreatestMail}
 use Rattle.report.specs.Texts.{values_text}
 use Rattle.report.specs.Verdicts.{rounds_text}
-use Rattle.fc_inputs.specs.declared.refusal.LineFault.{LineFault}
-use Rattle.fc_inputs.specs.declared.refusal.LineFault.TheVariants as line_fault
-use Rattle.fc_inputs.specs.Agreement.{Agree}
-use Rattle.fc_inputs.specs.Answers.{AnswerValue, plain}
-use Rattle.fc_inputs.specs.Refusals.{log_refusal}
-use Rattle.fc_inputs.specs.Causes.{Plainly, Judged, Accepted, Refused}
-use Rattle.fc_inputs.proofs.Agreeing.{both_plain, both_refused}
+use Rattle.command_frame.specs.declared.refusal.LineFault.{LineFault}
+use Rattle.command_frame.specs.declared.refusal.LineFault.TheVariants as line_fault
+use Rattle.command_frame.specs.Agreement.{Agree}
+use Rattle.command_frame.specs.Answers.{AnswerValue, plain}
+use Rattle.command_frame.specs.Refusals.{log_refusal}
+use Rattle.command_frame.specs.Causes.{Plainly, Judged, Accepted, Refused}
+use Rattle.command_frame.proofs.Agreeing.{both_plain, both_refused}
 use Rattle.fc_mail.specs.Mails.{Mailed, mail_entries_in, line_of_entry, mail_line_fault, ShowsMail, StopsMail, MailsLines}
 
 pub one_number : (N : Network) (p : Posts) (log : List MailEntryValue) (j k : ℕ) → IsGreatestMail N p log j → IsGreatestMail N p log k → j ≡ k

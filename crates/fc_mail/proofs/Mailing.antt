@@ -14,12 +14,12 @@ use Rattle.mail_count.specs.Laws.{IsGreatestMail}
 use Rattle.net_json.specs.Scenes.{SceneValue}
 use Rattle.report.specs.Texts.{values_text}
 use Rattle.report.specs.Verdicts.{rounds_text}
-use Rattle.fc_inputs.specs.Stops.{StopsFor, stop_at}
-use Rattle.fc_inputs.specs.Answers.{AnswerValue, plain}
-use Rattle.fc_inputs.specs.Refusals.{log_refusal}
-use Rattle.fc_inputs.specs.Causes.{Cause, Plainly, Judged, Accepted, Refused}
-use Rattle.fc_inputs.specs.Inputs.{ReadsInput}
-use Rattle.fc_inputs.specs.Starts.{start_of}
+use Rattle.command_frame.specs.Stops.{StopsFor, stop_at}
+use Rattle.command_frame.specs.Answers.{AnswerValue, plain}
+use Rattle.command_frame.specs.Refusals.{log_refusal}
+use Rattle.command_frame.specs.Causes.{Cause, Plainly, Judged, Accepted, Refused}
+use Rattle.command_frame.specs.Inputs.{ReadsInput}
+use Rattle.command_frame.specs.Starts.{start_of}
 use Rattle.fc_mail.specs.Mails.{Mailed, mail_entries_in, MailsLines, Mails}
 use Rattle.fc_mail.specs.Code.{IsFaultyMail, IsStoppedMail, mail_stop, MailWithin}
 use Rattle.fc_mail.proofs.MailEndings.{told}

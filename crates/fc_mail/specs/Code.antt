@@ -15,13 +15,13 @@ use Rattle.mail_book.specs.MailViews.{mail_of, quiet}
 use Rattle.mail_count.specs.Laws.{IsGreatestMail}
 use Rattle.report.specs.Texts.{values_text}
 use Rattle.report.specs.Verdicts.{rounds_text}
-use Rattle.fc_inputs.specs.declared.refusal.LineFault.{LineFault}
-use Rattle.fc_inputs.specs.declared.refusal.LineFault.TheVariants.{Form}
-use Rattle.fc_inputs.specs.declared.stop.Stop.{Stop}
-use Rattle.fc_inputs.specs.declared.stop.Stop.TheVariants as stop
-use Rattle.fc_inputs.specs.Causes.{Cause, Plainly}
-use Rattle.fc_inputs.specs.Refusals.{log_refusal}
-use Rattle.fc_inputs.specs.Stops.{stop_at}
+use Rattle.command_frame.specs.declared.refusal.LineFault.{LineFault}
+use Rattle.command_frame.specs.declared.refusal.LineFault.TheVariants.{Form}
+use Rattle.command_frame.specs.declared.stop.Stop.{Stop}
+use Rattle.command_frame.specs.declared.stop.Stop.TheVariants as stop
+use Rattle.command_frame.specs.Causes.{Cause, Plainly}
+use Rattle.command_frame.specs.Refusals.{log_refusal}
+use Rattle.command_frame.specs.Stops.{stop_at}
 use Rattle.net_json.specs.Scenes.{SceneValue}
 use Rattle.fc_mail.specs.Drives.{Settles}
 use Rattle.fc_mail.specs.Mails.{Mailed, mail_entries_in, line_of_entry, mail_line_fault}

@@ -14,14 +14,14 @@ use Rattle.mail_count.specs.Laws.{IsGreatestMail}
 use Rattle.net_json.specs.Scenes.{SceneValue}
 use Rattle.report.specs.Texts.{values_text}
 use Rattle.report.specs.Verdicts.{rounds_text}
-use Rattle.fc_inputs.specs.declared.refusal.LineFault.{LineFault}
-use Rattle.fc_inputs.specs.declared.refusal.LineFault.TheVariants.{Form, Net, Empty}
-use Rattle.fc_inputs.specs.Answers.{AnswerValue, plain}
-use Rattle.fc_inputs.specs.Refusals.{log_refusal}
-use Rattle.fc_inputs.specs.Causes.{Plainly, Judged, Accepted, Refused}
-use Rattle.fc_inputs.specs.Inputs.{OfScene}
-use Rattle.fc_inputs.specs.LineFaults.{step_fault}
-use Rattle.fc_inputs.specs.Starts.{start_of}
+use Rattle.command_frame.specs.declared.refusal.LineFault.{LineFault}
+use Rattle.command_frame.specs.declared.refusal.LineFault.TheVariants.{Form, Net, Empty}
+use Rattle.command_frame.specs.Answers.{AnswerValue, plain}
+use Rattle.command_frame.specs.Refusals.{log_refusal}
+use Rattle.command_frame.specs.Causes.{Plainly, Judged, Accepted, Refused}
+use Rattle.command_frame.specs.Inputs.{OfScene}
+use Rattle.command_frame.specs.LineFaults.{step_fault}
+use Rattle.command_frame.specs.Starts.{start_of}
 
 -- the entries of a mail log, each with the number of its line
 abbrev pub Mailed : Type 0

@@ -93,7 +93,8 @@ mutual
     call : (f : List ℕ) (ts : List TokenKind) (es : SourceTerms) → Arguments second ts es
         → Atom second (NameOf f ∷ MarkOf mark.OpenRound ∷ (ts ++ (MarkOf mark.CloseRound ∷ []))) (CallTerm f es)
     -- a builtin's word, and as many arguments as it has
-    builtin : (w : Word) (o : Builtin) (ts : List TokenKind) (es : SourceTerms) → named w ≡ Some o → IsOfLanguage second o
+    builtin : (w : Word) (o : Builtin) (ts : List TokenKind) (es : SourceTerms) → named w ≡ Some o
+        → IsOfLanguage second o
         → count es ≡ arity o → Arguments second ts es
         → Atom second (WordOf w ∷ MarkOf mark.OpenRound ∷ (ts ++ (MarkOf mark.CloseRound ∷ []))) (ApplyTerm o es)
     -- nbr { expr }
@@ -128,13 +129,15 @@ mutual
   -- [ expr { , expr } ]
   pub data Arguments (second : Bool) : List TokenKind → SourceTerms → Type 0 where
     none : Arguments second [] NoTerms
-    some : (ts us : List TokenKind) (e : SourceTerm) (es : SourceTerms) → Expression second ts e → MoreArguments second us es
+    some : (ts us : List TokenKind) (e : SourceTerm) (es : SourceTerms) → Expression second ts e
+        → MoreArguments second us es
         → Arguments second (ts ++ us) (MoreTerms e es)
 
   -- { , expr }
   pub data MoreArguments (second : Bool) : List TokenKind → SourceTerms → Type 0 where
     no_more : MoreArguments second [] NoTerms
-    more : (ts us : List TokenKind) (e : SourceTerm) (es : SourceTerms) → Expression second ts e → MoreArguments second us es
+    more : (ts us : List TokenKind) (e : SourceTerm) (es : SourceTerms) → Expression second ts e
+        → MoreArguments second us es
         → MoreArguments second (MarkOf mark.Comma ∷ (ts ++ us)) (MoreTerms e es)
 
 -- local

@@ -14,11 +14,11 @@ use Rattle.command_words.specs.declared.commands.Threaded.{Threaded}
 use Rattle.command_words.specs.declared.commands.Work.{Work}
 use Rattle.command_words.specs.declared.commands.Work.TheVariants.{Gen}
 use Rattle.command_words.specs.Commands.{limit_of}
-use Rattle.fc_inputs.specs.declared.refusal.Refusal.{Refusal}
-use Rattle.fc_inputs.specs.declared.refusal.Refusal.TheVariants as refusal
+use Rattle.command_frame.specs.declared.refusal.Refusal.{Refusal}
+use Rattle.command_frame.specs.declared.refusal.Refusal.TheVariants as refusal
 use Rattle.fc_values.specs.declared.limits.TheConstants.{MOST_BYTES}
-use Rattle.fc_inputs.specs.Causes.{Plainly, Judged, Refused, answer_of}
-use Rattle.fc_inputs.specs.Answers.{AnswerValue}
+use Rattle.command_frame.specs.Causes.{Plainly, Judged, Refused, answer_of}
+use Rattle.command_frame.specs.Answers.{AnswerValue}
 use Rattle.fc_program.specs.declared.ending.CallEnd.{CallEnd}
 use Rattle.fc_answers.specs.Asked.{limit_refusal}
 use Rattle.fc_answers.specs.Answers.{Answered, Answers, AnswersWithin, OfInput, OfLength, Works}

@@ -10,8 +10,8 @@ use Rattle.fc_program.specs.declared.ending.CallEnd.{CallEnd}
 use Rattle.fc_answers.specs.Asked.{reads_source}
 use Rattle.fc_answers.specs.Answers.{Answers}
 use Rattle.fc_answers.specs.Headline.{IsKept}
-use Rattle.fc_inputs.specs.Ledgers.{ledger_of}
-use Rattle.fc_inputs.specs.Answers.{AnswerValue}
+use Rattle.command_frame.specs.Ledgers.{ledger_of}
+use Rattle.command_frame.specs.Answers.{AnswerValue}
 
 -- an answer to an input, which is what the source has left where it tells that; what a yes in it promises is kept
 pub record IsAnswer (asked : Option Command) (left : Option (List ℕ)) (answer : AnswerValue) : Type 0 where

@@ -4,7 +4,7 @@ ghost use Rattle.command_words.specs.Words.{command_of};
 ghost use Rattle.fc_answers.specs.Asked.{reads_source};
 ghost use Rattle.fc_answers.specs.Answers.{Answers};
 ghost use Rattle.fc_program.specs.Top.{CallEnds, IsExact, sink_at, source_at};
-ghost use Rattle.fc_inputs.specs.Answers.{AnswerValue};
+ghost use Rattle.command_frame.specs.Answers.{AnswerValue};
 
 use crate::ending::{CallEnd, ended, without_book};
 use command_words::{command, words_ask_for_commands};

@@ -11,14 +11,14 @@ use Rattle.edit_commands.specs.Scripts.{Script, TooManyLines, Within, script_of}
 use Rattle.session.specs.Laws.{OneScriptRun, SomeScriptRun}
 use Rattle.session.specs.Promises.{ScriptsKeepYes}
 use Rattle.command_words.specs.declared.commands.RunOptions.{RunOptions}
-use Rattle.fc_inputs.specs.Answers.{AnswerValue}
-use Rattle.fc_inputs.specs.Causes.{Judged}
-use Rattle.fc_inputs.specs.LineFaults.{fault_in}
-use Rattle.fc_inputs.specs.Owing.{HasStatus, IsZero, RefusesBy}
-use Rattle.fc_inputs.specs.Refusals.{status_of}
-use Rattle.fc_inputs.specs.Starts.{InputsAreRead, start_of}
-use Rattle.fc_inputs.proofs.Owed.{OwesScenes, refused_status, texts_owe, three_owe, zero_low}
-use Rattle.fc_inputs.proofs.RefusalStatuses.{by_four, script_status}
+use Rattle.command_frame.specs.Answers.{AnswerValue}
+use Rattle.command_frame.specs.Causes.{Judged}
+use Rattle.command_frame.specs.LineFaults.{fault_in}
+use Rattle.command_frame.specs.Owing.{HasStatus, IsZero, RefusesBy}
+use Rattle.command_frame.specs.Refusals.{status_of}
+use Rattle.command_frame.specs.Starts.{InputsAreRead, start_of}
+use Rattle.command_frame.proofs.Owed.{OwesScenes, refused_status, texts_owe, three_owe, zero_low}
+use Rattle.command_frame.proofs.RefusalStatuses.{by_four, script_status}
 use Rattle.fc_run.specs.Promises.{RunKeepsYes, RunOwes}
 use Rattle.fc_run.specs.Runs.{Runs, RunsScript, line_refusal}
 use Rattle.fc_run.proofs.KeptYes.{by_script}

@@ -11,10 +11,10 @@ use Rattle.edit_commands.specs.ScriptCommands.{ScriptsHaveCommands}
 use Rattle.edit_commands.specs.Scripts.{ScriptLine, ScriptLineFault, TooManyLines, Within, lines_in, script_of}
 use Rattle.edit_commands.specs.Scripts.{IsScript, SaidByScript}
 use Rattle.session.specs.Laws.{SomeScriptRun}
-use Rattle.fc_inputs.specs.declared.refusal.Refusal.TheVariants.{Lines as LinesOf}
-use Rattle.fc_inputs.specs.Answers.{showing, AnswerValue}
-use Rattle.fc_inputs.specs.Causes.{Plainly, Judged, Accepted, Refused}
-use Rattle.fc_inputs.specs.Ledgers.{book_of}
+use Rattle.command_frame.specs.declared.refusal.Refusal.TheVariants.{Lines as LinesOf}
+use Rattle.command_frame.specs.Answers.{showing, AnswerValue}
+use Rattle.command_frame.specs.Causes.{Plainly, Judged, Accepted, Refused}
+use Rattle.command_frame.specs.Ledgers.{book_of}
 use Rattle.command_words.specs.declared.commands.RunOptions.{RunOptions}
 use Rattle.fc_run.specs.Runs.{run_text, line_refusal, RunsScript}
 

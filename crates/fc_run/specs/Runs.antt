@@ -9,16 +9,16 @@ use Rattle.edit_commands.specs.Scripts.{ScriptLine, ScriptLineFault, OfLine, OfS
 use Rattle.edit_commands.specs.Scripts.{Script, TooManyLines, Within, script_of}
 use Rattle.report.specs.Logs.{log_text}
 use Rattle.session.specs.ScriptRuns.{ScriptRun}
-use Rattle.fc_inputs.specs.declared.refusal.Refusal.{Refusal}
-use Rattle.fc_inputs.specs.declared.refusal.Refusal.TheVariants.{Lines, Scrambles, Firings}
-use Rattle.fc_inputs.specs.Refusals.{script_refusal}
-use Rattle.fc_inputs.specs.Answers.{AnswerValue, showing}
-use Rattle.fc_inputs.specs.Causes.{Plainly, Judged, Accepted, Refused}
-use Rattle.fc_inputs.specs.Inputs.{OfScene}
-use Rattle.fc_inputs.specs.Ledgers.{book_of}
-use Rattle.fc_inputs.specs.Starts.{start_of}
-use Rattle.fc_inputs.specs.Tables.{table_line, where_asked}
-use Rattle.fc_inputs.specs.LineFaults.{fault_in}
+use Rattle.command_frame.specs.declared.refusal.Refusal.{Refusal}
+use Rattle.command_frame.specs.declared.refusal.Refusal.TheVariants.{Lines, Scrambles, Firings}
+use Rattle.command_frame.specs.Refusals.{script_refusal}
+use Rattle.command_frame.specs.Answers.{AnswerValue, showing}
+use Rattle.command_frame.specs.Causes.{Plainly, Judged, Accepted, Refused}
+use Rattle.command_frame.specs.Inputs.{OfScene}
+use Rattle.command_frame.specs.Ledgers.{book_of}
+use Rattle.command_frame.specs.Starts.{start_of}
+use Rattle.command_frame.specs.Tables.{table_line, where_asked}
+use Rattle.command_frame.specs.LineFaults.{fault_in}
 use Rattle.command_words.specs.declared.commands.RunOptions.{RunOptions}
 
 -- the text of a script run, then the log and the table, where they are asked for

@@ -88,7 +88,8 @@ between_text b left right =
 abbrev pub apply_text : Builtin → List Written → List ℕ
 apply_text b [] = call_text (builtin_word b) []
 apply_text b (x ∷ []) =
-    if builtin_strength b == 6 then builtin_word b ++ codes " " ++ operand_text 6 x else call_text (builtin_word b) (x ∷ [])
+    if builtin_strength b == 6 then builtin_word b ++ codes " " ++ operand_text 6 x
+    else call_text (builtin_word b) (x ∷ [])
 apply_text b (x ∷ y ∷ []) =
     if nat_lt (builtin_strength b) 6 then between_text b x y else call_text (builtin_word b) (x ∷ y ∷ [])
 apply_text b (x ∷ y ∷ z ∷ rest) = call_text (builtin_word b) (x ∷ y ∷ z ∷ rest)

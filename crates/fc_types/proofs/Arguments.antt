@@ -7,7 +7,7 @@ use Rattle.fc_types.specs.declared.faults.TypeKind.{TypeKind}
 use Rattle.fc_types.specs.declared.refusal.TypeRefusal.{TypeRefusal}
 use Rattle.fc_types.specs.declared.refusal.TypeRefusal.TheVariants as refusal
 use Rattle.fc_types.specs.Views.{IfKind}
-use Rattle.fc_types.specs.Before.{DeclaredBefore, Scope}
+use Rattle.fc_types.specs.Before.{Earlier, Scope}
 use Rattle.fc_types.specs.Judging.{JudgedType, TypeFound, FaultFound, JudgedTypes, TypesAre, FaultAmong, row_of, judge, judge_all}
 
 row_types : (j : JudgedType) (js : JudgedTypes) (ts : List ValueType) → row_of j js ≡ TypesAre ts → (t : ValueType) × (us : List ValueType) × (j ≡ TypeFound t) × (js ≡ TypesAre us) × (ts ≡ t ∷ us)
@@ -18,7 +18,7 @@ row_types (FaultFound k) js ts h = absurd cc
 row_put : (j : JudgedType) (js : JudgedTypes) (t : ValueType) (us : List ValueType) → j ≡ TypeFound t → js ≡ TypesAre us → row_of j js ≡ TypesAre (t ∷ us)
 row_put j js t us e f = rw (e, f) refl
 
-module _ (B : DeclaredBefore) (scope : Scope) where
+module _ (B : Earlier) (scope : Scope) where
   pub row_more : (xs : List Expr) (i : ℕ) (x : Expr) (ts : List ValueType) (t : ValueType) → i < length xs → x ≡ get_or xs i x → judge_all B scope (terms (map term_of (take i xs))) ≡ TypesAre ts →
       judge B scope (term_of x) ≡ TypeFound t → judge_all B scope (terms (map term_of (take (suc i) xs))) ≡ TypesAre (ts ++ t ∷ [])
   row_more [] i x ts t l q h j = absurd (omega arith)

@@ -7,7 +7,7 @@ use Rattle.fc_syntax.specs.Terms.{SourceTerm, IntTerm, TruthTerm, VarTerm, UidTe
 use Rattle.fc_values.specs.declared.builtins.Builtin.{Builtin}
 use Rattle.fc_types.specs.declared.faults.TypeKind.{TypeKind}
 use Rattle.fc_types.specs.declared.faults.TypeKind.TheVariants as kind
-use Rattle.fc_types.specs.Before.{Function, DeclaredBefore, input_named, function_named, Scope, with_variable, type_in}
+use Rattle.fc_types.specs.Before.{Function, Earlier, input_named, function_named, Scope, with_variable, type_in}
 use Rattle.fc_types.specs.Typing.{HasType, int_type, truth_type, variable_type, uid_type, nbr_link_type, sense_type, builtin_type, nbr_type, rep_type, share_type, if_type, let_type, call_type, HaveTypes, no_types, more_types, parameter_types}
 use Rattle.fc_types.specs.Faults.{IsField, shared_type, FirstFaultIn, int_literal, variable_unknown, sense_unknown, in_argument, call_unknown, call_count, call_mismatch, in_operand, builtin_mismatch, builtin_wide, in_nbr, nbr_not_local, in_rep_first, in_rep_body, rep_not_local, rep_mismatch, rep_twice, in_share_first, in_share_body, share_not_local, share_mismatch, share_twice, in_condition, in_then, in_else, if_not_local, if_mismatch, in_bound, in_body, let_twice, FirstFaultAmong, in_first, in_later}
 use Rattle.fc_types.specs.Judging.{JudgedType, TypeFound, FaultFound, JudgedTypes, TypesAre, FaultAmong, go_on, go_on_with, row_of, same_local, same_types, judge_builtin, judge_number, judge_variable, judge_sense, judge_nbr, unless_bound, where_same, judge_evolving, judge_if, judge_call, judge, judge_all}
@@ -15,15 +15,15 @@ use Rattle.fc_types.proofs.Same.{same_local_refl, same_local_is, differ, same_ty
 use Rattle.fc_types.proofs.Rules.{judged_rule, rule_judged, no_rule, fault_kind, mismatch_judged, wide_judged}
 
 -- a judgement holds of an expression
-abbrev pub JudgementHolds : DeclaredBefore → Scope → SourceTerm → JudgedType → Type 0
+abbrev pub JudgementHolds : Earlier → Scope → SourceTerm → JudgedType → Type 0
 JudgementHolds B scope e (TypeFound t) = HasType B scope e t
 JudgementHolds B scope e (FaultFound k) = FirstFaultIn B scope e k
 
-abbrev pub JudgementsHold : DeclaredBefore → Scope → SourceTerms → JudgedTypes → Type 0
+abbrev pub JudgementsHold : Earlier → Scope → SourceTerms → JudgedTypes → Type 0
 JudgementsHold B scope es (TypesAre ts) = HaveTypes B scope es ts
 JudgementsHold B scope es (FaultAmong k) = FirstFaultAmong B scope es k
 
-module _ (B : DeclaredBefore) (scope : Scope) where
+module _ (B : Earlier) (scope : Scope) where
   number_holds : (n : ℕ) (b : Bool) → nat_le n B.ceiling ≡ b → JudgementHolds B scope (IntTerm n) (judge_number b)
   number_holds n true e = int_type (leb-true n B.ceiling e)
   number_holds n false e = int_literal (leb-false n B.ceiling e)
@@ -177,7 +177,7 @@ module _ (B : DeclaredBefore) (scope : Scope) where
   row_holds e es (TypeFound t) h (FaultAmong k) h' = in_later h h'
 
 mutual
-  pub judged : (B : DeclaredBefore) (scope : Scope) (e : SourceTerm) → JudgementHolds B scope e (judge B scope e)
+  pub judged : (B : Earlier) (scope : Scope) (e : SourceTerm) → JudgementHolds B scope e (judge B scope e)
   judged B scope (IntTerm n) = number_holds B scope n (nat_le n B.ceiling) refl
   judged B scope (TruthTerm b) = truth_type
   judged B scope (VarTerm x) = variable_holds B scope x (type_in x scope) refl
@@ -192,7 +192,7 @@ mutual
   judged B scope (LetTerm x a b) = let_holds B scope x a b (judge B scope a) (judged B scope a) (λ s. judge B (with_variable x s scope) b) (λ s. judged B (with_variable x s scope) b)
   judged B scope (CallTerm f es) = call_holds B scope f es (judge_all B scope es) (all_judged B scope es)
 
-  pub all_judged : (B : DeclaredBefore) (scope : Scope) (es : SourceTerms) → JudgementsHold B scope es (judge_all B scope es)
+  pub all_judged : (B : Earlier) (scope : Scope) (es : SourceTerms) → JudgementsHold B scope es (judge_all B scope es)
   all_judged B scope NoTerms = no_types
   all_judged B scope (MoreTerms e es) = row_holds B scope e es (judge B scope e) (judged B scope e) (judge_all B scope es) (all_judged B scope es)
 
@@ -206,7 +206,7 @@ call_is g =
 
 -- a type that an expression has is the one that is computed
 mutual
-  pub type_judged : {B : DeclaredBefore} {scope : Scope} {e : SourceTerm} {t : ValueType} → HasType B scope e t → judge B scope e ≡ TypeFound t
+  pub type_judged : {B : Earlier} {scope : Scope} {e : SourceTerm} {t : ValueType} → HasType B scope e t → judge B scope e ≡ TypeFound t
   type_judged (int_type {B = B} {n = n} h) = let e = le-leb n B.ceiling h in rw e refl
   type_judged truth_type = refl
   type_judged (variable_type h) = rw h refl
@@ -221,7 +221,7 @@ mutual
   type_judged (let_type h h' f) = let i = type_judged h in let j = type_judged h' in rw (i, j, f) refl
   type_judged (call_type {g = g} e h) = let i = types_judged h in let c = call_is g in rw (i, e) c
 
-  pub types_judged : {B : DeclaredBefore} {scope : Scope} {es : SourceTerms} {ts : List ValueType} → HaveTypes B scope es ts → judge_all B scope es ≡ TypesAre ts
+  pub types_judged : {B : Earlier} {scope : Scope} {es : SourceTerms} {ts : List ValueType} → HaveTypes B scope es ts → judge_all B scope es ≡ TypesAre ts
   types_judged no_types = refl
   types_judged (more_types h h') = let i = type_judged h in let j = types_judged h' in rw (i, j) refl
 
@@ -259,7 +259,7 @@ if_field (TypeField r) (TypeField s) (TypeField t) h = refl
 
 -- a first fault that an expression has is the one that is computed
 mutual
-  pub fault_judged : {B : DeclaredBefore} {scope : Scope} {e : SourceTerm} {k : TypeKind} → FirstFaultIn B scope e k → judge B scope e ≡ FaultFound k
+  pub fault_judged : {B : Earlier} {scope : Scope} {e : SourceTerm} {k : TypeKind} → FirstFaultIn B scope e k → judge B scope e ≡ FaultFound k
   fault_judged (int_literal {B = B} {n = n} h) = let e = above n B.ceiling h (nat_le n B.ceiling) refl in rw e refl
   fault_judged (variable_unknown h) = rw h refl
   fault_judged (sense_unknown h) = rw h refl
@@ -297,6 +297,6 @@ mutual
   fault_judged (in_body h h') = let i = type_judged h in let j = fault_judged h' in rw (i, j) refl
   fault_judged (let_twice h h' f) = let i = type_judged h in let j = type_judged h' in let e = f.1 in rw (i, j, e) refl
 
-  pub among_judged : {B : DeclaredBefore} {scope : Scope} {es : SourceTerms} {k : TypeKind} → FirstFaultAmong B scope es k → judge_all B scope es ≡ FaultAmong k
+  pub among_judged : {B : Earlier} {scope : Scope} {es : SourceTerms} {k : TypeKind} → FirstFaultAmong B scope es k → judge_all B scope es ≡ FaultAmong k
   among_judged (in_first h) = let i = fault_judged h in rw i refl
   among_judged (in_later h h') = let i = type_judged h in let j = among_judged h' in rw (i, j) refl

@@ -11,18 +11,18 @@ pub record Function : Type 0 where
   pub body : SourceTerm
 
 -- the ceiling, the inputs and the functions in order, and the least and greatest of the metric where there is one
-pub record DeclaredBefore : Type 0 where
+pub record Earlier : Type 0 where
   pub ceiling : ℕ
   pub inputs : List Input
   pub metric : Option (ℕ × ℕ)
   pub functions : List Function
 
 -- before the first declaration
-abbrev pub nothing_declared : DeclaredBefore
+abbrev pub nothing_declared : Earlier
 nothing_declared = record { ceiling = 0; inputs = []; metric = None; functions = [] }
 
 -- after one more declaration
-abbrev pub with_declaration : DeclaredBefore → Declaration → DeclaredBefore
+abbrev pub with_declaration : Earlier → Declaration → Earlier
 with_declaration B (LanguageIs n) = B
 with_declaration B (CeilingIs n) = record { ceiling = n; inputs = B.inputs; metric = B.metric; functions = B.functions }
 with_declaration B (InputIs x t) =
@@ -45,7 +45,7 @@ with_declaration B (DefIs f params result body) =
     }
 with_declaration B (MainIs e) = B
 
-abbrev pub with_declarations : DeclaredBefore → List Declaration → DeclaredBefore
+abbrev pub with_declarations : Earlier → List Declaration → Earlier
 with_declarations B [] = B
 with_declarations B (d ∷ ds) = with_declarations (with_declaration B d) ds
 
@@ -58,9 +58,14 @@ abbrev pub metric_greatest : Option (ℕ × ℕ) → ℕ
 metric_greatest None = 1
 metric_greatest (Some m) = m.1
 
-abbrev pub declared_before : DeclaredBefore → Declarations
+abbrev pub declared_before : Earlier → Declarations
 declared_before B =
-    record { ceiling = B.ceiling; inputs = B.inputs; least = metric_least B.metric; greatest = metric_greatest B.metric }
+    record {
+      ceiling = B.ceiling;
+      inputs = B.inputs;
+      least = metric_least B.metric;
+      greatest = metric_greatest B.metric;
+    }
 
 abbrev pub declared_by : List Declaration → Declarations
 declared_by ds = declared_before (with_declarations nothing_declared ds)

@@ -14,7 +14,7 @@ use Rattle.fc_syntax.specs.Terms.{NbrTerm, RepTerm, ShareTerm, IfTerm, LetTerm, 
 use Rattle.fc_syntax.specs.Terms.{Parameter, Declaration, LanguageIs, CeilingIs, InputIs, MetricIs, DefIs, MainIs}
 use Rattle.fc_types.specs.declared.faults.TypeKind.{TypeKind}
 use Rattle.fc_types.specs.declared.faults.TypeKind.TheVariants as kind
-use Rattle.fc_types.specs.Before.{Function, DeclaredBefore, input_named, function_named, Scope, with_variable, type_in}
+use Rattle.fc_types.specs.Before.{Function, Earlier, input_named, function_named, Scope, with_variable, type_in}
 use Rattle.fc_types.specs.Typing.{parameter_types}
 use Rattle.fc_types.specs.Faults.{shared_type}
 
@@ -188,7 +188,7 @@ judge_call (Some g) ts =
     (where_same (same_types ts (parameter_types g)) kind.Mismatch (TypeFound g.result))
 
 abbrev mutual
-  pub judge : DeclaredBefore → Scope → SourceTerm → JudgedType
+  pub judge : Earlier → Scope → SourceTerm → JudgedType
   judge B scope (IntTerm n) = judge_number (nat_le n B.ceiling)
   judge B scope (TruthTerm b) = TypeFound (TypeLocal BoolType)
   judge B scope (VarTerm x) = judge_variable (type_in x scope)
@@ -208,7 +208,7 @@ abbrev mutual
       go_on (judge B scope a) (λ s. go_on (judge B (with_variable x s scope) b) (unless_bound (type_in x scope)))
   judge B scope (CallTerm f es) = go_on_with (judge_all B scope es) (judge_call (function_named f B.functions))
 
-  pub judge_all : DeclaredBefore → Scope → SourceTerms → JudgedTypes
+  pub judge_all : Earlier → Scope → SourceTerms → JudgedTypes
   judge_all B scope NoTerms = TypesAre []
   judge_all B scope (MoreTerms e es) = row_of (judge B scope e) (judge_all B scope es)
 
@@ -256,7 +256,7 @@ main_fault (TypeFound (TypeLocal t)) = None
 main_fault (TypeFound (TypeField t)) = Some kind.NotLocal
 main_fault (FaultFound k) = Some k
 
-abbrev pub declaration_fault : DeclaredBefore → Declaration → Option TypeKind
+abbrev pub declaration_fault : Earlier → Declaration → Option TypeKind
 declaration_fault B (LanguageIs n) = None
 declaration_fault B (CeilingIs n) = fault_where (n == 0) kind.Range None
 declaration_fault B (InputIs x t) = fault_if (input_named x B.inputs) kind.Twice (input_fault B.ceiling t)

@@ -16,7 +16,7 @@ use Rattle.fc_types.specs.declared.refusal.TypeRefusal.{TypeRefusal}
 use Rattle.fc_types.specs.declared.refusal.TypeRefusal.TheVariants as refusal
 use Rattle.fc_types.specs.declared.scopes.Scope.{Scope as AScope}
 use Rattle.fc_types.specs.declared.scopes.Scope.TheVariants as scope
-use Rattle.fc_types.specs.Before.{Function, DeclaredBefore, Scope, with_variable}
+use Rattle.fc_types.specs.Before.{Function, Earlier, Scope, with_variable}
 use Rattle.fc_types.specs.Judging.{JudgedType, TypeFound, FaultFound, JudgedTypes, TypesAre, FaultAmong}
 
 abbrev pub function_of : List ℕ → AFunction → Function
@@ -34,7 +34,7 @@ input_entry e = record { name = e.0.now; type = e.1 }
 abbrev pub function_entry : Bor (List ℕ) × AFunction → Function
 function_entry e = function_of e.0.now e.1
 
-abbrev pub known_of : Known → DeclaredBefore
+abbrev pub known_of : Known → Earlier
 known_of k =
     record {
       ceiling = k.ceiling;

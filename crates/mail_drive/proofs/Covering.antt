@@ -13,7 +13,7 @@ use Rattle.message_links.specs.MailRounds.{Posts, posts_after, posts_along, HasM
 use Rattle.message_links.proofs.Along.{along_more}
 use Rattle.message_links.proofs.Reaching.{near_both}
 use Rattle.mail_drive.specs.Drives.{twice, firings, brought, brings_from, brings, round, driven}
-use Rattle.mail_drive.specs.Laws.{nothing_in_transit, RoundsCover, DrivenRounds}
+use Rattle.mail_drive.specs.Laws.{no_posts, RoundsCover, DrivenRounds}
 
 -- ---- posts
 
@@ -252,8 +252,8 @@ module _ (N : Network) (net : IsNetwork N) (at : ℕ) (ws : Words) where
   S = (brings N ds ws).0
 
   module _ (a b : ℕ) (l : reaches N a b ≡ true) where
-    two : Sent N a b at nothing_in_transit ds
-    two = sent N a b at nothing_in_transit ds net.rising (near_lives N a b net l) l refl
+    two : Sent N a b at no_posts ds
+    two = sent N a b at no_posts ds net.rising (near_lives N a b net l) l refl
 
     it : Found N a b S
     it = found N a b ds ws net.rising (near_rises N.declared ds a N.links net.links) (near_lives N a b net l) (near_both N a b net ∙ l)
@@ -262,8 +262,8 @@ module _ (N : Network) (net : IsNetwork N) (at : ℕ) (ws : Words) where
     k = length two.before
 
     -- both messages are in transit where the pair is spoken of
-    both : posts_along N at nothing_in_transit (F ++ it.before) a b ≡ Some (at + (k + 1)) ∷ Some (at + (k + 3)) ∷ []
-    both = ap (λ p. p a b) (along_more N at nothing_in_transit F it.before) ∙ stays N a b (at + length F) (posts_along N at nothing_in_transit F) it.before it.first ∙ two.posts
+    both : posts_along N at no_posts (F ++ it.before) a b ≡ Some (at + (k + 1)) ∷ Some (at + (k + 3)) ∷ []
+    both = ap (λ p. p a b) (along_more N at no_posts F it.before) ∙ stays N a b (at + length F) (posts_along N at no_posts F) it.before it.first ∙ two.posts
 
     first_own : EndsOwnBegin a (F ++ S) (k + 1)
     first_own = record {
@@ -285,17 +285,17 @@ module _ (N : Network) (net : IsNetwork N) (at : ℕ) (ws : Words) where
       is = let p = length-append (two.before ++ MailBegin a ∷ MailEnd a ∷ []) (MailBegin a ∷ []) in let q = length-append two.before (MailBegin a ∷ MailEnd a ∷ []) in omega arith;
     }
 
-    brings_it : Brings N at nothing_in_transit F S a b
+    brings_it : Brings N at no_posts F S a b
     brings_it = by_tests ((it.word % 4) == 0) ((it.word % 4) == 1) it.cut
       where
         by_tests : (s t : Bool) → S ≡ it.before ++ ((if s then MailLose a b 0 ∷ MailDeliver a b ∷ [] else (if t then MailAgain a b ∷ MailDeliver a b ∷ MailDeliver a b ∷ [] else MailDeliver a b ∷ MailDeliver a b ∷ [])) ++ it.after)
-            → Brings N at nothing_in_transit F S a b
+            → Brings N at no_posts F S a b
         by_tests true t cut =
             let whole : F ++ (it.before ++ MailLose a b 0 ∷ []) ≡ (F ++ it.before) ++ MailLose a b 0 ∷ [] = sym (append_assoc F it.before (MailLose a b 0 ∷ [])) in
-            let left : posts_along N at nothing_in_transit (F ++ (it.before ++ MailLose a b 0 ∷ [])) a b ≡ Some (at + (k + 3)) ∷ [] =
-            ap (λ es. posts_along N at nothing_in_transit es a b) whole
-            ∙ ap (λ p. p a b) (along_more N at nothing_in_transit (F ++ it.before) (MailLose a b 0 ∷ []))
-            ∙ lost N a b (at + length (F ++ it.before)) (posts_along N at nothing_in_transit (F ++ it.before))
+            let left : posts_along N at no_posts (F ++ (it.before ++ MailLose a b 0 ∷ [])) a b ≡ Some (at + (k + 3)) ∷ [] =
+            ap (λ es. posts_along N at no_posts es a b) whole
+            ∙ ap (λ p. p a b) (along_more N at no_posts (F ++ it.before) (MailLose a b 0 ∷ []))
+            ∙ lost N a b (at + length (F ++ it.before)) (posts_along N at no_posts (F ++ it.before))
             ∙ ap (without 0) both in
             record {
               before = it.before ++ MailLose a b 0 ∷ [];
@@ -340,23 +340,23 @@ module _ (N : Network) (net : IsNetwork N) (at : ℕ) (ws : Words) where
         by_tests false true = twice_taken (suc i)
         by_tests false false = twice_taken i
 
-    emptied : posts_along N at nothing_in_transit (F ++ S) a b ≡ []
+    emptied : posts_along N at no_posts (F ++ S) a b ≡ []
     emptied =
-        ap (λ es. posts_along N at nothing_in_transit (F ++ es) a b) it.cut
-        ∙ ap (λ es. posts_along N at nothing_in_transit es a b) (sym (append_assoc F it.before (brought a b it.word ++ it.after)))
-        ∙ ap (λ p. p a b) (along_more N at nothing_in_transit (F ++ it.before) (brought a b it.word ++ it.after))
-        ∙ ap (λ p. p a b) (along_more N (at + length (F ++ it.before)) (posts_along N at nothing_in_transit (F ++ it.before)) (brought a b it.word) it.after)
-        ∙ stays N a b _ (posts_along N (at + length (F ++ it.before)) (posts_along N at nothing_in_transit (F ++ it.before)) (brought a b it.word)) it.after it.last
-        ∙ taken (at + length (F ++ it.before)) (posts_along N at nothing_in_transit (F ++ it.before)) _ _ it.word both
+        ap (λ es. posts_along N at no_posts (F ++ es) a b) it.cut
+        ∙ ap (λ es. posts_along N at no_posts es a b) (sym (append_assoc F it.before (brought a b it.word ++ it.after)))
+        ∙ ap (λ p. p a b) (along_more N at no_posts (F ++ it.before) (brought a b it.word ++ it.after))
+        ∙ ap (λ p. p a b) (along_more N (at + length (F ++ it.before)) (posts_along N at no_posts (F ++ it.before)) (brought a b it.word) it.after)
+        ∙ stays N a b _ (posts_along N (at + length (F ++ it.before)) (posts_along N at no_posts (F ++ it.before)) (brought a b it.word)) it.after it.last
+        ∙ taken (at + length (F ++ it.before)) (posts_along N at no_posts (F ++ it.before)) _ _ it.word both
 
   -- where no message can go
-  never : (a b : ℕ) → reaches N a b ≡ false → posts_along N at nothing_in_transit (F ++ S) a b ≡ []
+  never : (a b : ℕ) → reaches N a b ≡ false → posts_along N at no_posts (F ++ S) a b ≡ []
   never a b l =
-      ap (λ p. p a b) (along_more N at nothing_in_transit F S)
-      ∙ stays N a b (at + length F) (posts_along N at nothing_in_transit F) S (nowhere N a b ds ws (near_both N a b net ∙ l))
-      ∙ no_way N a b at nothing_in_transit ds l
+      ap (λ p. p a b) (along_more N at no_posts F S)
+      ∙ stays N a b (at + length F) (posts_along N at no_posts F) S (nowhere N a b ds ws (near_both N a b net ∙ l))
+      ∙ no_way N a b at no_posts ds l
 
-  covers : CoversMail N at nothing_in_transit (round N ws).0
+  covers : CoversMail N at no_posts (round N ws).0
   covers = record {
     first = F;
     second = S;
@@ -365,17 +365,17 @@ module _ (N : Network) (net : IsNetwork N) (at : ℕ) (ws : Words) where
     brings = λ a b l. brings_it a b l;
   }
 
-  pub empties : posts_along N at nothing_in_transit (round N ws).0 ≡ nothing_in_transit
+  pub empties : posts_along N at no_posts (round N ws).0 ≡ no_posts
   empties = fun_ext (λ a. fun_ext (λ b. by_link a b (reaches N a b) refl))
     where
-      by_link : (a b : ℕ) (t : Bool) → reaches N a b ≡ t → posts_along N at nothing_in_transit (F ++ S) a b ≡ []
+      by_link : (a b : ℕ) (t : Bool) → reaches N a b ≡ t → posts_along N at no_posts (F ++ S) a b ≡ []
       by_link a b true l = emptied a b l
       by_link a b false l = never a b l
 
 pub rounds_cover : RoundsCover
 rounds_cover N at ws net = (covers N net at ws, empties N net at ws)
 
-rounds_at : (N : Network) (at k : ℕ) (ws : Words) → IsNetwork N → HasMailRounds N at nothing_in_transit (driven N k ws) k
+rounds_at : (N : Network) (at k : ℕ) (ws : Words) → IsNetwork N → HasMailRounds N at no_posts (driven N k ws) k
 rounds_at N at zero ws net = tt
 rounds_at N at (suc k) ws net =
     let part = (round N ws).0 in

@@ -21,7 +21,7 @@ use Rattle.message_links.proofs.GoodMails.{IsMailGood, start_good, step_good}
 use Rattle.message_links.proofs.Posts.{SamePosts, run_posts, run_more}
 use Rattle.message_links.proofs.Reaching.{near_both}
 use Rattle.mail_drive.specs.Drives.{twice, firings, brought, brings_from, brings, round, driven}
-use Rattle.mail_drive.specs.Laws.{nothing_in_transit, DrivenLeads}
+use Rattle.mail_drive.specs.Laws.{no_posts, DrivenLeads}
 use Rattle.mail_drive.proofs.Covering.{AllOther, stays, and_last, other_bring, from_other, near_lives, sent, empties}
 
 -- ---- lists of messages
@@ -249,15 +249,15 @@ module _ (keeps : StepsKeepGood) (fit : CopiesFit) (free : FaultlessStep) (P : P
   one_round at c ws l empty =
       let ds = numbers N.devices in
       let first = fire_all at c ds l (λ d h. h) in
-      let same : SamePosts nothing_in_transit (posts_of c) = λ a b. sym (empty a b) in
+      let same : SamePosts no_posts (posts_of c) = λ a b. sym (empty a b) in
       let second = bring_all (at + length (firings ds)) first.last ds ws first.landed net.rising (λ a b h i.
       let r : reaches N a b ≡ true = sym (near_both N a b net) ∙ i in
-      let two = sent N a b at nothing_in_transit ds net.rising (near_lives N a b net r) r refl in
-      (r, record { first = Some (at + (length two.before + 1)); second = Some (at + (length two.before + 3)); are = sym (run_posts (unfolding_of P) N at nothing_in_transit c first.last (firings ds) l.on same first.run a b) ∙ two.posts })) in
+      let two = sent N a b at no_posts ds net.rising (near_lives N a b net r) r refl in
+      (r, record { first = Some (at + (length two.before + 1)); second = Some (at + (length two.before + 3)); are = sym (run_posts (unfolding_of P) N at no_posts c first.last (firings ds) l.on same first.run a b) ∙ two.posts })) in
       let whole = more at c (firings ds) (brings N ds ws).0 first second in
       record {
         leads = whole;
-        empty = λ a b. sym (run_posts (unfolding_of P) N at nothing_in_transit c whole.last (round N ws).0 l.on same whole.run a b) ∙ ap (λ p. p a b) (empties N net at ws);
+        empty = λ a b. sym (run_posts (unfolding_of P) N at no_posts c whole.last (round N ws).0 l.on same whole.run a b) ∙ ap (λ p. p a b) (empties N net at ws);
       }
 
   many_rounds : (k at : ℕ) (c : MailCore) (ws : Words) → Landed c → Empty c → Rounds at c (driven N k ws)

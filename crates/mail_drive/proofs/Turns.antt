@@ -10,7 +10,7 @@ use Rattle.scramble.specs.Words.{Words, next}
 use Rattle.message_links.specs.MailCores.{Reaches, MailEntryValue, MailBegin, MailEnd, MailIdle, MailDeliver, MailAgain, MailLose}
 use Rattle.message_links.specs.MailRounds.{Posts, posts_along, HasMailEnd, HasMailFiring, HasMailRounds}
 use Rattle.mail_drive.specs.Drives.{firings, brought, brings_from, brings, round, driven}
-use Rattle.mail_drive.specs.Laws.{nothing_in_transit, NoMoreRounds}
+use Rattle.mail_drive.specs.Laws.{no_posts, NoMoreRounds}
 use Rattle.mail_drive.proofs.Covering.{near_lives}
 
 abbrev one_more : Bool → ℕ → ℕ
@@ -230,6 +230,6 @@ first_link D ds (l ∷ ls) h some =
 pub no_more_rounds : NoMoreRounds
 no_more_rounds N k j ws net some h =
     let l = first_link N.declared (numbers N.devices) N.links net.links some in
-    let j_turns = rounds_turn l.0 l.1 N (near_lives N l.0 l.1 net l.2) l.2 j 0 nothing_in_transit (driven N k ws) h in
+    let j_turns = rounds_turn l.0 l.1 N (near_lives N l.0 l.1 net l.2) l.2 j 0 no_posts (driven N k ws) h in
     let turns_k = driven_turn l.0 l.1 N k ws in
     omega arith

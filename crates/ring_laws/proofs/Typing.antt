@@ -6,7 +6,7 @@ use Rattle.fc_values.specs.BuiltinTypes.{takes_add, takes_mux, folds_min}
 use Rattle.fc_values.specs.Names.{IsName, word_of}
 use Rattle.fc_values.specs.Types.{IntType, TypeLocal, TypeField}
 use Rattle.fc_syntax.specs.Printable.{IsPrintable}
-use Rattle.fc_types.specs.Before.{DeclaredBefore, Scope, nothing_declared, with_declarations, with_variable}
+use Rattle.fc_types.specs.Before.{Earlier, Scope, nothing_declared, with_declarations, with_variable}
 use Rattle.fc_types.specs.Typing.{HasType, IsTyped, no_types, more_types, int_type, variable_type, nbr_link_type, sense_type, builtin_type, nbr_type, rep_type}
 use Rattle.scramble.specs.Rings.{hops, own_hops, ring_program}
 use Rattle.ring_laws.specs.Laws.{RingsAreTyped}
@@ -41,7 +41,7 @@ printable count h =
     )
 
 -- under what the declarations before `main` declare
-abbrev known : ℕ → DeclaredBefore
+abbrev known : ℕ → Earlier
 known count = with_declarations nothing_declared (ring_program count)
 
 abbrev inside : Scope

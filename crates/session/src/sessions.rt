@@ -6,7 +6,7 @@ ghost use Rattle.session.specs.ScriptRuns.{part_of};
 use crate::edits::{copy_edit, make_and_show, scramble};
 use crate::pool::Pool;
 use crate::showing::{last_core, show_values};
-use edit_commands::{ScriptCommand, Line};
+use edit_commands::{Line, ScriptCommand};
 use export_table::Gate;
 use fc_nodes::Verdict;
 use fc_values::Memory;

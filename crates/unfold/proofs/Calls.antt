@@ -6,7 +6,7 @@ use Rattle.fc_values.specs.declared.types.Ty.{Ty}
 use Rattle.fc_values.specs.Types.{ValueType, type_of}
 use Rattle.fc_syntax.specs.declared.tree.Expr.{Expr}
 use Rattle.fc_syntax.specs.Terms.{SourceTerm, SourceTerms, NoTerms, MoreTerms, CallTerm, Parameter, term_of, terms}
-use Rattle.fc_types.specs.Before.{DeclaredBefore, Function}
+use Rattle.fc_types.specs.Before.{Earlier, Function}
 use Rattle.fc_nodes.specs.declared.nodes.Node.{Node}
 use Rattle.fc_nodes.specs.Terms.{Term, size, View, Has, OfLet, places, view_of, term_type}
 use Rattle.fc_nodes.specs.Typing.{types_of}
@@ -36,7 +36,7 @@ behind_drop zero (x ∷ params) = refl
 behind_drop (suc k) [] = refl
 behind_drop (suc k) (x ∷ params) = behind_drop k params
 
-call_more : (ms : List Meaning) (B : DeclaredBefore) (S : NamesInScope) (params : List Parameter) (body : NamesInScope → ℕ → Term) (given : List (ℕ × ValueType)) (p q : ℕ) (t : ValueType) (es : SourceTerms) →
+call_more : (ms : List Meaning) (B : Earlier) (S : NamesInScope) (params : List Parameter) (body : NamesInScope → ℕ → Term) (given : List (ℕ × ValueType)) (p q : ℕ) (t : ValueType) (es : SourceTerms) →
     unfolded_call B.inputs ms S (behind_first (drop (length given) params)) (with_argument (drop (length given) params) p t (arguments given params)) q body es ≡ call_by ms B S params body (given ++ (p, t) ∷ []) q es
 call_more ms B S params body given p q t es =
     let long = length-append given ((p, t) ∷ []) in
@@ -45,7 +45,7 @@ call_more ms B S params body given p q t es =
     ∙ ap (λ (g : NamesInScope). unfolded_call B.inputs ms S (drop (suc (length given)) params) g q body es) (given_more given params p t)
     ∙ ap (λ (m : ℕ). unfolded_call B.inputs ms S (drop m params) (arguments (given ++ (p, t) ∷ []) params) q body es) k
 
-module _ (B : DeclaredBefore) (n : ℕ) (S : NamesInScope) (f : List ℕ) where
+module _ (B : Earlier) (n : ℕ) (S : NamesInScope) (f : List ℕ) where
   pub call_written : (e : SourceTerm) (es : SourceTerms) (N0 N1 N2 N3 N4 : List Node) (v : View) (place : ℕ) (given more : List (ℕ × ValueType)) (start end ct : Ty) (second : ℕ) (kids : List ℕ) →
       place ≡ length N0 → length N1 ≡ length N0 + 1 → map view_of N1 ≡ map view_of N0 ++ v ∷ [] →
       length N2 ≡ length N1 + count (counted B n) e → IsWritten N1 N2 start (unfolded_in B n S (length N1) e) →
@@ -86,7 +86,7 @@ module _ (B : DeclaredBefore) (n : ℕ) (S : NamesInScope) (f : List ℕ) where
   call_ended e es N0 N1 N2 N3 N4 v place given more start end second (Err m') p after begun l h m i q c g = tt
 
 -- the body
-module _ (B : DeclaredBefore) (n : ℕ) (x : List ℕ) where
+module _ (B : Earlier) (n : ℕ) (x : List ℕ) where
   pub found_body : (j : ℕ) (g : Function) (given : List (ℕ × ValueType)) (N0 N1 : List Node) (t : Ty) → FirstAt x B.functions j g → j < n →
       IsWritten N0 N1 t (unfolded_in B j (arguments given g.params) (length N0) g.body) → IsWritten N0 N1 t (call_in B n [] x given (length N0) NoTerms)
   found_body j g given N0 N1 t first l w =
@@ -116,7 +116,7 @@ first_and_rest (y ∷ xs) x l e =
     let all = take_all (length (y ∷ xs) - 1) xs (omega arith) in
     ap (λ (z : Expr). MoreTerms (term_of z) (terms (map term_of xs))) (sym e) ∙ ap (λ (zs : List Expr). MoreTerms (term_of x) (terms (map term_of zs))) (sym all)
 
-module _ (B : DeclaredBefore) (n : ℕ) (S : NamesInScope) (e : SourceTerm) (es : SourceTerms) (N0 N1 : List Node) (t : Ty) (long : length N1 ≡ length N0 + count (counted B n) e) (w : IsWritten N0 N1 t (unfolded_in B n S (length N0) e)) where
+module _ (B : Earlier) (n : ℕ) (S : NamesInScope) (e : SourceTerm) (es : SourceTerms) (N0 N1 : List Node) (t : Ty) (long : length N1 ≡ length N0 + count (counted B n) e) (w : IsWritten N0 N1 t (unfolded_in B n S (length N0) e)) where
   behind : length N1 ≡ length N0 + size (unfolded_in B n S (length N0) e)
   behind = let s = size_is B n S (length N0) e in omega (arith, s, long)
 
@@ -145,23 +145,23 @@ only_one (y ∷ []) x l e = ap (λ (z : Expr). MoreTerms (term_of z) NoTerms) (s
 only_one (y ∷ z ∷ zs) x l e = absurd (omega (arith, l))
 
 -- a call without arguments whose body is one
-bare_term : (B : DeclaredBefore) (n j : ℕ) (x y : List ℕ) (g : Function) → FirstAt x B.functions j g → j < n → g.body ≡ CallTerm y NoTerms → (S : NamesInScope) (p : ℕ) → unfolded_in B n S p (CallTerm x NoTerms) ≡ unfolded_in B j S p (CallTerm y NoTerms)
+bare_term : (B : Earlier) (n j : ℕ) (x y : List ℕ) (g : Function) → FirstAt x B.functions j g → j < n → g.body ≡ CallTerm y NoTerms → (S : NamesInScope) (p : ℕ) → unfolded_in B n S p (CallTerm x NoTerms) ≡ unfolded_in B j S p (CallTerm y NoTerms)
 bare_term B n j x y g first l e S p =
     let m = meaning_found first B.inputs [] n refl l in
     ap (λ (o : Option Meaning). body_of o [] p) m ∙ ap (λ (b : SourceTerm). unfolded_in B j [] p b) e
 
-pub bare_same : (B : DeclaredBefore) (v n j : ℕ) (f x y : List ℕ) (r : (g : Function) × FirstAt x B.functions j g × (j < n) × (g.body ≡ CallTerm y NoTerms)) → SameCall B v f n x → SameCall B v f j y
+pub bare_same : (B : Earlier) (v n j : ℕ) (f x y : List ℕ) (r : (g : Function) × FirstAt x B.functions j g × (j < n) × (g.body ≡ CallTerm y NoTerms)) → SameCall B v f n x → SameCall B v f j y
 bare_same B v n j f x y r h =
     let s = found_size B n x j r.0 r.1 r.2 in
     let z = h.size in
     let c : count (counted B j) r.0.body ≡ 0 + size_of y (counted B j) = ap (count (counted B j)) r.3 in
     record { term = λ S p. h.term S p ∙ bare_term B n j x y r.0 r.1 r.2 r.3 S p; size = omega (arith, z, s, c) }
 
-pub same_written : (B : DeclaredBefore) (n : ℕ) (f : List ℕ) (m : ℕ) (g : List ℕ) (N0 N1 : List Node) (t : Ty) → SameCall B n f m g →
+pub same_written : (B : Earlier) (n : ℕ) (f : List ℕ) (m : ℕ) (g : List ℕ) (N0 N1 : List Node) (t : Ty) → SameCall B n f m g →
     IsWritten N0 N1 t (call_in B m [] g [] (length N0) NoTerms) → IsWritten N0 N1 t (call_in B n [] f [] (length N0) NoTerms)
 same_written B n f m g N0 N1 t h w = let P : Term → Type 0 = (λ u. IsWritten N0 N1 t u) in subst P (sym (h.term [] (length N0))) w
 
-pub last_written : (B : DeclaredBefore) (n : ℕ) (f : List ℕ) (j : ℕ) (body : SourceTerm) (N0 N1 : List Node) (t : Ty) → ComesTo B n f j body → IsWritten N0 N1 t (unfolded_in B j [] (length N0) body) →
+pub last_written : (B : Earlier) (n : ℕ) (f : List ℕ) (j : ℕ) (body : SourceTerm) (N0 N1 : List Node) (t : Ty) → ComesTo B n f j body → IsWritten N0 N1 t (unfolded_in B j [] (length N0) body) →
     IsWritten N0 N1 t (call_in B n [] f [] (length N0) NoTerms)
 last_written B n f j body N0 N1 t h w =
     let w' = subst (λ (b : SourceTerm). IsWritten N0 N1 t (unfolded_in B j [] (length N0) b)) (sym h.body_is) w in

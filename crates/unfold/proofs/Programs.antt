@@ -9,7 +9,7 @@ use Rattle.fc_values.specs.declared.types.InputTy.TheVariants as input
 use Rattle.fc_values.specs.Types.{LocalType, TypeLocal, Input, IsRange, Declarations}
 use Rattle.fc_syntax.specs.Terms.{SourceTerm, Declaration, LanguageIs, CeilingIs, InputIs, MetricIs, DefIs, MainIs}
 use Rattle.fc_syntax.specs.Printable.{IsPrintable, BeginWithCeiling, EndWithMain, IsInner, IsMain}
-use Rattle.fc_types.specs.Before.{Function, DeclaredBefore, nothing_declared, with_declaration, with_declarations, input_named, declared_before, declared_by, metric_least, metric_greatest}
+use Rattle.fc_types.specs.Before.{Function, Earlier, nothing_declared, with_declaration, with_declarations, input_named, declared_before, declared_by, metric_least, metric_greatest}
 use Rattle.fc_types.specs.Typing.{IsTyped, AreTyped, IsTypedDeclaration, IsInputRange}
 use Rattle.fc_nodes.specs.Program.{IsLawful, InputsAreLawful, InputIsLawful, NoneNamed}
 use Rattle.unfold.specs.Unfolding.{Meaning, input_number, unfolded, meaning, meanings, main_expression, main_term}
@@ -26,7 +26,7 @@ number_stays x (j ∷ is) more i h = go (bytes_eq x j.name) h (λ q. number_stay
     go false q f = let r = f q in (suc r.0, ap (option_map suc) r.1, r.2)
 
 -- the declarations after a ceiling leave it, and put their inputs behind
-after_ceiling : (second : Bool) (ds : List Declaration) (B : DeclaredBefore) → EndWithMain second ds → (with_declarations B ds).ceiling ≡ B.ceiling
+after_ceiling : (second : Bool) (ds : List Declaration) (B : Earlier) → EndWithMain second ds → (with_declarations B ds).ceiling ≡ B.ceiling
 after_ceiling second [] B h = absurd h
 after_ceiling second (MainIs e ∷ []) B h = refl
 after_ceiling second (LanguageIs n ∷ []) B h = absurd h
@@ -45,7 +45,7 @@ append_none : (xs : List Input) → xs ++ [] ≡ xs
 append_none [] = refl
 append_none (x ∷ xs) = ap (λ l. x ∷ l) (append_none xs)
 
-inputs_behind : (ds : List Declaration) (B : DeclaredBefore) → (more : List Input) × ((with_declarations B ds).inputs ≡ B.inputs ++ more)
+inputs_behind : (ds : List Declaration) (B : Earlier) → (more : List Input) × ((with_declarations B ds).inputs ≡ B.inputs ++ more)
 inputs_behind [] B = ([], sym (append_none B.inputs))
 inputs_behind (LanguageIs n ∷ ds) B = inputs_behind ds (with_declaration B (LanguageIs n))
 inputs_behind (CeilingIs n ∷ ds) B = inputs_behind ds (with_declaration B (CeilingIs n))
@@ -69,7 +69,7 @@ good_more D [] (m' ∷ ms) f m h g = absurd h
 good_more D (f' ∷ fs) [] f m h g = absurd h
 
 module _ (D : Declarations) where
-  held : (B : DeclaredBefore) (second : Bool) (ds : List Declaration) → EndWithMain second ds → declared_before (with_declarations B ds) ≡ D → AreGood D B.functions (meanings D.inputs [] B.functions) →
+  held : (B : Earlier) (second : Bool) (ds : List Declaration) → EndWithMain second ds → declared_before (with_declarations B ds) ≡ D → AreGood D B.functions (meanings D.inputs [] B.functions) →
       MeaningsHold D (meanings D.inputs [] B.functions) B
   held B second ds end e good =
       let b = inputs_behind ds B in
@@ -82,11 +82,11 @@ module _ (D : Declarations) where
       }
 
   -- the expression of `main`, and a definition more
-  main_typed : (B : DeclaredBefore) (e : SourceTerm) → MeaningsHold D (meanings D.inputs [] B.functions) B → IsTypedDeclaration B (MainIs e) →
+  main_typed : (B : Earlier) (e : SourceTerm) → MeaningsHold D (meanings D.inputs [] B.functions) B → IsTypedDeclaration B (MainIs e) →
       (s : LocalType) × Typed D [] 0 (unfolded D.inputs (meanings D.inputs [] B.functions) [] 0 e) (TypeLocal s)
   main_typed B e k h = (h.0, typed D (meanings D.inputs [] B.functions) h.1 k [] [] 0 refl tt)
 
-  rest_typed : (second : Bool) (ds : List Declaration) (B : DeclaredBefore) → EndWithMain second ds → AreTyped B ds → declared_before (with_declarations B ds) ≡ D → AreGood D B.functions (meanings D.inputs [] B.functions) →
+  rest_typed : (second : Bool) (ds : List Declaration) (B : Earlier) → EndWithMain second ds → AreTyped B ds → declared_before (with_declarations B ds) ≡ D → AreGood D B.functions (meanings D.inputs [] B.functions) →
       (s : LocalType) × Typed D [] 0 (unfolded D.inputs (meanings D.inputs [] (with_declarations B ds).functions) [] 0 (main_expression ds)) (TypeLocal s)
   rest_typed second [] B end a e good = absurd end
   rest_typed second (MainIs m ∷ []) B end a e good = main_typed B m (held B second (MainIs m ∷ []) end e good) a.0
@@ -154,13 +154,13 @@ lawful_more ceiling (j ∷ is) x t h n l =
     (h.0, none_more j.name is (record { name = x; type = t }) h.1 d.0, lawful_more ceiling is x t h.2 d.1 l)
 
 -- what the declarations before are, once a ceiling stands
-record AreLawful (B : DeclaredBefore) : Type 0 where
+record AreLawful (B : Earlier) : Type 0 where
   some : 1 ≤ B.ceiling
   most : B.ceiling ≤ 1000000
   inputs : InputsAreLawful B.ceiling B.inputs
   metric : IsRange B.ceiling (metric_least B.metric) (metric_greatest B.metric)
 
-lawful_one : (second : Bool) (B : DeclaredBefore) (d : Declaration) → IsInner second d → IsTypedDeclaration B d → AreLawful B → AreLawful (with_declaration B d)
+lawful_one : (second : Bool) (B : Earlier) (d : Declaration) → IsInner second d → IsTypedDeclaration B d → AreLawful B → AreLawful (with_declaration B d)
 lawful_one second B (InputIs x t) i h l = record { some = l.some; most = l.most; inputs = lawful_more B.ceiling B.inputs x t l.inputs h.0 (lawful_input B.ceiling t h.1); metric = l.metric }
 lawful_one second B (MetricIs least greatest) i h l = record { some = l.some; most = l.most; inputs = l.inputs; metric = h.1 }
 lawful_one second B (DefIs f ps r e) i h l = record { some = l.some; most = l.most; inputs = l.inputs; metric = l.metric }
@@ -168,7 +168,7 @@ lawful_one second B (LanguageIs n) i h l = absurd i
 lawful_one second B (CeilingIs n) i h l = absurd i
 lawful_one second B (MainIs e) i h l = absurd i
 
-lawful_main : (second : Bool) (B : DeclaredBefore) (d : Declaration) → IsMain second d → AreLawful B → AreLawful (with_declaration B d)
+lawful_main : (second : Bool) (B : Earlier) (d : Declaration) → IsMain second d → AreLawful B → AreLawful (with_declaration B d)
 lawful_main second B (MainIs e) i l = l
 lawful_main second B (InputIs x t) i l = absurd i
 lawful_main second B (MetricIs least greatest) i l = absurd i
@@ -176,7 +176,7 @@ lawful_main second B (DefIs f ps r e) i l = absurd i
 lawful_main second B (LanguageIs n) i l = absurd i
 lawful_main second B (CeilingIs n) i l = absurd i
 
-lawful_all : (second : Bool) (ds : List Declaration) (B : DeclaredBefore) → EndWithMain second ds → AreTyped B ds → AreLawful B → AreLawful (with_declarations B ds)
+lawful_all : (second : Bool) (ds : List Declaration) (B : Earlier) → EndWithMain second ds → AreTyped B ds → AreLawful B → AreLawful (with_declarations B ds)
 lawful_all second [] B end a l = absurd end
 lawful_all second (d ∷ []) B end a l = lawful_main second B d end l
 lawful_all second (d ∷ next ∷ ds) B end a l = lawful_all second (next ∷ ds) (with_declaration B d) end.1 a.1 (lawful_one second B d end.0 a.0 l)
@@ -200,7 +200,7 @@ lawful_start (DefIs f ps r b ∷ ds) h a = absurd h
 lawful_start (MainIs m ∷ ds) h a = absurd h
 
 -- no more inputs than declarations
-pub few_inputs : (ds : List Declaration) (B : DeclaredBefore) → length (with_declarations B ds).inputs ≤ length B.inputs + length ds
+pub few_inputs : (ds : List Declaration) (B : Earlier) → length (with_declarations B ds).inputs ≤ length B.inputs + length ds
 few_inputs [] B = omega arith
 few_inputs (LanguageIs n ∷ ds) B = let i = few_inputs ds (with_declaration B (LanguageIs n)) in omega (arith, i)
 few_inputs (CeilingIs n ∷ ds) B = let i = few_inputs ds (with_declaration B (CeilingIs n)) in omega (arith, i)

@@ -6,7 +6,7 @@ use Rattle.fc_values.specs.declared.builtins.Builtin.{Builtin}
 use Rattle.fc_values.specs.Types.{ValueType, TypeLocal, TypeField, Input, input_type, Declarations}
 use Rattle.fc_values.specs.BuiltinTypes.{HasRule, inner}
 use Rattle.fc_syntax.specs.Terms.{SourceTerm, SourceTerms, Parameter}
-use Rattle.fc_types.specs.Before.{Function, DeclaredBefore, input_named, function_named, Scope as NamedTypes}
+use Rattle.fc_types.specs.Before.{Function, Earlier, input_named, function_named, Scope as NamedTypes}
 use Rattle.fc_types.specs.Typing.{HasType as Has, int_type, truth_type, variable_type as variable_has, uid_type, nbr_link_type, sense_type, builtin_type, nbr_type, rep_type, share_type, if_type, let_type, call_type, HaveTypes as HaveAll, no_types, more_types}
 use Rattle.fc_types.specs.Faults.{shared_type}
 use Rattle.fc_types.specs.Judging.{judge_builtin}
@@ -35,7 +35,7 @@ AreGood D (f ∷ fs) (m ∷ ms) = IsGood D f m × AreGood D fs ms
 AreGood D _ _ = ⊥
 
 -- what holds of the declarations before, against those of the whole program
-pub record MeaningsHold (D : Declarations) (ms : List Meaning) (B : DeclaredBefore) : Type 0 where
+pub record MeaningsHold (D : Declarations) (ms : List Meaning) (B : Earlier) : Type 0 where
   pub ceiling : B.ceiling ≡ D.ceiling
   pub inputs : (x : List ℕ) (i : Input) → input_named x B.inputs ≡ Some i → (n : ℕ) × (input_number x D.inputs ≡ Some n) × (slice_get D.inputs n ≡ Some i)
   pub functions : AreGood D B.functions ms
@@ -93,7 +93,7 @@ given_scope x p s given params all e f =
 
 module _ (D : Declarations) (ms : List Meaning) where
   mutual
-    pub typed : {B : DeclaredBefore} {scope : NamedTypes} {e : SourceTerm} {t : ValueType} → Has B scope e t → MeaningsHold D ms B → (S : NamesInScope) (N : Places) (p : ℕ) → forget S ≡ scope → Stand S N p →
+    pub typed : {B : Earlier} {scope : NamedTypes} {e : SourceTerm} {t : ValueType} → Has B scope e t → MeaningsHold D ms B → (S : NamesInScope) (N : Places) (p : ℕ) → forget S ≡ scope → Stand S N p →
         Typed D N p (unfolded D.inputs ms S p e) t
     typed (int_type h) k S N p q s = let c = k.ceiling in ((refl, omega (arith, h, c)), refl)
     typed truth_type k S N p q s = (refl, refl)
@@ -134,7 +134,7 @@ module _ (D : Declarations) (ms : List Meaning) where
         let n = named_good D f B.functions ms g k.functions e in
         typed_call h k S N p q s (params_of (meaning_of f ms)) [] (body_of (meaning_of f ms)) g.params g.result (ap (map (λ (x : Parameter). x.type)) n.0) (sym n.0) tt n.1
 
-    pub typed_call : {B : DeclaredBefore} {scope : NamedTypes} {es : SourceTerms} {ts : List ValueType} → HaveAll B scope es ts → MeaningsHold D ms B → (S : NamesInScope) (N : Places) (p : ℕ) → forget S ≡ scope → Stand S N p →
+    pub typed_call : {B : Earlier} {scope : NamedTypes} {es : SourceTerms} {ts : List ValueType} → HaveAll B scope es ts → MeaningsHold D ms B → (S : NamesInScope) (N : Places) (p : ℕ) → forget S ≡ scope → Stand S N p →
         (params : List Parameter) (given : NamesInScope) (body : NamesInScope → ℕ → Term) (all : List Parameter) (r : ValueType) → ts ≡ map (λ (x : Parameter). x.type) params → forget given ++ params ≡ all → Stand given N p →
         ((inner : NamesInScope) (M : Places) (i : ℕ) → forget inner ≡ all → Stand inner M i → Typed D M i (body inner i) r) → Typed D N p (unfolded_call D.inputs ms S params given p body es) r
     typed_call no_types k S N p q s [] given body all r e f g h = h given N p (sym (append_none (forget given)) ∙ f) g
@@ -149,7 +149,7 @@ module _ (D : Declarations) (ms : List Meaning) where
         (given_scope x p (term_type u) given params all same f) (stand_given x.name given N p (suc p + size u) (term_type u) (omega arith) g) b in
         ((refl, a.0, c.0), c.1)
 
-    pub typed_all : {B : DeclaredBefore} {scope : NamedTypes} {es : SourceTerms} {ts : List ValueType} → HaveAll B scope es ts → MeaningsHold D ms B → (S : NamesInScope) (N : Places) (p : ℕ) → forget S ≡ scope → Stand S N p →
+    pub typed_all : {B : Earlier} {scope : NamedTypes} {es : SourceTerms} {ts : List ValueType} → HaveAll B scope es ts → MeaningsHold D ms B → (S : NamesInScope) (N : Places) (p : ℕ) → forget S ≡ scope → Stand S N p →
         HaveTypes D N p (unfolded_all D.inputs ms S p es) × (types_of (unfolded_all D.inputs ms S p es) ≡ ts)
     typed_all no_types k S N p q s = (tt, refl)
     typed_all (more_types {e = e} h h') k S N p q s =

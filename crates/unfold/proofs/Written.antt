@@ -7,7 +7,7 @@ use Rattle.fc_values.specs.declared.types.Ty.{Ty}
 use Rattle.fc_values.specs.Types.{ValueType, TypeField, type_of}
 use Rattle.fc_values.specs.BuiltinTypes.{inner}
 use Rattle.fc_syntax.specs.Terms.{SourceTerm, SourceTerms, NoTerms, MoreTerms, ApplyTerm, NbrTerm, IfTerm, LetTerm}
-use Rattle.fc_types.specs.Before.{DeclaredBefore}
+use Rattle.fc_types.specs.Before.{Earlier}
 use Rattle.fc_types.specs.Judging.{judge_builtin}
 use Rattle.fc_nodes.specs.declared.nodes.Node.{Node}
 use Rattle.fc_nodes.specs.Terms.{Term, Evolution, size, View, Has, Sort, OfApply, OfNbr, OfEvolve, OfIf, OfLet, places, view_of, term_type}
@@ -87,10 +87,10 @@ module _ (N0 N1 : List Node) (v : View) (s : Sort) (place : ℕ) (p : place ≡ 
       rw k' at g
 
 -- a term has the counted size
-pub size_is : (B : DeclaredBefore) (n : ℕ) (S : NamesInScope) (p : ℕ) (e : SourceTerm) → size (unfolded_in B n S p e) ≡ count (counted B n) e
+pub size_is : (B : Earlier) (n : ℕ) (S : NamesInScope) (p : ℕ) (e : SourceTerm) → size (unfolded_in B n S p e) ≡ count (counted B n) e
 size_is B n S p e = unfolded_size B.inputs (first_meanings B n) (counted B n) (counts_are B.inputs [] [] (take n B.functions) tt) e S p
 
-module _ (B : DeclaredBefore) (n : ℕ) (S : NamesInScope) (N0 N1 : List Node) (v : View) (place : ℕ) (p : place ≡ length N0) (more : length N1 ≡ length N0 + 1) (begun : map view_of N1 ≡ map view_of N0 ++ v ∷ []) where
+module _ (B : Earlier) (n : ℕ) (S : NamesInScope) (N0 N1 : List Node) (v : View) (place : ℕ) (p : place ≡ length N0) (more : length N1 ≡ length N0 + 1) (begun : map view_of N1 ≡ map view_of N0 ++ v ∷ []) where
   after : length N1 ≡ suc (length N0)
   after = omega (arith, more)
 

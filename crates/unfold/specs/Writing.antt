@@ -7,7 +7,7 @@ use Rattle.fc_values.specs.declared.types.Ty.{Ty}
 use Rattle.fc_values.specs.Types.{ValueType, TypeLocal, input_type, type_of}
 use Rattle.fc_syntax.specs.declared.tree.Expr.{Expr}
 use Rattle.fc_syntax.specs.Terms.{SourceTerm, SourceTerms, CallTerm, NoTerms, Parameter, parameter_of, term_of}
-use Rattle.fc_types.specs.Before.{DeclaredBefore, Function}
+use Rattle.fc_types.specs.Before.{Earlier, Function}
 use Rattle.fc_types.specs.Views.{known_of}
 use Rattle.fc_nodes.specs.declared.nodes.Node.{Node}
 use Rattle.fc_nodes.specs.Terms.{Variable, Sense, Term, Terms, Plain, view_of, term_type}
@@ -48,30 +48,30 @@ input_term None = untyped
 input_term (Some r) = Plain (TypeLocal (input_type r.1)) (Sense r.0)
 
 -- what the first so many functions are
-abbrev pub first_meanings : DeclaredBefore → ℕ → List Meaning
+abbrev pub first_meanings : Earlier → ℕ → List Meaning
 first_meanings B n = meanings B.inputs [] (take n B.functions)
 
 -- an expression that sees the first so many functions
-abbrev pub unfolded_in : DeclaredBefore → ℕ → NamesInScope → ℕ → SourceTerm → Term
+abbrev pub unfolded_in : Earlier → ℕ → NamesInScope → ℕ → SourceTerm → Term
 unfolded_in B n scope p e = unfolded B.inputs (first_meanings B n) scope p e
 
-abbrev pub all_unfolded_in : DeclaredBefore → ℕ → NamesInScope → ℕ → SourceTerms → Terms
+abbrev pub all_unfolded_in : Earlier → ℕ → NamesInScope → ℕ → SourceTerms → Terms
 all_unfolded_in B n scope p es = unfolded_all B.inputs (first_meanings B n) scope p es
 
 -- what is left of a call, behind the arguments that are given
-abbrev pub call_by : List Meaning → DeclaredBefore → NamesInScope → List Parameter → (NamesInScope → ℕ → Term) → List (ℕ × ValueType) → ℕ
+abbrev pub call_by : List Meaning → Earlier → NamesInScope → List Parameter → (NamesInScope → ℕ → Term) → List (ℕ × ValueType) → ℕ
     → SourceTerms → Term
 call_by ms B scope params body given p es =
     unfolded_call B.inputs ms scope (drop (length given) params) (arguments given params) p body es
 
-abbrev pub call_in : DeclaredBefore → ℕ → NamesInScope → List ℕ → List (ℕ × ValueType) → ℕ → SourceTerms → Term
+abbrev pub call_in : Earlier → ℕ → NamesInScope → List ℕ → List (ℕ × ValueType) → ℕ → SourceTerms → Term
 call_in B n scope f given p es =
     call_by (first_meanings B n) B scope (params_of (meaning_of f (first_meanings B n)))
     (body_of (meaning_of f (first_meanings B n))) given p es
 
 -- what an expression is read in: what the program declares, how many of its functions are seen, and the names in scope
 pub record Surroundings : Type 0 where
-  pub known : DeclaredBefore
+  pub known : Earlier
   pub visible : ℕ
   pub scope : NamesInScope
 
@@ -112,19 +112,19 @@ pub record IsWritten (before after : List Node) (t : Ty) (u : Term) : Type 0 whe
   pub type : type_of t ≡ term_type u
 
 -- the body of a function is a call of another one, without arguments
-abbrev pub IsBareCall : DeclaredBefore → ℕ → List ℕ → Option (ℕ × Bor Name) → Type 0
+abbrev pub IsBareCall : Earlier → ℕ → List ℕ → Option (ℕ × Bor Name) → Type 0
 IsBareCall B visible x None = Unit {0}
 IsBareCall B visible x (Some r) =
     (f : Function) × FirstAt x B.functions r.0 f × (r.0 < visible) × (f.body ≡ CallTerm r.1.now.text.items NoTerms)
 
 -- two calls without arguments come to the same nodes
-pub record SameCall (B : DeclaredBefore) (n : ℕ) (f : List ℕ) (m : ℕ) (g : List ℕ) : Type 0 where
+pub record SameCall (B : Earlier) (n : ℕ) (f : List ℕ) (m : ℕ) (g : List ℕ) : Type 0 where
   pub term : (scope : NamesInScope) (p : ℕ) → unfolded_in B n scope p (CallTerm f NoTerms)
       ≡ unfolded_in B m scope p (CallTerm g NoTerms)
   pub size : size_of f (counted B n) ≡ size_of g (counted B m)
 
 -- a call without arguments comes to the body of this function
-pub record ComesTo (B : DeclaredBefore) (n : ℕ) (f : List ℕ) (j : ℕ) (body : SourceTerm) : Type 0 where
+pub record ComesTo (B : Earlier) (n : ℕ) (f : List ℕ) (j : ℕ) (body : SourceTerm) : Type 0 where
   pub seen : ℕ
   pub last : List ℕ
   pub function : Function
@@ -135,7 +135,7 @@ pub record ComesTo (B : DeclaredBefore) (n : ℕ) (f : List ℕ) (j : ℕ) (body
   pub body_is : function.body ≡ body
 
 -- such a body, with how many functions it sees; or the call comes to one of a function that isn't there
-abbrev pub IsLastBody : DeclaredBefore → ℕ → List ℕ → Option (ℕ × Bor Expr) → Type 0
+abbrev pub IsLastBody : Earlier → ℕ → List ℕ → Option (ℕ × Bor Expr) → Type 0
 IsLastBody B n f None = (m : ℕ) × (g : List ℕ) × SameCall B n f m g × NoneAmong g B.functions m
 IsLastBody B n f (Some r) = ComesTo B n f r.0 (term_of r.1.now)
 

@@ -54,7 +54,12 @@ fn all_steps(
 }
 
 // Puts the steps from a device behind others.
-fn push_steps(steps: &mut Vec<WalkStep>, net: &Network, device: u32, add: &Add) -> Result<(), Memory>
+fn push_steps(
+    steps: &mut Vec<WalkStep>,
+    net: &Network,
+    device: u32,
+    add: &Add,
+) -> Result<(), Memory>
     requires { EachRises (added_of add.now) }
     ensures { OnOk result (steps.new.items
         ≡ steps.old.items ++ map (step_to (added_of add.now) device) (near net.now device)) }

@@ -9,8 +9,8 @@ use Rattle.fragment_check.specs.Verdicts.{verdict_of}
 use Rattle.settle_rounds.specs.References.{settled_in}
 use Rattle.net_json.specs.SceneCode.{value_of_scene}
 use Rattle.verdict_texts.specs.VerdictTexts.{checked_text}
-use Rattle.fc_inputs.specs.Causes.{Accepted}
-use Rattle.fc_inputs.specs.Starts.{start_of}
+use Rattle.command_frame.specs.Causes.{Accepted}
+use Rattle.command_frame.specs.Starts.{start_of}
 use Rattle.fc_check.specs.Code.{settled_answer}
 use Rattle.fc_check.proofs.Lines.{are_settling, as_many}
 use Rattle.fc_check.proofs.Settling.{from_start}

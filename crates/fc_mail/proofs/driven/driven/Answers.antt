@@ -10,7 +10,7 @@ use Rattle.scramble.specs.Words.{stream_of}
 use Rattle.mail_drive.specs.Drives.{driven}
 use Rattle.net_json.specs.SceneCode.{value_of_scene}
 use Rattle.report.specs.Verdicts.{verdict_text}
-use Rattle.fc_inputs.specs.Code.{value_of}
+use Rattle.command_frame.specs.Code.{value_of}
 use Rattle.fc_mail.proofs.Driving.{no_stop, written}
 use Rattle.fc_mail.proofs.driven.driven.Goals as goal
 

@@ -11,11 +11,11 @@ use Rattle.mail_book.specs.MailViews.{mail_of, quiet}
 use Rattle.mail_count.specs.Laws.{IsGreatestMail}
 use Rattle.report.specs.Texts.{values_text}
 use Rattle.report.specs.Verdicts.{rounds_text}
-use Rattle.fc_inputs.specs.Causes.{Refused}
-use Rattle.fc_inputs.specs.Answers.{plain}
-use Rattle.fc_inputs.specs.Code.{value_of}
-use Rattle.fc_inputs.proofs.Stopping.{stop_is, stops_map}
-use Rattle.fc_inputs.specs.Starts.{start_of}
+use Rattle.command_frame.specs.Causes.{Refused}
+use Rattle.command_frame.specs.Answers.{plain}
+use Rattle.command_frame.specs.Code.{value_of}
+use Rattle.command_frame.proofs.Stopping.{stop_is, stops_map}
+use Rattle.command_frame.specs.Starts.{start_of}
 use Rattle.fc_mail.specs.Code.{IsFaultyMail, IsStoppedMail}
 use Rattle.fc_mail.specs.Mails.{Mails, mail_entries_in}
 use Rattle.fc_mail.proofs.Mailing.{numbered_entries, faulty_log, stopped_log, shown_log}

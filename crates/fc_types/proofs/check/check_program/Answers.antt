@@ -1,6 +1,6 @@
 use Rattle.std.proofs.Common.{◌∙◌, ◌+◌, ◌<◌, sym, ap, length, arith, add-one}
 use Rattle.fc_syntax.specs.Terms.{declaration_of}
-use Rattle.fc_types.specs.Before.{DeclaredBefore, with_declaration, nothing_declared}
+use Rattle.fc_types.specs.Before.{Earlier, with_declaration, nothing_declared}
 use Rattle.fc_types.specs.Views.{known_of}
 use Rattle.fc_types.proofs.Programs.{none_typed, some_fault, more_known, more_typed, fault_at}
 use Rattle.fc_types.proofs.check.check_program.Goals as goal
@@ -24,7 +24,7 @@ loop-index-preserved c =
     let typed = rw c.loop-index.invariant.known at (none_typed (known_of c.loop-index.known) (declaration_of c.decl-item.result) c.in-Ok.ensures) in
     rw add-one (record {
       known = c.in_ok-declare-in-Ok.ensures
-          ∙ ap (λ (B : DeclaredBefore). with_declaration B (declaration_of c.decl-item.result)) c.loop-index.invariant.known
+          ∙ ap (λ (B : Earlier). with_declaration B (declaration_of c.decl-item.result)) c.loop-index.invariant.known
           ∙ sym (more_known nothing_declared c.args.program.now.decls.items c.loop-index.index c.decl-item.result lt is);
       typed = more_typed nothing_declared c.args.program.now.decls.items c.loop-index.index c.decl-item.result lt is c.loop-index.invariant.typed typed;
     })
