@@ -54,7 +54,8 @@ mutual
     sense_unknown : {B : Earlier} {scope : Scope} {x : List ℕ} → input_named x B.inputs ≡ None
         → FirstFaultIn B scope (SenseTerm x) kind.Unknown
     -- call
-    in_argument : {B : Earlier} {scope : Scope} {f : List ℕ} {es : SourceTerms} {k : TypeKind} → FirstFaultAmong B scope es k
+    in_argument : {B : Earlier} {scope : Scope} {f : List ℕ} {es : SourceTerms} {k : TypeKind}
+        → FirstFaultAmong B scope es k
         → FirstFaultIn B scope (CallTerm f es) k
     call_unknown : {B : Earlier} {scope : Scope} {f : List ℕ} {es : SourceTerms} {ts : List ValueType} →
         HaveTypes B scope es ts → function_named f B.functions ≡ None
@@ -67,7 +68,8 @@ mutual
         → (ts ≡ parameter_types g → ⊥) →
         FirstFaultIn B scope (CallTerm f es) kind.Mismatch
     -- builtin, `rise` among them
-    in_operand : {B : Earlier} {scope : Scope} {b : Builtin} {es : SourceTerms} {k : TypeKind} → FirstFaultAmong B scope es k
+    in_operand : {B : Earlier} {scope : Scope} {b : Builtin} {es : SourceTerms} {k : TypeKind}
+        → FirstFaultAmong B scope es k
         → FirstFaultIn B scope (ApplyTerm b es) k
     builtin_mismatch : {B : Earlier} {scope : Scope} {b : Builtin} {es : SourceTerms} {ts : List ValueType} →
         HaveTypes B scope es ts → HasNoRule b ts → (IsWidePair b ts → ⊥)
@@ -82,7 +84,8 @@ mutual
     -- `rep`
     in_rep_first : {B : Earlier} {scope : Scope} {e : SourceTerm} {x : List ℕ} {b : SourceTerm} {k : TypeKind}
         → FirstFaultIn B scope e k → FirstFaultIn B scope (RepTerm e x b) k
-    in_rep_body : {B : Earlier} {scope : Scope} {e : SourceTerm} {x : List ℕ} {b : SourceTerm} {k : TypeKind} {s : ValueType} →
+    in_rep_body : {B : Earlier} {scope : Scope} {e : SourceTerm} {x : List ℕ} {b : SourceTerm} {k : TypeKind}
+        {s : ValueType} →
         HasType B scope e s → FirstFaultIn B (with_variable x s scope) b k → FirstFaultIn B scope (RepTerm e x b) k
     rep_not_local : {B : Earlier} {scope : Scope} {e : SourceTerm} {x : List ℕ} {b : SourceTerm} {s t : ValueType} →
         HasType B scope e s → HasType B (with_variable x s scope) b t → IsField s ⊎ IsField t
@@ -91,12 +94,14 @@ mutual
         HasType B scope e (TypeLocal s) → HasType B (with_variable x (TypeLocal s) scope) b (TypeLocal t) → (s ≡ t → ⊥)
         → FirstFaultIn B scope (RepTerm e x b) kind.Mismatch
     rep_twice : {B : Earlier} {scope : Scope} {e : SourceTerm} {x : List ℕ} {b : SourceTerm} {t : LocalType} →
-        HasType B scope e (TypeLocal t) → HasType B (with_variable x (TypeLocal t) scope) b (TypeLocal t) → IsBound x scope
+        HasType B scope e (TypeLocal t) → HasType B (with_variable x (TypeLocal t) scope) b (TypeLocal t)
+        → IsBound x scope
         → FirstFaultIn B scope (RepTerm e x b) kind.Twice
     -- `share`
     in_share_first : {B : Earlier} {scope : Scope} {e : SourceTerm} {x : List ℕ} {b : SourceTerm} {k : TypeKind}
         → FirstFaultIn B scope e k → FirstFaultIn B scope (ShareTerm e x b) k
-    in_share_body : {B : Earlier} {scope : Scope} {e : SourceTerm} {x : List ℕ} {b : SourceTerm} {k : TypeKind} {s : ValueType} →
+    in_share_body : {B : Earlier} {scope : Scope} {e : SourceTerm} {x : List ℕ} {b : SourceTerm} {k : TypeKind}
+        {s : ValueType} →
         HasType B scope e s → FirstFaultIn B (with_variable x (shared_type s) scope) b k
         → FirstFaultIn B scope (ShareTerm e x b) k
     share_not_local : {B : Earlier} {scope : Scope} {e : SourceTerm} {x : List ℕ} {b : SourceTerm} {s t : ValueType} →
@@ -106,7 +111,8 @@ mutual
         HasType B scope e (TypeLocal s) → HasType B (with_variable x (TypeField s) scope) b (TypeLocal t) → (s ≡ t → ⊥)
         → FirstFaultIn B scope (ShareTerm e x b) kind.Mismatch
     share_twice : {B : Earlier} {scope : Scope} {e : SourceTerm} {x : List ℕ} {b : SourceTerm} {t : LocalType} →
-        HasType B scope e (TypeLocal t) → HasType B (with_variable x (TypeField t) scope) b (TypeLocal t) → IsBound x scope
+        HasType B scope e (TypeLocal t) → HasType B (with_variable x (TypeField t) scope) b (TypeLocal t)
+        → IsBound x scope
         → FirstFaultIn B scope (ShareTerm e x b) kind.Twice
     -- `if`
     in_condition : {B : Earlier} {scope : Scope} {c a b : SourceTerm} {k : TypeKind} → FirstFaultIn B scope c k
@@ -133,7 +139,8 @@ mutual
 
   -- the first fault among expressions in a row
   pub data FirstFaultAmong : Earlier → Scope → SourceTerms → TypeKind → Type 0 where
-    in_first : {B : Earlier} {scope : Scope} {e : SourceTerm} {es : SourceTerms} {k : TypeKind} → FirstFaultIn B scope e k
+    in_first : {B : Earlier} {scope : Scope} {e : SourceTerm} {es : SourceTerms} {k : TypeKind}
+        → FirstFaultIn B scope e k
         → FirstFaultAmong B scope (MoreTerms e es) k
     in_later : {B : Earlier} {scope : Scope} {e : SourceTerm} {es : SourceTerms} {k : TypeKind} {t : ValueType} →
         HasType B scope e t → FirstFaultAmong B scope es k → FirstFaultAmong B scope (MoreTerms e es) k
@@ -185,7 +192,8 @@ pub data DeclarationFault : Earlier → Declaration → TypeKind → Type 0 wher
       IsNew f B → AreParameters [] ps → IsNarrow r → HasType B ps e t → (t ≡ r → ⊥)
       → DeclarationFault B (DefIs f ps r e) kind.Result
   -- `main`
-  main_expression : {B : Earlier} {e : SourceTerm} {k : TypeKind} → FirstFaultIn B [] e k → DeclarationFault B (MainIs e) k
+  main_expression : {B : Earlier} {e : SourceTerm} {k : TypeKind} → FirstFaultIn B [] e k
+      → DeclarationFault B (MainIs e) k
   main_not_local : {B : Earlier} {e : SourceTerm} {t : LocalType} → HasType B [] e (TypeField t)
       → DeclarationFault B (MainIs e) kind.NotLocal
 

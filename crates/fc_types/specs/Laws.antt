@@ -9,11 +9,13 @@ use Rattle.fc_types.specs.Faults.{FirstFaultIn, FirstFault}
 
 -- an expression has one type at most, one first fault at most, and not both
 abbrev pub OneType : Type 0
-OneType = (B : Earlier) (scope : Scope) (e : SourceTerm) (s t : ValueType) → HasType B scope e s → HasType B scope e t → s ≡ t
+OneType =
+    (B : Earlier) (scope : Scope) (e : SourceTerm) (s t : ValueType) → HasType B scope e s → HasType B scope e t → s ≡ t
 
 abbrev pub OneFaultIn : Type 0
 OneFaultIn =
-    (B : Earlier) (scope : Scope) (e : SourceTerm) (k l : TypeKind) → FirstFaultIn B scope e k → FirstFaultIn B scope e l → k
+    (B : Earlier) (scope : Scope) (e : SourceTerm) (k l : TypeKind) → FirstFaultIn B scope e k
+    → FirstFaultIn B scope e l → k
     ≡ l
 
 abbrev pub TypeOrFault : Type 0

@@ -31,28 +31,33 @@ mutual
     nbr_link_type : {B : Earlier} {scope : Scope} → HasType B scope NbrLinkTerm (TypeField IntType)
     sense_type : {B : Earlier} {scope : Scope} {x : List ℕ} {i : Input} → input_named x B.inputs ≡ Some i
         → HasType B scope (SenseTerm x) (TypeLocal (input_type i.type))
-    builtin_type : {B : Earlier} {scope : Scope} {b : Builtin} {es : SourceTerms} {ts : List ValueType} {t : ValueType} →
+    builtin_type : {B : Earlier} {scope : Scope} {b : Builtin} {es : SourceTerms} {ts : List ValueType}
+        {t : ValueType} →
         HaveTypes B scope es ts → HasRule b ts t → HasType B scope (ApplyTerm b es) t
     nbr_type : {B : Earlier} {scope : Scope} {e : SourceTerm} {t : LocalType} → HasType B scope e (TypeLocal t)
         → HasType B scope (NbrTerm e) (TypeField t)
     rep_type : {B : Earlier} {scope : Scope} {e : SourceTerm} {x : List ℕ} {b : SourceTerm} {t : LocalType} →
-        HasType B scope e (TypeLocal t) → HasType B (with_variable x (TypeLocal t) scope) b (TypeLocal t) → IsFree x scope
+        HasType B scope e (TypeLocal t) → HasType B (with_variable x (TypeLocal t) scope) b (TypeLocal t)
+        → IsFree x scope
         → HasType B scope (RepTerm e x b) (TypeLocal t)
     share_type : {B : Earlier} {scope : Scope} {e : SourceTerm} {x : List ℕ} {b : SourceTerm} {t : LocalType} →
-        HasType B scope e (TypeLocal t) → HasType B (with_variable x (TypeField t) scope) b (TypeLocal t) → IsFree x scope
+        HasType B scope e (TypeLocal t) → HasType B (with_variable x (TypeField t) scope) b (TypeLocal t)
+        → IsFree x scope
         → HasType B scope (ShareTerm e x b) (TypeLocal t)
     if_type : {B : Earlier} {scope : Scope} {c a b : SourceTerm} {t : LocalType} →
         HasType B scope c (TypeLocal BoolType) → HasType B scope a (TypeLocal t) → HasType B scope b (TypeLocal t)
         → HasType B scope (IfTerm c a b) (TypeLocal t)
     let_type : {B : Earlier} {scope : Scope} {x : List ℕ} {a b : SourceTerm} {s t : ValueType} →
-        HasType B scope a s → HasType B (with_variable x s scope) b t → IsFree x scope → HasType B scope (LetTerm x a b) t
+        HasType B scope a s → HasType B (with_variable x s scope) b t → IsFree x scope
+        → HasType B scope (LetTerm x a b) t
     call_type : {B : Earlier} {scope : Scope} {f : List ℕ} {es : SourceTerms} {g : Function} →
         function_named f B.functions ≡ Some g → HaveTypes B scope es (parameter_types g)
         → HasType B scope (CallTerm f es) g.result
 
   pub data HaveTypes : Earlier → Scope → SourceTerms → List ValueType → Type 0 where
     no_types : {B : Earlier} {scope : Scope} → HaveTypes B scope NoTerms []
-    more_types : {B : Earlier} {scope : Scope} {e : SourceTerm} {es : SourceTerms} {t : ValueType} {ts : List ValueType} →
+    more_types : {B : Earlier} {scope : Scope} {e : SourceTerm} {es : SourceTerms} {t : ValueType}
+        {ts : List ValueType} →
         HasType B scope e t → HaveTypes B scope es ts → HaveTypes B scope (MoreTerms e es) (t ∷ ts)
 
 -- a type with at most 8 leaves

@@ -61,7 +61,8 @@ impl<'a> Known<'a> {
     /// Adds a declaration.
     pub fn declare(&mut self, decl: &'a Decl) -> Result<(), Memory>
         requires { IsTypedDeclaration (known_of self.old) (declaration_of decl.now) }
-        ensures { IfOk result (λ _. known_of self.new ≡ with_declaration (known_of self.old) (declaration_of decl.now)) }
+        ensures { IfOk result (λ _.
+            known_of self.new ≡ with_declaration (known_of self.old) (declaration_of decl.now)) }
     {
         match decl {
             Decl::Language(_) => {}

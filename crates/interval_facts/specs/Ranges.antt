@@ -102,7 +102,8 @@ abbrev pub range_of_two : (RangeValue → RangeValue → RangeValue) → RangeVa
 range_of_two f other (r ∷ s ∷ []) = f r s
 range_of_two f other _ = other
 
-abbrev pub range_of_three : (RangeValue → RangeValue → RangeValue → RangeValue) → RangeValue → List RangeValue → RangeValue
+abbrev pub range_of_three : (RangeValue → RangeValue → RangeValue → RangeValue) → RangeValue → List RangeValue
+    → RangeValue
 range_of_three f other (r ∷ s ∷ u ∷ []) = f r s u
 range_of_three f other _ = other
 

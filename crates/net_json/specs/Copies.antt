@@ -102,7 +102,8 @@ pub record CopyForm : Type 0 where
 
 abbrev pub copy_form : List ℕ → Data → JudgedScene CopyForm
 copy_form path d =
-    if_accepted (given (Misshaped path) (four_members (codes "id") (codes "inputs") (codes "own") (codes "near") d)) (λ m.
+    if_accepted
+    (given (Misshaped path) (four_members (codes "id") (codes "inputs") (codes "own") (codes "near") d)) (λ m.
     if_accepted (given (Misshaped (at_member path (codes "id"))) (whole m.0.0)) (λ id.
     if_accepted (given (Misshaped (at_member path (codes "inputs"))) (size_of m.0.1)) (λ size.
     require (is_null_or_object m.1.0) (Misshaped (at_member path (codes "own")))

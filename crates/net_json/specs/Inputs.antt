@@ -21,7 +21,8 @@ has_exactly is d = has_size (length is) d && has_names is d
 -- the value of one input: a value by its form, then of the declared type, then in its range
 abbrev pub input_judged : InputTy → List ℕ → Option Data → JudgedScene LocalValue
 input_judged ty path d =
-    if_accepted (given (Misshaped path) (option_and_then value_of d)) (λ v. no_fault (input_fault ty v) path (Accepted v))
+    if_accepted (given (Misshaped path) (option_and_then value_of d)) (λ v.
+    no_fault (input_fault ty v) path (Accepted v))
 
 -- the values of the inputs one by one, in declared order, behind those before
 abbrev pub values_judged : List ℕ → Data → List LocalValue → List Input → JudgedScene (List LocalValue)

@@ -69,4 +69,5 @@ abbrev pub three_members : List ℕ → List ℕ → List ℕ → Data → Optio
 three_members a b c d = if has_size 3 d then both_some (get a d) (both_some (get b d) (get c d)) else None
 
 abbrev pub four_members : List ℕ → List ℕ → List ℕ → List ℕ → Data → Option ((Data × Data) × (Data × Data))
-four_members a b c e d = if has_size 4 d then both_some (both_some (get a d) (get b d)) (both_some (get c d) (get e d)) else None
+four_members a b c e d =
+    if has_size 4 d then both_some (both_some (get a d) (get b d)) (both_some (get c d) (get e d)) else None

@@ -52,7 +52,8 @@ impl Network {
         requires numbers { HaveNumbers (map net_device_of devices.items) }
         requires inputs { HaveInputs (length declared.inputs.items) (map net_device_of devices.items) }
         ensures ok { IfOk result (λ n. n ≡ made (declarations_of declared) (map net_device_of devices.items)) }
-        ensures accepted { OnOk result (make_fault (declarations_of declared) (map net_device_of devices.items) ≡ None) }
+        ensures accepted { OnOk result
+            (make_fault (declarations_of declared) (map net_device_of devices.items) ≡ None) }
         ensures refused { IfErr result (RefusesMake (declarations_of declared) (map net_device_of devices.items)) }
     {
         let count = devices.len();

@@ -139,7 +139,8 @@ abbrev mutual
   unfolded is ms scope p (CallTerm f es) =
       unfolded_call is ms scope (params_of (meaning_of f ms)) [] p (body_of (meaning_of f ms)) es
 
-  pub unfolded_call : List Input → List Meaning → NamesInScope → List Parameter → NamesInScope → ℕ → (NamesInScope → ℕ → Term)
+  pub unfolded_call : List Input → List Meaning → NamesInScope → List Parameter → NamesInScope → ℕ
+      → (NamesInScope → ℕ → Term)
       → SourceTerms → Term
   unfolded_call is ms scope params given p body NoTerms = body given p
   unfolded_call is ms scope params given p body (MoreTerms e es) =
@@ -172,5 +173,6 @@ main_expression (DefIs f params result body ∷ ds) = main_expression ds
 -- `main`, unfolded
 abbrev pub main_term : List Declaration → Term
 main_term ds =
-    unfolded (with_declarations nothing_declared ds).inputs (meanings (with_declarations nothing_declared ds).inputs [] (with_declarations nothing_declared ds).functions) [] 0
+    unfolded (with_declarations nothing_declared ds).inputs
+    (meanings (with_declarations nothing_declared ds).inputs [] (with_declarations nothing_declared ds).functions) [] 0
     (main_expression ds)

@@ -59,7 +59,8 @@ abbrev pub all_unfolded_in : Earlier → ℕ → NamesInScope → ℕ → Source
 all_unfolded_in B n scope p es = unfolded_all B.inputs (first_meanings B n) scope p es
 
 -- what is left of a call, behind the arguments that are given
-abbrev pub call_by : List Meaning → Earlier → NamesInScope → List Parameter → (NamesInScope → ℕ → Term) → List (ℕ × ValueType) → ℕ
+abbrev pub call_by : List Meaning → Earlier → NamesInScope → List Parameter → (NamesInScope → ℕ → Term)
+    → List (ℕ × ValueType) → ℕ
     → SourceTerms → Term
 call_by ms B scope params body given p es =
     unfolded_call B.inputs ms scope (drop (length given) params) (arguments given params) p body es
