@@ -71,8 +71,8 @@ OUTSIDE = (
     ("is_utf8", "whether bytes are UTF-8"),
     ("strip_last", "bytes without the last one, if it is this byte"),
     ("Appends Keeps IsAtEnd",
-     "of bytes that may be told or not: these were added at the end; they stayed as they were; none is left. Nothing is "
-     "said where they aren't told"),
+     "of bytes that may be told or not: these were added at the end; they stayed as they were; none is left. Nothing "
+     "is said where they aren't told"),
     ("ReadsAtMost WritesAtMost", "a read, a write, answers no more than the bytes that it was given"),
     ("ReadConsumes",
      "a read takes the first bytes that were left, none only at the end or without room for one; at a fault none"),
@@ -83,6 +83,6 @@ OUTSIDE = (
     ("as_null as_number as_u64 as_array as_object get",
      "what a JSON value is, if it is this; the member of a name, if it is an object that has it"),
     ("read compact_text",
-     "the JSON value of a text, if it is one, at most 127 deep, where of several members of one name the last one counts; "
-     "the text of a value, without spaces"),
+     "the JSON value of a text, if it is one, at most 127 deep, where of several members of one name the last one "
+     "counts; the text of a value, without spaces"),
 )  # fmt: skip

@@ -156,8 +156,9 @@ class Closure(unittest.TestCase):
     def test_what_is_said_of_a_definition(self) -> None:
         with tempfile.TemporaryDirectory() as room:
             written = Path(room, "Lengths.antt")
-            written.write_text("-- Lengths.\n\n-- ---- of lists\nabbrev pub one : ℕ\none = 1\n\n-- two\nabbrev pub two : ℕ\n")
-            found = {it.name: (it.first, it.comment) for it in read_definitions(written, "low/specs/Lengths.antt").definitions}
+            written.write_text("-- Lengths.\n\n-- ---- of lists\nabbrev pub one : ℕ\none = 1\n\n-- two\ntwo = 2\n")
+            read = read_definitions(written, "low/specs/Lengths.antt")
+            found = {it.name: (it.first, it.comment) for it in read.definitions}
             self.assertEqual(found, {"one": (4, ""), "two": (7, "two")})
             written = Path(room, "cut.rt")
             written.write_text("//! Cuts.\n\n// The cut.\nconst CUT: u32 = 1;\n")
