@@ -40,8 +40,8 @@ EDITS = ("firing_core/specs/Cores.antt Edits", "firing_core/specs/Entries.antt E
 PROMISES = (
     Promise(
         "What stabilises means",
-        "The rules of the calculus, networks, firings and rounds, solutions, and the promise itself, `Stabilises`. What "
-        "an edit is and does (`EditValue`, `Edits`) is left for `replay`: a log that has rounds has no edit "
+        "The rules of the calculus, networks, firings and rounds, solutions, and the promise itself, `Stabilises`. "
+        "What an edit is and does (`EditValue`, `Edits`) is left for `replay`: a log that has rounds has no edit "
         "(`HasRounds`, `has_edit`).",
         ("converge_laws/specs/Stabilising.antt Stabilises",),
         EDITS,
