@@ -19,8 +19,8 @@ What to read to believe what `fc` promises, by file and lines. `docs/headline.md
 `tools/audit` makes this page from the definitions as they stand, and the gate fails where it isn't what the tool makes.
 
 **In an hour** one reads *How it is written*, *From the clause to the rules* and section 1. These are {hour} lines of \
-definitions, which lead from the clause of `fc` to the rules by which a device evaluates, and say all that a yes means. \
-The other sections are for a second reading: what a text, a line or an option is, and what else is promised.
+definitions, which lead from the clause of `fc` to the rules by which a device evaluates, and say all that a yes \
+means. The other sections are for a second reading: what a text, a line or an option is, and what else is promised.
 
 **In which order.** In the sections a row rests on the rows above it, and beside them on the names of *What stands \
 outside* alone: nothing has to be looked up elsewhere. A row names what its lines define, so a search on this page \
