@@ -9,6 +9,7 @@ use Rattle.command_frame.specs.Causes.{Accepted}
 use Rattle.command_frame.specs.Inputs.{InputOf, OneInput, ReadsInput, TextsUnfold}
 use Rattle.command_frame.specs.Sources.{IsProgramText}
 
+-- the core of a scene: its network, the exports of its table, and its copies in flight
 abbrev pub start_of : SceneValue → Core
 start_of s = record {
   net = s.net;
