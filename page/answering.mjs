@@ -1,6 +1,6 @@
 // What is asked of fc, and how its answer is shown.
 import { readBounds, readPaths, readSettled, readStable, readValues, readVerdict } from "./answers.mjs";
-import { Stopped, inputOf, workers } from "./asking.mjs";
+import { Stopped, inputOf, isOfStack, workers } from "./asking.mjs";
 import { Misfit, blockAt, composed, headOf } from "./blocks.mjs";
 import { wordsOf } from "./changes.mjs";
 import { hasChanges, isRefused, mayChange, refuseLine } from "./changing.mjs";
@@ -8,7 +8,7 @@ import { at, button, element } from "./elements.mjs";
 import { saidOfLine } from "./lines.mjs";
 import { formsOf, markOf } from "./marking.mjs";
 import { MOST_DEVICES } from "./network.mjs";
-import { aloneNodes, boundsNodes, brief, verdictNodes } from "./panels.mjs";
+import { aloneNodes, boundsNodes, brief, headline, verdictNodes } from "./panels.mjs";
 import { madeNetwork } from "./places.mjs";
 import { clearFault, complain, drawBlocks, library, program, whereOf } from "./program.mjs";
 import { startRun } from "./run.mjs";
@@ -40,11 +40,13 @@ export async function ask() {
     drawBlocks();
     const busy = setTimeout(() => busyIs(true), BUSY);
     asked++;
+    const input = inputOf(known.made.text, sceneOf(now.state.network, now.declared));
     try {
-        await answered(inputOf(known.made.text, sceneOf(now.state.network, now.declared)), isNew);
+        await answered(input, isNew);
     } catch (error) {
         if (error instanceof Stopped || !isNew()) return;
-        failed(/** @type {Error} */ (error));
+        const verdict = isOfStack(/** @type {Error} */ (error)) ? await verdictOf(input) : [];
+        if (isNew()) failed(/** @type {Error} */ (error), verdict);
     } finally {
         asked--;
         clearTimeout(busy);
@@ -248,12 +250,26 @@ function misfits(error) {
     draw();
 }
 
-/** @param {Error} error */
-function failed(error) {
+/**
+ * The verdict alone, where this browser has too little stack for more.
+ * @param {string} input
+ */
+async function verdictOf(input) {
+    const { status, text } = await workers.answer.ask("check", input).catch(() => ({ status: 2, text: "" }));
+    if (status > 1) return [];
+    const { rounds } = readVerdict(text.trim());
+    return [element("p", { class: `big ${rounds === null ? "no-verdict" : "yes"}`, text: headline(rounds) })];
+}
+
+/**
+ * @param {Error} error
+ * @param {Node[]} verdict
+ */
+function failed(error, verdict) {
     forget();
     const said = saidOfFailure(error);
     clearFault();
-    at("brief").textContent = "No answer";
-    at("verdict").replaceChildren(element("p", { text: said.what }), element("p", { text: said.hint }));
+    at("brief").textContent = verdict.length ? "The verdict alone" : "No answer";
+    at("verdict").replaceChildren(...verdict, element("p", { text: said.what }), element("p", { text: said.hint }));
     draw();
 }

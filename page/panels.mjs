@@ -22,6 +22,10 @@ import { counted } from "./words.mjs";
 
 const UNEDITED = "in which nobody edits network or inputs";
 
+/** @param {number | null} rounds of a yes, or null for a no */
+export const headline = (rounds) => rounds === null ? "No: it isn't known to settle everywhere"
+    : `Yes: it settles after ${counted(rounds, "round")}`;
+
 /**
  * The verdict in words.
  * @param {Settled} settled
@@ -30,7 +34,6 @@ const UNEDITED = "in which nobody edits network or inputs";
 export function verdictNodes({ verdict, rounds, byDevice }, count) {
     const isYes = verdict.rounds !== null, all = counted(count, "device");
     const most = counted(verdict.rounds ?? 0, "round"), always = "from every start and in every order of firings";
-    const of = isYes ? `Yes: it settles after ${most}` : "No: it isn't known to settle everywhere";
     const everywhere = isYes
         ? `On every network of ${all}, ${always}, ${most} ${UNEDITED} lead each device to its final value.`
         : "A no says nothing of one network alone; what holds on this one comes next.";
@@ -40,7 +43,7 @@ export function verdictNodes({ verdict, rounds, byDevice }, count) {
         : isYes ? `On this network: no smaller number was found for ${counted(missing, "device")}.`
             : `On this network it is open: for ${counted(missing, "device")} no number of rounds was found.`;
     return [
-        element("p", { class: `big ${isYes ? "yes" : "no-verdict"}`, text: of }),
+        element("p", { class: `big ${isYes ? "yes" : "no-verdict"}`, text: headline(verdict.rounds) }),
         element("p", { text: everywhere }),
         element("p", { text: here }),
     ];
@@ -73,7 +76,7 @@ export function boundsNodes({ verdict, rounds, byDevice }, settled) {
  */
 export function aloneNodes(one, most) {
     if (one === null || most === null) {
-        return [element("p", { class: "big no-verdict", text: "No: it isn't known to settle everywhere" })];
+        return [element("p", { class: "big no-verdict", text: headline(null) })];
     }
     const after = `After ${counted(one, "round")} ${UNEDITED}, on one device`;
     const then = one === most ? " as" : `; after ${most.toLocaleString("en")}`;

@@ -1,4 +1,5 @@
 // What fc's lines mean, in words.
+import { isOfStack } from "./asking.mjs";
 
 /**
  * A sentence, and what to try.
@@ -162,8 +163,12 @@ export function saidOf(line, habit) {
  * @returns {Said}
  */
 export function saidOfFailure(error) {
+    if (isOfStack(error)) {
+        return { what: "This browser has too little stack for a program that nests so deeply.",
+            hint: "Nest less deeply, or use a newer browser: Chromium from version 137 on has enough." };
+    }
     if (/RangeError/.test(error.message)) {
-        return { what: "This browser has too little stack or memory for this program.", hint: "Nest less deeply." };
+        return { what: "This browser has too little memory for this.", hint: "Use fewer devices or links." };
     }
     return { what: `fc gave no answer: ${error.message}.`, hint: "" };
 }

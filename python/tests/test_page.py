@@ -33,8 +33,8 @@ SECONDS = 10
 STILL = 1000
 # so many lines has a module of the page at most
 MOST_LINES = 400
-# for so many conformance cases, of those with so many bytes, a worker's own stack is too small
-MOST_DEEP, LONG = 2, 8000
+# conformance cases with more bytes than this may take more stack than a worker has
+LONG = 8000
 GAPS = """
     window.gap = 0; let before = performance.now();
     setInterval(() => { const now = performance.now(); gap = Math.max(gap, now - before); before = now; }, 10); 1
@@ -562,16 +562,20 @@ class Answers(Opened):
         self.assertEqual(self.differing(cases), [])
 
     def test_deep_cases_where_calls_have_no_stack_of_their_own(self) -> None:
-        """A worker of a browser that can't suspend calls has less stack than some programs take: then it is told."""
+        """A worker of a browser that can't suspend calls has less stack than some programs take: then the page works
+        out the verdict alone, and says so."""
         file = self.folder / "older.html"
         file.write_text(self.file.read_text().replace("WebAssembly.promising", "WebAssembly.unknown"))
         self.browser.open(file)
         self.settled()
         long = [case for case in read_cases() if len(case.input) > LONG]
         differing = self.differing(long)
-        self.assertEqual([row for row in differing if "RangeError" not in row[3]], [])
-        self.assertLessEqual(len(differing), MOST_DEEP)
-        self.assertGreater(len(long), MOST_DEEP)
+        self.assertEqual(differing, [])
+        self.assertGreater(len(long), 20)
+        self.write(f"ceiling 10; input src: bool;\nmain = {'not ' * 2000}sense src;\n")
+        self.browser.until("document.getElementById('brief').textContent === 'The verdict alone'")
+        self.assertRegex(self.of("verdict"), "^Yes: it settles after 1 round.*too little stack.*newer browser")
+        self.assertTrue(self.browser.value("document.getElementById('run').disabled"))
 
 
 class Changes(Opened):
