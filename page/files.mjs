@@ -115,7 +115,7 @@ export function showExample(name) {
     if (!found) restore(own.state());
     else restore(withChanges({ ...fresh(), program: found.program, network: readScene(found.scene) }, found.changes));
     at("example").value = name;
-    if (name === "empty") tell("Click on the drawing: there a device is added.");
+    if (name === "empty") tell("Click or tap on the drawing: there a device is added.");
 }
 
 // Files.
