@@ -1,16 +1,16 @@
 // What is asked of fc, and how its answer is shown.
 import { readBounds, readPaths, readSettled, readStable, readValues, readVerdict } from "./answers.mjs";
-import { Stopped, inputOf, workers } from "./asking.mjs";
-import { Misfit, composed } from "./blocks.mjs";
+import { Stopped, inputOf, isOfStack, workers } from "./asking.mjs";
+import { Misfit, blockAt, composed, headOf } from "./blocks.mjs";
 import { wordsOf } from "./changes.mjs";
 import { hasChanges, isRefused, mayChange, refuseLine } from "./changing.mjs";
 import { at, button, element } from "./elements.mjs";
 import { saidOfLine } from "./lines.mjs";
 import { formsOf, markOf } from "./marking.mjs";
 import { MOST_DEVICES } from "./network.mjs";
-import { aloneNodes, boundsNodes, brief, verdictNodes } from "./panels.mjs";
+import { aloneNodes, boundsNodes, brief, headline, verdictNodes } from "./panels.mjs";
 import { madeNetwork } from "./places.mjs";
-import { clearFault, complain, drawBlocks, library, program } from "./program.mjs";
+import { clearFault, complain, drawBlocks, library, program, whereOf } from "./program.mjs";
 import { startRun } from "./run.mjs";
 import { sceneOf } from "./scenes.mjs";
 import { draw, forget, isWaiting, known, now } from "./state.mjs";
@@ -40,11 +40,13 @@ export async function ask() {
     drawBlocks();
     const busy = setTimeout(() => busyIs(true), BUSY);
     asked++;
+    const input = inputOf(known.made.text, sceneOf(now.state.network, now.declared));
     try {
-        await answered(inputOf(known.made.text, sceneOf(now.state.network, now.declared)), isNew);
+        await answered(input, isNew);
     } catch (error) {
         if (error instanceof Stopped || !isNew()) return;
-        failed(/** @type {Error} */ (error));
+        const verdict = isOfStack(/** @type {Error} */ (error)) ? await verdictOf(input) : [];
+        if (isNew()) failed(/** @type {Error} */ (error), verdict);
     } finally {
         asked--;
         clearTimeout(busy);
@@ -211,12 +213,25 @@ function refused(text) {
     known.wrote = text;
     const mark = known.made && markOf(known.made, text);
     const said = saidOf(text, mark && !mark.block ? habitAt(now.state.program, mark) : "");
-    at("brief").textContent = "Not an input yet";
-    at("verdict").replaceChildren(element("p", { class: "big", text: said.what }), element("p", { text: said.hint }));
+    const isOfProgram = /^(lexical|syntax|types|limit (tokens|depth|nodes))\b/.test(text);
+    if (mark && /^types \d+ (count|mismatch)$/.test(text)) said.hint += callAt(mark.from);
+    at("brief").textContent = isOfProgram ? "Not a program yet" : "No answer for this network";
+    at("verdict").replaceChildren(
+        element("p", { class: "big", text: `${mark && isOfProgram ? `${whereOf(mark)}: ` : ""}${said.what}` }),
+        element("p", { text: said.hint }));
     at("wrote").textContent = `${text}\n`;
-    if (/^(lexical|syntax|types|limit (tokens|depth|nodes))\b/.test(text)) complain(said, mark, "");
+    if (isOfProgram) complain(said, mark, "");
     else clearFault();
     draw();
+}
+
+/**
+ * How the block is declared in whose call a place is, if it is in one.
+ * @param {number} place in the own text
+ */
+function callAt(place) {
+    const block = blockAt(now.state.program, place, library);
+    return block ? ` The block is ${headOf(block)}.` : "";
 }
 
 /** @param {Misfit} error */
@@ -225,8 +240,9 @@ function misfits(error) {
     const { from, to } = error.token, second = error.message.includes("language 2");
     const mend = button("Put it there", () => program(`language 2;\n${now.state.program}`));
     complain({ what: error.message, hint: "" }, { from, to, block: "" }, "", ...second ? [" ", mend] : []);
-    at("brief").textContent = "This program isn't ready";
-    at("verdict").replaceChildren(element("p", { text: "fc isn't asked until all functions are defined." }));
+    at("brief").textContent = "Not a program yet";
+    at("verdict").replaceChildren(
+        element("p", { class: "big", text: `${whereOf(error.token)}: ${error.message}` }));
     at("wrote").textContent = "";
     known.made = null;
     drawBlocks();
@@ -234,12 +250,26 @@ function misfits(error) {
     draw();
 }
 
-/** @param {Error} error */
-function failed(error) {
+/**
+ * The verdict alone, where this browser has too little stack for more.
+ * @param {string} input
+ */
+async function verdictOf(input) {
+    const { status, text } = await workers.answer.ask("check", input).catch(() => ({ status: 2, text: "" }));
+    if (status > 1) return [];
+    const { rounds } = readVerdict(text.trim());
+    return [element("p", { class: `big ${rounds === null ? "no-verdict" : "yes"}`, text: headline(rounds) })];
+}
+
+/**
+ * @param {Error} error
+ * @param {Node[]} verdict
+ */
+function failed(error, verdict) {
     forget();
     const said = saidOfFailure(error);
     clearFault();
-    at("brief").textContent = "No answer";
-    at("verdict").replaceChildren(element("p", { text: said.what }), element("p", { text: said.hint }));
+    at("brief").textContent = verdict.length ? "The verdict alone" : "No answer";
+    at("verdict").replaceChildren(...verdict, element("p", { text: said.what }), element("p", { text: said.hint }));
     draw();
 }

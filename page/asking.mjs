@@ -1,10 +1,17 @@
 // Calls of fc in a worker. A call that nobody waits for any more is ended with its worker.
+import { answer } from "../embed/fc.mjs";
 
 /**
  * What fc answers: its status, and its text.
  * @typedef {{status: number, text: string}} Reply
  */
 /** @typedef {{resolve: (reply: Reply) => void, reject: (error: Error) => void}} Waiting */
+
+/**
+ * Whether a call has ended because the engine's stack was too small.
+ * @param {Error} error
+ */
+export const isOfStack = ({ message }) => /call stack|too much recursion/.test(message);
 
 /** A call that was ended because something newer is asked. */
 export class Stopped extends Error {}
@@ -64,7 +71,22 @@ export class Asker {
      * @param {string} input
      * @returns {Promise<Reply>}
      */
-    ask(words, input) {
+    async ask(words, input) {
+        try {
+            return await this.sent(words, input);
+        } catch (error) {
+            // the page's own stack is larger; meanwhile the page stands still, so a verdict alone is worked out on it
+            if (words !== "check" || !isOfStack(/** @type {Error} */ (error))) throw error;
+            return await answer(this.module, words, input);
+        }
+    }
+
+    /**
+     * @param {string} words
+     * @param {string} input
+     * @returns {Promise<Reply>}
+     */
+    sent(words, input) {
         const number = ++this.number;
         return new Promise((resolve, reject) => {
             this.waiting.set(number, { resolve, reject });

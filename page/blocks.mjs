@@ -16,6 +16,9 @@ import { piecesOf } from "./tokens.mjs";
  * @typedef {{own: string, text: string, at: number, inserted: string, taken: Taken[]}} Composition
  */
 
+/** What the language itself makes of neighbours. */
+const OF_NEIGHBOURS = ["minHoodLoc", "maxHoodLoc", "sumHood", "anyHood", "allHood"];
+
 /** What stands in the way of a composition: a sentence, and the token that is meant. */
 export class Misfit extends Error {
     /**
@@ -38,7 +41,34 @@ function callsOf(piece) {
 }
 
 /**
- * At most three names of blocks that are spelled alike.
+ * How a block is declared: its parameters with their types, and the type of what it gives.
+ * @param {Block} block
+ */
+export const headOf = ({ name, call, text }) => (
+    new RegExp(`\\bdef\\s+(${name}\\s*\\([^=]*?)\\s*=`).exec(text)?.[1] ?? call);
+
+/**
+ * The block in whose call a place is, if it is in one.
+ * @param {string} text
+ * @param {number} at
+ * @param {Map<string, Block>} library
+ */
+export function blockAt(text, at, library) {
+    const named = library.get(/^\w*/.exec(text.slice(at))?.[0] ?? "");
+    let open = 0;
+    for (let place = at - 1; !named && place >= 0 && text[place] !== ";"; place--) {
+        if (text[place] === ")") open++;
+        if (text[place] === "(" && open-- === 0) {
+            const found = library.get(/\w*$/.exec(text.slice(0, place))?.[0] ?? "");
+            if (found) return found;
+            open = 0;
+        }
+    }
+    return named;
+}
+
+/**
+ * At most three names, of the language's functions and of blocks, that are spelled alike.
  * @param {string} name
  * @param {Map<string, Block>} library
  */
@@ -46,9 +76,10 @@ export function nearNames(name, library) {
     /** @param {string} text */
     const pairs = (text) => new Set([...text.toLowerCase()].map((one, at, all) => one + (all[at + 1] ?? "")));
     const wanted = pairs(name);
-    const rated = [...library.values()].filter((block) => !block.isPart).map((block) => {
-        const own = pairs(block.name), shared = [...own].filter((pair) => wanted.has(pair)).length;
-        return { name: block.name, rate: 2 * shared / (own.size + wanted.size) };
+    const blocks = [...library.values()].filter((block) => !block.isPart).map((block) => block.name);
+    const rated = [...OF_NEIGHBOURS, ...blocks].map((one) => {
+        const own = pairs(one), shared = [...own].filter((pair) => wanted.has(pair)).length;
+        return { name: one, rate: 2 * shared / (own.size + wanted.size) };
     });
     return rated.filter(({ rate }) => rate > 0.4).sort((a, b) => b.rate - a.rate).slice(0, 3).map((one) => one.name);
 }

@@ -28,7 +28,10 @@ export function drawNetworkFields({ devices, links, range, weight }, { inputs, m
     const chosen = inputs.find(({ name }) => name === select.value);
     at("switching").hidden = tool !== "switch" || !chosen;
     at("amount-label").hidden = chosen?.low === undefined;
-    [at("amount").min, at("amount").max] = [chosen?.low ?? 0, chosen?.high ?? 0];
+    const { low = 0, high = 0 } = chosen ?? {}, field = at("amount");
+    if (field.min === String(low) && field.max === String(high)) return;
+    // of another range, the greatest is offered
+    [field.min, field.max, field.value] = [low, high, high];
 }
 
 /**
@@ -48,7 +51,8 @@ export function drawAnswerFields({ colours, paths, number, round }, known) {
     at("paths").checked = paths;
     at("paths").disabled = !known.paths;
     const none = known.settled && !known.paths;
-    at("no-paths").textContent = none ? "only behind a yes, where main itself is a rep of a gradient" : "";
+    const only = "only for a yes whose main is one rep that adds to the least heard, as in the hop count";
+    at("no-paths").textContent = none ? only : "";
     // a run shows values alone
     const shown = round === null ? shownColours(colours, known) : "values";
     for (const node of document.querySelectorAll("input[name=colours]")) {

@@ -6,12 +6,13 @@ import { HEIGHT, WIDTH, apart } from "./network.mjs";
 /** @typedef {import("./network.mjs").Link} Link */
 /** @typedef {import("./colours.mjs").Look} Look */
 /**
- * What is drawn: the network, the look of a device, the outlines of those whose inputs are true, which are chosen,
- * which aren't right yet, links of paths as a device and the one before it, and what is written of weights. Of what may
- * change: which devices may be away, which of these aren't in the network, whose inputs may change, which links may be
- * missing, and which pairs may be linked.
+ * What is drawn: the network, the look of a device, the outlines of those whose inputs are true, what is written of the
+ * other inputs, which are chosen, which aren't right yet, links of paths as a device and the one before it, and what is
+ * written of weights. Of what may change: which devices may be away, which of these aren't in the network, whose inputs
+ * may change, which links may be missing, and which pairs may be linked.
  * @typedef {{
- *   network: Network, look: (id: number) => Look, rings: (device: Device) => number[], chosen: number | null,
+ *   network: Network, look: (id: number) => Look, rings: (device: Device) => number[],
+ *   sensed: (device: Device) => string, chosen: number | null,
  *   chosenLink: Link | null, isWrong: (id: number) => boolean, isLast: (id: number) => boolean,
  *   paths: [number, number][], path: number[], weights: Map<string, string>,
  *   isAway: (id: number) => boolean, isComing: (id: number) => boolean, mayChange: (id: number) => boolean,
@@ -95,17 +96,18 @@ export class Drawing {
     place(device, picture) {
         const { id, x, y } = device, { fill, half, ink, text } = picture.look(id), { radius } = this;
         const outlines = picture.rings(device), sign = picture.mayChange(id) ? "\u00b1" : "";
+        const sensed = picture.sensed(device);
         const kinds = [
             "device", picture.chosen === id ? "chosen" : "", this.firstEnd === id ? "first-end" : "",
             picture.isWrong(id) ? "wrong" : "", picture.isLast(id) ? "last" : "", picture.isAway(id) ? "away" : "",
             half ? "mixed" : "",
         ].join(" ").trim();
         const node = this.nodes.get(id) ?? this.newDevice(id);
-        const key = [x, y, radius, fill, half, text, sign, kinds, outlines].join();
+        const key = [x, y, radius, fill, half, text, sign, sensed, kinds, outlines].join();
         // what looks as before stays as it is
         if (node.dataset.key === key) return;
         node.dataset.key = key;
-        const [hit, body, value, number, title, ...rings] = node.children;
+        const [hit, body, value, number, inputs, title, ...rings] = node.children;
         node.setAttribute("transform", `translate(${x} ${y})`);
         node.setAttribute("class", kinds);
         hit.setAttribute("r", String(Math.max(radius, 2.6)));
@@ -119,7 +121,9 @@ export class Drawing {
         number.textContent = `${id}${sign}`;
         number.setAttribute("x", String(radius * (outlines.length ? 1.2 : 0.9)));
         number.setAttribute("y", String(-radius * (outlines.length ? 1.1 : 0.9)));
-        number.setAttribute("font-size", String(Math.max(1.1, radius * 0.55)));
+        inputs.textContent = sensed;
+        inputs.setAttribute("y", String(radius * (outlines.length ? 1.9 : 1.6)));
+        [number, inputs].forEach((small) => small.setAttribute("font-size", String(Math.max(1.1, radius * 0.55))));
         title.textContent = `device ${id}${text === "" ? "" : `: ${text}`}`;
     }
 
@@ -166,7 +170,7 @@ export class Drawing {
     newDevice(id) {
         const node = /** @type {SVGElement} */ (made("g", { "data-id": id }));
         node.append(made("circle", { class: "hit" }), made("circle", { class: "body" }));
-        node.append(made("text", { class: "value" }), made("text", { class: "number" }), made("title"));
+        node.append(...["value", "number", "sensed"].map((kind) => made("text", { class: kind })), made("title"));
         this.devices.append(node);
         this.nodes.set(id, node);
         return node;

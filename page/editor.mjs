@@ -75,13 +75,16 @@ export class Editor {
     }
 
     /**
-     * Puts a text where the caret is, on lines of its own.
+     * Puts a text where the caret is, and chooses a part of it.
      * @param {string} text
+     * @param {number} from
+     * @param {number} to
      */
-    insert(text) {
+    insert(text, from, to) {
         const { field } = this, at = field.selectionStart;
         field.focus();
         field.setRangeText(text, at, field.selectionEnd, "end");
+        field.setSelectionRange(at + from, at + Math.max(from, to));
         field.dispatchEvent(new Event("input", { bubbles: true }));
     }
 

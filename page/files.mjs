@@ -11,7 +11,8 @@ import { Unread, readScene, readTable, sceneOf, writeTable } from "./scenes.mjs"
 import { stateOf } from "./sharing.mjs";
 import { drawing } from "./showing.mjs";
 import {
-    askSoon, draw, empty, forget, fresh, known, lastAddress, moving, now, remember, remembered, saveNow, withChanges,
+    OWN, askSoon, draw, empty, forget, fresh, known, lastAddress, moving, now, remember, remembered, saveNow, tell,
+    withChanges,
 } from "./state.mjs";
 import { declaredBy } from "./tokens.mjs";
 
@@ -44,23 +45,46 @@ export function undo() {
 
 export async function fromAddress() {
     if (location.hash === lastAddress) return;
-    const found = location.hash.length > 1 ? await stateOf(location.hash) : fresh();
-    at("notice").hidden = found !== null;
-    at("notice").textContent = found
-        ? "" : "This address has no state that this page can read, so the first example is shown.";
+    const isFirst = location.hash.length <= 1, found = isFirst ? fresh() : await stateOf(location.hash);
+    notice(found ? "" : "This address has no state that this page can read, so the first example is shown. "
+        + "Perhaps its end was cut off.");
     restore(found ?? fresh());
+    if (isFirst || !found) at("example").value = FIRSTS[0].value;
+}
+
+/** @param {string} said what went wrong, or nothing */
+function notice(said) {
+    at("notice").hidden = !said;
+    at("notice").textContent = said;
+}
+
+/** Opens a link that somebody sent, wherever the file of this page was there. */
+export async function openLink() {
+    const text = at("link").value.trim();
+    if (!text) return;
+    const found = await stateOf(text.slice(text.indexOf("#") + 1));
+    notice(found ? "" : "This link has no state that this page can read. Perhaps its end was cut off.");
+    scrollTo(0, 0);
+    if (!found) return;
+    at("link").value = "";
+    remember();
+    restore(found);
 }
 
 export async function share() {
     await saveNow();
     const address = location.href.split("#")[0] + lastAddress;
+    let said = "It is in the address bar";
     try {
         await navigator.clipboard.writeText(address);
-        at("share").textContent = "Copied";
-    } catch {
-        at("share").textContent = "It is in the address bar";
-    }
+        said = "Copied";
+    } catch { /* then it is copied from there */ }
+    at("share").textContent = said;
     setTimeout(() => { at("share").textContent = "Copy link"; }, 3000);
+    // a file has another address on each disk
+    at("shared").hidden = location.protocol !== "file:";
+    at("shared").textContent = `${said}. The link begins with where this file is on your disk. So send the file too: `
+        + "whoever has it, wherever it is there, opens it and pastes the link into the field at its foot.";
 }
 
 // Examples.
@@ -77,7 +101,8 @@ let examples = [];
 export function offerExamples(offered) {
     examples = offered;
     const options = [...FIRSTS.map(({ value, name }) => [value, name]), ...examples.map(({ name }) => [name, name])];
-    at("example").replaceChildren(...options.map(([value, text]) => element("option", { value, text })));
+    at("example").replaceChildren(...options.map(([value, text]) => element("option", { value, text })),
+        element("option", { value: OWN, text: "your own", hidden: true, disabled: true }));
 }
 
 /** @param {string} name */
@@ -89,6 +114,8 @@ export function showExample(name) {
     drawing.begin(null);
     if (!found) restore(own.state());
     else restore(withChanges({ ...fresh(), program: found.program, network: readScene(found.scene) }, found.changes));
+    at("example").value = name;
+    if (name === "empty") tell("Click or tap on the drawing: there a device is added.");
 }
 
 // Files.
@@ -121,11 +148,10 @@ export async function readChosen(event) {
     if (!file) return;
     try {
         readFile(await file.text());
-        at("notice").hidden = true;
+        notice("");
     } catch (error) {
         if (!(error instanceof Unread)) throw error;
-        at("notice").hidden = false;
-        at("notice").textContent = `${file.name} can't be read: ${error.message}.`;
+        notice(`${file.name} can't be read: ${error.message}.`);
     }
     field.value = "";
 }

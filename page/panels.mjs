@@ -20,6 +20,12 @@ import { counted } from "./words.mjs";
  */
 /** @typedef {(id: number, name: string, value: number | boolean) => void} SetInput */
 
+const UNEDITED = "in which nobody edits network or inputs";
+
+/** @param {number | null} rounds of a yes, or null for a no */
+export const headline = (rounds) => rounds === null ? "No: it isn't known to settle everywhere"
+    : `Yes: it settles after ${counted(rounds, "round")}`;
+
 /**
  * The verdict in words.
  * @param {Settled} settled
@@ -28,9 +34,8 @@ import { counted } from "./words.mjs";
 export function verdictNodes({ verdict, rounds, byDevice }, count) {
     const isYes = verdict.rounds !== null, all = counted(count, "device");
     const most = counted(verdict.rounds ?? 0, "round"), always = "from every start and in every order of firings";
-    const of = isYes ? `Yes: it settles after ${most}` : "No: it isn't known to settle everywhere";
     const everywhere = isYes
-        ? `On every network of ${all}, ${always}, ${most} without an edit lead each device to its final value.`
+        ? `On every network of ${all}, ${always}, ${most} ${UNEDITED} lead each device to its final value.`
         : "A no says nothing of one network alone; what holds on this one comes next.";
     const missing = count - byDevice.size;
     const enough = `${counted(rounds ?? 0, "round")} ${rounds === 1 ? "is" : "are"} enough`;
@@ -38,7 +43,7 @@ export function verdictNodes({ verdict, rounds, byDevice }, count) {
         : isYes ? `On this network: no smaller number was found for ${counted(missing, "device")}.`
             : `On this network it is open: for ${counted(missing, "device")} no number of rounds was found.`;
     return [
-        element("p", { class: `big ${isYes ? "yes" : "no-verdict"}`, text: of }),
+        element("p", { class: `big ${isYes ? "yes" : "no-verdict"}`, text: headline(verdict.rounds) }),
         element("p", { text: everywhere }),
         element("p", { text: here }),
     ];
@@ -52,9 +57,10 @@ export function verdictNodes({ verdict, rounds, byDevice }, count) {
 export function boundsNodes({ verdict, rounds, byDevice }, settled) {
     const found = [...byDevice.values()], devices = counted(found.length, "device");
     const fixed = found.filter(({ bound }) => isOne(bound)).length, after = `fter ${counted(rounds, "round")}`;
-    const known = fixed === found.length ? "Each of them keeps one value." : `${fixed} of ${devices} keep one value.`;
+    const keep = fixed === 1 ? "keeps" : "keep", some = `${fixed} of ${devices} ${keep} one value.`;
+    const known = fixed === found.length ? "Each of them keeps one value." : some;
     const isOther = verdict.rounds !== null && verdict.rounds !== settled.verdict.rounds;
-    const more = `As up to ${devices} may be there, the yes means ${verdict.rounds} rounds without an edit.`;
+    const more = `As up to ${devices} may be there, the yes means ${verdict.rounds} rounds ${UNEDITED}.`;
     return [
         element("p", { class: "big", text: `While it changes: bounds hold a${after}` }),
         element("p", { text: `A${after}, from every start and in every order of firings, each device's value lies `
@@ -70,12 +76,13 @@ export function boundsNodes({ verdict, rounds, byDevice }, settled) {
  */
 export function aloneNodes(one, most) {
     if (one === null || most === null) {
-        return [element("p", { class: "big no-verdict", text: "No: it isn't known to settle everywhere" })];
+        return [element("p", { class: "big no-verdict", text: headline(null) })];
     }
-    const after = `After ${counted(one, "round")} without an edit on one device, after `;
+    const after = `After ${counted(one, "round")} ${UNEDITED}, on one device`;
+    const then = one === most ? " as" : `; after ${most.toLocaleString("en")}`;
     return [
         element("p", { class: "big yes", text: "Yes: it settles on every network" }),
-        element("p", { text: `${after}${most.toLocaleString("en")} on 1,024 devices, the most that there may be.` }),
+        element("p", { text: `${after}${then} on 1,024 devices, the most that there may be.` }),
     ];
 }
 
@@ -124,7 +131,7 @@ export function describeBound(id, { bounds }) {
     if (!bounded) return "";
     const { text, round, isAway } = bounded;
     const there = isAway ? " whenever it is there" : "", after = round ? ` after ${counted(round, "round")}` : "";
-    return `while it changes ${text}${after}${there}`;
+    return `while the network changes: ${text === "any" ? "true or false" : text}${after}${there}`;
 }
 
 /**

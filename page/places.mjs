@@ -6,7 +6,7 @@ import { HEIGHT, WIDTH, apart, dice, neighboursOf, rounded } from "./network.mjs
 /** @typedef {import("./network.mjs").Link} Link */
 /** @typedef {import("./network.mjs").Declared} Declared */
 
-const MARGIN = 6, TURNS = 40;
+const MARGIN = 6, TURNS = 40, ROOM = 14;
 
 // Shapes.
 
@@ -96,6 +96,21 @@ export function madeNetwork(shape, count, seed, { inputs }) {
     const devices = made.map((one) => input && one.id === 0 ? { ...one, inputs: { [input.name]: true } } : one);
     const [one, ...others] = devices, step = Math.min(60, ...others.map((other) => apart(one, other)));
     return { devices, links: [], range: shape in SHAPES ? rounded(step * 1.1) : usualRange(count) };
+}
+
+/** @type {[number, number][]} */
+const WAYS = [[1, 0], [0, 1], [-1, 0], [0, -1]];
+
+/**
+ * A free place at another, or to its right, below, to its left or above: near enough for a link by the usual range.
+ * @param {{x: number, y: number}} from
+ * @param {Device[]} devices
+ */
+export function freePlace({ x, y }, devices) {
+    const places = [0, 1, 2, 3].flatMap((far) => (
+        WAYS.map(([dx, dy]) => ({ x: x + far * ROOM * dx, y: y + far * ROOM * dy }))));
+    return places.find((place) => place.x >= 0 && place.x <= WIDTH && place.y >= 0 && place.y <= HEIGHT
+        && devices.every((one) => Math.hypot(one.x - place.x, one.y - place.y) > ROOM / 2)) ?? { x: x + 2, y };
 }
 
 /**

@@ -5,7 +5,7 @@ import { typedChanges } from "./changing.mjs";
 import { change, put } from "./editing.mjs";
 import { at } from "./elements.mjs";
 import {
-    fromAddress, offerExamples, readChosen, saveInput, saveScene, saveTable, share, showExample, undo,
+    fromAddress, offerExamples, openLink, readChosen, saveInput, saveScene, saveTable, share, showExample, undo,
 } from "./files.mjs";
 import { madeNetwork, usualRange } from "./places.mjs";
 import { format, insertBlock, offerBlocks, tellOfBlock, typed } from "./program.mjs";
@@ -90,6 +90,8 @@ function wireAnswer() {
 
 function wirePage() {
     on("share", "click", share);
+    on("link", "change", openLink);
+    on("link", "paste", () => setTimeout(openLink));
     on("theme", "change", themed);
     matchMedia("(prefers-color-scheme: dark)").addEventListener("change", themed);
     document.addEventListener("keydown", (event) => {

@@ -1,5 +1,6 @@
 // What a pointer and keys do to the drawing.
 import { HEIGHT, WIDTH } from "./network.mjs";
+import { freePlace } from "./places.mjs";
 
 /** @typedef {import("./drawing.mjs").Drawing} Drawing */
 /** @typedef {import("./network.mjs").Link} Link */
@@ -130,7 +131,10 @@ export class Pointing {
             hooks.moved(chosen.id, chosen.x + STEP * way[0], chosen.y + STEP * way[1]);
             hooks.dropped();
         } else if (way) hooks.chose((chosen ? drawing.nearest(chosen, way) ?? chosen : devices[0])?.id ?? null);
-        else if (event.key === "+") hooks.added((chosen?.x ?? WIDTH / 2) + 3 * STEP, chosen?.y ?? HEIGHT / 2);
+        else if (event.key === "+") {
+            const { x, y } = freePlace(chosen ?? { x: WIDTH / 2, y: HEIGHT / 2 }, devices);
+            hooks.added(x, y);
+        }
         else if (!chosen) return;
         else if (event.key === "Delete" || event.key === "Backspace") hooks.removed(chosen.id);
         else if (event.key === "Enter" || event.key === " ") this.use(chosen.id);

@@ -1,5 +1,6 @@
 // The program: its text, the blocks that it calls, and what is said of it.
 import { workers } from "./asking.mjs";
+import { headOf } from "./blocks.mjs";
 import { Editor, placeOf } from "./editor.mjs";
 import { at, button, element } from "./elements.mjs";
 import { linked } from "./network.mjs";
@@ -70,12 +71,14 @@ const chosenBlock = () => library.get(at("block").value);
 
 export function tellOfBlock() {
     const block = chosenBlock();
-    at("about-block").textContent = block ? `${block.call}: ${block.gives} It needs: ${block.needs}` : "";
+    at("about-block").textContent = block ? `${headOf(block)}: ${block.gives} It needs: ${block.needs}` : "";
 }
 
+/** Writes a call of the chosen block, whose arguments are then chosen. */
 export function insertBlock() {
+    const call = chosenBlock()?.call ?? "";
     tellOfBlock();
-    editor.insert(chosenBlock()?.call ?? "");
+    editor.insert(call, call.indexOf("(") + 1, call.lastIndexOf(")"));
 }
 
 /** Shows the blocks that are put in front of the program. */
@@ -89,6 +92,12 @@ export function drawBlocks() {
 
 // What is said of the text.
 
+/** @param {{from: number}} mark */
+export function whereOf({ from }) {
+    const { line, column } = placeOf(now.state.program, from);
+    return `Line ${line}, column ${column}`;
+}
+
 /**
  * Says what is wrong, and marks where.
  * @param {{what: string, hint: string}} said
@@ -99,9 +108,8 @@ export function drawBlocks() {
 export function complain(said, mark, kind, ...more) {
     const nodes = [];
     if (mark) {
-        const { line: row, column } = placeOf(now.state.program, mark.from), where = `Line ${row}, column ${column}`;
         const within = mark.block ? ` (within the block ${mark.block}): ` : ": ";
-        nodes.push(button(where, () => editor.select(mark.from, mark.to), "plain"), within);
+        nodes.push(button(whereOf(mark), () => editor.select(mark.from, mark.to), "plain"), within);
     }
     const paragraph = element("p", {}, ...nodes, said.what, ...more);
     const hint = said.hint ? [element("p", { class: "small", text: said.hint })] : [];

@@ -10,7 +10,7 @@ import {
     add, changed, choose, chooseLink, isThere, put, remove, setInput, switchInput, tellOf, toggleLink, unlink, weigh,
 } from "./editing.mjs";
 import { at } from "./elements.mjs";
-import { HEIGHT, WIDTH, rounded } from "./network.mjs";
+import { HEIGHT, WIDTH, fitting, rounded } from "./network.mjs";
 import { drawLegend, drawTable, inspectComing, inspectDevice, inspectLink } from "./panels.mjs";
 import { besideOthers } from "./places.mjs";
 import { Pointing } from "./pointing.mjs";
@@ -66,7 +66,9 @@ function colouring() {
         return { look: (id) => legend.look(of(id)), legend };
     }
     const held = frame ?? values, whole = values.size ? values : held;
-    const legend = ofValues([...whole.values()], ceiling);
+    // the ceiling has a colour of its own, though no final value may be it
+    const atCeiling = [...held.values()].filter((value) => value === ceiling);
+    const legend = ofValues([...whole.values(), ...atCeiling], ceiling);
     return { look: (id) => legend.look(held.get(id)), legend };
 }
 
@@ -74,6 +76,22 @@ function colouring() {
 function outlined() {
     const truths = now.declared.inputs.filter(({ low }) => low === undefined);
     return truths.slice(0, MOST_OUTLINES).map(({ name }) => name);
+}
+
+/**
+ * What is written of the inputs of a device that are numbers: nothing where each is the least that it may be.
+ * @param {import("./network.mjs").Device} device
+ */
+function sensed({ inputs }) {
+    const numbers = now.declared.inputs.filter(({ low }) => low !== undefined);
+    const values = numbers.map((input) => fitting(input, inputs[input.name]));
+    return numbers.some(({ low }, place) => values[place] !== low) ? values.join(", ") : "";
+}
+
+/** What the legend says of these inputs. */
+function ofSensed() {
+    const names = now.declared.inputs.filter(({ low }) => low !== undefined).map(({ name }) => name).join(", ");
+    return now.state.network.devices.some((device) => sensed(device)) ? [`below a device: ${names}`] : [];
 }
 
 /**
@@ -119,11 +137,13 @@ function drawNetwork() {
     drawing.show({
         ...more, chosen: view.chosen, chosenLink, isWrong, look,
         rings: ({ inputs }) => names.flatMap((name, place) => inputs[name] === true ? [place] : []),
+        sensed,
         isLast: (id) => hasLast && settled?.byDevice.get(id) === last,
         paths: withPaths ? lastLinks([...known.paths?.values() ?? []]) : [],
         path: withPaths && view.chosen !== null ? known.paths?.get(view.chosen) ?? [] : [],
     });
     drawLegend(legend, names.filter((name) => devices.some(({ inputs }) => inputs[name] === true)), [
+        ...ofSensed(),
         ...inRun && known.values.size ? ["dashed: not yet its final value"] : [],
         ...hasLast ? ["thick edge: settles last"] : [],
         ...isOfBounds && view.colours === "bounds" ? ["left half: least value, right half: greatest"] : [],

@@ -25,6 +25,8 @@ main = anyHood(nbr{sense src});
 `;
 const CHANGES = "unlink 9 10\nunlink 9 13\nleave 7\nset 3 src any\n";
 const RANGE = 27, MOST_UNDO = 60, SAVING = 400;
+/** Among the examples, what is none of them any more. */
+export const OWN = "own";
 /** So many milliseconds after a change by typing or dragging fc is asked. */
 export const TYPING = 200;
 
@@ -121,6 +123,7 @@ export const draw = () => tasks.draw();
 export function askSoon(wait = TYPING) {
     clearTimeout(askTimer);
     isWaiting = true;
+    at("example").value = OWN;
     askTimer = setTimeout(() => {
         isWaiting = false;
         tasks.ask();
@@ -130,6 +133,7 @@ export function askSoon(wait = TYPING) {
 
 export function saveSoon() {
     clearTimeout(saveTimer);
+    at("shared").hidden = true;
     saveTimer = setTimeout(saveNow, SAVING);
 }
 

@@ -1,4 +1,5 @@
 // What fc's lines mean, in words.
+import { isOfStack } from "./asking.mjs";
 
 /**
  * A sentence, and what to try.
@@ -14,9 +15,10 @@ const KINDS = {
         hint: "Declare an input by input name: bool; and write sense name. A function stands above its first call." },
     literal: { what: "This number is above the ceiling", hint: "Raise the ceiling, or write a smaller number." },
     count: { what: "This call doesn't have as many arguments as the function has parameters",
-        hint: "Compare it with the definition." },
+        hint: "Give one argument for each parameter." },
     mismatch: { what: "The types don't fit here",
-        hint: "An operator wants int or bool on both sides, and both branches of an if or a mux the same type." },
+        hint: "Numbers go with + - * <, truth values with and, or, not. The first of an if or a mux is a truth value, "
+            + "the other two are of one type. An argument is of its parameter's type." },
     "not-local": { what: "This is a field, a value for each neighbour, but one value is needed",
         hint: "Make one value of it with minHoodLoc, maxHoodLoc, sumHood, anyHood or allHood." },
     result: { what: "The body doesn't have the type that the function declares",
@@ -26,8 +28,8 @@ const KINDS = {
 /** @type {Record<string, Said>} */
 const REASONS = {
     converging: { what: "what is heard may go round in circles for ever",
-        hint: "Use a least value that grows from neighbour to neighbour, collect with a guard nbr{p} < p, or "
-            + "insert a block that does what you want: fadingMax, anywhere, greatestOf64." },
+        hint: "Take the least of nbr{x} + 1, as the hop count does, or insert a block: fadingMax or greatestOf64 for "
+            + "the greatest of all, anywhere for a truth value, collectSum for a sum." },
     nested: { what: "its variable is used inside a let, an if, a call or a further rep",
         hint: "Write what is heard where it is used; use mux instead of if." },
     unguarded: { what: "the device reads what it held itself",
@@ -57,6 +59,7 @@ const LIMITS = {
 export const NO_DEVICES = "shape /devices";
 const MANY_PAIRS = "limit degree 129";
 
+const MISSING = "A ; is missing behind this.";
 /**
  * What is written of other languages' habit: what ends before the mark, what begins at it, and what to write here.
  * @type {[RegExp, RegExp, string][]}
@@ -78,6 +81,9 @@ const HABITS = [
     [/\bif\b[^;]*\}\s*$/, /^;/, "An if has two branches: if (c) {a} {b}."],
     [/\b(nbr|if|rep)\s*$/, /^/, "Write nbr{a}, rep(a){(x) => b}, if (c) {a} {b}."],
     [/\blet\s+\w+\s*=[^;]*$/, /^;/, "Write let x = a in b, with in, and no ; before it."],
+    [/\bm(in|ax)HoodLoc\s*\(\s*nbr\s*\{[^}]*\}[^,]*$/, /^\)/,
+        "There are two to compare: minHoodLoc(nbr{a}, b), where b is the device's own."],
+    [/^\s*$/, /^\w+\s*=/, "A value with a name is a function: def hot(): bool = ..; is called as hot()."],
     [/^\s*input\b[^;]*$/, /^/, "An input is input name: bool; or input name: int 0..9;"],
     [/^\s*def\b[^;=]*$/, /^/, "A function is def name(a: int, b: bool): int = ..;"],
 ];
@@ -89,13 +95,22 @@ const HABITS = [
  */
 export function habitAt(text, { from, to }) {
     const before = text.slice(0, from).replace(/\/\/.*/g, ""), rest = text.slice(from), behind = text.slice(to);
-    const own = before.slice(before.lastIndexOf(";") + 1), isEnd = !behind.trim() && !/^\s*main\b/.test(own);
+    const own = before.slice(before.lastIndexOf(";") + 1), isLast = !behind.trim();
+    const isEnd = isLast && !/^\s*main\b/.test(own);
     if (!before.trim() && !/^(ceiling|language)\b/.test(rest)) {
         return "Begin with ceiling 10; where 10 is the greatest number that there is.";
     }
+    if (/(^|;)\s*main\b[^;]*;[^;]*$/.test(before)) {
+        return "Nothing stands behind the ; of main: what is called stands in it, functions and inputs before it.";
+    }
+    const last = text.slice(from, to), open = (own + last).match(/[({]/g)?.length ?? 0;
+    if ((isLast || last === ";") && open > ((own + last).match(/[)}]/g)?.length ?? 0)) {
+        return "A bracket is still open here, ( or {: close it.";
+    }
+    if (/^\s*main\s*=/.test(own) && isLast && /[\w)}]$/.test(last)) return MISSING;
     if (isEnd) return "";
-    if (own.trim() && /[\w)}]$/.test(text.slice(from, to)) && /^\s*(input|metric|def|main)\b/.test(behind)) {
-        return "A ; is missing behind this.";
+    if (own.trim() && /[\w)}]$/.test(last) && /^\s*(input|metric|def|main)\b/.test(behind)) {
+        return MISSING;
     }
     return HABITS.find(([ends, begins]) => ends.test(own) && begins.test(rest))?.[2] ?? "";
 }
@@ -124,7 +139,7 @@ export function saidOf(line, habit) {
             hint: habit || "There is no >, ==, / or !: write b < a, a = b, not (b < a)." };
     }
     if (word === "syntax") {
-        return { what: `Declaration ${second} has a syntax error here.`,
+        return { what: "There is a syntax error here.",
             hint: habit || "Each declaration ends with a ;, the first is ceiling N; and the last main = ..;" };
     }
     const found = word === "types" ? KINDS[third] : word === "limit" ? LIMITS[second] : undefined;
@@ -148,8 +163,12 @@ export function saidOf(line, habit) {
  * @returns {Said}
  */
 export function saidOfFailure(error) {
+    if (isOfStack(error)) {
+        return { what: "This browser has too little stack for a program that nests so deeply.",
+            hint: "Nest less deeply, or use a newer browser: Chromium from version 137 on has enough." };
+    }
     if (/RangeError/.test(error.message)) {
-        return { what: "This browser has too little stack or memory for this program.", hint: "Nest less deeply." };
+        return { what: "This browser has too little memory for this.", hint: "Use fewer devices or links." };
     }
     return { what: `fc gave no answer: ${error.message}.`, hint: "" };
 }
