@@ -263,14 +263,6 @@ class Language(unittest.TestCase):
 class Commands(unittest.TestCase):
     text = (TOP / "docs/commands.md").read_text()
 
-    def test_the_example_of_from_table(self) -> None:
-        part = self.text.split("### `--from-table`")[1]
-        given, wanted = re.findall(r"(?ms)^```\n(.*?)^```", part)[:2]
-        done = subprocess.run(
-            [fc.find(), "check", "--settle", "--from-table"], input=given, capture_output=True, text=True, check=False
-        )
-        self.assertEqual((done.returncode, done.stdout), (0, wanted))
-
     def test_the_example_of_changes(self) -> None:
         (wanted,) = re.findall(r"(?ms)^```\n(.*?)^```", self.text.split("### `--changes`")[1].split("\n## ")[0])
         given = "%%\n".join((HOPS, LINE, "unlink 1 2\n"))
