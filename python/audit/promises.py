@@ -87,6 +87,11 @@ PROMISES = (
         ("fc_gen/specs/Promises.antt ScenarioAgrees",),
     ),
     Promise(
+        "What `check --settle --changes` promises",
+        "`ChangesKept`: what the lines allow, the envelope of a scene and lines, and logs that stay within it.",
+        ("fc_changes/specs/Promises.antt ChangesKept",),
+    ),
+    Promise(
         "The limits",
         "`LimitsAre`, the clause of `fc_answers::limits_are`: each limit as a number.",
         ("fc_answers/specs/Limits.antt LimitsAre",),
@@ -116,12 +121,21 @@ CUTS = {
     "settle_rounds/specs/Starts.antt growing_cap": "the same",
     "bound_rounds/specs/Rounds.antt BoundTable": "the same",
     "fc_inputs/specs/Sources.antt IsNoProgram": "why a text is refused: where it is, nothing is promised of it",
-    "fc_types/specs/Typing.antt IsTyped": "which programs are accepted beyond grammar: a promise is of one that was",
-    "fc_parser/specs/Limits.antt limit_passed": "the same",
+    "fc_parser/specs/Limits.antt limit_passed":
+        "which programs are accepted beyond grammar: a promise is of one that was",
     "unfold/specs/Nodes.antt Nodes": "the same",
+    "fc_types/specs/Typing.antt IsTyped":
+        "the same; of a program without types the promise would be about what it unfolds to, where `untyped` stands "
+        "for a name that nothing binds",
     "fragment_check/specs/Patterns.antt body_pattern":
         "which programs have the walk form: what it makes of one that has it stands beside it",
     "fc_mail/specs/Drives.antt driven_log":
         "which log a number makes: that it has so many rounds is said beside it",
     "scramble/specs/Rubbish.antt AreDrawn": "which exports a `scramble` draws: a yes is from any",
+    "scramble/specs/Words.antt words_of": "the same",
+    "fc_inputs/specs/Causes.antt Cause": "why texts are refused: a promise is of those that are accepted",
+    "fc_inputs/specs/Ledgers.antt ledger_of":
+        "what the book of the outcome stands for, which the program drops: the answer's own stands in the promise",
+    "firing_core/src/books.rt Book": "the same",
+    "export_table/src/firing.rt Gate": "what tests call between a begin and an end: no clause speaks of it",
 }  # fmt: skip

@@ -12,8 +12,9 @@ from helping import TOP
 
 from audit import doubles
 from audit.closure import Repository
-from audit.definitions import Definition
-from audit.page import Page, place
+from audit.definitions import Definition, read_code, read_definitions
+from audit.notation import NOTATION, OUTSIDE
+from audit.page import FEW, Page, place, sentence
 
 ROW = re.compile(r"^\| `(\w+/(?:specs|src)/[\w/]+\.\w+)` \| ([\d–, ]+) \|", re.MULTILINE)
 # how many names still have several meanings; this number only falls
@@ -152,6 +153,18 @@ class Closure(unittest.TestCase):
         self.assertEqual((found["size"][1], found["other"][:2]), (24, (26, 27)))
         self.assertEqual(file.said, "Numbers.")
 
+    def test_what_is_said_of_a_definition(self) -> None:
+        with tempfile.TemporaryDirectory() as room:
+            written = Path(room, "Lengths.antt")
+            written.write_text("-- Lengths.\n\n-- ---- of lists\nabbrev pub one : ℕ\none = 1\n\n-- two\ntwo = 2\n")
+            read = read_definitions(written, "low/specs/Lengths.antt")
+            found = {it.name: (it.first, it.comment) for it in read.definitions}
+            self.assertEqual(found, {"one": (4, ""), "two": (7, "two")})
+            written = Path(room, "cut.rt")
+            written.write_text("//! Cuts.\n\n// The cut.\nconst CUT: u32 = 1;\n")
+            (cut,) = read_code(written, "low/src/cut.rt").definitions
+            self.assertEqual((cut.first, cut.last, cut.comment), (3, 4, "The cut."))
+
     def test_names_with_several_meanings(self) -> None:
         first = Definition("a/specs/A.antt", "size", 1, 1, "", "", False)
         second = Definition("b/specs/B.antt", "Tree", 1, 1, "", "", True, ("size", "Leaf"))
@@ -195,6 +208,30 @@ class Audit(unittest.TestCase):
             above.update(definitions)
             for it in definitions:
                 self.assertLessEqual({*self.repository.named(it)}, above, it)
+
+    def test_each_row_names_what_its_lines_define(self) -> None:
+        page = self.page.write()
+        for number, (promise, found) in enumerate(self.page.soundness(), 1):
+            section = page.partition(f"### {number}. {promise.title}")[2].partition("\n#")[0]
+            rows = {file: row for row in section.splitlines() for file in ROW.findall(row + "\n")}
+            for (file, _), row in rows.items():
+                its = [it for it in found if it.file == file]
+                for it in its:
+                    self.assertIn(f"`{it.name}`", row)
+                    self.assertTrue(len(its) > FEW or sentence(it.comment) in row, it)
+
+    def test_each_name_of_the_kit_has_a_meaning(self) -> None:
+        said = [name for names, _ in OUTSIDE for name in names.split()]
+        self.assertEqual(len({*said}), len(said))
+        self.assertEqual({*said}, self.page.outside())
+        self.assertEqual(len({sign for sign, _ in NOTATION}), len(NOTATION))
+
+    def test_each_name_of_the_way_has_a_section(self) -> None:
+        """But for what is never gone into."""
+        cut = {f"`{it.name}`" for it in self.page.cuts}
+        for it in self.page.ends():
+            never = [part for part in self.page.beside(it).split("; ") if part.startswith("never: ")]
+            self.assertLessEqual({*", ".join(never).replace("never: ", "").split(", ")} - {""}, cut, it)
 
     def test_each_promise_of_the_headline_has_a_section(self) -> None:
         """What the last section adds of the headline says which promise is kept, and is none."""

@@ -1,4 +1,4 @@
--- What an answer promises: that a yes is kept.
+-- What an answer promises, by the command and the status: that a yes is kept, and what lines say of devices holds.
 use Rattle.std.specs.Prelude.{ℕ, ◌≡◌, ◌≤◌, List, Option, Some, None}
 use Rattle.command_words.specs.declared.commands.Command.{Command}
 use Rattle.command_words.specs.declared.commands.Command.TheVariants as command
@@ -49,6 +49,7 @@ WorkPromises (Gen options) sections answer = ScenarioAgrees options.number optio
 abbrev pub WorkIsKept : Work → List ℕ → AnswerValue → Type 0
 WorkIsKept work input answer = answer.status ≡ 0 → WorkPromises work (sections_of input) answer
 
+-- an answer to what the words ask for keeps its promise, where its status is one that promises something
 abbrev pub IsKept : Option Command → List ℕ → AnswerValue → Type 0
 IsKept None input answer = Unit {0}
 IsKept (Some (command.Quiet quiet)) input answer =

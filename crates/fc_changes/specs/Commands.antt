@@ -67,7 +67,7 @@ abbrev pub BoundsLines : ChangesOptions → Unfolding → SceneValue → List (�
 BoundsLines options U s ls (Some line) j = j ≡ Refused (Plainly (changes_refusal line.0 (line_fault_of line.1)))
 BoundsLines options U s ls None j = BoundsChanges options U s (said ls) j
 
--- those of a text
+-- what the lines of a text say, each with its number
 abbrev pub change_lines_in : SceneValue → List ℕ → List (ℕ × Option ChangeValue)
 change_lines_in s text = changes_in s.net.declared.inputs text
 

@@ -3,6 +3,7 @@ use Rattle.std.specs.Prelude.{ℕ, List, [], Option, Some, None}
 use Rattle.firing_core.specs.declared.entries.Part.{Part}
 use Rattle.fc_inputs.specs.Ledgers.{Ledger}
 
+-- an answer: its status, its text, and for some commands a book and the parts of the book's log
 pub record AnswerValue : Type 0 where
   pub status : ℕ
   pub text : List ℕ

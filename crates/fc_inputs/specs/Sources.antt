@@ -63,7 +63,7 @@ ReadsSource text (Accepted ds) = IsSource text ds
 ReadsSource text (Refused (Plainly refusal)) = IsNoSource text refusal
 ReadsSource text (Refused (InScene refusal)) = ⊥
 
--- and by types and unfolding too
+-- what a text is read to by tokens and grammar, types and unfolding
 abbrev pub ReadsProgram : List ℕ → Judged Unfolding → Type 0
 ReadsProgram text (Accepted U) = IsProgramText text U
 ReadsProgram text (Refused (Plainly refusal)) = IsNoProgram text refusal

@@ -9,6 +9,7 @@ use Rattle.fc_inputs.specs.Causes.{Accepted}
 use Rattle.fc_inputs.specs.Inputs.{InputOf, OneInput, ReadsInput, TextsUnfold}
 use Rattle.fc_inputs.specs.Sources.{IsProgramText}
 
+-- the core of a scene: its network, the exports of its table, and its copies in flight
 abbrev pub start_of : SceneValue → Core
 start_of s = record {
   net = s.net;

@@ -13,7 +13,7 @@ pub record Program : Type 0 where
   pub declared : Declarations
   pub nodes : List Node
 
--- what the definitions see of it: its declarations, and `main` as a term
+-- a program once it is unfolded, as the definitions see it: its declarations, and `main` as a term
 pub record Unfolding : Type 0 where
   pub declared : Declarations
   pub main : Term

@@ -34,6 +34,7 @@ abbrev pub evolving_type : Evolution → LocalType → ValueType
 evolving_type ByRep s = TypeLocal s
 evolving_type ByShare s = TypeField s
 
+-- the types of terms in a row
 abbrev pub types_of : Terms → List ValueType
 types_of NoMore = []
 types_of (More x xs) = type_of x ∷ types_of xs

@@ -13,7 +13,7 @@ use Rattle.fc_answers.specs.Headline.{IsKept}
 use Rattle.fc_inputs.specs.Ledgers.{ledger_of}
 use Rattle.fc_inputs.specs.Answers.{AnswerValue}
 
--- an answer to an input, which is what the source has left where it tells that; what a yes in it promises is kept
+-- an answer to an input, which is what the source has left where it tells that; what it promises is kept
 pub record IsAnswer (asked : Option Command) (left : Option (List ℕ)) (answer : AnswerValue) : Type 0 where
   pub input : List ℕ
   pub there : IfSome left (λ bytes. input ≡ bytes)

@@ -15,6 +15,7 @@ use Rattle.fc_syntax.specs.Terms.{Parameter, Declaration, LanguageIs, CeilingIs,
 abbrev pub IsNumber : ℕ → Type 0
 IsNumber n = n ≤ GREATEST
 
+-- how many expressions stand in a row
 abbrev pub count : Terms → ℕ
 count NoTerms = 0
 count (MoreTerms e es) = count es + 1

@@ -37,7 +37,7 @@ IsWidePair _ _ = ⊥
 abbrev pub HasNoRule : Builtin → List ValueType → Type 0
 HasNoRule b ts = (t : ValueType) → HasRule b ts t → ⊥
 
--- the variable of a `share` whose first expression has this type
+-- the type of the variable of a `share` whose first expression has this type
 abbrev pub shared_type : ValueType → ValueType
 shared_type (TypeLocal t) = TypeField t
 shared_type (TypeField t) = TypeField t

@@ -25,6 +25,7 @@ pub data EntryValue : Type 0 where
   IdleEntry : EntryValue
   EditEntry : EditValue → EntryValue
 
+-- the edits, entries and logs that those of the code stand for
 abbrev pub edit_of : Edit → EditValue
 edit_of (edit.Link a b w) = LinkEdit a b w
 edit_of (edit.Unlink a b) = UnlinkEdit a b

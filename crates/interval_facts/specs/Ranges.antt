@@ -205,6 +205,7 @@ abbrev mutual
 abbrev pub ranges_of : Unfolding → List RangeValue
 ranges_of U = node_ranges U.declared [] 0 U.main
 
+-- the range of the node at a place
 abbrev pub range_of : Unfolding → ℕ → RangeValue
 range_of U p = get_or (ranges_of U) p BoolRange
 

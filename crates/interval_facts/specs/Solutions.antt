@@ -60,9 +60,11 @@ evolved ByShare N D f = field_of N D f
 abbrev pub where_is : Bool → Devices → (ℕ → Bool) → Devices
 where_is b D k = λ d. D d && same_truth b (k d)
 
+-- what some maps have at a device
 abbrev pub at_device : ℕ → List ValueMap → List AnyValue
 at_device d Gs = map (λ (G : ValueMap). G d) Gs
 
+-- `LeafIs N D l V d w`: a leaf has the value w at device d, where the binders have the maps V
 abbrev pub LeafIs : Network → Devices → Leaf → ValueMaps → ℕ → AnyValue → Type 0
 LeafIs N D (Literal v) V d w = w ≡ ValueLocal v
 LeafIs N D (Variable q) V d w = w ≡ restricted d (near_numbers (near_among N D d)) (V q d)

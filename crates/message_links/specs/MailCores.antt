@@ -90,6 +90,7 @@ pub record Hears (c : MailCore) (a b : ℕ) (stay : Message → List Message →
     transit = put_pair c.transit a b (stay oldest later);
   }
 
+-- the message of an index, counted from the oldest, is lost
 pub record Loses (c : MailCore) (a b i : ℕ) (next : MailCore) : Type 0 where
   pub linked : Reaches c.core.net a b
   pub there : i < length (c.transit a b)

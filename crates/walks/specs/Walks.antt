@@ -118,7 +118,7 @@ value_in es d = has (values_in es) d
 abbrev pub HasWalk : CostsValue → Evidence → Type 0
 HasWalk C e = WalkCosts C e.walk.items e.device e.value
 
--- a claim has each device once, rising
+-- a claim has the devices for which a start is given, in the same order
 abbrev pub HasDevices : CostsValue → List EvidenceValue → Type 0
 HasDevices C es = map (λ (e : EvidenceValue). e.device) es ≡ map (λ (d : ℕ × ℕ). d.0) C.start
 
