@@ -40,7 +40,7 @@ def draw(
     marks: Sequence[str] = (),
     numbers: bool = False,
 ) -> Axes:
-    """Draws a network, or a result on its network, on axes of matplotlib (otherwise the current ones), and returns them.
+    """Draws a network, or a result on its network, on axes of matplotlib (or on the current ones), and returns them.
 
     `marks` are inputs whose devices are marked where they are true; `numbers` writes numbers or names beside devices.
     Raises Fault if the result has no values of devices, and if matplotlib isn't there.
