@@ -33,7 +33,7 @@ FROM_TO = re.compile(r"([+-])([0-9]{1,7})(%?)\.\.([+-])([0-9]{1,7})(%?)")
 
 @dataclass(frozen=True)
 class Around:
-    """How far a number may be from what it is now: from `low` to `high`, each an amount or a part in a hundred."""
+    """How far a number may be from what it is now: from `low` to `high`, each an amount or a percentage."""
 
     low: int
     high: int
