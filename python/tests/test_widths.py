@@ -1,5 +1,5 @@
 """What docs/changes.md says of the bounds of blocks on the network of docs/blocks.md: its rows, and that both ends of
-hop counts and distances are lengths of ways that the lines allow."""
+hop counts and distances are lengths of paths that the lines allow."""
 
 from __future__ import annotations
 
@@ -8,6 +8,7 @@ import unittest
 from helping import TOP, needs, needs_fc
 
 PAGE = TOP / "docs/changes.md"
+
 
 @needs_fc
 @needs("networkx")
@@ -65,6 +66,7 @@ class Widths(unittest.TestCase):
             found = bounds(block_widths.composed(call), scene.text(), lines).by_device
             self.assertEqual({one: (held.bound.low, held.bound.high) for one, held in found.items()},
                              {one: (ends[0][one], ends[1][one]) for one in made.devices})  # fmt: skip
+
 
 if __name__ == "__main__":
     unittest.main()
