@@ -20,6 +20,8 @@ NOTATION = (
     ("`f a b`, `λ x. e`", "f of a and of b; the function that makes e of x"),
     ("`{x : A}`", "an argument that isn't written where the function is used"),
     ("`(a, b, c)`, `t.0`", "a tuple, and its first part"),
+    ("`[]`, `x ∷ xs`", "the list without elements; the list xs with x in front"),
+    ("`if c then a else b`", "a where c is `true`, and else b"),
     ("`op.Add`",
      "the case `Add` of an `enum` of the code: the line `use .. as op` of the file says of which. Its `use` lines also "
      "say which one is meant of a name with several meanings"),

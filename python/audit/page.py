@@ -18,13 +18,13 @@ TITLE = """\
 What to read to believe what `fc` promises, by file and lines. `docs/headline.md` says the promises in words. \
 `tools/audit` makes this page from the definitions as they stand, and the gate fails where it isn't what the tool makes.
 
-**In an hour** one reads *From the clause to the rules* and section 1, which are {hour} lines. They lead from the \
-clause of `fc` to the rules by which a device evaluates, and say all that a yes means. The other sections are for a \
-second reading: what a text, a line or an option is, and what the commands promise beside a yes.
+**In an hour** one reads *How it is written*, *From the clause to the rules* and section 1. These are {hour} lines of \
+definitions, which lead from the clause of `fc` to the rules by which a device evaluates, and say all that a yes \
+means. The other sections are for a second reading: what a text, a line or an option is, and what else is promised.
 
-**In which order.** In the tables of the sections a row rests on the rows above it and on the last table alone, so \
-nothing has to be looked up elsewhere. A row names what its lines define; the names of the first table of names aren't \
-looked into.
+**In which order.** In the sections a row rests on the rows above it, and beside them on the names of *What stands \
+outside* alone: nothing has to be looked up elsewhere. A row names what its lines define, so a search on this page \
+finds where a name is defined.
 
 A definition stands here if the clause of `fc` leans on it. The tool walks from name to name, through the definitions \
 and the types and constants of the code that they name. Proofs aren't among them: the toolchain checks these.
@@ -41,8 +41,8 @@ Definitions are in `crates/*/specs/*.antt`, in the language of the proofs. A few
 in `crates/*/src/*.rt`."""
 WAY_SAID = """\
 `fc` ensures `CallEnds`. Each row names the next one, down to the rules by which a device evaluates. The last three \
-are the other ends: what a solution is, what a round is, and what a start may be. The last column has the section in \
-which the other names of a row are defined; *never* stands for the table above. From `Stabilises` on these are all in \
+are the other ends: what a solution is, what a round is, and what a start may be. The last column has the sections in \
+which the other names of a row are defined, or *never* for those of the table above. From `Stabilises` on all are in \
 section 1, but for `Edits`: a log that has rounds has no edit."""
 SOUND_SAID = """\
 Section 1 is all of *stabilises*, from the rules of the calculus on: to know what a yes means takes its {first} lines \

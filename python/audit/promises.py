@@ -35,36 +35,38 @@ YES = "fc_inputs/specs/Yes.antt HasYes"
 CHECK = "fc_check/specs/Promises.antt "
 STABLE = "fc_stable/specs/Promises.antt "
 TRACE = "fc_trace/specs/Promises.antt "
-EDITS = "firing_core/specs/Cores.antt Edits"
+# what an edit is and does: a log that has rounds has none
+EDITS = ("firing_core/specs/Cores.antt Edits", "firing_core/specs/Entries.antt EditValue")
 PROMISES = (
     Promise(
         "What stabilises means",
-        "The rules of the calculus, networks, firings and rounds, solutions, and the promise itself, `Stabilises`. The "
-        "lines on edits (`Edits`) are left for later: a log that has rounds has no edit (`HasRounds`, `has_edit`).",
+        "The rules of the calculus, networks, firings and rounds, solutions, and the promise itself, `Stabilises`. "
+        "What an edit is and does (`EditValue`, `Edits`) is left for `replay`: a log that has rounds has no edit "
+        "(`HasRounds`, `has_edit`).",
         ("converge_laws/specs/Stabilising.antt Stabilises",),
-        (EDITS,),
+        EDITS,
     ),
     Promise(
         "Which program and which network two texts are",
         "Tokens, grammar, calls replaced by what they call, and JSON: `ReadsInput`. With them `HasYes` can be read.",
         ("fc_inputs/specs/Inputs.antt ReadsInput", YES),
-        (EDITS,),
+        EDITS,
     ),
     Promise(
         "What `check` and `stable` promise",
         "`VerdictKept` and `SolvesYes`: the verdict stands in the text and a yes is kept, and the lines of `stable` "
         "are the one field.",
         (CHECK + "VerdictKept", STABLE + "SolvesYes"),
-        (EDITS,),
+        EDITS,
     ),
     Promise(
         "What `check --settle` promises",
         "`SettlesKept` and `StartKept`, over firings and over message links.",
         (CHECK + "SettlesKept", CHECK + "StartKept"),
-        (EDITS,),
+        EDITS,
     ),
     Promise(
-        "What `trace` promises", "`TraceKept`: walks, their costs, and the best.", (TRACE + "TraceKept",), (EDITS,)
+        "What `trace` promises", "`TraceKept`: walks, their costs, and the best.", (TRACE + "TraceKept",), EDITS
     ),
     Promise(
         "What `replay` promises",

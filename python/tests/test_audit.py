@@ -223,7 +223,7 @@ class Audit(unittest.TestCase):
     def test_each_name_of_the_kit_has_a_meaning(self) -> None:
         said = [name for names, _ in OUTSIDE for name in names.split()]
         self.assertEqual(len({*said}), len(said))
-        self.assertEqual({*said}, self.page.outside())
+        self.assertEqual({*said}, self.page.outside(), "python/audit/notation.py says what they mean")
         self.assertEqual(len({sign for sign, _ in NOTATION}), len(NOTATION))
 
     def test_each_name_of_the_way_has_a_section(self) -> None:
