@@ -31,7 +31,7 @@ class Promise:
     cut: tuple[str, ...] = ()
 
 
-YES = "fc_inputs/specs/Yes.antt HasYes"
+YES = "command_frame/specs/Yes.antt HasYes"
 CHECK = "fc_check/specs/Promises.antt "
 STABLE = "fc_stable/specs/Promises.antt "
 TRACE = "fc_trace/specs/Promises.antt "
@@ -49,7 +49,7 @@ PROMISES = (
     Promise(
         "Which program and which network two texts are",
         "Tokens, grammar, calls replaced by what they call, and JSON: `ReadsInput`. With them `HasYes` can be read.",
-        ("fc_inputs/specs/Inputs.antt ReadsInput", YES),
+        ("command_frame/specs/Inputs.antt ReadsInput", YES),
         EDITS,
     ),
     Promise(
@@ -122,7 +122,7 @@ CUTS = {
     "settle_rounds/specs/Within.antt StartTable": "the same, from one start",
     "settle_rounds/specs/Starts.antt growing_cap": "the same",
     "bound_rounds/specs/Rounds.antt BoundTable": "the same",
-    "fc_inputs/specs/Sources.antt IsNoProgram": "why a text is refused: where it is, nothing is promised of it",
+    "command_frame/specs/Sources.antt IsNoProgram": "why a text is refused: where it is, nothing is promised of it",
     "fc_parser/specs/Limits.antt limit_passed":
         "which programs are accepted beyond grammar: a promise is of one that was",
     "unfold/specs/Nodes.antt Nodes": "the same",
@@ -134,9 +134,9 @@ CUTS = {
     "fc_mail/specs/Drives.antt driven_log":
         "which log a number makes: that it has so many rounds is said beside it",
     "scramble/specs/Rubbish.antt AreDrawn": "which exports a `scramble` draws: a yes is from any",
-    "scramble/specs/Words.antt words_of": "the same",
-    "fc_inputs/specs/Causes.antt Cause": "why texts are refused: a promise is of those that are accepted",
-    "fc_inputs/specs/Ledgers.antt ledger_of":
+    "scramble/specs/Words.antt stream_of": "the same",
+    "command_frame/specs/Causes.antt Cause": "why texts are refused: a promise is of those that are accepted",
+    "command_frame/specs/Ledgers.antt ledger_of":
         "what the book of the outcome stands for, which the program drops: the answer's own stands in the promise",
     "firing_core/src/books.rt Book": "the same",
     "export_table/src/firing.rt Gate": "what tests call between a begin and an end: no clause speaks of it",

@@ -17,8 +17,6 @@ from audit.notation import NOTATION, OUTSIDE
 from audit.page import FEW, Page, place, sentence
 
 ROW = re.compile(r"^\| `(\w+/(?:specs|src)/[\w/]+\.\w+)` \| ([\d–, ]+) \|", re.MULTILINE)
-# how many names still have several meanings; this number only falls
-MOST_DOUBLES = 71
 
 LOW = """\
 -- Numbers.
@@ -171,6 +169,15 @@ class Closure(unittest.TestCase):
         third = Definition("c/specs/C.antt", "Leaf", 1, 1, "", "", True)
         self.assertEqual(doubles.doubles([first, second, third]), {"Leaf": ["b/specs/B.antt", "c/specs/C.antt"]})
 
+    def test_a_struct_and_the_record_of_its_crate_are_one_meaning(self) -> None:
+        record = Definition("a/specs/A.antt", "Core", 1, 1, "", "pub record Core : Type 0 where", True)
+        other = Definition("a/specs/B.antt", "Core", 1, 1, "", "pub data Core : Type 0 where", True)
+        struct = Definition("a/src/a.rt", "Core", 1, 1, "", "pub struct Core {", True)
+        above = Definition("b/src/b.rt", "Core", 1, 1, "", "pub struct Core {", True)
+        self.assertEqual(doubles.doubles([record, struct]), {})
+        for several in ([record, above], [other, struct], [record, other], [record, struct, above]):
+            self.assertEqual(doubles.doubles(several), {"Core": sorted(it.file for it in several)})
+
 
 class Audit(unittest.TestCase):
     repository: Repository
@@ -252,11 +259,8 @@ class Audit(unittest.TestCase):
                 brought = {self.repository.at(*it) for it in read.names.values()} - {None}
                 self.assertLessEqual(brought, named, file)
 
-    def test_no_name_gets_a_second_meaning(self) -> None:
-        found, known = doubles.doubles(self.every), doubles.known()
-        self.assertEqual({name: it for name, it in found.items() if name not in known}, {}, "one meaning a name")
-        self.assertEqual([name for name in known if name not in found], [], "call tools/audit, which takes them away")
-        self.assertLessEqual(len(known), MOST_DOUBLES)
+    def test_each_name_has_one_meaning(self) -> None:
+        self.assertEqual(doubles.doubles(self.every), {})
 
 
 if __name__ == "__main__":

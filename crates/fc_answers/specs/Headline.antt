@@ -6,9 +6,9 @@ use Rattle.command_words.specs.declared.commands.Quiet.{Quiet}
 use Rattle.command_words.specs.declared.commands.Quiet.TheVariants.{Check, Changes, Stable, Replay, Format, Trace, Mail}
 use Rattle.command_words.specs.declared.commands.Work.{Work}
 use Rattle.command_words.specs.declared.commands.Work.TheVariants.{Run, Gen}
-use Rattle.fc_inputs.specs.Answers.{AnswerValue}
-use Rattle.fc_inputs.specs.Owing.{OfThree, OfTwo}
-use Rattle.fc_inputs.specs.Sections.{sections_of}
+use Rattle.command_frame.specs.Answers.{AnswerValue}
+use Rattle.command_frame.specs.Owing.{OfThree, OfTwo}
+use Rattle.command_frame.specs.Sections.{sections_of}
 use Rattle.fc_check.specs.Promises.{CheckPromises}
 use Rattle.fc_changes.specs.Promises.{ChangesKept}
 use Rattle.fc_stable.specs.Promises.{SolvesYes}

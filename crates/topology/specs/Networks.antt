@@ -29,8 +29,8 @@ pub record Network : Type 0 where
 abbrev pub network_of : Declarations → List NetDevice → List Edge → Network
 network_of D ns ls = record { declared = D; devices = ns; links = ls }
 
-abbrev pub device_of : Device → NetDevice
-device_of d = record { id = d.id; inputs = map local_of d.inputs.items }
+abbrev pub net_device_of : Device → NetDevice
+net_device_of d = record { id = d.id; inputs = map local_of d.inputs.items }
 
 abbrev pub edge_of : Link → Edge
 edge_of l = record { a = l.a; b = l.b; weight = l.weight }
