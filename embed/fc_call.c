@@ -8,7 +8,7 @@
 
 static const struct fc_answer out_of_memory = {FC_MEMORY, NULL, 0};
 
-/* Calls with so much room. Where the text is longer, the answer has its length, and no text. */
+/* Calls with so much room. If the text is longer, the answer has its length, and no text. */
 static struct fc_answer call_with_room(const char *words, const void *input, size_t input_length, size_t room) {
     struct fc_answer answer = {FC_MEMORY, malloc(room + 1), 0};
     if (!answer.text) return out_of_memory;

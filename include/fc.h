@@ -16,15 +16,15 @@ enum fc_status {
     FC_USAGE = 2,   /* the words ask for no command */
     FC_WRONG = 3,   /* the input is wrong: the text says where */
     FC_LIMIT = 4,   /* the input passes a limit */
-    FC_MEMORY = 7,  /* memory was wanting: there is no text */
+    FC_MEMORY = 7,  /* memory ran out: there is no text */
     FC_THREADS = 8  /* the words ask for work by threads, as `run` and `gen` do: there is no text */
 };
 
 /* The proved call: words and an input in, a status and a text out.
  *
  * The words are those of a command line without the program's name, with one space between each two, as
- * "check --settle". The input is what the program reads. *needed becomes the length of the text in bytes. Where the
- * text fits into the room it is written to its front, without a NUL behind it; else the room stays as it is, and a
+ * "check --settle". The input is what the program reads. *needed becomes the length of the text in bytes. If the
+ * text fits into the room it is written to its front, without a NUL after it; otherwise the room stays as it is, and a
  * second call with a larger room gets it, since equal words and inputs have equal answers.
  *
  * What the caller owes:

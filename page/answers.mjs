@@ -11,8 +11,8 @@
  * @typedef {{line: string, rounds: number | null, place: number | null, reason: string}} Verdict
  */
 /**
- * What `check --settle` answers: the verdict; after how many rounds all devices hold their values, or null where it is
- * open; and by device its settle round and its value, where they are known.
+ * What `check --settle` answers: the verdict; after how many rounds all devices hold their values, or null if it is
+ * open; and by device its settle round and its value, if they are known.
  * @typedef {{verdict: Verdict, rounds: number | null, byDevice: Map<number, number>, values: Values}} Settled
  */
 /**

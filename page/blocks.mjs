@@ -11,7 +11,7 @@ import { piecesOf } from "./tokens.mjs";
  */
 /**
  * A program with its blocks: the text for fc, in which `inserted` stands at the offset `at` of the own text; the names
- * of the blocks, each behind what it calls, with where it stands in the text for fc and the call that led to it.
+ * of the blocks, each after what it calls, with where it stands in the text for fc and the call that led to it.
  * @typedef {{name: string, from: number, to: number, asked: Token}} Taken
  * @typedef {{own: string, text: string, at: number, inserted: string, taken: Taken[]}} Composition
  */
@@ -85,7 +85,7 @@ export function nearNames(name, library) {
 }
 
 /**
- * The blocks that some calls need, each behind what it calls, with the call that led to it.
+ * The blocks that some calls need, each after what it calls, with the call that led to it.
  * @param {Token[]} called
  * @param {Map<string, Block>} library
  */
@@ -107,7 +107,7 @@ function needed(called, library) {
 
 /**
  * A program with the blocks that it calls and doesn't define. They stand in front of its first `def` or `main`. Throws
- * a Misfit where a called name is nobody's, or the program doesn't go with a block.
+ * a Misfit if a called name is nobody's, or the program doesn't go with a block.
  * @param {string} own
  * @param {Map<string, Block>} library
  * @returns {Composition}

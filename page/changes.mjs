@@ -120,7 +120,7 @@ function comingOf(word) {
 }
 
 /**
- * The lines for a pattern, or null where a line is none.
+ * The lines for a pattern, or null if a line is none.
  * @param {string[]} words
  * @param {Network} network
  * @param {Declared} declared
@@ -159,7 +159,7 @@ function linesFor(words, network, declared) {
 }
 
 /**
- * The lines for fc: patterns are written out, and spaces too many are taken away.
+ * The lines for fc: patterns are written out, and extra spaces are removed.
  * @param {string} text
  * @param {Network} network
  * @param {Declared} declared

@@ -92,7 +92,7 @@ function rowsWith(start) {
 }
 
 /**
- * Takes lines away that begin with some words, and adds others.
+ * Removes lines that begin with some words, and adds others.
  * @param {string[]} starts
  * @param {string[]} added
  */
@@ -102,13 +102,13 @@ function replaced(starts, added) {
 }
 
 /**
- * Takes a line away.
+ * Removes a line.
  * @param {number} row
  */
 export const dropRow = (row) => write(now.state.changes.split("\n").filter((text, at) => at !== row && text.trim()));
 
 /**
- * Takes lines away along with what they name, and asks nothing yet.
+ * Removes lines along with what they name, and asks nothing yet.
  * @param {(row: string) => boolean} stays
  */
 function keep(stays) {
@@ -116,7 +116,7 @@ function keep(stays) {
 }
 
 /**
- * Takes the lines away that name a device, which goes.
+ * Removes the lines that name a device that goes.
  * @param {number} id
  */
 export function dropDevice(id) {
@@ -127,7 +127,7 @@ export function dropDevice(id) {
 }
 
 /**
- * Takes the line away that says that a link may go, which goes.
+ * Removes the line that says that a link may go, when it goes.
  * @param {number} a
  * @param {number} b
  */
@@ -136,7 +136,7 @@ export function dropLink(a, b) {
 }
 
 /**
- * Takes away what lines say of a device that isn't in the network.
+ * Removes what lines say of a device that isn't in the network.
  * @param {number} id
  */
 export function forgetComing(id) {
@@ -275,7 +275,7 @@ export function drawChanging() {
 export const isRefused = () => at("changes-fault").childElementCount > 0;
 
 /**
- * Says what is wrong with a line, and marks it; or takes that away.
+ * Says what is wrong with a line, and marks it; or removes that.
  * @param {{what: string, hint: string, row: number | null, at: [number, number] | null} | null} refused
  */
 export function refuseLine(refused) {

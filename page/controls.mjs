@@ -68,7 +68,7 @@ export function drawAnswerFields({ colours, paths, number, round }, known) {
 }
 
 /**
- * The slider of a run, or nothing.
+ * The slider of a run, or null.
  * @param {number | null} round the one that is shown
  * @param {number} last the last one that is known
  * @param {number} rounds how many are wanted

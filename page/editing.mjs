@@ -21,7 +21,7 @@ export function change(next) {
 }
 
 /**
- * Another network, with its links made anew where they are by range.
+ * Another network, with its links made again if they are by range.
  * @param {Partial<Network>} next
  * @param {number} wait
  */

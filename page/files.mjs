@@ -1,4 +1,4 @@
-// What is opened in the place of the state: an address, an example, a file, what was before. And what is saved.
+// What is opened in place of the state: an address, an example, a file, what was before. And what is saved.
 import { inputOf } from "./asking.mjs";
 import { field, hasChanges, mayChange, refuseLine } from "./changing.mjs";
 import { change } from "./editing.mjs";

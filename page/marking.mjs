@@ -14,7 +14,7 @@ import { firstFault, nodesOf } from "./typing.mjs";
 const STARTS = ["ceiling", "input", "metric", "def", "main"], MOST_TOKENS = 4096, MOST_DEPTH = 200;
 
 /**
- * The program, or null where it can't be read.
+ * The program, or null if it can't be read.
  * @param {string} text
  */
 function read(text) {
@@ -48,7 +48,7 @@ function syntaxPlace(text, number) {
     } catch (error) {
         if (!(error instanceof Stuck)) throw error;
         const at = error.at ?? last, place = piece.findIndex((token) => token.from === at.from);
-        // where the next declaration begins, a `;` is missing behind the token before
+        // where the next declaration begins, a `;` is missing after the token before
         if (place >= 0) ({ from, to } = place > 0 && STARTS.includes(at.text) ? piece[place - 1] : at);
     }
     return { from, to };
@@ -96,7 +96,7 @@ function nodePlace(text, place) {
 }
 
 /**
- * The stretch of the own text that a line of fc means, or null where it means none of the program.
+ * The stretch of the own text that a line of fc means, or null if it means none of the program.
  * @param {Composition} made
  * @param {string} line
  * @returns {Mark | null}
@@ -120,7 +120,7 @@ export function markOf(made, line) {
 }
 
 /**
- * The form of each node of a program that fc takes, by its place; empty where it can't be told.
+ * The form of each node of a program that fc takes, by its place; empty if it can't be read.
  * @param {string} text
  */
 export function formsOf(text) {

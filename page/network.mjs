@@ -11,7 +11,7 @@
  * @typedef {[number, number, number]} Link
  */
 /**
- * A network. Where `range` is a length, all devices that are at most so far apart are linked; else links are by hand.
+ * A network. If `range` is a length, all devices that are at most so far apart are linked; otherwise links are by hand.
  * `weight` is that of new links; 0 stands for their length.
  * @typedef {{devices: Device[], links: Link[], range: number | null, weight: number}} Network
  */
@@ -104,7 +104,7 @@ export function linksInRange(network, declared) {
 }
 
 /**
- * The network with its links made anew, where they are by range.
+ * The network with its links made again if they are by range.
  * @param {Network} network
  * @param {Declared} declared
  */

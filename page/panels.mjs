@@ -185,7 +185,7 @@ export function inspectDevice(device, network, declared, known, does, chances) {
 }
 
 /**
- * The chosen device, where it isn't in the network and may come.
+ * The chosen device, if it isn't in the network and may come.
  * @param {number} id
  * @param {Known} known
  * @param {(id: number) => void} remove
@@ -214,7 +214,7 @@ export function inspectLink(link, { metric: [low, high] }, does, chances) {
 }
 
 /**
- * The table of all devices. It is made anew where devices or inputs are others; else only its cells change.
+ * The table of all devices. It is made again if devices or inputs are others; otherwise only its cells change.
  * @param {Network} network
  * @param {Declared} declared
  * @param {Known} known

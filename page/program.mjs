@@ -117,7 +117,7 @@ export function complain(said, mark, kind, ...more) {
     editor.mark(mark && { ...mark, kind });
 }
 
-/** Takes away what was said of the text. */
+/** Removes what was said of the text. */
 export function clearFault() {
     at("fault").replaceChildren();
     editor.mark(null);

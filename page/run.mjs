@@ -10,7 +10,7 @@ import { saidOfFailure } from "./words.mjs";
 const MOST_ROUNDS = 200, ROUNDS_WITHOUT = 30, PLAY = 600;
 let playTimer = 0;
 
-/** The values of the round that is shown, or null where no run is. */
+/** The values of the round that is shown, or null if no run is. */
 export const shownFrame = () => now.state.view.round === null ? null : now.frames[now.state.view.round] ?? null;
 
 /** Whether a run is on and has come to something. */

@@ -81,7 +81,7 @@ function isState(found) {
 }
 
 /**
- * The state that an address has, or null where it has none of this form.
+ * The state that an address has, or null if it has none of this form.
  * @param {string} hash
  * @returns {Promise<State | null>}
  */

@@ -7,7 +7,7 @@
 // The statuses are those of the program. A call takes as long as it takes: a page makes it in a worker. Pointers and
 // lengths are BigInts, since the module was compiled for addresses of 64 bits.
 
-// Where the engine can suspend calls of WebAssembly, a call that may be suspended has a stack of its own. In a worker that
+// If the engine can suspend calls of WebAssembly, a call that may be suspended has a stack of its own. In a worker that
 // is larger than the worker's.
 const withStack = (call) => WebAssembly.promising?.(call) ?? call;
 
@@ -19,8 +19,8 @@ const FIRST_ROOM = 65536;
 export const compiled = (bytes) => WebAssembly.compile(bytes);
 
 // Answers words and an input, a text or bytes. Each call has an instance and a memory of its own, which go when nobody
-// holds them, also after a call that ended in a trap. Throws a RangeError where memory or the engine's stack
-// is wanting, and an Error where the words ask for threads.
+// holds them, also after a call that ended in a trap. Throws a RangeError if memory or the engine's stack
+// runs out, and an Error if the words ask for threads.
 export async function answer(module, words, input) {
     const { malloc, fc_reply, memory } = (await WebAssembly.instantiate(module, {})).exports;
     const reply = withStack(fc_reply);

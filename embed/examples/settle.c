@@ -1,4 +1,4 @@
-/* `fc` in a program of one's own: answers words with what stands on standard input.
+/* `fc` in a program of your own: answers words with what is on standard input.
  *
  *     cc -o settle settle.c $(pkg-config --cflags --libs fc)
  *     ./settle "check --settle" < hop_count_line.txt */

@@ -1,4 +1,4 @@
-//! `fc` in a Rust program: answers words with what stands on standard input.
+//! `fc` in a Rust program: answers words with what is on standard input.
 //!
 //!     rustc settle.rs $(pkg-config --libs-only-L fc)
 //!     ./settle "check --settle" < hop_count_line.txt

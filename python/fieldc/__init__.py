@@ -1,4 +1,4 @@
-"""A front for people over `fc`, the interpreter and proved checker of the first-order field calculus.
+"""The front end of `fc`, the interpreter and proved checker of the first-order field calculus.
 
     import fieldc, networkx
 

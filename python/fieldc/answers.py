@@ -13,7 +13,7 @@ if TYPE_CHECKING:
 
 @dataclass(frozen=True)
 class Origin:
-    """What a result is of: the program's text, and the network, of a run that behind its last line."""
+    """What a result is of: the program's text, and the network; of a run the one after its last line."""
 
     program: str
     network: Network
@@ -26,7 +26,7 @@ class Answer:
     of: Origin | None = field(default=None, kw_only=True, compare=False, repr=False)
 
     def __bool__(self) -> bool:
-        """Whether the verdict is a yes. Raises TypeError where there is none."""
+        """Whether the verdict is a yes. Raises TypeError if there is none."""
         verdict = getattr(self, "verdict", None)
         if verdict is None:
             raise TypeError(f"{type(self).__name__} has no verdict: ask fieldc.check, or look at its values")
@@ -34,7 +34,7 @@ class Answer:
 
     def to_frame(self) -> DataFrame:
         """The result as a table of pandas, with a row for each device (of facts, shows and summaries as many as there
-        are). Raises Fault where pandas isn't there."""
+        are). Raises Fault if pandas isn't there."""
         from .frames import frame_of
 
         return frame_of(self)

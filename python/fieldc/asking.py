@@ -69,7 +69,7 @@ def ask(
     kinds: Sequence[str],
     reader: Callable[[str, Call], Answer],
 ) -> tuple[Call, Answer, int]:
-    """Asks `fc`, writes its answer, and tells why where it is a no. Answers the call, the result and the status.
+    """Asks `fc`, writes its answer, and tells why where it is a no. Returns the call, the result and the status.
 
     Raises Refusal and Fault.
     """
@@ -104,7 +104,7 @@ def ask(
 
 
 def parts_of(options: argparse.Namespace, kinds: Sequence[str], names: Mapping[int, str]) -> tuple[Section, ...]:
-    """The sections of the files, and behind them that of the changes, where there are some. Raises Fault."""
+    """The sections of the files, and after them that of the changes, where there are some. Raises Fault."""
     given = getattr(options, "changes", None)
     if given == "-" and "-" in options.files:
         raise Fault("standard input can be read only once: use a single -")
@@ -123,7 +123,7 @@ def cut_warnings(
 
 
 def understood(reader: Callable[[str, Call], Answer], text: str, call: Call) -> Answer:
-    """What `fc` wrote, as a result. Raises Fault where it is no answer of its."""
+    """What `fc` wrote, as a result. Raises Fault if it is no answer of its."""
     try:
         return reader(text, call)
     except (Fault, ValueError, KeyError, IndexError, TypeError):
@@ -131,7 +131,7 @@ def understood(reader: Callable[[str, Call], Answer], text: str, call: Call) -> 
 
 
 def numbered(section: Section, names: Mapping[int, str]) -> Section:
-    """A section; a script or log with the numbers of its devices in the place of names. Raises Fault."""
+    """A section; a script or log with the numbers of its devices in place of names. Raises Fault."""
     if section.kind not in ("script", "log") or not names:
         return section
     text = by_numbers(section.text, names, section.name, section.first_line)
@@ -161,7 +161,7 @@ def named(text: str, names: Mapping[int, str], command: str, kinds: Kinds | None
 
 
 def why_no(call: Call, text: str) -> Explanation | None:
-    """Why an answer is a no, or has no walks; nothing where it is neither."""
+    """Why an answer is a no, or has no walks; None if it is neither."""
     lines = text.splitlines()
     line = next((line for line in [*lines[:1], *lines[1:2]] if line.startswith("no ")), None)
     if line is None:

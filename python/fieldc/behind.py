@@ -33,8 +33,8 @@ class Stretch:
     """A part of a script as it ran.
 
     `before` is how many rounds ran before it. From what devices hold after the edits, all hold their values after
-    `time` rounds without another edit; it is nothing where that is open. `late` is how many of the `devices` didn't
-    hold theirs when the rounds of this part were over, of those whose value is known.
+    `time` rounds without another edit; it is None if that is open. `late` is how many of the `devices` didn't hold
+    theirs when the rounds of this part were over, of those whose value is known.
     """
 
     line: int
@@ -51,7 +51,7 @@ class Stretch:
 
 
 def parts_of(script: str) -> list[Part]:
-    """The parts of a script. The first may have no edit. Raises Fault where an edit comes among firings."""
+    """The parts of a script. The first may have no edit. Raises Fault if an edit comes among firings."""
     found = [Part(1, (), 0)]
     for number, words, rounds in steps(script):
         if rounds and words[0] != "run":
@@ -67,7 +67,7 @@ def parts_of(script: str) -> list[Part]:
 
 
 def judged(program: Section, network: Section, script: Section) -> tuple[Network, list[Part]]:
-    """The network and the parts of a script that `fc` takes. Raises Fault where it has no rounds, and Refusal.
+    """The network and the parts of a script that `fc` takes. Raises Fault if it has no rounds, and Refusal.
 
     What `fc` says of a line it says of the whole script; each `run` runs one round for that.
     """
@@ -89,7 +89,7 @@ def stretches(
     workers: int = 4,
     waiting: Callable[[str], None] | None = None,
 ) -> list[Stretch]:
-    """Runs a script part by part, and asks for the settle times from what the devices hold behind the edits of each.
+    """Runs a script part by part, and asks for the settle times from what the devices hold after the edits of each.
 
     `waiting` is called with how many parts are done. Raises Refusal.
     """
@@ -114,14 +114,14 @@ def stretches(
 
 
 def edited(program: str, network: Network, edits: Sequence[str], workers: int) -> Network:
-    """The network behind some edits, with what its devices hold."""
+    """The network after some edits, with what its devices hold."""
     if not edits:
         return network
     return behind(program, network, edits, library.run(program, network, edits, workers=workers, table=True).table)
 
 
 def behind(program: str, network: Network, edits: Iterable[str], table: Mapping[str, Json] | None) -> Network:
-    """The network behind some edits, with a table."""
+    """The network after some edits, with a table."""
     found = moments(network, "\n".join(edits), tuple(declared(program).inputs))[-1].network
     return replace(found, state={"table": table})
 

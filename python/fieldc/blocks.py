@@ -63,7 +63,7 @@ class Declaration:
 
     @property
     def end(self) -> int:
-        """The offset behind its last token."""
+        """The offset after its last token."""
         return self.tokens[-1].at + len(self.tokens[-1].text)
 
     def calls(self) -> list[Token]:
@@ -77,7 +77,7 @@ class Declaration:
 class Block:
     """A function of a library.
 
-    `gives` says what it gives; `notes` has what stands behind `Elsewhere`, `K`, `Uses` and `Needs`, and a part of other
+    `gives` says what it gives; `notes` has what follows `Elsewhere`, `K`, `Uses` and `Needs`, and a part of other
     blocks has no `K`. `comment` and `text` are its lines in `file`; `parameters` have a name and a type each; `calls`
     are the functions that it calls.
     """
@@ -123,7 +123,7 @@ def tokens(text: str) -> list[Token]:
 
 
 def declarations(text: str) -> list[Declaration]:
-    """The declarations of a program, cut after each `;`; tokens behind the last one are one more."""
+    """The declarations of a program, cut after each `;`; tokens after the last one are one more."""
     found: list[Declaration] = []
     waiting: list[Token] = []
     for token in tokens(text):
@@ -185,8 +185,8 @@ def _block(path: Path, text: str, function: Declaration) -> Block:
 def read_library(folders: Iterable[Path]) -> Library:
     """The blocks of some folders, by name: the functions of their files NAME.fc.
 
-    Raises Fault where a folder has no such file, one can't be read or has another declaration than `def`, or two
-    functions have one name.
+    Raises Fault if a folder has no such file, one can't be read or has another declaration than `def`, or two functions
+    have one name.
     """
     found: Library = {}
     for folder in folders:
@@ -248,7 +248,7 @@ def listing(library: Library) -> str:
 
 
 def shown(name: str, library: Library) -> str:
-    """A block with its comment, as it stands in its file. Raises Fault where no block has the name."""
+    """A block with its comment, as it stands in its file. Raises Fault if no block has the name."""
     if name not in library:
         raise Fault(not_there(name, library), 3)
     return f"{library[name].comment}{library[name].text}\n"

@@ -33,7 +33,7 @@ FROM_TO = re.compile(r"([+-])([0-9]{1,7})(%?)\.\.([+-])([0-9]{1,7})(%?)")
 
 @dataclass(frozen=True)
 class Around:
-    """How far a number may be from what it is now: from `low` to `high`, each an amount or a part in a hundred."""
+    """How far a number may be from what it is now: from `low` to `high`, each an amount or a percentage."""
 
     low: int
     high: int
@@ -48,7 +48,7 @@ class Around:
 
 
 def around_of(word: str) -> Around | None:
-    """What a word such as `+-2`, `-20%..+20%` or `-1..+3` says; nothing for any other."""
+    """What a word such as `+-2`, `-20%..+20%` or `-1..+3` says; None for any other."""
     found = AROUND.fullmatch(word)
     if found is not None:
         amount, percent = int(found[1]), bool(found[2])
@@ -79,7 +79,7 @@ class Known:
 
 
 def for_fc(section: Section, parts: Sequence[Section], names: Mapping[int, str]) -> Section:
-    """A section of changes as `fc` reads it behind a program and a network. Raises Fault where a pattern means nothing.
+    """A section of changes as `fc` reads it after a program and a network. Raises Fault if a pattern means nothing.
 
     Where these can't be read it stays as it is: `fc` refuses them first.
     """
@@ -94,7 +94,7 @@ def for_fc(section: Section, parts: Sequence[Section], names: Mapping[int, str])
 def written_out(section: Section, network: Network, wanted: Declared) -> Section:
     """A section of changes as `fc` reads it, which knows the lines that the user typed.
 
-    Raises Fault, of status 3, with the line of the file, where a pattern means nothing.
+    Raises Fault, of status 3, with the line of the file, if a pattern means nothing.
     """
     known, written, rows = Known.of(network, wanted), list[str](), list[int]()
     typed = section.text.split("\n")
@@ -107,7 +107,7 @@ def written_out(section: Section, network: Network, wanted: Declared) -> Section
 
 
 def check_forms(section: Section) -> None:
-    """Raises Fault, of status 3, with the line of the file, where one is of none of the forms, as `fc` would say it."""
+    """Raises Fault, of status 3, with the line of the file, if one is of none of the forms, as `fc` would say it."""
     for place, line in enumerate(section.text.split("\n")):
         verb, *rest = line.removesuffix("\r").split(" ")
         where = f"{section.name or section.kind} line {place + section.first_line}"
@@ -138,7 +138,7 @@ def _is_plain(words: Sequence[str], known: Known) -> bool:
 
 
 def _with_numbers(words: Sequence[str], known: Known) -> list[str]:
-    """The words of a line with the numbers of its devices in the place of their names."""
+    """The words of a line with the numbers of its devices in place of their names."""
     count = DEVICES_OF.get(words[0], 0)
     return [str(known.number.get(word, word)) if 0 < at <= count else word for at, word in enumerate(words)]
 
@@ -148,7 +148,7 @@ def _with_numbers(words: Sequence[str], known: Known) -> list[str]:
 
 def devices_of(word: str, known: Known, where: str) -> list[int]:
     """The devices that a word means: one by its name or number, `*` for all, `3..9`, or `input=value` for all of which
-    an input has a value. Raises Fault where it means none."""
+    an input has a value. Raises Fault if it means none."""
     there = known.network.inputs
     if word in known.number:
         return [known.number[word]]
@@ -173,7 +173,7 @@ def devices_of(word: str, known: Known, where: str) -> list[int]:
 
 
 def _numbers(word: str, where: str) -> Pair:
-    """The ends of numbers of devices such as `3..9`. Raises Fault where they are upside down."""
+    """The ends of numbers of devices such as `3..9`. Raises Fault if they are in the wrong order."""
     low, high = map(int, word.split(".."))
     if low > high:
         raise Fault(f"{where}: {word} is the wrong way round: the least number comes first", 3)
@@ -190,7 +190,7 @@ def _value(word: str) -> Input:
 
 
 def _input(name: str, known: Known, where: str) -> str:
-    """The name of an input. Raises Fault where the program declares none that is called so."""
+    """The name of an input. Raises Fault if the program declares none that is called so."""
     if name not in known.declared.inputs:
         there = ", ".join(known.declared.inputs) or "none"
         raise Fault(f"{where}: no input is called {name}; the program declares {there}", 3)
@@ -243,7 +243,7 @@ def _weight(word: str, now: int | None, known: Known) -> str:
 
 
 def _pairs(first: str, second: str, known: Known, where: str) -> list[Pair]:
-    """The pairs of different devices that two words mean, each once. Raises Fault where there are none."""
+    """The pairs of different devices that two words mean, each once. Raises Fault if there are none."""
     ones, others = devices_of(first, known, where), devices_of(second, known, where)
     found = sorted({(min(a, b), max(a, b)) for a in ones for b in others if a != b})
     if not found:
@@ -252,13 +252,13 @@ def _pairs(first: str, second: str, known: Known, where: str) -> list[Pair]:
 
 
 def _links_of(word: str, known: Known, where: str) -> list[Pair]:
-    """The links of the network that end at a device which a word means. Raises Fault where there are none."""
+    """The links of the network that end at a device which a word means. Raises Fault if there are none."""
     ends = set(devices_of(word, known, where))
     return _some((pair for pair in known.weights if not ends.isdisjoint(pair)), word, where)
 
 
 def _some(pairs: Iterable[Pair], words: str, where: str) -> list[Pair]:
-    """The pairs that some words mean, rising. Raises Fault where there are none."""
+    """The pairs that some words mean, in ascending order. Raises Fault if there are none."""
     found = sorted(pairs)
     if not found:
         raise Fault(f"{where}: no link of the network is {words}", 3)
@@ -310,4 +310,4 @@ RULES: dict[tuple[str, int | None], Rule] = {
     ("leave", 1): _leave,
     ("join", None): _join,
 }
-"""The rule of a line by its first word, and by how many words stand behind it."""
+"""The rule of a line by its first word, and by how many words stand after it."""

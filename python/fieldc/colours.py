@@ -35,7 +35,7 @@ class Meaning:
 
     `scale` names the scale, `none` what a device without a value is, which has the colour `bare`; with `resting` a 0
     has the colour grey and this meaning. `ceiling` is that of the program, where it is known: it has a colour of its
-    own. With `bounds` a device has a bound in the place of a value.
+    own. With `bounds` a device has a bound in place of a value.
     """
 
     scale: str = "value"
@@ -164,7 +164,7 @@ def rungs(scales: Sequence[Scale], values: Iterable[Drawn | None]) -> list[tuple
 
 
 def shaped(form: Value, words: Sequence[str]) -> str:
-    """Words in the place of the parts of a value, from left to right."""
+    """Words in place of the parts of a value, from left to right."""
     left = iter(words)
 
     def said(part: Value) -> str:

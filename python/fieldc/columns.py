@@ -30,7 +30,7 @@ def decimal(word: str, where: str) -> Decimal:
 
 
 def real(word: str, where: str) -> float:
-    """A position or a time. Raises Fault, of status 3, where it is no number, or too great to be reckoned with."""
+    """A position or a time. Raises Fault, of status 3, if it is no number, or too great to be computed with."""
     found = float(decimal(word, where))
     if not -FARTHEST <= found <= FARTHEST:
         raise Fault(f"{where} is {word}; it has to be from -{FARTHEST:g} to {FARTHEST:g}", 3)
@@ -40,7 +40,7 @@ def real(word: str, where: str) -> float:
 def input_word(word: str, where: str, name: str, truth: bool, scale: Mapping[str, float]) -> Input | str:
     """The value of an input in a field: true, false, yes or no in any letters, or a whole number, which is scaled.
 
-    With `truth`, 1 and 0 are truth values too. Raises Fault, of status 3, where a number isn't whole, with the remedy.
+    With `truth`, 1 and 0 are truth values too. Raises Fault, of status 3, if a number isn't whole, with the remedy.
     """
     if word.lower() in TRUTHS:
         return TRUTHS[word.lower()]
@@ -60,12 +60,12 @@ def input_word(word: str, where: str, name: str, truth: bool, scale: Mapping[str
 
 
 def latitude(word: str, where: str) -> float:
-    """Degrees to the north. Raises Fault, of status 3, where they are none."""
+    """Degrees to the north. Raises Fault, of status 3, if they are none."""
     return _degrees(word, where, 90)
 
 
 def longitude(word: str, where: str) -> float:
-    """Degrees to the east. Raises Fault, of status 3, where they are none."""
+    """Degrees to the east. Raises Fault, of status 3, if they are none."""
     return _degrees(word, where, 180)
 
 
@@ -99,7 +99,7 @@ def in_metres(
 
 
 def _flat(lat: float, lon: float, north: float, east: float) -> Position:
-    """Where a place lies on the flat map round the middle that keeps distances and directions from there."""
+    """Where a place lies on the flat map around the middle that keeps distances and directions from there."""
     to_east = math.cos(lat) * math.sin(lon - east)
     to_north = math.cos(north) * math.sin(lat) - math.sin(north) * math.cos(lat) * math.cos(lon - east)
     along = math.sin(north) * math.sin(lat) + math.cos(north) * math.cos(lat) * math.cos(lon - east)

@@ -1,4 +1,4 @@
-"""The command line of `fieldc`: `main(words)` answers a status, and `parser()` makes the whole parser."""
+"""The command line of `fieldc`: `main(words)` returns a status, and `parser()` makes the whole parser."""
 
 from __future__ import annotations
 
@@ -90,8 +90,7 @@ def parser() -> argparse.ArgumentParser:
 
 
 def take_rest(options: argparse.Namespace, rest: Sequence[str]) -> None:
-    """Takes files that stand behind an option. Raises Fault where there is another word that the command doesn't
-    know."""
+    """Takes files that follow an option. Raises Fault if there is another word that the command doesn't know."""
     wrong = [word for word in rest if not hasattr(options, "files") or (word.startswith("-") and word != "-")]
     if wrong:
         raise Fault(f"{wrong[0]} isn't one of its options, nor a word that it takes: fieldc {options.command} --help")
@@ -100,7 +99,7 @@ def take_rest(options: argparse.Namespace, rest: Sequence[str]) -> None:
 
 
 def main(words: Sequence[str] | None = None) -> int:
-    """Reads a command line (without `fieldc`; else that of the process), does it, and answers the status.
+    """Reads a command line (without `fieldc`; else that of the process), does it, and returns the status.
 
     Whatever is refused is told on standard error.
     """
@@ -118,7 +117,7 @@ def main(words: Sequence[str] | None = None) -> int:
 
 
 def performed(words: Sequence[str] | None) -> int:
-    """Does a command line and answers the status. Raises Fault where standard error can't be written."""
+    """Does a command line and returns the status. Raises Fault if standard error can't be written."""
     options = argparse.Namespace(command="", json=False)
     try:
         options, rest = parser().parse_known_args(words, options)
@@ -144,7 +143,7 @@ def performed(words: Sequence[str] | None) -> int:
 
 
 def tell(fault: Fault, options: argparse.Namespace) -> int:
-    """Tells what `fieldc` itself refuses, and answers its status."""
+    """Tells what `fieldc` itself refuses, and returns its status."""
     name = " ".join(["fieldc", options.command]).rstrip()
     say(faulted(fault) if options.json else f"{name}: {fault}\n")
     return fault.status

@@ -33,7 +33,7 @@ OF_PROGRAMS = ("lexical", "syntax", "types", "limit tokens", "limit depth", "lim
 class Composition:
     """A program with the blocks that it calls.
 
-    `own` is the program as it was; `taken` are the blocks, each behind what it calls, and `asked` has for each the line
+    `own` is the program as it was; `taken` are the blocks, each after what it calls, and `asked` has for each the line
     of `own` that led to it. `inserted` stands in `text` at the offset `at`.
     """
 
@@ -68,9 +68,9 @@ def _unknown(called: Sequence[Token], library: Library) -> Fault:
 
 
 def _with_their_own(called: Iterable[Token], library: Library) -> dict[str, int]:
-    """The blocks that are called and what they call, each behind its own, with the line that led to it.
+    """The blocks that are called and what they call, each after its own, with the line that led to it.
 
-    Raises Fault where a block calls what isn't there or comes back to itself.
+    Raises Fault if a block calls what isn't there or comes back to itself.
     """
     asked: dict[str, int] = {}
 
@@ -100,7 +100,7 @@ def _leading_to(name: str, parts: Sequence[Declaration], taken: Sequence[Block])
 
 
 def _refuse_clashes(parts: Sequence[Declaration], taken: Sequence[Block], asked: dict[str, int]) -> None:
-    """Raises Fault where the program declares a name that a taken block has, or isn't of the language of one."""
+    """Raises Fault if the program declares a name that a taken block has, or isn't of the language of one."""
     names = {block.name for block in taken}
     for part in parts:
         if part.kind in ("def", "input") and part.name in names:
@@ -118,8 +118,8 @@ def _refuse_clashes(parts: Sequence[Declaration], taken: Sequence[Block], asked:
 def composed(text: str, library: Library) -> Composition:
     """A program with the blocks that it calls and doesn't define, and those that these call.
 
-    They stand in front of its first `def` or `main`, each behind what it calls, in the order of the calls. All else
-    stays. Raises Fault where a name that is called is no block's, or a name or the language doesn't go with the blocks.
+    They stand in front of its first `def` or `main`, each after what it calls, in the order of the calls. All else
+    stays. Raises Fault if a name that is called is no block's, or a name or the language doesn't go with the blocks.
     """
     parts = declarations(text)
     own = {part.name for part in parts if part.kind == "def"}
@@ -149,7 +149,7 @@ def compose(text: str, library: Library) -> str:
 def warnings(made: Composition, network: str, name: str) -> list[str]:
     """What a network makes of the blocks: device numbers that the ceiling cuts, or that a block doesn't tell apart.
 
-    Raises Fault where the network is no scene.
+    Raises Fault if the network is no scene.
     """
     greatest = max(read_scene(network, name).devices)
     words = [token.text for token in tokens(made.text)]
@@ -177,7 +177,7 @@ def least_network(text: str) -> str:
 
 
 def _line(made: Composition, words: Sequence[str]) -> int | None:
-    """The line of the composed text that a refusal means, or nothing where it means none."""
+    """The line of the composed text that a refusal means, or None if it means none."""
     numbers = [int(word) for word in words if word.isdigit()]
     parts = declarations(made.text)
     if words[0] == "lexical" and numbers:
@@ -239,7 +239,7 @@ def told(explanation: Explanation) -> str:
 
 
 def judged(made: Composition, network: Section) -> Refusal | None:
-    """What `fc check` refuses in a composed program on a network, or its no, as a refusal of status 1; else nothing."""
+    """What `fc check` refuses in a composed program on a network, or its no, as a refusal of status 1, or None."""
     call = Call(("check",), (Section("program", "", 1, made.text), network))
     try:
         reply = fc.answered(call)
@@ -249,8 +249,7 @@ def judged(made: Composition, network: Section) -> Refusal | None:
 
 
 def wanting(made: Composition, no: Refusal, name: str) -> str | None:
-    """That a block gets a no with these arguments, and what it needs; nothing where the no isn't known to be a
-    block's."""
+    """That a block gets a no with these arguments, and what it needs; None if the no isn't known to be a block's."""
     line = explained(no.call, no).line
     own, block = (0, None) if line is None else made.origin(line)
     if block is None:

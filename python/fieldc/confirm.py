@@ -72,10 +72,10 @@ class Walk:
     """A network that changes at random within an envelope: each edit is one that the lines of changes allow. `there`
     are the devices of now; those of `flying` can't leave, as their firings are under way."""
 
-    def __init__(self, asked: Question, dice: Random) -> None:
+    def __init__(self, asked: Question, rng: Random) -> None:
         self.envelope = asked.envelope
         self.order = asked.order
-        self.dice = dice
+        self.rng = rng
         self.flying: set[int] = set()
         self.there = set(asked.scene.inputs)
         self.near: dict[int, set[int]] = {device: set() for device in asked.envelope.inputs}
@@ -83,8 +83,8 @@ class Walk:
             self._join_ends((a, b))
 
     def edit(self) -> str | None:
-        """One edit, which is done; nothing where the one that the dice chose can't be done now."""
-        return self.dice.choice((self._set, self._link, self._link, self._unlink, self._leave, self._join))()
+        """One edit, which is done; None if the one that was drawn can't be done now."""
+        return self.rng.choice((self._set, self._link, self._link, self._unlink, self._leave, self._join))()
 
     def _join_ends(self, pair: Pair) -> None:
         for one, other in (pair, pair[::-1]):
@@ -95,21 +95,21 @@ class Walk:
         found = [(d, name) for d in sorted(self.there) for name, (low, high) in inputs[d].items() if low != high]
         if not found:
             return None
-        device, name = self.dice.choice(found)
+        device, name = self.rng.choice(found)
         return f"set {device} {name} {word_of(self._drawn(inputs[device][name]))}"
 
     def _drawn(self, span: Span) -> Input:
         """A number or truth value of a span; its ends come more often."""
         low, high = span
-        if isinstance(low, bool) or self.dice.random() < 0.5:
-            return self.dice.choice(span)
-        return self.dice.randint(low, high)
+        if isinstance(low, bool) or self.rng.random() < 0.5:
+            return self.rng.choice(span)
+        return self.rng.randint(low, high)
 
     def _link(self) -> str | None:
         found = [pair for pair in self.envelope.links if self.there.issuperset(pair) and self._has_room(pair)]
         if not found:
             return None
-        pair = self.dice.choice(found)
+        pair = self.rng.choice(found)
         self._join_ends(pair)
         return f"link {pair[0]} {pair[1]} {self._drawn(self.envelope.links[pair])}"
 
@@ -122,7 +122,7 @@ class Walk:
         found = sorted(pair for pair in loose if pair[1] in self.near[pair[0]])
         if not found:
             return None
-        a, b = self.dice.choice(found)
+        a, b = self.rng.choice(found)
         self.near[a].remove(b)
         self.near[b].remove(a)
         return f"unlink {a} {b}"
@@ -131,7 +131,7 @@ class Walk:
         found = sorted((self.there & self.envelope.away) - self.flying)
         if not found or len(self.there) == 1:
             return None
-        device = self.dice.choice(found)
+        device = self.rng.choice(found)
         self.there.remove(device)
         for other in self.near[device]:
             self.near[other].remove(device)
@@ -142,30 +142,30 @@ class Walk:
         found = sorted(set(self.envelope.inputs) - self.there)
         if not found:
             return None
-        device = self.dice.choice(found)
+        device = self.rng.choice(found)
         self.there.add(device)
         own = self.envelope.inputs[device]
         return " ".join(["join", str(device), *(word_of(self._drawn(own[name])) for name in self.order)])
 
 
-def planned(asked: Question, dice: Random) -> Plan:
+def planned(asked: Question, rng: Random) -> Plan:
     """A script of a bit more rounds than those of the bounds, with edits before and among them, and shows between.
 
     It begins with rubbish, unless rounds are counted from the table of the network. Where firings are under way there,
     nothing is edited before they have ended, as no device leaves before.
     """
-    walk, lines, rounds = Walk(asked, dice), list[str](), dict[int, int]()
+    walk, lines, rounds = Walk(asked, rng), list[str](), dict[int, int]()
     past, still = 0, bool(asked.scene.state.get("pending"))
-    target = min(asked.bounds.within + dice.randrange(1, MORE_ROUNDS), max(1, MOST_FIRINGS // len(walk.near)))
+    target = min(asked.bounds.within + rng.randrange(1, MORE_ROUNDS), max(1, MOST_FIRINGS // len(walk.near)))
     if not asked.bounds.from_table:
-        lines.append(f"scramble {dice.randrange(MOST_SCRAMBLE)}")
+        lines.append(f"scramble {rng.randrange(MOST_SCRAMBLE)}")
     while len(lines) < MOST_LINES - MOST_EDITS:
         lines.append("show")
         rounds[len(lines)] = past
         if past >= target:
             break
-        count = min(dice.randint(1, max(1, target // 3)), target - past)
-        lines += _stretch(walk, 0 if still and not past else dice.randrange(MOST_EDITS - 1), count)
+        count = min(rng.randint(1, max(1, target // 3)), target - past)
+        lines += _stretch(walk, 0 if still and not past else rng.randrange(MOST_EDITS - 1), count)
         past += count
     return Plan(tuple(lines), rounds)
 
@@ -173,7 +173,7 @@ def planned(asked: Question, dice: Random) -> Plan:
 def _stretch(walk: Walk, edits: int, rounds: int) -> list[str]:
     """Up to so many edits, and then so many rounds; the last edit may be one among firings."""
     found = list(_edits(walk, edits))
-    if found and found[-1].split(" ")[0] in MIXED and walk.dice.random() < 0.7:
+    if found and found[-1].split(" ")[0] in MIXED and walk.rng.random() < 0.7:
         return [*found[:-1], f"mix {rounds} {found[-1]}"]
     return [*found, f"run {rounds}"]
 
@@ -220,7 +220,7 @@ class Tried:
 
 
 def outside(held: Held, value: results.Value | None, rounds: int) -> results.Bound | None:
-    """The bound that a value breaks after so many rounds; nothing where it breaks none."""
+    """The bound that a value breaks after so many rounds; None if it breaks none."""
     bound = held.after(rounds)
     if bound is None:
         return None
@@ -260,7 +260,7 @@ def looked(call: Call, bounds: Bounds, count: int) -> Tried:
 
 
 def perform(call: Call, bounds: Bounds, count: int) -> int:
-    """Tries so many runs, and tells on standard error what came of it. Answers a status."""
+    """Tries so many runs, and tells on standard error what came of it. Returns a status."""
     found = looked(call, bounds, count)
     if found.broken is not None:
         say(f"fieldc: {found.broken.told(str(found.broken.device))}")

@@ -41,8 +41,7 @@ class Cut:
     """Values that the ceiling of a program decides.
 
     `changed` has, for each device whose values differ, its value with the program's ceiling and with a greater one.
-    `enough` is a ceiling with which nothing is cut, or nothing; `least` tells whether it is the least, or there is
-    none.
+    `enough` is a ceiling with which nothing is cut, or None; `least` tells whether it is the least, or there is none.
     """
 
     ceiling: int
@@ -78,7 +77,7 @@ class Question:
     start: float = field(default_factory=time.monotonic)
 
     def values(self, ceiling: int) -> Values:
-        """The values with a ceiling. Raises Late, Refusal, and Fault where `fc` answers as it never does."""
+        """The values with a ceiling. Raises Late, Refusal, and Fault if `fc` answers as it never does."""
         if ceiling not in self.known:
             program = replace(self.program, text=with_ceiling(self.program.text, ceiling))
             sections = (program, self.network) + ((self.log,) if self.log is not None else ())
@@ -98,7 +97,7 @@ class Question:
 
 
 def ceiling_of(program: str) -> Token | None:
-    """The number of the declaration of the ceiling; nothing where there is none."""
+    """The number of the declaration of the ceiling; None if there is none."""
     found = tokens(program)
     pairs = zip(found, found[1:])
     return next((number for word, number in pairs if word.text == "ceiling" and number.text.isdigit()), None)
@@ -111,10 +110,10 @@ def with_ceiling(program: str, ceiling: int) -> str:
 
 
 def cut_of(question: Question) -> Cut | Untold | None:
-    """What the ceiling cuts on a network; nothing where nothing is seen of it.
+    """What the ceiling cuts on a network; None if nothing is seen of it.
 
     Where the program's ceiling is the greatest that there is, half of it is asked for: if the values are the same with
-    it, nothing is cut. Raises Refusal where `fc` refuses the program or network as they are.
+    it, nothing is cut. Raises Refusal if `fc` refuses the program or network as they are.
     """
     declaration = ceiling_of(question.program.text)
     ceiling = int(declaration.text) if declaration is not None else GREATEST_NUMBER
@@ -148,8 +147,8 @@ def differing(here: Values, there: Values) -> dict[int, tuple[Value, Value]]:
 def enough(question: Question, ceiling: int) -> tuple[int | None, bool]:
     """The least ceiling above this one with which the values are those of a greater one, and whether all were tried.
 
-    With a yes the greater one is the greatest that there is, else twice as great a one. It is nothing where there is
-    none, or none was found in time.
+    With a yes the greater one is the greatest that there is, else twice as great a one. It is None if there is none, or
+    none was found in time.
     """
     low, high, found = ceiling, min(2 * ceiling, GREATEST_NUMBER), False
     try:
@@ -220,7 +219,7 @@ def warned(
     took: float = 0.0,
     waiting: Callable[[], None] | None = None,
 ) -> tuple[Explanation, ...]:
-    """What the ceiling cuts of the values of a result that took so many seconds; nothing where no cut is seen.
+    """What the ceiling cuts of the values of a result that took so many seconds; None if no cut is seen.
 
     Of a run it is the values to which its program settles on the networks of its last shows; of a log those after it.
     """

@@ -15,7 +15,7 @@ KINDS = ("program", "network")
 
 
 def diagnosed(files: Sequence[str], words: Sequence[str]) -> int:
-    """Asks `fc check`, writes the verdict and what is found on standard output, and answers the status.
+    """Asks `fc check`, writes the verdict and what is found on standard output, and returns the status.
 
     A program alone is judged on a network of one device. Raises Fault.
     """

@@ -30,7 +30,7 @@ LOOSE = "dashed link: may be missing"
 
 
 def pyplot_ready() -> Any:
-    """matplotlib's pyplot, which draws to files alone. Raises Fault where it isn't there."""
+    """matplotlib's pyplot, which draws to files alone. Raises Fault if it isn't there."""
     if "matplotlib" not in sys.modules:
         os.environ["MPLBACKEND"] = "Agg"
     try:
@@ -45,7 +45,7 @@ def pyplot_ready() -> Any:
 
 
 def saved(figure: Any, name: str) -> None:
-    """Writes a figure to a file, the same each time. Raises Fault, of status 6, where it can't be written."""
+    """Writes a figure to a file, the same each time. Raises Fault, of status 6, if it can't be written."""
     dated = name.lower().endswith((".svg", ".pdf"))
     key = "Date" if name.lower().endswith(".svg") else "CreationDate"
     try:

@@ -46,8 +46,8 @@ def steps(text: str) -> Iterator[tuple[int, list[str], int]]:
 
 
 def by_numbers(text: str, names: Mapping[int, str], name: str, first_line: int = 1) -> str:
-    """A script or log whose edits have the numbers of devices in the place of their names; a name goes before a number
-    that is written like it. Raises Fault, with the line of the file, where a word is neither a name nor a number."""
+    """A script or log whose edits have the numbers of devices in place of their names; a name goes before a number that
+    is written like it. Raises Fault, with the line of the file, if a word is neither a name nor a number."""
     number = {word: str(device) for device, word in names.items()}
     lines = text.split("\n")
     for place, line in enumerate(lines):
@@ -127,7 +127,7 @@ def moments(network: Network, text: str, declared: tuple[str, ...]) -> tuple[Mom
     """The network at each show of a script, or, where there is none, at the end of the lines as of a log.
 
     `declared` are the program's inputs in their order, which a `join` line has in that order. Raises Fault, of status
-    3, where a line can't be taken: `fc` says why.
+    3, if a line can't be taken: `fc` says why.
     """
     changing, found = _Changing(network, declared), []
     rounds, edited = 0, False

@@ -114,7 +114,7 @@ CHARACTERS = {
 
 
 def hint_for(name: str) -> str | None:
-    """What stands for a word of another language, or nothing where it is none."""
+    """What stands for a word of another language, or None if it is none."""
     return HINTS.get(name)
 
 

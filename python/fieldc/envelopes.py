@@ -20,8 +20,8 @@ Key = TypeVar("Key")
 
 @dataclass(frozen=True)
 class Envelope:
-    """The devices that may be there, rising, each with the span of each input; the links that may be there, each with
-    the span of its weight; and those of both that are always there."""
+    """The devices that may be there, in ascending order, each with the span of each input; the links that may be there,
+    each with the span of its weight; and those of both that are always there."""
 
     inputs: Mapping[int, Mapping[str, Span]]
     links: Mapping[Pair, Span]

@@ -19,7 +19,7 @@ MOST_DEVICES = 1024
 
 
 def line_fault(section: Section, number: int, word: str, scene: Json, program: Unfolded) -> Said | None:
-    """What is wrong with a line; nothing where it isn't seen. `number` is the line's in the section, from 1."""
+    """What is wrong with a line; None if it isn't seen. `number` is the line's in the section, from 1."""
     lines = lines_of(section)
     if not 0 < number <= len(lines) or not lines[number - 1].words:
         return None

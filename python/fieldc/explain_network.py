@@ -58,7 +58,7 @@ def not_json(fault: JsonFault) -> Said:
 
 
 def shape(text: str, scene: Json, path: str, program: Unfolded) -> Said | None:
-    """What is wrong with the form of a part of a network; nothing where it isn't seen."""
+    """What is wrong with the form of a part of a network; None if it isn't seen."""
     found = find(scene, path)
     if found is None:
         return None
@@ -227,7 +227,7 @@ def _main_value(text: str, found: Json, program: Unfolded) -> Said | None:
 
 
 def network(text: str, scene: Json, path: str, word: str, program: Unfolded) -> Said | None:
-    """What is wrong with a device or link of a network; nothing where it isn't seen."""
+    """What is wrong with a device or link of a network; None if it isn't seen."""
     found = find(scene, path)
     if found is None:
         return None
@@ -292,7 +292,7 @@ def _weight(found: Json, program: Unfolded) -> Said | None:
 
 
 def degree(scene: Json) -> Said | None:
-    """The first link that is a device's 33rd; nothing where there is none."""
+    """The first link that is a device's 33rd; None if there is none."""
     found = find(scene, "/links")
     links = found.items if found is not None else ()
     count: dict[int | None, int] = {}
@@ -309,7 +309,7 @@ def degree(scene: Json) -> Said | None:
 
 
 def too_many(scene: Json, count: int) -> Said | None:
-    """The first device past the limit; nothing where there is none."""
+    """The first device past the limit; None if there is none."""
     devices = find(scene, "/devices")
     if devices is None or len(devices.items) != count:
         return None
@@ -318,7 +318,7 @@ def too_many(scene: Json, count: int) -> Said | None:
 
 
 def kept(text: str, scene: Json, path: str, place: int, program: Unfolded) -> Said | None:
-    """What is wrong with a kept list; nothing where it isn't seen."""
+    """What is wrong with a kept list; None if it isn't seen."""
     found = find(scene, path)
     if found is None or "kept" not in found.members:
         return None

@@ -23,7 +23,7 @@ PAIRED = ("link", "unlink", "deliver", "again", "lose")
 
 
 def line_fault(section: Section, kind: str, number: int, word: str, scene: Json, program: Unfolded) -> Said | None:
-    """What is wrong with a line; nothing where it isn't seen. `number` is the line's in the section, from 1."""
+    """What is wrong with a line; None if it isn't seen. `number` is the line's in the section, from 1."""
     lines = lines_of(section)
     if not 0 < number <= len(lines) or not lines[number - 1].words:
         return None
@@ -42,7 +42,7 @@ def with_words(section: Section) -> list[Line]:
 
 
 def edit_of(line: Line) -> Line:
-    """The edit of a `mix`, which stands behind its rounds; any other line itself."""
+    """The edit of a `mix`, which follows its rounds; any other line itself."""
     return replace(line, words=line.words[2:]) if line.verb == "mix" else line
 
 

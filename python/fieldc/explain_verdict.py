@@ -20,7 +20,7 @@ class Verdict:
         self.nodes = program.nodes
 
     def said(self, place: int, reason: str) -> Said | None:
-        """What is said of a no; nothing where the reader finds another place or reason than `fc`."""
+        """What is said of a no; None if the reader finds another place or reason than `fc`."""
         blame = Patterns(self.program).first()
         if blame is None or (blame.place, blame.reason) != (place, reason):
             return None
@@ -125,7 +125,7 @@ class Verdict:
         return why, f"Add to what is heard, as in `{heard} + 1`."
 
     def _in_step(self, blame: Blame, heard: str) -> str | None:
-        """How a value is chosen in place of what is heard, where that depends on the neighbour; else nothing."""
+        """How a value is chosen in place of what is heard, where that depends on the neighbour, or None."""
         choice = next((node for node in self.nodes if node.name == "mux" and blame.part in node.kids[1:]), None)
         if choice is None or not choice.expr.kids:
             return None
@@ -201,7 +201,7 @@ class Verdict:
             "maxHoodLoc": (
                 f"{part}, takes a greatest value, which may go round in circles for ever",
                 f"Use a least value that grows: `minHoodLoc({heard} + 1, ..)`; "
-                "or collect along a potential, behind guards.",
+                "or collect along a potential, with guards.",
             ),
             "minHoodLoc": (
                 f"{part}, isn't the whole body, and what is done with it has no known form",

@@ -25,8 +25,8 @@ OF_LINKS = ("weight", "least", "greatest", "goes")
 
 @dataclass(frozen=True)
 class Points:
-    """Positions of devices, rising, with the names that were no numbers, and inputs from further columns; and how far
-    each may move, where a column says it."""
+    """Positions of devices, in ascending order, with the names that were no numbers, and inputs from further columns;
+    and how far each may move, where a column says it."""
 
     positions: Mapping[int, Position]
     names: Mapping[int, str]
@@ -45,11 +45,11 @@ def points(
     scale: Mapping[str, float] = MappingProxyType({}),
     moving: bool = False,
 ) -> Points:
-    """The positions of a file of rows `id x y` and further columns, parted by semicolons, tabs, bars, commas, colons or
-    spaces, or of points in GeoJSON. Where the names of the columns have no id, rows are numbered.
+    """The positions of a file of rows `id x y` and further columns, separated by semicolons, tabs, bars, commas, colons
+    or spaces, or of points in GeoJSON. Where the names of the columns have no id, rows are numbered.
 
     A row of names may stand first; with it the columns may stand in any order, and further ones are inputs: those that
-    `program` declares or `inputs` names, else all. Columns `lat` and `lon` in the place of `x` and `y` are degrees, of
+    `program` declares or `inputs` names, else all. Columns `lat` and `lon` in place of `x` and `y` are degrees, of
     which metres are made. Numbers of inputs are multiplied by what `scale` has for them, and rounded. With `moving` a
     column `move`, unless it is an input that is asked for, says how far each device may move. Raises Fault, of status
     3, with the line that is at fault.
@@ -84,7 +84,7 @@ def _numbered_rows(columns: Columns) -> tuple[dict[str, int], dict[int, str]]:
 def positions_for(name: str, devices: Sequence[int], names: Mapping[int, str]) -> dict[int, Position]:
     """The positions of these devices from a file, where they stand by their numbers or names.
 
-    Raises Fault where one has none.
+    Raises Fault if one has none.
     """
     found = points(name, inputs=())
     by_name = {found.names.get(device, str(device)): place for device, place in found.positions.items()}
@@ -161,8 +161,8 @@ def graph(name: str) -> Any:
 def listed(name: str, text: str) -> Any:
     """The graph of a list of links: lines `a b`, `a b weight` or `a b {'weight': 2}`, as networkx writes them.
 
-    Words may be parted by spaces, tabs, commas or semicolons. Lines that begin with `#`, and a first line of names such
-    as `source,target,weight`, are skipped. Behind a first line of more names, such as
+    Words may be separated by spaces, tabs, commas or semicolons. Lines that begin with `#`, and a first line of names
+    such as `source,target,weight`, are skipped. After a first line of more names, such as
     `source,target,weight,least,greatest,goes`, rows have these columns. Raises Fault, of status 3, with the line that
     is at fault.
     """
@@ -221,7 +221,7 @@ def _link(where: str, line: str, delimiter: str | None) -> Any:
 
 
 def _row(where: str, line: str, delimiter: str | None, columns: Sequence[str]) -> Any:
-    """The graph of one line of a list that has these columns behind the ends; an empty field says nothing."""
+    """The graph of one line of a list that has these columns after the ends; an empty field says nothing."""
     import networkx
 
     words = [word.strip() for word in line.split(delimiter)]

@@ -72,7 +72,7 @@ def kind_of(column: Sequence[Any]) -> str:
 
 
 def frame_of(result: Answer) -> DataFrame:
-    """The table of a result. Raises Fault where pandas isn't there."""
+    """The table of a result. Raises Fault if pandas isn't there."""
     try:
         import pandas
     except ImportError:

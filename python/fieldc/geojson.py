@@ -16,7 +16,7 @@ def rows_of(name: str, text: str) -> list[tuple[int, list[str]]]:
     """The features of a text as rows with the lines on which they begin: first a row of names, `lon`, `lat` and those
     of all properties.
 
-    Raises Fault, of status 3, where the text isn't a list of points that all have the same properties.
+    Raises Fault, of status 3, if the text isn't a list of points that all have the same properties.
     """
     try:
         whole = json.loads(text)

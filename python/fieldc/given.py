@@ -52,7 +52,7 @@ class Given:
 def given(
     network: Networks, program: str, weight: Weight = "weight", inputs: Inputs | None = None, undirected: bool = False
 ) -> Given:
-    """The scene of what was given. Raises Fault where it is no network, and TypeError where it is nothing of the kind.
+    """The scene of what was given. Raises Fault if it is no network, and TypeError if it is nothing of the kind.
 
     Texts and mappings that are scenes go to `fc` as they are, which says what is wrong with them.
     """
@@ -126,7 +126,7 @@ def filled(network: Network, inputs: Inputs) -> Network:
 
 
 def graph_of(found: object) -> Any:
-    """The graph of networkx that something is, or is like. Raises TypeError where it is nothing of the kind."""
+    """The graph of networkx that something is, or is like. Raises TypeError if it is nothing of the kind."""
     if isinstance(found, Graph):
         return found
     if isinstance(found, Mapping):

@@ -1,4 +1,4 @@
-"""Results as JSON, for `--json`: one object, with devices in a list in rising order."""
+"""Results as JSON, for `--json`: one object, with devices in a list in ascending order."""
 
 from __future__ import annotations
 

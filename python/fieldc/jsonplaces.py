@@ -48,7 +48,7 @@ class Json:
 
     @property
     def whole(self) -> int | None:
-        """The whole number that it is, no less than 0; nothing where it is none."""
+        """The whole number that it is, no less than 0; None if it is none."""
         is_number = self.kind == "number" and isinstance(self.value, int) and self.value >= 0
         return self.value if is_number else None
 
@@ -75,7 +75,7 @@ class _Reader:
         return At(line - 1 + self.first_line, offset - self.starts[line - 1] + 1)
 
     def spaces(self) -> str:
-        """Skips spaces; answers the sign behind them, "" at the end."""
+        """Skips spaces; returns the sign after them, "" at the end."""
         while self.place < len(self.text) and self.text[self.place] in SPACES:
             self.place += 1
         return self.text[self.place : self.place + 1]
@@ -198,7 +198,7 @@ class _Reader:
                 return Json("array", self.at(start), start, self.place, items=tuple(items))
 
     def between(self, kind: str, start: int, closer: str) -> bool:
-        """Goes over a comma, or over the end of an object or array; answers whether it was the end."""
+        """Goes over a comma, or over the end of an object or array; returns whether it was the end."""
         sign = self.spaces()
         if sign == "":
             raise self.ended(kind, start)
@@ -261,7 +261,7 @@ def _comma_hint(text: str, offset: int) -> str | None:
 
 
 def read(text: str, first_line: int = 1) -> Json:
-    """The value of a text that begins on a line. Raises JsonFault where it is no JSON."""
+    """The value of a text that begins on a line. Raises JsonFault if it is no JSON."""
     reader = _Reader(text, first_line)
     if reader.spaces() == "":
         raise JsonFault("The text is empty.", At(first_line, 1), None, 'A network begins with `{"devices": [`.')
@@ -278,7 +278,7 @@ def read(text: str, first_line: int = 1) -> Json:
 
 
 def find(found: Json, path: str) -> Json | None:
-    """The value at a path of `fc`, as `/devices/3/id`; nothing where there is none."""
+    """The value at a path of `fc`, as `/devices/3/id`; None if there is none."""
     for step in path.strip("/").split("/") if path != "/" else ():
         if found.kind == "array" and step.isdigit() and int(step) < len(found.items):
             found = found.items[int(step)]

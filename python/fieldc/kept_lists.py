@@ -56,7 +56,7 @@ def walk(items: tuple[Json, ...], pairs: bool, program: Unfolded) -> Iterator[tu
 
 
 def kept_fault(text: str, found: Json, place: int, pairs: bool, program: Unfolded) -> Said | None:
-    """What is wrong with the kept list of an export at a place; nothing where it isn't seen."""
+    """What is wrong with the kept list of an export at a place; None if it isn't seen."""
     if found.kind != "array":
         return None
     steps = list(walk(found.items, pairs, program))

@@ -37,7 +37,7 @@ def parts_of(value: Value) -> tuple[int | bool, ...]:
 
 
 def kinds_of(word: str, values: Iterable[Value | None], devices: Mapping[int, str]) -> Kinds:
-    """The kinds that a word names: `all` parts of the values, or some, as `2` or `1,3`. Raises Fault where a part isn't
+    """The kinds that a word names: `all` parts of the values, or some, as `2` or `1,3`. Raises Fault if a part isn't
     there."""
     parts = None if word == "all" else [int(part) for part in word.split(",") if part.isdecimal()]
     most = next((len(parts_of(value)) for value in values if value is not None), 0)

@@ -92,13 +92,13 @@ def _first(far: Any) -> Any:
 
     squares = far.astype(float) ** 2
     centred = -0.5 * (squares - squares.mean(0) - squares.mean(1)[:, None] + squares.mean())
-    dice = numpy.random.default_rng(1)
-    basis, _ = numpy.linalg.qr(dice.standard_normal((len(far), 2)))
+    rng = numpy.random.default_rng(1)
+    basis, _ = numpy.linalg.qr(rng.standard_normal((len(far), 2)))
     for _ in range(50):
         basis, _ = numpy.linalg.qr(centred @ basis)
     strength = numpy.sqrt(numpy.maximum(numpy.einsum("ij,ij->j", basis, centred @ basis), 1e-9))
     places = basis * strength
-    return places + dice.standard_normal(places.shape) * 0.01
+    return places + rng.standard_normal(places.shape) * 0.01
 
 
 def _settled(places: Any, far: Any) -> Any:

@@ -29,7 +29,7 @@ Content = TypeVar("Content")
 
 
 def scene_of(network: Networks, program: str) -> str:
-    """The scene of a network. Raises Fault where it is none, and TypeError where it is nothing of the kind."""
+    """The scene of a network. Raises Fault if it is none, and TypeError if it is nothing of the kind."""
     return given(network, program).scene
 
 
@@ -60,13 +60,13 @@ def format(program: Program) -> str:
 def compose(program: Program, *, library: Iterable[str | Path] = ()) -> str:
     """A program with the blocks that it calls in front of it, those of folders of your own among them.
 
-    Raises Fault where a block isn't there, or isn't called right.
+    Raises Fault if a block isn't there, or isn't called right.
     """
     return composing.compose(text_of_program(program), read_library([own_library(), *map(Path, library)]))
 
 
 def text_of_program(program: Program) -> str:
-    """The text of a program. Raises Fault where its file can't be read."""
+    """The text of a program. Raises Fault if its file can't be read."""
     return read(str(program)) if isinstance(program, Path) else program
 
 
@@ -84,7 +84,7 @@ def about(found: Found, program: str, asked: Given, behind: Network | None = Non
 
 
 def by_nodes(name: str, part: object, nodes: Mapping[int, Hashable]) -> object:
-    """A part of a result with nodes in the place of numbers; a device that joined in a script has its number."""
+    """A part of a result with nodes in place of numbers; a device that joined in a script has its number."""
     if isinstance(part, tuple):
         return tuple(replace(show, values=by_nodes("values", show.values, nodes)) for show in part)
     assert isinstance(part, Mapping)
@@ -160,7 +160,7 @@ def bounds(
     which patterns may stand; and after how many rounds.
 
     With `from_table` it is from the table and the pending firings of the network, or from the table that is given.
-    Raises Refusal, and Fault where a pattern means nothing.
+    Raises Refusal, and Fault if a pattern means nothing.
     """
     text = text_of_program(program)
     asked = given(network, text, weight, inputs)
@@ -179,8 +179,8 @@ def bounds(
 def cut(
     program: Program, network: Networks, *, weight: Weight = "weight", inputs: Inputs | None = None
 ) -> cuts.Cut | cuts.Untold | None:
-    """What the ceiling of a program cuts of the values that `stable` has, or with a no `settle`; nothing where nothing
-    is seen of it, and `Untold` where it can't be told. Raises Refusal."""
+    """What the ceiling of a program cuts of the values that `stable` has, or with a no `settle`; None if nothing is
+    seen of it, and `Untold` where it can't be told. Raises Refusal."""
     text = text_of_program(program)
     asked = given(network, text, weight, inputs)
     words = ("stable",) if check(text, network, weight=weight, inputs=inputs) else ("check", "--settle")
@@ -189,7 +189,7 @@ def cut(
 
 
 def with_table(asked: Given, table: Mapping[str, Json]) -> Given:
-    """The network with a table, and nothing in flight. Raises Fault where it is no network."""
+    """The network with a table, and nothing in flight. Raises Fault if it is no network."""
     if asked.network is None:
         raise Fault("this isn't a scene; fieldc.check says where it is wrong", 3)
     network = replace(asked.network, state={"table": table})
@@ -199,7 +199,7 @@ def with_table(asked: Given, table: Mapping[str, Json]) -> Given:
 def stable(
     program: Program, network: Networks, *, weight: Weight = "weight", inputs: Inputs | None = None
 ) -> results.Stable:
-    """The value to which each device stabilises; the verdict in its place where that is a no. Raises Refusal."""
+    """The value to which each device stabilises; the verdict instead where that is a no. Raises Refusal."""
     return _asked(results.stable, ["stable"], program, network, weight, inputs)
 
 
@@ -234,7 +234,7 @@ def run(
 
 
 def behind(asked: Given, program: str, lines: str) -> Network | None:
-    """The network at the last line that shows something, or behind a log."""
+    """The network at the last line that shows something, or after a log."""
     found = moments(asked.network, lines, tuple(declared(program).inputs)) if asked.network is not None else []
     return found[-1].network if found else asked.network
 
@@ -278,7 +278,7 @@ def mail(
 ) -> results.Mailed:
     """What each device holds after a mail log, or, where the verdict is a yes, after one that is made from a number.
 
-    Raises Refusal, and ValueError where not one of `log` and `number` is given.
+    Raises Refusal, and ValueError if not one of `log` and `number` is given.
     """
     if (log is None) == (number is None):
         raise ValueError("mail takes a log, or a number from which one is made")

@@ -47,7 +47,7 @@ def of_moves(network: Network, moves: Mapping[int, float], reach: float, weight:
     """The lines of what may change while each device is at most so far from its place: how near and how far each pair
     may be says between which weights a link is, whether it may go, and whether it may come.
 
-    Raises Fault, of status 4, where a device may come near more others than `fc` takes.
+    Raises Fault, of status 4, if a device may come near more others than `fc` takes.
     """
     now = {(min(a, b), max(a, b)): w for a, b, w in network.links}
     lines, near = [], dict.fromkeys(network.inputs, 0)
@@ -105,8 +105,8 @@ def of_graph(graph: Any, network: Network, rounds: bool = False) -> list[str]:
     """The lines of what may change by the attributes of the links of a graph: `least` and `greatest` weight, and
     whether a link `goes`.
 
-    The network is that of the graph. With `rounds` weights are rounded. Raises Fault, of status 3, where a weight of
-    now isn't between these two, or an attribute is none.
+    The network is that of the graph. With `rounds` weights are rounded. Raises Fault, of status 3, if a weight of now
+    isn't between these two, or an attribute is none.
     """
     number, _ = numbered(list(graph.nodes))
     now = {(min(a, b), max(a, b)): weight for a, b, weight in network.links}
@@ -127,7 +127,7 @@ def _of_columns(pair: Pair, now: int, data: Mapping[str, Any], where: str, round
 
 
 def _truth(value: Any, where: str) -> bool:
-    """A truth value of a graph or a file, where 1 and 0 are some too. Raises Fault where it is none."""
+    """A truth value of a graph or a file, where 1 and 0 are some too. Raises Fault if it is none."""
     found = plain(value)
     if isinstance(found, bool):
         return found

@@ -28,7 +28,7 @@ class Sight:
 
 @dataclass(frozen=True)
 class Moves:
-    """By device, rising, where it is seen and when, with the names that were no numbers.
+    """By device, in ascending order, where it is seen and when, with the names that were no numbers.
 
     Times are those of the file; of dates they are seconds since the earliest. `left_out` are columns that are nothing.
     """
@@ -82,7 +82,7 @@ def read(
 
 
 def _times(columns: Columns) -> list[float]:
-    """The times of the rows: numbers, or of dates the seconds since the earliest. Raises Fault where both stand."""
+    """The times of the rows: numbers, or of dates the seconds since the earliest. Raises Fault if both stand."""
     assert columns.time is not None
     found, dated = [], []
     for row in columns.rows:
@@ -109,8 +109,8 @@ def _date(word: str, where: str) -> float:
 
 
 def times_of(moves: Moves, every: float) -> list[float]:
-    """The first time, and then a time each `every`, up to the last. Raises Fault where they are too many for a script,
-    or `every` isn't above 0."""
+    """The first time, and then a time each `every`, up to the last. Raises Fault if they are too many for a script, or
+    `every` isn't above 0."""
     first, last = moves.span
     if every <= 0:
         raise Fault(f"--every {every:g}: it has to be above 0")
@@ -181,7 +181,7 @@ def still_there(moves: Moves, times: Sequence[float]) -> list[int]:
 def script(found: Sequence[Step], rounds: int, declared: Sequence[str] | None) -> str:
     """The script that makes of each network the next, and runs so many rounds and shows the values on each.
 
-    `declared` are the inputs of the program in their order, which a line `join` has. Raises Fault where a device with
+    `declared` are the inputs of the program in their order, which a line `join` has. Raises Fault if a device with
     inputs joins and they aren't known, or the lines are too many.
     """
     lines = [f"run {rounds}", "show"]
@@ -231,8 +231,8 @@ def positions_text(found: Sequence[Step]) -> str:
 
 
 def positions_by_time(name: str, names: Mapping[int, str]) -> dict[float, dict[int, Position]] | None:
-    """The positions of a file by time, rising, and by device, which may stand there by its name; nothing where the file
-    has no times. Raises Fault."""
+    """The positions of a file by time, in ascending order, and by device, which may stand there by its name; None if
+    the file has no times. Raises Fault."""
     if not has_times(name):
         return None
     moves = read(name, inputs=())

@@ -66,10 +66,10 @@ class Declared:
 class Network:
     """A network.
 
-    `inputs` has each device, rising, with its inputs; `links` each link once as `(a, b, weight)`. `positions` are there
-    for all devices or for none; `names` are what the devices were called in the file or graph, where these were no
-    numbers, and `nodes` the nodes of that graph, where they aren't the numbers. `state` may have the `table` and the
-    `pending` firings of a scene, as they stand in its JSON.
+    `inputs` has each device, in ascending order, with its inputs; `links` each link once as `(a, b, weight)`.
+    `positions` are there for all devices or for none; `names` are what the devices were called in the file or graph,
+    where these were no numbers, and `nodes` the nodes of that graph, where they aren't the numbers. `state` may have
+    the `table` and the `pending` firings of a scene, as they stand in its JSON.
     """
 
     inputs: Mapping[int, Mapping[str, Input]]
@@ -81,7 +81,7 @@ class Network:
 
     @property
     def devices(self) -> tuple[int, ...]:
-        """The numbers of the devices, rising."""
+        """The numbers of the devices, in ascending order."""
         return tuple(self.inputs)
 
     def called(self, device: int) -> str:
@@ -137,7 +137,7 @@ def numbered(names: Sequence[Any]) -> tuple[dict[Any, int], dict[int, str]]:
     """The number of each device by its name in a file or graph, and the names by number.
 
     Names that are all whole numbers up to 65,535 are the numbers; else devices are numbered from 0 in their order, and
-    their names are kept. Raises Fault where two have one name.
+    their names are kept. Raises Fault if two have one name.
     """
     words = [str(name) for name in names]
     if len(set(words)) < len(words):
@@ -233,8 +233,8 @@ def from_graph(
     number in its place is the weight of edges without one. `rounds` rounds weights. With `undirected` the edges of a
     directed graph are links both ways.
 
-    Raises Fault, of status 3, where an input is missing or of another type, an edge leads from a node to itself, two
-    edges join the same nodes, or some edges have a weight and others none.
+    Raises Fault, of status 3, if an input is missing or of another type, an edge leads from a node to itself, two edges
+    join the same nodes, or some edges have a weight and others none.
     """
     number, names = numbered(list(graph.nodes))
     wanted = declared(program) if program is not None else None
@@ -272,7 +272,7 @@ def _inputs(name: str, data: Mapping[str, Any], wanted: Declared | None) -> dict
 
 
 def _place(name: str, data: Mapping[str, Any]) -> Position | None:
-    """The position of a node, from `x` and `y`, or `pos`; nothing where it has none."""
+    """The position of a node, from `x` and `y`, or `pos`; None if it has none."""
     found = data.get("pos", data.get("position"))
     if found is None and "x" in data and "y" in data:
         found = (data["x"], data["y"])
@@ -284,7 +284,7 @@ def _place(name: str, data: Mapping[str, Any]) -> Position | None:
 def _links(
     graph: Any, number: Mapping[Any, int], weight: str | int, rounds: bool, span: Pair
 ) -> tuple[tuple[int, int, int], ...]:
-    """The links of a graph, rising."""
+    """The links of a graph, in ascending order."""
     found: dict[Pair, Any] = {}
     name, usual = (weight, None) if isinstance(weight, str) else ("weight", weight)
     for a, b, data in graph.edges(data=True):
@@ -453,12 +453,12 @@ def grid(width: int, height: int, closed: bool = False) -> Network:
 
 def disk(count: int, side: float, reach: float, seed: int = 0) -> Network:
     """Devices at random in a square of this side, linked where they are at most `reach` apart."""
-    dice = random.Random(seed)
-    return in_range({d: (dice.uniform(0, side), dice.uniform(0, side)) for d in range(count)}, reach)
+    rng = random.Random(seed)
+    return in_range({d: (rng.uniform(0, side), rng.uniform(0, side)) for d in range(count)}, reach)
 
 
 def in_range(positions: Mapping[int, Position], reach: float) -> Network:
-    """Devices at positions, linked where they are at most `reach` apart. Raises Fault where `reach` isn't a length."""
+    """Devices at positions, linked where they are at most `reach` apart. Raises Fault if `reach` isn't a length."""
     if not math.isfinite(reach) or reach < 0:
         raise Fault(f"a range of {reach:g}: it has to be a number of at least 0")
     rows = sorted((x, y, device) for device, (x, y) in positions.items())
@@ -478,7 +478,7 @@ def in_range(positions: Mapping[int, Position], reach: float) -> Network:
 def weighed(network: Network, low: int, high: int, unit: float = 1.0) -> Network:
     """Weights by distance, in units of so long, rounded into `low` to `high`.
 
-    Raises Fault where there are no positions, or `low` is above `high`.
+    Raises Fault if there are no positions, or `low` is above `high`.
     """
     if not network.positions:
         raise Fault("weights by distance need positions, but the network has none")
@@ -505,7 +505,7 @@ def with_weight(network: Network, weight: int) -> Network:
 def with_inputs(network: Network, settings: Sequence[tuple[str, Input, Sequence[int] | None]]) -> Network:
     """The network with inputs `(name, value, devices)` set one after the other; no devices stand for all.
 
-    Where a truth value is set on some devices alone, it is false on those that have none. Raises Fault where a device
+    Where a truth value is set on some devices alone, it is false on those that have none. Raises Fault if a device
     isn't there, or a number is set on some devices and others have none.
     """
     inputs = {device: dict(own) for device, own in network.inputs.items()}
@@ -534,7 +534,7 @@ def degrees(network: Network) -> dict[int, int]:
 def nearest(network: Network, most: int) -> Network:
     """The network with the nearest links kept, so that no device has more than `most`.
 
-    Links are taken from the shortest on, and kept where both devices have room. Raises Fault where links have neither
+    Links are taken from the shortest on, and kept where both devices have room. Raises Fault if links have neither
     lengths nor different weights, so that none is the nearest.
     """
     at = network.positions

@@ -168,7 +168,7 @@ class Search:
 
 
 def filled(value: Any, whole: int, truth: bool) -> Any:
-    """A value of JSON with one number in the place of all numbers, and one truth value in that of all others."""
+    """A value of JSON with one number in place of all numbers, and one truth value in that of all others."""
     if isinstance(value, list):
         return [filled(part, whole, truth) for part in value]
     return truth if isinstance(value, bool) else whole
@@ -206,7 +206,7 @@ def look(
     """Looks for two rests with different values, from several tables and by several orders.
 
     With `from_table` all starts are the table and the pending firings of the network, and only the orders differ.
-    Raises Refusal where `fc` refuses program or network.
+    Raises Refusal if `fc` refuses program or network.
     """
     search = Search(program, scene, waiting)
     tried: list[Attempt] = []
@@ -267,7 +267,7 @@ def _led(search: Search, scene: str, before: str, rest: Rest) -> Rest:
 
 
 def confirmed(search: Search, pair: tuple[Rest, Rest]) -> tuple[Rest, Rest]:
-    """The two rests, once `fc replay` has led from each input to these values. Raises Fault where it hasn't."""
+    """The two rests, once `fc replay` has led from each input to these values. Raises Fault if it hasn't."""
     for rest in pair:
         program, scene, log = rest.text.split("\n%%\n")
         if search.replayed(scene, log).values != rest.values:

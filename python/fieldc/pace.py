@@ -74,9 +74,9 @@ def arguments(parser: argparse.ArgumentParser) -> None:
 
 
 def pace_of(options: argparse.Namespace) -> Pace | None:
-    """The pace that the options tell; nothing where they tell none.
+    """The pace that the options tell; None if they tell none.
 
-    Raises Fault where they tell half of it, or of message links where nothing is promised of these.
+    Raises Fault if they tell half of it, or of message links if nothing is promised of these.
     """
     period, lasts, delivery = (getattr(options, name, None) for name in ("period", "lasts", "delivery"))
     if period is None and lasts is None and delivery is None:
@@ -92,7 +92,7 @@ def pace_of(options: argparse.Namespace) -> Pace | None:
 
 
 def timed(text: str, pace: Pace) -> str:
-    """What `check` wrote, with or without `--settle`: behind each number of rounds the seconds in which they pass."""
+    """What `check` wrote, with or without `--settle`: after each number of rounds the seconds in which they pass."""
     rows = [line.split(" ") for line in text.splitlines()]
     first = next((at for at, row in enumerate(rows) if row[0] in ("open", "settles", "within")), len(rows))
     for at, row in enumerate(rows):

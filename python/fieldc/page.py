@@ -24,7 +24,7 @@ CORNERS = (
     ((0.0, -2.3), (2.0, 1.2), (-2.0, 1.2)),
     ((0.0, -1.6), (1.4, -0.8), (1.4, 0.8), (0.0, 1.6), (-1.4, 0.8), (-1.4, -0.8)),
 )
-"""The corners of the outlines of the second mark and those behind it, around a circle of radius 1."""
+"""The corners of the outlines of the second mark and those after it, around a circle of radius 1."""
 
 TIP = (
     '<marker id="tip" viewBox="0 0 10 10" refX="9" refY="5" markerWidth="6" markerHeight="6" orient="auto">'
@@ -243,7 +243,7 @@ def _network(picture: Picture, sectors: int, screen: Screen) -> tuple[str, float
 
 
 def _outlines(picture: Picture, radius: float) -> dict[int, str]:
-    """By device the outlines of the second mark and those behind it, which the script shows and hides."""
+    """By device the outlines of the second mark and those after it, which the script shows and hides."""
     found: dict[int, str] = {}
     for mark, corners in enumerate(CORNERS[: max(len(picture.marks) - 1, 0)], 1):
         line = " ".join(f"{x * radius:.1f},{y * radius:.1f}" for x, y in corners)

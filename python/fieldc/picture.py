@@ -85,9 +85,8 @@ def gathered(
     """The picture of a network and what `fc` answered of it, without places.
 
     `program` is the program's text, where there is one, `lines` the script, log or changes that `answer` belongs to.
-    With `rounds` there is a frame for each number of rounds after which a bound holds. Raises
-    Fault, of status 3, where the answer isn't of this network, or a script is missing without which it can't be told
-    which network a show is of.
+    With `rounds` there is a frame for each number of rounds after which a bound holds. Raises Fault, of status 3, if
+    the answer isn't of this network, or a script is missing without which it can't be told which network a show is of.
     """
     ceiling = declared(program).ceiling if program is not None else None
     inputs = tuple(declared(program).inputs) if program is not None else ()
@@ -142,7 +141,7 @@ def is_script(lines: str) -> bool:
 
 
 def _one(network: Network, answer: str, lines: str | None, inputs: tuple[str, ...]) -> Frame:
-    """The frame of `stable`, `trace`, `mail` or `replay`; that of a log is of the network behind it."""
+    """The frame of `stable`, `trace`, `mail` or `replay`; that of a log is of the network after it."""
     texts = answer.splitlines()
     if any(len(line.split(" ")) > 2 for line in texts if line[:1].isdigit()):
         traced = results.traced(answer)
@@ -182,7 +181,7 @@ def bounding(
 ) -> Picture:
     """The picture of bounds, on the network with all that may come, where the changes are known.
 
-    Raises Fault, of status 3, where bounds have a device that comes and the changes aren't known.
+    Raises Fault, of status 3, if bounds have a device that comes and the changes aren't known.
     """
     held, loose = results.by_number(found.by_device), frozenset[Pair]()
     if changes is not None:
@@ -228,8 +227,7 @@ def everywhere(picture: Picture) -> tuple[list[int], list[tuple[int, int]]]:
 
 
 def at_places(picture: Picture, positions: Mapping[int, Position] | None) -> Picture:
-    """The picture with places: positions of all its devices, or a layout of its own. Raises Fault where one is
-    missing."""
+    """The picture with places: positions of all its devices, or a layout of its own. Raises Fault if one is missing."""
     devices, links = everywhere(picture)
     if positions is None:
         return replace(picture, places=laid_out(devices, links))
@@ -242,7 +240,7 @@ def at_places(picture: Picture, positions: Mapping[int, Position] | None) -> Pic
 def at_times(picture: Picture, places: Mapping[float, Mapping[int, Position]]) -> Picture:
     """The picture whose frames are drawn one after the other at the places of these times.
 
-    Raises Fault where there are more or fewer times than frames, or a device of a frame has no place then.
+    Raises Fault if there are more or fewer times than frames, or a device of a frame has no place then.
     """
     if len(places) != len(picture.frames):
         times, shows = counted(len(places), "time"), counted(len(picture.frames), "show")
@@ -259,7 +257,7 @@ def at_times(picture: Picture, places: Mapping[float, Mapping[int, Position]]) -
 
 
 def check_marks(picture: Picture, marks: Sequence[str]) -> Picture:
-    """The picture with marks. Raises Fault where no device has such an input, or there are more than are told apart."""
+    """The picture with marks. Raises Fault if no device has such an input, or there are more than are told apart."""
     if len(marks) > len(OUTLINES):
         raise Fault(f"--mark: {len(marks)} are too many; at most {len(OUTLINES)} can be told apart")
     for name in marks:
@@ -274,7 +272,7 @@ def check_marks(picture: Picture, marks: Sequence[str]) -> Picture:
 def check_kinds(picture: Picture, word: str | None, names: Mapping[int, str]) -> Picture:
     """The picture with kinds: of `all` parts of the values, or of some, as `2` or `1,3`.
 
-    Raises Fault where a part isn't there, or the picture is of settle rounds.
+    Raises Fault if a part isn't there, or the picture is of settle rounds.
     """
     if word is None:
         return picture
@@ -289,7 +287,7 @@ def check_kinds(picture: Picture, word: str | None, names: Mapping[int, str]) ->
 
 
 def check_arrows(picture: Picture, wanted: bool) -> Picture:
-    """The picture with arrows, where they are wanted. Raises Fault where no device holds the number of a neighbour."""
+    """The picture with arrows, where they are wanted. Raises Fault if no device holds the number of a neighbour."""
     found = replace(picture, arrows=wanted)
     if wanted and not any(found.arrows_of(frame) for frame in found.frames):
         raise Fault("--arrows: no device holds the number of a neighbour")

@@ -55,7 +55,7 @@ def program_of(call: Call) -> Reading:
 
 
 def scene_of(call: Call) -> Json | JsonFault | None:
-    """The network of a call as JSON, or why it is none; nothing where there is no network."""
+    """The network of a call as JSON, or why it is none; None if there is no network."""
     section = section_of(call, "network")
     if section is None:
         return None

@@ -40,10 +40,10 @@ def draw(
     marks: Sequence[str] = (),
     numbers: bool = False,
 ) -> Axes:
-    """Draws a network, or a result on its network, on axes of matplotlib (else on those at hand), and answers them.
+    """Draws a network, or a result on its network, on axes of matplotlib (or on the current ones), and returns them.
 
     `marks` are inputs whose devices are marked where they are true; `numbers` writes numbers or names beside devices.
-    Raises Fault where the result has no values of devices, and where matplotlib isn't there.
+    Raises Fault if the result has no values of devices, and if matplotlib isn't there.
     """
     try:
         from matplotlib import pyplot
@@ -60,7 +60,7 @@ def draw(
 
 
 def origin_of(result: Answer) -> Origin:
-    """What a result is of. Raises Fault where it isn't known, or there are no values of devices."""
+    """What a result is of. Raises Fault if it isn't known, or there are no values of devices."""
     if result.of is None or not can_be_drawn(result):
         raise Fault(
             f"{type(result).__name__} has no values of devices of a network that is known, which could be drawn"

@@ -49,7 +49,7 @@ def bytes_of(text: str) -> bytes:
 
 
 def checkout() -> Path | None:
-    """The folder of the repository from which this package runs, or nothing where it is installed."""
+    """The folder of the repository from which this package runs, or None if it is installed."""
     folder = PACKAGE.parent.parent
     return folder if (folder / "crates.txt").exists() and (folder / "fc").exists() else None
 
@@ -60,7 +60,7 @@ def find() -> str:
     It is what the variable FC names; else the installed program, under `libexec` of a folder that holds this package or
     Python; else `fc` of the checkout, which runs the proved program, or says that there is none.
 
-    Raises Fault where there is none.
+    Raises Fault if there is none.
     """
     named = os.environ.get("FC")
     if named:
@@ -115,7 +115,7 @@ def ask(call: Call, waiting: Callable[[], None] | None = None) -> Reply:
     """Runs `fc` on a call to its end, whatever its status.
 
     `waiting` is called about five times a second as long as it runs. What `fc` writes on standard error goes there.
-    Raises Fault where `fc` can't be started.
+    Raises Fault if `fc` can't be started.
     """
     with memory(joined(call.sections)) as given:
         try:
@@ -137,8 +137,8 @@ def ask(call: Call, waiting: Callable[[], None] | None = None) -> Reply:
 
 
 def answered(call: Call, waiting: Callable[[], None] | None = None) -> Reply:
-    """Runs `fc` on a call. Raises Refusal where its status is above 1, or it was killed, and Fault where it can't have
-    been `fc` that wrote this."""
+    """Runs `fc` on a call. Raises Refusal if its status is above 1, or it was killed, and Fault if it can't have been
+    `fc` that wrote this."""
     reply = ask(call, waiting)
     if not possible(call, reply):
         wrote = f"it ended with status {reply.status} and wrote {reply.text[:60]!r}"

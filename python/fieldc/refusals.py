@@ -30,9 +30,9 @@ class Section:
 
     `kind` is "program", "network", "script", "log" or "changes"; `name` is the file as the user typed it, "-" for
     standard input, or "" for a text that came from no file; `first_line` is the line of that file on which the section
-    begins, from 1. `typed` is the text as it stands in the file where others stand in the place of its words: of names
-    of devices, or of patterns. Where a line of it was written out as several, `rows` has for each line of `text` that
-    of `typed`, from 0.
+    begins, from 1. `typed` is the text as it stands in the file where others stand in place of its words: of names of
+    devices, or of patterns. Where a line of it was written out as several, `rows` has for each line of `text` that of
+    `typed`, from 0.
     """
 
     kind: str
@@ -45,7 +45,7 @@ class Section:
 
 @dataclass(frozen=True)
 class Call:
-    """What `fc` is asked: the words of its command line behind `fc`, and the sections of its input."""
+    """What `fc` is asked: the words of its command line after `fc`, and the sections of its input."""
 
     words: tuple[str, ...]
     sections: tuple[Section, ...]
@@ -97,7 +97,7 @@ class Refusal(Error):
 
     @property
     def place(self) -> str:
-        """What `fc` said behind the word: the place, and the reason."""
+        """What `fc` said after the word: the place, and the reason."""
         return self.line.removeprefix(self.word).lstrip(": ")
 
     @property
@@ -127,7 +127,7 @@ def has_lark() -> bool:
 
 
 def explained(call: Call, refusal: Refusal) -> Explanation:
-    """The explanation of a refusal or of a no; only what `fc` said where programs can't be read for want of Lark."""
+    """The explanation of a refusal or of a no; only what `fc` said if Lark isn't there."""
     if not has_lark():
         return replace(plain_explanation(refusal), hint="with Debian's python3-lark fieldc says where and why")
     from .explain import explain
@@ -154,7 +154,7 @@ def as_typed(found: Explanation) -> Explanation:
 
 
 def warned(call: Call) -> tuple[Explanation, ...]:
-    """What `fc` takes and a user may not have meant; nothing where programs can't be read for want of Lark."""
+    """What `fc` takes and a user may not have meant; None without Lark."""
     if not has_lark():
         return ()
     from .explain import warnings

@@ -43,7 +43,7 @@ def runs_here() -> bool:
 
 @lru_cache(maxsize=None)
 def proved_program(checkout: Path) -> Path | None:
-    """The proved program of a checkout, or nothing where it is neither built nor in a release of these sources."""
+    """The proved program of a checkout, or None if it is neither built nor in a release of these sources."""
     built, released = checkout / BUILT, checkout / RELEASED
     if os.access(built, os.X_OK):
         return built

@@ -22,8 +22,8 @@ Shown = Union[int, bool, str, tuple["Shown", "Shown"]]
 """A value as it is written: numbers that are devices may have their names."""
 
 Values = Mapping[Hashable, Union[Value, None]]
-"""By device, rising, its value, or nothing where it has published none (or none is known). A device is its number, or
-the node of the graph that the library was given."""
+"""By device, in ascending order, its value, or None if it has published none (or none is known). A device is its
+number, or the node of the graph that the library was given."""
 
 
 def by_number(found: Mapping[Hashable, Found]) -> Mapping[int, Found]:
@@ -77,7 +77,7 @@ class Checked(Answer):
 class Settled(Answer):
     """After how many rounds each device of the network holds its value.
 
-    `rounds` is the settle time, and nothing where the network is open. `by_device` has each device's settle round, and
+    `rounds` is the settle time, and None if the network is open. `by_device` has each device's settle round, and
     `values` the value that it then holds; both have nothing for a device without a settle round. `from_table` says
     whether the rounds are counted from the table and the pending firings of the network, or from every start.
     """
@@ -135,7 +135,7 @@ class Held:
     away: bool = False
 
     def after(self, rounds: int) -> Bound | None:
-        """The bound that holds after so many rounds, or nothing where none is known yet."""
+        """The bound that holds after so many rounds, or None if none is known yet."""
         return self.bound if self.rounds <= rounds else self.now
 
 
@@ -155,7 +155,7 @@ class Bounds(Answer):
 
     @property
     def values(self) -> Values:
-        """By device the value that it holds whatever changes, or nothing where more than one is left."""
+        """By device the value that it holds whatever changes, or None if more than one is left."""
         return Kept({one: held.bound.low if held.bound.known else None for one, held in self.by_device.items()})
 
 
@@ -172,7 +172,7 @@ class Stable(Answer):
 
 @dataclass(frozen=True)
 class Traced(Answer):
-    """For each device its value and a least walk that ends in it. `walks` is nothing where there are none."""
+    """For each device its value and a least walk that ends in it. `walks` is None if there are none."""
 
     verdict: Verdict
     values: Values = field(default_factory=dict)
@@ -184,7 +184,7 @@ class Show:
     """What a line of a script showed: `line` is its number, `values` what the devices held.
 
     `rounds` is how many rounds the script asked for between the last edit before that line and the line itself, and
-    `edited` whether there was an edit at all. Both are of the script, and nothing where it isn't known.
+    `edited` whether there was an edit at all. Both are of the script, and None if it isn't known.
     """
 
     line: int
@@ -195,7 +195,7 @@ class Show:
 
 @dataclass(frozen=True)
 class Ran(Answer):
-    """A run: the verdict at the start, the shows, the verdicts behind joins and leaves by the number of the show before
+    """A run: the verdict at the start, the shows, the verdicts after joins and leaves by the number of the show before
     which they were written, the log's lines and the table of exports where they were asked for."""
 
     verdict: Verdict
@@ -298,7 +298,7 @@ def bound_of(word: str) -> Bound:
 
 
 def _bound(text: str) -> tuple[Bound, str]:
-    """The bound at the front of a text, and what stands behind it. Raises ValueError where there is none."""
+    """The bound at the front of a text, and what follows it. Raises ValueError if there is none."""
     if text.startswith("("):
         first, rest = _bound(text[1:])
         second, rest = _bound(rest[1:] if rest.startswith(",") else "")
@@ -314,7 +314,7 @@ def _bound(text: str) -> tuple[Bound, str]:
 
 
 def verdict_of(line: str) -> Verdict:
-    """The verdict of its line. Raises Fault where it is none."""
+    """The verdict of its line. Raises Fault if it is none."""
     words = line.split(" ")
     if len(words) == 2 and words[0] == "yes" and words[1].isdigit():
         return Verdict(line, rounds=int(words[1]))
@@ -352,7 +352,7 @@ def checked(text: str) -> Checked:
 
 
 def settled(text: str, from_table: bool = False) -> Settled:
-    """What `check --settle` wrote. Raises Fault where there is no settle line."""
+    """What `check --settle` wrote. Raises Fault if there is no settle line."""
     lines = text.splitlines()
     place = next((i for i, line in enumerate(lines) if line == "open" or line.startswith("settles ")), None)
     if place is None:
@@ -369,7 +369,7 @@ def settled(text: str, from_table: bool = False) -> Settled:
 
 
 def bounded(text: str) -> Bounds:
-    """What `check --settle --changes` wrote, of every start or from a table. Raises Fault where it is nothing of it."""
+    """What `check --settle --changes` wrote, of every start or from a table. Raises Fault if it is nothing of it."""
     lines = text.splitlines()
     place = next((i for i, line in enumerate(lines) if line.startswith("within ")), None)
     if place is None:

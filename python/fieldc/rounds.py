@@ -41,7 +41,7 @@ class Curve:
     values: tuple[Values, ...] = ()
 
     def settled(self, devices: int) -> int | None:
-        """The first round from which on all devices hold their value, or nothing."""
+        """The first round from which on all devices hold their value, or None."""
         late = [number for number, count in enumerate(self.held) if count < devices]
         first = late[-1] + 1 if late else 0
         return first if first < len(self.held) else None
@@ -50,7 +50,7 @@ class Curve:
 def promised(program: str, network: Networks, waiting: Callable[[], None] | None = None) -> Promise:
     """What `check --settle` says; `waiting` is called now and then as long as it takes.
 
-    Raises Fault, of status 1, where the network is open, and Refusal.
+    Raises Fault, of status 1, if the network is open, and Refusal.
     """
     scene = library.scene_of(network, program)
     asked = library.call_of(["check", "--settle"], program=program, network=scene)
@@ -68,7 +68,7 @@ def promised(program: str, network: Networks, waiting: Callable[[], None] | None
 
 
 def check_rounds(rounds: int) -> None:
-    """Raises Fault where so many rounds can't be drawn."""
+    """Raises Fault if so many rounds can't be drawn."""
     if not 1 <= rounds <= MOST_ROUNDS:
         raise Fault(f"{rounds} rounds, and 1 to {MOST_ROUNDS:,} are drawn: choose --rounds")
 
@@ -93,8 +93,8 @@ def curves(
 ) -> list[Curve]:
     """The curves of some numbers, made by as many processes as there are processors; with `keep` with all values.
 
-    `waiting` is called about five times a second with how many are done. Raises Fault where so many rounds can't be
-    drawn, and Refusal.
+    `waiting` is called about five times a second with how many are done. Raises Fault if so many rounds can't be drawn,
+    and Refusal.
     """
     check_rounds(rounds)
     scene, values = library.scene_of(network, program), dict(promise.values)

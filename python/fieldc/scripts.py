@@ -98,7 +98,7 @@ def is_value(word: str) -> bool:
 
 
 def form_fault(line: Line, kind: str) -> Said | None:
-    """Why a line is none of its section; nothing where it is one."""
+    """Why a line is none of its section; None if it is one."""
     for word in line.words:
         if word.text == "" or "\t" in word.text or "\r" in word.text:
             return Said("Write one space between words, and no others.", word.at, None, None, PAGES[kind])
@@ -162,7 +162,7 @@ def _value(word: Word, page: str) -> Said | None:
 
 
 def _span(word: Word, page: str) -> Said | None:
-    """Why a word of the changes is none of a value, `LO..HI` and `any`; nothing where it is one."""
+    """Why a word of the changes is none of a value, `LO..HI` and `any`; None if it is one."""
     ends = SPAN.fullmatch(word.text)
     if word.text == "any" or (ends is None and is_value(word.text)):
         return None
@@ -176,7 +176,7 @@ def _span(word: Word, page: str) -> Said | None:
 
 
 def _weight(word: Word, page: str) -> Said | None:
-    """Why a word of the changes is no weight, which is no truth value and no pair; nothing where it is one."""
+    """Why a word of the changes is no weight, which is no truth value and no pair; None if it is one."""
     fault = _span(word, page)
     if fault is None and not word.text[0].isdigit() and word.text != "any":
         hint = "A weight is a number, two numbers as `2..7`, or `any`."

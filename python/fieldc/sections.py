@@ -28,7 +28,7 @@ PAGES = (".html",)
 def read(name: str) -> str:
     """The text of a file, or of standard input for `-`.
 
-    Raises Fault, of status 5, where it can't be read, and of status 3 where it isn't a text.
+    Raises Fault, of status 5, if it can't be read, and of status 3 if it isn't a text.
     """
     called = "standard input" if name == "-" else name
     try:
@@ -43,7 +43,7 @@ def read(name: str) -> str:
 
 
 def write(name: str, text: str) -> None:
-    """Writes a text to a file, or to standard output for `-`. Raises Fault, of status 6, where it can't be written."""
+    """Writes a text to a file, or to standard output for `-`. Raises Fault, of status 6, if it can't be written."""
     if name == "-":
         return pour(bytes_of(text))
     try:
@@ -72,7 +72,7 @@ def _lines(text: str) -> list[str]:
 def sections(names: Sequence[str], kinds: Sequence[str]) -> tuple[Section, ...]:
     """The sections of some files, one after the other; a file may have several. `kinds` names them in their order.
 
-    There may be more or fewer sections than kinds: `fc` refuses them. Raises Fault where standard input is named twice.
+    There may be more or fewer sections than kinds: `fc` refuses them. Raises Fault if standard input is named twice.
     """
     if list(names).count("-") > 1:
         raise Fault("standard input can be read only once: use a single -")
@@ -84,7 +84,7 @@ def sections(names: Sequence[str], kinds: Sequence[str]) -> tuple[Section, ...]:
 def writable(name: str, endings: Sequence[str] = ()) -> str:
     """The name of a file that will be written, looked at before anything is computed.
 
-    Raises Fault where its ending is none of `endings`, or its folder isn't there, or it can't be written.
+    Raises Fault if its ending is none of `endings`, or its folder isn't there, or it can't be written.
     """
     path = Path(name)
     if endings and path.suffix.lower() not in endings:

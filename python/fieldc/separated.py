@@ -22,7 +22,7 @@ Row = tuple[int, list[str]]
 
 
 def text_of_file(name: str) -> str:
-    """The text of a file in UTF-8, without a byte order mark. Raises Fault where it isn't in UTF-8."""
+    """The text of a file in UTF-8, without a byte order mark. Raises Fault if it isn't in UTF-8."""
     text = read(name)
     try:
         text.encode("utf-8")
@@ -59,7 +59,7 @@ class Columns:
         return self.header[self.across[0]].lower() in LATITUDES
 
     def place(self, row: Row) -> Position:
-        """The position of a row: x and y, or degrees to the north and to the east. Raises Fault where it is none."""
+        """The position of a row: x and y, or degrees to the north and to the east. Raises Fault if it is none."""
         first, second = (row[1][place] for place in self.across)
         one, other = (self.where(row, self.header[place]) for place in self.across)
         if self.in_degrees:
@@ -67,8 +67,7 @@ class Columns:
         return real(first, one), real(second, other)
 
     def may_move(self, row: Row) -> float | None:
-        """How far the device of a row may move; nothing where the file doesn't say it. Raises Fault where it is no
-        length."""
+        """How far the device of a row may move; None if the file doesn't say it. Raises Fault if it is no length."""
         if self.move is None:
             return None
         where = self.where(row, self.header[self.move])
@@ -78,7 +77,7 @@ class Columns:
         return found
 
     def inputs(self, row: Row) -> dict[str, Input]:
-        """The inputs of a row. Raises Fault where one can't be one."""
+        """The inputs of a row. Raises Fault if one can't be one."""
         return {word: self._input(row, word) for word in self.taken}
 
     def _input(self, row: Row, name: str) -> Input:
@@ -91,7 +90,7 @@ class Columns:
         return input_of(value, where) if span == () else fitting(value, span or None, where)
 
     def id_of(self, row: Row) -> str:
-        """The id of a row. Raises Fault where it is empty."""
+        """The id of a row. Raises Fault if it is empty."""
         assert self.id is not None
         if not row[1][self.id]:
             raise Fault(f"{self.where(row)}: the device has no name", 3)
@@ -127,7 +126,7 @@ def columns_of(
 
 
 def has_times(name: str) -> bool:
-    """Whether the rows of a file have times, and some device several of them. Raises Fault where it has no rows."""
+    """Whether the rows of a file have times, and some device several of them. Raises Fault if it has no rows."""
     (_, header), *rows = _rows(name)
     time, at = _first(header, TIMES), _first(header, IDS)
     return time is not None and at is not None and len({row[at] for _, row in rows}) < len(rows)
@@ -181,7 +180,7 @@ def is_number(word: str) -> bool:
 
 
 def _header(name: str, rows: list[Row], timed: bool) -> tuple[list[str], list[Row], Pair]:
-    """The names of the columns, the rows behind them, and the columns of positions; without names they are id, x, y, or
+    """The names of the columns, the rows after them, and the columns of positions; without names they are id, x, y, or
     t, id, x, y."""
     line, first = rows[0]
     lowered = [word.lower() for word in first]

@@ -47,7 +47,7 @@ def network(
     `points`, and a `disk` of so many devices at random in a square of this `side`, are linked where they are at most
     `range` apart. `edges` is a graph or its file. `inputs` has values for devices without one, for all or by node.
     `scale` multiplies numbers of inputs of a file. `metric` weighs links by distance, in units of so long; else
-    `weight` is the edge attribute, or one weight for all. Raises Fault, and TypeError where not one shape is given.
+    `weight` is the edge attribute, or one weight for all. Raises Fault, and TypeError if not one shape is given.
     """
     shapes = {"points": points, "edges": edges, "line": line, "ring": ring, "grid": grid, "torus": torus, "disk": disk}
     asked = [name for name, value in shapes.items() if value is not None]

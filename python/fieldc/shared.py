@@ -15,7 +15,7 @@ WITH_TEXT = 4
 
 
 class Shared:
-    """The library of a file. Raises OSError where it can't be loaded, and AttributeError where it isn't `libfc`."""
+    """The library of a file. Raises OSError if it can't be loaded, and AttributeError if it isn't `libfc`."""
 
     def __init__(self, file: Path) -> None:
         self.file = file
@@ -38,7 +38,7 @@ class Shared:
 
 @lru_cache(maxsize=1)
 def shared() -> Shared | None:
-    """The library that was installed with the program that is run, if it was. Raises Fault where no program is."""
+    """The library that was installed with the program that is run, if it was. Raises Fault if no program is."""
     program = find()
     if not program.endswith("/" + PROGRAM):
         return None

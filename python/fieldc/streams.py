@@ -10,10 +10,10 @@ from .refusals import Fault
 
 
 def ready() -> None:
-    """Puts a file in the place of each stream that was closed, so that no other file takes its number.
+    """Puts a file in place of each stream that was closed, so that no other file takes its number.
 
-    It can't be read in the place of standard input, nor written in that of standard output. What goes to a standard
-    error that was closed is left out.
+    It can't be read in place of standard input, nor written in that of standard output. What goes to a standard error
+    that was closed is left out.
     """
     for number, way in ((0, os.O_WRONLY), (1, os.O_RDONLY), (2, os.O_WRONLY)):
         try:
@@ -29,7 +29,7 @@ def ready() -> None:
 def pour(content: bytes) -> None:
     """Writes bytes to standard output, all of them: a stream without a buffer takes a part at a time.
 
-    Raises Fault, of status 6, where that fails, and BrokenPipeError where the reader went away.
+    Raises Fault, of status 6, if that fails, and BrokenPipeError if the reader went away.
     """
     try:
         left = memoryview(content)

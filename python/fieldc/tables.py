@@ -15,7 +15,7 @@ if TYPE_CHECKING:
     from .rounds import Curve
 
 Row = tuple[Sequence[object], int, "Shown | None", Sequence[object]]
-"""The words before a device, the device, its value, and the words behind it."""
+"""The words before a device, the device, its value, and the words after it."""
 
 
 def leaves(value: Shown | None) -> list[str]:
@@ -27,7 +27,7 @@ def leaves(value: Shown | None) -> list[str]:
 
 def written(front: Sequence[str], rows: Iterable[Row], names: Mapping[int, str], back: Sequence[str] = ()) -> str:
     """A table with a row of names: what stands before, the device, its name where some have one, a column for each part
-    of a value, and what stands behind."""
+    of a value, and what follows."""
     kept = list(rows)
     width = max((len(leaves(value)) for _, _, value, _ in kept), default=1)
     values = ["value"] if width <= 1 else [f"value_{place}" for place in range(1, width + 1)]
@@ -56,7 +56,7 @@ def table_of_rounds(curves: Iterable[Curve], names: Mapping[int, str]) -> str:
 
 def table_of(result: results.Result | str, names: Mapping[int, str], pace: Pace | None = None) -> str:
     """The values of a result as a table; of a run those of all shows, with their lines. With a `pace` there are seconds
-    behind rounds."""
+    after rounds."""
     if isinstance(result, results.Bounds):
         return table_of_bounds(result, names, pace)
     if isinstance(result, results.Ran):

@@ -17,7 +17,7 @@ def told(refusal: Refusal, explanation: Explanation) -> str:
 
 
 def rest_of(explanation: Explanation) -> str:
-    """The lines behind the sentence: the line of the file with a caret, what to try, and the page to read."""
+    """The lines after the sentence: the line of the file with a caret, what to try, and the page to read."""
     lines = ["    " + line for line in quoted(explanation)]
     lines += [f"try: {explanation.hint}"] * bool(explanation.hint) + [f"read: {explanation.page}"] * bool(
         explanation.page
@@ -39,7 +39,7 @@ def place_of(explanation: Explanation) -> str:
 
 
 def quoted(explanation: Explanation) -> list[str]:
-    """The line of the file that is meant, and below it a caret at the place; nothing where they aren't known."""
+    """The line of the file that is meant, and below it a caret at the place; None if they aren't known."""
     section, line = explanation.section, explanation.line
     if section is None or line is None:
         return []

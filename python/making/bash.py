@@ -66,7 +66,7 @@ def completion(line: Line) -> str:
 
 
 def values(command: Command) -> str:
-    """What stands behind the options of a command that take a value."""
+    """What stands after the options of a command that take a value."""
     text = ""
     for kind in (FILE, WORD):
         plain = [option for option in command.options if option.takes == kind and not option.offered]
@@ -80,7 +80,7 @@ def values(command: Command) -> str:
 
 
 def behind(kind: str) -> str:
-    """What is done behind an option whose value is a file, which bash itself completes, or another word."""
+    """What is done after an option whose value is a file, which bash itself completes, or another word."""
     return "" if kind in (FILE, NOTHING) else f"            {NO_FILES}\n"
 
 

@@ -36,7 +36,7 @@ class Option:
 
     @property
     def shown(self) -> str:
-        """The value as it is shown behind the option."""
+        """The value as it is shown after the option."""
         return "{" + ",".join(self.choices) + "}" if self.choices else self.value
 
 

@@ -54,7 +54,7 @@ def call(line: Line, command: Command) -> str:
 
 
 def bracketed(option: Option, command: Command) -> str:
-    """An option, and behind it those that need it."""
+    """An option, and after it those that need it."""
     needing = [bracketed(one, command) for one in command.options if one.beside in option.names]
     return f"[{' '.join([called(option), *needing])}]"
 
@@ -158,7 +158,7 @@ def word_of(word: Option) -> str:
 
 
 def described(option: Option) -> str:
-    """An option with all its names, and what it does; a line may be broken behind the comma of a choice."""
+    """An option with all its names, and what it does; a line may be broken after the comma of a choice."""
     shown = italic(option.shown).replace(",", ",\\:") if option.choices else italic(option.shown)
     value = f" {shown}" if option.shown else ""
     long = [name for name in option.names if name.startswith("--")] or option.names

@@ -14,7 +14,7 @@ nothing: it makes the release again, and compares."""
 
 
 def compare() -> int:
-    """Tells where the release isn't what the sources give, and answers a status."""
+    """Tells where the release isn't what the sources give, and returns a status."""
     told = [made.age()] if made.age() else [*made.differences()]
     for line in told:
         print(f"release: {line}")

@@ -47,7 +47,7 @@ def identity() -> str:
 
 
 def called(words: list[str | Path], folder: Path = TOP, given: str = "") -> str:
-    """What a tool writes to standard output; all that it says goes into the log. Raises Failed where it isn't there or
+    """What a tool writes to standard output; all that it says goes into the log. Raises Failed if it isn't there or
     fails."""
     OUT.mkdir(parents=True, exist_ok=True)
     try:
@@ -76,7 +76,7 @@ def make_toolchain(toolchain: Path) -> None:
 
 
 def link_libraries(folder: Path) -> None:
-    """A folder with links to the proved libraries of the checkout. Raises Failed where one isn't there."""
+    """A folder with links to the proved libraries of the checkout. Raises Failed if one isn't there."""
     shutil.rmtree(folder, ignore_errors=True)
     folder.mkdir(parents=True)
     for library in CRATES.glob("*/out/rlib/*.rlib"):

@@ -21,7 +21,7 @@ NAMES = ("fc", "fc.mjs", "fc.wasm", "play.html")
 
 
 def check_program() -> None:
-    """Raises Failed where the program isn't built, or is older than a source."""
+    """Raises Failed if the program isn't built, or is older than a source."""
     if not os.access(PROGRAM, os.X_OK):
         raise Failed("fc isn't built (./build)")
     made = PROGRAM.stat().st_mtime_ns

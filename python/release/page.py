@@ -50,7 +50,7 @@ def scripts(file: Path, taken: list[Path]) -> Iterator[str]:
 
 
 def script(name: str) -> str:
-    """The script of a module of the page, with all that it imports. Raises Failed where two names are one."""
+    """The script of a module of the page, with all that it imports. Raises Failed if two names are one."""
     text = "".join(scripts(FOLDER / name, []))
     names = NAMED.findall(text)
     twice = sorted({name for name in names if names.count(name) > 1})
@@ -83,7 +83,7 @@ def block_data(block: Block, group: str) -> dict[str, object]:
 
 def blocks() -> list[dict[str, object]]:
     """The blocks of the library, in the order of docs/blocks.md; parts of blocks, which it doesn't list, come last.
-    Raises Failed where it doesn't list a block."""
+    Raises Failed if it doesn't list a block."""
     library, known = read_library([own_library()]), groups()
     parts = sorted(name for name, block in library.items() if block.is_part)
     if missing := sorted({*library} - {*known, *parts}):

@@ -1,6 +1,6 @@
 #!/usr/bin/env python3
 """How wide the bounds of each block are on the network of docs/blocks.md, where each device may be up to a quarter of
-the range from its place: what the table of docs/changes.md has.
+the range from its place: what docs/block_widths.txt has, and in part docs/changes.md.
 
 It runs the built program, or what the variable FC names.
 """

@@ -187,7 +187,7 @@ def log_of(asked: confirm.Question, flying: Iterable[int], dice: Random, wanted:
 
 def edits_before(walk: confirm.Walk, often: float) -> Iterator[str]:
     """Edits before a step: none, one or more, by how often they come."""
-    while walk.dice.random() < often:
+    while walk.rng.random() < often:
         edit = walk.edit()
         if edit is not None:
             yield edit

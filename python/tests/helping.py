@@ -89,7 +89,7 @@ def fieldc(
 
 
 def used(work: Callable[[], object]) -> float:
-    """The seconds of a processor that the processes take that some work starts and ends."""
+    """The CPU seconds that the processes take that some work starts and ends."""
     before = resource.getrusage(resource.RUSAGE_CHILDREN)
     work()
     after = resource.getrusage(resource.RUSAGE_CHILDREN)
@@ -97,7 +97,7 @@ def used(work: Callable[[], object]) -> float:
 
 
 def fixed_work() -> float:
-    """The seconds of a processor that a fixed piece of work takes now: about one where nothing else runs, and more on a
+    """The CPU seconds that a fixed piece of work takes now: about one where nothing else runs, and more on a
     busy machine, as what is compared with it."""
     return used(lambda: subprocess.run([sys.executable, "-c", FIXED_WORK], check=True))
 

@@ -222,7 +222,7 @@ class Page(unittest.TestCase):
 
     def test_the_programs(self) -> None:
         programs = re.findall(r"^```fc\n(.*?)^```\n\n(.*?)$", self.text, re.MULTILINE | re.DOTALL)
-        self.assertGreaterEqual(len(programs), 10)
+        self.assertGreaterEqual(len(programs), 6)
         for code, below in programs:
             with self.subTest(code=code):
                 said = re.match(r"`([^`]*)`", below)
@@ -251,7 +251,7 @@ class Page(unittest.TestCase):
 
             block_pictures.draw_all()
         names = re.findall(r"\(pictures/([^)]*)\)", self.text)
-        self.assertGreaterEqual(len(names), 10)
+        self.assertGreaterEqual(len(names), 6)
         for name in names:
             self.assertTrue((ROOT / "docs" / "pictures" / name).exists(), name)
 

@@ -287,7 +287,7 @@ class Confirmed(Played):
 
 class Seconds(Played):
     def test_by_the_rule_of_the_headline(self) -> None:
-        """The numbers of the page: with 1 and 0.1 seconds 62 rounds take 68.2 seconds, 13 take 14.3 and 7 take 7.7."""
+        """With 1 and 0.1 seconds 62 rounds take 68.2 seconds, 13 take 14.3 and 7 take 7.7."""
         pace = Pace(Decimal("1"), Decimal("0.1"))
         self.assertEqual([pace.text(rounds) for rounds in (62, 13, 7, 0, 1000)], ["68.2", "14.3", "7.7", "0", "1100"])
         self.assertEqual(Pace(Decimal("1"), Decimal("0.1"), Decimal("0.4")).text(10), "15")

@@ -473,12 +473,12 @@ class Sweeps(InFolder):
 class Page(InFolder):
     """The commands of docs/sweep.md write what stands below them; what takes long is typed with three deployments."""
 
-    SLOW = ("gradient", "region_mean")
+    SLOW = ("gradient",)
 
     def test_commands_write_what_stands_below_them(self) -> None:
         text = (TOP / "docs/sweep.md").read_text()
         commands = test_pages.commands_of(text)
-        self.assertGreater(len(commands), 8)
+        self.assertGreaterEqual(len(commands), 8)
         for command, _ in commands:
             if any(word in command for word in self.SLOW):
                 self.assertTrue("--count 200" in command or command.startswith("sed "), command)

@@ -1,5 +1,5 @@
-"""What docs/changes.md says of the bounds of blocks on the network of docs/blocks.md: its table, and that both ends of
-hop counts and distances are lengths of ways that the lines allow."""
+"""What docs/changes.md says of the bounds of blocks on the network of docs/blocks.md: its rows, and that both ends of
+hop counts and distances are lengths of paths that the lines allow."""
 
 from __future__ import annotations
 
@@ -16,7 +16,11 @@ class Widths(unittest.TestCase):
     def test_the_table(self) -> None:
         import block_widths
 
-        self.assertIn(f"```\n{block_widths.table()}```\n", PAGE.read_text())
+        whole = (TOP / "docs/block_widths.txt").read_text()
+        self.assertEqual(block_widths.table(), whole)
+        shown = PAGE.read_text().split("```\n width  settled  ")[1].split("```")[0].splitlines()[1:]
+        self.assertGreater(len(shown), 10)
+        self.assertEqual([line for line in shown if line not in whole.splitlines()], [])
 
     def test_less_movement(self) -> None:
         import block_cases

@@ -81,7 +81,7 @@ def perform(options: argparse.Namespace) -> int:
 
 
 def judged(made: Composition, options: argparse.Namespace) -> int:
-    """Tells of a no, and of what `fc` refuses, whose status it answers. Raises Refusal where the network is refused."""
+    """Tells of a no, and of what `fc` refuses, whose status it returns. Raises Refusal if the network is refused."""
     network = least_network(made.text) if options.network is None else read(options.network)
     sections = (
         Section("program", options.program, 1, made.text),

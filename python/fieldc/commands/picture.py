@@ -112,7 +112,7 @@ def parted(names: Sequence[str], of_changes: bool = False) -> tuple[Section, ...
 
 
 def asked(options: argparse.Namespace, parts: Sequence[Section], names: Mapping[int, str]) -> str:
-    """What `fc` writes of the sections. Raises Refusal where it refuses them."""
+    """What `fc` writes of the sections. Raises Refusal if it refuses them."""
     of = options.of
     if (len(parts) > 2) < (of in WITH_LINES):
         raise Fault(f"--of {of}: the files have no {WITH_LINES[of]}")
@@ -139,7 +139,7 @@ def placed(positions: str | None, picture: Picture, network: Network) -> Picture
 
 
 def drawn(options: argparse.Namespace, picture: Picture, as_page: bool) -> None:
-    """Draws the picture, or the page of all its shows. Raises Fault where there is no such show."""
+    """Draws the picture, or the page of all its shows. Raises Fault if there is no such show."""
     count = len(picture.frames)
     if options.show is not None and not 1 <= options.show <= count:
         raise Fault(f"--show {options.show}: there {'is 1 show' if count == 1 else f'are {count} shows'}")

@@ -56,7 +56,7 @@ def perform(options: argparse.Namespace) -> int:
 
 
 def bounds(options: argparse.Namespace, words: list[str]) -> int:
-    """Asks for the bounds that hold while the network changes, tries them where that is wanted, and answers the
+    """Asks for the bounds that hold while the network changes, tries them where that is wanted, and returns the
     status."""
     if options.why:
         raise Fault("--why is about settle rounds; with --changes there are bounds")

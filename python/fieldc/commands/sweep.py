@@ -65,7 +65,7 @@ def above(word: str) -> float:
 
 
 def drawn(word: str) -> Setting:
-    """NAME=VALUE, with @ID,ID.. or @random:N behind it; a value may be LOW..HIGH."""
+    """NAME=VALUE, with @ID,ID.. or @random:N after it; a value may be LOW..HIGH."""
     name, equals, rest = word.partition("=")
     text, at, listed = rest.partition("@")
     try:
@@ -189,7 +189,7 @@ def perform(options: argparse.Namespace) -> int:
 
 
 def rule_of(options: argparse.Namespace, program: str) -> Rule:
-    """The rule that is asked for. Raises Fault where options don't go together, or a file can't be read."""
+    """The rule that is asked for. Raises Fault if options don't go together, or a file can't be read."""
     shape = next(
         name for name in ("line", "ring", "grid", "torus", "disk", "points", "edges") if getattr(options, name)
     )

@@ -116,7 +116,7 @@ class MachineCost:
 
 
 def machine_cost(firmware: Firmware, machine: Machine) -> MachineCost:
-    """What a firmware costs on a machine. Raises Fault where the compiler fails."""
+    """What a firmware costs on a machine. Raises Fault if the compiler fails."""
     source = source_text(firmware)
     with tempfile.TemporaryDirectory() as folder:
         path = Path(folder) / f"{firmware.name}.c"

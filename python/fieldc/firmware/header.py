@@ -51,9 +51,9 @@ def front(firmware: Firmware) -> str:
         "",
         *table(firmware),
         "",
-        "Numbers have their greatest bit first. A device counts its exports from 0 to 255 and round again. Of each",
+        "Numbers have their greatest bit first. A device counts its exports from 0 to 255, and then from 0. Of each",
         f"neighbour a message is dropped as old if its count is that of the last one taken, or one of the {most}",
-        f"before it. So of messages that come at most {most} exports late none is taken behind a younger one; one that",
+        f"before it. So of messages that come at most {most} exports late none is taken after a younger one; one that",
         f"comes later may be. A neighbour that starts again is heard again after at most {LATEST} of its exports.",
     ]
     return "\n".join(["/*", *(f" * {line}".rstrip() for line in lines), " */"])

@@ -33,7 +33,7 @@ def operator(word: str, local: Local) -> str:
 
 
 def pairs_in(local: Local) -> list[Pair]:
-    """The pair types of a type, each behind those in it."""
+    """The pair types of a type, each after those in it."""
     return [*pairs_in(local.first), *pairs_in(local.second), local] if isinstance(local, Pair) else []
 
 

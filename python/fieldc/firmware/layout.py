@@ -73,7 +73,7 @@ class Row:
 
 
 def leaves_of(local: Local, found: Range, at: int, part: tuple[str, ...] = ()) -> Iterator[Leaf]:
-    """The leaves of a type whose values are in a range, one behind the other."""
+    """The leaves of a type whose values are in a range, one after the other."""
     if isinstance(local, Pair):
         first, second = (found.first, found.second) if isinstance(found, Both) else (None, None)
         for leaf in leaves_of(local.first, first, at, (*part, "first")):
@@ -124,7 +124,7 @@ class Layout:
 
     @property
     def said_bytes(self) -> int:
-        """Bytes of a message behind its head."""
+        """Bytes of a message after its head."""
         return -(-self.frame.sent // 8)
 
     @property
@@ -179,7 +179,7 @@ class Layout:
         return frame
 
     def _branch_bits(self, choice: Expr, frame: Frame) -> tuple[int, int]:
-        """The bits that the two branches of an `if` have, first and count: they stand one behind the other."""
+        """The bits that the two branches of an `if` have, first and count: they stand one after the other."""
         first, last = frame.sent, 0
         for part in (part for branch in choice.kids[1:] for part in within(branch)):
             if part in frame.slots and frame.slots[part].sent:

@@ -40,7 +40,7 @@ class Firmware:
 
     @cached_property
     def functions(self) -> list[Declaration]:
-        """The functions that `main` calls, itself or by way of others, each behind what it calls; and `main`."""
+        """The functions that `main` calls, itself or by way of others, each after what it calls; and `main`."""
         wanted, left = set[str](), [self.main]
         while left:
             body = left.pop().body
@@ -100,7 +100,7 @@ class Firmware:
 
 
 def firmware_of(text: str, name: str, neighbours: int = MOST_NEIGHBOURS) -> Firmware:
-    """The firmware of a program. Raises Fault where it is none."""
+    """The firmware of a program. Raises Fault if it is none."""
     found = reading(text)
     if found.fault is not None:
         place = f"line {found.fault.at.line}: " if found.fault.at is not None else ""

@@ -37,7 +37,7 @@ def reserved(name: str) -> bool:
 
 
 def firmware_name(wanted: str) -> str:
-    """The name before all names of a firmware. Raises Fault where it can't be one."""
+    """The name before all names of a firmware. Raises Fault if it can't be one."""
     if not NAME.fullmatch(wanted) or reserved(wanted) or wanted in HEADERS:
         raise Fault(f"--name: {wanted!r} can't be the name; take letters, digits and _, with a letter first")
     return wanted

@@ -59,7 +59,7 @@ def operators(firmware: Firmware) -> list[Helper]:
 
 
 def c_size(local: Local) -> int:
-    """How many parts a type has, so that a pair comes behind its parts."""
+    """How many parts a type has, so that a pair comes after its parts."""
     return 1 + c_size(local.first) + c_size(local.second) if isinstance(local, Pair) else 1
 
 

@@ -45,7 +45,7 @@ def no_ceiling(place: At) -> Complaint:
 
 
 def bad_range(declaration: Declaration, ceiling: int) -> Complaint:
-    """A range that is turned round, or that passes the ceiling."""
+    """A range that is reversed, or that passes the ceiling."""
     (low, low_at), (high, high_at) = declaration.bounds
     of = f"the input `{declaration.name}`" if declaration.form == "input" else "the metric"
     name = declaration.name or "metric"
@@ -63,13 +63,13 @@ def twice(what: str, name: str, place: At | None, before: At | None) -> Complain
 
 
 def second_metric(place: At, before: At) -> Complaint:
-    """A metric behind another one."""
+    """A metric after another one."""
     what = f"This is a second metric; the first is on line {before.line}, column {before.column}."
     return Complaint(what, place, "metric", "Keep one of them.")
 
 
 def bound_twice(expr: Expr, before: At) -> Complaint:
-    """A `let`, `rep` or `share` that binds a name which is bound round it."""
+    """A `let`, `rep` or `share` that binds a name which is bound around it."""
     what = f"`{expr.name}` is bound here, but also around it, on line {before.line}, column {before.column}."
     return Complaint(what, expr.bound, expr.name, "Give one of them another name: a name can't hide another one.")
 
@@ -125,7 +125,7 @@ def unknown_input(expr: Expr, scope: Mapping[str, Bound], known: Known) -> Compl
 
 
 def block_hint(name: str) -> str | None:
-    """How a program comes by the block of a name, or by the first that is called so elsewhere; else nothing."""
+    """How a program comes by the block of a name, or by the first that is called so elsewhere, or None."""
     try:
         library = read_library([own_library()])
     except Fault:
@@ -280,7 +280,7 @@ def _hood_mismatch(text: str, expr: Expr, found: list[Type]) -> Complaint:
 
 
 def _towards(wanted: Type, found: Type) -> str | None:
-    """What to try where a type of one kind stands in the place of another."""
+    """What to try where a type of one kind stands in place of another."""
     if found.field and not wanted.field:
         return OUT_OF_A_FIELD
     if wanted.field and not found.field:

@@ -141,7 +141,7 @@ def doubled_marks(stuck: Stuck) -> Advice | None:
 
 
 def word_as_name(stuck: Stuck) -> Advice | None:
-    """Where a word stands in the place of a name."""
+    """Where a word stands in place of a name."""
     if stuck.here is None or "NAME" not in stuck.expected or stuck.operand or stuck.here.value not in WORDS:
         return None
     if stuck.start == "item" and stuck.kind in ("INT", "BOOL") and stuck.kind_of(0) == "DEF" and stuck.index > 2:
@@ -248,7 +248,7 @@ def missing_end(stuck: Stuck) -> Advice | None:
 
 
 def anything_else(stuck: Stuck) -> Advice:
-    """What could stand in the place of the token at fault."""
+    """What could stand in place of the token at fault."""
     names = [f"`{MARKS[kind]}`" for kind in MARKS if kind in stuck.expected]
     names += ["a name"] * ("NAME" in stuck.expected) + ["a number"] * ("NUMBER" in stuck.expected)
     wanted = ", ".join(names[:-1]) + (" or " if len(names) > 1 else "") + names[-1] if names else "something else"

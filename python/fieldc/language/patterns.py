@@ -20,7 +20,7 @@ NESTING = ("let", "if", "rep", "share")
 class Blame:
     """The reason of a no at a place, with the place of the part that is to blame, and what is wrong with it.
 
-    `part` is a place; `round` is another one that matters (what stands round the part), or -1. `case` tells the forms
+    `part` is a place; `round` is another one that matters (what stands around the part), or -1. `case` tells the forms
     of one reason apart.
     """
 
@@ -51,12 +51,12 @@ class Patterns:
                 left.extend(reversed(node.kids))
 
     def first(self) -> Blame | None:
-        """The first `rep` or `share` without a pattern, and why; nothing where each has one."""
+        """The first `rep` or `share` without a pattern, and why; None if each has one."""
         with deep():
             return next((found for place in self.kept() if (found := self.blame(place)) is not None), None)
 
     def blame(self, place: int) -> Blame | None:
-        """Why a `rep` or `share` has no pattern; nothing where it has one."""
+        """Why a `rep` or `share` has no pattern; None if it has one."""
         uses = self.uses(place)
         if not uses:
             return None
@@ -94,7 +94,7 @@ class Patterns:
         return found.form == "nbr" and self.nodes[found.kids[0]].binder == place
 
     def heard_at(self, place: int, use: int) -> int | None:
-        """The node that is what is heard and has this occurrence, or nothing."""
+        """The node that is what is heard and has this occurrence, or None."""
         if self.nodes[place].form == "share":
             return use
         parent = self.nodes[use].parent
@@ -117,7 +117,7 @@ class Patterns:
         return self.nodes[place].form == "rep" and body.form == "apply" and body.name == "rise" and body.kids[1] == use
 
     def guard(self, place: int, use: int) -> Node | None:
-        """The `mux(nbr{a} < b, X, s)` in which an occurrence is guarded, or nothing."""
+        """The `mux(nbr{a} < b, X, s)` in which an occurrence is guarded, or None."""
         heard = self.heard_at(place, use)
         if heard is None or heard == self.nodes[place].kids[1]:
             return None
@@ -135,7 +135,7 @@ class Patterns:
         return self.nodes[self.nodes[less.kids[0]].kids[0]], self.nodes[less.kids[1]]
 
     def potential(self, place: int, uses: list[int]) -> int | None:
-        """The one binder of an integer that all guards compare, or nothing."""
+        """The one binder of an integer that all guards compare, or None."""
         found = set()
         for use in uses:
             choice = self.guard(place, use)
@@ -238,7 +238,7 @@ class Patterns:
         return growth, found.place, ""
 
     def _zero(self, place: int, heard: int) -> str:
-        """What is added to what is heard where that may be 0: the weights of links, something else, or nothing."""
+        """What is added to what is heard where that may be 0: the weights of links, something else, or None."""
         forms = {self.nodes[inner].form for inner in self.program.within(heard)}
         names = {self.nodes[inner].name for inner in self.program.within(heard) if self.nodes[inner].form == "apply"}
         if "nbrLink" in forms:
@@ -299,7 +299,7 @@ class Patterns:
         return None
 
     def _half_guarded(self, place: int, use: int) -> Blame | None:
-        """A guard round an occurrence that isn't quite one."""
+        """A guard around an occurrence that isn't quite one."""
         if self.guard(place, use) is not None:
             return None
         inner, body = use, self.nodes[place].kids[1]
@@ -313,7 +313,7 @@ class Patterns:
         return None
 
     def _as_guard(self, place: int, choice: Node, below: int) -> Blame | None:
-        """What is wrong with a `mux` as a guard of what stands below it; nothing where none is meant."""
+        """What is wrong with a `mux` as a guard of what stands below it; None if none is meant."""
         condition = self.nodes[choice.kids[0]]
         if all(self.nodes[inner].form != "nbr" for inner in self.program.within(condition.place)):
             return None

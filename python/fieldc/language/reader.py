@@ -49,7 +49,7 @@ def begin_of(token: Token) -> int:
 
 
 def end_of(token: Token) -> int:
-    """The offset right behind a token; a token that Lark only tries has none."""
+    """The offset right after a token; a token that Lark only tries has none."""
     return token.end_pos or 0
 
 
@@ -179,7 +179,7 @@ def parser() -> Lark:
 
 
 def tokens_of(text: str) -> list[Token]:
-    """The tokens of a text; a number above 1,000,000 is of the kind GREAT. Raises Fault where nothing begins."""
+    """The tokens of a text; a number above 1,000,000 is of the kind GREAT. Raises Fault if nothing begins."""
     found = []
     try:
         for token in parser().lex(text):
@@ -204,7 +204,7 @@ def pieces_of(tokens: list[Token]) -> list[Piece]:
 
 
 def within_limits(piece: Piece) -> None:
-    """Raises Fault where a declaration has too many tokens or open brackets."""
+    """Raises Fault if a declaration has too many tokens or open brackets."""
     count = len(piece.tokens)
     if count > MOST_TOKENS:
         raise Fault(
@@ -231,7 +231,7 @@ def within_limits(piece: Piece) -> None:
 
 
 def declaration_of(piece: Piece, start: str, second: bool) -> Declaration:
-    """The declaration of a piece, of the form that its place allows. Raises Fault where it isn't."""
+    """The declaration of a piece, of the form that its place allows. Raises Fault if it isn't."""
     state = parser().parse_interactive(start=start)
     place = 0
     try:

@@ -61,7 +61,7 @@ class Stuck:
         return -1
 
     def closer(self) -> str:
-        """The kind of the bracket that closes, behind the token at fault, what is open there."""
+        """The kind of the bracket that closes, after the token at fault, what is open there."""
         depth = 0
         for place in range(self.index, len(self.tokens)):
             kind = self.kind_of(place)
@@ -99,7 +99,7 @@ def place_of(token: Token) -> At:
 
 
 def behind(token: Token) -> At:
-    """The place right behind a token."""
+    """The place right after a token."""
     return At(token.end_line or 1, token.end_column or 1)
 
 
@@ -111,6 +111,6 @@ def code(token: Token | None) -> str:
 def advice(
     token: Token | None, what: str, hint: str | None = None, page: str = GRAMMAR, *, end: bool = False
 ) -> Advice:
-    """An advice at a token, or right behind it."""
+    """An advice at a token, or right after it."""
     place = At(1, 1) if token is None else behind(token) if end else place_of(token)
     return (place, what, token.value if token is not None and not end else None, hint, page)

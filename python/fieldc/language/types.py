@@ -244,7 +244,7 @@ def _apply(expr: Expr, scope: Scope, known: Known) -> Type:
 
 
 def applied(name: str, found: list[Type]) -> Type | None:
-    """The type of a builtin of arguments of these types, or nothing where they don't fit."""
+    """The type of a builtin of arguments of these types, or None if they don't fit."""
     if name.endswith(("Hood", "HoodLoc")):
         return _hood(name, found)
     local = _pointwise(name, [kind.local for kind in found])

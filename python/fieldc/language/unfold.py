@@ -134,7 +134,7 @@ class _Unfolding:
 
 
 def unfolded(known: Known, main: Expr) -> Unfolded:
-    """The unfolded `main` of a typed program. Raises Fault where it has too many nodes."""
+    """The unfolded `main` of a typed program. Raises Fault if it has too many nodes."""
     count = min(size_of(main, sizes_of(known)), MOST_COUNT)
     if count > MOST_NODES:
         shown = "1,000,000 or more" if count == MOST_COUNT else f"{count:,}"

@@ -62,11 +62,11 @@ class Rule:
 
 
 def deployment(rule: Rule, seed: int) -> Network:
-    """The deployment of a seed. Raises Fault where the rule makes no network."""
+    """The deployment of a seed. Raises Fault if the rule makes no network."""
     found = _shaped(rule, seed)
     if rule.failing:
-        dice = Random(f"{seed} links")
-        found = replace(found, links=tuple(link for link in found.links if dice.random() >= rule.failing))
+        rng = Random(f"{seed} links")
+        found = replace(found, links=tuple(link for link in found.links if rng.random() >= rule.failing))
     if rule.metric is not None:
         found = network.weighed(found, *rule.metric, rule.unit)
     elif rule.weight is not None:
@@ -107,10 +107,10 @@ def largest(rule: Rule, seeds: Sequence[int]) -> int:
 
 def _moved(base: Network, rule: Rule, seed: int) -> Network:
     """Points that are moved by up to the jitter along each axis, and linked where they are in range."""
-    dice = Random(f"{seed} places")
+    rng = Random(f"{seed} places")
 
     def shift() -> float:
-        return rule.jitter * (2 * dice.random() - 1)
+        return rule.jitter * (2 * rng.random() - 1)
 
     places = {device: (x + shift(), y + shift()) for device, (x, y) in base.positions.items()}
     return replace(network.in_range(places, rule.reach), inputs=base.inputs, names=base.names)
@@ -120,13 +120,13 @@ def _filled(found: Network, settings: Sequence[Setting], seed: int) -> Network:
     """The network with its inputs set, one setting after the other. A truth value that isn't set on a device is false
     there.
 
-    Raises Fault where a device isn't there, or a number is set on some devices and others have none.
+    Raises Fault if a device isn't there, or a number is set on some devices and others have none.
     """
     inputs = {device: dict(own) for device, own in found.inputs.items()}
     for place, one in enumerate(settings):
-        dice = Random(f"{seed} input {place}")
-        for device in _chosen(found, one, dice):
-            inputs[device][one.name] = _value(one, dice)
+        rng = Random(f"{seed} input {place}")
+        for device in _chosen(found, one, rng):
+            inputs[device][one.name] = _value(one, rng)
     for one in settings:
         for device, own in inputs.items():
             if one.name not in own and not isinstance(one.value, bool):
@@ -135,7 +135,7 @@ def _filled(found: Network, settings: Sequence[Setting], seed: int) -> Network:
     return replace(found, inputs=inputs)
 
 
-def _chosen(found: Network, one: Setting, dice: Random) -> Sequence[int]:
+def _chosen(found: Network, one: Setting, rng: Random) -> Sequence[int]:
     """The devices on which an input is set: all, those named, or some that are drawn, each as likely as any other."""
     devices = found.devices
     if one.devices is None:
@@ -148,15 +148,15 @@ def _chosen(found: Network, one: Setting, dice: Random) -> Sequence[int]:
     if one.devices > len(devices):
         raise Fault(f"{one.name} is set on {one.devices:,} devices that are drawn, and there are {len(devices):,}")
     left = list(devices)
-    return [left.pop(int(dice.random() * len(left))) for _ in range(one.devices)]
+    return [left.pop(int(rng.random() * len(left))) for _ in range(one.devices)]
 
 
-def _value(one: Setting, dice: Random) -> Input:
+def _value(one: Setting, rng: Random) -> Input:
     """The value of an input: the one that is given, or one that is drawn."""
     if not isinstance(one.value, tuple):
         return one.value
     low, high = one.value
-    return low + int(dice.random() * (high - low + 1))
+    return low + int(rng.random() * (high - low + 1))
 
 
 # ---- what a network is like ----------------------------------------------------------------------------------------

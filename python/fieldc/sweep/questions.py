@@ -53,7 +53,7 @@ class Question:
 
 @dataclass(frozen=True)
 class Batch:
-    """Some rows as lines of a file, the seconds of a processor that `fc` took for each, those that were taken beside it
+    """Some rows as lines of a file, the CPU seconds that `fc` took for each, those that were taken beside it
     for all, and by what they were made."""
 
     lines: tuple[str, ...]
@@ -89,7 +89,7 @@ def environment() -> dict[str, str]:
 
 
 def asked(question: Question, seed: int, spent: list[float]) -> Row:
-    """The row of a seed; the seconds of a processor that each run of `fc` took are put behind `spent`."""
+    """The row of a seed; the CPU seconds of each run of `fc` are appended to `spent`."""
     found = deployments.deployment(question.rule, seed)
     components, diameter = deployments.components_and_diameter(found)
     scene = Section("network", f"the network of seed {seed}", 1, deployments.scene_text(found))
@@ -110,7 +110,7 @@ def asked(question: Question, seed: int, spent: list[float]) -> Row:
 
 
 def answer(call: Call, spent: list[float]) -> str:
-    """What `fc` writes. Raises Refusal where its status is above 1, and Fault where it can't be run."""
+    """What `fc` writes. Raises Refusal if its status is above 1, and Fault if it can't be run."""
     library = shared()
     reply = replied(call, spent) if library is None else called(library, call, spent)
     if reply.status not in (0, 1):
@@ -128,7 +128,7 @@ def called(library: Shared, call: Call, spent: list[float]) -> fc.Reply:
 
 
 def replied(call: Call, spent: list[float]) -> fc.Reply:
-    """The answer of the program. Raises Fault where it can't be run."""
+    """The answer of the program. Raises Fault if it can't be run."""
     with fc.memory(fc.joined(call.sections)) as given, fc.memory() as written:
         ends = [(os.POSIX_SPAWN_DUP2, given, 0), (os.POSIX_SPAWN_DUP2, written, 1)]
         try:

@@ -26,8 +26,8 @@ class Summary:
     """What came of a sweep.
 
     `settled` are the rows with a settle time, from the slowest on, `open` and `refused` the others by seed. `bounds`
-    are all K, rising. `full` is how many rows have a device whose value is the ceiling or begins with it; nothing
-    without values.
+    are all K, in ascending order. `full` is how many rows have a device whose value is the ceiling or begins with it;
+    nothing without values.
     """
 
     rows: tuple[Row, ...]
@@ -43,8 +43,7 @@ class Summary:
         return self.settled[:WORST]
 
     def quantile(self, part: float) -> int | None:
-        """The least R that so great a part of the rows with a settle time doesn't pass; nothing where there are
-        none."""
+        """The least R that so great a part of the rows with a settle time doesn't pass; None if there are none."""
         rising = self.settled[::-1]
         return rising[max(math.ceil(part * len(rising)), 1) - 1].rounds if rising else None
 
@@ -216,7 +215,7 @@ PAGE = """<!doctype html>
 
 def write(found: Summary, name: str, title: str, again: str) -> None:
     """Writes a report into a file by its ending: `.png`, `.svg` or `.pdf`, or `.html`, which says with `again` how the
-    network of a seed is made again. Raises Fault, of status 6, where it can't be written."""
+    network of a seed is made again. Raises Fault, of status 6, if it can't be written."""
     figure = drawn(found, title)
     if not name.lower().endswith(".html"):
         saved(figure, name)

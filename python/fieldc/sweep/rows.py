@@ -29,9 +29,10 @@ class Row:
     """What is known of the deployment of a seed.
 
     `verdict` is `yes`, `no PLACE REASON`, or the line with which `fc` refused this network (`limit degree 33`). `bound`
-    is the K of a yes. `rounds` is the settle time R, and nothing where the network is open or was refused. `last` is
-    the device that is known last, the smallest of several, or one without a settle round; `last_rounds` is its settle
-    round, if it has one. `values` are those of the devices, rising, as `fc` writes them, where they were asked for.
+    is the K of a yes. `rounds` is the settle time R, and None if the network is open or was refused. `last` is the
+    device that is known last, the smallest of several, or one without a settle round; `last_rounds` is its settle
+    round, if it has one. `values` are those of the devices, in ascending order, as `fc` writes them, where they were
+    asked for.
     """
 
     seed: int
@@ -60,7 +61,7 @@ class Row:
 def row_of(shape: tuple[int, int, int, int, int], settling: Sequence[str], values: Sequence[str]) -> Row:
     """The row of what `check --settle` wrote of a network of this seed, devices, links, components and diameter.
 
-    The lines are the verdict, `settles R` or `open`, and one for each device. Raises Fault where they aren't.
+    The lines are the verdict, `settles R` or `open`, and one for each device. Raises Fault if they aren't.
     """
     try:
         verdict = verdict_of(settling[0])
@@ -97,7 +98,7 @@ def line_of(row: Row, values: bool) -> str:
 
 
 def rows_of(text: str, name: str) -> list[Row]:
-    """The rows of a text. Raises Fault, which names the file, where there is another line."""
+    """The rows of a text. Raises Fault, which names the file, if there is another line."""
     reader = csv.DictReader(text.splitlines())
     try:
         return [_row(one) for one in reader]
@@ -137,7 +138,7 @@ def files_of(name: str) -> Files:
 def taken_up(files: Files, sweep: Mapping[str, object], values: bool) -> int:
     """How many rows are there already. New files are begun; what was written of a row in part is taken away.
 
-    Raises Fault where the rows are of another sweep than this one, or a file can't be read or written.
+    Raises Fault if the rows are of another sweep than this one, or a file can't be read or written.
     """
     if not files.rows.exists():
         write(str(files.sweep), json.dumps(sweep, indent=1) + "\n")
@@ -183,7 +184,7 @@ def _cut(path: Path, length: int) -> None:
 
 @contextmanager
 def growing(path: Path) -> Iterator[Callable[[str], None]]:
-    """Gives a function that puts a text behind a file, at once. Raises Fault, of status 6, where that fails."""
+    """Gives a function that appends a text to a file, at once. Raises Fault, of status 6, if that fails."""
     try:
         opened = path.open("ab", buffering=0)
     except OSError as error:

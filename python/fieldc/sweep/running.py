@@ -32,7 +32,7 @@ LOUD = ("distributed", "distributed.client", "tornado.application", "asyncio")
 
 @dataclass(frozen=True)
 class Spent:
-    """What a sweep took: the seconds of a processor inside `fc` and beside it, the seconds on the clock, and how many
+    """What a sweep took: the CPU seconds inside `fc` and beside it, the seconds elapsed, and how many
     rows were asked."""
 
     inside: float
@@ -57,7 +57,7 @@ def sweep(
     """Asks for the rows of so many seeds from the first on that aren't there yet, and writes them as they come.
 
     `waiting` is called about five times a second with how many rows are there, and how many of them were there before.
-    Raises Fault, also where the rows that are there are of another sweep, and Refusal.
+    Raises Fault, also if the rows that are there are of another sweep, and Refusal.
     """
     start, own, inside, beside = time.monotonic(), time.process_time(), 0.0, 0.0
     there = min(rows.taken_up(files, described(question, first), question.values), count)
@@ -128,7 +128,7 @@ def processors() -> int:
 
 @contextmanager
 def on_this_machine(workers: int) -> Iterator[Place]:
-    """So many processes. Raises Fault where one of them ends before its time."""
+    """So many processes. Raises Fault if one of them ends before its time."""
     try:
         with ProcessPoolExecutor(workers, initializer=_begun, initargs=(os.getpid(),)) as pool:
             yield Place(pool, 8 * workers)
@@ -152,7 +152,7 @@ def _begun(parent: int) -> None:
 def on_a_cluster(address: str) -> Iterator[Place]:
     """The Dask cluster of a scheduler. What was at work on a worker that dies is asked again, of another one.
 
-    Raises Fault where Dask or the scheduler isn't there, and where a worker can't do what it is asked.
+    Raises Fault if Dask or the scheduler isn't there, and if a worker can't do what it is asked.
     """
     try:
         import distributed
@@ -176,7 +176,7 @@ def on_a_cluster(address: str) -> Iterator[Place]:
 
 
 def reached(address: str) -> None:
-    """Raises Fault where nobody answers at an address: Dask's own client would say it in many lines, and late."""
+    """Raises Fault if nobody answers at an address: Dask's own client would say it in many lines, and late."""
     found = re.fullmatch(r"(?:(?:tcp|tls)://)?(\[[^]]+\]|[^:/]+):([0-9]+)", address)
     if found is None:
         raise Fault(f"{address} isn't the address of a scheduler: write HOST:PORT, such as north:8786")
